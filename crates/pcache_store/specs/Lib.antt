@@ -1,3 +1,4 @@
+pub mod Drafts
 pub mod Numbers
 pub mod Purge
 pub mod Refusals

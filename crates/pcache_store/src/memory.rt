@@ -1,0 +1,4 @@
+//! A store in memory.
+
+mod body;
+mod draft;
