@@ -1,3 +1,4 @@
+pub mod DraftText
 pub mod Drafts
 pub mod Numbers
 pub mod Purge
@@ -5,3 +6,4 @@ pub mod Refusals
 pub mod Store
 pub mod StoreCode
 pub mod Tag
+pub mod Totals

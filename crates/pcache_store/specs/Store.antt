@@ -152,6 +152,10 @@ stands s n = stands_on s n (get s.writes n)
 abbrev pub grounded : FinMap nat_cmp Written → ℕ → Written → FinMap nat_cmp Written
 grounded ws n w = kept ws n (record w { flying = false })
 
+abbrev pub grounded_on : FinMap nat_cmp Written → ℕ → Option Written → FinMap nat_cmp Written
+grounded_on ws n None = ws
+grounded_on ws n (Some w) = grounded ws n w
+
 abbrev pub shut_on : FinMap nat_cmp Slot → ℕ → ℕ → Option Slot → FinMap nat_cmp Slot
 shut_on xs k n None = xs
 shut_on xs k n (Some x) = with_slot xs k (record x { fresh = remove x.fresh n })

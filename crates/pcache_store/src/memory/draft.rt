@@ -1,7 +1,7 @@
 //! A write as it is kept.
 ghost use Rattle.std.specs.Prelude.{◌≡◌, ◌<◌, ◌≤◌, ◌+◌, ◌-◌, ◌^◌, ◌++◌, ◌&&◌, not, ℕ, Option, Some, None, List, IfOk, IfErr, OnOk, OnErr, length, drop, true, false};
 ghost use Rattle.pcache_base.specs.declared.error.ErrorType.TheVariants.{OutOfMemory};
-ghost use Rattle.pcache_store.specs.Drafts.{text_of};
+ghost use Rattle.pcache_store.specs.DraftText.{text_of};
 ghost use Rattle.pcache_store.specs.Store.{new_write, is_named};
 
 use crate::memory::body::Body;
@@ -97,7 +97,7 @@ pub(crate) struct Draft {
 impl Model for Draft {
     ghost use Rattle.pcache_store.specs.Store.{Written};
     ghost use Rattle.pcache_store.specs.StoreCode.{written_code};
-    ghost use Rattle.pcache_store.specs.Drafts.{text_of};
+    ghost use Rattle.pcache_store.specs.DraftText.{text_of};
 
     ghost Value = { Written };
 
