@@ -197,9 +197,13 @@ abbrev pub body_of : Option Slot → Option Stored
 body_of None = None
 body_of (Some x) = x.body
 
+abbrev pub with_meta : (Meta → Meta) → Slot → Option Stored → Slot
+with_meta f x None = x
+with_meta f x (Some b) = record x { body = Some (record b { meta = f b.meta }) }
+
 abbrev pub meta_changed_in : (Meta → Meta) → FinMap nat_cmp Slot → ℕ → Slot → Option Stored → FinMap nat_cmp Slot
 meta_changed_in f xs k x None = xs
-meta_changed_in f xs k x (Some b) = insert xs k (record x { body = Some (record b { meta = f b.meta }) })
+meta_changed_in f xs k x (Some b) = insert xs k (with_meta f x (Some b))
 
 abbrev pub meta_changed_on : (Meta → Meta) → FinMap nat_cmp Slot → ℕ → Option Slot → FinMap nat_cmp Slot
 meta_changed_on f xs k None = xs

@@ -1,8 +1,7 @@
 -- How much stands complete (own): the number of bodies, and their lengths added up.
-use Rattle.std.specs.Prelude.{ℕ, Option, Some, None, length}
+use Rattle.std.specs.Prelude.{ℕ, ◌≡◌, ◌<◌, ◌^◌, length}
 use Rattle.std.specs.Ordering.{nat_cmp}
 use Rattle.std.specs.FinMap.{FinMap, get}
-use Rattle.std.specs.Prelude.{◌≡◌, ◌<◌, ◌^◌}
 use Rattle.pcache_base.specs.Totals.{total, share}
 use Rattle.pcache_store.specs.Store.{Slot, Stored, Store}
 
@@ -18,9 +17,11 @@ body_size x = share body_len x.body
 abbrev pub body_count : Slot → ℕ
 body_count x = share one x.body
 
+-- the lengths of the complete bodies, added up
 abbrev pub stored_bytes : Store → ℕ
 stored_bytes s = total body_size s.slots
 
+-- the number of complete bodies
 abbrev pub slots : Store → ℕ
 slots s = total body_count s.slots
 

@@ -3,3 +3,4 @@
 mod body;
 mod draft;
 mod drafts;
+mod slots;

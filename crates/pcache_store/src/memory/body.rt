@@ -4,7 +4,7 @@ ghost use Rattle.std.specs.FinMap as map;
 ghost use Rattle.pcache_base.specs.declared.error.ErrorType.TheVariants.{OutOfMemory};
 ghost use Rattle.pcache_base.specs.Meta as meta_of;
 ghost use Rattle.pcache_store.specs.Numbers.{least};
-ghost use Rattle.pcache_store.specs.Store.{opened_in, is_idle};
+ghost use Rattle.pcache_store.specs.Store.{opened_in, is_idle, with_meta};
 
 use crate::table::Table;
 use bytes::Bytes;
@@ -144,6 +144,30 @@ impl KeySlot {
     {
         self.fresh.remove(number);
         self.body.replace(body)
+    }
+
+    // Sets the body's meta, and answers whether there is a body.
+    pub(crate) fn set_meta(&mut self, meta: CacheMeta) -> bool
+        ensures there { result ≡ is_some self.old.body }
+        ensures slot { self.new ≡ with_meta (λ _. meta) self.old self.old.body }
+    {
+        let Some(body) = &mut self.body else {
+            return false;
+        };
+        body.set_meta(meta);
+        true
+    }
+
+    // Ends the body's freshness, and answers whether there is a body.
+    pub(crate) fn expire(&mut self, now: Moment) -> bool
+        ensures there { result ≡ is_some self.old.body }
+        ensures slot { self.new ≡ with_meta (meta_of.expired_at now) self.old self.old.body }
+    {
+        let Some(body) = &mut self.body else {
+            return false;
+        };
+        body.expire_at(now);
+        true
     }
 
     pub(crate) fn into_body(self) -> Option<Body>
