@@ -4,9 +4,9 @@ use Rattle.std.specs.Ordering.{nat_cmp, is_eq}
 use Rattle.std.specs.Cmp.{nat_cmp_total, tied_itself}
 use Rattle.std.proofs.lemmas.Bool.Decides.{nat_tests}
 use Rattle.std.specs.FinMap.{FinMap, empty, get-empty, gets, get, insert, remove, get-insert}
-use Rattle.pcache_store.proofs.Maps.{insert_same, remove-insert}
+use Rattle.pcache_store.proofs.Maps.{insert_same, undone, remove-insert}
 use Rattle.pcache_store.specs.Store.{Written, Stored, kept, is_named, wrote_on, joined_on, left_on, grounded_on}
-use Rattle.pcache_store.specs.Drafts.{AreBefore, IsBodyOf}
+use Rattle.pcache_store.specs.Drafts.{Numbered, AreBefore, IsBodyOf}
 
 module _ (ws : FinMap nat_cmp Written) (n : ℕ) (w v : Written) (m : FinMap nat_cmp Written) (is : Some w ≡ get ws n) (set : m ≡ insert ws n v) where
   pub wrote_there : (bytes : List ℕ) (eof : Bool) → v ≡ record w { bytes = w.bytes ++ bytes; told = eof } → m ≡ wrote_on ws n bytes eof (get ws n)
@@ -85,3 +85,12 @@ module _ (ws : FinMap nat_cmp Written) (n k : ℕ) (f : AreBefore ws n) where
 pub on_both : {A E P Q C : Type 0} (r : Result A E) → (P → C) → (Q → C) → OnOk r P → OnErr r Q → C
 on_both (Ok a) f g p q = f p
 on_both (Err e) f g p q = g q
+
+-- a write that began and was taken back leaves all as before
+pub taken_back : (a : Numbered) (v : Written) (b t : Numbered) → get a.writes a.next ≡ None → b ≡ record { writes = insert a.writes a.next v; next = a.next + 1 } → t ≡ record { writes = remove b.writes (b.next - 1); next = b.next - 1 } → t ≡ a
+taken_back a v b t none begun back =
+    let made : FinMap nat_cmp Written → ℕ → Numbered = λ ws n. record { writes = ws; next = n } in
+    let last : a.next + 1 - 1 ≡ a.next = omega arith in
+    back ∙ ap (λ (x : Numbered). made (remove x.writes (x.next - 1)) (x.next - 1)) begun
+    ∙ ap (λ q. made (remove (insert a.writes a.next v) q) q) last
+    ∙ ap (λ ws. made ws a.next) (undone a.writes a.next v none)
