@@ -1,0 +1,4 @@
+#![tactic(auto)]
+//! One request's way through the cache, and a world of requests with its history.
+
+pub mod phase;
