@@ -1,2 +1,3 @@
+pub mod Finishing
 pub mod Phases
 pub mod Requests

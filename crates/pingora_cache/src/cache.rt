@@ -15,6 +15,10 @@ ghost use Rattle.pcache_evict.specs.Tracked.{added};
 ghost use Rattle.pingora_cache.specs.Phases as phases;
 ghost use Rattle.pingora_cache.specs.Requests.{settled, let_go_by, table_asked, left_by, entry_of, reader_in, phase_found};
 
+mod finish;
+
+pub use finish::FinishReport;
+
 use crate::phase::{CachePhase, HitStatus, InUse};
 use pcache_base::error::Result;
 use pcache_base::key::CacheKey;
@@ -42,7 +46,7 @@ pub struct HttpCache<S: Storage> {
 impl<S: Storage> Model for HttpCache<S> {
     ghost use Rattle.std.specs.Prelude.{option_map};
     ghost use Rattle.std.specs.Option.{option_and_then};
-    ghost use Rattle.pingora_cache.specs.Requests.{Request, HasKey, IsClear};
+    ghost use Rattle.pingora_cache.specs.Requests.{Request, HasKey, IsClear, IsWriting};
 
     ghost Value = { Request };
 
@@ -57,7 +61,7 @@ impl<S: Storage> Model for HttpCache<S> {
       entry = option_and_then S.Miss.entry_number a.writer;
     } };
 
-    ghost invariant = { λ a. HasKey a.phase a.key × IsClear a.phase a.held a.reader a.writer };
+    ghost invariant = { λ a. HasKey a.phase a.key × IsClear a.phase a.held a.reader a.writer × IsWriting a.phase a.meta a.writer };
 }
 
 // Puts a linear value where none is.
@@ -446,7 +450,10 @@ impl<S: Storage> HttpCache<S> {
         ensures* writes_back { sem 𝓛 (LendsIf (the_row S.row S.Hit.row S.Miss.row S.StoreMeaning S.Hit.HandleHit S.Miss.HandleMiss) S.Miss.row self.entry result (λ w. record self.old { write = Some (S.Miss.write w); entry = S.Miss.entry_number w }) self.old) }
         ensures value { option_map (λ r. S.Miss.write r.now) result ≡ self.old.write }
     {
-        self.writer.as_mut()
+        let Some(writer) = &mut self.writer else {
+            return None;
+        };
+        Some(writer)
     }
 
     /// Removes what stands under the key, and takes the entry that went out of the manager. Answers
