@@ -47,11 +47,12 @@ Admits true limits kind e m out m' = IsFair limits (with_entry kind e m) out × 
 Admits false limits kind e m out m' = (out ≡ []) × (m' ≡ m)
 
 -- the write w of the key k is stored and admitted, and what is evicted is purged
-pub record Stores (r : Request) (k : Key) (w : ℕ) (kind : MissFinishType) (limits : Limits) (size failed : ℕ) (out : List CacheEntryKey) (s s' : Store) (m m' : Tracked) (t t' : Locks) : Type 0 where
+pub record Stores (always_purges : Bool) (r : Request) (k : Key) (w : ℕ) (kind : MissFinishType) (limits : Limits) (size failed : ℕ) (out : List CacheEntryKey) (s s' : Store) (m m' : Tracked) (t t' : Locks) : Type 0 where
   pub untouched : stands s w ≡ true
   pub size_is : size ≡ size_told kind
   pub admitted : Admits r.uses.eviction limits kind (entry_of k r.entry) m out m'
   pub purges : PurgesAll (finished s w) out failed s'
+  pub sure : always_purges ≡ true → failed ≡ 0
   pub released : t' ≡ settled Done r.held t
 
 -- the write w of the key k is refused and dropped
@@ -68,9 +69,3 @@ pub record Withdraws (always_purges : Bool) (r : Request) (k : Key) (w : ℕ) (e
   pub purged : (s' ≡ purged (finished s w) (slot k)) ⊎ ((always_purges ≡ false) × (s' ≡ finished s w))
   pub tracked : m' ≡ m
   pub released : t' ≡ settled Done r.held t
-
--- the end of a write w of the key k that is refused
-abbrev pub Refuses : Bool → Request → Option Key → Option ℕ → ErrorType → Store → Store → Tracked → Tracked → Locks → Locks → Type 0
-Refuses sure r (Some k) (Some w) e s s' m m' t t' = Drops r w e s s' m m' t t' ⊎ Withdraws sure r k w e s s' m m' t t'
-Refuses sure r k None e s s' m m' t t' = ⊥
-Refuses sure r None (Some w) e s s' m m' t t' = ⊥

@@ -7,7 +7,7 @@ ghost use Rattle.pingora_cache.specs.Finishing.{PurgesAll, Admits, entry_slot, s
 ghost use Rattle.pingora_cache.specs.Requests.{entry_of};
 
 use super::{HttpCache, entry_for, settle};
-use pcache_base::error::Result;
+use pcache_base::error::{Error, Result};
 use pcache_base::key::{CacheKey, CompactCacheKey};
 use pcache_base::moment::Moment;
 use pcache_evict::eviction::{CacheEntryId, CacheEntryKey, EvictionManager};
@@ -24,6 +24,19 @@ pub struct FinishReport {
     pub evicted: Vec<CacheEntryKey>,
     /// How many of these the storage refused to purge.
     pub failed_purges: usize,
+}
+
+/// How the end of a request's write went.
+#[derive(Debug, Drop)]
+pub enum WriteEnd {
+    /// There was no write.
+    Nothing,
+    /// The body is stored.
+    Stored(FinishReport),
+    /// The write was refused and dropped.
+    Dropped(Error),
+    /// The body was stored, its admission was refused, and its key was purged again.
+    Withdrawn(Error),
 }
 
 // Purges an entry, and tells whether that was refused.
@@ -96,7 +109,8 @@ fn told_size(kind: MissFinishType) -> usize
 impl<S: Storage> HttpCache<S> {
     ghost use Rattle.std.specs.Prelude.{◌≡◌, true, IfOk, IfErr, IfSome, Ok, None, IsTrue, ◌↔◌, IsSome};
     ghost use Rattle.pingora_cache.specs.Phases.{IsFilling};
-    ghost use Rattle.pingora_cache.specs.Finishing.{after_finish, Stores, Refuses};
+    ghost use Rattle.pingora_cache.specs.Finishing.{after_finish};
+    ghost use Rattle.pingora_cache.specs.WriteEnds.{Ends, EndsAs, finishes_of};
 
     /// Ends the write and stores the body. Its entry is admitted, and what is evicted for it is
     /// purged, in order. A write that is refused is dropped, and the permit is released with
@@ -109,21 +123,34 @@ impl<S: Storage> HttpCache<S> {
     ) -> Result<Option<FinishReport>>
         requires { IsFilling self.old.phase }
         ensures request { self.new ≡ after_finish self.old }
-        ensures nothing { self.old.write ≡ None → result ≡ Ok None }
-        ensures same { self.old.write ≡ None → (S.state storage.new ≡ S.state storage.old) × (E.tracked eviction.new ≡ E.tracked eviction.old) × (L.table lock.new ≡ L.table lock.old) }
-        ensures report { IfOk result (λ r. IsSome r ↔ IsSome self.old.write) }
-        ensures stored { IfOk result (λ r. IfSome r (λ f. IfSome self.old.key (λ k. IfSome self.old.write (λ w.
-          Stores self.old k w (S.finishes storage.old w) (E.limits eviction.old) f.size f.failed_purges f.evicted.items (S.state storage.old) (S.state storage.new) (E.tracked eviction.old) (E.tracked eviction.new) (L.table lock.old) (L.table lock.new))))) }
-        ensures sure { S.always_purges ≡ true → IfOk result (λ r. IfSome r (λ f. f.failed_purges ≡ 0)) }
-        ensures refused { IfErr result (λ e.
-          Refuses S.always_purges self.old self.old.key self.old.write e (S.state storage.old) (S.state storage.new) (E.tracked eviction.old) (E.tracked eviction.new) (L.table lock.old) (L.table lock.new)) }
+        ensures end { EndsAs result (λ end. Ends S.always_purges self.old self.old.key self.old.write (finishes_of (S.finishes storage.old) self.old.write) (E.limits eviction.old) end (S.state storage.old) (S.state storage.new) (E.tracked eviction.old) (E.tracked eviction.new) (L.table lock.old) (L.table lock.new)) }
+        ensures limits { E.limits eviction.new ≡ E.limits eviction.old }
+    {
+        match self.end_write(storage, eviction, lock) {
+            WriteEnd::Nothing => Ok(None),
+            WriteEnd::Stored(report) => Ok(Some(report)),
+            WriteEnd::Dropped(refused) => Err(refused),
+            WriteEnd::Withdrawn(refused) => Err(refused),
+        }
+    }
+
+    /// What `finish_miss_handler` does, told apart by how far it came.
+    pub fn end_write<L: CacheKeyLock, E: EvictionManager>(
+        &mut self,
+        storage: &mut S,
+        eviction: &mut E,
+        lock: &mut L,
+    ) -> WriteEnd
+        requires { IsFilling self.old.phase }
+        ensures request { self.new ≡ after_finish self.old }
+        ensures end { Ends S.always_purges self.old self.old.key self.old.write (finishes_of (S.finishes storage.old) self.old.write) (E.limits eviction.old) result (S.state storage.old) (S.state storage.new) (E.tracked eviction.old) (E.tracked eviction.new) (L.table lock.old) (L.table lock.new) }
         ensures limits { E.limits eviction.new ≡ E.limits eviction.old }
     {
         let Some(key) = &self.key else {
             unreachable!()
         };
         let Some(writer) = self.writer.take() else {
-            return Ok(None);
+            return WriteEnd::Nothing;
         };
         let Some(meta) = &self.meta else {
             unreachable!()
@@ -133,14 +160,14 @@ impl<S: Storage> HttpCache<S> {
             Err(refused) => {
                 writer.drop_write(storage);
                 settle(self.alloc, &self.key, &mut self.held, lock, LockStatus::TransientError);
-                return Err(refused);
+                return WriteEnd::Dropped(refused);
             }
         };
         let kind = match writer.finish(storage) {
             Ok(kind) => kind,
             Err(refused) => {
                 settle(self.alloc, &self.key, &mut self.held, lock, LockStatus::TransientError);
-                return Err(refused);
+                return WriteEnd::Dropped(refused);
             }
         };
         settle(self.alloc, &self.key, &mut self.held, lock, LockStatus::Done);
@@ -155,14 +182,14 @@ impl<S: Storage> HttpCache<S> {
             Ok(evicted) => evicted,
             Err(refused) => {
                 let _ = storage.purge(PurgeTarget::Active(&compact), PurgeType::Invalidation);
-                return Err(refused);
+                return WriteEnd::Withdrawn(refused);
             }
         };
         let failed_purges = purge_all(storage, evicted.as_slice());
-        Ok(Some(FinishReport {
+        WriteEnd::Stored(FinishReport {
             size: told_size(kind),
             evicted,
             failed_purges,
-        }))
+        })
     }
 }
