@@ -69,6 +69,7 @@ impl RecencyList {
     /// Sets the weight of an entry and moves it to the front.
     pub(super) fn put(&mut self, item: CacheEntryKey, size: usize) -> Result<()>
         ensures ok { OnOk result (self.new ≡ moved item size self.old) }
+        ensures once { IsOnce self.new }
         ensures kind { IfErr result (λ e. e ≡ OutOfMemory) }
         ensures err { OnErr result (self.new ≡ self.old) }
     {

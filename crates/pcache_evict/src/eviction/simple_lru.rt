@@ -197,7 +197,6 @@ impl Manager {
         let room = self.list.room_for(&item, size, self.limit, self.watermark);
         let mut out = Vec::with_capacity(self.alloc, room)?;
         self.list.put(item, size)?;
-        let _ = self.list.len();
         let gone = self.list.evict(self.limit, self.watermark, &mut out);
         self.evicted_size = self.evicted_size.saturating_add(gone);
         self.evicted_items = self.evicted_items.saturating_add(out.len());
@@ -279,3 +278,6 @@ impl EvictionManager for Manager {
         Manager::peek(self, item)
     }
 }
+
+#[cfg(test)]
+mod tests;
