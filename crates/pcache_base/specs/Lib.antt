@@ -1,5 +1,6 @@
 pub mod Blake2b
 pub mod CompactKey
+pub mod Fills
 pub mod Hashing
 pub mod Header
 pub mod Key

@@ -1,0 +1,5 @@
+pub mod EntryOrder
+pub mod Recency
+pub mod Walks
+pub mod Evictions
+pub mod Maps
