@@ -119,7 +119,7 @@ abbrev pub Looks : (ℕ → Answer → Type 0) → Request → Reply → List Ev
 Looks finds x reply events =
     ((e : ErrorType) × IsLockRefusal e × IsIdle (R.Refused e) reply events)
     ⊎ ((k : Key) × (a : Answer) × (more : List Event) × (l : Option LockKind) × (x.key ≡ Some k) × finds (slot k) a
-      × AsksIf (asks_for_miss x.uses.lock a) (slot k) x.held more l × (events ≡ E.Look (slot k) a ∷ more) × (reply ≡ look_reply a l))
+    × AsksIf (asks_for_miss x.uses.lock a) (slot k) x.held more l × (events ≡ E.Look (slot k) a ∷ more) × (reply ≡ look_reply a l))
 
 -- a hit that counts is noted with its weight
 abbrev pub accesses : HitStatus → Key → Reader → Request → List Event
@@ -130,7 +130,7 @@ abbrev pub Takes : HitStatus → Key → Reader → Request → Reply → List E
 Takes s k h x reply events =
     ((e : ErrorType) × IsLockRefusal e × (reply ≡ R.Refused e) × ((events ≡ []) ⊎ (events ≡ accesses s k h x)))
     ⊎ ((more : List Event) × (l : Option LockKind) × AsksIf (x.uses.lock && not (is_fresh s)) (slot k) x.held more l
-      × (events ≡ accesses s k h x ++ more) × (reply ≡ R.Taken (phase_found s x.phase) l))
+    × (events ≡ accesses s k h x ++ more) × (reply ≡ R.Taken (phase_found s x.phase) l))
 
 abbrev pub TakesPair : HitStatus → Request → Option (Meta × Reader) → Reply → List Event → Type 0
 TakesPair s x None reply events = ⊥
@@ -142,7 +142,7 @@ Begins next x reply events =
     IsStarved reply events
     ⊎ (((2 ^ 64 ≤ next) × IsIdle (R.Refused NumbersExhausted) reply events)
     ⊎ ((k : Key) × (m : Meta) × (x.key ≡ Some k) × (x.meta ≡ Some m) × (next < 2 ^ 64) × (events ≡ E.Begin next (slot k) m ∷ release_of x.held)
-      × ((reply ≡ R.Done) ⊎ (reply ≡ R.Refused OutOfMemory))))
+    × ((reply ≡ R.Done) ⊎ (reply ≡ R.Refused OutOfMemory))))
 
 -- a write may be written to: it is held, and its last bytes were not told
 abbrev pub MayFill : (ℕ → Bool) → Request → Type 0
@@ -156,7 +156,7 @@ Writes bytes eof x reply events = IsStarved reply events ⊎ ((w : ℕ) × (x.wr
 abbrev pub EndsWrite : (ℕ → Bool) → (ℕ → ℕ) → Limits → Tracked → Key → ℕ → Option Locked → Reply → List Event → Type 0
 EndsWrite untouched size limits m k w held reply events =
     ((out : List CacheEntryKey) × (untouched w ≡ true) × IsFair limits (map.insert m (entry_of k None) (size w)) out
-      × (events ≡ E.Finish w true ∷ release_of held ++ E.Admit (entry_of k None) (size w) out ∷ []) × (reply ≡ R.Stored (size w) (length out)))
+    × (events ≡ E.Finish w true ∷ release_of held ++ E.Admit (entry_of k None) (size w) out ∷ []) × (reply ≡ R.Stored (size w) (length out)))
     ⊎ (((untouched w ≡ true) × (events ≡ E.Finish w true ∷ release_of held ++ E.Purge (slot k) ∷ []) × (reply ≡ R.Refused OutOfMemory))
     ⊎ (((untouched w ≡ false) × (events ≡ E.Finish w false ∷ release_of held) × (reply ≡ R.Refused WriteRemoved))
     ⊎ ((events ≡ E.Dropped w ∷ release_of held) × (reply ≡ R.Refused OutOfMemory))))
@@ -180,7 +180,7 @@ abbrev pub Purges : (ℕ → Bool → Type 0) → Request → Reply → List Eve
 Purges there x reply events =
     IsStarved reply events
     ⊎ ((k : Key) × (x.key ≡ Some k) × ((there (slot k) true × (events ≡ E.Purge (slot k) ∷ E.Untrack (entry_of k None) ∷ []) × (reply ≡ R.Purged))
-      ⊎ (there (slot k) false × (events ≡ E.Purge (slot k) ∷ []) × (reply ≡ R.Absent))))
+    ⊎ (there (slot k) false × (events ≡ E.Purge (slot k) ∷ []) × (reply ≡ R.Absent))))
 
 abbrev pub drop_of : Option ℕ → List Event
 drop_of None = []
