@@ -18,9 +18,6 @@ pub record Listed : Type 0 where
 abbrev pub map_of : Recency → Tracked
 map_of l = from_entries {R = entry_cmp} l
 
-abbrev pub with_entries : Recency → Listed → Listed
-with_entries l s = record { entries = l; limits = s.limits; evicted = s.evicted }
-
 -- a new manager with these limits
 abbrev pub empty_list : ℕ → Option ℕ → Listed
 empty_list limit watermark = record { entries = []; limits = record { weight = limit; watermark = watermark }; evicted = record { weight = 0; count = 0 } }
