@@ -1,5 +1,5 @@
 -- A recency list: entries with their weights, most recent first, and what the moves do to it (own).
-use Rattle.std.specs.Prelude.{◌≡◌, ℕ, ◌+◌, ◌-◌, ◌^◌, ◌<◌, ◌≤◌, not, Option, None, Some, List, [], ◌∷◌, ◌++◌, length, reverse, min, max, unwrap_or, IfSome, sum_by, is_some, if◌then◌else◌}
+use Rattle.std.specs.Prelude.{◌≡◌, ℕ, ◌<◌, ◌≤◌, not, Option, List, [], ◌∷◌, ◌++◌, length, reverse, unwrap_or, IfSome, sum_by, is_some, if◌then◌else◌}
 use Rattle.std.specs.List.{filter}
 use Rattle.std.specs.Map.{lookup, keys_of}
 use Rattle.pcache_evict.specs.declared.eviction.entry_key.CacheEntryKey.{CacheEntryKey}
