@@ -1,8 +1,10 @@
 //! What a world is asked, and what it answers.
+ghost use Rattle.std.specs.Prelude.{◌≡◌, IfOk, IfErr};
+ghost use Rattle.pcache_base.specs.declared.error.ErrorType.TheVariants.{OutOfMemory};
 
 use crate::phase::{CachePhase, HitStatus};
 use bytes::Bytes;
-use pcache_base::error::ErrorType;
+use pcache_base::error::{ErrorType, Result};
 use pcache_base::key::CacheKey;
 use pcache_base::meta::CacheMeta;
 use pcache_base::moment::Moment;
@@ -84,4 +86,32 @@ pub enum Reply {
     Purged,
     /// Nothing stood under the key.
     Absent,
+}
+
+impl Reply {
+    /// A second reply, equal to this one. It is refused for want of memory alone.
+    pub fn copied(&self) -> Result<Reply>
+        ensures ok { IfOk result (λ copy. copy ≡ self.now) }
+        ensures kind { IfErr result (λ e. e ≡ OutOfMemory) }
+    {
+        Ok(match self {
+            Reply::WrongCall => Reply::WrongCall,
+            Reply::Refused(kind) => Reply::Refused(*kind),
+            Reply::Done => Reply::Done,
+            Reply::Hit(weight) => Reply::Hit(*weight),
+            Reply::Part => Reply::Part,
+            Reply::NotFound(lock) => Reply::NotFound(*lock),
+            Reply::Taken(phase, lock) => Reply::Taken(*phase, *lock),
+            Reply::Stored { size, evicted } => Reply::Stored {
+                size: *size,
+                evicted: *evicted,
+            },
+            Reply::Nothing => Reply::Nothing,
+            Reply::Data(bytes) => Reply::Data(bytes.clone()?),
+            Reply::Pending => Reply::Pending,
+            Reply::Finished => Reply::Finished,
+            Reply::Purged => Reply::Purged,
+            Reply::Absent => Reply::Absent,
+        })
+    }
 }

@@ -17,7 +17,7 @@ pub enum Answer {
     /// A complete body, with its meta.
     Complete { meta: CacheMeta, body: Bytes },
     /// A write that can be read while it is made, with its meta.
-    Streaming { meta: CacheMeta, write: u64 },
+    Streaming { meta: CacheMeta, write: u128 },
 }
 
 /// One thing that a call did.
@@ -31,20 +31,20 @@ pub enum Event {
     Access { entry: CacheEntryKey, weight: usize },
     /// A write began.
     Begin {
-        write: u64,
+        write: u128,
         slot: u128,
         meta: CacheMeta,
     },
     /// Bytes of a write came, and whether they are the last.
     Wrote {
-        write: u64,
+        write: u128,
         bytes: Bytes,
         eof: bool,
     },
     /// A write was finished: its body stands, or its key was removed since it began.
-    Finish { write: u64, is_stored: bool },
+    Finish { write: u128, is_stored: bool },
     /// A write was given up.
-    Dropped { write: u64 },
+    Dropped { write: u128 },
     /// A permit was released.
     Release { lock: u64 },
     /// A permit was let go.
