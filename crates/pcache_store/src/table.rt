@@ -1,5 +1,5 @@
 //! A map from numbers to values, which contracts see as a finite map.
-ghost use Rattle.std.specs.Prelude.{◌≡◌, ◌<◌, ◌^◌, IfOk, OnOk, OnErr, option_copied, IfErr, OnSome, IsTrue, ◌==◌};
+ghost use Rattle.std.specs.Prelude.{◌≡◌, ◌<◌, ◌^◌, ℕ, None, IsSome, IfSome, IfNone, IfOk, OnOk, OnErr, option_copied, IfErr, OnSome, IsTrue, ◌==◌};
 ghost use Rattle.std.specs.Ordering.{nat_cmp};
 ghost use Rattle.std.specs.FinMap as map;
 ghost use Rattle.std.specs.Coded.{coded_ℕ};
@@ -73,7 +73,10 @@ impl<V> Table<V> {
 
     /// The least number that has a value.
     pub fn least(&self) -> Option<u128>
-        ensures { result ≡ least self.now }
+        ensures value { result ≡ least self.now }
+        ensures there { IfSome result (λ n. IsSome (map.get self.now n)) }
+        ensures first { IfSome result (λ n. (q : ℕ) → q < n → map.get self.now q ≡ None) }
+        ensures none { IfNone result ((q : ℕ) → map.get self.now q ≡ None) }
     {
         match self.tree.iter().next() {
             Some((number, _value)) => Some(*number),
