@@ -16,13 +16,12 @@ mod hit;
 mod miss;
 mod slots;
 
-pub use hit::{CompleteHit, MemHitHandler, PartialHit};
-pub use miss::MemMissHandler;
-
 use crate::storage::streaming_write::U64WriteId;
 use crate::storage::{MissFinishType, PurgeOutcome, PurgeTarget, PurgeType, Storage, StoreMeaning};
 use draft::Draft;
 use drafts::Drafts;
+pub use hit::{CompleteHit, MemHitHandler, PartialHit};
+pub use miss::MemMissHandler;
 use pcache_base::error::{Error, ErrorType, Result};
 use pcache_base::key::{CacheHashKey, CacheKey};
 use pcache_base::meta::CacheMeta;
@@ -300,3 +299,6 @@ impl Storage for MemCache {
         true
     }
 }
+
+#[cfg(test)]
+mod tests;

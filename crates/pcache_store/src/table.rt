@@ -1,5 +1,5 @@
 //! A map from numbers to values, which contracts see as a finite map.
-ghost use Rattle.std.specs.Prelude.{◌≡◌, ◌<◌, ◌^◌, IfOk, OnOk, OnErr, option_copied, IfErr, OnSome, IsTrue, ◌==◌};
+ghost use Rattle.std.specs.Prelude.{◌≡◌, ◌<◌, ◌^◌, ℕ, None, IsSome, IfSome, IfNone, IfOk, OnOk, OnErr, option_copied, IfErr, OnSome, IsTrue, ◌==◌};
 ghost use Rattle.std.specs.Ordering.{nat_cmp};
 ghost use Rattle.std.specs.FinMap as map;
 ghost use Rattle.std.specs.Coded.{coded_ℕ};
@@ -73,7 +73,10 @@ impl<V> Table<V> {
 
     /// The least number that has a value.
     pub fn least(&self) -> Option<u128>
-        ensures { result ≡ least self.now }
+        ensures value { result ≡ least self.now }
+        ensures there { IfSome result (λ n. IsSome (map.get self.now n)) }
+        ensures first { IfSome result (λ n. (q : ℕ) → q < n → map.get self.now q ≡ None) }
+        ensures none { IfNone result ((q : ℕ) → map.get self.now q ≡ None) }
     {
         match self.tree.iter().next() {
             Some((number, _value)) => Some(*number),
@@ -113,5 +116,35 @@ impl<V> Table<V> {
         ensures removed { self.new ≡ map.remove self.old number }
     {
         self.tree.remove(&number)
+    }
+}
+
+#[cfg(test)]
+mod tests {
+    use super::*;
+    use std::test::Fail;
+
+    #[test]
+    fn values_go_in_and_out(rt: HostRuntime) -> Result<(), Fail> {
+        let mut table: Table<u8> = Table::new(rt.alloc());
+        assert!(rt; table.is_empty());
+        assert_eq!(rt; table.insert(7, 1)?, None);
+        assert_eq!(rt; table.insert(3, 2)?, None);
+        assert_eq!(rt; table.insert(7, 4)?, Some(1));
+        if let Some(value) = table.get_mut(3) {
+            *value = 9;
+        }
+        assert_eq!(rt; table.len(), 2);
+        assert_eq!(rt; table.least(), Some(3));
+        assert_eq!(rt; table.get(3), Some(&9));
+        assert!(rt; table.contains(7));
+        let mut sum = 0;
+        for (number, value) in table.iter() {
+            sum ^= *number ^ u128::from(*value);
+        }
+        assert_eq!(rt; sum, 3 ^ 9 ^ 7 ^ 4);
+        assert_eq!(rt; table.remove(3), Some(9));
+        assert_eq!(rt; table.least(), Some(7));
+        Ok(())
     }
 }

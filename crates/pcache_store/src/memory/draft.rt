@@ -56,7 +56,10 @@ impl DraftText {
         ensures kind { IfErr result (λ e. e ≡ OutOfMemory) }
     {
         match self {
-            DraftText::Growing(text) => Ok(Bytes::copy_from_slice(alloc, &text.as_slice()[place..])?),
+            DraftText::Growing(text) => Ok(Bytes::copy_from_slice(
+                alloc,
+                &text.as_slice()[place..],
+            )?),
             DraftText::Shared(bytes) => Ok(bytes.slice(place..)?),
         }
     }

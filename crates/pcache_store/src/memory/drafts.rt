@@ -83,7 +83,13 @@ impl Drafts {
         self.writes.remove(self.next);
     }
 
-    pub(crate) fn write(&mut self, alloc: Global, number: u128, bytes: &[u8], eof: bool) -> Result<()>
+    pub(crate) fn write(
+        &mut self,
+        alloc: Global,
+        number: u128,
+        bytes: &[u8],
+        eof: bool,
+    ) -> Result<()>
         ensures ok { OnOk result (self.new ≡ record self.old { writes = wrote_on self.old.writes number bytes.now eof (map.get self.old.writes number) }) }
         ensures kind { IfErr result (λ e. e ≡ OutOfMemory) }
         ensures err { OnErr result (self.new ≡ self.old) }

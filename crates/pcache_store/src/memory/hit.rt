@@ -1,5 +1,5 @@
 //! Readers of the store in memory.
-ghost use Rattle.std.specs.Prelude.{◌≡◌, ◌≤◌, ◌<◌, ℕ, Option, Some, None, IfOk, IfErr, OnOk, OnErr, length, slice_range, cond, false, true};
+ghost use Rattle.std.specs.Prelude.{◌≡◌, ◌≤◌, ◌<◌, ℕ, Option, Some, None, IsOk, IfOk, IfErr, OnOk, OnErr, length, slice_range, cond, false, true};
 ghost use Rattle.pcache_base.specs.declared.error.ErrorType.TheVariants.{OutOfMemory, InternalError};
 ghost use Rattle.pcache_store.specs.Store.{Whole, sought};
 
@@ -143,6 +143,7 @@ impl MemHitHandler {
 
 impl HandleHit<MemCache> for MemHitHandler {
     ghost use Rattle.pcache_store.specs.Readers.{reader_of};
+    ghost use Rattle.pcache_store.specs.Store.{left};
 
     ghost reader = { reader_of };
 
@@ -172,7 +173,11 @@ impl HandleHit<MemCache> for MemHitHandler {
         }
     }
 
-    fn finish(self, store: &mut MemCache) -> Result<()> {
+    /// Is never refused.
+    fn finish(self, store: &mut MemCache) -> Result<()>
+        ensures gone { store.new ≡ left store.old (reader_of self) }
+        ensures ok { IsOk result }
+    {
         self.leave(store);
         Ok(())
     }
@@ -193,7 +198,10 @@ impl HandleHit<MemCache> for MemHitHandler {
     }
 
     fn should_count_access(&self) -> bool {
-        matches!(self, MemHitHandler::Complete(_))
+        match self {
+            MemHitHandler::Complete(_) => true,
+            MemHitHandler::Partial(_) => false,
+        }
     }
 
     fn get_eviction_weight(&self) -> usize {

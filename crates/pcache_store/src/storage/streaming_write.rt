@@ -31,11 +31,11 @@ impl U64WriteId {
 }
 
 impl From<u64> for U64WriteId {
-    ghost from_gives = { λ number id. id ≡ to_be_bytes w64 number };
+    ghost from_gives = { λ write id. id ≡ to_be_bytes w64 write };
 
-    fn from(number: u64) -> U64WriteId {
+    fn from(write: u64) -> U64WriteId {
         U64WriteId {
-            bytes: number.to_be_bytes(),
+            bytes: write.to_be_bytes(),
         }
     }
 }
@@ -86,7 +86,7 @@ impl U32WriteId {
         ensures bytes { result.now ≡ self.now }
         ensures four { length result.now ≡ 4 }
     {
-        &self.bytes
+        self.bytes.as_slice()
     }
 }
 
