@@ -1,4 +1,6 @@
 pub mod Locks
 pub mod LocksCode
+pub mod Outcomes
 pub mod Permits
 pub mod Statuses
+pub mod Waiting

@@ -42,3 +42,13 @@ is_pending GiveUp = false
 is_pending Dangling = false
 is_pending WaitTimeout = false
 is_pending AgeTimeout = true
+
+-- its permit is held, and was not found too old
+abbrev pub is_waiting : LockStatus → Bool
+is_waiting Waiting = true
+is_waiting Done = false
+is_waiting TransientError = false
+is_waiting GiveUp = false
+is_waiting Dangling = false
+is_waiting WaitTimeout = false
+is_waiting AgeTimeout = false

@@ -5,15 +5,19 @@ ghost use Rattle.std.specs.FinMap as map;
 ghost use Rattle.pcache_base.specs.declared.error.ErrorType.TheVariants.{OutOfMemory};
 ghost use Rattle.pcache_lock.specs.Locks.{changed, holder, no_locks, permit_dropped, permit_spent, reader_dropped, released, with_core, without_entry};
 ghost use Rattle.pcache_lock.specs.Permits.{spent, with_reader, without_reader};
+ghost use Rattle.pcache_lock.specs.Waiting.{aged, with_publication};
 
 use crate::lock::CacheKeyLock;
 use crate::lock::lock_core::LockCore;
+use crate::lock::outcome::{Stage, WaitOutcome};
 use crate::lock::permit::{Locked, ReadLock, WritePermit};
 use crate::lock::status::LockStatus;
 use crate::table::Table;
 use pcache_base::error::{Error, ErrorType, Result};
+use pcache_base::fills::UnusableFills;
 use pcache_base::key::{CacheHashKey, CacheKey};
 use pcache_base::moment::Moment;
+use pcache_base::poll::Poll;
 use std::alloc::Global;
 use std::marker::Model;
 use std::time::Duration;
@@ -92,6 +96,28 @@ fn spend(cores: &mut Table<LockCore>, place: u128, status: LockStatus)
         return;
     };
     core.spend(status);
+}
+
+// The permit was found too old.
+fn age(cores: &mut Table<LockCore>, place: u128)
+    ensures { cores.new ≡ changed aged cores.old place (map.get cores.old place) }
+{
+    let Some(core) = cores.get_mut(place) else {
+        return;
+    };
+    core.age();
+}
+
+// A publication in place of the one that stood.
+fn publish(alloc: Global, cores: &mut Table<LockCore>, place: u128, tokens: &[u64]) -> Result<()>
+    ensures ok { OnOk result (cores.new ≡ changed (with_publication tokens.now) cores.old place (map.get cores.old place)) }
+    ensures err { OnErr result (cores.new ≡ cores.old) }
+    ensures kind { IfErr result (λ e. e ≡ OutOfMemory) }
+{
+    let Some(core) = cores.get_mut(place) else {
+        return Ok(());
+    };
+    core.publish(alloc, tokens)
 }
 
 impl CacheLock {
@@ -214,7 +240,11 @@ impl CacheLock {
 }
 
 impl CacheKeyLock for CacheLock {
+    ghost use Rattle.pcache_lock.specs.declared.lock.status.LockStatus.TheVariants.{GiveUp};
+
     ghost table = { λ t. t };
+
+    ghost custom_status = { λ _ _. GiveUp };
 
     fn lock(
         &mut self,
@@ -245,5 +275,44 @@ impl CacheKeyLock for CacheLock {
             Locked::Write(permit) => self.drop_permit(u128::from(permit.spend())),
             Locked::Read(read) => self.drop_reader(u128::from(read.spend())),
         }
+    }
+
+    fn poll_wait(
+        &mut self,
+        alloc: Global,
+        read: &mut ReadLock,
+        fills: Option<&UnusableFills>,
+        now: Moment,
+    ) -> Result<Poll<WaitOutcome>> {
+        let place = u128::from(read.number());
+        let Some(core) = self.cores.get(place) else {
+            return Ok(Poll::Ready(WaitOutcome::Released));
+        };
+        match core.stage(now) {
+            Stage::Over => Ok(Poll::Ready(WaitOutcome::Released)),
+            Stage::Old => {
+                age(&mut self.cores, place);
+                Ok(Poll::Ready(WaitOutcome::AgeTimeout))
+            }
+            Stage::Held => match read.look(alloc, core, fills)? {
+                Some(fill) => Ok(Poll::Ready(WaitOutcome::Abandoned(fill))),
+                None => Ok(Poll::Pending),
+            },
+        }
+    }
+
+    fn lock_status(&self, read: &ReadLock, now: Moment) -> LockStatus {
+        match self.cores.get(u128::from(read.number())) {
+            Some(core) => core.status_at(now),
+            None => LockStatus::Dangling,
+        }
+    }
+
+    fn publish(&mut self, alloc: Global, permit: &WritePermit, tokens: &[u64]) -> Result<()> {
+        publish(alloc, &mut self.cores, u128::from(permit.number()), tokens)
+    }
+
+    fn custom_lock_status(&self, _custom_no_cache: &'static str) -> LockStatus {
+        LockStatus::GiveUp
     }
 }
