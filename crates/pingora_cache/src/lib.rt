@@ -1,4 +1,6 @@
 #![tactic(auto)]
 //! One request's way through the cache, and a world of requests with its history.
 
+pub mod cache;
 pub mod phase;
+pub mod world;
