@@ -4,3 +4,4 @@ pub mod Outcomes
 pub mod Permits
 pub mod Statuses
 pub mod Waiting
+pub mod Waits

@@ -1,5 +1,5 @@
 -- What a wait answers, and what a writer publishes (own).
-use Rattle.std.specs.Prelude.{ℕ, ◌-◌, ◌==◌, nat_le, ◌&&◌, ◌||◌, ◌++◌, Bool, true, Option, Some, None, List, [], ◌∷◌, length, drop, cond, slice_get, unwrap_or}
+use Rattle.std.specs.Prelude.{false, ℕ, ◌-◌, ◌==◌, nat_le, ◌&&◌, ◌||◌, ◌++◌, Bool, true, Option, Some, None, List, [], ◌∷◌, length, drop, cond, slice_get, unwrap_or}
 use Rattle.std.specs.Option.{option_or}
 use Rattle.std.specs.FinMap.{get, insert}
 use Rattle.pcache_base.specs.declared.fills.UnusableFill.{UnusableFill}
@@ -107,3 +107,8 @@ with_publication tokens c = record c { publications = publications_with c.reader
 
 abbrev pub published : Locks → ℕ → List ℕ → Locks
 published t n tokens = record t { cores = changed (with_publication tokens) t.cores n (get t.cores n) }
+
+-- whether a permit that is known has been held for too long at this moment
+abbrev pub expired_at : ℕ → Option Core → Bool
+expired_at now None = false
+expired_at now (Some c) = is_expired now c

@@ -12,6 +12,7 @@ ghost use Rattle.pcache_lock.specs.Waiting.{after_poll, polled, published, reade
 ghost use Rattle.pcache_lock.specs.declared.lock.status.LockStatus.{LockStatus};
 
 pub mod cache_lock;
+pub mod lent;
 pub mod lock_core;
 pub mod outcome;
 pub mod permit;
@@ -25,9 +26,12 @@ use pcache_base::fills::UnusableFills;
 use pcache_base::key::CacheKey;
 use pcache_base::moment::Moment;
 use pcache_base::poll::Poll;
-pub use permit::{Locked, ReadLock, WritePermit};
+pub use permit::{LockStub, Locked, ReadLock, WritePermit};
 pub use status::LockStatus;
 use std::alloc::Global;
+
+/// A table of locks of any kind, in a box.
+pub type CacheKeyLockImpl = Box<dyn CacheKeyLock + Send + Drop>;
 
 /// A table of locks on cache keys. A contract sees it as the record `Locks`.
 pub trait CacheKeyLock {

@@ -1,16 +1,18 @@
 //! The table of locks.
-ghost use Rattle.std.specs.Prelude.{◌≡◌, ◌^◌, ◌<◌, ◌≤◌, IfOk, IfErr, IsSome, OnErr, OnOk, Some};
+ghost use Rattle.std.specs.Prelude.{option_copied, ◌≡◌, ◌^◌, ◌<◌, ◌≤◌, IfOk, IfErr, IsSome, OnErr, OnOk, Some};
 ghost use Rattle.std.specs.Duration.{as_nanos};
 ghost use Rattle.std.specs.FinMap as map;
-ghost use Rattle.pcache_base.specs.declared.error.ErrorType.TheVariants.{OutOfMemory};
-ghost use Rattle.pcache_lock.specs.Locks.{changed, holder, no_locks, permit_dropped, permit_spent, reader_dropped, released, with_core, without_entry};
+ghost use Rattle.pcache_base.specs.declared.error.ErrorType.TheVariants.{NumbersExhausted, OutOfMemory};
+ghost use Rattle.pcache_base.specs.Key.{slot};
+ghost use Rattle.pcache_lock.specs.Locks.{MayRefuseLock, changed, ended, holder, no_locks, permit_dropped, permit_spent, reader_dropped, released, unlocked, with_core, with_free_permit, with_read_lock, without_entry};
+ghost use Rattle.pcache_lock.specs.Statuses.{IsReason};
 ghost use Rattle.pcache_lock.specs.Permits.{spent, with_reader, without_reader};
 ghost use Rattle.pcache_lock.specs.Waiting.{aged, with_publication};
 
 use crate::lock::CacheKeyLock;
 use crate::lock::lock_core::LockCore;
 use crate::lock::outcome::{Stage, WaitOutcome};
-use crate::lock::permit::{Locked, ReadLock, WritePermit};
+use crate::lock::permit::{LockStub, Locked, ReadLock, WritePermit};
 use crate::lock::status::LockStatus;
 use crate::table::Table;
 use pcache_base::error::{Error, ErrorType, Result};
@@ -98,6 +100,17 @@ fn spend(cores: &mut Table<LockCore>, place: u128, status: LockStatus)
     core.spend(status);
 }
 
+// The permit's holder tells where the fill ended.
+fn unlock(cores: &mut Table<LockCore>, place: u128, reason: LockStatus)
+    requires { IsReason reason }
+    ensures { cores.new ≡ changed (ended reason) cores.old place (map.get cores.old place) }
+{
+    let Some(core) = cores.get_mut(place) else {
+        return;
+    };
+    core.unlock(reason);
+}
+
 // The permit was found too old.
 fn age(cores: &mut Table<LockCore>, place: u128)
     ensures { cores.new ≡ changed aged cores.old place (map.get cores.old place) }
@@ -139,6 +152,76 @@ impl CacheLock {
         ensures kind { IfErr result (λ e. e ≡ OutOfMemory) }
     {
         Ok(Box::new(alloc, CacheLock::new(alloc, age_timeout))?)
+    }
+
+    /// What is known of a lock, while its permit or a read lock names it.
+    pub fn core(&self, number: u64) -> Option<&LockCore>
+        ensures { option_copied result ≡ map.get self.now.cores number }
+    {
+        self.cores.get(u128::from(number))
+    }
+
+    /// The entry that stands under a key.
+    pub fn stub(&self, key: &CacheKey) -> Option<LockStub>
+        ensures { result ≡ map.get self.now.standing (slot key.now) }
+    {
+        let number = self.standing.get(key.slot())?;
+        Some(LockStub::new(*number))
+    }
+
+    /// A permit under no key, with an age limit of its own.
+    ///
+    /// It is refused for want of memory, or where all 64-bit numbers of locks are used, and then
+    /// changes nothing.
+    pub fn new_permit(
+        &mut self,
+        alloc: Global,
+        age_timeout: Duration,
+        stale_writer: bool,
+        now: Moment,
+    ) -> Result<(WritePermit, LockStub)>
+        ensures permit { IfOk result (λ p. p.0 ≡ record { number = self.old.next; stale_writer = stale_writer }) }
+        ensures stub { IfOk result (λ p. p.1 ≡ self.old.next) }
+        ensures ok { OnOk result (self.new ≡ with_free_permit self.old (as_nanos age_timeout) stale_writer now) }
+        ensures err { OnErr result (self.new ≡ self.old) }
+        ensures kind { IfErr result (λ e. MayRefuseLock self.old e) }
+    {
+        let number = self.next_number()?;
+        let core = LockCore::new(alloc, age_timeout, stale_writer, now);
+        self.cores.insert(self.next, core)?;
+        self.next += 1;
+        Ok((
+            WritePermit::new(number, stale_writer),
+            LockStub::new(number),
+        ))
+    }
+
+    // The number of the next lock, where one is left.
+    fn next_number(&self) -> Result<u64>
+        ensures next { IfOk result (λ n. n ≡ self.now.next) }
+        ensures kind { IfErr result (λ e. (e ≡ NumbersExhausted) × (2 ^ 64 ≤ self.now.next)) }
+    {
+        match u64::try_from(self.next) {
+            Ok(number) => Ok(number),
+            Err(_) => Err(Error::new(ErrorType::NumbersExhausted)),
+        }
+    }
+
+    // A read lock more on a lock.
+    pub(super) fn read_lock(&mut self, number: u64) -> ReadLock
+        ensures reader { result ≡ record { number = number; watch = None } }
+        ensures table { self.new ≡ with_read_lock self.old number (map.get self.old.cores number) }
+    {
+        add_reader(&mut self.cores, u128::from(number));
+        ReadLock::new(number)
+    }
+
+    // Tells where a lock ended.
+    pub(super) fn unlock(&mut self, number: u64, reason: LockStatus)
+        requires { IsReason reason }
+        ensures { self.new ≡ unlocked self.old number reason }
+    {
+        unlock(&mut self.cores, u128::from(number), reason);
     }
 
     // The lock on which a request for the key would wait.
@@ -255,12 +338,9 @@ impl CacheKeyLock for CacheLock {
     ) -> Result<Locked> {
         let slot = key.slot();
         if let Some(number) = self.holder(slot) {
-            add_reader(&mut self.cores, u128::from(number));
-            return Ok(Locked::Read(ReadLock::new(number)));
+            return Ok(Locked::Read(self.read_lock(number)));
         }
-        let Ok(number) = u64::try_from(self.next) else {
-            return Err(Error::new(ErrorType::NumbersExhausted));
-        };
+        let number = self.next_number()?;
         let core = LockCore::under(alloc, slot, self.age_timeout, stale_writer, now);
         self.add_core(number, slot, core)?;
         Ok(Locked::Write(WritePermit::new(number, stale_writer)))

@@ -2,6 +2,7 @@
 ghost use Rattle.std.specs.Prelude.{◌≡◌, ◌-◌, IfErr, None, OnErr, OnOk, Some, drop, length, nat_lt, slice_get};
 ghost use Rattle.pcache_base.specs.declared.error.ErrorType.TheVariants.{OutOfMemory};
 ghost use Rattle.std.specs.Duration.{as_nanos};
+ghost use Rattle.pcache_lock.specs.Locks.{ended};
 ghost use Rattle.pcache_lock.specs.Permits.{fresh_core, is_locked, is_named, with_reader, without_reader, spent, dropped_status};
 ghost use Rattle.pcache_lock.specs.Statuses.{IsReason};
 ghost use Rattle.pcache_lock.specs.Waiting.{aged, first_told, is_expired, says_nothing, stage_of, status_at, with_publication};
@@ -139,7 +140,7 @@ impl LockCore {
     /// Tells where it ended.
     pub fn unlock(&mut self, reason: LockStatus)
         requires { IsReason reason }
-        ensures { self.new ≡ record self.old { status = reason } }
+        ensures { self.new ≡ ended reason self.old }
     {
         self.status = reason;
     }

@@ -196,3 +196,34 @@ impl Locked {
         }
     }
 }
+
+/// What stands for a lock under its key.
+#[derive(Clone, Copy, Debug, PartialEq, Eq)]
+pub struct LockStub {
+    number: u64,
+}
+
+impl Model for LockStub {
+    ghost use Rattle.std.specs.Prelude.{ℕ};
+
+    ghost Value = { ℕ };
+
+    ghost view = { λ s. s.number };
+
+    ghost inverse = { λ n. record { number = n } };
+}
+
+impl LockStub {
+    pub(super) fn new(number: u64) -> LockStub
+        ensures { result ≡ number }
+    {
+        LockStub { number }
+    }
+
+    /// The lock's number.
+    pub fn number(&self) -> u64
+        ensures { result ≡ self.now }
+    {
+        self.number
+    }
+}
