@@ -1,2 +1,4 @@
 pub mod Changes
 pub mod Maps
+pub mod Tidy
+pub mod Calls

@@ -12,6 +12,7 @@ ghost use Rattle.pcache_lock.specs.Waiting.{after_poll, polled, published, reade
 ghost use Rattle.pcache_lock.specs.declared.lock.status.LockStatus.{LockStatus};
 
 pub mod cache_lock;
+pub mod laws;
 pub mod lent;
 pub mod lock_core;
 pub mod outcome;
