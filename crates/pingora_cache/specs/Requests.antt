@@ -58,6 +58,11 @@ abbrev pub IsClear : {H R W : Type 0} → CachePhase → Option H → Option R �
 IsClear (phase.Disabled r) h d w = (h ≡ None) × (d ≡ None) × (w ≡ None)
 IsClear _ h d w = Unit {0}
 
+-- a write is held only where a write may be made, beside the meta that it began with
+abbrev pub IsWriting : {M W : Type 0} → CachePhase → Option M → Option W → Type 0
+IsWriting p m None = Unit {0}
+IsWriting p m (Some w) = IsFilling p × IsSome m
+
 -- a reader is let go, a write dropped, a lock let go, where there is one
 abbrev pub left_by : Option Reader → Store → Store
 left_by None s = s

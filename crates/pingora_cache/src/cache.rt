@@ -15,11 +15,17 @@ ghost use Rattle.pcache_evict.specs.Tracked.{added};
 ghost use Rattle.pingora_cache.specs.Phases as phases;
 ghost use Rattle.pingora_cache.specs.Requests.{settled, let_go_by, table_asked, left_by, entry_of, reader_in, phase_found};
 
+mod finish;
+
+pub use finish::{FinishReport, WriteEnd};
+
 use crate::phase::{CachePhase, HitStatus, InUse};
+use bytes::Bytes;
 use pcache_base::error::Result;
 use pcache_base::key::CacheKey;
 use pcache_base::meta::CacheMeta;
 use pcache_base::moment::Moment;
+use pcache_base::poll::Poll;
 use pcache_base::reason::NoCacheReason;
 use pcache_evict::eviction::{CacheEntryId, CacheEntryKey, EvictionManager};
 use pcache_lock::lock::{CacheKeyLock, LockStatus, Locked};
@@ -42,7 +48,7 @@ pub struct HttpCache<S: Storage> {
 impl<S: Storage> Model for HttpCache<S> {
     ghost use Rattle.std.specs.Prelude.{option_map};
     ghost use Rattle.std.specs.Option.{option_and_then};
-    ghost use Rattle.pingora_cache.specs.Requests.{Request, HasKey, IsClear};
+    ghost use Rattle.pingora_cache.specs.Requests.{Request, HasKey, IsClear, IsWriting};
 
     ghost Value = { Request };
 
@@ -57,7 +63,7 @@ impl<S: Storage> Model for HttpCache<S> {
       entry = option_and_then S.Miss.entry_number a.writer;
     } };
 
-    ghost invariant = { λ a. HasKey a.phase a.key × IsClear a.phase a.held a.reader a.writer };
+    ghost invariant = { λ a. HasKey a.phase a.key × IsClear a.phase a.held a.reader a.writer × IsWriting a.phase a.meta a.writer };
 }
 
 // Puts a linear value where none is.
@@ -192,13 +198,14 @@ fn replace_reader<S: Storage>(
 }
 
 impl<S: Storage> HttpCache<S> {
-    ghost use Rattle.std.specs.Prelude.{◌≡◌, ◌≢◌, ◌↔◌, ◌⊎◌, ℕ, true, false, cond, IfOk, IfErr, IfSome, OnOk, OnErr, IsTrue, IsSome, Option, Some, None, option_map, option_copied, is_some, ◌&&◌};
+    ghost use Rattle.std.specs.Prelude.{◌≡◌, ◌≢◌, ◌↔◌, ◌⊎◌, ℕ, true, false, cond, IfOk, IfErr, IfSome, OnOk, OnErr, IsTrue, IsSome, Option, Some, None, option_map, is_some, ◌&&◌};
     ghost use Rattle.std.specs.Borrow.{Lends, LendsIf, sem};
     ghost use Rattle.pcache_base.specs.Key.{Key, slot};
     ghost use Rattle.pcache_base.specs.declared.error.ErrorType.TheVariants.{OutOfMemory};
     ghost use Rattle.pcache_lock.specs.Locks.{MayRefuseLock};
     ghost use Rattle.pcache_lock.specs.declared.lock.status.LockStatus.TheVariants.{Done};
-    ghost use Rattle.pcache_store.specs.Store.{followed, left};
+    ghost use Rattle.pcache_store.specs.Store.{followed, left, read_of, reader_after};
+    ghost use Rattle.std.specs.Option.{option_copied};
     ghost use Rattle.pcache_store.specs.Purge.{purge_answer, purged_at};
     ghost use Rattle.pcache_store.specs.Refusals.{MayRefuseWrite};
     ghost use Rattle.pingora_cache.specs.Phases.{IsDisabled, MayTakeKey, MayLookUp, MayMiss, IsFilling, IsReading, MayPurge, is_filling};
@@ -241,6 +248,41 @@ impl<S: Storage> HttpCache<S> {
         ensures { result ≡ self.now.phase }
     {
         self.phase
+    }
+
+    /// Which parts are in use.
+    pub fn uses(&self) -> InUse
+        ensures { result ≡ self.now.uses }
+    {
+        self.uses
+    }
+
+    /// The key, where one is set.
+    pub fn key(&self) -> Option<&CacheKey>
+        ensures { option_copied result ≡ self.now.key }
+    {
+        self.key.as_ref()
+    }
+
+    /// The meta, where there is one.
+    pub fn meta(&self) -> Option<&CacheMeta>
+        ensures { option_copied result ≡ self.now.meta }
+    {
+        self.meta.as_ref()
+    }
+
+    /// The lock that is held, where there is one.
+    pub fn held(&self) -> Option<&Locked>
+        ensures { option_copied result ≡ self.now.held }
+    {
+        self.held.as_ref()
+    }
+
+    /// The handler of the write, where there is one, to be asked.
+    pub fn writer(&self) -> Option<&S::Miss>
+        ensures { option_map (λ w. S.Miss.write w.now) result ≡ self.now.write }
+    {
+        self.writer.as_ref()
     }
 
     /// Sets the key.
@@ -361,6 +403,21 @@ impl<S: Storage> HttpCache<S> {
         self.reader.is_some()
     }
 
+    /// Reads on. It is refused for want of memory alone, and changes nothing then.
+    pub fn read_body(&mut self, storage: &mut S) -> Result<Poll<Option<Bytes>>>
+        requires { IsSome self.old.reader }
+        ensures read { IfOk result (λ p. IfSome self.old.reader (λ r. p ≡ read_of (S.state storage.old) r)) }
+        ensures request { OnOk result (self.new ≡ record self.old { reader = option_map (reader_after (S.state storage.old)) self.old.reader }) }
+        ensures same_request { OnErr result (self.new ≡ self.old) }
+        ensures same_store { S.state storage.new ≡ S.state storage.old }
+        ensures kind { IfErr result (λ e. e ≡ OutOfMemory) }
+    {
+        let Some(reader) = &mut self.reader else {
+            unreachable!()
+        };
+        reader.read_body(self.alloc, storage)
+    }
+
     /// The reader of what was found.
     pub fn hit_handler(&mut self) -> &mut S::Hit
         requires phase { IsReading self.old.phase }
@@ -446,7 +503,10 @@ impl<S: Storage> HttpCache<S> {
         ensures* writes_back { sem 𝓛 (LendsIf (the_row S.row S.Hit.row S.Miss.row S.StoreMeaning S.Hit.HandleHit S.Miss.HandleMiss) S.Miss.row self.entry result (λ w. record self.old { write = Some (S.Miss.write w); entry = S.Miss.entry_number w }) self.old) }
         ensures value { option_map (λ r. S.Miss.write r.now) result ≡ self.old.write }
     {
-        self.writer.as_mut()
+        let Some(writer) = &mut self.writer else {
+            return None;
+        };
+        Some(writer)
     }
 
     /// Removes what stands under the key, and takes the entry that went out of the manager. Answers
