@@ -1,3 +1,4 @@
 pub mod Entry
 pub mod EntryRef
 pub mod Tracked
+pub mod Sharding

@@ -5,3 +5,4 @@
 //! - `eviction::simple_lru`: the manager with one recency list
 
 pub mod eviction;
+pub mod hashtable;
