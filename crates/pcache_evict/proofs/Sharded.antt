@@ -6,12 +6,13 @@ use Rattle.std.proofs.lemmas.Option.{get_or_from_slice_get, slice_get-get_or, sl
 use Rattle.std.proofs.lemmas.List.{get_or-set_same, length-set}
 use Rattle.std.specs.Option.{option_or}
 use Rattle.std.specs.Ordering.{nat_cmp, eq_by_cmp}
+use Rattle.std.specs.declared.cmp.Ordering.TheVariants.{Equal}
 use Rattle.std.specs.Cmp.{nat_cmp_total, unsigned_tied}
 use Rattle.std.proofs.lemmas.Map.Lookups.{exact_unsigned}
 use Rattle.std.proofs.lemmas.Map.Views.{tells_apart}
 use Rattle.std.proofs.lemmas.Bool.Decides.{nat_tests}
-use Rattle.std.specs.FinMap.{FinMap, empty, find, get, insert, remove, entries, get-empty, get-entries, get-from_entries, get-insert, get-remove, same_map}
-use Rattle.pcache_evict.specs.Sharding.{Part, Belongs, Placed, AllPlaced, all_entries, joined}
+use Rattle.std.specs.FinMap.{FinMap, empty, find, get, insert, remove, entries, get-empty, get-entries, get-from_entries, get-insert, get-remove, get-retain_keys, same_map}
+use Rattle.pcache_evict.specs.Sharding.{Part, Belongs, Placed, AllPlaced, all_entries, joined, part_of}
 
 -- keys that are tested equal, and keys that are not
 pub by_test : {P : Type 0} (q k : ℕ) (b : Bool) → eq_by_cmp nat_cmp q k ≡ b → (q ≡ k → P) → (eq_by_cmp nat_cmp q k ≡ false → P) → P
@@ -25,6 +26,9 @@ off_not : (q k : ℕ) → eq_by_cmp nat_cmp q k ≡ false → q ≡ k → ⊥
 off_not q k off e =
     let same : eq_by_cmp nat_cmp q k ≡ true = ap (eq_by_cmp nat_cmp q) (sym e) ∙ same_key q in
     cc
+
+alike_keys : (shards place q x : ℕ) → nat_cmp q x ≡ Equal → ((x % shards) == place) ≡ ((q % shards) == place)
+alike_keys shards place q x e = ap (λ k. (k % shards) == place) (sym (exact_unsigned q x e))
 
 -- keys of different shards differ
 other_key : (q k n : ℕ) (b : Bool) → eq_by_cmp nat_cmp q k ≡ b → eq_by_cmp nat_cmp (q % n) (k % n) ≡ false → eq_by_cmp nat_cmp q k ≡ false
@@ -185,3 +189,13 @@ module _ {X : Type 0} where
 
   pub made-empty : (shards : ℕ) (ps : List (Part X)) → length ps ≡ shards → ((i : ℕ) (e : Part X) → i < shards → get_or ps i e ≡ record { place = i; map = empty }) → joined ps ≡ empty
   made-empty shards ps len made = empty-joined ps (λ i r e. ap (λ x. x.map) (made_is shards ps len made i r e))
+
+  own_or_not : (b : Bool) (shards place q : ℕ) (p : Part X) (o : Option X) → ((q % shards) == place) ≡ b → Placed shards place p → (q % shards ≡ place → get p.map q ≡ o) → get p.map q ≡ cond b o None
+  own_or_not true shards place q p o e one h = h (let same : q % shards ≡ place = grind (arith, nat_tests) in same)
+  own_or_not false shards place q p o e one h = one.own q (λ same. let t : ((q % shards) == place) ≡ true = grind (arith, nat_tests) in cc)
+
+  -- a shard has what its keys have
+  pub part-joined : (shards : ℕ) (ps : List (Part X)) (place : ℕ) (p : Part X) → AllPlaced shards ps → slice_get ps place ≡ Some p → p.map ≡ part_of shards place (joined ps)
+  part-joined shards ps place p all at = same_map nat_cmp_total exact_unsigned _ _ (λ q.
+      own_or_not ((q % shards) == place) shards place q p (get (joined ps) q) refl (all place p at) (λ same. sym (get-joined shards ps q p all (ap (slice_get ps) same ∙ at)))
+      ∙ sym (get-retain_keys (joined ps) (λ key. (key % shards) == place) q (alike_keys shards place q)))

@@ -1,5 +1,5 @@
 //! Tables from 128-bit keys to values, in shards: the shard of a key is the key modulo their number.
-ghost use Rattle.std.specs.Prelude.{◌≡◌, ◌<◌, ◌%◌, IfErr, IfOk, OnErr, OnOk, option_copied};
+ghost use Rattle.std.specs.Prelude.{◌≡◌, None, IsSome, IfSome, ◌↔◌, ◌<◌, ◌%◌, IfErr, IfOk, OnErr, OnOk, option_copied};
 ghost use Rattle.std.specs.FinMap as map;
 ghost use Rattle.pcache_evict.specs.Sharding.{Part, part_of};
 
@@ -50,6 +50,28 @@ impl<V, const N: usize> Shards<V, N> {
         }
     }
 
+    /// The shard of a key.
+    pub fn get(&self, key: u128) -> &Shard<V, N>
+        ensures place { result.now.place ≡ key % N }
+        ensures part { result.now.map ≡ part_of N (key % N) self.now }
+    {
+        let shards = &self.shards;
+        &shards[(key % N as u128) as usize]
+    }
+
+    /// The shard at a place, where there is one.
+    pub fn get_shard_at_idx(&self, place: usize) -> Option<&Shard<V, N>>
+        ensures found { IsSome result ↔ (place < N) }
+        ensures part { IfSome result (λ shard. shard.now.map ≡ part_of N place self.now) }
+    {
+        let shards = &self.shards;
+        if place < N {
+            Some(&shards[place])
+        } else {
+            None
+        }
+    }
+
     /// The value at a key.
     pub fn value(&self, key: u128) -> Option<&V>
         ensures { option_copied result ≡ map.get self.now key }
@@ -65,6 +87,7 @@ impl<V, const N: usize> Shards<V, N> {
         ensures ok { OnOk result (self.new ≡ map.insert self.old key value) }
         ensures err { OnErr result (self.new ≡ self.old) }
         ensures value_returned { IfErr result (λ y. y.value ≡ (key, value)) }
+        ensures absent { OnErr result (map.get self.old key ≡ None) }
     {
         let _ = &self.shards;
         let place = (key % N as u128) as usize;

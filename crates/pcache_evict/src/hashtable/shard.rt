@@ -1,5 +1,5 @@
 //! One shard of a table.
-ghost use Rattle.std.specs.Prelude.{◌≡◌, ◌↔◌, ◌<◌, ◌%◌, IfErr, IfOk, IsTrue, OnErr, OnOk, option_copied};
+ghost use Rattle.std.specs.Prelude.{◌≡◌, None, ◌↔◌, ◌<◌, ◌%◌, IfErr, IfOk, IsTrue, OnErr, OnOk, option_copied};
 ghost use Rattle.std.specs.FinMap as map;
 
 use crate::hashtable::table::Table;
@@ -68,6 +68,7 @@ impl<V, const N: usize> Shard<V, N> {
         ensures ok { OnOk result (self.new ≡ record self.old { map = map.insert self.old.map key value }) }
         ensures err { OnErr result (self.new ≡ self.old) }
         ensures value_returned { IfErr result (λ y. y.value ≡ (key, value)) }
+        ensures absent { OnErr result (map.get self.old.map key ≡ None) }
     {
         self.table.insert(key, value)
     }

@@ -1,6 +1,6 @@
 //! A map from numbers to values, seen by contracts as a finite map.
 
-ghost use Rattle.std.specs.Prelude.{◌≡◌, IfOk, OnOk, OnErr, option_copied, IfErr, OnSome};
+ghost use Rattle.std.specs.Prelude.{◌≡◌, None, IfOk, OnOk, OnErr, option_copied, IfErr, OnSome};
 ghost use Rattle.std.specs.Ordering.{nat_cmp};
 ghost use Rattle.std.specs.FinMap as map;
 ghost use Rattle.std.specs.Coded.{coded_ℕ};
@@ -59,6 +59,7 @@ impl<V> Table<V> {
         ensures ok { OnOk result (self.new ≡ map.insert self.old key value) }
         ensures err { OnErr result (self.new ≡ self.old) }
         ensures value_returned { IfErr result (λ y. y.value ≡ (key, value)) }
+        ensures absent { OnErr result (map.get self.old key ≡ None) }
     {
         self.inside.insert(key, value)
     }

@@ -1,7 +1,7 @@
 use Rattle.std.proofs.Common.{◌∙◌, ◌%◌, ◌<◌, ap, arith, get_or, length, refl, sym}
 use Rattle.std.specs.FinMap as map
 use Rattle.std.proofs.lemmas.Option.{slice_get_within}
-use Rattle.std.proofs.lemmas.Result.{IfOk-weaker, on_ok_weaker}
+use Rattle.std.proofs.lemmas.Result.{IfOk-weaker, on_ok_weaker, on_err_weaker}
 use Rattle.pcache_evict.proofs.Sharded.{all-set, at_place, get-joined, insert-joined, placed-either, placed-without, remove-joined}
 use Rattle.pcache_evict.proofs.hashtable.Shards.insert.Goals as goal
 
@@ -25,3 +25,9 @@ returns-clause-ok g c =
     let ps = c.self.inside.shards in
     let at = at_place g.row.N ps c.args.key c.index-self-place.result c.self.invariant.0 c.self.told in
     on_ok_weaker c.insert.result (λ h. insert-joined g.row.N ps c.args.key c.args.value _ c.insert.new.self c.self.invariant.0 c.self.told c.self.invariant.1 at h ∙ ap (λ m. map.insert m c.args.key c.args.value) c.self.view_is) c.insert.ensures.ok
+
+pub returns-clause-absent : goal.returns-clause-absent
+returns-clause-absent g c =
+    let ps = c.self.inside.shards in
+    let at = at_place g.row.N ps c.args.key c.index-self-place.result c.self.invariant.0 c.self.told in
+    on_err_weaker c.insert.result (λ h. sym (ap (λ m. map.get m c.args.key) c.self.view_is) ∙ get-joined g.row.N ps c.args.key _ c.self.invariant.1 at ∙ h) c.insert.ensures.absent
