@@ -1,18 +1,18 @@
 -- Every call leads from a tidy table to a tidy one.
-use Rattle.std.proofs.Common.{◌≡◌, ℕ, Bool, true, false, ◌&&◌, ◌||◌, Option, None, Some, List, [], ◌∷◌, cond, refl, sym, ◌∙◌, ap, subst, inl, inr, ◌⊎◌, ◌↔◌}
-use Rattle.std.specs.Ordering.{nat_cmp, eq_by_cmp}
-use Rattle.std.specs.FinMap.{FinMap, empty, get, insert, remove, get-empty}
+use Rattle.std.proofs.Common.{◌≡◌, ℕ, Bool, true, false, ◌&&◌, ◌||◌, Option, None, Some, List, [], ◌∷◌, cond, refl, sym, ◌∙◌, ap, subst, inl, inr, ◌⊎◌}
+use Rattle.std.specs.Ordering.{nat_cmp}
+use Rattle.std.specs.FinMap.{get, insert, remove, get-empty}
 use Rattle.pcache_lock.specs.declared.lock.outcome.Stage.{Stage}
 use Rattle.pcache_lock.specs.declared.lock.outcome.Stage.TheVariants as stage
 use Rattle.pcache_lock.specs.declared.lock.permit.Locked.{Locked}
 use Rattle.pcache_lock.specs.declared.lock.permit.Locked.TheVariants.{Write, Read}
 use Rattle.pcache_lock.specs.declared.lock.status.LockStatus.{LockStatus}
 use Rattle.pcache_lock.specs.declared.lock.status.LockStatus.TheVariants as status
-use Rattle.pcache_lock.specs.Statuses.{is_free, is_waiting, is_aged, is_pending}
-use Rattle.pcache_lock.specs.Permits.{Core, is_named, with_reader, without_reader, spent, released_status, dropped_status}
-use Rattle.pcache_lock.specs.Locks.{Locks, no_locks, holder, after_request, with_read_lock, without_entry, kept, left, released, released_on, let_go, permit_dropped, reader_dropped, changed}
-use Rattle.pcache_lock.specs.Waiting.{after_poll, table_at, stage_of, aged, published, with_publication}
-use Rattle.pcache_lock.specs.Waits.{Call, Asked, Released, LetGo, Polled, Published, Leads, LeadsAll, OneWaits, AskFindsTheWaiting, OneWaitsAlways, AskFindsTheWaitingAlways, waiting_slot, waits_under}
+use Rattle.pcache_lock.specs.Statuses.{is_free, is_waiting, is_aged}
+use Rattle.pcache_lock.specs.Permits.{Core, is_named, with_reader, without_reader, spent, dropped_status}
+use Rattle.pcache_lock.specs.Locks.{Locks, no_locks, holder, after_request, with_read_lock, without_entry, kept, released_on, let_go, permit_dropped, reader_dropped, changed}
+use Rattle.pcache_lock.specs.Waiting.{after_poll, table_at, stage_of, aged, with_publication}
+use Rattle.pcache_lock.specs.Waits.{Call, Asked, Released, LetGo, Polled, Published, Leads, LeadsAll, OneWaitsAlways, AskFindsTheWaitingAlways, waiting_slot, waits_under}
 use Rattle.pcache_lock.proofs.Tidy.{Tidy, is_open, put_tidy, left_tidy, none_some, asked_tidy, found, asked_waits, get-insert-at, get-insert-off, get-remove-at, get-remove-off}
 
 pub start_tidy : (age : ℕ) → Tidy (no_locks age)

@@ -1,4 +1,3 @@
 pub mod Changes
-pub mod Maps
 pub mod Tidy
 pub mod Calls

@@ -1,19 +1,17 @@
 -- What holds of every table that calls lead to.
-use Rattle.std.proofs.Common.{◌≡◌, ◌≤◌, ◌<◌, ◌+◌, ◌==◌, ℕ, Bool, true, false, ◌&&◌, ◌||◌, Option, None, Some, List, [], ◌∷◌, cond, refl, sym, ◌∙◌, ap, subst, inl, inr, ◌⊎◌, ◌↔◌, arith, rules}
+use Rattle.std.proofs.Common.{◌≡◌, ◌≤◌, ◌==◌, ℕ, Bool, true, false, ◌&&◌, ◌||◌, Option, None, Some, cond, refl, sym, ◌∙◌, ap, subst, arith}
 use Rattle.std.specs.Ordering.{nat_cmp, eq_by_cmp}
 use Rattle.std.specs.Cmp.{nat_cmp_total, unsigned_tied}
 use Rattle.std.proofs.lemmas.Map.Lookups.{exact_unsigned}
 use Rattle.std.proofs.lemmas.Map.Views.{tells_apart}
 use Rattle.std.proofs.lemmas.Bool.Decides.{nat_tests}
-use Rattle.std.specs.FinMap.{FinMap, empty, get, insert, remove, gets, get-empty, get-insert, get-remove}
-use Rattle.pcache_lock.specs.declared.lock.permit.Locked.{Locked}
-use Rattle.pcache_lock.specs.declared.lock.permit.Locked.TheVariants.{Write, Read}
+use Rattle.std.specs.FinMap.{FinMap, get, insert, remove, get-insert, get-remove}
 use Rattle.pcache_lock.specs.declared.lock.status.LockStatus.{LockStatus}
 use Rattle.pcache_lock.specs.declared.lock.status.LockStatus.TheVariants as status
-use Rattle.pcache_lock.specs.Statuses.{is_free, is_waiting, is_aged, is_pending}
-use Rattle.pcache_lock.specs.Permits.{Core, fresh_core, is_named, with_reader, without_reader, spent, released_status, dropped_status}
-use Rattle.pcache_lock.specs.Locks.{Locks, no_locks, holder, held_by, unless_free, after_request, with_permit, with_read_lock, without_entry, stands_as, kept, left, released, released_on, let_go, permit_dropped, reader_dropped, changed}
-use Rattle.pcache_lock.specs.Waits.{waiting_slot, waits_under, OneWaits, AskFindsTheWaiting}
+use Rattle.pcache_lock.specs.Statuses.{is_free, is_waiting}
+use Rattle.pcache_lock.specs.Permits.{Core, fresh_core}
+use Rattle.pcache_lock.specs.Locks.{Locks, holder, held_by, unless_free, with_permit, without_entry, stands_as}
+use Rattle.pcache_lock.specs.Waits.{waiting_slot, waits_under}
 
 -- what stands under a key is a lock of that key whose place may be taken, or whose permit waits
 abbrev pub is_open : Core → Bool

@@ -14,21 +14,23 @@ use crate::lock::lock_core::LockCore;
 use crate::lock::outcome::{Stage, WaitOutcome};
 use crate::lock::permit::{LockStub, Locked, ReadLock, WritePermit};
 use crate::lock::status::LockStatus;
-use crate::table::Table;
 use pcache_base::error::{Error, ErrorType, Result};
 use pcache_base::fills::UnusableFills;
 use pcache_base::key::{CacheHashKey, CacheKey};
 use pcache_base::moment::Moment;
 use pcache_base::poll::Poll;
+use pcache_evict::hashtable::{Shards, Table};
 use std::alloc::Global;
 use std::marker::Model;
 use std::time::Duration;
 
-/// A table of locks in memory.
+const N_SHARDS: usize = 16;
+
+/// A table of locks in memory: the entries of keys in 16 shards, and the locks by number.
 #[derive(Drop)]
 pub struct CacheLock {
     cores: Table<LockCore>,
-    standing: Table<u64>,
+    standing: Shards<u64, N_SHARDS>,
     // Wide, so that it can stand behind the last number.
     next: u128,
     age_timeout: Duration,
@@ -47,22 +49,21 @@ impl Model for CacheLock {
 }
 
 // Sets the number of a key's entry, where it has one.
-fn set_entry(standing: &mut Table<u64>, slot: u128, number: u64)
+fn set_entry(standing: &mut Shards<u64, N_SHARDS>, slot: u128, number: u64)
     requires { IsSome (map.get standing.old slot) }
     ensures { standing.new ≡ map.insert standing.old slot number }
 {
-    let Some(entry) = standing.get_mut(slot) else {
+    let Ok(_before) = standing.insert(slot, number) else {
         unreachable!()
     };
-    *entry = number;
 }
 
 // Takes out the entry of a lock, where it stands under its key.
-fn leave_entry(standing: &mut Table<u64>, place: u128, slot: Option<u128>)
+fn leave_entry(standing: &mut Shards<u64, N_SHARDS>, place: u128, slot: Option<u128>)
     ensures { standing.new ≡ without_entry place slot standing.old }
 {
     let Some(slot) = slot else { return };
-    let Some(entry) = standing.get(slot) else {
+    let Some(entry) = standing.value(slot) else {
         return;
     };
     if u128::from(*entry) == place {
@@ -140,7 +141,7 @@ impl CacheLock {
     {
         CacheLock {
             cores: Table::new(alloc),
-            standing: Table::new(alloc),
+            standing: Shards::new(alloc),
             next: 0,
             age_timeout,
         }
@@ -165,7 +166,7 @@ impl CacheLock {
     pub fn stub(&self, key: &CacheKey) -> Option<LockStub>
         ensures { result ≡ map.get self.now.standing (slot key.now) }
     {
-        let number = self.standing.get(key.slot())?;
+        let number = self.standing.value(key.slot())?;
         Some(LockStub::new(*number))
     }
 
@@ -228,7 +229,7 @@ impl CacheLock {
     fn holder(&self, slot: u128) -> Option<u64>
         ensures { result ≡ holder self.now slot }
     {
-        let number = *self.standing.get(slot)?;
+        let number = *self.standing.value(slot)?;
         let core = self.cores.get(u128::from(number))?;
         if core.lock_status().is_free() {
             None
@@ -244,7 +245,7 @@ impl CacheLock {
         ensures err { OnErr result (self.new ≡ self.old) }
         ensures kind { IfErr result (λ e. e ≡ OutOfMemory) }
     {
-        if self.standing.get(slot).is_some() {
+        if self.standing.value(slot).is_some() {
             self.cores.insert(self.next, core)?;
             set_entry(&mut self.standing, slot, number);
             self.next += 1;
