@@ -1,2 +1,7 @@
 pub mod Sharded
 pub mod TableMaps
+pub mod EntryOrder
+pub mod Recency
+pub mod Walks
+pub mod Evictions
+pub mod Maps

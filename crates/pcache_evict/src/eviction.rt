@@ -12,6 +12,8 @@ use pcache_base::error::Result;
 use pcache_base::moment::Moment;
 
 mod entry_key;
+mod recency;
+pub mod simple_lru;
 
 pub use entry_key::{CacheEntryId, CacheEntryKey, CacheEntryKeyRef};
 

@@ -24,6 +24,8 @@ use pcache_evict::eviction::{CacheEntryId, CacheEntryKey, CacheEntryKeyRef};
 use std::alloc::Global;
 use std::fmt;
 
+pub mod streaming_write;
+
 /// Why something is removed.
 #[derive(Clone, Copy, Debug, PartialEq, Eq)]
 pub enum PurgeType {
