@@ -1,4 +1,5 @@
 pub mod Sharded
+pub mod ShardLists
 pub mod TableMaps
 pub mod EntryOrder
 pub mod Recency

@@ -1,8 +1,8 @@
 -- Shards as one map.
-use Rattle.std.proofs.Common.{◌≡◌, ◌%◌, ◌+◌, ◌==◌, ◌<◌, ◌≤◌, length, get_or, ℕ, Bool, true, false, Option, None, Some, List, [], ◌∷◌, ◌++◌, cond, refl, sym, ◌∙◌, ap, subst, zero, suc, arith}
+use Rattle.std.proofs.Common.{◌≡◌, ◌%◌, ◌==◌, ◌<◌, length, get_or, ℕ, Bool, true, false, Option, None, Some, List, [], ◌∷◌, ◌++◌, cond, refl, sym, ◌∙◌, ap, subst, zero, suc, arith}
 use Rattle.std.specs.Prelude.{slice_get, Result, Ok, Err, OnOk, OnErr}
 use Rattle.std.proofs.Math.ListN.{set}
-use Rattle.std.proofs.lemmas.Option.{get_or_from_slice_get, slice_get-get_or, slice_get_read, slice_get_within}
+use Rattle.std.proofs.lemmas.Option.{get_or_from_slice_get, slice_get-get_or, slice_get_within}
 use Rattle.std.proofs.lemmas.List.{get_or-set_same, length-set}
 use Rattle.std.specs.Option.{option_or}
 use Rattle.std.specs.Ordering.{nat_cmp, eq_by_cmp}
@@ -22,7 +22,7 @@ by_test q k false e same other = other e
 pub same_key : (k : ℕ) → eq_by_cmp nat_cmp k k ≡ true
 same_key k = grind (arith, nat_tests, unsigned_tied k k)
 
-off_not : (q k : ℕ) → eq_by_cmp nat_cmp q k ≡ false → q ≡ k → ⊥
+pub off_not : (q k : ℕ) → eq_by_cmp nat_cmp q k ≡ false → q ≡ k → ⊥
 off_not q k off e =
     let same : eq_by_cmp nat_cmp q k ≡ true = ap (eq_by_cmp nat_cmp q) (sym e) ∙ same_key q in
     cc

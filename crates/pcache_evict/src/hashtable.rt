@@ -3,9 +3,15 @@ ghost use Rattle.std.specs.Prelude.{◌≡◌, None, IsSome, IfSome, ◌↔◌, 
 ghost use Rattle.std.specs.FinMap as map;
 ghost use Rattle.pcache_evict.specs.Sharding.{Part, part_of};
 
+pub mod concurrent;
+pub mod lru_shard;
+pub mod lru_shards;
 pub mod shard;
 pub mod table;
 
+pub use concurrent::{ConcurrentHashTable, ConcurrentLruCache};
+pub use lru_shard::LruShard;
+pub use lru_shards::LruShards;
 pub use shard::Shard;
 use std::alloc::{AllocFailed, Global};
 use std::marker::{Model, PhantomData};

@@ -1,3 +1,4 @@
 pub mod Changes
 pub mod Tidy
 pub mod Calls
+pub mod Ends

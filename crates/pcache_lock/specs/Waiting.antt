@@ -24,6 +24,11 @@ is_expired now c = nat_le c.age_timeout (now - c.start)
 abbrev pub stage_of : ℕ → Core → Stage
 stage_of now c = cond (is_locked c) (cond (is_aged c.status || is_expired now c) Old Held) Over
 
+abbrev pub is_old : Stage → Bool
+is_old Over = false
+is_old Old = true
+is_old Held = false
+
 -- the first publication that has any of the fills, and the first fill of the list that it has
 abbrev pub first_told : List UnusableFill → List (List ℕ) → Option UnusableFill
 first_told fills [] = None

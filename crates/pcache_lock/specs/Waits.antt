@@ -1,12 +1,13 @@
 -- Which permits wait, and what holds of them after every list of calls (own).
-use Rattle.std.specs.Prelude.{ℕ, Bool, ◌≡◌, ◌&&◌, ◌⊎◌, ◌↔◌, Option, Some, None, List, [], ◌∷◌, cond}
+use Rattle.std.specs.Prelude.{ℕ, Bool, true, false, ◌≡◌, ◌≤◌, ◌==◌, ◌&&◌, ◌⊎◌, ◌↔◌, ◌++◌, Option, Some, None, List, [], ◌∷◌, length, cond}
 use Rattle.std.specs.FinMap.{get}
 use Rattle.pcache_lock.specs.declared.lock.permit.Locked.{Locked}
+use Rattle.pcache_lock.specs.declared.lock.permit.Locked.TheVariants.{Write, Read}
 use Rattle.pcache_lock.specs.declared.lock.status.LockStatus.{LockStatus}
 use Rattle.pcache_lock.specs.Statuses.{IsReason, is_waiting}
-use Rattle.pcache_lock.specs.Permits.{Core}
+use Rattle.pcache_lock.specs.Permits.{Core, Permit, Reader, Watch}
 use Rattle.pcache_lock.specs.Locks.{Locks, after_request, holder, let_go, no_locks, released}
-use Rattle.pcache_lock.specs.Waiting.{after_poll, published}
+use Rattle.pcache_lock.specs.Waiting.{after_poll, is_old, looked, published, stage_of}
 
 -- the key under which a lock's permit waits: it was asked for under that key, and was neither
 -- released, nor let go, nor found too old
@@ -52,3 +53,24 @@ OneWaitsAlways = (age_timeout : ℕ) (calls : List Call) (t : Locks) → LeadsAl
 
 abbrev pub AskFindsTheWaitingAlways : Type 0
 AskFindsTheWaitingAlways = (age_timeout : ℕ) (calls : List Call) (t : Locks) → LeadsAll calls (no_locks age_timeout) t → AskFindsTheWaiting t
+
+-- a poll finds a permit too old
+abbrev pub is_old_at : ℕ → Option Core → Bool
+is_old_at now None = false
+is_old_at now (Some c) = is_old (stage_of now c)
+
+-- a permit waits from its asking until it is released, let go or found too old, whatever else happens
+pub record WaitsUntilItsEnd : Type 0 where
+  pub asking : (t : Locks) (slot : ℕ) (stale : Bool) (now n : ℕ) → waits_under (after_request t slot stale now None) n ≡ cond (n == t.next) (Some slot) (waits_under t n)
+  pub joining : (t : Locks) (slot : ℕ) (stale : Bool) (now m n : ℕ) → waits_under (after_request t slot stale now (Some m)) n ≡ waits_under t n
+  pub releasing : (t : Locks) (m : ℕ) (reason : LockStatus) (n : ℕ) → waits_under (released t m reason) n ≡ cond (n == m) None (waits_under t n)
+  pub letting_go : (t : Locks) (p : Permit) (n : ℕ) → waits_under (let_go t (Write p)) n ≡ cond (n == p.number) None (waits_under t n)
+  pub leaving : (t : Locks) (r : Reader) (n : ℕ) → waits_under (let_go t (Read r)) n ≡ waits_under t n
+  pub polling : (t : Locks) (now m n : ℕ) → waits_under (after_poll t now m (get t.cores m)) n ≡ cond ((n == m) && is_old_at now (get t.cores m)) None (waits_under t n)
+  pub publishing : (t : Locks) (m : ℕ) (tokens : List ℕ) (n : ℕ) → waits_under (published t m tokens) n ≡ waits_under t n
+
+-- to look twice is to look once, at all that was published since the first poll: the first
+-- publication with a match tells, however often it was replaced before the reader looked again
+abbrev pub LooksAtEachPublication : Type 0
+LooksAtEachPublication = (c : Core) (more : List (List ℕ)) (w : Watch) → w.seen ≤ length c.publications
+    → looked (record c { publications = c.publications ++ more }) (looked c w) ≡ looked (record c { publications = c.publications ++ more }) w

@@ -18,6 +18,8 @@ pub mod lock_core;
 pub mod outcome;
 pub mod permit;
 pub mod status;
+#[cfg(test)]
+mod tests;
 
 pub use cache_lock::CacheLock;
 pub use lock_core::LockCore;

@@ -4,6 +4,7 @@ ghost use Rattle.std.specs.FinMap as map;
 
 use crate::hashtable::table::Table;
 use std::alloc::{AllocFailed, Global};
+use std::collections::btree_map::Iter;
 use std::marker::{Model, PhantomData};
 
 /// One of `N` shards of a table, which has no keys but its own. A contract sees its place and its map.
@@ -59,6 +60,13 @@ impl<V, const N: usize> Shard<V, N> {
         ensures { option_copied result ≡ map.get self.now.map key }
     {
         self.table.get(key)
+    }
+
+    /// Its entries, in the order of their keys.
+    pub fn iter(&self) -> Iter<'_, u128, V>
+        ensures { result ≡ map.entries self.now.map }
+    {
+        self.table.iter()
     }
 
     /// Sets the value at a key of its own, and answers the one before.

@@ -147,6 +147,17 @@ impl CacheLock {
         }
     }
 
+    // A table that gives this number next.
+    #[cfg(test)]
+    pub(super) fn starting_at(alloc: Global, age_timeout: Duration, next: u128) -> CacheLock {
+        CacheLock {
+            cores: Table::new(alloc),
+            standing: Shards::new(alloc),
+            next,
+            age_timeout,
+        }
+    }
+
     /// The same in a box. It is refused for want of memory alone.
     pub fn new_boxed(alloc: Global, age_timeout: Duration) -> Result<Box<CacheLock>>
         ensures made { IfOk result (λ b. b.value ≡ no_locks (as_nanos age_timeout)) }

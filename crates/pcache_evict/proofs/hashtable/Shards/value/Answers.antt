@@ -1,8 +1,6 @@
-use Rattle.std.proofs.Common.{◌∙◌, ◌%◌, ◌<◌, ap, arith, get_or, length, refl, sym}
+use Rattle.std.proofs.Common.{◌∙◌, ap, sym}
 use Rattle.std.specs.FinMap as map
-use Rattle.std.proofs.lemmas.Option.{slice_get_within}
-use Rattle.std.proofs.lemmas.Result.{IfOk-weaker, on_ok_weaker}
-use Rattle.pcache_evict.proofs.Sharded.{all-set, at_place, get-joined, insert-joined, placed-either, placed-without, remove-joined}
+use Rattle.pcache_evict.proofs.Sharded.{at_place, get-joined}
 use Rattle.pcache_evict.proofs.hashtable.Shards.value.Goals as goal
 
 pub returns : goal.returns
