@@ -172,6 +172,8 @@ impl StoreMeaning for MemCache {
 
     ghost finishes = { created };
 
+    ghost next_entry = { λ _. None };
+
     ghost always_purges = { true };
 }
 
