@@ -132,6 +132,6 @@ pub looks_at_each : LooksAtEachPublication
 looks_at_each c more w le =
     let ps = c.publications in
     ap (λ o. record w { seen = length (ps ++ more); told = o }) (
-        ap (λ x. option_or (option_or w.told (first_told w.fills (drop w.seen ps))) (first_told w.fills x)) (drop-append_seam ps more)
-        ∙ or_or w.told (first_told w.fills (drop w.seen ps)) (first_told w.fills more)
-        ∙ ap (option_or w.told) (sym (ap (first_told w.fills) (drop-append-le w.seen ps more le) ∙ told_more w.fills (drop w.seen ps) more)))
+    ap (λ x. option_or (option_or w.told (first_told w.fills (drop w.seen ps))) (first_told w.fills x)) (drop-append_seam ps more)
+    ∙ or_or w.told (first_told w.fills (drop w.seen ps)) (first_told w.fills more)
+    ∙ ap (option_or w.told) (sym (ap (first_told w.fills) (drop-append-le w.seen ps more le) ∙ told_more w.fills (drop w.seen ps) more)))

@@ -2,3 +2,4 @@ pub mod Changes
 pub mod Tidy
 pub mod Calls
 pub mod Ends
+pub mod Named

@@ -1,11 +1,11 @@
 -- Which permits wait, and what holds of them after every list of calls (own).
-use Rattle.std.specs.Prelude.{ℕ, Bool, true, false, ◌≡◌, ◌≤◌, ◌==◌, ◌&&◌, ◌⊎◌, ◌↔◌, ◌++◌, Option, Some, None, List, [], ◌∷◌, length, cond}
+use Rattle.std.specs.Prelude.{ℕ, Bool, true, false, ◌≡◌, ◌≤◌, ◌==◌, ◌&&◌, ◌⊎◌, ◌↔◌, ◌++◌, Option, Some, None, List, [], ◌∷◌, length, cond, IsSome}
 use Rattle.std.specs.FinMap.{get}
 use Rattle.pcache_lock.specs.declared.lock.permit.Locked.{Locked}
 use Rattle.pcache_lock.specs.declared.lock.permit.Locked.TheVariants.{Write, Read}
 use Rattle.pcache_lock.specs.declared.lock.status.LockStatus.{LockStatus}
 use Rattle.pcache_lock.specs.Statuses.{IsReason, is_waiting}
-use Rattle.pcache_lock.specs.Permits.{Core, Permit, Reader, Watch}
+use Rattle.pcache_lock.specs.Permits.{Core, Permit, Reader, Watch, is_named}
 use Rattle.pcache_lock.specs.Locks.{Locks, after_request, holder, let_go, no_locks, released}
 use Rattle.pcache_lock.specs.Waiting.{after_poll, is_old, looked, published, stage_of}
 
@@ -74,3 +74,14 @@ pub record WaitsUntilItsEnd : Type 0 where
 abbrev pub LooksAtEachPublication : Type 0
 LooksAtEachPublication = (c : Core) (more : List (List ℕ)) (w : Watch) → w.seen ≤ length c.publications
     → looked (record c { publications = c.publications ++ more }) (looked c w) ≡ looked (record c { publications = c.publications ++ more }) w
+
+-- a table keeps no lock that neither its permit nor a read lock names, and no entry without its lock
+abbrev pub AllNamed : Locks → Type 0
+AllNamed t = (n : ℕ) (c : Core) → get t.cores n ≡ Some c → is_named c ≡ true
+
+pub record NothingRemains (t : Locks) : Type 0 where
+  pub locks : AllNamed t
+  pub entries : (slot n : ℕ) → get t.standing slot ≡ Some n → IsSome (get t.cores n)
+
+abbrev pub NothingRemainsAlways : Type 0
+NothingRemainsAlways = (age_timeout : ℕ) (calls : List Call) (t : Locks) → LeadsAll calls (no_locks age_timeout) t → NothingRemains t

@@ -1,5 +1,5 @@
 //! What is promised of every list of calls of a table of locks.
-ghost use Rattle.pcache_lock.specs.Waits.{AskFindsTheWaitingAlways, LooksAtEachPublication, OneWaitsAlways, WaitsUntilItsEnd};
+ghost use Rattle.pcache_lock.specs.Waits.{AskFindsTheWaitingAlways, LooksAtEachPublication, NothingRemainsAlways, OneWaitsAlways, WaitsUntilItsEnd};
 
 /// Of the permits that were asked for under one key at most one waits.
 pub fn at_most_one_waits()
@@ -22,4 +22,10 @@ pub fn permits_wait_until_their_end()
 /// first poll that has a match tells, and the first fill of the list that it has.
 pub fn each_publication_is_looked_at()
     ensures { LooksAtEachPublication }
+{}
+
+/// A table keeps no lock that neither its permit nor a read lock names, and no entry without its
+/// lock.
+pub fn nothing_unnamed_remains()
+    ensures { NothingRemainsAlways }
 {}
