@@ -1,3 +1,6 @@
+pub mod Sharded
+pub mod ShardLists
+pub mod TableMaps
 pub mod EntryOrder
 pub mod Recency
 pub mod Walks

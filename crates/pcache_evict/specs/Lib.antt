@@ -1,5 +1,6 @@
 pub mod Entry
 pub mod EntryRef
 pub mod Tracked
+pub mod Sharding
 pub mod Recency
 pub mod Listed

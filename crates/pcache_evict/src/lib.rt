@@ -3,5 +3,7 @@
 //!
 //! - `eviction`: the keys of entries, and what an eviction manager is
 //! - `eviction::simple_lru`: the manager with one recency list
+//! - `hashtable`: tables in shards
 
 pub mod eviction;
+pub mod hashtable;

@@ -1,2 +1,5 @@
 pub mod Changes
-pub mod Maps
+pub mod Tidy
+pub mod Calls
+pub mod Ends
+pub mod Named

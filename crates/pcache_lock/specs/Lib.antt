@@ -1,4 +1,7 @@
 pub mod Locks
 pub mod LocksCode
+pub mod Outcomes
 pub mod Permits
 pub mod Statuses
+pub mod Waiting
+pub mod Waits

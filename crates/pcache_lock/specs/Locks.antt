@@ -7,8 +7,9 @@ use Rattle.pcache_base.specs.declared.error.ErrorType.TheVariants.{OutOfMemory, 
 use Rattle.pcache_lock.specs.declared.lock.permit.Locked.{Locked}
 use Rattle.pcache_lock.specs.declared.lock.permit.Locked.TheVariants.{Write, Read}
 use Rattle.pcache_lock.specs.declared.lock.status.LockStatus.{LockStatus}
+use Rattle.pcache_lock.specs.declared.lock.status.LockStatus.TheVariants.{Dangling}
 use Rattle.pcache_lock.specs.Statuses.{is_free, is_aged}
-use Rattle.pcache_lock.specs.Permits.{Core, fresh_core, is_named, with_reader, without_reader, spent, released_status, dropped_status}
+use Rattle.pcache_lock.specs.Permits.{Core, fresh_core, is_locked, is_named, with_reader, without_reader, spent, released_status, dropped_status}
 
 -- the locks that are still named, by number; under each key the number of its entry; the number of
 -- the next lock; and after how many nanoseconds a permit is too old
@@ -126,3 +127,26 @@ MayRefuseLock t IncompleteHttpBody = ⊥
 MayRefuseLock t WriteRemoved = ⊥
 MayRefuseLock t NumbersExhausted = 2 ^ 64 ≤ t.next
 MayRefuseLock t Io = ⊥
+
+-- a lock told where it ended, by a permit that is still held
+abbrev pub ended : LockStatus → Core → Core
+ended reason c = record c { status = reason }
+
+abbrev pub unlocked : Locks → ℕ → LockStatus → Locks
+unlocked t n reason = record t { cores = changed (ended reason) t.cores n (get t.cores n) }
+
+-- a lock under no key
+abbrev pub with_free_permit : Locks → ℕ → Bool → ℕ → Locks
+with_free_permit t age_timeout stale now = record t {
+  cores = insert t.cores t.next (fresh_core None age_timeout stale now);
+  next = t.next + 1;
+}
+
+-- what is known of a lock: whether its permit is still held, and where it stands
+abbrev pub locked_at : Option Core → Bool
+locked_at None = false
+locked_at (Some c) = is_locked c
+
+abbrev pub status_kept : Option Core → LockStatus
+status_kept None = Dangling
+status_kept (Some c) = c.status

@@ -4,4 +4,3 @@
 //! - `lock`: permits to fill, read locks that wait on them, and the table that gives them
 
 pub mod lock;
-mod table;

@@ -2,29 +2,47 @@
 //!
 //! A request that finds nothing asks for the lock of its key. The first gets a permit to fill the
 //! key; the others get read locks, and poll until the permit is released, let go or too old.
-ghost use Rattle.std.specs.Prelude.{◌≡◌, IfOk, IfErr, OnErr, OnOk};
+ghost use Rattle.std.specs.Prelude.{◌≡◌, ℕ, IfErr, IfOk, IsOk, IsSome, List, None, OnErr, OnOk, option_copied};
+ghost use Rattle.std.specs.FinMap.{get};
+ghost use Rattle.pcache_base.specs.declared.error.ErrorType.TheVariants.{OutOfMemory};
 ghost use Rattle.pcache_base.specs.Key.{slot};
 ghost use Rattle.pcache_lock.specs.Locks.{Locks, MayRefuseLock, after_request, given, holder, let_go, released};
 ghost use Rattle.pcache_lock.specs.Statuses.{IsReason};
+ghost use Rattle.pcache_lock.specs.Waiting.{after_poll, polled, published, reader_polled, status_seen};
+ghost use Rattle.pcache_lock.specs.declared.lock.status.LockStatus.{LockStatus};
 
 pub mod cache_lock;
+pub mod laws;
+pub mod lent;
 pub mod lock_core;
+pub mod outcome;
 pub mod permit;
 pub mod status;
+#[cfg(test)]
+mod tests;
 
 pub use cache_lock::CacheLock;
 pub use lock_core::LockCore;
+pub use outcome::{LockWaitOutcome, WaitOutcome};
 use pcache_base::error::Result;
+use pcache_base::fills::UnusableFills;
 use pcache_base::key::CacheKey;
 use pcache_base::moment::Moment;
-pub use permit::{Locked, ReadLock, WritePermit};
+use pcache_base::poll::Poll;
+pub use permit::{LockStub, Locked, ReadLock, WritePermit};
 pub use status::LockStatus;
 use std::alloc::Global;
+
+/// A table of locks of any kind, in a box.
+pub type CacheKeyLockImpl = Box<dyn CacheKeyLock + Send + Drop>;
 
 /// A table of locks on cache keys. A contract sees it as the record `Locks`.
 pub trait CacheKeyLock {
     /// The permits that were given and are still named, and the one that stands under each key.
     ghost table: { Self → Locks };
+
+    /// What a permit is released with for each reason of a caller's own.
+    ghost custom_status: { Self → List ℕ → LockStatus };
 
     /// Asks for the lock of a key: the permit where no request that the key would wait on holds
     /// it, else a read lock on that one. A permit for a stale entry is marked as such.
@@ -54,4 +72,42 @@ pub trait CacheKeyLock {
     /// own; a read lock is forgotten.
     fn drop_lock(&mut self, locked: Locked)
         ensures { table self.new ≡ let_go (table self.old) locked };
+
+    /// Asks whether the wait is over: the permit was released, unlocked or let go; or else it has
+    /// been held for too long, which the table keeps; or else its writer published a fill that the
+    /// reader cannot use. The list of the reader's first poll counts, and what it is told stays.
+    ///
+    /// It is refused for want of memory alone, and only at a first poll that names fills.
+    fn poll_wait(
+        &mut self,
+        alloc: Global,
+        read: &mut ReadLock,
+        fills: Option<&UnusableFills>,
+        now: Moment,
+    ) -> Result<Poll<WaitOutcome>>
+        ensures answer { IfOk result (λ p. p ≡ polled now (option_copied fills.entry) read.old.watch (get (table self.old).cores read.old.number)) }
+        ensures reader { OnOk result (read.new ≡ reader_polled now (option_copied fills.entry) read.old (get (table self.old).cores read.old.number)) }
+        ensures ok { OnOk result (table self.new ≡ after_poll (table self.old) now read.old.number (get (table self.old).cores read.old.number)) }
+        ensures err { OnErr result (table self.new ≡ table self.old) }
+        ensures same_reader { OnErr result (read.new ≡ read.old) }
+        ensures kind { IfErr result (λ e. e ≡ OutOfMemory) }
+        ensures later { IsSome read.old.watch → IsOk result }
+        ensures unnamed { option_copied fills.entry ≡ None → IsOk result };
+
+    /// Where the lock stands that a reader waits on: too old as soon as that moment has come.
+    fn lock_status(&self, read: &ReadLock, now: Moment) -> LockStatus
+        ensures { result ≡ status_seen now (get (table self.now).cores read.now.number) };
+
+    /// Publishes what a permit's holder found out about the fill, in place of what stood.
+    ///
+    /// It is refused for want of memory alone, and then changes nothing.
+    fn publish(&mut self, alloc: Global, permit: &WritePermit, tokens: &[u64]) -> Result<()>
+        ensures ok { OnOk result (table self.new ≡ published (table self.old) permit.now.number tokens.now) }
+        ensures err { OnErr result (table self.new ≡ table self.old) }
+        ensures kind { IfErr result (λ e. e ≡ OutOfMemory) };
+
+    /// The status to release a permit with, where the caller's own reason keeps the response out.
+    fn custom_lock_status(&self, custom_no_cache: &'static str) -> LockStatus
+        ensures value { result ≡ custom_status self.now custom_no_cache.now }
+        ensures reason { IsReason result };
 }

@@ -1,28 +1,36 @@
 //! The table of locks.
-ghost use Rattle.std.specs.Prelude.{◌≡◌, ◌^◌, ◌<◌, ◌≤◌, IfOk, IfErr, IsSome, OnErr, OnOk, Some};
+ghost use Rattle.std.specs.Prelude.{option_copied, ◌≡◌, ◌^◌, ◌<◌, ◌≤◌, IfOk, IfErr, IsSome, OnErr, OnOk, Some};
 ghost use Rattle.std.specs.Duration.{as_nanos};
 ghost use Rattle.std.specs.FinMap as map;
-ghost use Rattle.pcache_base.specs.declared.error.ErrorType.TheVariants.{OutOfMemory};
-ghost use Rattle.pcache_lock.specs.Locks.{changed, holder, no_locks, permit_dropped, permit_spent, reader_dropped, released, with_core, without_entry};
+ghost use Rattle.pcache_base.specs.declared.error.ErrorType.TheVariants.{NumbersExhausted, OutOfMemory};
+ghost use Rattle.pcache_base.specs.Key.{slot};
+ghost use Rattle.pcache_lock.specs.Locks.{MayRefuseLock, changed, ended, holder, no_locks, permit_dropped, permit_spent, reader_dropped, released, unlocked, with_core, with_free_permit, with_read_lock, without_entry};
+ghost use Rattle.pcache_lock.specs.Statuses.{IsReason};
 ghost use Rattle.pcache_lock.specs.Permits.{spent, with_reader, without_reader};
+ghost use Rattle.pcache_lock.specs.Waiting.{aged, with_publication};
 
 use crate::lock::CacheKeyLock;
 use crate::lock::lock_core::LockCore;
-use crate::lock::permit::{Locked, ReadLock, WritePermit};
+use crate::lock::outcome::{Stage, WaitOutcome};
+use crate::lock::permit::{LockStub, Locked, ReadLock, WritePermit};
 use crate::lock::status::LockStatus;
-use crate::table::Table;
 use pcache_base::error::{Error, ErrorType, Result};
+use pcache_base::fills::UnusableFills;
 use pcache_base::key::{CacheHashKey, CacheKey};
 use pcache_base::moment::Moment;
+use pcache_base::poll::Poll;
+use pcache_evict::hashtable::{Shards, Table};
 use std::alloc::Global;
 use std::marker::Model;
 use std::time::Duration;
 
-/// A table of locks in memory.
+const N_SHARDS: usize = 16;
+
+/// A table of locks in memory: the entries of keys in 16 shards, and the locks by number.
 #[derive(Drop)]
 pub struct CacheLock {
     cores: Table<LockCore>,
-    standing: Table<u64>,
+    standing: Shards<u64, N_SHARDS>,
     // Wide, so that it can stand behind the last number.
     next: u128,
     age_timeout: Duration,
@@ -41,22 +49,21 @@ impl Model for CacheLock {
 }
 
 // Sets the number of a key's entry, where it has one.
-fn set_entry(standing: &mut Table<u64>, slot: u128, number: u64)
+fn set_entry(standing: &mut Shards<u64, N_SHARDS>, slot: u128, number: u64)
     requires { IsSome (map.get standing.old slot) }
     ensures { standing.new ≡ map.insert standing.old slot number }
 {
-    let Some(entry) = standing.get_mut(slot) else {
+    let Ok(_before) = standing.insert(slot, number) else {
         unreachable!()
     };
-    *entry = number;
 }
 
 // Takes out the entry of a lock, where it stands under its key.
-fn leave_entry(standing: &mut Table<u64>, place: u128, slot: Option<u128>)
+fn leave_entry(standing: &mut Shards<u64, N_SHARDS>, place: u128, slot: Option<u128>)
     ensures { standing.new ≡ without_entry place slot standing.old }
 {
     let Some(slot) = slot else { return };
-    let Some(entry) = standing.get(slot) else {
+    let Some(entry) = standing.value(slot) else {
         return;
     };
     if u128::from(*entry) == place {
@@ -94,6 +101,39 @@ fn spend(cores: &mut Table<LockCore>, place: u128, status: LockStatus)
     core.spend(status);
 }
 
+// The permit's holder tells where the fill ended.
+fn unlock(cores: &mut Table<LockCore>, place: u128, reason: LockStatus)
+    requires { IsReason reason }
+    ensures { cores.new ≡ changed (ended reason) cores.old place (map.get cores.old place) }
+{
+    let Some(core) = cores.get_mut(place) else {
+        return;
+    };
+    core.unlock(reason);
+}
+
+// The permit was found too old.
+fn age(cores: &mut Table<LockCore>, place: u128)
+    ensures { cores.new ≡ changed aged cores.old place (map.get cores.old place) }
+{
+    let Some(core) = cores.get_mut(place) else {
+        return;
+    };
+    core.age();
+}
+
+// A publication in place of the one that stood.
+fn publish(alloc: Global, cores: &mut Table<LockCore>, place: u128, tokens: &[u64]) -> Result<()>
+    ensures ok { OnOk result (cores.new ≡ changed (with_publication tokens.now) cores.old place (map.get cores.old place)) }
+    ensures err { OnErr result (cores.new ≡ cores.old) }
+    ensures kind { IfErr result (λ e. e ≡ OutOfMemory) }
+{
+    let Some(core) = cores.get_mut(place) else {
+        return Ok(());
+    };
+    core.publish(alloc, tokens)
+}
+
 impl CacheLock {
     /// A table with no lock, whose permits are too old after this time.
     pub fn new(alloc: Global, age_timeout: Duration) -> CacheLock
@@ -101,8 +141,19 @@ impl CacheLock {
     {
         CacheLock {
             cores: Table::new(alloc),
-            standing: Table::new(alloc),
+            standing: Shards::new(alloc),
             next: 0,
+            age_timeout,
+        }
+    }
+
+    // A table that gives this number next.
+    #[cfg(test)]
+    pub(super) fn starting_at(alloc: Global, age_timeout: Duration, next: u128) -> CacheLock {
+        CacheLock {
+            cores: Table::new(alloc),
+            standing: Shards::new(alloc),
+            next,
             age_timeout,
         }
     }
@@ -115,11 +166,81 @@ impl CacheLock {
         Ok(Box::new(alloc, CacheLock::new(alloc, age_timeout))?)
     }
 
+    /// What is known of a lock, while its permit or a read lock names it.
+    pub fn core(&self, number: u64) -> Option<&LockCore>
+        ensures { option_copied result ≡ map.get self.now.cores number }
+    {
+        self.cores.get(u128::from(number))
+    }
+
+    /// The entry that stands under a key.
+    pub fn stub(&self, key: &CacheKey) -> Option<LockStub>
+        ensures { result ≡ map.get self.now.standing (slot key.now) }
+    {
+        let number = self.standing.value(key.slot())?;
+        Some(LockStub::new(*number))
+    }
+
+    /// A permit under no key, with an age limit of its own.
+    ///
+    /// It is refused for want of memory, or where all 64-bit numbers of locks are used, and then
+    /// changes nothing.
+    pub fn new_permit(
+        &mut self,
+        alloc: Global,
+        age_timeout: Duration,
+        stale_writer: bool,
+        now: Moment,
+    ) -> Result<(WritePermit, LockStub)>
+        ensures permit { IfOk result (λ p. p.0 ≡ record { number = self.old.next; stale_writer = stale_writer }) }
+        ensures stub { IfOk result (λ p. p.1 ≡ self.old.next) }
+        ensures ok { OnOk result (self.new ≡ with_free_permit self.old (as_nanos age_timeout) stale_writer now) }
+        ensures err { OnErr result (self.new ≡ self.old) }
+        ensures kind { IfErr result (λ e. MayRefuseLock self.old e) }
+    {
+        let number = self.next_number()?;
+        let core = LockCore::new(alloc, age_timeout, stale_writer, now);
+        self.cores.insert(self.next, core)?;
+        self.next += 1;
+        Ok((
+            WritePermit::new(number, stale_writer),
+            LockStub::new(number),
+        ))
+    }
+
+    // The number of the next lock, where one is left.
+    fn next_number(&self) -> Result<u64>
+        ensures next { IfOk result (λ n. n ≡ self.now.next) }
+        ensures kind { IfErr result (λ e. (e ≡ NumbersExhausted) × (2 ^ 64 ≤ self.now.next)) }
+    {
+        match u64::try_from(self.next) {
+            Ok(number) => Ok(number),
+            Err(_) => Err(Error::new(ErrorType::NumbersExhausted)),
+        }
+    }
+
+    // A read lock more on a lock.
+    pub(super) fn read_lock(&mut self, number: u64) -> ReadLock
+        ensures reader { result ≡ record { number = number; watch = None } }
+        ensures table { self.new ≡ with_read_lock self.old number (map.get self.old.cores number) }
+    {
+        add_reader(&mut self.cores, u128::from(number));
+        ReadLock::new(number)
+    }
+
+    // Tells where a lock ended.
+    pub(super) fn unlock(&mut self, number: u64, reason: LockStatus)
+        requires { IsReason reason }
+        ensures { self.new ≡ unlocked self.old number reason }
+    {
+        unlock(&mut self.cores, u128::from(number), reason);
+    }
+
     // The lock on which a request for the key would wait.
     fn holder(&self, slot: u128) -> Option<u64>
         ensures { result ≡ holder self.now slot }
     {
-        let number = *self.standing.get(slot)?;
+        let number = *self.standing.value(slot)?;
         let core = self.cores.get(u128::from(number))?;
         if core.lock_status().is_free() {
             None
@@ -135,7 +256,7 @@ impl CacheLock {
         ensures err { OnErr result (self.new ≡ self.old) }
         ensures kind { IfErr result (λ e. e ≡ OutOfMemory) }
     {
-        if self.standing.get(slot).is_some() {
+        if self.standing.value(slot).is_some() {
             self.cores.insert(self.next, core)?;
             set_entry(&mut self.standing, slot, number);
             self.next += 1;
@@ -214,7 +335,11 @@ impl CacheLock {
 }
 
 impl CacheKeyLock for CacheLock {
+    ghost use Rattle.pcache_lock.specs.declared.lock.status.LockStatus.TheVariants.{GiveUp};
+
     ghost table = { λ t. t };
+
+    ghost custom_status = { λ _ _. GiveUp };
 
     fn lock(
         &mut self,
@@ -225,12 +350,9 @@ impl CacheKeyLock for CacheLock {
     ) -> Result<Locked> {
         let slot = key.slot();
         if let Some(number) = self.holder(slot) {
-            add_reader(&mut self.cores, u128::from(number));
-            return Ok(Locked::Read(ReadLock::new(number)));
+            return Ok(Locked::Read(self.read_lock(number)));
         }
-        let Ok(number) = u64::try_from(self.next) else {
-            return Err(Error::new(ErrorType::NumbersExhausted));
-        };
+        let number = self.next_number()?;
         let core = LockCore::under(alloc, slot, self.age_timeout, stale_writer, now);
         self.add_core(number, slot, core)?;
         Ok(Locked::Write(WritePermit::new(number, stale_writer)))
@@ -245,5 +367,44 @@ impl CacheKeyLock for CacheLock {
             Locked::Write(permit) => self.drop_permit(u128::from(permit.spend())),
             Locked::Read(read) => self.drop_reader(u128::from(read.spend())),
         }
+    }
+
+    fn poll_wait(
+        &mut self,
+        alloc: Global,
+        read: &mut ReadLock,
+        fills: Option<&UnusableFills>,
+        now: Moment,
+    ) -> Result<Poll<WaitOutcome>> {
+        let place = u128::from(read.number());
+        let Some(core) = self.cores.get(place) else {
+            return Ok(Poll::Ready(WaitOutcome::Released));
+        };
+        match core.stage(now) {
+            Stage::Over => Ok(Poll::Ready(WaitOutcome::Released)),
+            Stage::Old => {
+                age(&mut self.cores, place);
+                Ok(Poll::Ready(WaitOutcome::AgeTimeout))
+            }
+            Stage::Held => match read.look(alloc, core, fills)? {
+                Some(fill) => Ok(Poll::Ready(WaitOutcome::Abandoned(fill))),
+                None => Ok(Poll::Pending),
+            },
+        }
+    }
+
+    fn lock_status(&self, read: &ReadLock, now: Moment) -> LockStatus {
+        match self.cores.get(u128::from(read.number())) {
+            Some(core) => core.status_at(now),
+            None => LockStatus::Dangling,
+        }
+    }
+
+    fn publish(&mut self, alloc: Global, permit: &WritePermit, tokens: &[u64]) -> Result<()> {
+        publish(alloc, &mut self.cores, u128::from(permit.number()), tokens)
+    }
+
+    fn custom_lock_status(&self, _custom_no_cache: &'static str) -> LockStatus {
+        LockStatus::GiveUp
     }
 }

@@ -1,10 +1,16 @@
 //! What a table knows of a lock.
-ghost use Rattle.std.specs.Prelude.{◌≡◌, nat_lt, Some, None};
+ghost use Rattle.std.specs.Prelude.{◌≡◌, ◌-◌, IfErr, None, OnErr, OnOk, Some, drop, length, nat_lt, slice_get};
+ghost use Rattle.pcache_base.specs.declared.error.ErrorType.TheVariants.{OutOfMemory};
 ghost use Rattle.std.specs.Duration.{as_nanos};
+ghost use Rattle.pcache_lock.specs.Locks.{ended};
 ghost use Rattle.pcache_lock.specs.Permits.{fresh_core, is_locked, is_named, with_reader, without_reader, spent, dropped_status};
 ghost use Rattle.pcache_lock.specs.Statuses.{IsReason};
+ghost use Rattle.pcache_lock.specs.Waiting.{aged, first_told, is_expired, says_nothing, stage_of, status_at, with_publication};
 
+use crate::lock::outcome::Stage;
 use crate::lock::status::LockStatus;
+use pcache_base::error::Result;
+use pcache_base::fills::{UnusableFill, UnusableFills};
 use pcache_base::moment::Moment;
 use std::alloc::Global;
 use std::marker::Model;
@@ -22,6 +28,36 @@ impl Model for Publication {
     ghost Value = { List ℕ };
 
     ghost view = { λ p. p.tokens.items };
+}
+
+impl Publication {
+    fn tokens(&self) -> &[u64]
+        ensures { result.now ≡ self.now }
+    {
+        self.tokens.as_slice()
+    }
+}
+
+// The first publication's match that has any of the fills.
+fn first_told(publications: &[Publication], fills: &UnusableFills) -> Option<UnusableFill>
+    ensures { result ≡ first_told fills.now publications.now }
+{
+    for publication in publications {
+        if let Some(fill) = fills.first_match(publication.tokens()) {
+            return Some(fill);
+        }
+    }
+    None
+}
+
+// Whether no token stands published.
+fn says_nothing(publications: &[Publication]) -> bool
+    ensures { result ≡ says_nothing (slice_get publications.now (length publications.now - 1)) }
+{
+    match publications.last() {
+        Some(publication) => publication.tokens().is_empty(),
+        None => true,
+    }
 }
 
 /// What a table knows of a lock: since when its permit is held, where it stands, and who names it.
@@ -104,7 +140,7 @@ impl LockCore {
     /// Tells where it ended.
     pub fn unlock(&mut self, reason: LockStatus)
         requires { IsReason reason }
-        ensures { self.new ≡ record self.old { status = reason } }
+        ensures { self.new ≡ ended reason self.old }
     {
         self.status = reason;
     }
@@ -189,5 +225,82 @@ impl LockCore {
     {
         self.held = false;
         self.status = status;
+    }
+
+    // Where its permit is at this moment.
+    pub(super) fn stage(&self, now: Moment) -> Stage
+        ensures { result ≡ stage_of now self.now }
+    {
+        if !self.locked() {
+            return Stage::Over;
+        }
+        if self.status == LockStatus::AgeTimeout || self.expired(now) {
+            return Stage::Old;
+        }
+        Stage::Held
+    }
+
+    // Whether its permit has been held for too long at this moment.
+    pub(super) fn expired(&self, now: Moment) -> bool
+        ensures { result ≡ is_expired now self.now }
+    {
+        now.since(self.start).as_nanos() >= self.age_timeout.as_nanos()
+    }
+
+    // Where it stands for a reader at this moment.
+    pub(super) fn status_at(&self, now: Moment) -> LockStatus
+        ensures { result ≡ status_at now self.now }
+    {
+        if self.status == LockStatus::Waiting && self.expired(now) {
+            LockStatus::AgeTimeout
+        } else {
+            self.status
+        }
+    }
+
+    // Its permit was found too old.
+    pub(super) fn age(&mut self)
+        ensures { self.new ≡ aged self.old }
+    {
+        self.status = LockStatus::AgeTimeout;
+    }
+
+    // How many publications a reader may look at.
+    pub(super) fn publication_count(&self) -> usize
+        ensures { result ≡ length self.now.publications }
+    {
+        self.publications.len()
+    }
+
+    // What a reader is told by the publications from one on.
+    pub(super) fn first_told(&self, fills: &UnusableFills, from: usize) -> Option<UnusableFill>
+        ensures { result ≡ first_told fills.now (drop from self.now.publications) }
+    {
+        if from >= self.publications.len() {
+            return None;
+        }
+        first_told(&self.publications.as_slice()[from..], fills)
+    }
+
+    // Puts a publication in the place of the one that stood.
+    pub(super) fn publish(&mut self, alloc: Global, tokens: &[u64]) -> Result<()>
+        ensures ok { OnOk result (self.new ≡ with_publication tokens.now self.old) }
+        ensures err { OnErr result (self.new ≡ self.old) }
+        ensures kind { IfErr result (λ e. e ≡ OutOfMemory) }
+    {
+        if tokens.is_empty() && says_nothing(self.publications.as_slice()) {
+            return Ok(());
+        }
+        let publication = Publication {
+            tokens: tokens.to_vec(alloc)?,
+        };
+        if self.readers > 0 {
+            self.publications.push(publication)?;
+            return Ok(());
+        }
+        let mut publications = Vec::new(alloc);
+        publications.push(publication)?;
+        self.publications = publications;
+        Ok(())
     }
 }

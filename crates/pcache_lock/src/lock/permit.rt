@@ -1,8 +1,13 @@
 //! The linear values that a table of locks gives: each has to be spent.
-ghost use Rattle.std.specs.Prelude.{◌≡◌};
+ghost use Rattle.std.specs.Prelude.{◌≡◌, [], IfErr, IfOk, IsOk, IsSome, None, OnErr, OnOk, Some, option_copied, unwrap_or};
+ghost use Rattle.pcache_base.specs.declared.error.ErrorType.TheVariants.{OutOfMemory};
 ghost use Rattle.pcache_lock.specs.Locks.{is_permit, number_of_lock};
+ghost use Rattle.pcache_lock.specs.Waiting.{first_watch, looked, watch_at};
 
+use crate::lock::lock_core::LockCore;
+use pcache_base::error::Result;
 use pcache_base::fills::{UnusableFill, UnusableFills};
+use std::alloc::Global;
 use std::marker::Model;
 
 /// The right to fill a key. It is spent by `release` or `drop_lock`.
@@ -56,13 +61,50 @@ impl WritePermit {
 
 // What a reader watches for since its first poll.
 #[derive(Drop)]
-pub(super) struct Watch {
+struct Watch {
     // The fills that it cannot use.
-    pub(super) fills: UnusableFills,
+    fills: UnusableFills,
     // How many of the permit's publications it has looked at.
-    pub(super) seen: usize,
+    seen: usize,
     // The fill that it was told of.
-    pub(super) told: Option<UnusableFill>,
+    told: Option<UnusableFill>,
+}
+
+impl Model for Watch {
+    ghost use Rattle.pcache_lock.specs.Permits.{Watch as Watched};
+
+    ghost Value = { Watched };
+
+    ghost view = { λ w. record { fills = w.fills; seen = w.seen; told = w.told } };
+}
+
+impl Watch {
+    // What a reader that has not been told watches for from now on.
+    fn first(alloc: Global, core: &LockCore, fills: Option<&UnusableFills>) -> Result<Watch>
+        ensures made { IfOk result (λ w. w ≡ first_watch core.now (unwrap_or (option_copied fills.entry) [])) }
+        ensures kind { IfErr result (λ e. e ≡ OutOfMemory) }
+        ensures unnamed { option_copied fills.entry ≡ None → IsOk result }
+    {
+        let fills = match fills {
+            Some(fills) => fills.copied(alloc)?,
+            None => UnusableFills::new(Vec::new(alloc)),
+        };
+        Ok(Watch {
+            fills,
+            seen: core.publication_count().saturating_sub(1),
+            told: None,
+        })
+    }
+
+    // Looks at what was published since.
+    fn look(&mut self, core: &LockCore) -> Option<UnusableFill>
+        ensures watch { self.new ≡ looked core.now self.old }
+        ensures told { result ≡ self.new.told }
+    {
+        self.told = self.told.or(core.first_told(&self.fills, self.seen));
+        self.seen = core.publication_count();
+        self.told
+    }
 }
 
 /// The wait for another request's permit. It is spent by `drop_lock`.
@@ -72,17 +114,14 @@ pub struct ReadLock {
 }
 
 impl Model for ReadLock {
-    ghost use Rattle.std.specs.Prelude.{option_map};
     ghost use Rattle.pcache_lock.specs.Permits.{Reader};
 
     ghost Value = { Reader };
 
-    ghost view = { λ r. record { number = r.number; watch = option_map (λ w. record { fills = w.fills; seen = w.seen; told = w.told }) r.watch } };
+    ghost view = { λ r. record { number = r.number; watch = r.watch } };
 }
 
 impl ReadLock {
-    ghost use Rattle.std.specs.Prelude.{None};
-
     pub(super) fn new(number: u64) -> ReadLock
         ensures { result ≡ record { number = number; watch = None } }
     {
@@ -97,6 +136,30 @@ impl ReadLock {
         ensures { result ≡ self.now.number }
     {
         self.number
+    }
+
+    // Looks, as a poll does, at what the writer published. The first time it takes down the fills
+    // that the reader cannot use, and that alone takes memory.
+    pub(super) fn look(
+        &mut self,
+        alloc: Global,
+        core: &LockCore,
+        fills: Option<&UnusableFills>,
+    ) -> Result<Option<UnusableFill>>
+        ensures ok { OnOk result (self.new ≡ record self.old { watch = Some (looked core.now (watch_at core.now (option_copied fills.entry) self.old.watch)) }) }
+        ensures told { IfOk result (λ told. told ≡ (looked core.now (watch_at core.now (option_copied fills.entry) self.old.watch)).told) }
+        ensures err { OnErr result (self.new ≡ self.old) }
+        ensures kind { IfErr result (λ e. e ≡ OutOfMemory) }
+        ensures later { IsSome self.old.watch → IsOk result }
+        ensures unnamed { option_copied fills.entry ≡ None → IsOk result }
+    {
+        let mut watch = match self.watch.take() {
+            Some(watch) => watch,
+            None => Watch::first(alloc, core, fills)?,
+        };
+        let told = watch.look(core);
+        self.watch = Some(watch);
+        Ok(told)
     }
 
     pub(super) fn spend(self) -> u64
@@ -131,5 +194,36 @@ impl Locked {
             Locked::Write(permit) => permit.number(),
             Locked::Read(read) => read.number(),
         }
+    }
+}
+
+/// What stands for a lock under its key.
+#[derive(Clone, Copy, Debug, PartialEq, Eq)]
+pub struct LockStub {
+    number: u64,
+}
+
+impl Model for LockStub {
+    ghost use Rattle.std.specs.Prelude.{ℕ};
+
+    ghost Value = { ℕ };
+
+    ghost view = { λ s. s.number };
+
+    ghost inverse = { λ n. record { number = n } };
+}
+
+impl LockStub {
+    pub(super) fn new(number: u64) -> LockStub
+        ensures { result ≡ number }
+    {
+        LockStub { number }
+    }
+
+    /// The lock's number.
+    pub fn number(&self) -> u64
+        ensures { result ≡ self.now }
+    {
+        self.number
     }
 }

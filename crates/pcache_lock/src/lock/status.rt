@@ -1,6 +1,8 @@
 //! Where a lock stands.
 ghost use Rattle.std.specs.Prelude.{◌≡◌, ◌↔◌, IsTrue};
-ghost use Rattle.pcache_lock.specs.Statuses.{is_free, IsReason};
+ghost use Rattle.std.specs.Prelude.{unwrap_or};
+ghost use Rattle.pcache_lock.specs.Statuses.{IsReason, is_free, name_of_status, number_of_status, status_of_number};
+ghost use Rattle.pcache_lock.specs.declared.lock.status.LockStatus.TheVariants.{GiveUp};
 
 /// Where a lock stands.
 #[derive(Clone, Copy, Debug, PartialEq, Eq)]
@@ -34,5 +36,53 @@ impl LockStatus {
         ensures { IsTrue result ↔ IsReason self }
     {
         !matches!(self, LockStatus::Waiting | LockStatus::WaitTimeout)
+    }
+
+    /// The status of a number, if there is one.
+    pub fn from_repr(number: u8) -> Option<LockStatus>
+        ensures { result ≡ status_of_number number }
+    {
+        match number {
+            0 => Some(LockStatus::Waiting),
+            1 => Some(LockStatus::Done),
+            2 => Some(LockStatus::TransientError),
+            3 => Some(LockStatus::GiveUp),
+            4 => Some(LockStatus::Dangling),
+            5 => Some(LockStatus::WaitTimeout),
+            6 => Some(LockStatus::AgeTimeout),
+            _ => None,
+        }
+    }
+
+    /// The variant's name.
+    pub fn as_str(self) -> &'static str
+        ensures { result.now ≡ name_of_status self }
+    {
+        match self {
+            LockStatus::Waiting => "Waiting",
+            LockStatus::Done => "Done",
+            LockStatus::TransientError => "TransientError",
+            LockStatus::GiveUp => "GiveUp",
+            LockStatus::Dangling => "Dangling",
+            LockStatus::WaitTimeout => "WaitTimeout",
+            LockStatus::AgeTimeout => "AgeTimeout",
+        }
+    }
+}
+
+impl From<LockStatus> for u8 {
+    ghost from_gives = { λ status number. number ≡ number_of_status status };
+
+    fn from(status: LockStatus) -> u8 {
+        status as u8
+    }
+}
+
+/// A number of no status is read as `GiveUp`.
+impl From<u8> for LockStatus {
+    ghost from_gives = { λ number status. status ≡ unwrap_or (status_of_number number) GiveUp };
+
+    fn from(number: u8) -> LockStatus {
+        LockStatus::from_repr(number).unwrap_or(LockStatus::GiveUp)
     }
 }

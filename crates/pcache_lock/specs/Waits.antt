@@ -1,0 +1,87 @@
+-- Which permits wait, and what holds of them after every list of calls (own).
+use Rattle.std.specs.Prelude.{ℕ, Bool, true, false, ◌≡◌, ◌≤◌, ◌==◌, ◌&&◌, ◌⊎◌, ◌↔◌, ◌++◌, Option, Some, None, List, [], ◌∷◌, length, cond, IsSome}
+use Rattle.std.specs.FinMap.{get}
+use Rattle.pcache_lock.specs.declared.lock.permit.Locked.{Locked}
+use Rattle.pcache_lock.specs.declared.lock.permit.Locked.TheVariants.{Write, Read}
+use Rattle.pcache_lock.specs.declared.lock.status.LockStatus.{LockStatus}
+use Rattle.pcache_lock.specs.Statuses.{IsReason, is_waiting}
+use Rattle.pcache_lock.specs.Permits.{Core, Permit, Reader, Watch, is_named}
+use Rattle.pcache_lock.specs.Locks.{Locks, after_request, holder, let_go, no_locks, released}
+use Rattle.pcache_lock.specs.Waiting.{after_poll, is_old, looked, published, stage_of}
+
+-- the key under which a lock's permit waits: it was asked for under that key, and was neither
+-- released, nor let go, nor found too old
+abbrev pub waiting_slot : Option Core → Option ℕ
+waiting_slot None = None
+waiting_slot (Some c) = cond (c.held && is_waiting c.status) c.slot None
+
+abbrev pub waits_under : Locks → ℕ → Option ℕ
+waits_under t n = waiting_slot (get t.cores n)
+
+-- a call of a table of locks
+pub data Call : Type 0 where
+  Asked : (slot : ℕ) (stale : Bool) (now : ℕ) → Call
+  Released : (number : ℕ) (reason : LockStatus) → Call
+  LetGo : (locked : Locked) → Call
+  Polled : (number : ℕ) (now : ℕ) → Call
+  Published : (number : ℕ) (tokens : List ℕ) → Call
+
+-- a call leads from one table to another; a refused one leaves it as it was
+abbrev pub Leads : Call → Locks → Locks → Type 0
+Leads (Asked slot stale now) s t = (t ≡ s) ⊎ (t ≡ after_request s slot stale now (holder s slot))
+Leads (Released number reason) s t = IsReason reason × (t ≡ released s number reason)
+Leads (LetGo locked) s t = t ≡ let_go s locked
+Leads (Polled number now) s t = (t ≡ s) ⊎ (t ≡ after_poll s now number (get s.cores number))
+Leads (Published number tokens) s t = (t ≡ s) ⊎ (t ≡ published s number tokens)
+
+-- a list of calls does
+abbrev pub LeadsAll : List Call → Locks → Locks → Type 0
+LeadsAll [] s t = t ≡ s
+LeadsAll (call ∷ calls) s t = (m : Locks) × (Leads call s m × LeadsAll calls m t)
+
+-- of the permits asked for under one key at most one waits
+abbrev pub OneWaits : Locks → Type 0
+OneWaits t = (slot n m : ℕ) → waits_under t n ≡ Some slot → waits_under t m ≡ Some slot → n ≡ m
+
+-- a request for a key gets a read lock on the permit that waits under it, and else the permit
+abbrev pub AskFindsTheWaiting : Locks → Type 0
+AskFindsTheWaiting t = (slot n : ℕ) → (holder t slot ≡ Some n) ↔ (waits_under t n ≡ Some slot)
+
+-- both hold after every list of calls
+abbrev pub OneWaitsAlways : Type 0
+OneWaitsAlways = (age_timeout : ℕ) (calls : List Call) (t : Locks) → LeadsAll calls (no_locks age_timeout) t → OneWaits t
+
+abbrev pub AskFindsTheWaitingAlways : Type 0
+AskFindsTheWaitingAlways = (age_timeout : ℕ) (calls : List Call) (t : Locks) → LeadsAll calls (no_locks age_timeout) t → AskFindsTheWaiting t
+
+-- a poll finds a permit too old
+abbrev pub is_old_at : ℕ → Option Core → Bool
+is_old_at now None = false
+is_old_at now (Some c) = is_old (stage_of now c)
+
+-- a permit waits from its asking until it is released, let go or found too old, whatever else happens
+pub record WaitsUntilItsEnd : Type 0 where
+  pub asking : (t : Locks) (slot : ℕ) (stale : Bool) (now n : ℕ) → waits_under (after_request t slot stale now None) n ≡ cond (n == t.next) (Some slot) (waits_under t n)
+  pub joining : (t : Locks) (slot : ℕ) (stale : Bool) (now m n : ℕ) → waits_under (after_request t slot stale now (Some m)) n ≡ waits_under t n
+  pub releasing : (t : Locks) (m : ℕ) (reason : LockStatus) (n : ℕ) → waits_under (released t m reason) n ≡ cond (n == m) None (waits_under t n)
+  pub letting_go : (t : Locks) (p : Permit) (n : ℕ) → waits_under (let_go t (Write p)) n ≡ cond (n == p.number) None (waits_under t n)
+  pub leaving : (t : Locks) (r : Reader) (n : ℕ) → waits_under (let_go t (Read r)) n ≡ waits_under t n
+  pub polling : (t : Locks) (now m n : ℕ) → waits_under (after_poll t now m (get t.cores m)) n ≡ cond ((n == m) && is_old_at now (get t.cores m)) None (waits_under t n)
+  pub publishing : (t : Locks) (m : ℕ) (tokens : List ℕ) (n : ℕ) → waits_under (published t m tokens) n ≡ waits_under t n
+
+-- to look twice is to look once, at all that was published since the first poll: the first
+-- publication with a match tells, however often it was replaced before the reader looked again
+abbrev pub LooksAtEachPublication : Type 0
+LooksAtEachPublication = (c : Core) (more : List (List ℕ)) (w : Watch) → w.seen ≤ length c.publications
+    → looked (record c { publications = c.publications ++ more }) (looked c w) ≡ looked (record c { publications = c.publications ++ more }) w
+
+-- a table keeps no lock that neither its permit nor a read lock names, and no entry without its lock
+abbrev pub AllNamed : Locks → Type 0
+AllNamed t = (n : ℕ) (c : Core) → get t.cores n ≡ Some c → is_named c ≡ true
+
+pub record NothingRemains (t : Locks) : Type 0 where
+  pub locks : AllNamed t
+  pub entries : (slot n : ℕ) → get t.standing slot ≡ Some n → IsSome (get t.cores n)
+
+abbrev pub NothingRemainsAlways : Type 0
+NothingRemainsAlways = (age_timeout : ℕ) (calls : List Call) (t : Locks) → LeadsAll calls (no_locks age_timeout) t → NothingRemains t

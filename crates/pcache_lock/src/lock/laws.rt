@@ -1,0 +1,31 @@
+//! What is promised of every list of calls of a table of locks.
+ghost use Rattle.pcache_lock.specs.Waits.{AskFindsTheWaitingAlways, LooksAtEachPublication, NothingRemainsAlways, OneWaitsAlways, WaitsUntilItsEnd};
+
+/// Of the permits that were asked for under one key at most one waits.
+pub fn at_most_one_waits()
+    ensures { OneWaitsAlways }
+{}
+
+/// A request gets the permit exactly where no permit waits under its key, and else a read lock on
+/// the one that does.
+pub fn request_finds_the_waiting()
+    ensures { AskFindsTheWaitingAlways }
+{}
+
+/// A permit waits from its asking until it is released, let go or found too old, whatever else
+/// happens to other locks.
+pub fn permits_wait_until_their_end()
+    ensures { WaitsUntilItsEnd }
+{}
+
+/// What a reader is told does not depend on how often it looks: the first publication since its
+/// first poll that has a match tells, and the first fill of the list that it has.
+pub fn each_publication_is_looked_at()
+    ensures { LooksAtEachPublication }
+{}
+
+/// A table keeps no lock that neither its permit nor a read lock names, and no entry without its
+/// lock.
+pub fn nothing_unnamed_remains()
+    ensures { NothingRemainsAlways }
+{}
