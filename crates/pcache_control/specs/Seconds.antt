@@ -1,0 +1,44 @@
+-- A number of seconds in a directive's value: the delta seconds of RFC 9111 section 1.2.2, and a
+-- reading that cuts a fraction off (own).
+use Rattle.std.specs.Prelude.{ℕ, ◌+◌, ◌^◌, Bool, ◌&&◌, not, ◌==◌, List, length, Option, Some, None, nat_lt, min, if◌then◌else◌}
+use Rattle.std.specs.Char.{is_ascii_digit}
+use Rattle.std.specs.List.{list_all, list_any, before_first, after_first}
+use Rattle.std.specs.Str.Parse.{digits_value, without_leading_plus}
+
+-- each byte is a decimal digit
+abbrev pub all_digits : List ℕ → Bool
+all_digits bytes = list_all is_ascii_digit bytes
+
+-- the greatest number of seconds that counts: larger ones are this
+abbrev pub overflow_seconds : ℕ
+overflow_seconds = 2147483647
+
+-- a number past 32 bits counts as the greatest
+abbrev pub capped : ℕ → ℕ
+capped n = if nat_lt n (2 ^ 32) then n else overflow_seconds
+
+-- delta seconds: an optional plus, and at least one digit
+unfoldable pub delta_seconds_of : List ℕ → Option ℕ
+delta_seconds_of bytes =
+    let digits = without_leading_plus bytes in
+    if not (length digits == 0) && all_digits digits then Some (capped (digits_value 10 digits)) else None
+
+abbrev pub is_point : ℕ → Bool
+is_point b = b == 0x2E
+
+-- digits with one point among them, and at least one digit: the number before the point
+unfoldable pub pointed_seconds_of : List ℕ → Option ℕ
+pointed_seconds_of bytes =
+    let whole = before_first is_point bytes in
+    let fraction = after_first is_point bytes in
+    if list_any is_point bytes && all_digits whole && all_digits fraction && not (length whole + length fraction == 0)
+    then Some (min (digits_value 10 whole) overflow_seconds)
+    else None
+
+-- the floor reading: delta seconds where the bytes are that, else an optional plus and a pointed number
+unfoldable pub floor_seconds_of : List ℕ → Option ℕ
+floor_seconds_of bytes = or_else (delta_seconds_of bytes) (pointed_seconds_of (without_leading_plus bytes))
+  where
+    or_else : Option ℕ → Option ℕ → Option ℕ
+    or_else (Some n) other = Some n
+    or_else None other = other

@@ -1,0 +1,8 @@
+//! Cache-Control and freshness: what an answer's header says about how long it may be kept.
+//!
+//! - `scan`: where the directives of a Cache-Control line stand.
+//! - `seconds`: the two readings of a number of seconds.
+#![tactic(auto)]
+
+pub mod scan;
+pub mod seconds;
