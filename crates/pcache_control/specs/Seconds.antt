@@ -1,8 +1,8 @@
 -- A number of seconds in a directive's value: the delta seconds of RFC 9111 section 1.2.2, and a
 -- reading that cuts a fraction off (own).
-use Rattle.std.specs.Prelude.{ℕ, ◌+◌, ◌^◌, Bool, ◌&&◌, not, ◌==◌, List, length, Option, Some, None, nat_lt, min, if◌then◌else◌}
+use Rattle.std.specs.Prelude.{ℕ, ◌+◌, ◌^◌, Bool, ◌&&◌, not, ◌==◌, List, length, take, drop, position, Option, Some, None, nat_lt, min, if◌then◌else◌}
 use Rattle.std.specs.Char.{is_ascii_digit}
-use Rattle.std.specs.List.{list_all, list_any, before_first, after_first}
+use Rattle.std.specs.List.{list_all}
 use Rattle.std.specs.Str.Parse.{digits_value, without_leading_plus}
 
 -- each byte is a decimal digit
@@ -26,14 +26,19 @@ delta_seconds_of bytes =
 abbrev pub is_point : ℕ → Bool
 is_point b = b == 0x2E
 
--- digits with one point among them, and at least one digit: the number before the point
-unfoldable pub pointed_seconds_of : List ℕ → Option ℕ
-pointed_seconds_of bytes =
-    let whole = before_first is_point bytes in
-    let fraction = after_first is_point bytes in
-    if list_any is_point bytes && all_digits whole && all_digits fraction && not (length whole + length fraction == 0)
+-- digits round the point at a place, and at least one digit: the number before the point
+abbrev pub pointed_at : List ℕ → Option ℕ → Option ℕ
+pointed_at bytes None = None
+pointed_at bytes (Some at) =
+    let whole = take at bytes in
+    let fraction = drop (at + 1) bytes in
+    if not (length whole == 0 && length fraction == 0) && all_digits whole && all_digits fraction
     then Some (min (digits_value 10 whole) overflow_seconds)
     else None
+
+-- digits with one point among them: the first point, as a second one is no digit
+unfoldable pub pointed_seconds_of : List ℕ → Option ℕ
+pointed_seconds_of bytes = pointed_at bytes (position is_point bytes)
 
 -- the floor reading: delta seconds where the bytes are that, else an optional plus and a pointed number
 unfoldable pub floor_seconds_of : List ℕ → Option ℕ

@@ -1,8 +1,8 @@
 //! A number of seconds, as a directive's value writes it (RFC 9111 section 1.2.2).
 
-ghost use Rattle.std.specs.Prelude.{◌≡◌, List, min, Some, None, if◌then◌else◌, ◌^◌};
+ghost use Rattle.std.specs.Prelude.{◌≡◌, ◌<◌, List, length, min, position, Some, None, IfSome, if◌then◌else◌, ◌^◌};
 ghost use Rattle.std.specs.Str.Parse.{digits_value, without_leading_plus};
-ghost use Rattle.pcache_control.specs.Seconds.{all_digits, delta_seconds_of, floor_seconds_of, pointed_seconds_of};
+ghost use Rattle.pcache_control.specs.Seconds.{all_digits, delta_seconds_of, floor_seconds_of, is_point, pointed_seconds_of};
 
 /// What a number of seconds past 32 bits counts as: about 68 years.
 pub const DELTA_SECONDS_OVERFLOW_VALUE: u32 = 2147483647;
@@ -35,6 +35,7 @@ fn without_plus(bytes: &[u8]) -> &[u8]
 
 /// The seconds that the bytes write: an optional plus and at least one digit. A number past 32 bits
 /// counts as `DELTA_SECONDS_OVERFLOW_VALUE`.
+#[tactic(auto, unfolding(crate::specs::Seconds::delta_seconds_of))]
 pub fn delta_seconds(bytes: &[u8]) -> Option<u32>
     ensures { result ≡ delta_seconds_of bytes.now }
 {
@@ -50,11 +51,20 @@ pub fn delta_seconds(bytes: &[u8]) -> Option<u32>
     })
 }
 
+// The place of the first point.
+fn point(bytes: &[u8]) -> Option<usize>
+    ensures place { result ≡ position is_point bytes.now }
+    ensures within { IfSome result (λ at. at < length bytes.now) }
+{
+    bytes.iter().position(|b| *b == b'.')
+}
+
 // The whole seconds of digits with one point among them.
+#[tactic(auto, unfolding(crate::specs::Seconds::pointed_seconds_of))]
 fn pointed_seconds(bytes: &[u8]) -> Option<u32>
     ensures { result ≡ pointed_seconds_of bytes.now }
 {
-    let at = bytes.iter().position(|b| *b == b'.')?;
+    let at = point(bytes)?;
     let whole = &bytes[..at];
     let fraction = &bytes[at + 1..];
     if whole.is_empty() && fraction.is_empty() {
@@ -68,6 +78,7 @@ fn pointed_seconds(bytes: &[u8]) -> Option<u32>
 /// The seconds that the bytes write, with a fraction cut off: as `delta_seconds` reads them, or else
 /// an optional plus and digits with one point among them, at least one digit (own). A number with a
 /// point counts as `DELTA_SECONDS_OVERFLOW_VALUE` at most.
+#[tactic(auto, unfolding(crate::specs::Seconds::floor_seconds_of))]
 pub fn floor_seconds(bytes: &[u8]) -> Option<u32>
     ensures { result ≡ floor_seconds_of bytes.now }
 {

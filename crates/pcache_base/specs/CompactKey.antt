@@ -1,0 +1,11 @@
+-- What is kept of a cache key: its hashes and its user tag.
+use Rattle.std.specs.Prelude.{ℕ, List}
+use Rattle.pcache_base.specs.Key.{Key, primary_of, slot_of}
+use Rattle.pcache_base.specs.declared.key.CompactCacheKey.{CompactCacheKey}
+
+abbrev pub compact_of : Key → CompactCacheKey
+compact_of k = record { primary = primary_of k; variance = k.variance; user_tag = k.user_tag }
+
+-- the slot of a compact key, which is that of the key that it was made of
+abbrev pub compact_slot : CompactCacheKey → ℕ
+compact_slot k = slot_of k.primary k.variance

@@ -1,0 +1,9 @@
+pub mod Blake2b
+pub mod CompactKey
+pub mod Hashing
+pub mod Header
+pub mod Key
+pub mod Meta
+pub mod Moments
+pub mod MomentParts
+pub mod Reasons

@@ -1,0 +1,21 @@
+#![tactic(auto)]
+//! What every layer of the cache names: errors, moments, keys, headers and metas.
+//!
+//! - `error`: the one error type and its kinds
+//! - `moment`: points in time, handed in by the caller
+//! - `poll`: answers of calls that might have to wait
+//! - `text`: owned text that contracts see as its bytes
+//! - `key`: cache keys and their hashes; `blake2b`: the hash behind them
+//! - `reason`: why a response is not cached
+
+pub mod blake2b;
+pub mod error;
+pub mod header;
+pub mod key;
+pub mod meta;
+pub mod moment;
+pub mod poll;
+pub mod reason;
+pub mod text;
+
+pub use error::{Error, ErrorType, Result};
