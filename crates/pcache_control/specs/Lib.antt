@@ -1,3 +1,4 @@
 pub mod Bytes
 pub mod Directives
+pub mod Names
 pub mod Seconds

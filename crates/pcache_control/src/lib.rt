@@ -6,3 +6,4 @@
 
 pub mod scan;
 pub mod seconds;
+pub mod key;
