@@ -1,3 +1,4 @@
 pub mod Starts
 pub mod Only
 pub mod Digits
+pub mod Lists

@@ -2,3 +2,4 @@ pub mod Bytes
 pub mod Directives
 pub mod Names
 pub mod Seconds
+pub mod Values

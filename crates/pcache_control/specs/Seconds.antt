@@ -1,9 +1,11 @@
 -- A number of seconds in a directive's value: the delta seconds of RFC 9111 section 1.2.2, and a
 -- reading that cuts a fraction off (own).
-use Rattle.std.specs.Prelude.{ℕ, ◌+◌, ◌^◌, Bool, ◌&&◌, not, ◌==◌, List, length, take, drop, position, Option, Some, None, nat_lt, min, if◌then◌else◌}
+use Rattle.std.specs.Prelude.{◌≡◌, ℕ, Result, Ok, Err, ◌+◌, ◌^◌, Bool, ◌&&◌, not, ◌==◌, List, length, take, drop, position, Option, Some, None, nat_lt, min, if◌then◌else◌}
 use Rattle.std.specs.Char.{is_ascii_digit}
 use Rattle.std.specs.List.{list_all}
 use Rattle.std.specs.Str.Parse.{digits_value, without_leading_plus}
+use Rattle.pcache_base.specs.declared.error.ErrorType.{ErrorType}
+use Rattle.pcache_base.specs.declared.error.ErrorType.TheVariants.{InternalError}
 
 -- each byte is a decimal digit
 abbrev pub all_digits : List ℕ → Bool
@@ -47,3 +49,8 @@ floor_seconds_of bytes = or_else (delta_seconds_of bytes) (pointed_seconds_of (w
     or_else : Option ℕ → Option ℕ → Option ℕ
     or_else (Some n) other = Some n
     or_else None other = other
+
+-- what a reading of seconds answers: the number, or the refusal where there is none
+abbrev pub Reads : Option ℕ → Result ℕ ErrorType → Type 0
+Reads (Some n) result = result ≡ Ok n
+Reads None result = result ≡ Err InternalError

@@ -7,3 +7,4 @@
 pub mod scan;
 pub mod seconds;
 pub mod key;
+pub mod value;
