@@ -2,3 +2,5 @@ pub mod Starts
 pub mod Only
 pub mod Digits
 pub mod Lists
+pub mod Keys
+pub mod Text

@@ -1,5 +1,5 @@
 -- Which parts of a line are directives.
-use Rattle.std.specs.Prelude.{◌≡◌, ℕ, ◌+◌, ◌<◌, ◌≤◌, ◌⊎◌, Bool, true, false, List, [], ◌∷◌, length, drop, slice_index, Option, Some, None, ◌==◌, if◌then◌else◌}
+use Rattle.std.specs.Prelude.{◌≡◌, ℕ, ◌+◌, ◌<◌, ◌≤◌, ◌⊎◌, Bool, true, false, List, [], ◌∷◌, length, drop, slice_index, Option, Some, None, IfSome, ◌==◌, if◌then◌else◌}
 use Rattle.pcache_control.specs.Bytes.{is_token_byte, is_delimiter, is_white_space}
 use Rattle.pcache_control.specs.declared.scan.Span.{Span}
 
@@ -78,6 +78,12 @@ pub record IsNextStart (line : List ℕ) (from s : ℕ) : Type 0 where
   pub admitted : IsAdmitted line from s
   pub none_before : (t : ℕ) → from ≤ t → t < s → ¬ (IsAdmitted line from t)
 
+-- the directive's name and value are parts of a line of this length
+pub record LiesWithin (len : ℕ) (p : Span) : Type 0 where
+  pub name : p.start ≤ p.name_end
+  pub name_end : p.name_end ≤ len
+  pub value : IfSome p.value (λ v. (v.0 ≤ v.1) × (v.1 ≤ len))
+
 -- the directives from a place on, the end of the one before
 abbrev pub AreDirectivesFrom : List ℕ → ℕ → List Span → Type 0
 AreDirectivesFrom line from [] = (s : ℕ) → from ≤ s → ¬ (IsAdmitted line from s)
@@ -86,3 +92,8 @@ AreDirectivesFrom line from (p ∷ ps) = IsNextStart line from p.start × IsDire
 -- the directives of a line
 abbrev pub AreDirectives : List ℕ → List Span → Type 0
 AreDirectives line spans = AreDirectivesFrom line 0 spans
+
+-- what one call of the scanner finds, from a line and the place from which to look
+abbrev pub FindsNext : List ℕ × ℕ → Option Span → List ℕ × ℕ → Type 0
+FindsNext d None later = (later ≡ d) × ((s : ℕ) → d.1 ≤ s → ¬ (IsAdmitted d.0 d.1 s))
+FindsNext d (Some p) later = (later ≡ (d.0, p.end)) × IsNextStart d.0 d.1 p.start × IsDirective d.0 p × LiesWithin (length d.0) p

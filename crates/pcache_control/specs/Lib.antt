@@ -1,5 +1,6 @@
 pub mod Bytes
 pub mod Directives
+pub mod Maps
 pub mod Names
 pub mod Seconds
 pub mod Values

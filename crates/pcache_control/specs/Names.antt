@@ -33,7 +33,7 @@ known_names = codes "max-age" ∷ codes "s-maxage" ∷ codes "no-cache" ∷ code
     ∷ codes "stale-while-revalidate" ∷ codes "stale-if-error" ∷ codes "only-if-cached" ∷ []
 
 -- a name that one of the fourteen has
-abbrev pub is_known_name : List ℕ → Bool
+unfoldable pub is_known_name : List ℕ → Bool
 is_known_name name = list_any (λ known. bytes_eq name known) known_names
 
 -- the key of a name: known exactly where the name is

@@ -44,6 +44,7 @@ pub enum DirectiveKey {
 }
 
 // The variant of a known name.
+#[tactic(auto, unfolding(crate::specs::Names::is_known_name))]
 fn known_key(name: &str) -> Option<DirectiveKey>
     ensures name { IfSome result (λ key. name_of key ≡ name.now) }
     ensures known { IfSome result (λ key. is_known key ≡ true) }

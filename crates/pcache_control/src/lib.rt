@@ -8,3 +8,4 @@ pub mod scan;
 pub mod seconds;
 pub mod key;
 pub mod value;
+pub mod cache_control;

@@ -4,12 +4,12 @@
 //! in three ways, as caches in use are: a semicolon separates directives as a comma does, a name or
 //! a bare value may hold any byte past ASCII, and any directive may have a value.
 
-ghost use Rattle.std.specs.Prelude.{◌≡◌, ◌≤◌, ◌<◌, ◌+◌, ℕ, List, length, drop, IfSome, IfNone, IfOk, slice_index, IsTrue, false, true};
+ghost use Rattle.std.specs.Prelude.{◌≡◌, ◌≤◌, ◌<◌, ◌+◌, ◌-◌, ℕ, List, length, drop, IfSome, IfNone, slice_index, false};
 ghost use Rattle.pcache_control.specs.declared.scan.Span.{Span};
 ghost use Rattle.pcache_control.specs.Bytes.{is_token_byte, is_delimiter, is_white_space};
-ghost use Rattle.pcache_control.specs.Directives.{IsTokenAt, IsFirstStart, IsNextStart, IsLongestRun, IsWhiteSpaceRun, Leads, IsAdmitted, quote_end, IsText, HasValue, EndsWith, IsDirective, AreDirectivesFrom, AreDirectives};
+ghost use Rattle.pcache_control.specs.Directives.{IsTokenAt, IsFirstStart, IsNextStart, IsLongestRun, IsWhiteSpaceRun, Leads, IsAdmitted, quote_end, HasValue, IsDirective};
 
-use std::alloc::{AllocError, Global};
+use std::marker::Model;
 
 /// Where a directive stands in its line.
 #[derive(Clone, Copy, Debug, PartialEq, Eq)]
@@ -103,6 +103,7 @@ fn value_at(line: &[u8], name_end: usize) -> Option<(usize, usize)>
     ensures found { IfSome result (λ v. HasValue line.now name_end v) }
     ensures none { IfNone result ((v : ℕ × ℕ) → ¬ (HasValue line.now name_end v)) }
     ensures behind { IfSome result (λ v. name_end < v.1) }
+    ensures order { IfSome result (λ v. v.0 ≤ v.1) }
     ensures within { IfSome result (λ v. v.1 ≤ length line.now) }
 {
     if name_end >= line.len() || line[name_end] != b'=' {
@@ -180,6 +181,8 @@ fn directive_at(line: &[u8], start: usize) -> Span
     requires { IsTokenAt line.now start }
     ensures start { result.start ≡ start }
     ensures directive { IsDirective line.now result }
+    ensures value_order { IfSome result.value (λ v. v.0 ≤ v.1) }
+    ensures value_within { IfSome result.value (λ v. v.1 ≤ length line.now) }
     ensures progress { start < result.end }
     ensures within { result.end ≤ length line.now }
 {
@@ -197,18 +200,49 @@ fn directive_at(line: &[u8], start: usize) -> Span
     }
 }
 
-/// The directives of a line, from left to right.
-pub fn directives(alloc: Global, line: &[u8]) -> Result<Vec<Span>, AllocError>
-    ensures found { IfOk result (λ v. AreDirectives line.now v.items) }
-    // There is no other list of directives.
-    ensures only { (spans : List Span) → AreDirectives line.now spans → IfOk result (λ v. v.items ≡ spans) }
-{
-    let mut spans = Vec::new(alloc);
-    let mut from = 0;
-    'spans: while let Some(start) = search(line, from) {
-        let span = directive_at(line, start);
-        spans.push(span)?;
-        from = span.end;
+/// The directives of a line, from left to right. A contract sees the line and the place from which
+/// the next directive is looked for.
+#[derive(Drop)]
+pub struct Directives<'a> {
+    line: &'a [u8],
+    from: usize,
+}
+
+impl<'a> Model for Directives<'a> {
+    ghost use Rattle.std.specs.Prelude.{◌≤◌, ℕ, List, length};
+
+    ghost Value = { List ℕ × ℕ };
+
+    ghost view = { λ d. (d.line.now, d.from) };
+
+    ghost invariant = { λ d. d.from ≤ length d.line.now };
+}
+
+impl<'a> Directives<'a> {
+    /// The directives of a Cache-Control line.
+    pub fn new(line: &'a [u8]) -> Directives<'a>
+        ensures { result ≡ (line.now, 0) }
+    {
+        Directives { line, from: 0 }
     }
-    Ok(spans)
+}
+
+impl<'a> Iterator for Directives<'a> {
+    ghost use Rattle.std.specs.Iterator.{at_most};
+    ghost use Rattle.pcache_control.specs.Directives.{FindsNext};
+
+    type Item = Span;
+
+    ghost next_gives = { FindsNext };
+
+    ghost remaining = { λ d. at_most (length d.0 - d.1) };
+
+    fn next(&mut self) -> Option<Span> {
+        let Some(start) = search(self.line, self.from) else {
+            return None;
+        };
+        let span = directive_at(self.line, start);
+        self.from = span.end;
+        Some(span)
+    }
 }
