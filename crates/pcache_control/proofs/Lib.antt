@@ -4,3 +4,4 @@ pub mod Digits
 pub mod Lists
 pub mod Keys
 pub mod Text
+pub mod Lines

@@ -71,3 +71,16 @@ fn add_directive(alloc: Global, directives: &mut DirectiveMap, line: &[u8], span
     let value = value_at(alloc, line, span.value)?;
     add(directives, key, value)
 }
+
+// The directives of a line are added, from left to right.
+fn add_line(alloc: Global, directives: &mut DirectiveMap, line: &[u8]) -> Result<()>
+    ensures added { OnOk result (AreNamed directives.old.entries → (spans : List Span) → AreDirectives line.now spans → entries_of directives.new.entries ≡ insert_all bytes_eq (entries_of directives.old.entries) (directives_at line.now spans)) }
+    ensures there { OnOk result ((spans : List Span) × AreDirectives line.now spans) }
+    ensures named { OnOk result (AreNamed directives.old.entries → AreNamed directives.new.entries) }
+    ensures kind { IfErr result (λ e. e ≡ OutOfMemory) }
+{
+    'spans: for span in Directives::new(line) {
+        add_directive(alloc, directives, line, span)?;
+    }
+    Ok(())
+}
