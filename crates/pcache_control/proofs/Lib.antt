@@ -5,3 +5,4 @@ pub mod Lists
 pub mod Keys
 pub mod Text
 pub mod Lines
+pub mod AllLines

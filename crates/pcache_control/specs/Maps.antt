@@ -4,6 +4,7 @@ use Rattle.std.specs.Prelude.{◌≡◌, ℕ, Bool, true, false, not, ◌&&◌, 
 use Rattle.std.specs.List.{AllZip, filter_map}
 use Rattle.std.specs.Option.{option_map}
 use Rattle.std.specs.Str.{is_utf8, str_to_ascii_lowercase}
+use Rattle.http_header.specs.FieldValue.{FieldValue}
 use Rattle.indexmap.specs.IndexMap.{insert_all}
 use Rattle.pcache_control.specs.declared.key.DirectiveKey.{DirectiveKey}
 use Rattle.pcache_control.specs.declared.scan.Span.{Span}
@@ -50,3 +51,19 @@ all_directives lines others = []
 -- a repeated name keeps its first place and takes its last value
 abbrev pub by_name : List (List ℕ × Option (List ℕ)) → List (List ℕ × Option (List ℕ))
 by_name directives = insert_all bytes_eq [] directives
+
+-- the lines of a field
+abbrev pub lines_of : List FieldValue → List (List ℕ)
+lines_of values = map (λ (v : FieldValue). v.bytes) values
+
+-- entries that were read from lines: the directives of all lines by name
+pub record AreRead (lines : List (List ℕ)) (entries : List (DirectiveKey × Option DirectiveValue)) : Type 0 where
+  -- where the directives stand, line by line
+  pub spans : List (List Span)
+  pub found : AllZip AreDirectives lines spans
+  pub directives : entries_of entries ≡ by_name (all_directives lines spans)
+  pub named : AreNamed entries
+
+-- the entries are those of any list of the places, so of the one list that there is
+abbrev pub AreReadOnce : List (List ℕ) → List (DirectiveKey × Option DirectiveValue) → Type 0
+AreReadOnce lines entries = (spans : List (List Span)) → AllZip AreDirectives lines spans → entries_of entries ≡ by_name (all_directives lines spans)

@@ -7,12 +7,13 @@ ghost use Rattle.indexmap.specs.IndexMap.{insert_all, insert_entry};
 ghost use Rattle.pcache_control.specs.declared.scan.Span.{Span};
 ghost use Rattle.pcache_control.specs.Directives.{AreDirectives, LiesWithin};
 ghost use Rattle.pcache_control.specs.Names.{IsNamed, is_known, is_known_name, name_of};
-ghost use Rattle.pcache_control.specs.Maps.{entries_of, directives_at, directive_of, AreNamed, value_of};
+ghost use Rattle.pcache_control.specs.Maps.{entries_of, directives_at, AreNamed, AreRead, AreReadOnce, lines_of, value_of};
 ghost use Rattle.pcache_base.specs.declared.error.ErrorType.TheVariants.{OutOfMemory};
 
 use crate::key::DirectiveKey;
 use crate::scan::{Directives, Span};
 use crate::value::DirectiveValue;
+use http_header::{GetAll, HeaderMap, HeaderValue};
 use indexmap::IndexMap;
 use pcache_base::error::Result;
 use std::alloc::Global;
@@ -83,4 +84,26 @@ fn add_line(alloc: Global, directives: &mut DirectiveMap, line: &[u8]) -> Result
         add_directive(alloc, directives, line, span)?;
     }
     Ok(())
+}
+
+/// The Cache-Control directives of a request or a response.
+#[derive(Drop)]
+pub struct CacheControl {
+    /// The directives by name.
+    pub directives: DirectiveMap,
+    /// Numbers of seconds may have a fraction, which is cut off (own).
+    pub allow_float_seconds: bool,
+}
+
+// The directives of a field's lines, in the lines' order.
+fn from_lines(alloc: Global, lines: GetAll<'_, HeaderValue>) -> Result<DirectiveMap>
+    ensures read { IfOk result (λ directives. AreRead (lines_of lines.entry) directives.entries) }
+    ensures only { IfOk result (λ directives. AreReadOnce (lines_of lines.entry) directives.entries) }
+    ensures kind { IfErr result (λ e. e ≡ OutOfMemory) }
+{
+    let mut directives = IndexMap::new(alloc);
+    'lines: for line in lines {
+        add_line(alloc, &mut directives, line.as_bytes())?;
+    }
+    Ok(directives)
 }
