@@ -6,3 +6,4 @@ pub mod Keys
 pub mod Text
 pub mod Lines
 pub mod AllLines
+pub mod Found

@@ -1,4 +1,5 @@
 pub mod Bytes
+pub mod Control
 pub mod Directives
 pub mod Maps
 pub mod Names

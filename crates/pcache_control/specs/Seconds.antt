@@ -50,7 +50,7 @@ floor_seconds_of bytes = or_else (delta_seconds_of bytes) (pointed_seconds_of (w
     or_else (Some n) other = Some n
     or_else None other = other
 
--- what a reading of seconds answers: the number, or the refusal where there is none
-abbrev pub Reads : Option ℕ → Result ℕ ErrorType → Type 0
+-- what a reading answers: what there is, or the refusal where there is nothing
+abbrev pub Reads : {A : Type 0} → Option A → Result A ErrorType → Type 0
 Reads (Some n) result = result ≡ Ok n
 Reads None result = result ≡ Err InternalError

@@ -10,12 +10,13 @@ ghost use Rattle.pcache_control.specs.Names.{IsNamed, is_known, is_known_name, n
 ghost use Rattle.pcache_control.specs.Maps.{entries_of, directives_at, AreNamed, AreRead, AreReadOnce, lines_of, value_of};
 ghost use Rattle.pcache_base.specs.declared.error.ErrorType.TheVariants.{OutOfMemory};
 
-use crate::key::DirectiveKey;
+use crate::key::{DirectiveKey, known_key};
 use crate::scan::{Directives, Span};
 use crate::value::DirectiveValue;
 use http_header::{GetAll, HeaderMap, HeaderValue};
 use indexmap::IndexMap;
 use pcache_base::error::Result;
+use pcache_base::header::{ReqHeader, RespHeader};
 use std::alloc::Global;
 
 /// Directives by name, in the order of their first places, with their last values. A directive
@@ -106,4 +107,188 @@ fn from_lines(alloc: Global, lines: GetAll<'_, HeaderValue>) -> Result<Directive
         add_line(alloc, &mut directives, line.as_bytes())?;
     }
     Ok(directives)
+}
+
+/// Whether a response may be stored, as far as its directives say.
+#[derive(Clone, Copy, Debug, PartialEq, Eq)]
+pub enum Cacheable {
+    /// A directive allows it.
+    Yes,
+    /// A directive forbids it.
+    No,
+    /// No directive says.
+    Default,
+}
+
+impl CacheControl {
+    ghost use Rattle.std.specs.Prelude.{◌≡◌, ◌↔◌, IsTrue, IfOk, IfErr, IfSome, true, codes, option_copied};
+    ghost use Rattle.http_header.specs.HeaderMap.{get_all};
+    ghost use Rattle.http_header.specs.Token.{lowercase};
+    ghost use Rattle.pcache_control.specs.declared.key.DirectiveKey.TheVariants.{MaxAge, SMaxAge, NoCache, NoStore, Private, Public, MustRevalidate, ProxyRevalidate, OnlyIfCached, StaleWhileRevalidate, StaleIfError};
+    ghost use Rattle.pcache_control.specs.declared.key.DirectiveKey.{DirectiveKey};
+    ghost use Rattle.pcache_control.specs.Control.{ReadsField, given, has, is_bare, value_in, names_in, seconds_in};
+    ghost use Rattle.pcache_control.specs.Maps.{lines_of, value_of, AreReadOnce};
+    ghost use Rattle.pcache_control.specs.Names.{IsNamed};
+    ghost use Rattle.pcache_control.specs.Seconds.{Reads};
+
+    /// Numbers of seconds may have a fraction from now on, which is cut off (own).
+    pub fn with_float_seconds(mut self) -> CacheControl
+        ensures { result ≡ record self { allow_float_seconds = true } }
+    {
+        self.allow_float_seconds = true;
+        self
+    }
+
+    /// The directives of all fields of this name, in any case; `None` where there is none. It is
+    /// refused for want of memory alone.
+    pub fn from_headers_named(alloc: Global, header_name: &str, headers: &HeaderMap) -> Result<Option<CacheControl>>
+        ensures read { IfOk result (ReadsField headers.now (lowercase header_name.now)) }
+        ensures only { IfOk result (λ found. IfSome found (λ cc. AreReadOnce (lines_of (get_all headers.now (lowercase header_name.now))) cc.directives.entries)) }
+        ensures kind { IfErr result (λ e. e ≡ OutOfMemory) }
+    {
+        if !headers.contains_key(header_name) {
+            return Ok(None);
+        }
+        Ok(Some(CacheControl {
+            directives: from_lines(alloc, headers.get_all(header_name))?,
+            allow_float_seconds: false,
+        }))
+    }
+
+    /// The directives of a request's fields of this name.
+    pub fn from_req_headers_named(alloc: Global, header_name: &str, req_header: &ReqHeader) -> Result<Option<CacheControl>>
+        ensures read { IfOk result (ReadsField req_header.now.headers (lowercase header_name.now)) }
+        ensures only { IfOk result (λ found. IfSome found (λ cc. AreReadOnce (lines_of (get_all req_header.now.headers (lowercase header_name.now))) cc.directives.entries)) }
+        ensures kind { IfErr result (λ e. e ≡ OutOfMemory) }
+    {
+        CacheControl::from_headers_named(alloc, header_name, &req_header.headers)
+    }
+
+    /// The directives of a request's Cache-Control.
+    pub fn from_req_headers(alloc: Global, req_header: &ReqHeader) -> Result<Option<CacheControl>>
+        ensures read { IfOk result (ReadsField req_header.now.headers (codes "cache-control")) }
+        ensures only { IfOk result (λ found. IfSome found (λ cc. AreReadOnce (lines_of (get_all req_header.now.headers (codes "cache-control"))) cc.directives.entries)) }
+        ensures kind { IfErr result (λ e. e ≡ OutOfMemory) }
+    {
+        CacheControl::from_req_headers_named(alloc, "cache-control", req_header)
+    }
+
+    /// The directives of a response's fields of this name.
+    pub fn from_resp_headers_named(alloc: Global, header_name: &str, resp_header: &RespHeader) -> Result<Option<CacheControl>>
+        ensures read { IfOk result (ReadsField resp_header.now.headers (lowercase header_name.now)) }
+        ensures only { IfOk result (λ found. IfSome found (λ cc. AreReadOnce (lines_of (get_all resp_header.now.headers (lowercase header_name.now))) cc.directives.entries)) }
+        ensures kind { IfErr result (λ e. e ≡ OutOfMemory) }
+    {
+        CacheControl::from_headers_named(alloc, header_name, &resp_header.headers)
+    }
+
+    /// The directives of a response's Cache-Control.
+    pub fn from_resp_headers(alloc: Global, resp_header: &RespHeader) -> Result<Option<CacheControl>>
+        ensures read { IfOk result (ReadsField resp_header.now.headers (codes "cache-control")) }
+        ensures only { IfOk result (λ found. IfSome found (λ cc. AreReadOnce (lines_of (get_all resp_header.now.headers (codes "cache-control"))) cc.directives.entries)) }
+        ensures kind { IfErr result (λ e. e ≡ OutOfMemory) }
+    {
+        CacheControl::from_resp_headers_named(alloc, "cache-control", resp_header)
+    }
+
+    // The value under a key, `None` where there is no such directive.
+    fn find(&self, key: &DirectiveKey) -> Option<&Option<DirectiveValue>>
+        ensures { option_map value_of (option_copied result) ≡ given self.now key.now }
+    {
+        self.directives.get(key)
+    }
+
+    /// Whether a directive of this name is there. The name is taken as it is written: those of the
+    /// map are in lower case. A name that is none of the fourteen is looked for from the first
+    /// directive on.
+    pub fn has_key(&self, key: &str) -> bool
+        ensures { (named : DirectiveKey) → IsNamed key.now named → result ≡ has self.now named }
+    {
+        match known_key(key) {
+            Some(known) => self.has_directive(&known),
+            None => self.has_unknown(key),
+        }
+    }
+
+    // Whether a directive is there under a name of its own.
+    fn has_unknown(&self, name: &str) -> bool
+        ensures { (named : DirectiveKey) → is_known named ≡ false → name_of named ≡ name.now → result ≡ has self.now named }
+    {
+        'names: for (key, _) in &self.directives {
+            if key.is_unknown(name) {
+                return true;
+            }
+        }
+        false
+    }
+
+    /// Whether the directive is there.
+    pub fn has_directive(&self, key: &DirectiveKey) -> bool
+        ensures { result ≡ has self.now key.now }
+    {
+        self.find(key).is_some()
+    }
+
+    // Whether the directive is there without a value.
+    fn has_key_without_value(&self, key: &DirectiveKey) -> bool
+        ensures { result ≡ is_bare (given self.now key.now) }
+    {
+        matches!(self.find(key), Some(None))
+    }
+
+    // The value of the directive.
+    fn value(&self, key: &DirectiveKey) -> Option<&DirectiveValue>
+        ensures { option_map (λ (v : DirectiveValue). v.0.items) (option_copied result) ≡ value_in (given self.now key.now) }
+    {
+        self.find(key)?.as_ref()
+    }
+
+    /// Whether `public` is there.
+    pub fn public(&self) -> bool
+        ensures { result ≡ has self.now Public }
+    {
+        self.has_directive(&DirectiveKey::Public)
+    }
+
+    /// Whether `private` is there without field names, so for the whole response.
+    pub fn private(&self) -> bool
+        ensures { result ≡ is_bare (given self.now Private) }
+    {
+        self.has_key_without_value(&DirectiveKey::Private)
+    }
+
+    /// Whether `no-cache` is there without field names, so for the whole response.
+    pub fn no_cache(&self) -> bool
+        ensures { result ≡ is_bare (given self.now NoCache) }
+    {
+        self.has_key_without_value(&DirectiveKey::NoCache)
+    }
+
+    /// Whether `no-store` is there.
+    pub fn no_store(&self) -> bool
+        ensures { result ≡ has self.now NoStore }
+    {
+        self.has_directive(&DirectiveKey::NoStore)
+    }
+
+    /// Whether `must-revalidate` is there.
+    pub fn must_revalidate(&self) -> bool
+        ensures { result ≡ has self.now MustRevalidate }
+    {
+        self.has_directive(&DirectiveKey::MustRevalidate)
+    }
+
+    /// Whether `proxy-revalidate` is there.
+    pub fn proxy_revalidate(&self) -> bool
+        ensures { result ≡ has self.now ProxyRevalidate }
+    {
+        self.has_directive(&DirectiveKey::ProxyRevalidate)
+    }
+
+    /// Whether `only-if-cached` is there.
+    pub fn only_if_cached(&self) -> bool
+        ensures { result ≡ has self.now OnlyIfCached }
+    {
+        self.has_directive(&DirectiveKey::OnlyIfCached)
+    }
 }

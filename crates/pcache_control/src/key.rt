@@ -1,6 +1,6 @@
 //! The names of directives.
 
-ghost use Rattle.std.specs.Prelude.{◌≡◌, ◌↔◌, IfOk, IfErr, IfSome, IfNone, IsTrue, IsOk, true, false, string_bytes};
+ghost use Rattle.std.specs.Prelude.{◌≡◌, ◌↔◌, IfOk, IfErr, IfSome, IfNone, IsTrue, IsOk, true, false, not, ◌&&◌, bytes_eq, string_bytes};
 ghost use Rattle.pcache_control.specs.Names.{name_of, is_known, is_known_name, IsNamed};
 ghost use Rattle.pcache_base.specs.declared.error.ErrorType.TheVariants.{OutOfMemory};
 
@@ -45,7 +45,7 @@ pub enum DirectiveKey {
 
 // The variant of a known name.
 #[tactic(auto, unfolding(crate::specs::Names::is_known_name))]
-fn known_key(name: &str) -> Option<DirectiveKey>
+pub(crate) fn known_key(name: &str) -> Option<DirectiveKey>
     ensures name { IfSome result (λ key. name_of key ≡ name.now) }
     ensures known { IfSome result (λ key. is_known key ≡ true) }
     ensures found { IfSome result (λ _. is_known_name name.now ≡ true) }
@@ -114,6 +114,16 @@ impl DirectiveKey {
         match known_key(name.as_str()) {
             Some(key) => key,
             None => DirectiveKey::Unknown(name),
+        }
+    }
+
+    // Whether this is the key of a name that is none of the fourteen.
+    pub(crate) fn is_unknown(&self, name: &str) -> bool
+        ensures { result ≡ (not (is_known self.now) && bytes_eq (name_of self.now) name.now) }
+    {
+        match self {
+            DirectiveKey::Unknown(other) => other.as_str() == name,
+            _ => false,
         }
     }
 
