@@ -12,7 +12,7 @@ ghost use Rattle.pcache_base.specs.declared.error.ErrorType.TheVariants.{OutOfMe
 
 use crate::key::{DirectiveKey, known_key};
 use crate::scan::{Directives, Span};
-use crate::value::DirectiveValue;
+use crate::value::{DirectiveValue, ListValueIter};
 use http_header::{GetAll, HeaderMap, HeaderValue};
 use indexmap::IndexMap;
 use pcache_base::error::Result;
@@ -290,5 +290,69 @@ impl CacheControl {
         ensures { result ≡ has self.now OnlyIfCached }
     {
         self.has_directive(&DirectiveKey::OnlyIfCached)
+    }
+
+    // The field names that the directive lists.
+    fn field_names(&self, key: &DirectiveKey) -> Option<ListValueIter<'_>>
+        ensures { result ≡ names_in (given self.now key.now) }
+    {
+        match self.value(key) {
+            Some(value) => Some(ListValueIter::from(value)),
+            None => None,
+        }
+    }
+
+    /// The field names that `private` lists (RFC 9111 section 5.2.2.7); `None` where it has no value.
+    pub fn private_field_names(&self) -> Option<ListValueIter<'_>>
+        ensures { result ≡ names_in (given self.now Private) }
+    {
+        self.field_names(&DirectiveKey::Private)
+    }
+
+    /// The field names that `no-cache` lists (RFC 9111 section 5.2.2.4); `None` where it has no value.
+    pub fn no_cache_field_names(&self) -> Option<ListValueIter<'_>>
+        ensures { result ≡ names_in (given self.now NoCache) }
+    {
+        self.field_names(&DirectiveKey::NoCache)
+    }
+
+    // The number of seconds that the directive says.
+    fn seconds(&self, key: &DirectiveKey) -> Result<Option<u32>>
+        ensures { Reads (seconds_in self.now key.now) result }
+    {
+        match self.value(key) {
+            Some(value) if self.allow_float_seconds => Ok(Some(value.parse_as_delta_seconds_floor()?)),
+            Some(value) => Ok(Some(value.parse_as_delta_seconds()?)),
+            None => Ok(None),
+        }
+    }
+
+    /// The seconds of `max-age`; `None` where it is absent or has no value. What is no number of
+    /// seconds is refused as `InternalError`.
+    pub fn max_age(&self) -> Result<Option<u32>>
+        ensures { Reads (seconds_in self.now MaxAge) result }
+    {
+        self.seconds(&DirectiveKey::MaxAge)
+    }
+
+    /// The seconds of `s-maxage`, as `max_age` answers them.
+    pub fn s_maxage(&self) -> Result<Option<u32>>
+        ensures { Reads (seconds_in self.now SMaxAge) result }
+    {
+        self.seconds(&DirectiveKey::SMaxAge)
+    }
+
+    /// The seconds of `stale-while-revalidate`, as `max_age` answers them.
+    pub fn stale_while_revalidate(&self) -> Result<Option<u32>>
+        ensures { Reads (seconds_in self.now StaleWhileRevalidate) result }
+    {
+        self.seconds(&DirectiveKey::StaleWhileRevalidate)
+    }
+
+    /// The seconds of `stale-if-error`, as `max_age` answers them.
+    pub fn stale_if_error(&self) -> Result<Option<u32>>
+        ensures { Reads (seconds_in self.now StaleIfError) result }
+    {
+        self.seconds(&DirectiveKey::StaleIfError)
     }
 }
