@@ -9,3 +9,4 @@ pub mod seconds;
 pub mod key;
 pub mod value;
 pub mod cache_control;
+pub mod interpret;
