@@ -1,5 +1,6 @@
 pub mod Bytes
 pub mod Control
+pub mod Defaults
 pub mod Directives
 pub mod Maps
 pub mod Names

@@ -10,3 +10,4 @@ pub mod key;
 pub mod value;
 pub mod cache_control;
 pub mod interpret;
+pub mod defaults;

@@ -1,11 +1,21 @@
 //! A number of seconds, as a directive's value writes it (RFC 9111 section 1.2.2).
 
-ghost use Rattle.std.specs.Prelude.{◌≡◌, ◌<◌, List, length, min, position, Some, None, IfSome, if◌then◌else◌, ◌^◌};
+ghost use Rattle.std.specs.Prelude.{◌≡◌, ◌*◌, ◌<◌, List, length, min, position, Some, None, IfSome, if◌then◌else◌, ◌^◌};
+ghost use Rattle.std.specs.Duration.{as_nanos};
 ghost use Rattle.std.specs.Str.Parse.{digits_value, without_leading_plus};
-ghost use Rattle.pcache_control.specs.Seconds.{all_digits, delta_seconds_of, floor_seconds_of, is_point, pointed_seconds_of};
+ghost use Rattle.pcache_control.specs.Seconds.{all_digits, delta_seconds_of, floor_seconds_of, is_point, overflow_seconds, pointed_seconds_of};
+
+use std::time::Duration;
 
 /// What a number of seconds past 32 bits counts as: about 68 years.
 pub const DELTA_SECONDS_OVERFLOW_VALUE: u32 = 2147483647;
+
+/// `DELTA_SECONDS_OVERFLOW_VALUE` as a duration.
+pub const fn delta_seconds_overflow_duration() -> Duration
+    ensures { as_nanos result ≡ overflow_seconds * 1_000_000_000 }
+{
+    Duration::from_secs(DELTA_SECONDS_OVERFLOW_VALUE as u64)
+}
 
 // The least number past 32 bits: longer runs of digits count as it.
 const LIMIT: u64 = 4294967296;
