@@ -2,6 +2,7 @@ pub mod Bytes
 pub mod Control
 pub mod Defaults
 pub mod Directives
+pub mod Filters
 pub mod Maps
 pub mod Names
 pub mod Seconds

@@ -11,3 +11,4 @@ pub mod value;
 pub mod cache_control;
 pub mod interpret;
 pub mod defaults;
+pub mod filters;

@@ -138,7 +138,7 @@ fn trim_end(mut bytes: &[u8]) -> &[u8]
 }
 
 #[tactic(auto, unfolding(crate::specs::Values::trim_ows))]
-fn trim_ows(bytes: &[u8]) -> &[u8]
+pub(crate) fn trim_ows(bytes: &[u8]) -> &[u8]
     ensures { result.now ≡ trim_ows bytes.now }
 {
     trim_end(trim_start(bytes))
