@@ -13,6 +13,7 @@ use Rattle.pcache_base.specs.declared.header.ResponseHeader.{ResponseHeader}
 use Rattle.pcache_control.specs.declared.cache_control.CacheControl.{CacheControl}
 use Rattle.pcache_control.specs.declared.cache_control.Cacheable.{Cacheable}
 use Rattle.pcache_control.specs.declared.cache_control.Cacheable.TheVariants.{Yes, No, Default}
+use Rattle.pcache_control.specs.declared.key.DirectiveKey.TheVariants.{StaleWhileRevalidate, StaleIfError}
 use Rattle.pcache_control.specs.Control.{cacheable_of, allows_authorized, fresh_seconds, stale_seconds, stripped, as_duration}
 use Rattle.pcache_control.specs.Seconds.{overflow_seconds}
 use Rattle.pcache_control.specs.Values.{trim_ows}
@@ -75,3 +76,30 @@ FreshUntil now cc fields authorized answers result =
 abbrev pub window : Option ℕ → ℕ → ℕ
 window None default = default
 window (Some nanos) default = if nat_lt (nanos / second) (2 ^ 32) then nanos / second else overflow_seconds
+
+-- the two windows of a response: while it is revalidated, and after an error
+abbrev pub windows : Option ℕ → Option ℕ → ℕ × ℕ → ℕ × ℕ
+windows revalidating error defaults = (window revalidating defaults.0, window error defaults.1)
+
+abbrev pub windows_of : Option CacheControl → ℕ × ℕ → ℕ × ℕ
+windows_of cc defaults =
+    windows (option_and_then (λ c. as_duration (stale_seconds c StaleWhileRevalidate)) cc) (option_and_then (λ c. as_duration (stale_seconds c StaleIfError)) cc) defaults
+
+-- the head without the fields that Cache-Control keeps out of a shared cache
+abbrev pub stored_header : Option CacheControl → ResponseHeader → ResponseHeader
+stored_header None header = header
+stored_header (Some cc) header = stripped cc header
+
+-- the meta of a response that is stored now
+abbrev pub new_meta : ℕ → ℕ → ℕ × ℕ → ResponseHeader → Meta
+new_meta now fresh_until windows header = record {
+  fresh_until = fresh_until;
+  created = now;
+  updated = now;
+  stale_while_revalidate = windows.0;
+  stale_if_error = windows.1;
+  variance = None;
+  epoch_override = None;
+  provenance = Some now;
+  header = shown header;
+}

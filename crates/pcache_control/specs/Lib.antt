@@ -5,5 +5,6 @@ pub mod Directives
 pub mod Filters
 pub mod Maps
 pub mod Names
+pub mod Responses
 pub mod Seconds
 pub mod Values

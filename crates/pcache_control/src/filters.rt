@@ -4,11 +4,13 @@ ghost use Rattle.std.specs.Prelude.{◌≡◌, ◌↔◌, ◌⊎◌, IsTrue, IfS
 ghost use Rattle.std.specs.Duration.{as_nanos};
 ghost use Rattle.std.specs.Option.{option_map, option_copied};
 ghost use Rattle.pcache_control.specs.Defaults.{asked_status};
-ghost use Rattle.pcache_control.specs.Filters.{end_of, expires_at, expires_of, forbids, said_moment, FreshUntil, window};
+ghost use Rattle.pcache_control.specs.Filters.{end_of, expires_at, expires_of, forbids, said_moment, FreshUntil, window, windows};
+ghost use Rattle.pcache_control.specs.Responses.{IsOutcome};
 
 use crate::cache_control::{CacheControl, Cacheable};
 use crate::defaults::{CacheMetaDefaults, FreshDurationByStatusFn};
 use crate::interpret::InterpretCacheControl;
+use crate::response::RespCacheable;
 use crate::seconds::DELTA_SECONDS_OVERFLOW_VALUE;
 use crate::value::trim_ows;
 use http::Method;
@@ -110,4 +112,70 @@ pub fn calculate_fresh_until(
         return Some(moment);
     }
     end_of(now, defaults.fresh_sec(resp_header.status)?)
+}
+
+// A window in whole seconds: what was said where that fits 32 bits, else the default.
+fn window(said: Option<Duration>, default: u32) -> u32
+    ensures { result ≡ window (option_map as_nanos said) default }
+{
+    match said {
+        Some(duration) => u32::try_from(duration.as_secs()).unwrap_or(DELTA_SECONDS_OVERFLOW_VALUE),
+        None => default,
+    }
+}
+
+/// For how many whole seconds a stale response may be served while it is revalidated, and after an
+/// error: as the directives say, else the defaults. A number of seconds past 32 bits counts as
+/// `DELTA_SECONDS_OVERFLOW_VALUE`.
+pub fn calculate_serve_stale_durations<C: InterpretCacheControl>(
+    cache_control: Option<&C>,
+    defaults: &CacheMetaDefaults,
+) -> (u32, u32)
+    ensures { result ≡ windows (option_and_then C.stale_while_revalidating (option_copied cache_control.entry)) (option_and_then C.stale_after_error (option_copied cache_control.entry)) (defaults.now.stale_while_revalidate_sec, defaults.now.stale_if_error_sec) }
+{
+    let (while_revalidating, after_error) = match cache_control {
+        Some(cc) => (
+            cc.serve_stale_while_revalidate_duration(),
+            cc.serve_stale_if_error_duration(),
+        ),
+        None => (None, None),
+    };
+    (
+        window(while_revalidating, defaults.serve_stale_while_revalidate_sec()),
+        window(after_error, defaults.serve_stale_if_error_sec()),
+    )
+}
+
+/// Whether a response is to be stored, and with what meta. Fields that `private` and `no-cache` list
+/// are taken out of its head. A response with no moment until which it is fresh is `OriginNotCache`.
+pub fn resp_cacheable(
+    cache_control: Option<&CacheControl>,
+    mut resp_header: ResponseHeader,
+    authorization_present: bool,
+    defaults: &CacheMetaDefaults,
+    now: Moment,
+) -> RespCacheable
+    ensures { IsOutcome now (option_copied cache_control.entry) (defaults.now.stale_while_revalidate_sec, defaults.now.stale_if_error_sec) resp_header authorization_present (FreshDurationByStatusFn.post defaults.now.fresh_sec_fn (asked_status resp_header.status)) result }
+{
+    let fresh_until = calculate_fresh_until(
+        now,
+        cache_control,
+        &resp_header,
+        authorization_present,
+        defaults,
+    );
+    let Some(fresh_until) = fresh_until else {
+        return RespCacheable::Uncacheable(NoCacheReason::OriginNotCache);
+    };
+    let (while_revalidating, after_error) = calculate_serve_stale_durations(cache_control, defaults);
+    if let Some(cc) = cache_control {
+        cc.strip_private_headers(&mut resp_header);
+    }
+    RespCacheable::Cacheable(CacheMeta::new(
+        fresh_until,
+        now,
+        while_revalidating,
+        after_error,
+        resp_header,
+    ))
 }

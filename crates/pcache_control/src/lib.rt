@@ -12,3 +12,4 @@ pub mod cache_control;
 pub mod interpret;
 pub mod defaults;
 pub mod filters;
+pub mod response;
