@@ -7,3 +7,4 @@ pub mod Text
 pub mod Lines
 pub mod AllLines
 pub mod Found
+pub mod Stored

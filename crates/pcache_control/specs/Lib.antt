@@ -5,6 +5,7 @@ pub mod Directives
 pub mod Filters
 pub mod Maps
 pub mod Names
+pub mod Requests
 pub mod Responses
 pub mod Seconds
 pub mod Values

@@ -7,6 +7,8 @@ ghost use Rattle.pcache_control.specs.Defaults.{asked_status};
 ghost use Rattle.pcache_control.specs.Filters.{end_of, expires_at, expires_of, forbids, said_moment, FreshUntil, window, windows};
 ghost use Rattle.pcache_control.specs.Responses.{IsOutcome};
 
+pub mod upstream;
+
 use crate::cache_control::{CacheControl, Cacheable};
 use crate::defaults::{CacheMetaDefaults, FreshDurationByStatusFn};
 use crate::interpret::InterpretCacheControl;
