@@ -46,7 +46,7 @@ pub goes_on : (all rest later : List FieldValue) (v : FieldValue) (before after 
 goes_on all rest later v before after step so_far there added named =
     let same = lines_of-push so_far.done v in
     let zip : AllZip AreDirectives (lines_of so_far.done ++ v.bytes ∷ []) (so_far.spans ++ there.0 ∷ []) =
-        all_zipped_more AreDirectives (lines_of so_far.done) so_far.spans v.bytes there.0 so_far.found there.1 in
+    all_zipped_more AreDirectives (lines_of so_far.done) so_far.spans v.bytes there.0 so_far.found there.1 in
     record {
       done = so_far.done ++ v ∷ [];
       spans = so_far.spans ++ there.0 ∷ [];

@@ -31,7 +31,7 @@ same_has cc k j p q = ap (λ found. is_some (option_map value_of found)) (same_l
 bytes_eq-flip : (a b : List ℕ) → bytes_eq a b ≡ bytes_eq b a
 bytes_eq-flip a b =
     one_answer {P = a ≡ b} (bytes_eq a b) (bytes_eq b a) (bytes_eq-Decides a b)
-        ((λ e. sym ((bytes_eq-Decides b a).0 e)), (λ e. (bytes_eq-Decides b a).1 (sym e)))
+    ((λ e. sym ((bytes_eq-Decides b a).0 e)), (λ e. (bytes_eq-Decides b a).1 (sym e)))
 
 -- one entry of a search for a name that is none of the fourteen
 pub same_unknown : (named key : DirectiveKey) (name : List ℕ) (b : Bool) → is_known named ≡ false → name_of named ≡ name

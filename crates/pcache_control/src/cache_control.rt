@@ -10,9 +10,12 @@ ghost use Rattle.pcache_control.specs.Names.{IsNamed, is_known, is_known_name, n
 ghost use Rattle.pcache_control.specs.Maps.{entries_of, directives_at, AreNamed, AreRead, AreReadOnce, lines_of, value_of};
 ghost use Rattle.pcache_base.specs.declared.error.ErrorType.TheVariants.{OutOfMemory};
 
-use crate::key::{DirectiveKey, known_key};
+pub use crate::interpret::InterpretCacheControl;
+pub use crate::key::DirectiveKey;
+use crate::key::known_key;
 use crate::scan::{Directives, Span};
-use crate::value::{DirectiveValue, ListValueIter};
+pub use crate::seconds::{DELTA_SECONDS_OVERFLOW_VALUE, delta_seconds_overflow_duration};
+pub use crate::value::{DirectiveValue, ListValueIter};
 use http_header::{GetAll, HeaderMap, HeaderValue};
 use indexmap::IndexMap;
 use pcache_base::error::Result;
@@ -38,7 +41,11 @@ fn key_of(alloc: Global, name: &[u8]) -> Result<Option<DirectiveKey>>
 }
 
 // A copy of the value at a place of the line.
-fn value_at(alloc: Global, line: &[u8], place: Option<(usize, usize)>) -> Result<Option<DirectiveValue>>
+fn value_at(
+    alloc: Global,
+    line: &[u8],
+    place: Option<(usize, usize)>,
+) -> Result<Option<DirectiveValue>>
     requires { IfSome place (λ v. (v.0 ≤ v.1) × (v.1 ≤ length line.now)) }
     ensures ok { IfOk result (λ value. value_of value ≡ option_map (λ v. slice_range line.now v.0 v.1) place) }
     ensures kind { IfErr result (λ e. e ≡ OutOfMemory) }
@@ -50,7 +57,11 @@ fn value_at(alloc: Global, line: &[u8], place: Option<(usize, usize)>) -> Result
 }
 
 // A repeated name keeps its first place and takes its last value.
-fn add(directives: &mut DirectiveMap, key: DirectiveKey, value: Option<DirectiveValue>) -> Result<()>
+fn add(
+    directives: &mut DirectiveMap,
+    key: DirectiveKey,
+    value: Option<DirectiveValue>,
+) -> Result<()>
     requires { is_known key ≡ is_known_name (name_of key) }
     ensures added { OnOk result (AreNamed directives.old.entries → entries_of directives.new.entries ≡ insert_entry bytes_eq (entries_of directives.old.entries) (name_of key) (value_of value)) }
     ensures named { OnOk result (AreNamed directives.old.entries → AreNamed directives.new.entries) }
@@ -61,7 +72,12 @@ fn add(directives: &mut DirectiveMap, key: DirectiveKey, value: Option<Directive
 }
 
 // A directive whose name is not text is passed over.
-fn add_directive(alloc: Global, directives: &mut DirectiveMap, line: &[u8], span: Span) -> Result<()>
+fn add_directive(
+    alloc: Global,
+    directives: &mut DirectiveMap,
+    line: &[u8],
+    span: Span,
+) -> Result<()>
     requires { LiesWithin (length line.now) span }
     ensures added { OnOk result (AreNamed directives.old.entries → entries_of directives.new.entries ≡ insert_all bytes_eq (entries_of directives.old.entries) (directives_at line.now (span ∷ []))) }
     ensures named { OnOk result (AreNamed directives.old.entries → AreNamed directives.new.entries) }
@@ -88,7 +104,7 @@ fn add_line(alloc: Global, directives: &mut DirectiveMap, line: &[u8]) -> Result
 }
 
 /// The Cache-Control directives of a request or a response.
-#[derive(Drop)]
+#[derive(Debug, Drop)]
 pub struct CacheControl {
     /// The directives by name.
     pub directives: DirectiveMap,
@@ -141,7 +157,11 @@ impl CacheControl {
 
     /// The directives of all fields of this name, in any case; `None` where there is none. It is
     /// refused for want of memory alone.
-    pub fn from_headers_named(alloc: Global, header_name: &str, headers: &HeaderMap) -> Result<Option<CacheControl>>
+    pub fn from_headers_named(
+        alloc: Global,
+        header_name: &str,
+        headers: &HeaderMap,
+    ) -> Result<Option<CacheControl>>
         ensures read { IfOk result (ReadsField headers.now (lowercase header_name.now)) }
         ensures only { IfOk result (λ found. IfSome found (λ cc. AreReadOnce (lines_of (get_all headers.now (lowercase header_name.now))) cc.directives.entries)) }
         ensures kind { IfErr result (λ e. e ≡ OutOfMemory) }
@@ -156,7 +176,11 @@ impl CacheControl {
     }
 
     /// The directives of a request's fields of this name.
-    pub fn from_req_headers_named(alloc: Global, header_name: &str, req_header: &ReqHeader) -> Result<Option<CacheControl>>
+    pub fn from_req_headers_named(
+        alloc: Global,
+        header_name: &str,
+        req_header: &ReqHeader,
+    ) -> Result<Option<CacheControl>>
         ensures read { IfOk result (ReadsField req_header.now.headers (lowercase header_name.now)) }
         ensures only { IfOk result (λ found. IfSome found (λ cc. AreReadOnce (lines_of (get_all req_header.now.headers (lowercase header_name.now))) cc.directives.entries)) }
         ensures kind { IfErr result (λ e. e ≡ OutOfMemory) }
@@ -174,7 +198,11 @@ impl CacheControl {
     }
 
     /// The directives of a response's fields of this name.
-    pub fn from_resp_headers_named(alloc: Global, header_name: &str, resp_header: &RespHeader) -> Result<Option<CacheControl>>
+    pub fn from_resp_headers_named(
+        alloc: Global,
+        header_name: &str,
+        resp_header: &RespHeader,
+    ) -> Result<Option<CacheControl>>
         ensures read { IfOk result (ReadsField resp_header.now.headers (lowercase header_name.now)) }
         ensures only { IfOk result (λ found. IfSome found (λ cc. AreReadOnce (lines_of (get_all resp_header.now.headers (lowercase header_name.now))) cc.directives.entries)) }
         ensures kind { IfErr result (λ e. e ≡ OutOfMemory) }
@@ -183,7 +211,10 @@ impl CacheControl {
     }
 
     /// The directives of a response's Cache-Control.
-    pub fn from_resp_headers(alloc: Global, resp_header: &RespHeader) -> Result<Option<CacheControl>>
+    pub fn from_resp_headers(
+        alloc: Global,
+        resp_header: &RespHeader,
+    ) -> Result<Option<CacheControl>>
         ensures read { IfOk result (ReadsField resp_header.now.headers (codes "cache-control")) }
         ensures only { IfOk result (λ found. IfSome found (λ cc. AreReadOnce (lines_of (get_all resp_header.now.headers (codes "cache-control"))) cc.directives.entries)) }
         ensures kind { IfErr result (λ e. e ≡ OutOfMemory) }
@@ -321,7 +352,9 @@ impl CacheControl {
         ensures { Reads (seconds_in self.now key.now) result }
     {
         match self.value(key) {
-            Some(value) if self.allow_float_seconds => Ok(Some(value.parse_as_delta_seconds_floor()?)),
+            Some(value) if self.allow_float_seconds => Ok(Some(
+                value.parse_as_delta_seconds_floor()?,
+            )),
             Some(value) => Ok(Some(value.parse_as_delta_seconds()?)),
             None => Ok(None),
         }

@@ -16,8 +16,8 @@ use crate::response::RespCacheable;
 use crate::seconds::DELTA_SECONDS_OVERFLOW_VALUE;
 use crate::value::trim_ows;
 use http::Method;
-use httpdate::HttpDate;
 use http_header::HeaderValue;
+use httpdate::HttpDate;
 use pcache_base::header::{ReqHeader, RespHeader, ResponseHeader};
 use pcache_base::meta::CacheMeta;
 use pcache_base::moment::Moment;
@@ -84,7 +84,11 @@ fn forbids(cache_control: Option<&CacheControl>, authorization_present: bool) ->
 
 // The moment that Cache-Control gives, or else Expires.
 #[tactic(auto, unfolding(crate::specs::Filters::said_moment))]
-fn said_moment(now: Moment, cache_control: Option<&CacheControl>, resp_header: &RespHeader) -> Option<Moment>
+fn said_moment(
+    now: Moment,
+    cache_control: Option<&CacheControl>,
+    resp_header: &RespHeader,
+) -> Option<Moment>
     ensures { result ≡ said_moment now (option_copied cache_control.entry) resp_header.now.headers }
 {
     if let Some(cc) = cache_control
@@ -143,7 +147,10 @@ pub fn calculate_serve_stale_durations<C: InterpretCacheControl>(
         None => (None, None),
     };
     (
-        window(while_revalidating, defaults.serve_stale_while_revalidate_sec()),
+        window(
+            while_revalidating,
+            defaults.serve_stale_while_revalidate_sec(),
+        ),
         window(after_error, defaults.serve_stale_if_error_sec()),
     )
 }
@@ -169,7 +176,10 @@ pub fn resp_cacheable(
     let Some(fresh_until) = fresh_until else {
         return RespCacheable::Uncacheable(NoCacheReason::OriginNotCache);
     };
-    let (while_revalidating, after_error) = calculate_serve_stale_durations(cache_control, defaults);
+    let (while_revalidating, after_error) = calculate_serve_stale_durations(
+        cache_control,
+        defaults,
+    );
     if let Some(cc) = cache_control {
         cc.strip_private_headers(&mut resp_header);
     }

@@ -72,7 +72,9 @@ impl CacheControl {
     fn forbids_stale(&self) -> bool
         ensures { result ≡ forbids_stale self.now }
     {
-        self.must_revalidate() || self.proxy_revalidate() || self.has_directive(&DirectiveKey::SMaxAge)
+        self.must_revalidate()
+            || self.proxy_revalidate()
+            || self.has_directive(&DirectiveKey::SMaxAge)
     }
 
     // For how many seconds the response is fresh.

@@ -44,11 +44,9 @@ impl DirectiveValue {
 
     /// The same as text. It is refused as `InternalError` where it is not UTF-8.
     pub fn parse_as_str(&self) -> Result<&str>
-        ensures {
-          MatchResult result
+        ensures { MatchResult result
             (λ text. (text.now ≡ unquoted self.now.0.items) × IsUtf8 (unquoted self.now.0.items))
-            (λ e. (e ≡ InternalError) × ¬ (IsUtf8 (unquoted self.now.0.items)))
-        }
+            (λ e. (e ≡ InternalError) × ¬ (IsUtf8 (unquoted self.now.0.items))) }
     {
         match str::from_utf8(self.parse_as_bytes()) {
             Ok(text) => Ok(text),

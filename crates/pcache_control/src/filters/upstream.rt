@@ -39,7 +39,12 @@ fn refusal(error: HeaderMapError) -> Error
 }
 
 // The first value under one name of the stored fields is put under another, where there is one.
-fn copy_field(stored: &HeaderMap, from: &HeaderName, headers: &mut HeaderMap, to: HeaderName) -> Result<()>
+fn copy_field(
+    stored: &HeaderMap,
+    from: &HeaderName,
+    headers: &mut HeaderMap,
+    to: HeaderName,
+) -> Result<()>
     ensures ok { OnOk result (headers.new ≡ with_field headers.old to (get stored.now from.now)) }
     ensures err { OnErr result (headers.new ≡ headers.old) }
     ensures kind { IfErr result (λ e. (e ≡ OutOfMemory) ⊎ (e ≡ InternalError)) }
