@@ -1,32 +1,23 @@
 -- Looking a directive up.
-use Rattle.std.proofs.Common.{◌≡◌, ℕ, Bool, true, false, not, cond, List, [], ◌∷◌, Option, Some, None, refl, sym, ap, ◌∙◌}
-use Rattle.std.specs.Prelude.{◌&&◌, bytes_eq, string_bytes, is_some}
+use Rattle.std.proofs.Common.{◌≡◌, ℕ, Bool, true, false, not, cond, List, [], ◌∷◌, All, Option, Some, refl, sym, ap, ◌∙◌}
+use Rattle.std.specs.Prelude.{◌&&◌, bytes_eq, is_some}
 use Rattle.std.specs.Bool.{one_answer}
 use Rattle.std.specs.Map.{lookup}
 use Rattle.std.proofs.lemmas.Slice.Eq.{bytes_eq-Decides}
+use Rattle.std.proofs.lemmas.List.Elements.{All-head, All-tail}
 use Rattle.std.specs.Option.{option_map}
-use Rattle.pcache_control.specs.Names.{name_of, is_known}
-use Rattle.pcache_control.specs.Maps.{same_key, value_of}
+use Rattle.pcache_control.specs.Names.{name_of, is_known, is_known_name}
+use Rattle.pcache_control.specs.Maps.{same_key, value_of, entries_of, AreNamed}
 use Rattle.pcache_control.specs.Control.{given, has}
 use Rattle.pcache_control.specs.declared.cache_control.CacheControl.{CacheControl}
 use Rattle.pcache_control.specs.declared.key.DirectiveKey.{DirectiveKey}
 use Rattle.pcache_control.specs.declared.value.DirectiveValue.{DirectiveValue}
 use Rattle.pcache_control.specs.contracts.key.DirectiveKeyPartialEq.TheImpl.{eq-value}
-use Rattle.pcache_control.proofs.Keys.{eq_is}
+use Rattle.pcache_control.proofs.Keys.{eq_is, same_named}
 
 pub lookup_is : {V : Type 0} (es : List (DirectiveKey × V)) (k : DirectiveKey) → lookup (eq-value.it k) es ≡ lookup (same_key k) es
 lookup_is [] k = refl
 lookup_is (e ∷ es) k = rw (eq_is k e.0, lookup_is es k) refl
-
--- keys of one name that are both known, or both not, find the same
-pub same_lookup : {V : Type 0} (es : List (DirectiveKey × V)) (k j : DirectiveKey) → is_known k ≡ is_known j → name_of k ≡ name_of j
-    → lookup (same_key k) es ≡ lookup (same_key j) es
-same_lookup [] k j p q = refl
-same_lookup (e ∷ es) k j p q = rw (p, q, same_lookup es k j p q) refl
-
-pub same_has : (cc : CacheControl) (k j : DirectiveKey) → is_known k ≡ is_known j → name_of k ≡ name_of j → has cc k ≡ has cc j
-unfolding given
-same_has cc k j p q = ap (λ found. is_some (option_map value_of found)) (same_lookup cc.directives.entries k j p q)
 
 bytes_eq-flip : (a b : List ℕ) → bytes_eq a b ≡ bytes_eq b a
 bytes_eq-flip a b =
@@ -55,3 +46,21 @@ pub has_none : (cc : CacheControl) (named : DirectiveKey) (rest : List (Directiv
     → rest ≡ [] → lookup (same_key named) cc.directives.entries ≡ lookup (same_key named) rest → false ≡ has cc named
 unfolding given
 has_none cc named rest none so_far = sym (ap (λ found. is_some (option_map value_of found)) (so_far ∙ ap (lookup (same_key named)) none))
+
+picks : (b : Bool) (v : Option DirectiveValue) (o : Option (Option DirectiveValue)) (rest : Option (Option (List ℕ))) → option_map value_of o ≡ rest
+    → option_map value_of (cond b (Some v) o) ≡ cond b (Some (value_of v)) rest
+picks true v o rest same = refl
+picks false v o rest same = same
+
+found_by_name : (es : List (DirectiveKey × Option DirectiveValue)) (k : DirectiveKey) → is_known k ≡ is_known_name (name_of k) → All (λ e. is_known e.0 ≡ is_known_name (name_of e.0)) es
+    → option_map value_of (lookup (same_key k) es) ≡ lookup (bytes_eq (name_of k)) (entries_of es)
+found_by_name [] k p all = refl
+found_by_name (e ∷ es) k p all =
+    picks (same_key k e.0) e.1 (lookup (same_key k) es) (lookup (bytes_eq (name_of k)) (entries_of es)) (found_by_name es k p (All-tail (λ x. is_known x.0 ≡ is_known_name (name_of x.0)) e es all))
+    ∙ ap (λ b. cond b (Some (value_of e.1)) (lookup (bytes_eq (name_of k)) (entries_of es))) (same_named k e.0 p (All-head (λ x. is_known x.0 ≡ is_known_name (name_of x.0)) e es all))
+
+-- in a map that was read, names decide
+pub given_by_name : (cc : CacheControl) (k : DirectiveKey) → is_known k ≡ is_known_name (name_of k) → AreNamed cc.directives.entries
+    → given cc k ≡ lookup (bytes_eq (name_of k)) (entries_of cc.directives.entries)
+unfolding given AreNamed
+given_by_name cc k p all = found_by_name cc.directives.entries k p all

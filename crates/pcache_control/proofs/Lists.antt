@@ -1,10 +1,8 @@
 -- A list's items, from the first comma on.
-use Rattle.std.proofs.Common.{◌≡◌, ℕ, ◌+◌, ◌<◌, ◌≤◌, Bool, true, false, not, cond, List, [], ◌∷◌, length, take, drop, map, position, Option, Some, None, refl, sym, ap, ◌∙◌, arith, ltb}
-use Rattle.std.specs.List.{slice_split, onto_first, position_or_len, prefix_len}
+use Rattle.std.proofs.Common.{◌≡◌, ℕ, ◌+◌, ◌≤◌, Bool, true, false, not, cond, List, [], ◌∷◌, length, take, drop, map, position, Some, None, refl, ap, ◌∙◌, arith}
+use Rattle.std.specs.List.{slice_split, onto_first, position_or_len}
 use Rattle.std.proofs.lemmas.List.Splits.{slice_split_first}
-use Rattle.std.proofs.lemmas.List.Sums.{prefix_len-le-length}
-use Rattle.std.proofs.lemmas.Bool.{le-ltb}
-use Rattle.pcache_control.specs.Values.{is_comma, trim_ows, list_items, items_left}
+use Rattle.pcache_control.specs.Values.{is_comma, trim_ows, list_items}
 use borrow.Author.Tests.{ltb-true, ltb-false}
 
 some_of : (b : Bool) (n m : ℕ) → cond b (Some n) None ≡ Some m → (b ≡ true) × (n ≡ m)

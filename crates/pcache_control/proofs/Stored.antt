@@ -1,7 +1,6 @@
 -- A field of a stored response, as its meta shows it.
-use Rattle.std.proofs.Common.{◌≡◌, ℕ, Bool, true, false, cond, List, [], ◌∷◌, map, Option, Some, None, Result, Ok, Err, refl, sym, ap, ◌∙◌, bytes_eq}
+use Rattle.std.proofs.Common.{◌≡◌, ℕ, Bool, true, false, cond, List, [], ◌∷◌, map, Option, Some, None, Result, Ok, Err, refl, ap, ◌∙◌, bytes_eq}
 use Rattle.std.specs.Prelude.{slice_get, codes, OnOk}
-use Rattle.std.specs.Option.{option_map}
 use Rattle.http_header.specs.FieldValue.{FieldValue}
 use Rattle.http_header.specs.HeaderMap.{Entries, get, get_all}
 use Rattle.pcache_base.specs.Header.{Fields, shown_fields}

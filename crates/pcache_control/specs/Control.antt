@@ -1,5 +1,5 @@
 -- What the directives of a field say (RFC 9111 sections 3.5, 4.2 and 5.2).
-use Rattle.std.specs.Prelude.{◌≡◌, ℕ, ◌+◌, ◌*◌, Bool, true, false, ◌||◌, List, [], ◌∷◌, ◌++◌, fold, Option, Some, None, is_some, Result, Ok, Err, if◌then◌else◌}
+use Rattle.std.specs.Prelude.{◌≡◌, ℕ, ◌*◌, Bool, true, false, ◌||◌, List, fold, Option, Some, None, is_some, if◌then◌else◌}
 use Rattle.std.specs.Map.{lookup}
 use Rattle.std.specs.Option.{option_map}
 use Rattle.http_header.specs.FieldValue.{FieldValue}
@@ -10,8 +10,8 @@ use Rattle.pcache_control.specs.declared.cache_control.CacheControl.{CacheContro
 use Rattle.pcache_control.specs.declared.cache_control.Cacheable.{Cacheable}
 use Rattle.pcache_control.specs.declared.cache_control.Cacheable.TheVariants.{Yes, No, Default}
 use Rattle.pcache_control.specs.declared.key.DirectiveKey.{DirectiveKey}
-use Rattle.pcache_control.specs.declared.key.DirectiveKey.TheVariants.{MaxAge, SMaxAge, NoCache, NoStore, Private, Public, MustRevalidate, ProxyRevalidate, OnlyIfCached, StaleWhileRevalidate, StaleIfError}
-use Rattle.pcache_control.specs.Maps.{same_key, value_of, lines_of, AreRead, AreReadOnce}
+use Rattle.pcache_control.specs.declared.key.DirectiveKey.TheVariants.{MaxAge, SMaxAge, NoCache, NoStore, Private, Public, MustRevalidate, ProxyRevalidate}
+use Rattle.pcache_control.specs.Maps.{same_key, value_of, lines_of, AreRead}
 use Rattle.pcache_control.specs.Seconds.{delta_seconds_of, floor_seconds_of}
 use Rattle.pcache_control.specs.Values.{unquoted, list_items}
 

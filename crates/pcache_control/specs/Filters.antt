@@ -1,13 +1,13 @@
 -- Which responses are stored, and until when they are fresh (RFC 9111 sections 3 and 4.2).
-use Rattle.std.specs.Prelude.{◌≡◌, ℕ, ◌+◌, ◌-◌, ◌*◌, ◌/◌, ◌^◌, Bool, true, false, not, ◌&&◌, ◌||◌, ◌==◌, List, [], ◌∷◌, Option, Some, None, Result, Ok, Err, option_and_then, unwrap_or, bytes_eq, codes, fold, nat_lt, nat_le, if◌then◌else◌, ◌⊎◌, ◌≢◌}
+use Rattle.std.specs.Prelude.{◌≡◌, ℕ, ◌+◌, ◌-◌, ◌*◌, ◌/◌, ◌^◌, Bool, true, false, not, ◌&&◌, ◌||◌, ◌==◌, List, [], ◌∷◌, Option, Some, None, option_and_then, unwrap_or, codes, nat_lt, nat_le, if◌then◌else◌}
 use Rattle.std.specs.Bool.{MatchBool}
 use Rattle.std.specs.Duration.{as_nanos}
 use Rattle.std.specs.Option.{option_map}
 use Rattle.std.specs.declared.time.Duration.{Duration}
 use Rattle.http_header.specs.FieldValue.{FieldValue}
-use Rattle.http_header.specs.HeaderMap.{Entries, get_all, insert, remove}
+use Rattle.http_header.specs.HeaderMap.{Entries, get_all}
 use Rattle.httpdate.specs.Date.{parse_secs}
-use Rattle.pcache_base.specs.Header.{Fields, shown}
+use Rattle.pcache_base.specs.Header.{shown}
 use Rattle.pcache_base.specs.Meta.{Meta}
 use Rattle.pcache_base.specs.declared.header.ResponseHeader.{ResponseHeader}
 use Rattle.pcache_control.specs.declared.cache_control.CacheControl.{CacheControl}

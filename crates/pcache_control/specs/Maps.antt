@@ -1,6 +1,6 @@
 -- The directives of all lines of a field, by name (own where RFC 9111 section 4.2.1 leaves a choice: of a repeated
 -- directive the last value counts).
-use Rattle.std.specs.Prelude.{◌≡◌, ℕ, Bool, true, false, not, ◌&&◌, List, [], ◌∷◌, ◌++◌, map, All, Option, Some, None, if◌then◌else◌, slice_range, bytes_eq}
+use Rattle.std.specs.Prelude.{◌≡◌, ℕ, Bool, not, ◌&&◌, List, [], ◌∷◌, ◌++◌, map, All, Option, Some, None, if◌then◌else◌, slice_range, bytes_eq}
 use Rattle.std.specs.List.{AllZip, filter_map}
 use Rattle.std.specs.Option.{option_map}
 use Rattle.std.specs.Str.{is_utf8, str_to_ascii_lowercase}

@@ -1,5 +1,5 @@
 -- The names of directives (RFC 9111 section 5.2, RFC 5861, RFC 8246).
-use Rattle.std.specs.Prelude.{◌≡◌, ℕ, Bool, true, false, ◌&&◌, List, [], ◌∷◌, codes, bytes_eq, string_bytes}
+use Rattle.std.specs.Prelude.{◌≡◌, ℕ, Bool, true, false, List, [], ◌∷◌, codes, bytes_eq, string_bytes}
 use Rattle.std.specs.List.{list_any}
 use Rattle.pcache_control.specs.declared.key.DirectiveKey.{DirectiveKey}
 use Rattle.pcache_control.specs.declared.key.DirectiveKey.TheVariants.{MaxAge, SMaxAge, NoCache, NoStore, Private, Public, MustRevalidate, ProxyRevalidate, MustUnderstand, NoTransform, Immutable, StaleWhileRevalidate, StaleIfError, OnlyIfCached, Unknown}

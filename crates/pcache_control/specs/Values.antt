@@ -1,5 +1,5 @@
 -- The value of a directive: its quotes, and lists in it (RFC 9110 sections 5.6.1, 5.6.3 and 5.6.4).
-use Rattle.std.specs.Prelude.{ℕ, ◌+◌, ◌-◌, Bool, ◌&&◌, ◌||◌, ◌==◌, List, [], ◌∷◌, length, map, reverse, slice_index, slice_range, Option, Some, None, nat_le, if◌then◌else◌}
+use Rattle.std.specs.Prelude.{ℕ, ◌-◌, Bool, ◌&&◌, ◌||◌, ◌==◌, List, [], ◌∷◌, length, map, reverse, slice_index, slice_range, Option, Some, None, nat_le, if◌then◌else◌}
 use Rattle.std.specs.List.{slice_split}
 
 -- a quote stands at both ends

@@ -146,6 +146,7 @@ impl CacheControl {
     ghost use Rattle.pcache_control.specs.Maps.{lines_of, value_of, AreReadOnce};
     ghost use Rattle.pcache_control.specs.Names.{IsNamed};
     ghost use Rattle.pcache_control.specs.Seconds.{Reads};
+    ghost use Rattle.std.specs.Map.{lookup};
 
     /// Numbers of seconds may have a fraction from now on, which is cut off (own).
     pub fn with_float_seconds(mut self) -> CacheControl
@@ -255,7 +256,9 @@ impl CacheControl {
 
     /// Whether the directive is there.
     pub fn has_directive(&self, key: &DirectiveKey) -> bool
-        ensures { result ≡ has self.now key.now }
+        ensures there { result ≡ has self.now key.now }
+        // In a map that was read, the names alone say which directive is meant, here and in every other answer.
+        ensures by_name { AreNamed self.now.directives.entries → IsNamed (name_of key.now) key.now → given self.now key.now ≡ lookup (bytes_eq (name_of key.now)) (entries_of self.now.directives.entries) }
     {
         self.find(key).is_some()
     }

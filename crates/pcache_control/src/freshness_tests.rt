@@ -89,7 +89,12 @@ fn lifetimes_by_cache_control(rt: HostRuntime) -> Result<(), Fail> {
         ("must-revalidate", "", true, Some(1010)),
         ("max-age=0, public", "", false, Some(999)),
         ("max-age=0", LATE, false, Some(999)),
-        ("max-age=0", "Thu, 01 Jan 1970 01:00:00 GMT", false, Some(999)),
+        (
+            "max-age=0",
+            "Thu, 01 Jan 1970 01:00:00 GMT",
+            false,
+            Some(999),
+        ),
     ];
     for (line, expires, authorized, wanted) in rows {
         let found = until(alloc, StatusCode::OK, line, expires, authorized, &defaults)?;
@@ -130,13 +135,24 @@ fn lifetimes_by_status(rt: HostRuntime) -> Result<(), Fail> {
         (StatusCode::NOT_MODIFIED, "", Some(1010)),
         (StatusCode::NOT_FOUND, "", Some(1005)),
         (StatusCode::PARTIAL_CONTENT, "", None),
-        (StatusCode::PARTIAL_CONTENT, "public, max-age=10", Some(1010)),
+        (
+            StatusCode::PARTIAL_CONTENT,
+            "public, max-age=10",
+            Some(1010),
+        ),
         (StatusCode::RANGE_NOT_SATISFIABLE, "", Some(1001)),
     ];
     for (status, line, wanted) in rows {
         assert_eq!(rt; until(alloc, status, line, "", false, &defaults)?, wanted);
     }
-    let expires = until(alloc, StatusCode::PARTIAL_CONTENT, "", LATE, false, &defaults)?;
+    let expires = until(
+        alloc,
+        StatusCode::PARTIAL_CONTENT,
+        "",
+        LATE,
+        false,
+        &defaults,
+    )?;
     assert_eq!(rt; expires, Some(1005));
     Ok(())
 }
@@ -155,7 +171,10 @@ fn stale_windows(rt: HostRuntime) -> Result<(), Fail> {
     let alloc = rt.alloc();
     let rows = [
         ("max-age=10", (0, 2147483647)),
-        ("max-age=10, stale-while-revalidate=5, stale-if-error=60", (5, 60)),
+        (
+            "max-age=10, stale-while-revalidate=5, stale-if-error=60",
+            (5, 60),
+        ),
         ("max-age=10, stale-if-error=0", (0, 0)),
         ("max-age=10, stale-if-error=60, must-revalidate", (0, 0)),
         ("max-age=10, stale-if-error=x", (0, 2147483647)),

@@ -20,7 +20,7 @@ impl AsSlice<u8> for DirectiveValue {
     ghost items = { λ value. value.0.items };
 
     fn as_slice(&self) -> &[u8] {
-        self.0.as_slice()
+        &self.0[..]
     }
 }
 

@@ -1,4 +1,3 @@
-use Rattle.std.proofs.Common.{refl}
 use Rattle.pcache_control.proofs.AllLines.{begins, goes_on, ends, once}
 use Rattle.pcache_control.proofs.cache_control.from_lines.Goals as goal
 

@@ -1,5 +1,3 @@
-use Rattle.std.proofs.Common.{◌≡◌, false, sym, ◌∙◌}
-use Rattle.std.specs.Str.{is_utf8}
 use Rattle.std.proofs.lemmas.Str.{is_utf8-from_IsUtf8}
 use Rattle.pcache_control.proofs.Text.{not_text}
 use Rattle.pcache_control.proofs.cache_control.key_of.Goals as goal

@@ -1,4 +1,3 @@
-use Rattle.std.proofs.Common.{refl}
 use Rattle.std.specs.Prelude.{codes}
 use Rattle.pcache_control.proofs.Stored.{asks_since, nothing_stored}
 use Rattle.pcache_control.proofs.filters.upstream.ask_since.Goals as goal
