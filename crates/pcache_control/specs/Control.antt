@@ -1,5 +1,5 @@
 -- What the directives of a field say (RFC 9111 sections 3.5, 4.2 and 5.2).
-use Rattle.std.specs.Prelude.{◌≡◌, ℕ, ◌*◌, Bool, true, false, ◌||◌, List, fold, Option, Some, None, is_some, if◌then◌else◌}
+use Rattle.std.specs.Prelude.{◌≡◌, ℕ, ◌*◌, Bool, true, false, ◌||◌, List, fold, Option, Some, None, IfSome, is_some, bytes_eq, if◌then◌else◌}
 use Rattle.std.specs.Map.{lookup}
 use Rattle.std.specs.Option.{option_map}
 use Rattle.http_header.specs.FieldValue.{FieldValue}
@@ -11,7 +11,7 @@ use Rattle.pcache_control.specs.declared.cache_control.Cacheable.{Cacheable}
 use Rattle.pcache_control.specs.declared.cache_control.Cacheable.TheVariants.{Yes, No, Default}
 use Rattle.pcache_control.specs.declared.key.DirectiveKey.{DirectiveKey}
 use Rattle.pcache_control.specs.declared.key.DirectiveKey.TheVariants.{MaxAge, SMaxAge, NoCache, NoStore, Private, Public, MustRevalidate, ProxyRevalidate}
-use Rattle.pcache_control.specs.Maps.{same_key, value_of, lines_of, AreRead}
+use Rattle.pcache_control.specs.Maps.{same_key, value_of, entries_of, lines_of, AreRead, AreReadOnce}
 use Rattle.pcache_control.specs.Seconds.{delta_seconds_of, floor_seconds_of}
 use Rattle.pcache_control.specs.Values.{unquoted, list_items}
 
@@ -21,9 +21,17 @@ ReadsField fields name None = ¬ (ContainsKey fields name)
 ReadsField fields name (Some cc) =
     ContainsKey fields name × AreRead (lines_of (get_all fields name)) cc.directives.entries × (cc.allow_float_seconds ≡ false)
 
+-- and whatever list of places the directives stand at, the map is theirs
+abbrev pub ReadsOneMap : Entries FieldValue → List ℕ → Option CacheControl → Type 0
+ReadsOneMap fields name found = IfSome found (λ (cc : CacheControl). AreReadOnce (lines_of (get_all fields name)) cc.directives.entries)
+
 -- the directive under a key: None where it is absent, Some None where it has no value
 unfoldable pub given : CacheControl → DirectiveKey → Option (Option (List ℕ))
 given cc key = option_map value_of (lookup (same_key key) cc.directives.entries)
+
+-- the directive of a name
+abbrev pub given_to : CacheControl → List ℕ → Option (Option (List ℕ))
+given_to cc name = lookup (bytes_eq name) (entries_of cc.directives.entries)
 
 abbrev pub has : CacheControl → DirectiveKey → Bool
 has cc key = is_some (given cc key)

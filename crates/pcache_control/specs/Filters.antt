@@ -65,7 +65,8 @@ said_moment now cc fields =
 -- what was said, else one of the default lifetimes
 abbrev pub FreshBy : ℕ → Option ℕ → (Option Duration → Type 0) → Option ℕ → Type 0
 FreshBy now (Some moment) answers result = result ≡ Some moment
-FreshBy now None answers result = (default : Option Duration) × answers default × (result ≡ option_and_then (end_of now) (option_map as_nanos default))
+FreshBy now None answers result =
+    (default : Option Duration) × answers default × (result ≡ option_and_then (end_of now) (option_map as_nanos default))
 
 -- until when a response is fresh, where a default lifetime is one of `answers`
 abbrev pub FreshUntil : ℕ → Option CacheControl → Entries FieldValue → Bool → (Option Duration → Type 0) → Option ℕ → Type 0
@@ -83,7 +84,10 @@ windows revalidating error defaults = (window revalidating defaults.0, window er
 
 abbrev pub windows_of : Option CacheControl → ℕ × ℕ → ℕ × ℕ
 windows_of cc defaults =
-    windows (option_and_then (λ c. as_duration (stale_seconds c StaleWhileRevalidate)) cc) (option_and_then (λ c. as_duration (stale_seconds c StaleIfError)) cc) defaults
+    windows
+    (option_and_then (λ c. as_duration (stale_seconds c StaleWhileRevalidate)) cc)
+    (option_and_then (λ c. as_duration (stale_seconds c StaleIfError)) cc)
+    defaults
 
 -- the head without the fields that Cache-Control keeps out of a shared cache
 abbrev pub stored_header : Option CacheControl → ResponseHeader → ResponseHeader

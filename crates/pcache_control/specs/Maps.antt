@@ -48,6 +48,11 @@ abbrev pub all_directives : List (List ℕ) → List (List Span) → List (List 
 all_directives (line ∷ lines) (spans ∷ others) = directives_at line spans ++ all_directives lines others
 all_directives lines others = []
 
+-- the new entries are the old ones with these directives added in turn: a repeated name keeps its place and takes the
+-- value
+abbrev pub Adds : List (DirectiveKey × Option DirectiveValue) → List (List ℕ × Option (List ℕ)) → List (DirectiveKey × Option DirectiveValue) → Type 0
+Adds old directives new = entries_of new ≡ insert_all bytes_eq (entries_of old) directives
+
 -- a repeated name keeps its first place and takes its last value
 abbrev pub by_name : List (List ℕ × Option (List ℕ)) → List (List ℕ × Option (List ℕ))
 by_name directives = insert_all bytes_eq [] directives
@@ -66,4 +71,5 @@ pub record AreRead (lines : List (List ℕ)) (entries : List (DirectiveKey × Op
 
 -- the entries are those of any list of the places, so of the one list that there is
 abbrev pub AreReadOnce : List (List ℕ) → List (DirectiveKey × Option DirectiveValue) → Type 0
-AreReadOnce lines entries = (spans : List (List Span)) → AllZip AreDirectives lines spans → entries_of entries ≡ by_name (all_directives lines spans)
+AreReadOnce lines entries =
+    (spans : List (List Span)) → AllZip AreDirectives lines spans → entries_of entries ≡ by_name (all_directives lines spans)

@@ -4,6 +4,7 @@ use Rattle.std.specs.Option.{option_map}
 use Rattle.http_header.specs.FieldValue.{FieldValue}
 use Rattle.http_header.specs.HeaderMap.{Entries, insert, remove}
 use Rattle.pcache_base.specs.Header.{Fields}
+use Rattle.pcache_base.specs.Meta.{Meta}
 
 -- an answer to HEAD has no body to store
 abbrev pub sent_method : List ℕ → List ℕ
@@ -11,7 +12,8 @@ sent_method method = if bytes_eq method (codes "HEAD") then codes "GET" else met
 
 -- preconditions (RFC 9110 section 13.1) and ranges (section 14.2): the cache asks for the whole response
 abbrev pub condition_names : List (List ℕ)
-condition_names = codes "if-match" ∷ codes "if-none-match" ∷ codes "if-modified-since" ∷ codes "if-unmodified-since" ∷ codes "if-range" ∷ codes "range" ∷ []
+condition_names =
+    codes "if-match" ∷ codes "if-none-match" ∷ codes "if-modified-since" ∷ codes "if-unmodified-since" ∷ codes "if-range" ∷ codes "range" ∷ []
 
 unfoldable pub without_conditions : Entries FieldValue → Entries FieldValue
 without_conditions fields = fold (λ left name. remove left name) fields condition_names
@@ -50,6 +52,11 @@ pub record Asks (before : Entries FieldValue) (stored : Fields) (asking : Entrie
   pub since : AsksSince before stored between
   pub unlike : AsksUnlike between stored asking
 
+-- with no stored response there is nothing to ask for
+abbrev pub AsksFor : Option Meta → Entries FieldValue → Entries FieldValue → Type 0
+AsksFor None before asking = asking ≡ before
+AsksFor (Some meta) before asking = Asks before meta.header.fields asking
+
 -- what a refusal leaves: neither field, or the first alone
 abbrev pub AsksInPart : Entries FieldValue → Fields → Entries FieldValue → Type 0
 AsksInPart fields stored asking = (asking ≡ fields) ⊎ AsksSince fields stored asking
@@ -58,3 +65,8 @@ AsksInPart fields stored asking = (asking ≡ fields) ⊎ AsksSince fields store
 pub record HasNoValidator (stored : Fields) : Type 0 where
   pub date : first_in stored (codes "last-modified") ≡ None
   pub tag : first_in stored (codes "etag") ≡ None
+
+-- without a stored response nothing is refused
+abbrev pub AsksInPartFor : Option Meta → Entries FieldValue → Entries FieldValue → Type 0
+AsksInPartFor None before asking = ⊥
+AsksInPartFor (Some meta) before asking = AsksInPart before meta.header.fields asking

@@ -7,7 +7,7 @@ ghost use Rattle.indexmap.specs.IndexMap.{insert_all, insert_entry};
 ghost use Rattle.pcache_control.specs.declared.scan.Span.{Span};
 ghost use Rattle.pcache_control.specs.Directives.{AreDirectives, LiesWithin};
 ghost use Rattle.pcache_control.specs.Names.{IsNamed, is_known, is_known_name, name_of};
-ghost use Rattle.pcache_control.specs.Maps.{entries_of, directives_at, AreNamed, AreRead, AreReadOnce, lines_of, value_of};
+ghost use Rattle.pcache_control.specs.Maps.{Adds, directives_at, AreNamed, AreRead, AreReadOnce, lines_of, value_of};
 ghost use Rattle.pcache_base.specs.declared.error.ErrorType.TheVariants.{OutOfMemory};
 
 pub use crate::interpret::InterpretCacheControl;
@@ -28,7 +28,8 @@ pub type DirectiveMap = IndexMap<DirectiveKey, Option<DirectiveValue>>;
 
 // The key of the name that these bytes are in any case, where they are text.
 fn key_of(alloc: Global, name: &[u8]) -> Result<Option<DirectiveKey>>
-    ensures ok { IfOk result (λ key. MatchOption key (is_utf8 name.now ≡ false) (λ k. IsNamed (str_to_ascii_lowercase name.now) k)) }
+    ensures ok { IfOk result (λ key.
+        MatchOption key (is_utf8 name.now ≡ false) (IsNamed (str_to_ascii_lowercase name.now))) }
     ensures text { IfOk result (λ key. IfSome key (λ _. is_utf8 name.now ≡ true)) }
     ensures kind { IfErr result (λ e. e ≡ OutOfMemory) }
 {
@@ -63,7 +64,8 @@ fn add(
     value: Option<DirectiveValue>,
 ) -> Result<()>
     requires { is_known key ≡ is_known_name (name_of key) }
-    ensures added { OnOk result (AreNamed directives.old.entries → entries_of directives.new.entries ≡ insert_entry bytes_eq (entries_of directives.old.entries) (name_of key) (value_of value)) }
+    ensures added { OnOk result (AreNamed directives.old.entries →
+        Adds directives.old.entries ((name_of key, value_of value) ∷ []) directives.new.entries) }
     ensures named { OnOk result (AreNamed directives.old.entries → AreNamed directives.new.entries) }
     ensures kind { IfErr result (λ e. e ≡ OutOfMemory) }
 {
@@ -79,7 +81,8 @@ fn add_directive(
     span: Span,
 ) -> Result<()>
     requires { LiesWithin (length line.now) span }
-    ensures added { OnOk result (AreNamed directives.old.entries → entries_of directives.new.entries ≡ insert_all bytes_eq (entries_of directives.old.entries) (directives_at line.now (span ∷ []))) }
+    ensures added { OnOk result (AreNamed directives.old.entries →
+        Adds directives.old.entries (directives_at line.now (span ∷ [])) directives.new.entries) }
     ensures named { OnOk result (AreNamed directives.old.entries → AreNamed directives.new.entries) }
     ensures kind { IfErr result (λ e. e ≡ OutOfMemory) }
 {
@@ -92,7 +95,9 @@ fn add_directive(
 
 // The directives of a line are added, from left to right.
 fn add_line(alloc: Global, directives: &mut DirectiveMap, line: &[u8]) -> Result<()>
-    ensures added { OnOk result (AreNamed directives.old.entries → (spans : List Span) → AreDirectives line.now spans → entries_of directives.new.entries ≡ insert_all bytes_eq (entries_of directives.old.entries) (directives_at line.now spans)) }
+    ensures added { OnOk result (AreNamed directives.old.entries →
+        (spans : List Span) → AreDirectives line.now spans →
+        Adds directives.old.entries (directives_at line.now spans) directives.new.entries) }
     ensures there { OnOk result ((spans : List Span) × AreDirectives line.now spans) }
     ensures named { OnOk result (AreNamed directives.old.entries → AreNamed directives.new.entries) }
     ensures kind { IfErr result (λ e. e ≡ OutOfMemory) }
@@ -142,11 +147,10 @@ impl CacheControl {
     ghost use Rattle.http_header.specs.Token.{lowercase};
     ghost use Rattle.pcache_control.specs.declared.key.DirectiveKey.TheVariants.{MaxAge, SMaxAge, NoCache, NoStore, Private, Public, MustRevalidate, ProxyRevalidate, OnlyIfCached, StaleWhileRevalidate, StaleIfError};
     ghost use Rattle.pcache_control.specs.declared.key.DirectiveKey.{DirectiveKey};
-    ghost use Rattle.pcache_control.specs.Control.{ReadsField, given, has, is_bare, value_in, names_in, seconds_in};
+    ghost use Rattle.pcache_control.specs.Control.{ReadsField, ReadsOneMap, given, given_to, has, is_bare, value_in, names_in, seconds_in};
     ghost use Rattle.pcache_control.specs.Maps.{lines_of, value_of, AreReadOnce};
     ghost use Rattle.pcache_control.specs.Names.{IsNamed};
     ghost use Rattle.pcache_control.specs.Seconds.{Reads};
-    ghost use Rattle.std.specs.Map.{lookup};
 
     /// Numbers of seconds may have a fraction from now on, which is cut off (own).
     pub fn with_float_seconds(mut self) -> CacheControl
@@ -164,7 +168,7 @@ impl CacheControl {
         headers: &HeaderMap,
     ) -> Result<Option<CacheControl>>
         ensures read { IfOk result (ReadsField headers.now (lowercase header_name.now)) }
-        ensures only { IfOk result (λ found. IfSome found (λ cc. AreReadOnce (lines_of (get_all headers.now (lowercase header_name.now))) cc.directives.entries)) }
+        ensures only { IfOk result (ReadsOneMap headers.now (lowercase header_name.now)) }
         ensures kind { IfErr result (λ e. e ≡ OutOfMemory) }
     {
         if !headers.contains_key(header_name) {
@@ -183,7 +187,7 @@ impl CacheControl {
         req_header: &ReqHeader,
     ) -> Result<Option<CacheControl>>
         ensures read { IfOk result (ReadsField req_header.now.headers (lowercase header_name.now)) }
-        ensures only { IfOk result (λ found. IfSome found (λ cc. AreReadOnce (lines_of (get_all req_header.now.headers (lowercase header_name.now))) cc.directives.entries)) }
+        ensures only { IfOk result (ReadsOneMap req_header.now.headers (lowercase header_name.now)) }
         ensures kind { IfErr result (λ e. e ≡ OutOfMemory) }
     {
         CacheControl::from_headers_named(alloc, header_name, &req_header.headers)
@@ -192,7 +196,7 @@ impl CacheControl {
     /// The directives of a request's Cache-Control.
     pub fn from_req_headers(alloc: Global, req_header: &ReqHeader) -> Result<Option<CacheControl>>
         ensures read { IfOk result (ReadsField req_header.now.headers (codes "cache-control")) }
-        ensures only { IfOk result (λ found. IfSome found (λ cc. AreReadOnce (lines_of (get_all req_header.now.headers (codes "cache-control"))) cc.directives.entries)) }
+        ensures only { IfOk result (ReadsOneMap req_header.now.headers (codes "cache-control")) }
         ensures kind { IfErr result (λ e. e ≡ OutOfMemory) }
     {
         CacheControl::from_req_headers_named(alloc, "cache-control", req_header)
@@ -205,7 +209,7 @@ impl CacheControl {
         resp_header: &RespHeader,
     ) -> Result<Option<CacheControl>>
         ensures read { IfOk result (ReadsField resp_header.now.headers (lowercase header_name.now)) }
-        ensures only { IfOk result (λ found. IfSome found (λ cc. AreReadOnce (lines_of (get_all resp_header.now.headers (lowercase header_name.now))) cc.directives.entries)) }
+        ensures only { IfOk result (ReadsOneMap resp_header.now.headers (lowercase header_name.now)) }
         ensures kind { IfErr result (λ e. e ≡ OutOfMemory) }
     {
         CacheControl::from_headers_named(alloc, header_name, &resp_header.headers)
@@ -217,7 +221,7 @@ impl CacheControl {
         resp_header: &RespHeader,
     ) -> Result<Option<CacheControl>>
         ensures read { IfOk result (ReadsField resp_header.now.headers (codes "cache-control")) }
-        ensures only { IfOk result (λ found. IfSome found (λ cc. AreReadOnce (lines_of (get_all resp_header.now.headers (codes "cache-control"))) cc.directives.entries)) }
+        ensures only { IfOk result (ReadsOneMap resp_header.now.headers (codes "cache-control")) }
         ensures kind { IfErr result (λ e. e ≡ OutOfMemory) }
     {
         CacheControl::from_resp_headers_named(alloc, "cache-control", resp_header)
@@ -244,7 +248,8 @@ impl CacheControl {
 
     // Whether a directive is there under a name of its own.
     fn has_unknown(&self, name: &str) -> bool
-        ensures { (named : DirectiveKey) → is_known named ≡ false → name_of named ≡ name.now → result ≡ has self.now named }
+        ensures { (named : DirectiveKey) → is_known named ≡ false → name_of named ≡ name.now →
+            result ≡ has self.now named }
     {
         'names: for (key, _) in &self.directives {
             if key.is_unknown(name) {
@@ -257,8 +262,9 @@ impl CacheControl {
     /// Whether the directive is there.
     pub fn has_directive(&self, key: &DirectiveKey) -> bool
         ensures there { result ≡ has self.now key.now }
-        // In a map that was read, the names alone say which directive is meant, here and in every other answer.
-        ensures by_name { AreNamed self.now.directives.entries → IsNamed (name_of key.now) key.now → given self.now key.now ≡ lookup (bytes_eq (name_of key.now)) (entries_of self.now.directives.entries) }
+        // In a map that was read the name alone says which directive is meant, in every answer.
+        ensures by_name { AreNamed self.now.directives.entries → IsNamed (name_of key.now) key.now →
+            given self.now key.now ≡ given_to self.now (name_of key.now) }
     {
         self.find(key).is_some()
     }
@@ -272,7 +278,8 @@ impl CacheControl {
 
     // The value of the directive.
     fn value(&self, key: &DirectiveKey) -> Option<&DirectiveValue>
-        ensures { option_map (λ (v : DirectiveValue). v.0.items) (option_copied result) ≡ value_in (given self.now key.now) }
+        ensures { option_map (λ (v : DirectiveValue). v.0.items) (option_copied result)
+            ≡ value_in (given self.now key.now) }
     {
         self.find(key)?.as_ref()
     }

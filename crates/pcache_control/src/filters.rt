@@ -26,7 +26,8 @@ use std::time::Duration;
 
 /// Whether a request's response may come from the cache: its method is GET or HEAD.
 pub fn request_cacheable(req_header: &ReqHeader) -> bool
-    ensures { IsTrue result ↔ ((req_header.now.method ≡ codes "GET") ⊎ (req_header.now.method ≡ codes "HEAD")) }
+    ensures { IsTrue result
+        ↔ ((req_header.now.method ≡ codes "GET") ⊎ (req_header.now.method ≡ codes "HEAD")) }
 {
     req_header.method == Method::GET || req_header.method == Method::HEAD
 }
@@ -109,7 +110,9 @@ pub fn calculate_fresh_until(
     authorization_present: bool,
     defaults: &CacheMetaDefaults,
 ) -> Option<Moment>
-    ensures { FreshUntil now (option_copied cache_control.entry) resp_header.now.headers authorization_present (FreshDurationByStatusFn.post defaults.now.fresh_sec_fn (asked_status resp_header.now.status)) result }
+    ensures { FreshUntil now (option_copied cache_control.entry) resp_header.now.headers authorization_present
+        (FreshDurationByStatusFn.post defaults.now.fresh_sec_fn (asked_status resp_header.now.status))
+        result }
 {
     if forbids(cache_control, authorization_present) {
         return None;
@@ -137,7 +140,10 @@ pub fn calculate_serve_stale_durations<C: InterpretCacheControl>(
     cache_control: Option<&C>,
     defaults: &CacheMetaDefaults,
 ) -> (u32, u32)
-    ensures { result ≡ windows (option_and_then C.stale_while_revalidating (option_copied cache_control.entry)) (option_and_then C.stale_after_error (option_copied cache_control.entry)) (defaults.now.stale_while_revalidate_sec, defaults.now.stale_if_error_sec) }
+    ensures { result ≡ windows
+        (option_and_then C.stale_while_revalidating (option_copied cache_control.entry))
+        (option_and_then C.stale_after_error (option_copied cache_control.entry))
+        (defaults.now.stale_while_revalidate_sec, defaults.now.stale_if_error_sec) }
 {
     let (while_revalidating, after_error) = match cache_control {
         Some(cc) => (
@@ -164,7 +170,11 @@ pub fn resp_cacheable(
     defaults: &CacheMetaDefaults,
     now: Moment,
 ) -> RespCacheable
-    ensures { IsOutcome now (option_copied cache_control.entry) (defaults.now.stale_while_revalidate_sec, defaults.now.stale_if_error_sec) resp_header authorization_present (FreshDurationByStatusFn.post defaults.now.fresh_sec_fn (asked_status resp_header.status)) result }
+    ensures { IsOutcome now (option_copied cache_control.entry)
+        (defaults.now.stale_while_revalidate_sec, defaults.now.stale_if_error_sec)
+        resp_header authorization_present
+        (FreshDurationByStatusFn.post defaults.now.fresh_sec_fn (asked_status resp_header.status))
+        result }
 {
     let fresh_until = calculate_fresh_until(
         now,

@@ -9,7 +9,7 @@ use std::alloc::Global;
 use std::fmt;
 
 /// The name of a directive. The fourteen that are read have variants of their own.
-#[derive(Debug, Drop, PartialEq, Eq, Hash)]
+#[derive(Clone, Debug, Drop, PartialEq, Eq, Hash)]
 pub enum DirectiveKey {
     /// `max-age` (RFC 9111 section 5.2.2.1).
     MaxAge,

@@ -22,7 +22,8 @@ const LIMIT: u64 = 4294967296;
 
 // The number that the digits write, if they are digits; no more than the limit.
 fn digits(bytes: &[u8]) -> Option<u64>
-    ensures { result ≡ (if all_digits bytes.now then Some (min (digits_value 10 bytes.now) 4294967296) else None) }
+    ensures { result ≡
+        (if all_digits bytes.now then Some (min (digits_value 10 bytes.now) 4294967296) else None) }
 {
     let mut value: u64 = 0;
     'digits: for b in bytes {

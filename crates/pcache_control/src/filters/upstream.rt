@@ -4,7 +4,7 @@ ghost use Rattle.std.specs.Prelude.{◌≡◌, ◌⊎◌, IsOk, IfErr, IfSome, M
 ghost use Rattle.std.specs.Option.{option_copied};
 ghost use Rattle.http_header.specs.HeaderMap.{get, IsFullOfNames};
 ghost use Rattle.pcache_base.specs.declared.error.ErrorType.TheVariants.{InternalError, OutOfMemory};
-ghost use Rattle.pcache_control.specs.Requests.{sent_method, without_conditions, with_field, first_in, HasNoValidator, AsksSince, AsksUnlike, Asks, AsksInPart};
+ghost use Rattle.pcache_control.specs.Requests.{sent_method, without_conditions, with_field, first_in, HasNoValidator, AsksSince, AsksUnlike, Asks, AsksInPart, AsksFor, AsksInPartFor};
 
 use http::Method;
 use http_header::{
@@ -105,11 +105,14 @@ fn ask(headers: &mut HeaderMap, meta: &CacheMeta) -> Result<()>
 pub fn request_filter(req: &mut RequestHeader, meta: Option<&CacheMeta>) -> Result<()>
     ensures method { req.new.method ≡ sent_method req.old.method }
     ensures target { req.new.target ≡ req.old.target }
-    ensures asks { OnOk result (MatchOption (option_copied meta.entry) (req.new.headers ≡ without_conditions req.old.headers) (λ m. Asks (without_conditions req.old.headers) m.header.fields req.new.headers)) }
-    ensures refused { OnErr result (IfSome (option_copied meta.entry) (λ m. AsksInPart (without_conditions req.old.headers) m.header.fields req.new.headers)) }
+    ensures asks { OnOk result
+        (AsksFor (option_copied meta.entry) (without_conditions req.old.headers) req.new.headers) }
+    ensures refused { OnErr result
+        (AsksInPartFor (option_copied meta.entry) (without_conditions req.old.headers) req.new.headers) }
     ensures kind { IfErr result (λ e. (e ≡ OutOfMemory) ⊎ (e ≡ InternalError)) }
     ensures full { IfErr result (λ e. e ≡ InternalError → IsFullOfNames req.new.headers) }
-    ensures nothing { MatchOption (option_copied meta.entry) (IsOk result) (λ m. HasNoValidator m.header.fields → IsOk result) }
+    ensures nothing { MatchOption (option_copied meta.entry) (IsOk result)
+        (λ m. HasNoValidator m.header.fields → IsOk result) }
 {
     if req.method == Method::HEAD {
         req.method = Method::GET;
