@@ -1,0 +1,10 @@
+pub mod Starts
+pub mod Only
+pub mod Digits
+pub mod Lists
+pub mod Keys
+pub mod Text
+pub mod Lines
+pub mod AllLines
+pub mod Found
+pub mod Stored

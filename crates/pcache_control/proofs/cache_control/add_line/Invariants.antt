@@ -1,0 +1,14 @@
+use Rattle.std.proofs.Common.{◌≡◌, ◌++◌, List, bytes_eq}
+use Rattle.indexmap.specs.IndexMap.{insert_all}
+use Rattle.pcache_control.specs.declared.scan.Span.{Span}
+use Rattle.pcache_control.specs.Directives.{AreDirectivesFrom}
+use Rattle.pcache_control.specs.Maps.{entries_of, directives_at, AreNamed}
+use Rattle.pcache_control.proofs.cache_control.add_line.Given as goal
+
+abbrev pub invariant-spans : goal.invariant-spans
+invariant-spans l = record {
+  line : l.span-iterator.0 ≡ l.line;
+  held : (rest : List Span) → AreDirectivesFrom l.line l.span-iterator.1 rest → AreDirectivesFrom l.line 0 (l.yielded ++ rest);
+  added : AreNamed l.fn.directives.entries → entries_of l.directives.entries ≡ insert_all bytes_eq (entries_of l.fn.directives.entries) (directives_at l.line l.yielded);
+  named : AreNamed l.fn.directives.entries → AreNamed l.directives.entries;
+}

@@ -1,0 +1,6 @@
+use Rattle.std.proofs.Common.{◌≡◌, Some}
+use Rattle.pcache_control.specs.Control.{without_fields}
+use Rattle.pcache_control.proofs.interpret.remove_fields.Given as goal
+
+abbrev pub invariant-names : goal.invariant-names
+invariant-names l = without_fields l.headers (Some l.name-iterator) ≡ without_fields l.fn.headers (Some l.fn.names)

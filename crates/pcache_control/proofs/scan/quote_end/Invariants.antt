@@ -1,0 +1,6 @@
+use Rattle.std.proofs.Common.{◌≡◌, false, drop}
+use Rattle.pcache_control.specs.Directives.{quote_end}
+use Rattle.pcache_control.proofs.scan.quote_end.Given as goal
+
+abbrev pub invariant-bytes : goal.invariant-bytes
+invariant-bytes l = quote_end l.escaped l.i (drop l.i l.line) ≡ quote_end false l.at (drop l.at l.line)

@@ -1,0 +1,99 @@
+-- Which parts of a line are directives.
+use Rattle.std.specs.Prelude.{◌≡◌, ℕ, ◌+◌, ◌<◌, ◌≤◌, ◌⊎◌, Bool, true, false, List, [], ◌∷◌, length, drop, slice_index, Option, Some, None, IfSome, ◌==◌, if◌then◌else◌}
+use Rattle.pcache_control.specs.Bytes.{is_token_byte, is_delimiter, is_white_space}
+use Rattle.pcache_control.specs.declared.scan.Span.{Span}
+
+-- a token byte stands at i
+pub record IsTokenAt (line : List ℕ) (i : ℕ) : Type 0 where
+  pub within : i < length line
+  pub token : is_token_byte (slice_index line i) ≡ true
+
+-- from i to j all are token bytes, and no further one follows
+pub record IsLongestRun (line : List ℕ) (i j : ℕ) : Type 0 where
+  pub order : i ≤ j
+  pub within : j ≤ length line
+  pub run : (k : ℕ) → i ≤ k → k < j → is_token_byte (slice_index line k) ≡ true
+  pub longest : ¬ (IsTokenAt line j)
+
+-- the delimiter at d leads to a start at s: white space alone stands between them
+pub record Leads (line : List ℕ) (d s : ℕ) : Type 0 where
+  pub order : d < s
+  pub delimiter : is_delimiter (slice_index line d) ≡ true
+  pub between : (k : ℕ) → d < k → k < s → is_white_space (slice_index line k) ≡ true
+  pub start : IsTokenAt line s
+
+-- from i to j all is white space, and no further byte of it follows
+pub record IsWhiteSpaceRun (line : List ℕ) (i j : ℕ) : Type 0 where
+  pub order : i ≤ j
+  pub within : j ≤ length line
+  pub run : (k : ℕ) → i ≤ k → k < j → is_white_space (slice_index line k) ≡ true
+  pub longest : j < length line → is_white_space (slice_index line j) ≡ false
+
+-- the first start to which a delimiter from `from` on leads
+pub record IsFirstStart (line : List ℕ) (from s : ℕ) : Type 0 where
+  pub delimiter : ℕ
+  pub behind : from ≤ delimiter
+  pub leads : Leads line delimiter s
+  pub first : (d t : ℕ) → from ≤ d → Leads line d t → s ≤ t
+
+-- a start is admitted behind a place, the end of the directive before: a delimiter from there on
+-- leads to it; the line's first byte needs no delimiter
+abbrev pub IsAdmitted : List ℕ → ℕ → ℕ → Type 0
+IsAdmitted line from s = ((s ≡ 0) × IsTokenAt line 0) ⊎ ((d : ℕ) × (from ≤ d) × Leads line d s)
+
+-- the place behind the quote that closes a quoted text, from place `at` on; a backslash takes the
+-- next byte along, which is no line feed
+abbrev pub quote_end : Bool → ℕ → List ℕ → Option ℕ
+quote_end escaped at [] = None
+quote_end true at (b ∷ bytes) = if b == 0x0A then None else quote_end false (at + 1) bytes
+quote_end false at (b ∷ bytes) =
+    if b == 0x22 then Some (at + 1)
+    else quote_end (b == 0x5C) (at + 1) bytes
+
+-- the text from v.0 to v.1 is a value: a nonempty longest run of token bytes, or a quoted text
+abbrev pub IsText : List ℕ → ℕ × ℕ → Type 0
+IsText line v = ((v.0 < v.1) × IsLongestRun line v.0 v.1)
+    ⊎ ((v.0 < length line) × (slice_index line v.0 ≡ 0x22) × (quote_end false (v.0 + 1) (drop (v.0 + 1) line) ≡ Some v.1))
+
+-- the value v follows directly: an equals sign, and then the value
+pub record HasValue (line : List ℕ) (name_end : ℕ) (v : ℕ × ℕ) : Type 0 where
+  pub within : name_end < length line
+  pub equals : slice_index line name_end ≡ 0x3D
+  pub start : v.0 ≡ name_end + 1
+  pub text : IsText line v
+
+-- the value, or that there is none; and the end of the directive
+abbrev pub EndsWith : List ℕ → ℕ → Option (ℕ × ℕ) → ℕ → Type 0
+EndsWith line name_end None end = (end ≡ name_end) × ((v : ℕ × ℕ) → ¬ (HasValue line name_end v))
+EndsWith line name_end (Some v) end = (end ≡ v.1) × HasValue line name_end v
+
+-- a directive: a name, and what follows it
+pub record IsDirective (line : List ℕ) (p : Span) : Type 0 where
+  pub name : IsLongestRun line p.start p.name_end
+  pub value : EndsWith line p.name_end p.value p.end
+
+-- the first start that is admitted behind a place
+pub record IsNextStart (line : List ℕ) (from s : ℕ) : Type 0 where
+  pub behind : from ≤ s
+  pub admitted : IsAdmitted line from s
+  pub none_before : (t : ℕ) → from ≤ t → t < s → ¬ (IsAdmitted line from t)
+
+-- the directive's name and value are parts of a line of this length
+pub record LiesWithin (len : ℕ) (p : Span) : Type 0 where
+  pub name : p.start ≤ p.name_end
+  pub name_end : p.name_end ≤ len
+  pub value : IfSome p.value (λ v. (v.0 ≤ v.1) × (v.1 ≤ len))
+
+-- the directives from a place on, the end of the one before
+abbrev pub AreDirectivesFrom : List ℕ → ℕ → List Span → Type 0
+AreDirectivesFrom line from [] = (s : ℕ) → from ≤ s → ¬ (IsAdmitted line from s)
+AreDirectivesFrom line from (p ∷ ps) = IsNextStart line from p.start × IsDirective line p × AreDirectivesFrom line p.end ps
+
+-- the directives of a line
+abbrev pub AreDirectives : List ℕ → List Span → Type 0
+AreDirectives line spans = AreDirectivesFrom line 0 spans
+
+-- what one call of the scanner finds, from a line and the place from which to look
+abbrev pub FindsNext : List ℕ × ℕ → Option Span → List ℕ × ℕ → Type 0
+FindsNext d None later = (later ≡ d) × ((s : ℕ) → d.1 ≤ s → ¬ (IsAdmitted d.0 d.1 s))
+FindsNext d (Some p) later = (later ≡ (d.0, p.end)) × IsNextStart d.0 d.1 p.start × IsDirective d.0 p × LiesWithin (length d.0) p

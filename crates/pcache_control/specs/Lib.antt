@@ -1,0 +1,11 @@
+pub mod Bytes
+pub mod Control
+pub mod Defaults
+pub mod Directives
+pub mod Filters
+pub mod Maps
+pub mod Names
+pub mod Requests
+pub mod Responses
+pub mod Seconds
+pub mod Values

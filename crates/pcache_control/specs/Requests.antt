@@ -1,0 +1,72 @@
+-- How a request goes to the origin, so that its answer can be stored.
+use Rattle.std.specs.Prelude.{◌≡◌, ℕ, ◌⊎◌, List, [], ◌∷◌, Option, Some, None, bytes_eq, codes, fold, slice_get, if◌then◌else◌}
+use Rattle.std.specs.Option.{option_map}
+use Rattle.http_header.specs.FieldValue.{FieldValue}
+use Rattle.http_header.specs.HeaderMap.{Entries, insert, remove}
+use Rattle.pcache_base.specs.Header.{Fields}
+use Rattle.pcache_base.specs.Meta.{Meta}
+
+-- an answer to HEAD has no body to store
+abbrev pub sent_method : List ℕ → List ℕ
+sent_method method = if bytes_eq method (codes "HEAD") then codes "GET" else method
+
+-- preconditions (RFC 9110 section 13.1) and ranges (section 14.2): the cache asks for the whole response
+abbrev pub condition_names : List (List ℕ)
+condition_names =
+    codes "if-match" ∷ codes "if-none-match" ∷ codes "if-modified-since" ∷ codes "if-unmodified-since" ∷ codes "if-range" ∷ codes "range" ∷ []
+
+unfoldable pub without_conditions : Entries FieldValue → Entries FieldValue
+without_conditions fields = fold (λ left name. remove left name) fields condition_names
+
+-- the values under a name, of a stored response
+abbrev pub values_in : Fields → List ℕ → List (List ℕ)
+values_in [] name = []
+values_in (e ∷ fields) name = if bytes_eq e.0 name then e.1 else values_in fields name
+
+abbrev pub first_in : Fields → List ℕ → Option (List ℕ)
+first_in fields name = slice_get (values_in fields name) 0
+
+abbrev pub bytes_of : Option FieldValue → Option (List ℕ)
+bytes_of value = option_map (λ (v : FieldValue). v.bytes) value
+
+-- the fields with this value under a name, in place of those that it had
+abbrev pub with_field : Entries FieldValue → List ℕ → Option FieldValue → Entries FieldValue
+with_field fields name None = fields
+with_field fields name (Some value) = insert fields name value
+
+-- the field that asks for the response if it changed since the stored one was last modified (RFC 9110 section 13.1.3)
+pub record AsksSince (before : Entries FieldValue) (stored : Fields) (asking : Entries FieldValue) : Type 0 where
+  pub since : Option FieldValue
+  pub is : bytes_of since ≡ first_in stored (codes "last-modified")
+  pub fields : asking ≡ with_field before (codes "if-modified-since") since
+
+-- and the one that asks for it if it no longer has the stored entity tag (RFC 9110 section 13.1.2)
+pub record AsksUnlike (before : Entries FieldValue) (stored : Fields) (asking : Entries FieldValue) : Type 0 where
+  pub tag : Option FieldValue
+  pub is : bytes_of tag ≡ first_in stored (codes "etag")
+  pub fields : asking ≡ with_field before (codes "if-none-match") tag
+
+-- both, in this order
+pub record Asks (before : Entries FieldValue) (stored : Fields) (asking : Entries FieldValue) : Type 0 where
+  pub between : Entries FieldValue
+  pub since : AsksSince before stored between
+  pub unlike : AsksUnlike between stored asking
+
+-- with no stored response there is nothing to ask for
+abbrev pub AsksFor : Option Meta → Entries FieldValue → Entries FieldValue → Type 0
+AsksFor None before asking = asking ≡ before
+AsksFor (Some meta) before asking = Asks before meta.header.fields asking
+
+-- what a refusal leaves: neither field, or the first alone
+abbrev pub AsksInPart : Entries FieldValue → Fields → Entries FieldValue → Type 0
+AsksInPart fields stored asking = (asking ≡ fields) ⊎ AsksSince fields stored asking
+
+-- the stored response has neither a Last-Modified nor an ETag
+pub record HasNoValidator (stored : Fields) : Type 0 where
+  pub date : first_in stored (codes "last-modified") ≡ None
+  pub tag : first_in stored (codes "etag") ≡ None
+
+-- without a stored response nothing is refused
+abbrev pub AsksInPartFor : Option Meta → Entries FieldValue → Entries FieldValue → Type 0
+AsksInPartFor None before asking = ⊥
+AsksInPartFor (Some meta) before asking = AsksInPart before meta.header.fields asking

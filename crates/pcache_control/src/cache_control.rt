@@ -1,0 +1,401 @@
+//! The Cache-Control header field (RFC 9111 section 5.2).
+
+ghost use Rattle.std.specs.Prelude.{◌≡◌, ◌≤◌, List, [], ◌∷◌, length, slice_range, OnOk, IfOk, IfErr, IfSome, MatchOption, true, false, bytes_eq};
+ghost use Rattle.std.specs.Option.{option_map};
+ghost use Rattle.std.specs.Str.{is_utf8, str_to_ascii_lowercase};
+ghost use Rattle.indexmap.specs.IndexMap.{insert_all, insert_entry};
+ghost use Rattle.pcache_control.specs.declared.scan.Span.{Span};
+ghost use Rattle.pcache_control.specs.Directives.{AreDirectives, LiesWithin};
+ghost use Rattle.pcache_control.specs.Names.{IsNamed, is_known, is_known_name, name_of};
+ghost use Rattle.pcache_control.specs.Maps.{Adds, directives_at, AreNamed, AreRead, AreReadOnce, lines_of, value_of};
+ghost use Rattle.pcache_base.specs.declared.error.ErrorType.TheVariants.{OutOfMemory};
+
+pub use crate::interpret::InterpretCacheControl;
+pub use crate::key::DirectiveKey;
+use crate::key::known_key;
+use crate::scan::{Directives, Span};
+pub use crate::seconds::{DELTA_SECONDS_OVERFLOW_VALUE, delta_seconds_overflow_duration};
+pub use crate::value::{DirectiveValue, ListValueIter};
+use http_header::{GetAll, HeaderMap, HeaderValue};
+use indexmap::IndexMap;
+use pcache_base::error::Result;
+use pcache_base::header::{ReqHeader, RespHeader};
+use std::alloc::Global;
+
+/// Directives by name, in the order of their first places, with their last values. A directive
+/// without a value has `None`.
+pub type DirectiveMap = IndexMap<DirectiveKey, Option<DirectiveValue>>;
+
+// The key of the name that these bytes are in any case, where they are text.
+fn key_of(alloc: Global, name: &[u8]) -> Result<Option<DirectiveKey>>
+    ensures ok { IfOk result (λ key.
+        MatchOption key (is_utf8 name.now ≡ false) (IsNamed (str_to_ascii_lowercase name.now))) }
+    ensures text { IfOk result (λ key. IfSome key (λ _. is_utf8 name.now ≡ true)) }
+    ensures kind { IfErr result (λ e. e ≡ OutOfMemory) }
+{
+    let Ok(text) = str::from_utf8(name) else {
+        return Ok(None);
+    };
+    let mut lowered = String::from_str(alloc, text)?;
+    lowered.make_ascii_lowercase();
+    Ok(Some(DirectiveKey::from_lowercase_owned(lowered)))
+}
+
+// A copy of the value at a place of the line.
+fn value_at(
+    alloc: Global,
+    line: &[u8],
+    place: Option<(usize, usize)>,
+) -> Result<Option<DirectiveValue>>
+    requires { IfSome place (λ v. (v.0 ≤ v.1) × (v.1 ≤ length line.now)) }
+    ensures ok { IfOk result (λ value. value_of value ≡ option_map (λ v. slice_range line.now v.0 v.1) place) }
+    ensures kind { IfErr result (λ e. e ≡ OutOfMemory) }
+{
+    match place {
+        Some((start, end)) => Ok(Some(DirectiveValue(Vec::from_slice(alloc, &line[start..end])?))),
+        None => Ok(None),
+    }
+}
+
+// A repeated name keeps its first place and takes its last value.
+fn add(
+    directives: &mut DirectiveMap,
+    key: DirectiveKey,
+    value: Option<DirectiveValue>,
+) -> Result<()>
+    requires { is_known key ≡ is_known_name (name_of key) }
+    ensures added { OnOk result (AreNamed directives.old.entries →
+        Adds directives.old.entries ((name_of key, value_of value) ∷ []) directives.new.entries) }
+    ensures named { OnOk result (AreNamed directives.old.entries → AreNamed directives.new.entries) }
+    ensures kind { IfErr result (λ e. e ≡ OutOfMemory) }
+{
+    directives.insert(key, value)?;
+    Ok(())
+}
+
+// A directive whose name is not text is passed over.
+fn add_directive(
+    alloc: Global,
+    directives: &mut DirectiveMap,
+    line: &[u8],
+    span: Span,
+) -> Result<()>
+    requires { LiesWithin (length line.now) span }
+    ensures added { OnOk result (AreNamed directives.old.entries →
+        Adds directives.old.entries (directives_at line.now (span ∷ [])) directives.new.entries) }
+    ensures named { OnOk result (AreNamed directives.old.entries → AreNamed directives.new.entries) }
+    ensures kind { IfErr result (λ e. e ≡ OutOfMemory) }
+{
+    let Some(key) = key_of(alloc, &line[span.start..span.name_end])? else {
+        return Ok(());
+    };
+    let value = value_at(alloc, line, span.value)?;
+    add(directives, key, value)
+}
+
+// The directives of a line are added, from left to right.
+fn add_line(alloc: Global, directives: &mut DirectiveMap, line: &[u8]) -> Result<()>
+    ensures added { OnOk result (AreNamed directives.old.entries →
+        (spans : List Span) → AreDirectives line.now spans →
+        Adds directives.old.entries (directives_at line.now spans) directives.new.entries) }
+    ensures there { OnOk result ((spans : List Span) × AreDirectives line.now spans) }
+    ensures named { OnOk result (AreNamed directives.old.entries → AreNamed directives.new.entries) }
+    ensures kind { IfErr result (λ e. e ≡ OutOfMemory) }
+{
+    'spans: for span in Directives::new(line) {
+        add_directive(alloc, directives, line, span)?;
+    }
+    Ok(())
+}
+
+/// The Cache-Control directives of a request or a response.
+#[derive(Debug, Drop)]
+pub struct CacheControl {
+    /// The directives by name.
+    pub directives: DirectiveMap,
+    /// Numbers of seconds may have a fraction, which is cut off (own).
+    pub allow_float_seconds: bool,
+}
+
+// The directives of a field's lines, in the lines' order.
+fn from_lines(alloc: Global, lines: GetAll<'_, HeaderValue>) -> Result<DirectiveMap>
+    ensures read { IfOk result (λ directives. AreRead (lines_of lines.entry) directives.entries) }
+    ensures only { IfOk result (λ directives. AreReadOnce (lines_of lines.entry) directives.entries) }
+    ensures kind { IfErr result (λ e. e ≡ OutOfMemory) }
+{
+    let mut directives = IndexMap::new(alloc);
+    'lines: for line in lines {
+        add_line(alloc, &mut directives, line.as_bytes())?;
+    }
+    Ok(directives)
+}
+
+/// Whether a response may be stored, as far as its directives say.
+#[derive(Clone, Copy, Debug, PartialEq, Eq)]
+pub enum Cacheable {
+    /// A directive allows it.
+    Yes,
+    /// A directive forbids it.
+    No,
+    /// No directive says.
+    Default,
+}
+
+impl CacheControl {
+    ghost use Rattle.std.specs.Prelude.{◌≡◌, ◌↔◌, IsTrue, IfOk, IfErr, IfSome, true, codes, option_copied};
+    ghost use Rattle.http_header.specs.HeaderMap.{get_all};
+    ghost use Rattle.http_header.specs.Token.{lowercase};
+    ghost use Rattle.pcache_control.specs.declared.key.DirectiveKey.TheVariants.{MaxAge, SMaxAge, NoCache, NoStore, Private, Public, MustRevalidate, ProxyRevalidate, OnlyIfCached, StaleWhileRevalidate, StaleIfError};
+    ghost use Rattle.pcache_control.specs.declared.key.DirectiveKey.{DirectiveKey};
+    ghost use Rattle.pcache_control.specs.Control.{ReadsField, ReadsOneMap, given, given_to, has, is_bare, value_in, names_in, seconds_in};
+    ghost use Rattle.pcache_control.specs.Maps.{lines_of, value_of, AreReadOnce};
+    ghost use Rattle.pcache_control.specs.Names.{IsNamed};
+    ghost use Rattle.pcache_control.specs.Seconds.{Reads};
+
+    /// Numbers of seconds may have a fraction from now on, which is cut off (own).
+    pub fn with_float_seconds(mut self) -> CacheControl
+        ensures { result ≡ record self { allow_float_seconds = true } }
+    {
+        self.allow_float_seconds = true;
+        self
+    }
+
+    /// The directives of all fields of this name, in any case; `None` where there is none. It is
+    /// refused for want of memory alone.
+    pub fn from_headers_named(
+        alloc: Global,
+        header_name: &str,
+        headers: &HeaderMap,
+    ) -> Result<Option<CacheControl>>
+        ensures read { IfOk result (ReadsField headers.now (lowercase header_name.now)) }
+        ensures only { IfOk result (ReadsOneMap headers.now (lowercase header_name.now)) }
+        ensures kind { IfErr result (λ e. e ≡ OutOfMemory) }
+    {
+        if !headers.contains_key(header_name) {
+            return Ok(None);
+        }
+        Ok(Some(CacheControl {
+            directives: from_lines(alloc, headers.get_all(header_name))?,
+            allow_float_seconds: false,
+        }))
+    }
+
+    /// The directives of a request's fields of this name.
+    pub fn from_req_headers_named(
+        alloc: Global,
+        header_name: &str,
+        req_header: &ReqHeader,
+    ) -> Result<Option<CacheControl>>
+        ensures read { IfOk result (ReadsField req_header.now.headers (lowercase header_name.now)) }
+        ensures only { IfOk result (ReadsOneMap req_header.now.headers (lowercase header_name.now)) }
+        ensures kind { IfErr result (λ e. e ≡ OutOfMemory) }
+    {
+        CacheControl::from_headers_named(alloc, header_name, &req_header.headers)
+    }
+
+    /// The directives of a request's Cache-Control.
+    pub fn from_req_headers(alloc: Global, req_header: &ReqHeader) -> Result<Option<CacheControl>>
+        ensures read { IfOk result (ReadsField req_header.now.headers (codes "cache-control")) }
+        ensures only { IfOk result (ReadsOneMap req_header.now.headers (codes "cache-control")) }
+        ensures kind { IfErr result (λ e. e ≡ OutOfMemory) }
+    {
+        CacheControl::from_req_headers_named(alloc, "cache-control", req_header)
+    }
+
+    /// The directives of a response's fields of this name.
+    pub fn from_resp_headers_named(
+        alloc: Global,
+        header_name: &str,
+        resp_header: &RespHeader,
+    ) -> Result<Option<CacheControl>>
+        ensures read { IfOk result (ReadsField resp_header.now.headers (lowercase header_name.now)) }
+        ensures only { IfOk result (ReadsOneMap resp_header.now.headers (lowercase header_name.now)) }
+        ensures kind { IfErr result (λ e. e ≡ OutOfMemory) }
+    {
+        CacheControl::from_headers_named(alloc, header_name, &resp_header.headers)
+    }
+
+    /// The directives of a response's Cache-Control.
+    pub fn from_resp_headers(
+        alloc: Global,
+        resp_header: &RespHeader,
+    ) -> Result<Option<CacheControl>>
+        ensures read { IfOk result (ReadsField resp_header.now.headers (codes "cache-control")) }
+        ensures only { IfOk result (ReadsOneMap resp_header.now.headers (codes "cache-control")) }
+        ensures kind { IfErr result (λ e. e ≡ OutOfMemory) }
+    {
+        CacheControl::from_resp_headers_named(alloc, "cache-control", resp_header)
+    }
+
+    // The value under a key, `None` where there is no such directive.
+    fn find(&self, key: &DirectiveKey) -> Option<&Option<DirectiveValue>>
+        ensures { option_map value_of (option_copied result) ≡ given self.now key.now }
+    {
+        self.directives.get(key)
+    }
+
+    /// Whether a directive of this name is there. The name is taken as it is written: those of the
+    /// map are in lower case. A name that is none of the fourteen is looked for from the first
+    /// directive on.
+    pub fn has_key(&self, key: &str) -> bool
+        ensures { (named : DirectiveKey) → IsNamed key.now named → result ≡ has self.now named }
+    {
+        match known_key(key) {
+            Some(known) => self.has_directive(&known),
+            None => self.has_unknown(key),
+        }
+    }
+
+    // Whether a directive is there under a name of its own.
+    fn has_unknown(&self, name: &str) -> bool
+        ensures { (named : DirectiveKey) → is_known named ≡ false → name_of named ≡ name.now →
+            result ≡ has self.now named }
+    {
+        'names: for (key, _) in &self.directives {
+            if key.is_unknown(name) {
+                return true;
+            }
+        }
+        false
+    }
+
+    /// Whether the directive is there.
+    pub fn has_directive(&self, key: &DirectiveKey) -> bool
+        ensures there { result ≡ has self.now key.now }
+        // In a map that was read the name alone says which directive is meant, in every answer.
+        ensures by_name { AreNamed self.now.directives.entries → IsNamed (name_of key.now) key.now →
+            given self.now key.now ≡ given_to self.now (name_of key.now) }
+    {
+        self.find(key).is_some()
+    }
+
+    // Whether the directive is there without a value.
+    fn has_key_without_value(&self, key: &DirectiveKey) -> bool
+        ensures { result ≡ is_bare (given self.now key.now) }
+    {
+        matches!(self.find(key), Some(None))
+    }
+
+    // The value of the directive.
+    fn value(&self, key: &DirectiveKey) -> Option<&DirectiveValue>
+        ensures { option_map (λ (v : DirectiveValue). v.0.items) (option_copied result)
+            ≡ value_in (given self.now key.now) }
+    {
+        self.find(key)?.as_ref()
+    }
+
+    /// Whether `public` is there.
+    pub fn public(&self) -> bool
+        ensures { result ≡ has self.now Public }
+    {
+        self.has_directive(&DirectiveKey::Public)
+    }
+
+    /// Whether `private` is there without field names, so for the whole response.
+    pub fn private(&self) -> bool
+        ensures { result ≡ is_bare (given self.now Private) }
+    {
+        self.has_key_without_value(&DirectiveKey::Private)
+    }
+
+    /// Whether `no-cache` is there without field names, so for the whole response.
+    pub fn no_cache(&self) -> bool
+        ensures { result ≡ is_bare (given self.now NoCache) }
+    {
+        self.has_key_without_value(&DirectiveKey::NoCache)
+    }
+
+    /// Whether `no-store` is there.
+    pub fn no_store(&self) -> bool
+        ensures { result ≡ has self.now NoStore }
+    {
+        self.has_directive(&DirectiveKey::NoStore)
+    }
+
+    /// Whether `must-revalidate` is there.
+    pub fn must_revalidate(&self) -> bool
+        ensures { result ≡ has self.now MustRevalidate }
+    {
+        self.has_directive(&DirectiveKey::MustRevalidate)
+    }
+
+    /// Whether `proxy-revalidate` is there.
+    pub fn proxy_revalidate(&self) -> bool
+        ensures { result ≡ has self.now ProxyRevalidate }
+    {
+        self.has_directive(&DirectiveKey::ProxyRevalidate)
+    }
+
+    /// Whether `only-if-cached` is there.
+    pub fn only_if_cached(&self) -> bool
+        ensures { result ≡ has self.now OnlyIfCached }
+    {
+        self.has_directive(&DirectiveKey::OnlyIfCached)
+    }
+
+    // The field names that the directive lists.
+    fn field_names(&self, key: &DirectiveKey) -> Option<ListValueIter<'_>>
+        ensures { result ≡ names_in (given self.now key.now) }
+    {
+        match self.value(key) {
+            Some(value) => Some(ListValueIter::from(value)),
+            None => None,
+        }
+    }
+
+    /// The field names that `private` lists (RFC 9111 section 5.2.2.7); `None` where it has no value.
+    pub fn private_field_names(&self) -> Option<ListValueIter<'_>>
+        ensures { result ≡ names_in (given self.now Private) }
+    {
+        self.field_names(&DirectiveKey::Private)
+    }
+
+    /// The field names that `no-cache` lists (RFC 9111 section 5.2.2.4); `None` where it has no value.
+    pub fn no_cache_field_names(&self) -> Option<ListValueIter<'_>>
+        ensures { result ≡ names_in (given self.now NoCache) }
+    {
+        self.field_names(&DirectiveKey::NoCache)
+    }
+
+    // The number of seconds that the directive says.
+    fn seconds(&self, key: &DirectiveKey) -> Result<Option<u32>>
+        ensures { Reads (seconds_in self.now key.now) result }
+    {
+        match self.value(key) {
+            Some(value) if self.allow_float_seconds => Ok(Some(
+                value.parse_as_delta_seconds_floor()?,
+            )),
+            Some(value) => Ok(Some(value.parse_as_delta_seconds()?)),
+            None => Ok(None),
+        }
+    }
+
+    /// The seconds of `max-age`; `None` where it is absent or has no value. What is no number of
+    /// seconds is refused as `InternalError`.
+    pub fn max_age(&self) -> Result<Option<u32>>
+        ensures { Reads (seconds_in self.now MaxAge) result }
+    {
+        self.seconds(&DirectiveKey::MaxAge)
+    }
+
+    /// The seconds of `s-maxage`, as `max_age` answers them.
+    pub fn s_maxage(&self) -> Result<Option<u32>>
+        ensures { Reads (seconds_in self.now SMaxAge) result }
+    {
+        self.seconds(&DirectiveKey::SMaxAge)
+    }
+
+    /// The seconds of `stale-while-revalidate`, as `max_age` answers them.
+    pub fn stale_while_revalidate(&self) -> Result<Option<u32>>
+        ensures { Reads (seconds_in self.now StaleWhileRevalidate) result }
+    {
+        self.seconds(&DirectiveKey::StaleWhileRevalidate)
+    }
+
+    /// The seconds of `stale-if-error`, as `max_age` answers them.
+    pub fn stale_if_error(&self) -> Result<Option<u32>>
+        ensures { Reads (seconds_in self.now StaleIfError) result }
+    {
+        self.seconds(&DirectiveKey::StaleIfError)
+    }
+}
