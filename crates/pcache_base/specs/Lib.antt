@@ -6,4 +6,7 @@ pub mod Key
 pub mod Meta
 pub mod Moments
 pub mod MomentParts
+pub mod Reading
 pub mod Reasons
+pub mod Spelling
+pub mod Writing

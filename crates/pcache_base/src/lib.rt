@@ -7,6 +7,7 @@
 //! - `text`: owned text that contracts see as its bytes
 //! - `key`: cache keys and their hashes; `blake2b`: the hash behind them
 //! - `reason`: why a response is not cached
+//! - `msgpack`: the few forms of MessagePack in which metas and files are written
 
 pub mod blake2b;
 pub mod error;
@@ -14,6 +15,7 @@ pub mod header;
 pub mod key;
 pub mod meta;
 pub mod moment;
+pub mod msgpack;
 pub mod poll;
 pub mod reason;
 pub mod text;

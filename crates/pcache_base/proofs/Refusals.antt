@@ -1,0 +1,15 @@
+-- Refusals of readers, from one reading to another.
+use Rattle.std.proofs.Common.{◌≡◌, Option, Some, None, refl}
+use Rattle.pcache_base.specs.declared.error.ErrorType.{ErrorType}
+use Rattle.pcache_base.specs.declared.error.ErrorType.TheVariants.{OutOfMemory, InternalError}
+use Rattle.pcache_base.specs.Reading.{Fails, FailsOrWants}
+
+-- the second reads nothing where the first does
+pub Fails-along : {Y Z : Type 0} (e : ErrorType) (a : Option Y) (b : Option Z) → Fails e a → (a ≡ None → b ≡ None) → Fails e b
+Fails-along InternalError a b h go = go h
+Fails-along _ a b h go = h
+
+pub FailsOrWants-along : {Y Z : Type 0} (e : ErrorType) (a : Option Y) (b : Option Z) → FailsOrWants e a → (a ≡ None → b ≡ None) → FailsOrWants e b
+FailsOrWants-along InternalError a b h go = go h
+FailsOrWants-along OutOfMemory a b h go = tt
+FailsOrWants-along _ a b h go = h
