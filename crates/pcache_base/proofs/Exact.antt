@@ -16,7 +16,7 @@ IsBytes bytes = (i : ℕ) → get_or bytes i 0 < 256
 pub IsBytes-rest : (b : ℕ) (bytes : List ℕ) → IsBytes (b ∷ bytes) → IsBytes bytes
 IsBytes-rest b bytes h i = h (suc i)
 
-IsBytes-behind : (x y : List ℕ) → IsBytes (x ++ y) → IsBytes y
+pub IsBytes-behind : (x y : List ℕ) → IsBytes (x ++ y) → IsBytes y
 IsBytes-behind x y h i = rw (get_or-append-add x y i 0) at (h (length x + i))
 
 IsBytes-take : (n : ℕ) (bytes : List ℕ) → IsBytes bytes → IsBytes (take n bytes)

@@ -4,4 +4,5 @@ pub mod Exact
 pub mod HashLoop
 pub mod HashVectors
 pub mod Refusals
+pub mod Spelled
 pub mod TextExact

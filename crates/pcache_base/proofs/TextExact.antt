@@ -9,7 +9,7 @@ use Rattle.std.proofs.lemmas.Str.{IsUtf8-from_is_utf8, is_utf8-from_IsUtf8}
 use Rattle.pcache_base.specs.Spelling.{TextForm, text_limit, text_head, TextThen}
 use Rattle.pcache_base.specs.Spelling as spell
 use Rattle.pcache_base.specs.Reading.{bytes_at, text_head_at, utf8_of, text_at}
-use Rattle.pcache_base.proofs.Exact.{IsBytes, after, after_rest, when_some, chosen, wide_takes, wide_again, wide8, wide16, wide32, marked, IsBytes-rest, same_parts}
+use Rattle.pcache_base.proofs.Exact.{IsBytes, after, after_rest, when_some, chosen, wide_takes, wide_again, wide8, wide16, wide32, marked, IsBytes-rest, IsBytes-behind, same_parts}
 
 not_true : (b : Bool) → (b ≡ true → ⊥) → b ≡ false
 not_true true never = absurd (never refl)
@@ -102,3 +102,8 @@ unfolding text_at
 text_again bytes t rest there =
     ap text_at there.text
     ∙ rw (head_again there.form (length t) (t ++ rest) there.fits, bytes_again t rest, utf8_of-some t t refl there.utf8) refl
+
+-- the bytes behind a text are bytes
+pub text_behind : (bytes t rest : List ℕ) → IsBytes bytes → TextThen bytes t rest → IsBytes rest
+text_behind bytes t rest fits there =
+    IsBytes-behind t rest (IsBytes-behind (text_head there.form (length t)) (t ++ rest) (rw (← there.text) fits))
