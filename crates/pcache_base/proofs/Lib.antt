@@ -4,5 +4,6 @@ pub mod Exact
 pub mod HashLoop
 pub mod HashVectors
 pub mod Refusals
+pub mod Shortest
 pub mod Spelled
 pub mod TextExact
