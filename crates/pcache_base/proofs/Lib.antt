@@ -1,3 +1,4 @@
+pub mod MetaExact
 pub mod Order
 pub mod Absorbing
 pub mod Exact

@@ -2,8 +2,13 @@ pub mod Blake2b
 pub mod CompactKey
 pub mod Hashing
 pub mod Header
+pub mod Internal
+pub mod InternalParts
 pub mod Key
 pub mod Meta
+pub mod MetaReading
+pub mod MetaSpelling
+pub mod MetaWriting
 pub mod Moments
 pub mod MomentParts
 pub mod Reading
