@@ -1,4 +1,5 @@
 pub mod MetaExact
+pub mod MetaSpelled
 pub mod Order
 pub mod Absorbing
 pub mod Exact
