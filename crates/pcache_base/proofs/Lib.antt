@@ -5,6 +5,9 @@ pub mod Absorbing
 pub mod Exact
 pub mod HashLoop
 pub mod HashVectors
+pub mod HeaderLines
+pub mod HeaderMaps
+pub mod HeaderNames
 pub mod Refusals
 pub mod Shortest
 pub mod Spelled

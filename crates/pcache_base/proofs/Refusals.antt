@@ -13,3 +13,7 @@ pub FailsOrWants-along : {Y Z : Type 0} (e : ErrorType) (a : Option Y) (b : Opti
 FailsOrWants-along InternalError a b h go = go h
 FailsOrWants-along OutOfMemory a b h go = tt
 FailsOrWants-along _ a b h go = h
+
+pub FailsOrWants-from_fails : {Y Z : Type 0} (e : ErrorType) (a : Option Y) (b : Option Z) → Fails e a → (a ≡ None → b ≡ None) → FailsOrWants e b
+FailsOrWants-from_fails InternalError a b h go = go h
+FailsOrWants-from_fails _ a b h go = absurd h

@@ -2,6 +2,8 @@ pub mod Blake2b
 pub mod CompactKey
 pub mod Hashing
 pub mod Header
+pub mod HeaderReading
+pub mod HeaderText
 pub mod Internal
 pub mod InternalParts
 pub mod Key

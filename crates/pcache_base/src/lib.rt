@@ -12,6 +12,7 @@
 pub mod blake2b;
 pub mod error;
 pub mod header;
+pub mod header_text;
 pub mod key;
 pub mod meta;
 pub mod moment;
