@@ -5,10 +5,14 @@ pub mod Absorbing
 pub mod Exact
 pub mod HashLoop
 pub mod HashVectors
+pub mod HeaderExact
 pub mod HeaderLines
 pub mod HeaderMaps
 pub mod HeaderNames
+pub mod HeaderResults
+pub mod HeaderSpelled
 pub mod Refusals
+pub mod RoundTrip
 pub mod Shortest
 pub mod Spelled
 pub mod TextExact

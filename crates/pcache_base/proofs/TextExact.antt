@@ -23,7 +23,7 @@ pub utf8_of-none : (bytes : List ℕ) → (IsUtf8 bytes → ⊥) → utf8_of byt
 unfolding utf8_of
 utf8_of-none bytes never = rw (not_true (is_utf8 bytes) (λ e. never (IsUtf8-from_is_utf8 bytes e))) refl
 
-bytes_takes : (n : ℕ) (bytes t rest : List ℕ) → bytes_at n bytes ≡ Some (t, rest) → (bytes ≡ t ++ rest) × (length t ≡ n)
+pub bytes_takes : (n : ℕ) (bytes t rest : List ℕ) → bytes_at n bytes ≡ Some (t, rest) → (bytes ≡ t ++ rest) × (length t ≡ n)
 unfolding bytes_at
 bytes_takes n bytes t rest e = elim (chosen (ltb (length bytes) n) _ _ _ e) [
   | inl p ↦ absurd (cc p.1)

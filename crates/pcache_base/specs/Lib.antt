@@ -8,6 +8,7 @@ pub mod Internal
 pub mod InternalParts
 pub mod Key
 pub mod Meta
+pub mod MetaBytes
 pub mod MetaReading
 pub mod MetaSpelling
 pub mod MetaWriting

@@ -1,5 +1,5 @@
 //! Reading the text of a head.
-ghost use Rattle.std.specs.Prelude.{◌≡◌, [], OnErr, IfOk, IfErr, ◌⊎◌};
+ghost use Rattle.std.specs.Prelude.{◌≡◌, [], IfOk, IfErr, IsErrOf, ◌⊎◌};
 ghost use Rattle.pcache_base.specs.Header.{Header, shown, shown_fields};
 ghost use Rattle.pcache_base.specs.HeaderReading.{append_at, field_at, fields_at, header_at, line_from, name_at, name_from, status_at, status_line_at, value_at, version_at};
 ghost use Rattle.pcache_base.specs.HeaderText.{SpellsHeader};
@@ -189,4 +189,14 @@ fn read_header(alloc: Global, bytes: &[u8]) -> Result<ResponseHeader>
         status,
         headers,
     })
+}
+
+/// The head that all of the bytes are the text of.
+pub fn header_deserialize(alloc: Global, bytes: &[u8]) -> Result<ResponseHeader>
+    ensures found { IfOk result (λ h. SpellsHeader bytes.now (shown h)) }
+    ensures same { (h : Header) → SpellsHeader bytes.now h → IfOk result (λ found. shown found ≡ h) }
+    ensures refused { IsErrOf result InternalError → (h : Header) → ¬ (SpellsHeader bytes.now h) }
+    ensures kinds { IfErr result (λ e. (e ≡ OutOfMemory) ⊎ (e ≡ InternalError)) }
+{
+    read_header(alloc, bytes)
 }

@@ -1,6 +1,9 @@
-//! Metas as bytes: what they say beside their header, in MessagePack.
-ghost use Rattle.std.specs.Prelude.{◌≡◌, ◌≤◌, ◌<◌, ◌++◌, [], length, OnOk, OnErr, IfOk, IfErr, IfSome};
-ghost use Rattle.pcache_base.specs.Internal.{Internal, upgraded};
+//! Metas as bytes: what they say beside their header, in MessagePack, and the text of their header.
+ghost use Rattle.std.specs.Prelude.{◌≡◌, ◌≤◌, ◌<◌, ◌++◌, [], length, OnOk, OnErr, IfOk, IfErr, IfSome, IsErrOf, ◌⊎◌};
+ghost use Rattle.pcache_base.specs.HeaderText.{header_written};
+ghost use Rattle.pcache_base.specs.Internal.{Internal, internal_of, upgraded};
+ghost use Rattle.pcache_base.specs.Meta.{Meta};
+ghost use Rattle.pcache_base.specs.MetaBytes.{SpellsMeta};
 ghost use Rattle.pcache_base.specs.MetaReading.{internal_at, item_at, moment_at, new_internal_at, old_internal_at, upgraded_at, versioned_at};
 ghost use Rattle.pcache_base.specs.MetaSpelling.{InternalThen, SpellsInternal};
 ghost use Rattle.pcache_base.specs.MetaWriting.{IsInternal, IsOldInternal, internal_written, last_written, moment_written, old_written, version0_written, version1_written};
@@ -10,7 +13,10 @@ ghost use Rattle.pcache_base.specs.Writing.{optional_written};
 ghost use Rattle.pcache_base.specs.declared.error.ErrorType.TheVariants.{InternalError, OutOfMemory};
 
 use crate::error::Result;
+use crate::header_text::reader::header_deserialize;
+use crate::header_text::writer::header_serialize;
 use crate::key::HashBinary;
+use crate::meta::CacheMeta;
 use crate::meta::internal_meta::{InternalMetaV0, InternalMetaV1, InternalMetaV2};
 use crate::moment::Moment;
 use crate::msgpack::reader::{Reader, unreadable};
@@ -324,5 +330,57 @@ impl InternalMetaV2 {
         ensures kind { IfErr result (λ e. e ≡ OutOfMemory) }
     {
         write_internal(alloc, self)
+    }
+}
+
+// ---- metas
+
+impl CacheMeta {
+    /// The meta as two byte strings: what it says beside its header, in version 2, and the text of
+    /// its header. Both read back as this meta. It is refused for want of memory alone.
+    pub fn serialize(&self, alloc: Global) -> Result<(Vec<u8>, Vec<u8>)>
+        ensures written_internal { IfOk result (λ p. p.0.items ≡ internal_written (internal_of self.now)) }
+        ensures written_header { IfOk result (λ p. p.1.items ≡ header_written self.now.header) }
+        ensures spelled { IfOk result (λ p. SpellsMeta p.0.items p.1.items self.now) }
+        ensures kind { IfErr result (λ e. e ≡ OutOfMemory) }
+    {
+        let internal = InternalMetaV2 {
+            version: InternalMetaV2::VERSION,
+            fresh_until: self.fresh_until,
+            created: self.created,
+            updated: self.updated,
+            stale_while_revalidate_sec: self.stale_while_revalidate_sec,
+            stale_if_error_sec: self.stale_if_error_sec,
+            variance: self.variance,
+            epoch_override: self.epoch_override,
+            provenance: self.provenance,
+        };
+        let internal = internal.serialize(alloc)?;
+        let header = header_serialize(alloc, &self.header)?;
+        Ok((internal, header))
+    }
+
+    /// The meta that two byte strings spell, in any version.
+    pub fn deserialize(alloc: Global, internal: &[u8], header: &[u8]) -> Result<CacheMeta>
+        ensures found { IfOk result (λ m. SpellsMeta internal.now header.now m) }
+        ensures same { (m : Meta) → SpellsMeta internal.now header.now m
+            → IfOk result (λ found. found ≡ m) }
+        ensures refused { IsErrOf result InternalError
+            → (m : Meta) → ¬ (SpellsMeta internal.now header.now m) }
+        ensures kinds { IfErr result (λ e. (e ≡ OutOfMemory) ⊎ (e ≡ InternalError)) }
+    {
+        let internal = deserialize_internal(internal)?;
+        let header = header_deserialize(alloc, header)?;
+        Ok(CacheMeta {
+            fresh_until: internal.fresh_until,
+            created: internal.created,
+            updated: internal.updated,
+            stale_while_revalidate_sec: internal.stale_while_revalidate_sec,
+            stale_if_error_sec: internal.stale_if_error_sec,
+            variance: internal.variance,
+            epoch_override: internal.epoch_override,
+            provenance: internal.provenance,
+            header,
+        })
     }
 }
