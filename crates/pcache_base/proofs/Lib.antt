@@ -1,4 +1,5 @@
 pub mod MetaExact
+pub mod MetaMade
 pub mod MetaSpelled
 pub mod Order
 pub mod Absorbing
