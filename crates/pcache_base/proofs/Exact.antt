@@ -346,4 +346,3 @@ mark_takes mark (b ∷ bytes) rest e =
 pub mark_again : (mark : ℕ) (rest : List ℕ) → mark_at mark (mark ∷ rest) ≡ Some rest
 unfolding mark_at
 mark_again mark rest = let same : eqb mark mark ≡ true = Prim.grind arith in rw same refl
-

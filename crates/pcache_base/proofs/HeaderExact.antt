@@ -283,7 +283,7 @@ status_line_takes text x e = after (bytes_at 9 text) _ x e (λ front rest cut go
     let second = status_at-takes rest n status in
     let same : ◌≡◌ {A = HttpVersion × ℕ} (v, n) x = same_Some (v, n) x end in
     let text_is : text ≡ version_text v ++ 0x20 ∷ code_digits n =
-      whole.0 ∙ rw (first, second.1) (append_assoc (version_text v) (0x20 ∷ []) (code_digits n)) in
+    whole.0 ∙ rw (first, second.1) (append_assoc (version_text v) (0x20 ∷ []) (code_digits n)) in
     rw (← same) (text_is, second.0))))
 
 cut_again : (v : HttpVersion) (n : ℕ) → bytes_at 9 (status_text v n) ≡ Some (version_text v ++ 0x20 ∷ [], code_digits n)
@@ -332,7 +332,7 @@ header_takes bytes h e = after (line_from [] bytes) _ h e (λ text rest line go.
     let there : SpellsHeader bytes (record { version = x.0; status = x.1; fields = fields }) = record {
       lines = made.lines;
       text =
-        joined bytes k text rest (status_text x.0 x.1) (fields_text made.lines) whole is first.0 made.text ∙ sym (text_parts x.0 x.1 made.lines);
+          joined bytes k text rest (status_text x.0 x.1) (fields_text made.lines) whole is first.0 made.text ∙ sym (text_parts x.0 x.1 made.lines);
       status = first.1;
       valid = made.valid;
       fields = made.made;

@@ -49,11 +49,11 @@ map-append_one (w ∷ vs) v = ap (λ (bs : List (List ℕ)). w.bytes ∷ bs) (ma
 pub shown-append : (m : Entries FieldValue) (name : List ℕ) (v : FieldValue) → shown_fields (append m name v) ≡ append (shown_fields m) name v.bytes
 shown-append [] name v = refl
 shown-append (e ∷ m) name v = elim (bytes_eq e.0 name)
-  as (λ t. shown_fields (cond t ((e.0, e.1 ++ v ∷ []) ∷ m) (e ∷ append m name v))
-      ≡ cond t ((e.0, map (λ (x : FieldValue). x.bytes) e.1 ++ v.bytes ∷ []) ∷ shown_fields m) (shown_entry e ∷ append (shown_fields m) name v.bytes)) [
-    | true ↦ ap (λ (bs : List (List ℕ)). (e.0, bs) ∷ shown_fields m) (map-append_one e.1 v)
-    | false ↦ ap (λ (n : Fields). shown_entry e ∷ n) (shown-append m name v)
-  ]
+    as (λ t. shown_fields (cond t ((e.0, e.1 ++ v ∷ []) ∷ m) (e ∷ append m name v))
+    ≡ cond t ((e.0, map (λ (x : FieldValue). x.bytes) e.1 ++ v.bytes ∷ []) ∷ shown_fields m) (shown_entry e ∷ append (shown_fields m) name v.bytes)) [
+      | true ↦ ap (λ (bs : List (List ℕ)). (e.0, bs) ∷ shown_fields m) (map-append_one e.1 v)
+      | false ↦ ap (λ (n : Fields). shown_entry e ∷ n) (shown-append m name v)
+    ]
 
 pub value_count-shown : (m : Entries FieldValue) → value_count (shown_fields m) ≡ value_count m
 value_count-shown [] = refl
@@ -117,6 +117,7 @@ append_at-none old name v refused = rw (no_room refused) refl where
   full_values : 2 ^ 64 ≤ value_count old + 1 → is_held (append (shown_fields old) name v.bytes) ≡ false
   full_values full =
       too_many_values (append (shown_fields old) name v.bytes) (omega (arith, full, value_count-append (shown_fields old) name v.bytes, value_count-shown old))
+
   no_room : RefusesAppend old name → is_held (append (shown_fields old) name v.bytes) ≡ false
   no_room (inl full) = full_values full
   no_room (inr (fresh, inr full)) = full_values full

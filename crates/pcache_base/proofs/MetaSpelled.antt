@@ -150,7 +150,7 @@ internal_then m is =
       variance = item_then (ltb 0 extra) HashThen r6 m.variance r7 first (optional_then hash_written HashThen IsHash hash_then m.variance r7 is.variance);
       later6 = r8;
       epoch_override =
-        item_then (ltb 1 extra) MomentThen r7 m.epoch_override r8 second (optional_then moment_written MomentThen IsMoment moment_then m.epoch_override r8 is.epoch_override);
+          item_then (ltb 1 extra) MomentThen r7 m.epoch_override r8 second (optional_then moment_written MomentThen IsMoment moment_then m.epoch_override r8 is.epoch_override);
       provenance = last;
     }))
 

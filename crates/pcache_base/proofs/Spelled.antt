@@ -90,4 +90,3 @@ pub optional_then : {A : Type 0} (written : A → List ℕ) (Then : List ℕ →
 unfolding optional_written
 optional_then written Then P each None rest is = refl
 optional_then written Then P each (Some x) rest is = each x rest is
-

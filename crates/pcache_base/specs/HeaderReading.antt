@@ -85,8 +85,8 @@ fields_from front m [] = None
 fields_from front m (a ∷ []) = None
 fields_from front m (a ∷ b ∷ bytes) =
     if a == 0x0D && b == 0x0A then (
-      if length front == 0 then (if length bytes == 0 then Some m else None)
-      else (field_at front >>= λ f. append_at m f >>= λ n. fields_from [] n bytes)
+    if length front == 0 then (if length bytes == 0 then Some m else None)
+    else (field_at front >>= λ f. append_at m f >>= λ n. fields_from [] n bytes)
     )
     else fields_from (front ++ a ∷ []) m (b ∷ bytes)
 

@@ -5,6 +5,7 @@
 //! - `moment`: points in time, handed in by the caller
 //! - `poll`: answers of calls that might have to wait
 //! - `text`: owned text that contracts see as its bytes
+//! - `header_text`: heads of responses as text
 //! - `key`: cache keys and their hashes; `blake2b`: the hash behind them
 //! - `reason`: why a response is not cached
 //! - `msgpack`: the few forms of MessagePack in which metas and files are written
@@ -22,3 +23,6 @@ pub mod reason;
 pub mod text;
 
 pub use error::{Error, ErrorType, Result};
+
+#[cfg(test)]
+mod tests;

@@ -1,0 +1,6 @@
+//! Values from outside: worked rows of the formats, and upstream's tests in our own words.
+
+mod header_text;
+mod internal_meta;
+mod meta_bytes;
+mod msgpack;
