@@ -129,14 +129,14 @@ impl From<InternalMetaV0> for InternalMetaV2 {
     ghost from_gives = { λ old new. new ≡ upgraded old };
 
     /// Updated when it was created.
-    fn from(old: InternalMetaV0) -> InternalMetaV2 {
+    fn from(v0: InternalMetaV0) -> InternalMetaV2 {
         InternalMetaV2 {
             version: InternalMetaV2::VERSION,
-            fresh_until: old.fresh_until,
-            created: old.created,
-            updated: old.created,
-            stale_while_revalidate_sec: old.stale_while_revalidate_sec,
-            stale_if_error_sec: old.stale_if_error_sec,
+            fresh_until: v0.fresh_until,
+            created: v0.created,
+            updated: v0.created,
+            stale_while_revalidate_sec: v0.stale_while_revalidate_sec,
+            stale_if_error_sec: v0.stale_if_error_sec,
             variance: None,
             epoch_override: None,
             provenance: None,
@@ -148,14 +148,14 @@ impl From<InternalMetaV1> for InternalMetaV2 {
     ghost from_gives = { λ old new. new ≡ upgraded old };
 
     /// Updated when it was created.
-    fn from(old: InternalMetaV1) -> InternalMetaV2 {
+    fn from(v1: InternalMetaV1) -> InternalMetaV2 {
         InternalMetaV2 {
             version: InternalMetaV2::VERSION,
-            fresh_until: old.fresh_until,
-            created: old.created,
-            updated: old.created,
-            stale_while_revalidate_sec: old.stale_while_revalidate_sec,
-            stale_if_error_sec: old.stale_if_error_sec,
+            fresh_until: v1.fresh_until,
+            created: v1.created,
+            updated: v1.created,
+            stale_while_revalidate_sec: v1.stale_while_revalidate_sec,
+            stale_if_error_sec: v1.stale_if_error_sec,
             variance: None,
             epoch_override: None,
             provenance: None,

@@ -54,10 +54,9 @@ impl<'a> Reader<'a> {
     fn bytes(&mut self, count: usize) -> Result<&'a [u8]>
         ensures { Gives (λ x. (x.now, self.new)) result (bytes_at count self.old) }
     {
-        if self.rest.len() < count {
+        let Some((front, rest)) = self.rest.split_at_checked(count) else {
             return Err(unreadable());
-        }
-        let (front, rest) = self.rest.split_at(count);
+        };
         self.rest = rest;
         Ok(front)
     }

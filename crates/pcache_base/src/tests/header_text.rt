@@ -10,10 +10,8 @@ use std::alloc::Global;
 use std::test::Fail;
 
 fn refused(alloc: Global, bytes: &[u8]) -> bool {
-    match header_deserialize(alloc, bytes) {
-        Ok(_) => false,
-        Err(e) => e.etype() == ErrorType::InternalError,
-    }
+    let refusal = header_deserialize(alloc, bytes).err();
+    refusal.map(|e| e.etype()) == Some(ErrorType::InternalError)
 }
 
 // Adds a field, and says whether it was taken.

@@ -24,10 +24,8 @@ fn meta(alloc: Global) -> CacheMeta {
 }
 
 fn refused(alloc: Global, internal: &[u8], header: &[u8]) -> bool {
-    match CacheMeta::deserialize(alloc, internal, header) {
-        Ok(_) => false,
-        Err(e) => e.etype() == ErrorType::InternalError,
-    }
+    let refusal = CacheMeta::deserialize(alloc, internal, header).err();
+    refusal.map(|e| e.etype()) == Some(ErrorType::InternalError)
 }
 
 #[test]
