@@ -257,7 +257,7 @@ fn utf8_of(bytes: &[u8]) -> Result<&str>
 }
 
 /// The refusal of bytes that spell no such value.
-pub fn unreadable() -> Error
+pub(crate) fn unreadable() -> Error
     ensures { result ≡ InternalError }
 {
     Error::new(ErrorType::InternalError)

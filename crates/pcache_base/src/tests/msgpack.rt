@@ -100,7 +100,7 @@ fn texts(rt: HostRuntime) -> Result<(), Fail> {
     put_text(&mut out, "aaaaaaaaaaaaaaaaaaaaaaaaaaaaaaaa")
         .ok()
         .ok_or("longer")?;
-    assert_eq!(rt; &out[..4], [0xa1, b'1', 0xd9, 32].as_slice());
+    assert!(rt; out.starts_with(&[0xa1, b'1', 0xd9, 32]));
     assert_eq!(rt; out.len(), 36);
     Ok(())
 }
