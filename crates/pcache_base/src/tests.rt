@@ -2,5 +2,9 @@
 
 mod header_text;
 mod internal_meta;
+mod key;
+mod meta;
 mod meta_bytes;
+mod moment;
 mod msgpack;
+mod small;

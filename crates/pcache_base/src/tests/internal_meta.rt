@@ -1,7 +1,7 @@
 //! What metas say beside their header: worked rows, and upstream's tests of the versions.
 
 use crate::error::ErrorType;
-use crate::meta::bytes::deserialize_internal;
+use crate::meta::codec::deserialize_internal;
 use crate::meta::internal_meta::{InternalMetaV0, InternalMetaV1, InternalMetaV2};
 use crate::moment::Moment;
 use std::test::Fail;

@@ -1,6 +1,6 @@
 use Rattle.std.proofs.Common.{arith}
 use Rattle.pcache_base.proofs.MetaExact.{read_found, read_same, read_refused, read_kind}
-use Rattle.pcache_base.proofs.meta.bytes.deserialize_internal.Goals as goal
+use Rattle.pcache_base.proofs.meta.codec.deserialize_internal.Goals as goal
 
 pub returns-clause-found : goal.returns-clause-found
 returns-clause-found c = read_found c.args.bytes.now c.read_internal.result (λ i. omega (arith, c.type_inv.bytes i)) c.read_internal.ensures
