@@ -5,18 +5,25 @@
 //! - `moment`: points in time, handed in by the caller
 //! - `poll`: answers of calls that might have to wait
 //! - `text`: owned text that contracts see as its bytes
+//! - `header_text`: heads of responses as text
 //! - `key`: cache keys and their hashes; `blake2b`: the hash behind them
 //! - `reason`: why a response is not cached; `fills`: fills that a request cannot use
+//! - `msgpack`: the few forms of MessagePack in which metas and files are written
 
 pub mod blake2b;
 pub mod error;
 pub mod fills;
 pub mod header;
+pub mod header_text;
 pub mod key;
 pub mod meta;
 pub mod moment;
+pub mod msgpack;
 pub mod poll;
 pub mod reason;
 pub mod text;
 
 pub use error::{Error, ErrorType, Result};
+
+#[cfg(test)]
+mod tests;

@@ -5,6 +5,9 @@ ghost use Rattle.pcache_base.specs.Header.{shown, shown_fields};
 ghost use Rattle.pcache_base.specs.Meta.{MayServeStale};
 ghost use Rattle.pcache_base.specs.declared.error.ErrorType.TheVariants.{OutOfMemory};
 
+pub mod codec;
+pub mod internal_meta;
+
 use crate::error::Result;
 use crate::header::ResponseHeader;
 use crate::key::HashBinary;
