@@ -1,3 +1,4 @@
 pub mod Order
 pub mod Absorbing
 pub mod HashVectors
+pub mod VarianceMaps

@@ -7,3 +7,4 @@ pub mod Meta
 pub mod Moments
 pub mod MomentParts
 pub mod Reasons
+pub mod Variance

@@ -17,5 +17,6 @@ pub mod moment;
 pub mod poll;
 pub mod reason;
 pub mod text;
+pub mod variance;
 
 pub use error::{Error, ErrorType, Result};
