@@ -17,6 +17,8 @@ pub mod moment;
 pub mod poll;
 pub mod reason;
 pub mod text;
+pub mod trace;
 pub mod variance;
+pub mod write_id;
 
 pub use error::{Error, ErrorType, Result};
