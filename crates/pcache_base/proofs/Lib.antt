@@ -2,3 +2,5 @@ pub mod Order
 pub mod Absorbing
 pub mod HashVectors
 pub mod VarianceMaps
+pub mod Totals
+pub mod Maps

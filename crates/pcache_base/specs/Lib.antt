@@ -1,5 +1,6 @@
 pub mod Blake2b
 pub mod CompactKey
+pub mod Fills
 pub mod Hashing
 pub mod Header
 pub mod Key
@@ -9,3 +10,4 @@ pub mod MomentParts
 pub mod Reasons
 pub mod Variance
 pub mod WriteId
+pub mod Totals
