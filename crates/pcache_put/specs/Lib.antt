@@ -1,0 +1,3 @@
+pub mod HeadEnd
+pub mod HeadPiece
+pub mod Tracked
