@@ -1,3 +1,5 @@
 pub mod FieldLemmas
 pub mod HeadLemmas
 pub mod Joins
+pub mod Lengths
+pub mod PartLemmas
