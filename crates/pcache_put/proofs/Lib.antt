@@ -3,3 +3,4 @@ pub mod HeadLemmas
 pub mod Joins
 pub mod Lengths
 pub mod PartLemmas
+pub mod Unique

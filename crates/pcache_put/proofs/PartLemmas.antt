@@ -9,6 +9,8 @@ use Rattle.pcache_put.specs.Head.{ReadsHeader}
 use Rattle.pcache_put.specs.HeadEnd.{EndsAt, IsUnfinished}
 use Rattle.pcache_put.specs.Response.{Response, IsResponse, IsUnreadable, HasSize, body_of, is_whole}
 use Rattle.pcache_put.specs.Parts.{Given, nothing, given, add_all, body_parts, left_behind, whole_parts}
+use Rattle.pcache_put.specs.Progress.{TakenIn}
+use Rattle.pcache_put.specs.declared.response_parse.Progress.TheVariants as progress
 use Rattle.pcache_put.specs.declared.response_parse.ParsePart.{ParsePart}
 use Rattle.pcache_put.specs.declared.response_parse.ParsePart.TheVariants as part
 use Rattle.pcache_put.specs.declared.head_end.Place.TheVariants.{Blank}
@@ -134,3 +136,15 @@ unreadable_there before piece head used ends is none = record {
   ends = ends;
   no_head = λ header reads. none header (subst (λ xs. ReadsHeader xs header) (take-append-add before piece used ∙ sym is) reads);
 }
+
+-- a body goes on
+pub body_joined : (left after : Option ℕ) (bytes piece : List ℕ) (g : Given) (new : List ParsePart) → TakenIn (progress.Body left) bytes g → after ≡ left_behind left (length piece) → new ≡ body_parts left piece
+    → TakenIn (progress.Body after) (bytes ++ piece) (add_all g new)
+body_joined left after bytes piece g new taken e f =
+    let r = taken.0 in
+    (
+      record r { behind = r.behind ++ piece },
+      response_more bytes piece r taken.1,
+      e ∙ ap (λ (l : Option ℕ). left_behind l (length piece)) taken.2 ∙ left_more r.size r.behind piece,
+      ap (add_all g) (f ∙ ap (λ (l : Option ℕ). body_parts l piece) taken.2) ∙ ap (λ (x : Given). add_all x (body_parts (left_behind r.size (length r.behind)) piece)) taken.3 ∙ body_more r.head r.size r.behind piece,
+    )

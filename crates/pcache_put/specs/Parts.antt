@@ -1,5 +1,5 @@
 -- The parts that a parser gives of a response.
-use Rattle.std.specs.Prelude.{◌≡◌, ℕ, ◌-◌, ◌⊎◌, Bool, true, false, ◌==◌, if◌then◌else◌, List, [], ◌∷◌, ◌++◌, length, fold, Option, Some, None}
+use Rattle.std.specs.Prelude.{◌≡◌, ℕ, ◌-◌, ◌⊎◌, Bool, true, false, ◌==◌, nat_lt, if◌then◌else◌, List, [], ◌∷◌, ◌++◌, length, fold, Option, Some, None}
 use Rattle.pcache_base.specs.declared.header.ResponseHeader.{ResponseHeader}
 use Rattle.pcache_put.specs.HeadEnd.{IsUnfinished}
 use Rattle.pcache_put.specs.Response.{Response, IsResponse, body_of, is_whole}
@@ -37,6 +37,11 @@ body_parts left bytes =
 abbrev pub left_behind : Option ℕ → ℕ → Option ℕ
 left_behind None count = None
 left_behind (Some n) count = Some (n - count)
+
+-- whether bytes of a body are missing of which so much is left
+abbrev pub is_missing : Option ℕ → Bool
+is_missing None = false
+is_missing (Some n) = nat_lt 0 n
 
 -- what is given in one piece, if the head ends in it
 abbrev pub whole_parts : Response → List ParsePart

@@ -1,10 +1,11 @@
 //! A response that comes in pieces.
-ghost use Rattle.std.specs.Prelude.{◌≡◌, ◌⊎◌, ℕ, ◌<◌, ◌^◌, List, [], ◌∷◌, ◌++◌, length, IsOk, IfOk, IfErr, OnOk, OnErr, Option};
+ghost use Rattle.std.specs.Prelude.{◌≡◌, ◌⊎◌, ℕ, ◌<◌, ◌^◌, List, [], ◌∷◌, ◌++◌, length, IsOk, IfOk, IfErr, OnOk, OnErr, Option, Ok, Err, IfNone, IfSome, None, Some};
 ghost use Rattle.pcache_put.specs.Head.{ReadsHeader};
 ghost use Rattle.pcache_put.specs.Response.{SpellsLength, HasSize, is_whole, IsUnreadable, IsComplete};
 ghost use Rattle.pcache_base.specs.declared.header.ResponseHeader.{ResponseHeader};
+ghost use Rattle.pcache_base.specs.declared.error.ErrorType.{ErrorType};
 ghost use Rattle.pcache_base.specs.declared.error.ErrorType.TheVariants.{OutOfMemory, InvalidHttpHeader, IncompleteHttpBody};
-ghost use Rattle.pcache_put.specs.Parts.{Given, nothing, add_all, left_behind, body_parts};
+ghost use Rattle.pcache_put.specs.Parts.{Given, nothing, add_all, left_behind, is_missing, body_parts};
 ghost use Rattle.pcache_put.specs.Progress.{TakenIn, GivesParts};
 
 use crate::head::read_header;
@@ -124,5 +125,147 @@ fn take_head(
             let left = give_body(alloc, size, &piece[used..], parts)?;
             Ok(Progress::Body(left))
         }
+    }
+}
+
+// Takes in a piece.
+fn take_in(
+    alloc: Global,
+    progress: Progress,
+    piece: &[u8],
+    parts: &mut Vec<ParsePart>,
+) -> Result<Progress>
+    requires { parts.old.items ≡ [] }
+    ensures joined { IfOk result (λ after. (bytes : List ℕ) (g : Given) → TakenIn progress bytes g
+        → TakenIn after (bytes ++ piece.now) (add_all g parts.new.items)) }
+    ensures gives { OnOk result (GivesParts progress piece.now parts.new.items) }
+    ensures finished { progress ≡ Progress.Finished → result ≡ Ok Progress.Finished }
+    ensures failed { (kind : ErrorType) → progress ≡ Progress.Failed kind → result ≡ Err kind }
+    ensures invalid { IfErr result (λ e. e ≡ InvalidHttpHeader → (bytes : List ℕ) (g : Given) → TakenIn progress bytes g
+        → IsUnreadable (bytes ++ piece.now)) }
+    ensures kind { IfErr result (λ e. (e ≡ OutOfMemory) ⊎ (e ≡ InvalidHttpHeader) ⊎ (progress ≡ Progress.Failed e)) }
+{
+    match progress {
+        Progress::Head(head) => take_head(alloc, head, piece, parts),
+        Progress::Body(left) => Ok(Progress::Body(give_body(alloc, left, piece, parts)?)),
+        Progress::Finished => Ok(Progress::Finished),
+        Progress::Failed(kind) => Err(Error::new(kind)),
+    }
+}
+
+// Whether bytes of a body are missing of which so much is left.
+fn is_missing(left: Option<usize>) -> bool
+    ensures { result ≡ is_missing left }
+{
+    matches!(left, Some(count) if count > 0)
+}
+
+// Why a response may not end where the parser stands.
+fn missing(progress: &Progress) -> Option<ErrorType>
+    ensures complete { IfNone result ((bytes : List ℕ) (g : Given) → TakenIn progress.now bytes g → IsComplete bytes) }
+    ensures early { IfSome result (λ e. e ≡ IncompleteHttpBody → (bytes : List ℕ) (g : Given) → TakenIn progress.now bytes g
+        → ¬ (IsComplete bytes)) }
+    ensures kind { IfSome result (λ e. (e ≡ IncompleteHttpBody) ⊎ (progress.now ≡ Progress.Failed e)) }
+    ensures finished { progress.now ≡ Progress.Finished → result ≡ None }
+    ensures failed { (kind : ErrorType) → progress.now ≡ Progress.Failed kind → result ≡ Some kind }
+{
+    match progress {
+        Progress::Head(_) => Some(INCOMPLETE_BODY),
+        Progress::Body(left) => {
+            if is_missing(*left) {
+                Some(INCOMPLETE_BODY)
+            } else {
+                None
+            }
+        }
+        Progress::Finished => None,
+        Progress::Failed(kind) => Some(*kind),
+    }
+}
+
+/// Reads a response whose bytes come in pieces of any size.
+///
+/// The head: empty lines before it are skipped; it ends with the first empty line behind its first line
+/// (lines end by LF or CR LF), and only then it is read, as RFC 9112 has it, with at most 256 fields. The
+/// body: none for status 204 or 304; as many bytes as the first Content-Length says, where that can be
+/// read, and further ones are ignored; else all bytes to the end. Only the bytes of a head that has not
+/// ended are kept.
+///
+/// After a refusal every later call is refused for the same kind.
+#[derive(Drop)]
+pub struct ResponseParse {
+    progress: Progress,
+    alloc: Global,
+}
+
+impl Model for ResponseParse {
+    ghost use Rattle.pcache_put.specs.declared.response_parse.Progress.{Progress};
+
+    ghost Value = { Progress };
+
+    ghost view = { λ p. p.progress };
+}
+
+impl ResponseParse {
+    /// No byte yet.
+    pub fn new(alloc: Global) -> ResponseParse
+        ensures start { TakenIn result [] nothing }
+        ensures empty { result ≡ Progress.Head [] }
+    {
+        ResponseParse {
+            progress: Progress::Head(HeadBytes::new(alloc)),
+            alloc,
+        }
+    }
+
+    /// Takes in the next piece, and answers the parts that it brings. What the parts of all pieces make up
+    /// together is what the bytes of all pieces say together, however they were cut.
+    ///
+    /// It is refused for want of memory, and where a head ended that can't be read.
+    pub fn inject_data(&mut self, piece: &[u8]) -> Result<Vec<ParsePart>>
+        ensures joined { IfOk result (λ parts. (bytes : List ℕ) (g : Given) → TakenIn self.old bytes g
+            → TakenIn self.new (bytes ++ piece.now) (add_all g parts.items)) }
+        ensures gives { IfOk result (λ parts. GivesParts self.old piece.now parts.items) }
+        ensures invalid { IfErr result (λ e. e ≡ InvalidHttpHeader → (bytes : List ℕ) (g : Given) → TakenIn self.old bytes g
+            → IsUnreadable (bytes ++ piece.now)) }
+        ensures kind { IfErr result (λ e. (e ≡ OutOfMemory) ⊎ (e ≡ InvalidHttpHeader) ⊎ (self.old ≡ Progress.Failed e)) }
+
+        // After the end pieces are ignored, and after a refusal they are refused for the same kind.
+        ensures finished { self.old ≡ Progress.Finished → OnOk result (self.new ≡ Progress.Finished) }
+        ensures failed { (kind : ErrorType) → self.old ≡ Progress.Failed kind → result ≡ Err kind }
+        ensures fails { IfErr result (λ e. self.new ≡ Progress.Failed e) }
+    {
+        let mut parts = Vec::new(self.alloc);
+        let progress = mem::replace(&mut self.progress, Progress::Finished);
+        match take_in(self.alloc, progress, piece, &mut parts) {
+            Ok(progress) => {
+                self.progress = progress;
+                Ok(parts)
+            }
+            Err(e) => {
+                self.progress = Progress::Failed(e.etype());
+                Err(e)
+            }
+        }
+    }
+
+    /// Says that no more pieces come. It is refused where the head has not ended, or where bytes of a body
+    /// with a length are missing. It takes no memory.
+    pub fn finish(&mut self) -> Result<()>
+        ensures complete { OnOk result ((bytes : List ℕ) (g : Given) → TakenIn self.old bytes g → IsComplete bytes) }
+        ensures early { IfErr result (λ e. e ≡ IncompleteHttpBody → (bytes : List ℕ) (g : Given) → TakenIn self.old bytes g
+            → ¬ (IsComplete bytes)) }
+        ensures kind { IfErr result (λ e. (e ≡ IncompleteHttpBody) ⊎ (self.old ≡ Progress.Failed e)) }
+        ensures finished { OnOk result (self.new ≡ Progress.Finished) }
+        ensures again { self.old ≡ Progress.Finished → IsOk result }
+        ensures failed { (kind : ErrorType) → self.old ≡ Progress.Failed kind → result ≡ Err kind }
+        ensures fails { IfErr result (λ e. self.new ≡ Progress.Failed e) }
+    {
+        let Some(kind) = missing(&self.progress) else {
+            self.progress = Progress::Finished;
+            return Ok(());
+        };
+        self.progress = Progress::Failed(kind);
+        Err(Error::new(kind))
     }
 }
