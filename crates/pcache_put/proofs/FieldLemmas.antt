@@ -39,11 +39,11 @@ count-append (e ∷ m) name v =
     let whole : value_count (e ∷ m) ≡ length e.1 + value_count m = sum_by-cons (λ (e : List ℕ × List FieldValue). length e.1) e m in
     elim (bytes_eq e.0 name) as (λ b. value_count (cond b ((e.0, e.1 ++ v ∷ []) ∷ m) (e ∷ append m name v)) ≡ value_count (e ∷ m) + 1) [
       | true ↦
-        let new : value_count ((e.0, e.1 ++ v ∷ []) ∷ m) ≡ length (e.1 ++ v ∷ []) + value_count m = sum_by-cons (λ (e : List ℕ × List FieldValue). length e.1) (e.0, e.1 ++ v ∷ []) m in
-        omega (arith, new, whole, length-append e.1 (v ∷ []))
+          let new : value_count ((e.0, e.1 ++ v ∷ []) ∷ m) ≡ length (e.1 ++ v ∷ []) + value_count m = sum_by-cons (λ (e : List ℕ × List FieldValue). length e.1) (e.0, e.1 ++ v ∷ []) m in
+          omega (arith, new, whole, length-append e.1 (v ∷ []))
       | false ↦
-        let new : value_count (e ∷ append m name v) ≡ length e.1 + value_count (append m name v) = sum_by-cons (λ (e : List ℕ × List FieldValue). length e.1) e (append m name v) in
-        omega (arith, new, whole, rest)
+          let new : value_count (e ∷ append m name v) ≡ length e.1 + value_count (append m name v) = sum_by-cons (λ (e : List ℕ × List FieldValue). length e.1) e (append m name v) in
+          omega (arith, new, whole, rest)
     ]
 
 -- no more names and values than items

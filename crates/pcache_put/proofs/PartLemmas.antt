@@ -141,8 +141,7 @@ unreadable_there before piece head used ends is none = record {
 pub body_joined : (left after : Option ℕ) (bytes piece : List ℕ) (g : Given) (new : List ParsePart) → TakenIn (progress.Body left) bytes g → after ≡ left_behind left (length piece) → new ≡ body_parts left piece
     → TakenIn (progress.Body after) (bytes ++ piece) (add_all g new)
 body_joined left after bytes piece g new taken e f =
-    let r = taken.0 in
-    (
+    let r = taken.0 in (
       record r { behind = r.behind ++ piece },
       response_more bytes piece r taken.1,
       e ∙ ap (λ (l : Option ℕ). left_behind l (length piece)) taken.2 ∙ left_more r.size r.behind piece,

@@ -11,6 +11,7 @@ use Rattle.pcache_put.specs.Response.{Response, IsResponse, IsUnreadable, IsComp
 use Rattle.pcache_put.specs.Parts.{Given, given, nothing, left_behind, is_missing}
 use Rattle.pcache_put.specs.Progress.{TakenIn}
 use Rattle.pcache_put.specs.declared.head_end.Place.TheVariants.{Blank}
+use Rattle.pcache_put.specs.declared.response_parse.Progress.{Progress}
 use Rattle.pcache_put.specs.declared.response_parse.Progress.TheVariants as progress
 use Rattle.pcache_put.proofs.HeadLemmas.{one_head}
 use Rattle.pcache_put.proofs.Joins.{EndsAt-unique, unfinished_has_no_end}
@@ -70,3 +71,33 @@ nothing_missing left bytes g none taken = (taken.0, taken.1, settled (may_end ta
 -- nor while the head has not ended
 pub unfinished_early : (bytes : List ℕ) → IsUnfinished bytes → IsComplete bytes → ⊥
 unfinished_early bytes unended complete = unfinished_has_no_end bytes complete.1.cut unended complete.1.ends
+
+one_head_or_body : (bytes : List ℕ) (r : Response) → IsUnfinished bytes → IsResponse bytes r → ⊥
+one_head_or_body bytes r unended h = unfinished_has_no_end bytes h.cut unended h.ends
+
+-- whoever took in the same bytes stands at the same place and gave the same
+pub one_outcome : (p q : Progress) (bytes : List ℕ) (g h : Given) → TakenIn p bytes g → TakenIn q bytes h → (p ≡ q) × (g ≡ h)
+one_outcome (progress.Head a) (progress.Head b) bytes g h x y = (ap (λ (k : List ℕ). progress.Head k) (x.0 ∙ sym y.0), x.2 ∙ sym y.2)
+one_outcome (progress.Head a) (progress.Body b) bytes g h x y = absurd (one_head_or_body bytes y.0 x.1 y.1)
+one_outcome (progress.Head a) progress.Finished bytes g h x y = absurd y
+one_outcome (progress.Head a) (progress.Failed e) bytes g h x y = absurd y
+one_outcome (progress.Body a) (progress.Head b) bytes g h x y = absurd (one_head_or_body bytes x.0 y.1 x.1)
+one_outcome (progress.Body a) (progress.Body b) bytes g h x y =
+    let same = one_response bytes x.0 y.0 x.1 y.1 in (
+      ap (λ (l : Option ℕ). progress.Body l) (x.2 ∙ ap (λ (r : Response). left_behind r.size (length r.behind)) same ∙ sym y.2),
+      x.3 ∙ ap given same ∙ sym y.3,
+    )
+one_outcome (progress.Body a) progress.Finished bytes g h x y = absurd y
+one_outcome (progress.Body a) (progress.Failed e) bytes g h x y = absurd y
+one_outcome progress.Finished q bytes g h x y = absurd x
+one_outcome (progress.Failed e) q bytes g h x y = absurd x
+
+-- a head that can't be read is no response, and has ended
+pub unreadable_is_none : (p : Progress) (bytes : List ℕ) (g : Given) → TakenIn p bytes g → IsUnreadable bytes → ⊥
+unreadable_is_none (progress.Head a) bytes g x bad = unfinished_has_no_end bytes bad.cut x.1 bad.ends
+unreadable_is_none (progress.Body a) bytes g x bad =
+    let is = x.1 in
+    let cut = EndsAt-unique Blank bytes is.cut bad.cut is.ends bad.ends in
+    bad.no_head x.0.head (subst (λ n. ReadsHeader (take n bytes) x.0.head) cut is.head)
+unreadable_is_none progress.Finished bytes g x bad = x
+unreadable_is_none (progress.Failed e) bytes g x bad = x

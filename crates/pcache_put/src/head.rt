@@ -10,7 +10,9 @@ ghost use Rattle.pcache_put.specs.Fields.{IsPair, IsShort, append_pair, fields_a
 ghost use Rattle.pcache_base.specs.declared.error.ErrorType.TheVariants.{OutOfMemory, InvalidHttpHeader};
 
 use http::StatusCode;
-use http_header::{HeaderMap, HeaderMapError, HeaderName, HeaderNameError, HeaderValue, HeaderValueError};
+use http_header::{
+    HeaderMap, HeaderMapError, HeaderName, HeaderNameError, HeaderValue, HeaderValueError,
+};
 use httparse::Status;
 use httparse::spans::{EMPTY_HEADER_SPAN, HeaderSpan, ResponseSpans, parse_response};
 use pcache_base::error::{Error, ErrorType, Result};

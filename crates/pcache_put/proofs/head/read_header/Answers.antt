@@ -24,14 +24,13 @@ pub returns-in_err-fields_of-clause-invalid : goal.returns-in_err-fields_of-clau
 returns-in_err-fields_of-clause-invalid c =
     let p = err_from_is_err_and c.from_residual-in_err-fields_of.result c.from_residual-in_err-fields_of.ensures.1 in
     rw (p.1, p.2) (λ e header reads.
-        let found = c.in_ok-head.ensures.found in
-        let same : reads.0 ≡ found.0 = one_head _ _ _ reads.1.reads found.1.reads in
-        c.in_err-fields_of.ensures.long e (subst (All IsShort) (ap (λ (h : ResponseHead). map name_and_value h.fields) same ∙ sym found.4) reads.2.names))
+    let found = c.in_ok-head.ensures.found in
+    let same : reads.0 ≡ found.0 = one_head _ _ _ reads.1.reads found.1.reads in
+    c.in_err-fields_of.ensures.long e (subst (All IsShort) (ap (λ (h : ResponseHead). map name_and_value h.fields) same ∙ sym found.4) reads.2.names))
 
 pub returns-clause-ok : goal.returns-clause-ok
 returns-clause-ok c =
-    let found = c.in_ok-head.ensures.found in
-    (
+    let found = c.in_ok-head.ensures.found in (
       found.0,
       found.1,
       record {
@@ -39,7 +38,7 @@ returns-clause-ok c =
         names = subst (All IsShort) found.4 c.in_ok-fields_of.ensures.short;
       },
       header_is c.version_of.result c.in-Ok.status c.in_ok-fields_of.field-0 found.0
-      (c.version_of.ensures ∙ ap version_of found.3)
-      (c.in-Ok.ensures.1 ∙ found.2)
-      (c.in_ok-fields_of.ensures.ok ∙ ap fields_after found.4),
+          (c.version_of.ensures ∙ ap version_of found.3)
+          (c.in-Ok.ensures.1 ∙ found.2)
+          (c.in_ok-fields_of.ensures.ok ∙ ap fields_after found.4),
     )

@@ -12,14 +12,13 @@ returns-in_err-size-in-Ended-clause-invalid c =
     let p = err_from_is_err_and c.from_residual-in_err-size-in-Ended.result c.from_residual-in_err-size-in-Ended.ensures.1 in
     let joined = rw c.in-Ended.is at c.in_ok-head.ensures.ok in
     rw (p.1, p.2) (λ e. unreadable_there c.args.head c.args.piece.now c.in-Ended.head.items c.in-Ended.used joined.2 joined.1
-      (λ header reads. c.in_err-size-in-Ended.ensures.invalid e header (subst (λ xs. ReadsHeader xs header) (sym c.as_slice.ensures.value) reads)))
+    (λ header reads. c.in_err-size-in-Ended.ensures.invalid e header (subst (λ xs. ReadsHeader xs header) (sym c.as_slice.ensures.value) reads)))
 
 pub returns-in_ok-left-in-Ended-clause-joined : goal.returns-in_ok-left-in-Ended-clause-joined
 returns-in_ok-left-in-Ended-clause-joined c =
     let joined = rw c.in-Ended.is at c.in_ok-head.ensures.ok in
     let ok = c.in_ok-size-in-Ended.ensures.ok in
-    let r : Response = record { head = ok.0; size = c.in_ok-size-in-Ended.size; behind = drop c.in-Ended.used c.args.piece.now } in
-    (
+    let r : Response = record { head = ok.0; size = c.in_ok-size-in-Ended.size; behind = drop c.in-Ended.used c.args.piece.now } in (
       r,
       response_starts c.args.head c.args.piece.now c.in-Ended.head.items c.in-Ended.used ok.0 c.in_ok-size-in-Ended.size joined.2 joined.1 (subst (λ xs. ReadsHeader xs ok.0) c.as_slice.ensures.value ok.1) ok.2,
       c.in_ok-left-in-Ended.ensures.left ∙ ap (λ xs. left_behind c.in_ok-size-in-Ended.size (length xs)) (rest_is c.in-Ended.used c.args.piece.now),
