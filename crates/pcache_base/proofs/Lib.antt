@@ -6,6 +6,7 @@ pub mod Absorbing
 pub mod Exact
 pub mod HashLoop
 pub mod HashVectors
+pub mod VarianceMaps
 pub mod Totals
 pub mod Maps
 pub mod HeaderExact

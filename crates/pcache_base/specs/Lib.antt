@@ -17,6 +17,8 @@ pub mod Moments
 pub mod MomentParts
 pub mod Reading
 pub mod Reasons
+pub mod Variance
+pub mod WriteId
 pub mod Totals
 pub mod Spelling
 pub mod Writing

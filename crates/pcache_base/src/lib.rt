@@ -22,6 +22,9 @@ pub mod msgpack;
 pub mod poll;
 pub mod reason;
 pub mod text;
+pub mod trace;
+pub mod variance;
+pub mod write_id;
 
 pub use error::{Error, ErrorType, Result};
 

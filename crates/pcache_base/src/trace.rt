@@ -1,0 +1,104 @@
+//! Spans and tags of a trace, all without effect.
+//!
+//! The calls stand where a tracing back end would be told of a request's course. None of them does
+//! anything, and none calls the closure that it is given (so none requires that it may be called).
+ghost use Rattle.std.specs.Prelude.{◌≡◌};
+
+use crate::meta::CacheMeta;
+use crate::moment::Moment;
+
+/// A named value of a span. Nothing of it is kept.
+#[derive(Clone, Copy, Debug, PartialEq, Eq)]
+pub struct Tag {}
+
+impl Tag {
+    /// A tag, which forgets its name and its value.
+    pub fn new<N: Drop, V: Drop>(_name: N, _value: V) -> Tag {
+        Tag {}
+    }
+}
+
+/// A stretch of a request's course. It is always inactive.
+#[derive(Clone, Copy, Debug, PartialEq, Eq)]
+pub struct Span {}
+
+impl Span {
+    /// A span that records nothing.
+    pub fn inactive() -> Span {
+        Span {}
+    }
+
+    /// The span's handle.
+    pub fn handle(&self) -> SpanHandle {
+        SpanHandle {}
+    }
+
+    /// A span within this one, inactive as well. `_options` is not called.
+    pub fn child<F: FnOnce(SpanOptionsPlaceholder) -> SpanOptionsPlaceholder + Drop>(
+        &self,
+        _name: &'static str,
+        _options: F,
+    ) -> Span {
+        Span::inactive()
+    }
+
+    /// Does nothing. `_tag` is not called.
+    pub fn set_tag<F: FnOnce() -> Tag + Drop>(&self, _tag: F) {}
+
+    /// Does nothing. `_tags` is not called.
+    pub fn set_tags<I: IntoIterator<Item = Tag>, F: FnOnce() -> I + Drop>(&self, _tags: F) {}
+
+    /// Does nothing. `_time` is not called.
+    pub fn set_finish_time<F: Fn() -> Moment + Drop>(&self, _time: F) {}
+}
+
+/// Options of a span that is about to start. There are none.
+#[derive(Clone, Copy, Debug, PartialEq, Eq)]
+pub struct SpanOptionsPlaceholder {}
+
+impl SpanOptionsPlaceholder {
+    /// The same options.
+    pub fn start(self) -> SpanOptionsPlaceholder {
+        self
+    }
+}
+
+/// What is handed on of a span. Nothing can be told to it.
+#[derive(Clone, Copy, Debug, PartialEq, Eq)]
+pub struct SpanHandle {}
+
+/// Tags a span with what is known of a stored response. Like every call of a span it does nothing.
+pub fn tag_span_with_meta(span: &mut Span, meta: &CacheMeta)
+    ensures { span.new ≡ span.old }
+{
+    span.set_tags(|| {
+        [
+            Tag::new("created", meta.created()),
+            Tag::new("fresh_until", meta.fresh_until()),
+            Tag::new("updated", meta.updated()),
+            Tag::new("stale_if_error_sec", meta.stale_if_error_sec()),
+            Tag::new(
+                "stale_while_revalidate_sec",
+                meta.stale_while_revalidate_sec(),
+            ),
+            Tag::new("variance", meta.variance().is_some()),
+        ]
+    });
+}
+
+#[cfg(test)]
+mod tests {
+    use super::*;
+
+    #[test]
+    fn no_effect(rt: HostRuntime) {
+        let mut span = Span::inactive();
+        let child = span.child("hit", |options: SpanOptionsPlaceholder| options.start());
+        assert_eq!(rt; child, Span::inactive());
+        assert_eq!(rt; child.handle(), span.handle());
+        span.set_tag(|| Tag::new("phase", 1u8));
+        span.set_tags(|| [Tag::new("phase", 1u8)]);
+        span.set_finish_time(|| Moment::from_secs(7));
+        assert_eq!(rt; span, Span::inactive());
+    }
+}

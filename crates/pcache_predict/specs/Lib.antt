@@ -1,0 +1,4 @@
+pub mod Admission
+pub mod Marking
+pub mod Predictor
+pub mod Remembered

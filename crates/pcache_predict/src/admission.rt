@@ -1,0 +1,94 @@
+//! Whether a key's response is worth storing yet.
+ghost use Rattle.std.specs.Prelude.{◌≡◌};
+ghost use Rattle.pcache_predict.specs.Admission.{observed_of, is_defer};
+
+use pcache_base::key::CacheKey;
+
+/// What a policy says of a key: to wait, or to store, with how often the key was observed.
+#[derive(Clone, Copy, Debug, PartialEq, Eq)]
+pub enum Decision {
+    /// Not to be stored yet.
+    Defer {
+        /// How often the key was observed.
+        observed: u32,
+    },
+    /// To be stored.
+    Ready {
+        /// How often the key was observed.
+        observed: u32,
+    },
+}
+
+impl Decision {
+    /// How often the key was observed.
+    pub fn observed(self) -> u32
+        ensures { result ≡ observed_of self }
+    {
+        match self {
+            Decision::Defer { observed } | Decision::Ready { observed } => observed,
+        }
+    }
+
+    /// Whether the key is not to be stored yet.
+    pub fn is_deferred(self) -> bool
+        ensures { result ≡ is_defer self }
+    {
+        matches!(self, Decision::Defer { .. })
+    }
+}
+
+/// Decides for each key that is asked for whether its response is to be stored.
+pub trait AdmissionPolicy {
+    ghost use Rattle.pcache_base.specs.Key.{Key};
+    ghost use Rattle.pcache_predict.specs.declared.admission.Decision.{Decision};
+
+    /// What the policy may decide of a key, and how that leaves it. By default nothing is claimed.
+    ghost decides: { Self → Key → Decision → Self → Type 0 } = { λ _ _ _ _. Unit {0} };
+
+    /// Counts the key as asked for once more, and decides.
+    fn observe(&mut self, key: &CacheKey) -> Decision
+        ensures { decides self.old key.now result self.new };
+}
+
+#[cfg(test)]
+mod tests {
+    use super::*;
+    use std::test::Fail;
+
+    // Stores from the third time on.
+    struct ThirdTime {
+        observed: u32,
+    }
+
+    impl AdmissionPolicy for ThirdTime {
+        fn observe(&mut self, _key: &CacheKey) -> Decision {
+            self.observed = self.observed.saturating_add(1);
+            let observed = self.observed;
+            if observed < 3 {
+                Decision::Defer { observed }
+            } else {
+                Decision::Ready { observed }
+            }
+        }
+    }
+
+    fn asked<P: AdmissionPolicy>(policy: &mut P, key: &CacheKey) -> Decision {
+        policy.observe(key)
+    }
+
+    #[test]
+    fn decisions(rt: HostRuntime) -> Result<(), Fail> {
+        let primary = b"a".to_vec(rt.alloc())?;
+        let key = CacheKey::new(primary, String::from_str(rt.alloc(), "1")?);
+        let mut policy = ThirdTime { observed: 0 };
+        let first = asked(&mut policy, &key);
+        assert!(rt; first.is_deferred());
+        assert_eq!(rt; first.observed(), 1);
+        asked(&mut policy, &key);
+        let third = asked(&mut policy, &key);
+        assert!(rt; !third.is_deferred());
+        assert_eq!(rt; third.observed(), 3);
+        let ThirdTime { observed: _ } = policy;
+        Ok(())
+    }
+}

@@ -1,0 +1,305 @@
+//! Which keys' responses are predicted not to be cacheable.
+ghost use Rattle.std.specs.Prelude.{◌≡◌, ◌<◌, ℕ, Bool, List, Option, not, replicate, is_some, is_none, IfOk, IfErr, OnErr, Some, None, if◌then◌else◌, option_map};
+ghost use Rattle.std.specs.Option.{ForSome};
+ghost use Rattle.pcache_base.specs.Key.{primary_of, number_of};
+ghost use Rattle.pcache_base.specs.declared.error.ErrorType.TheVariants.{OutOfMemory};
+ghost use Rattle.pcache_base.specs.declared.reason.NoCacheReason.{NoCacheReason};
+ghost use Rattle.pcache_predict.specs.Remembered.{empty_shard, reason_of, after_mark, after_unmark};
+ghost use Rattle.pcache_predict.specs.Marking.{Skips, counts};
+
+use crate::recency::MarkedShards;
+use pcache_base::error::Result;
+use pcache_base::key::{CacheHashKey, CacheKey, HashBinary};
+use pcache_base::reason::NoCacheReason;
+use std::alloc::Global;
+
+/// Whether a marking with a custom reason is skipped, by the reason's word.
+pub type CustomReasonPredicate = fn(&str) -> bool;
+
+/// Foretells whether a key's response can be cached, from what came of the key before.
+///
+/// Keys go by their primary hashes, since a prediction is asked for before the variance is known.
+pub trait CacheablePredictor {
+    /// Whether the keys with a primary hash are predicted not to be cacheable.
+    ghost uncacheable: { Self → List ℕ → Bool };
+
+    /// The reason that is predicted for the keys with a primary hash.
+    ghost reason: { Self → List ℕ → Option NoCacheReason };
+
+    /// What marking a primary hash as cacheable answers and leaves.
+    ghost unmarks: { Self → List ℕ → Bool → Self → Type 0 };
+
+    /// What marking a primary hash as not cacheable, for a reason, answers and leaves.
+    ghost marks: { Self → List ℕ → NoCacheReason → Option Bool → Self → Type 0 };
+
+    /// Whether the key's response is predicted to be cacheable.
+    fn cacheable_prediction(&self, key: &CacheKey) -> bool
+        ensures { result ≡ not (uncacheable self.now (primary_of key.now)) };
+
+    /// Why the key's response is predicted not to be cacheable, where the predictor knows.
+    fn predicted_uncacheable_reason(&self, key: &CacheKey) -> Option<NoCacheReason>
+        ensures { result ≡ reason self.now (primary_of key.now) };
+
+    /// Takes in that the key's response was cacheable. True where that was predicted.
+    fn mark_cacheable(&mut self, key: &CacheKey) -> bool
+        ensures { unmarks self.old (primary_of key.now) result self.new };
+
+    /// Takes in that the key's response was not cacheable, for this reason: None where the reason does
+    /// not count, else whether the key was predicted to be cacheable. It is refused for want of memory
+    /// alone, and then changes nothing.
+    fn mark_uncacheable(&mut self, key: &CacheKey, why: NoCacheReason) -> Result<Option<bool>>
+        ensures ok { IfOk result (λ answer. marks self.old (primary_of key.now) why answer self.new) }
+        ensures err { OnErr result (self.new ≡ self.old) }
+        ensures kind { IfErr result (λ e. e ≡ OutOfMemory) };
+}
+
+#[tactic(auto, unfolding(pcache_base::specs::Key::number_of))]
+fn number(hash: HashBinary) -> u128
+    ensures { result ≡ number_of hash }
+{
+    u128::from_be_bytes(hash)
+}
+
+#[derive(Drop)]
+struct SkippedReasons {
+    predicate: CustomReasonPredicate,
+    pub ghost callable: { CustomReasonPredicate.IsAlwaysCallable predicate },
+}
+
+impl SkippedReasons {
+    fn new(predicate: CustomReasonPredicate) -> SkippedReasons
+        requires { IsAlwaysCallable predicate }
+        ensures { result.predicate ≡ predicate }
+    {
+        SkippedReasons { predicate }
+    }
+}
+
+/// Remembers the keys that were marked last as not cacheable, in `N_SHARDS` lists.
+///
+/// A marking for the origin's word, for a response that was too large, and for a custom reason that the
+/// predicate does not skip, is remembered; others change nothing. Looking a key up does not promote it.
+#[derive(Drop)]
+pub struct Predictor<const N_SHARDS: usize> {
+    memory: MarkedShards,
+    skipped: Option<SkippedReasons>,
+}
+
+impl<const N_SHARDS: usize> Predictor<N_SHARDS> {
+    ghost use Rattle.pcache_predict.specs.Predictor.{memory_of, predicate_of};
+
+    /// Remembers no key yet, and at most `shard_capacity` in each list (0 counts as 1). It is refused for
+    /// want of memory alone.
+    pub fn new(
+        alloc: Global,
+        shard_capacity: usize,
+        skip_custom_reasons: Option<CustomReasonPredicate>,
+    ) -> Result<Predictor<N_SHARDS>>
+        requires shards { 0 < N_SHARDS }
+        requires callable { ForSome skip_custom_reasons IsAlwaysCallable }
+        ensures memory { IfOk result (λ made. memory_of made ≡ replicate N_SHARDS (empty_shard shard_capacity)) }
+        ensures predicate { IfOk result (λ made. predicate_of made ≡ skip_custom_reasons) }
+        ensures kind { IfErr result (λ e. e ≡ OutOfMemory) }
+    {
+        let skipped = match skip_custom_reasons {
+            Some(predicate) => Some(SkippedReasons::new(predicate)),
+            None => None,
+        };
+        Ok(Predictor {
+            memory: MarkedShards::new(alloc, N_SHARDS, shard_capacity)?,
+            skipped,
+        })
+    }
+
+    // Whether a marking with this reason is remembered.
+    fn remembers(&self, reason: NoCacheReason) -> bool
+        ensures { (skipped : Bool) × Skips CustomReasonPredicate.post (predicate_of self.now) reason skipped
+            × (result ≡ counts reason skipped) }
+    {
+        match reason {
+            NoCacheReason::OriginNotCache | NoCacheReason::ResponseTooLarge => true,
+            NoCacheReason::Custom(word) => match &self.skipped {
+                Some(skipped) => !(skipped.predicate)(word),
+                None => true,
+            },
+            NoCacheReason::NeverEnabled
+            | NoCacheReason::PredictedResponseTooLarge
+            | NoCacheReason::StorageError
+            | NoCacheReason::InternalError
+            | NoCacheReason::Deferred
+            | NoCacheReason::DeclinedToUpstream
+            | NoCacheReason::UpstreamError
+            | NoCacheReason::CacheLockGiveUp
+            | NoCacheReason::CacheLockTimeout
+            | NoCacheReason::CacheLockRetryLimit => false,
+        }
+    }
+}
+
+impl<const N_SHARDS: usize> CacheablePredictor for Predictor<N_SHARDS> {
+    ghost use Rattle.pcache_predict.specs.Predictor.{memory_of, predicate_of};
+
+    ghost uncacheable = { λ p key. is_some (reason_of (memory_of p) (number_of key)) };
+
+    ghost reason = { λ p key. reason_of (memory_of p) (number_of key) };
+
+    ghost unmarks = { λ p key new q.
+        (new ≡ is_none (reason_of (memory_of p) (number_of key)))
+        × (q ≡ record p { memory = after_unmark (memory_of p) (number_of key) }) };
+
+    // A marking that does not count answers None and changes nothing.
+    ghost marks = { λ p key why answer q.
+        (skipped : Bool) × Skips CustomReasonPredicate.post (predicate_of p) why skipped
+        × (answer ≡ (if counts why skipped then Some (is_none (reason_of (memory_of p) (number_of key))) else None))
+        × (q ≡ (if counts why skipped then record p { memory = after_mark (memory_of p) (number_of key) why } else p)) };
+
+    fn cacheable_prediction(&self, key: &CacheKey) -> bool {
+        self.predicted_uncacheable_reason(key).is_none()
+    }
+
+    fn predicted_uncacheable_reason(&self, key: &CacheKey) -> Option<NoCacheReason> {
+        self.memory.reason(number(key.primary_bin()))
+    }
+
+    fn mark_cacheable(&mut self, key: &CacheKey) -> bool {
+        self.memory.unmark(number(key.primary_bin()))
+    }
+
+    fn mark_uncacheable(&mut self, key: &CacheKey, why: NoCacheReason) -> Result<Option<bool>> {
+        if !self.remembers(why) {
+            return Ok(None);
+        }
+        Ok(Some(self.memory.mark(number(key.primary_bin()), why)?))
+    }
+}
+
+#[cfg(test)]
+mod tests {
+    use super::*;
+    use std::test::Fail;
+
+    fn key(alloc: Global, primary: &str) -> Result<CacheKey> {
+        let primary = primary.as_bytes().to_vec(alloc)?;
+        Ok(CacheKey::new(primary, String::from_str(alloc, "1")?))
+    }
+
+    #[test]
+    fn cacheability(rt: HostRuntime) -> std::result::Result<(), Fail> {
+        let mut predictor = Predictor::<1>::new(rt.alloc(), 10, None)?;
+        let key = key(rt.alloc(), "b")?;
+        assert!(rt; predictor.cacheable_prediction(&key));
+        assert_eq!(rt;
+            predictor.mark_uncacheable(&key, NoCacheReason::InternalError)?,
+            None
+        );
+        assert!(rt; predictor.cacheable_prediction(&key));
+        assert_eq!(rt;
+            predictor.mark_uncacheable(&key, NoCacheReason::StorageError)?,
+            None
+        );
+        assert!(rt; predictor.cacheable_prediction(&key));
+        assert_eq!(rt;
+            predictor.mark_uncacheable(&key, NoCacheReason::OriginNotCache)?,
+            Some(true)
+        );
+        assert!(rt; !predictor.cacheable_prediction(&key));
+        assert!(rt; !predictor.mark_cacheable(&key));
+        assert!(rt; predictor.cacheable_prediction(&key));
+        assert!(rt; predictor.mark_cacheable(&key));
+        Ok(())
+    }
+
+    #[test]
+    fn last_reason(rt: HostRuntime) -> std::result::Result<(), Fail> {
+        let mut predictor = Predictor::<1>::new(rt.alloc(), 10, None)?;
+        let key = key(rt.alloc(), "b")?;
+        let custom = NoCacheReason::Custom("AuthorizationHeader");
+        assert_eq!(rt; predictor.predicted_uncacheable_reason(&key), None);
+        predictor.mark_uncacheable(&key, custom)?;
+        assert_eq!(rt; predictor.predicted_uncacheable_reason(&key), Some(custom));
+        let again = predictor.mark_uncacheable(&key, NoCacheReason::ResponseTooLarge)?;
+        assert_eq!(rt; again, Some(false));
+        assert_eq!(rt;
+            predictor.predicted_uncacheable_reason(&key),
+            Some(NoCacheReason::ResponseTooLarge)
+        );
+        predictor.mark_uncacheable(&key, NoCacheReason::InternalError)?;
+        assert_eq!(rt;
+            predictor.predicted_uncacheable_reason(&key),
+            Some(NoCacheReason::ResponseTooLarge)
+        );
+        predictor.mark_cacheable(&key);
+        assert_eq!(rt; predictor.predicted_uncacheable_reason(&key), None);
+        Ok(())
+    }
+
+    fn mark_all<P: CacheablePredictor>(
+        alloc: Global,
+        predictor: &mut P,
+        primaries: &[&str],
+    ) -> Result<()> {
+        for primary in primaries {
+            predictor.mark_uncacheable(&key(alloc, primary)?, NoCacheReason::OriginNotCache)?;
+        }
+        Ok(())
+    }
+
+    fn is_skipping(word: &str) -> bool {
+        word == "Skipping"
+    }
+
+    #[test]
+    fn custom_skip_predicate(rt: HostRuntime) -> std::result::Result<(), Fail> {
+        let mut predictor = Predictor::<1>::new(rt.alloc(), 10, Some(is_skipping))?;
+        let key = key(rt.alloc(), "b")?;
+        predictor.mark_uncacheable(&key, NoCacheReason::InternalError)?;
+        assert!(rt; predictor.cacheable_prediction(&key));
+        predictor.mark_uncacheable(&key, NoCacheReason::Custom("DontCacheMe"))?;
+        assert!(rt; !predictor.cacheable_prediction(&key));
+        predictor.mark_cacheable(&key);
+        assert_eq!(rt;
+            predictor.mark_uncacheable(&key, NoCacheReason::Custom("Skipping"))?,
+            None
+        );
+        assert!(rt; predictor.cacheable_prediction(&key));
+        Ok(())
+    }
+
+    #[test]
+    fn forgets_the_first_marked(rt: HostRuntime) -> std::result::Result<(), Fail> {
+        let mut predictor = Predictor::<1>::new(rt.alloc(), 3, None)?;
+        mark_all(rt.alloc(), &mut predictor, &["b", "bc", "cd", "b", "de"])?;
+        assert!(rt; !predictor.cacheable_prediction(&key(rt.alloc(), "b")?));
+        assert!(rt; predictor.cacheable_prediction(&key(rt.alloc(), "bc")?));
+        assert!(rt; !predictor.cacheable_prediction(&key(rt.alloc(), "cd")?));
+        assert!(rt; !predictor.cacheable_prediction(&key(rt.alloc(), "de")?));
+        // What was forgotten does not come back.
+        predictor.mark_cacheable(&key(rt.alloc(), "cd")?);
+        assert!(rt; predictor.cacheable_prediction(&key(rt.alloc(), "bc")?));
+        Ok(())
+    }
+
+    #[test]
+    fn many_shards(rt: HostRuntime) -> std::result::Result<(), Fail> {
+        let mut predictor = Predictor::<64>::new(rt.alloc(), 10, None)?;
+        for primary in ["a", "b", "c", "d", "e", "f", "g", "h"] {
+            let key = key(rt.alloc(), primary)?;
+            assert!(rt; predictor.cacheable_prediction(&key));
+            predictor.mark_uncacheable(&key, NoCacheReason::OriginNotCache)?;
+            assert!(rt; !predictor.cacheable_prediction(&key));
+            predictor.mark_cacheable(&key);
+            assert!(rt; predictor.cacheable_prediction(&key));
+        }
+        Ok(())
+    }
+
+    #[test]
+    fn no_capacity_counts_as_one(rt: HostRuntime) -> std::result::Result<(), Fail> {
+        let mut predictor = Predictor::<1>::new(rt.alloc(), 0, None)?;
+        predictor.mark_uncacheable(&key(rt.alloc(), "a")?, NoCacheReason::OriginNotCache)?;
+        predictor.mark_uncacheable(&key(rt.alloc(), "b")?, NoCacheReason::OriginNotCache)?;
+        assert!(rt; predictor.cacheable_prediction(&key(rt.alloc(), "a")?));
+        assert!(rt; !predictor.cacheable_prediction(&key(rt.alloc(), "b")?));
+        Ok(())
+    }
+}

@@ -1,0 +1,6 @@
+pub mod FieldLemmas
+pub mod HeadLemmas
+pub mod Joins
+pub mod Lengths
+pub mod PartLemmas
+pub mod Unique

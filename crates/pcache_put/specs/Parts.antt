@@ -1,0 +1,48 @@
+-- The parts that a parser gives of a response.
+use Rattle.std.specs.Prelude.{◌≡◌, ℕ, ◌-◌, ◌⊎◌, Bool, true, false, ◌==◌, nat_lt, if◌then◌else◌, List, [], ◌∷◌, ◌++◌, length, fold, Option, Some, None}
+use Rattle.pcache_base.specs.declared.header.ResponseHeader.{ResponseHeader}
+use Rattle.pcache_put.specs.HeadEnd.{IsUnfinished}
+use Rattle.pcache_put.specs.Response.{Response, IsResponse, body_of, is_whole}
+use Rattle.pcache_put.specs.declared.response_parse.ParsePart.{ParsePart}
+use Rattle.pcache_put.specs.declared.response_parse.ParsePart.TheVariants as part
+
+-- what was given of a response: its head, the bytes of its body joined, and whether it is whole
+pub record Given : Type 0 where
+  pub head : Option ResponseHeader
+  pub body : List ℕ
+  pub whole : Bool
+
+abbrev pub nothing : Given
+nothing = record { head = None; body = []; whole = false }
+
+-- what is to be given of a response in all
+abbrev pub given : Response → Given
+given r = record { head = Some r.head; body = body_of r.size r.behind; whole = is_whole r.size r.behind }
+
+-- a part more
+abbrev pub add : Given → ParsePart → Given
+add g (part.Head head whole) = record { head = Some head; body = g.body; whole = whole }
+add g (part.Body bytes whole) = record { head = g.head; body = g.body ++ bytes; whole = whole }
+
+-- parts more, in turn
+abbrev pub add_all : Given → List ParsePart → Given
+add_all g parts = fold add g parts
+
+-- what is given of bytes of a body of which so much is left: no empty part
+abbrev pub body_parts : Option ℕ → List ℕ → List ParsePart
+body_parts left bytes =
+    if length (body_of left bytes) == 0 then [] else part.Body (body_of left bytes) (is_whole left bytes) ∷ []
+
+-- what is left of a body behind some bytes of it
+abbrev pub left_behind : Option ℕ → ℕ → Option ℕ
+left_behind None count = None
+left_behind (Some n) count = Some (n - count)
+
+-- whether bytes of a body are missing of which so much is left
+abbrev pub is_missing : Option ℕ → Bool
+is_missing None = false
+is_missing (Some n) = nat_lt 0 n
+
+-- what is given in one piece, if the head ends in it
+abbrev pub whole_parts : Response → List ParsePart
+whole_parts r = part.Head r.head (is_whole r.size []) ∷ body_parts r.size r.behind

@@ -1,0 +1,129 @@
+//! Reading the head of a response.
+ghost use Rattle.std.specs.Prelude.{◌≡◌, ◌⊎◌, ℕ, ◌+◌, ◌<◌, ◌≤◌, ◌^◌, List, [], length, take, map, All, IfOk, IfErr, OnOk, OnErr};
+ghost use Rattle.httparse.specs.Grammar.{ResponseHead, status_code};
+ghost use Rattle.httparse.specs.Spans.{AreFieldsAt, IsHeaderWithin, header_bytes};
+ghost use Rattle.http_header.specs.Token.{IsToken, lowercase};
+ghost use Rattle.http_header.specs.FieldValue.{IsFieldValue, plain_value};
+ghost use Rattle.http_header.specs.HeaderMap.{append, value_count};
+ghost use Rattle.pcache_put.specs.Head.{IsHead, ReadsHeader, version_of};
+ghost use Rattle.pcache_put.specs.Fields.{IsPair, IsShort, append_pair, fields_after};
+ghost use Rattle.pcache_base.specs.declared.error.ErrorType.TheVariants.{OutOfMemory, InvalidHttpHeader};
+
+use http::StatusCode;
+use http_header::{
+    HeaderMap, HeaderMapError, HeaderName, HeaderNameError, HeaderValue, HeaderValueError,
+};
+use httparse::Status;
+use httparse::spans::{EMPTY_HEADER_SPAN, HeaderSpan, ResponseSpans, parse_response};
+use pcache_base::error::{Error, ErrorType, Result};
+use pcache_base::header::{HttpVersion, ResponseHeader};
+use std::alloc::Global;
+
+// How many fields a head may have.
+const MAX_FIELDS: usize = 256;
+
+// The longest name that `http_header` takes.
+const MAX_NAME_LEN: usize = 65535;
+
+// Where the parts of the head are that the bytes are, all of them.
+fn parts_of(bytes: &[u8], room: &mut [HeaderSpan]) -> Result<ResponseSpans>
+    ensures found { IfOk result (λ r. (h : ResponseHead) × IsHead (length room.old) bytes.now h
+        × (r.code ≡ status_code h) × (r.version ≡ h.minor) × AreFieldsAt bytes.now room.new r.headers h.fields) }
+    ensures within { IfOk result (λ r. (r.headers ≤ length room.new) × All (IsHeaderWithin (length bytes.now)) (take r.headers room.new)) }
+    ensures invalid { OnErr result ((h : ResponseHead) → ¬ (IsHead (length room.old) bytes.now h)) }
+    ensures kind { IfErr result (λ e. e ≡ InvalidHttpHeader) }
+{
+    match parse_response(bytes, room) {
+        Ok(Status::Complete(head)) if head.len == bytes.len() => Ok(head),
+        _ => Err(Error::new(ErrorType::InvalidHttpHeader)),
+    }
+}
+
+// Adds a field of the grammar.
+fn add_field(alloc: Global, fields: &mut HeaderMap, name: &[u8], value: &[u8]) -> Result<()>
+    requires pair { IsPair (name.now, value.now) }
+    requires names { length fields.old < 24576 }
+    requires values { value_count fields.old + 1 < 2 ^ 64 }
+    ensures ok { OnOk result (fields.new ≡ append fields.old (lowercase name.now) (plain_value value.now)) }
+    ensures short { OnOk result (IsShort (name.now, value.now)) }
+    ensures long { IfErr result (λ e. e ≡ InvalidHttpHeader → ¬ (IsShort (name.now, value.now))) }
+    ensures kind { IfErr result (λ e. (e ≡ OutOfMemory) ⊎ (e ≡ InvalidHttpHeader)) }
+{
+    if name.len() > MAX_NAME_LEN {
+        return Err(Error::new(ErrorType::InvalidHttpHeader));
+    }
+    let name = match HeaderName::from_bytes(alloc, name) {
+        Ok(name) => name,
+        Err(HeaderNameError::OutOfMemory) => return Err(Error::new(ErrorType::OutOfMemory)),
+        Err(HeaderNameError::Invalid) => unreachable!(),
+    };
+    let value = match HeaderValue::from_bytes(alloc, value) {
+        Ok(value) => value,
+        Err(HeaderValueError::OutOfMemory) => return Err(Error::new(ErrorType::OutOfMemory)),
+        Err(HeaderValueError::Invalid) => unreachable!(),
+    };
+    match fields.append(name, value) {
+        Ok(_) => Ok(()),
+        Err(HeaderMapError::OutOfMemory) => Err(Error::new(ErrorType::OutOfMemory)),
+        Err(HeaderMapError::MaxSizeReached) => unreachable!(),
+    }
+}
+
+// Adds the field that a span covers.
+fn add_span(alloc: Global, fields: &mut HeaderMap, bytes: &[u8], span: HeaderSpan) -> Result<()>
+    requires within { IsHeaderWithin (length bytes.now) span }
+    requires pair { IsPair (header_bytes bytes.now span) }
+    requires names { length fields.old < 24576 }
+    requires values { value_count fields.old + 1 < 2 ^ 64 }
+    ensures ok { OnOk result (fields.new ≡ append_pair fields.old (header_bytes bytes.now span)) }
+    ensures short { OnOk result (IsShort (header_bytes bytes.now span)) }
+    ensures long { IfErr result (λ e. e ≡ InvalidHttpHeader → ¬ (IsShort (header_bytes bytes.now span))) }
+    ensures kind { IfErr result (λ e. (e ≡ OutOfMemory) ⊎ (e ≡ InvalidHttpHeader)) }
+{
+    add_field(alloc, fields, span.name.of(bytes), span.value.of(bytes))
+}
+
+// The fields that the spans cover.
+fn fields_of(alloc: Global, bytes: &[u8], spans: &[HeaderSpan]) -> Result<HeaderMap>
+    requires few { length spans.now ≤ 256 }
+    requires within { All (IsHeaderWithin (length bytes.now)) spans.now }
+    requires pairs { All IsPair (map (header_bytes bytes.now) spans.now) }
+    ensures ok { IfOk result (λ fields. fields ≡ fields_after (map (header_bytes bytes.now) spans.now)) }
+    ensures short { OnOk result (All IsShort (map (header_bytes bytes.now) spans.now)) }
+    ensures long { IfErr result (λ e. e ≡ InvalidHttpHeader → ¬ (All IsShort (map (header_bytes bytes.now) spans.now))) }
+    ensures kind { IfErr result (λ e. (e ≡ OutOfMemory) ⊎ (e ≡ InvalidHttpHeader)) }
+{
+    let mut fields = HeaderMap::new(alloc);
+    'spans: for i in 0..spans.len() {
+        add_span(alloc, &mut fields, bytes, spans[i])?;
+    }
+    Ok(fields)
+}
+
+fn version_of(minor: u8) -> HttpVersion
+    ensures { result ≡ version_of minor }
+{
+    if minor == 0 {
+        HttpVersion::Http10
+    } else {
+        HttpVersion::Http11
+    }
+}
+
+// The head that the bytes are, all of them.
+pub(crate) fn read_header(alloc: Global, bytes: &[u8]) -> Result<ResponseHeader>
+    ensures ok { IfOk result (ReadsHeader bytes.now) }
+    ensures invalid { IfErr result (λ e. e ≡ InvalidHttpHeader → (header : _) → ¬ (ReadsHeader bytes.now header)) }
+    ensures kind { IfErr result (λ e. (e ≡ OutOfMemory) ⊎ (e ≡ InvalidHttpHeader)) }
+{
+    let mut room = [EMPTY_HEADER_SPAN; MAX_FIELDS];
+    let head = parts_of(bytes, &mut room)?;
+    let Ok(status) = StatusCode::from_u16(head.code) else {
+        return Err(Error::new(ErrorType::InvalidHttpHeader));
+    };
+    Ok(ResponseHeader {
+        version: version_of(head.version),
+        status,
+        headers: fields_of(alloc, bytes, &room[..head.headers])?,
+    })
+}

@@ -1,0 +1,117 @@
+//! Where the head of a response ends, as its bytes come.
+ghost use Rattle.std.specs.Prelude.{◌≡◌, ◌≢◌, ℕ, ◌+◌, ◌≤◌, ◌<◌, ◌++◌, [], List, length, take, IfSome, IfNone, IfOk, IfErr};
+ghost use Rattle.pcache_put.specs.HeadEnd.{next, place_after, EndsAt, IsUnfinished};
+ghost use Rattle.pcache_base.specs.declared.error.ErrorType.TheVariants.{OutOfMemory};
+
+use pcache_base::error::Result;
+use std::alloc::Global;
+use std::marker::Model;
+
+// Where in the head a byte stands.
+#[derive(Clone, Copy, Debug, PartialEq, Eq)]
+pub(crate) enum Place {
+    // Among the empty lines before it.
+    Blank,
+    // Behind the CR of such a line.
+    BlankReturn,
+    // In a line.
+    Inside,
+    // At the start of a line behind the first.
+    Fresh,
+    // Behind a CR there.
+    FreshReturn,
+    // Behind the empty line that ends the head.
+    Ended,
+}
+
+fn next(place: Place, byte: u8) -> Place
+    ensures { result ≡ next place byte }
+{
+    match (place, byte) {
+        (Place::Blank, b'\n') | (Place::BlankReturn, b'\n') => Place::Blank,
+        (Place::Blank, b'\r') => Place::BlankReturn,
+        (Place::Inside, b'\n') => Place::Fresh,
+        (Place::Fresh, b'\n') | (Place::FreshReturn, b'\n') | (Place::Ended, _) => Place::Ended,
+        (Place::Fresh, b'\r') => Place::FreshReturn,
+        _ => Place::Inside,
+    }
+}
+
+// How many of the next bytes still belong to the head, if it ends among them; else the place moves on.
+fn cut(place: &mut Place, piece: &[u8]) -> Option<usize>
+    requires { place.old ≢ Place.Ended }
+    ensures found { IfSome result (λ n. EndsAt place.old piece.now n) }
+    ensures none { IfNone result ((k : ℕ) → k ≤ length piece.now → place_after place.old (take k piece.now) ≢ Place.Ended) }
+    ensures moved { IfNone result (place.new ≡ place_after place.old piece.now) }
+{
+    'bytes: for i in 0..piece.len() {
+        *place = next(*place, piece[i]);
+        if *place == Place::Ended {
+            return Some(i + 1);
+        }
+    }
+    None
+}
+
+// The bytes of a head that has not ended, and the place behind them.
+#[derive(Drop)]
+pub(crate) struct HeadBytes {
+    bytes: Vec<u8>,
+    place: Place,
+}
+
+impl Model for HeadBytes {
+    ghost use Rattle.std.specs.Prelude.{◌≡◌, ℕ, List};
+    ghost use Rattle.pcache_put.specs.HeadEnd.{place_after, IsUnfinished};
+    ghost use Rattle.pcache_put.specs.declared.head_end.Place.TheVariants.{Blank};
+
+    ghost Value = { List ℕ };
+
+    ghost view = { λ h. h.bytes.items };
+
+    ghost invariant = { λ h. (h.place ≡ place_after Blank h.bytes.items) × IsUnfinished h.bytes.items };
+}
+
+// A head with one piece more.
+#[derive(Drop)]
+pub(crate) enum HeadPiece {
+    // It has not ended.
+    Open(HeadBytes),
+    // It has ended: all its bytes, and how many of the piece's bytes are among them.
+    Ended(Vec<u8>, usize),
+}
+
+impl HeadBytes {
+    ghost use Rattle.pcache_put.specs.HeadPiece.{IsJoined};
+
+    // No byte yet.
+    pub(crate) fn new(alloc: Global) -> HeadBytes
+        ensures { result ≡ [] }
+    {
+        HeadBytes {
+            bytes: Vec::new(alloc),
+            place: Place::Blank,
+        }
+    }
+
+    // Adds a piece, of which only the bytes up to the head's end are kept.
+    pub(crate) fn join(self, piece: &[u8]) -> Result<HeadPiece>
+        ensures ok { IfOk result (IsJoined self piece.now) }
+        ensures kind { IfErr result (λ e. e ≡ OutOfMemory) }
+    {
+        let HeadBytes {
+            mut bytes,
+            mut place,
+        } = self;
+        match cut(&mut place, piece) {
+            Some(used) => {
+                bytes.extend_from_slice(&piece[..used])?;
+                Ok(HeadPiece::Ended(bytes, used))
+            }
+            None => {
+                bytes.extend_from_slice(piece)?;
+                Ok(HeadPiece::Open(HeadBytes { bytes, place }))
+            }
+        }
+    }
+}
