@@ -2,6 +2,7 @@
 use Rattle.std.specs.Prelude.{ℕ, List, ◌++◌, Option, None, Some, unwrap_or}
 use Rattle.std.specs.Int.{w128, from_be_bytes}
 use Rattle.pcache_base.specs.Blake2b.{blake2b_128}
+use Rattle.pcache_base.specs.declared.fills.UnusableFill.{UnusableFill}
 
 -- what a contract sees of a `CacheKey`
 pub record Key : Type 0 where
@@ -10,6 +11,8 @@ pub record Key : Type 0 where
   pub primary_override : Option (List ℕ)
   pub variance : Option (List ℕ)
   pub user_tag : List ℕ
+  -- the fills that the request cannot use
+  pub unusable : Option (List UnusableFill)
 
 -- the hash of the primary bytes, unless another was set
 abbrev pub primary_of : Key → List ℕ

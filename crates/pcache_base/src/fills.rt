@@ -4,7 +4,6 @@ ghost use Rattle.pcache_base.specs.Fills.{first_match};
 ghost use Rattle.pcache_base.specs.declared.error.ErrorType.TheVariants.{OutOfMemory};
 
 use crate::error::Result;
-use std::alloc::Global;
 use std::marker::Model;
 
 /// A fill that a request cannot use: the token that its writer would publish, and why not.
@@ -67,12 +66,12 @@ impl UnusableFills {
     }
 
     /// A second list of the same fills. It is refused for want of memory alone.
-    pub fn copied(&self, alloc: Global) -> Result<UnusableFills>
+    pub fn copied(&self) -> Result<UnusableFills>
         ensures ok { IfOk result (λ copy. copy ≡ self.now) }
         ensures kind { IfErr result (λ e. e ≡ OutOfMemory) }
     {
         Ok(UnusableFills {
-            fills: self.fills.as_slice().to_vec(alloc)?,
+            fills: self.fills.clone()?,
         })
     }
 }

@@ -8,6 +8,7 @@ ghost use Rattle.pcache_base.specs.declared.error.ErrorType.TheVariants.{OutOfMe
 
 use crate::blake2b::Hasher;
 use crate::error::Result;
+use crate::fills::UnusableFills;
 use crate::text::Text;
 use hex::FromHex;
 use std::alloc::Global;
@@ -136,6 +137,9 @@ pub struct CacheKey {
     variance: Option<HashBinary>,
     /// The tag of the user whom the entry is counted for.
     pub user_tag: Text,
+    /// The fills that the request cannot use, for which it does not wait. They are no part of the
+    /// hashes.
+    pub unusable: Option<UnusableFills>,
 }
 
 impl Model for CacheKey {
@@ -148,6 +152,7 @@ impl Model for CacheKey {
       primary_override = k.primary_override;
       variance = k.variance;
       user_tag = k.user_tag;
+      unusable = k.unusable;
     } };
 }
 
@@ -157,15 +162,16 @@ impl CacheKey {
     ghost use Rattle.pcache_base.specs.Key.{Key};
     ghost use Rattle.pcache_base.specs.CompactKey.{compact_of};
 
-    /// A key of these primary bytes, with no variance.
+    /// A key of these primary bytes, with no variance, for which any fill can be used.
     pub fn new(primary: Vec<u8>, user_tag: String) -> CacheKey
-        ensures { result ≡ record { primary = primary.items; primary_override = None; variance = None; user_tag = string_bytes user_tag } }
+        ensures { result ≡ record { primary = primary.items; primary_override = None; variance = None; user_tag = string_bytes user_tag; unusable = None } }
     {
         CacheKey {
             primary,
             primary_override: None,
             variance: None,
             user_tag: Text::new(user_tag),
+            unusable: None,
         }
     }
 
@@ -234,6 +240,10 @@ impl CacheKey {
             primary_override: self.primary_override,
             variance: self.variance,
             user_tag: self.user_tag.copied()?,
+            unusable: match &self.unusable {
+                Some(fills) => Some(fills.copied()?),
+                None => None,
+            },
         })
     }
 }

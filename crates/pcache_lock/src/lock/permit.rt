@@ -86,7 +86,7 @@ impl Watch {
         ensures unnamed { option_copied fills.entry ≡ None → IsOk result }
     {
         let fills = match fills {
-            Some(fills) => fills.copied(alloc)?,
+            Some(fills) => fills.copied()?,
             None => UnusableFills::new(Vec::new(alloc)),
         };
         Ok(Watch {
