@@ -1,7 +1,7 @@
 -- What a removal names, and what it answers (own).
 use Rattle.std.specs.Prelude.{ℕ, ◌≡◌, ◌⊎◌, Option, Some, None, is_some, cond}
 use Rattle.std.specs.FinMap.{get}
-use Rattle.pcache_base.specs.Key.{slot_of}
+use Rattle.pcache_base.specs.CompactKey.{compact_slot}
 use Rattle.pcache_base.specs.Meta as meta
 use Rattle.pcache_base.specs.declared.key.CompactCacheKey.{CompactCacheKey}
 use Rattle.pcache_evict.specs.Entry.{entry_with, key_of, id_of}
@@ -31,9 +31,6 @@ IsNumberOf (Exact e) n = (n ≡ None) ⊎ (n ≡ id_of e.now)
 abbrev pub unless_numbered : ℕ → Option ℕ → Option ℕ
 unless_numbered k None = Some k
 unless_numbered k (Some n) = None
-
-abbrev pub compact_slot : CompactCacheKey → ℕ
-compact_slot k = slot_of k.primary k.variance
 
 abbrev pub target_slot : PurgeTarget → Option ℕ
 target_slot (Active k) = Some (compact_slot k.now)
