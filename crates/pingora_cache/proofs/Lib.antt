@@ -1,2 +1,10 @@
+pub mod Counts
 pub mod History
 pub mod Purging
+pub mod StateBodies
+pub mod StateWrites
+pub mod States
+pub mod StateSlots
+pub mod StatePurges
+pub mod StateAnswers
+pub mod StateTotals

@@ -1,0 +1,87 @@
+-- How many readers a write has, and how many requests hold it, once a request was set or taken out.
+use Rattle.std.proofs.Common.{◌≡◌, ℕ, ◌+◌, ◌≤◌, ◌==◌, if◌then◌else◌, Bool, true, false, Option, None, Some, List, refl, ap, sym, subst, ◌∙◌, arith}
+use Rattle.std.specs.Ordering.{nat_cmp}
+use Rattle.std.specs.Cmp.{nat_cmp_total}
+use Rattle.std.specs.FinMap.{FinMap, empty, get, insert, remove, nat_cmp-IsAntisymmetric}
+use Rattle.std.proofs.lemmas.Bool.Decides.{nat_tests}
+use Rattle.pcache_base.specs.Meta.{Meta}
+use Rattle.pcache_base.specs.Totals.{total, share}
+use Rattle.pcache_base.proofs.Totals.{total-insert, total-remove, total-empty}
+use Rattle.pcache_store.specs.Store.{Reader, Whole, Part}
+use Rattle.pingora_cache.specs.declared.world.entry.Event.{Event}
+use Rattle.pingora_cache.specs.Events.{in_flight, option_any}
+use Rattle.pingora_cache.specs.Held.{Held}
+use Rattle.pingora_cache.specs.Sound.{follows, pair_reader, readers_in, readers, writers_in, writers, AreHeld}
+
+pub readers-none : (w : ℕ) → readers empty w ≡ 0
+readers-none w = total-empty nat_cmp_total (readers_in w)
+
+pub writers-none : (w : ℕ) → writers empty w ≡ 0
+writers-none w = total-empty nat_cmp_total (writers_in w)
+
+module _ (all : FinMap nat_cmp Held) (r : ℕ) where
+  pub total-set : (f : Held → ℕ) (x : Held) → total f (insert all r x) + share f (get all r) ≡ total f all + f x
+  total-set f x = total-insert nat_cmp_total f all r x
+
+  pub total-unset : (f : Held → ℕ) → total f (remove all r) + share f (get all r) ≡ total f all
+  total-unset f = total-remove nat_cmp_total f nat_cmp-IsAntisymmetric all r
+
+  pub readers-insert : (x : Held) (w : ℕ) → readers (insert all r x) w + share (readers_in w) (get all r) ≡ readers all w + readers_in w x
+  readers-insert x w = total-set (readers_in w) x
+
+  pub readers-remove : (w : ℕ) → readers (remove all r) w + share (readers_in w) (get all r) ≡ readers all w
+  readers-remove w = total-unset (readers_in w)
+
+  pub writers-insert : (x : Held) (w : ℕ) → writers (insert all r x) w + share (writers_in w) (get all r) ≡ writers all w + writers_in w x
+  writers-insert x w = total-set (writers_in w) x
+
+  pub writers-remove : (w : ℕ) → writers (remove all r) w + share (writers_in w) (get all r) ≡ writers all w
+  writers-remove w = total-unset (writers_in w)
+
+  -- a request that was not there
+  module _ (none : get all r ≡ None) where
+    pub readers-new : (x : Held) (w : ℕ) → readers (insert all r x) w ≡ readers all w + readers_in w x
+    readers-new x w = let e = readers-insert x w in let z : share (readers_in w) (get all r) ≡ 0 = ap (share (readers_in w)) none in omega arith
+
+    pub writers-new : (x : Held) (w : ℕ) → writers (insert all r x) w ≡ writers all w + writers_in w x
+    writers-new x w = let e = writers-insert x w in let z : share (writers_in w) (get all r) ≡ 0 = ap (share (writers_in w)) none in omega arith
+
+  -- a request that is there
+  module _ (old : Held) (is : get all r ≡ Some old) where
+    pub readers-moved : (x : Held) (w : ℕ) → readers (insert all r x) w + readers_in w old ≡ readers all w + readers_in w x
+    readers-moved x w = subst (λ o. readers (insert all r x) w + share (readers_in w) o ≡ readers all w + readers_in w x) is (readers-insert x w)
+
+    pub readers-gone : (w : ℕ) → readers (remove all r) w + readers_in w old ≡ readers all w
+    readers-gone w = subst (λ o. readers (remove all r) w + share (readers_in w) o ≡ readers all w) is (readers-remove w)
+
+    pub writers-moved : (x : Held) (w : ℕ) → writers (insert all r x) w + writers_in w old ≡ writers all w + writers_in w x
+    writers-moved x w = subst (λ o. writers (insert all r x) w + share (writers_in w) o ≡ writers all w + writers_in w x) is (writers-insert x w)
+
+    pub writers-gone : (w : ℕ) → writers (remove all r) w + writers_in w old ≡ writers all w
+    writers-gone w = subst (λ o. writers (remove all r) w + share (writers_in w) o ≡ writers all w) is (writers-remove w)
+
+    pub reader-counted : (w : ℕ) → readers_in w old ≤ readers all w
+    reader-counted w = let e = readers-gone w in omega arith
+
+    pub reader-follows : (rd : Reader) → old.request.reader ≡ Some rd → (w : ℕ) → follows w (Some rd) ≤ readers all w
+    reader-follows rd e w =
+        let h : follows w old.request.reader ≡ follows w (Some rd) = ap (follows w) e in
+        let c = reader-counted w in
+        omega arith
+
+    pub pair-follows : (w : ℕ) → follows w (pair_reader old.pair) ≤ readers all w
+    pair-follows w = let c = reader-counted w in omega arith
+
+    writes-one : (w : ℕ) → old.request.write ≡ Some w → writers_in w old ≡ 1
+    writes-one w e =
+        let t : (w == w) ≡ true = grind (arith, nat_tests) in
+        ap (λ o. if option_any (λ q. q == w) o then 1 else 0) e ∙ ap (λ b. if b then 1 else 0) t
+
+    pub writer-counted : (w : ℕ) → old.request.write ≡ Some w → 1 ≤ writers all w
+    writer-counted w e = let one = writes-one w e in let c = writers-gone w in omega arith
+
+    -- the write that it holds is in flight, and no other request holds that
+    pub write-flies : (es : List Event) → AreHeld es all → (w : ℕ) → old.request.write ≡ Some w → in_flight w es ≡ true
+    write-flies es held w e =
+        let one = writer-counted w e in
+        elim (in_flight w es) as (λ b. writers all w ≡ (if b then 1 else 0) → b ≡ true) [ true ↦ λ _. refl | false ↦ λ h. absurd (omega arith) ] (held w)
