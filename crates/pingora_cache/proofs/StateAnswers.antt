@@ -215,8 +215,7 @@ same-part place fly_readers fly body told (Some b) = refl
 pub reads-is : (es : List Event) (n : ℕ → ℕ) (s : Store) → IsState es n s → (rd : Reader) → ((w : ℕ) → follows w (Some rd) ≤ n w) → read_of s rd ≡ reads es rd
 reads-is es n s st (Whole body start stop done) h = refl
 reads-is es n s st (Part w place) h =
-    let one : (if w == w then 1 else 0) ≡ 1 = ap (λ b. if b then 1 else 0) (same-number w) in
-    let most : (if w == w then 1 else 0) ≤ n w = h w in
+    let most : 1 ≤ n w = subst (λ b. (if b then 1 else 0) ≤ n w) (same-number w) (h w) in
     ap (read_part place) (record-read es n s st w (omega arith)) ∙ same-part place (n w) (in_flight w es) (ev.body_of w es) (ev.is_told w es) (begin_of w es)
 
 past-part : (w place : ℕ) (o : Option Written) → read_past (read_part place o) (Part w place) ≡ Part w (place_after place o)
