@@ -8,3 +8,7 @@ pub mod StateSlots
 pub mod StatePurges
 pub mod StateAnswers
 pub mod StateTotals
+pub mod Steps
+pub mod Tidy
+pub mod Exact
+pub mod Bound
