@@ -12,7 +12,7 @@ use Rattle.pingora_cache.specs.declared.world.entry.Event.{Event}
 use Rattle.pingora_cache.specs.declared.world.entry.Event.TheVariants.{Admit, Purge}
 use Rattle.pingora_cache.specs.Events.{begun, begin_of, since, removes, names_slot, names_key, option_any, in_flight, is_open, complete}
 use Rattle.pingora_cache.specs.Sound.{record_of, IsTidy, IsState}
-use Rattle.pingora_cache.proofs.StateBodies.{complete-purge, complete-admit}
+use Rattle.pingora_cache.proofs.Steps.{complete-purge, complete-admit}
 use Rattle.pingora_cache.proofs.StateWrites.{get-unset}
 
 -- the store is what the events say, less the keys of a test

@@ -13,7 +13,7 @@ use Rattle.pingora_cache.specs.declared.world.entry.Event.TheVariants.{Begin, Fi
 use Rattle.pingora_cache.specs.Events as ev
 use Rattle.pingora_cache.specs.Events.{begin_of, since, removes, option_any, is_removed, has_ended, in_flight, is_told, is_of, is_open, complete}
 use Rattle.pingora_cache.specs.Sound.{record_of, IsTidy, IsState}
-use Rattle.pingora_cache.proofs.StateBodies.{flies, complete-begin, complete-finish}
+use Rattle.pingora_cache.proofs.Steps.{complete-begin, complete-finish}
 use Rattle.pingora_cache.proofs.StateWrites.{same-number, get-set, get-unset, get-kept, changed-at, kept_as, recorded, begun-flying, record-flying}
 
 -- ---- slots that hold nothing
@@ -184,7 +184,7 @@ state-finished es n s w fly kept st =
       fresh = ended-fresh es n s st w b f.1 ys (Some y) set (λ q. gone-key x.fresh w q ∙ ap (λ o. cond (w == q) false (is_fresh_in q o)) (sym g.1));
       bodies = λ k. ap body_of (set k)
           ∙ elim (b.0 == k) as (λ t. body_of (cond t (Some y) (get s.slots k)) ≡ (if t then Some c else body_of (get s.slots k))) [ true ↦ refl | false ↦ refl ]
-          ∙ ap (λ o. if b.0 == k then Some c else o) (st.bodies k) ∙ sym (complete-finish es w b f.1 kept k);
+          ∙ ap (λ o. if b.0 == k then Some c else o) (st.bodies k) ∙ sym (complete-finish es w b.0 b.1 f.1 kept k);
       filled = filled-at s.slots ys b.0 (Some y) set (λ z e. let same : y ≡ z = cc in ap is_idle (sym same)) st.filled;
       known = st.known;
     }))
@@ -261,7 +261,7 @@ module _ (es : List Event) (n : ℕ → ℕ) (s : Store) (k : ℕ) (m : Meta) (t
         next = ap (λ x. x + 1) st.next;
         writes = begun-writes;
         fresh = begun-fresh;
-        bodies = λ j. bodies-at s.slots (opened s.slots k s.next) k (Some y) set (new-body (get s.slots k)) j ∙ st.bodies j ∙ sym (complete-begin es s.next k m tidy st.next j);
+        bodies = λ j. bodies-at s.slots (opened s.slots k s.next) k (Some y) set (new-body (get s.slots k)) j ∙ st.bodies j ∙ sym (ap (λ x. complete j (Begin x k m ∷ es)) st.next ∙ complete-begin es k m tidy j);
         filled = filled-at s.slots (opened s.slots k s.next) k (Some y) set (λ z e. let same : y ≡ z = cc in ap is_idle (sym same) ∙ busy-key y s.next has) st.filled;
         known = λ q lt. elim (s.next == q) as (λ b. is_some (if b then Some (k, m) else begin_of q es) ≡ true) [ true ↦ refl | false ↦ st.known q lt ];
       }

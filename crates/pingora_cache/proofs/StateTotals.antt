@@ -6,9 +6,9 @@ use Rattle.std.specs.List.{list_any, AllByRecursion, IsDistinct, sum_by}
 use Rattle.std.specs.Ordering.{nat_cmp, eq_by_cmp, is_eq}
 use Rattle.std.specs.Cmp.{nat_cmp_total, eq_by_cmp_equiv, tied_itself}
 use Rattle.std.specs.FinMap.{FinMap, get, remove, entries, len, find, get-remove, get-entries, len-remove, len-entries, empty_of_len, nat_cmp-IsAntisymmetric}
-use Rattle.std.proofs.lemmas.Bool.{eqb-true, or_left, or_right, or_parts}
+use Rattle.std.proofs.lemmas.Bool.{eqb-true, or_left, or_right}
 use Rattle.std.proofs.lemmas.List.Sums.{sum_by-cons}
-use Rattle.std.proofs.lemmas.Map.Keys.{IsDistinct-cons, IsDistinct-head, IsDistinct-tail}
+use Rattle.std.proofs.lemmas.Map.Keys.{IsDistinct-head, IsDistinct-tail}
 use Rattle.pcache_base.specs.Meta.{Meta}
 use Rattle.pcache_base.specs.Totals.{total, share}
 use Rattle.pcache_base.proofs.Totals.{total-remove, total-empty, get-remove_apart}
@@ -18,6 +18,7 @@ use Rattle.pingora_cache.specs.declared.world.entry.Event.{Event}
 use Rattle.pingora_cache.specs.declared.world.entry.Event.TheVariants.{Look, Ask, Access, Begin, Wrote, Finish, Dropped, Release, LetGo, Admit, Purge, Untrack, Read}
 use Rattle.pingora_cache.specs.Events.{begin_of, option_any, is_removed, last_finished, body_stored, complete, with_key, finished_keys, size_of, stored, slots}
 use Rattle.pingora_cache.specs.Sound.{IsState}
+use Rattle.pingora_cache.proofs.Bound.{keys_distinct}
 use Rattle.pingora_cache.proofs.StateWrites.{cmp_same}
 
 -- ---- a sum over keys, where the map's other keys add nothing
@@ -70,39 +71,6 @@ module _ {X : Type 0} (f : X → ℕ) where
 any_same : (q : ℕ) (ks : List ℕ) → list_any (eq_by_cmp nat_cmp q) ks ≡ list_any (λ k. k == q) ks
 any_same q [] = refl
 any_same q (k ∷ ks) = λ i. cmp_same q k i || any_same q ks i
-
-none_same : (k : ℕ) (ks : List ℕ) → list_any (λ q. q == k) ks ≡ false → AllByRecursion (λ y. eq_by_cmp nat_cmp k y ≡ false) ks
-none_same k [] h = tt
-none_same k (q ∷ ks) h = let p = or_parts (q == k) (list_any (λ q. q == k) ks) h in (cmp_same k q ∙ p.0, none_same k ks p.1)
-
-distinct-with : (o : Option ℕ) (ks : List ℕ) → IsDistinct (eq_by_cmp nat_cmp) ks → IsDistinct (eq_by_cmp nat_cmp) (with_key o ks)
-distinct-with None ks d = d
-distinct-with (Some k) ks d =
-    elim (list_any (λ q. q == k) ks) as (λ b. list_any (λ q. q == k) ks ≡ b → IsDistinct (eq_by_cmp nat_cmp) (if b then ks else k ∷ ks)) [
-      | true ↦ λ _. d
-      | false ↦ λ none. IsDistinct-cons (eq_by_cmp nat_cmp) k ks (none_same k ks none) d
-    ] refl
-
-nil_distinct : IsDistinct (eq_by_cmp nat_cmp) []
-unfolding IsDistinct
-nil_distinct = tt
-
-pub keys_distinct : (es : List Event) → IsDistinct (eq_by_cmp nat_cmp) (finished_keys es)
-keys_distinct [] = nil_distinct
-keys_distinct (Finish w true ∷ es) = distinct-with (option_map (λ (b : ℕ × Meta). b.0) (begin_of w es)) (finished_keys es) (keys_distinct es)
-keys_distinct (Finish w false ∷ es) = keys_distinct es
-keys_distinct (Begin w k m ∷ es) = keys_distinct es
-keys_distinct (Look k a ∷ es) = keys_distinct es
-keys_distinct (Ask k lock is_permit ∷ es) = keys_distinct es
-keys_distinct (Access e n ∷ es) = keys_distinct es
-keys_distinct (Wrote w bs eof ∷ es) = keys_distinct es
-keys_distinct (Dropped w ∷ es) = keys_distinct es
-keys_distinct (Release lock ∷ es) = keys_distinct es
-keys_distinct (LetGo lock ∷ es) = keys_distinct es
-keys_distinct (Admit e n out ∷ es) = keys_distinct es
-keys_distinct (Purge k ∷ es) = keys_distinct es
-keys_distinct (Untrack e ∷ es) = keys_distinct es
-keys_distinct (Read a ∷ es) = keys_distinct es
 
 -- each key with a last finished write is among them
 with_more : (o : Option ℕ) (ks : List ℕ) (k : ℕ) → list_any (λ q. q == k) ks ≡ true → list_any (λ q. q == k) (with_key o ks) ≡ true

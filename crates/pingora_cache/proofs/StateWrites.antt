@@ -15,7 +15,7 @@ use Rattle.pingora_cache.specs.declared.world.entry.Event.TheVariants.{Wrote}
 use Rattle.pingora_cache.specs.Events.{begin_of, has_ended, in_flight, is_told, body_of}
 use Rattle.pingora_cache.specs.Sound.{follows, pair_reader, record_of, IsTidy, IsState}
 use Rattle.pingora_cache.proofs.States.{state-same}
-use Rattle.pingora_cache.proofs.StateBodies.{flies, complete-wrote}
+use Rattle.pingora_cache.proofs.Steps.{flies, complete-wrote}
 
 pub cmp_same : (q w : ℕ) → eq_by_cmp nat_cmp q w ≡ (w == q)
 cmp_same q w = grind (arith, nat_tests)
