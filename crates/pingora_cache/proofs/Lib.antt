@@ -2,6 +2,7 @@ pub mod Bound
 pub mod Counts
 pub mod Exact
 pub mod History
+pub mod Opened
 pub mod Purging
 pub mod StateAnswers
 pub mod StateCalls
