@@ -1,5 +1,5 @@
 -- How many readers a write has, and how many requests hold it, once a request was set or taken out.
-use Rattle.std.proofs.Common.{◌≡◌, ℕ, ◌+◌, ◌≤◌, ◌==◌, ◌&&◌, ◌||◌, not, if◌then◌else◌, Bool, true, false, Option, None, Some, is_some, List, ◌∷◌, refl, ap, sym, subst, ◌∙◌, arith, add-zero}
+use Rattle.std.proofs.Common.{◌≡◌, ℕ, ◌+◌, ◌≤◌, ◌==◌, ◌&&◌, ◌||◌, not, if◌then◌else◌, Bool, true, false, None, Some, is_some, List, ◌∷◌, refl, ap, sym, subst, ◌∙◌, arith, add-zero}
 use Rattle.std.specs.Ordering.{nat_cmp}
 use Rattle.std.specs.Cmp.{nat_cmp_total}
 use Rattle.std.specs.FinMap.{FinMap, empty, get, insert, remove, nat_cmp-IsAntisymmetric}
@@ -8,7 +8,7 @@ use Rattle.std.proofs.lemmas.Bool.Decides.{nat_tests}
 use Rattle.pcache_base.specs.Meta.{Meta}
 use Rattle.pcache_base.specs.Totals.{total, share}
 use Rattle.pcache_base.proofs.Totals.{total-insert, total-remove, total-empty}
-use Rattle.pcache_store.specs.Store.{Reader, Whole, Part}
+use Rattle.pcache_store.specs.Store.{Reader}
 use Rattle.pingora_cache.specs.declared.world.entry.Event.{Event}
 use Rattle.pingora_cache.specs.declared.world.entry.Event.TheVariants.{Begin, Finish, Dropped}
 use Rattle.pingora_cache.specs.Events.{begun, begin_of, has_ended, in_flight, option_any}

@@ -1,6 +1,6 @@
 -- What a store answers is what the events say, where it is what they say.
-use Rattle.std.proofs.Common.{◌≡◌, ℕ, ◌+◌, ◌-◌, ◌<◌, ◌≤◌, ◌==◌, Bool, true, false, not, cond, ◌&&◌, ◌||◌, T, if◌then◌else◌, Option, None, Some, is_some, is_none, List, [], ◌∷◌, length, drop, refl, ap, sym, subst, ◌∙◌, arith, inl, inr, ◌⊎◌, length-drop, ltb-true, ne_eqb}
-use Rattle.std.specs.Prelude.{nat_lt, IsSome, IsTrue}
+use Rattle.std.proofs.Common.{◌≡◌, ℕ, ◌+◌, ◌-◌, ◌<◌, ◌≤◌, ◌==◌, Bool, true, false, not, cond, ◌&&◌, T, if◌then◌else◌, Option, None, Some, is_some, is_none, List, [], ◌∷◌, length, drop, refl, ap, sym, subst, ◌∙◌, arith, inl, inr, length-drop, ltb-true, ne_eqb}
+use Rattle.std.specs.Prelude.{nat_lt, IsSome}
 use Rattle.std.specs.Option.{option_map}
 use Rattle.std.specs.Ordering.{nat_cmp, is_lt, is_eq}
 use Rattle.std.specs.declared.cmp.Ordering.TheVariants.{Less, Equal, Greater}
@@ -8,9 +8,8 @@ use Rattle.std.specs.Cmp.{nat_cmp_total, tied_itself}
 use Rattle.std.specs.FinMap.{FinMap, get, contains_key, len, entries, get-entries, entries_sorted, len-entries}
 use Rattle.std.specs.FinMap as map
 use Rattle.std.specs.FinMap.Entries.{is_sorted, below_all}
-use Rattle.std.proofs.lemmas.Bool.{eqb-true, both_ways, and_parts}
+use Rattle.std.proofs.lemmas.Bool.{and_parts}
 use Rattle.pcache_base.specs.Meta.{Meta}
-use Rattle.pcache_base.specs.declared.poll.Poll.{Poll}
 use Rattle.pcache_base.specs.declared.poll.Poll.TheVariants.{Ready, Pending}
 use Rattle.pcache_store.specs.Numbers.{first_key, least}
 use Rattle.pcache_store.specs.Store.{Store, Slot, Stored, Written, Reader, Whole, Part, found_body, found_part, found_first, found_in, find, found_flying, find_write, followed, is_fresh_in, is_idle, stands_on, stands, read_part, read_of, place_after, reader_after}
@@ -21,9 +20,9 @@ use Rattle.pingora_cache.specs.declared.world.entry.Event.{Event}
 use Rattle.pingora_cache.specs.Events as ev
 use Rattle.pingora_cache.specs.Events.{begin_of, in_flight, is_of, is_open, is_removed, complete}
 use Rattle.pingora_cache.specs.Held.{pair_of, read_past}
-use Rattle.pingora_cache.specs.Legal.{Finds, HasAny, written_of, reads}
-use Rattle.pingora_cache.specs.Sound.{follows, pair_reader, IsTidy, IsState}
-use Rattle.pingora_cache.proofs.StateWrites.{cmp_same, same-number, kept_as, begun-flying, record-flying, record-read, read_in, part_of, state-followed}
+use Rattle.pingora_cache.specs.Legal.{Finds, HasAny, reads}
+use Rattle.pingora_cache.specs.Sound.{follows, pair_reader, IsState}
+use Rattle.pingora_cache.proofs.StateWrites.{cmp_same, same-number, kept_as, begun-flying, record-flying, record-read, part_of, state-followed}
 
 -- ---- the least number
 

@@ -1,6 +1,5 @@
 -- The store after what one call of a request does to it.
-use Rattle.std.proofs.Common.{◌≡◌, ℕ, ◌+◌, ◌==◌, ◌&&◌, Bool, true, false, cond, if◌then◌else◌, Option, None, Some, is_some, List, [], ◌∷◌, ◌++◌, refl, ap, sym, subst, ◌∙◌, arith}
-use Rattle.std.specs.Ordering.{nat_cmp}
+use Rattle.std.proofs.Common.{◌≡◌, ℕ, ◌+◌, Bool, true, false, cond, Option, None, Some, List, ◌∷◌, ◌++◌, refl, ap, sym, subst, ◌∙◌, arith}
 use Rattle.std.specs.FinMap.{get}
 use Rattle.pcache_base.specs.Key.{Key, slot}
 use Rattle.pcache_base.specs.Meta.{Meta}
@@ -9,7 +8,7 @@ use Rattle.pingora_cache.specs.Requests.{Request, left_by, dropped_by, store_fou
 use Rattle.pingora_cache.specs.Phases.{is_treated_as_miss}
 use Rattle.pingora_cache.specs.declared.phase.HitStatus.{HitStatus}
 use Rattle.pingora_cache.specs.declared.world.entry.Event.{Event}
-use Rattle.pingora_cache.specs.declared.world.entry.Event.TheVariants.{Begin, Dropped}
+use Rattle.pingora_cache.specs.declared.world.entry.Event.TheVariants.{Begin}
 use Rattle.pingora_cache.specs.Events.{in_flight}
 use Rattle.pingora_cache.specs.Legal.{drop_of}
 use Rattle.pingora_cache.specs.Sound.{follows, pair_reader, IsTidy, IsState}

@@ -1,11 +1,11 @@
 -- The store after keys were removed: by a purge, and by an admission that evicts.
-use Rattle.std.proofs.Common.{◌≡◌, ℕ, ◌+◌, ◌<◌, ◌==◌, Bool, true, false, not, cond, ◌&&◌, ◌||◌, if◌then◌else◌, Option, None, Some, is_some, List, [], ◌∷◌, refl, ap, sym, subst, ◌∙◌, arith, inl, inr}
+use Rattle.std.proofs.Common.{◌≡◌, ℕ, ◌<◌, ◌==◌, Bool, true, false, not, cond, ◌&&◌, ◌||◌, if◌then◌else◌, Option, None, Some, is_some, List, [], ◌∷◌, refl, ap, sym, subst, ◌∙◌, arith, inl, inr}
 use Rattle.std.specs.List.{list_any}
 use Rattle.std.specs.FinMap.{get, remove}
 use Rattle.std.proofs.lemmas.Bool.{eqb-true}
 use Rattle.pcache_base.specs.Meta.{Meta}
 use Rattle.pcache_evict.specs.declared.eviction.entry_key.CacheEntryKey.{CacheEntryKey}
-use Rattle.pcache_store.specs.Store.{Store, Slot, Stored, is_fresh_in, is_idle, body_of, purged}
+use Rattle.pcache_store.specs.Store.{Store, Slot, is_fresh_in, is_idle, body_of, purged}
 use Rattle.pcache_store.specs.Purge.{purged_at}
 use Rattle.pingora_cache.specs.Finishing.{PurgesAll, entry_slot}
 use Rattle.pingora_cache.specs.declared.world.entry.Event.{Event}

@@ -1,13 +1,11 @@
 -- The slots of a store: after a write began or ended, and after removals.
-use Rattle.std.proofs.Common.{◌≡◌, ℕ, ◌+◌, ◌<◌, ◌≤◌, ◌==◌, Bool, true, false, not, cond, ◌&&◌, ◌||◌, if◌then◌else◌, Option, None, Some, is_some, is_none, List, [], ◌∷◌, refl, ap, sym, subst, ◌∙◌, arith, inl, inr}
-use Rattle.std.specs.Prelude.{nat_lt}
-use Rattle.std.specs.Option.{option_map}
+use Rattle.std.proofs.Common.{◌≡◌, ℕ, ◌+◌, ◌≤◌, ◌==◌, Bool, true, false, not, cond, ◌&&◌, ◌||◌, if◌then◌else◌, Option, None, Some, is_some, is_none, List, [], ◌∷◌, refl, ap, sym, subst, ◌∙◌, arith, inl, inr}
 use Rattle.std.specs.List.{list_any}
 use Rattle.std.specs.Ordering.{nat_cmp}
-use Rattle.std.specs.FinMap.{FinMap, empty, get, insert, remove, contains_key, len, get-empty, empty_of_len}
+use Rattle.std.specs.FinMap.{FinMap, get, insert, remove, contains_key, len, get-empty, empty_of_len}
 use Rattle.std.proofs.lemmas.Bool.{eqb-true, both_ways, and_parts, cases_lt, false_from_ne_true}
 use Rattle.pcache_base.specs.Meta.{Meta}
-use Rattle.pcache_store.specs.Store.{Store, Slot, Stored, Written, is_fresh_in, is_idle, body_of, with_slot, slot_or_new, opened_in, opened, new_write, begun, is_named, grounded, shut_on, shut, dropped_on, dropped, stored_on, finished_on, finished}
+use Rattle.pcache_store.specs.Store.{Store, Slot, Stored, is_fresh_in, is_idle, body_of, with_slot, slot_or_new, opened_in, opened, new_write, begun, grounded, shut_on, shut, dropped_on, dropped, stored_on, finished_on, finished}
 use Rattle.pingora_cache.specs.declared.world.entry.Event.{Event}
 use Rattle.pingora_cache.specs.declared.world.entry.Event.TheVariants.{Begin, Finish, Dropped}
 use Rattle.pingora_cache.specs.Events as ev

@@ -1,5 +1,5 @@
 -- What is stored by the events is what stands in the store.
-use Rattle.std.proofs.Common.{◌≡◌, ℕ, suc, zero, ◌+◌, ◌-◌, ◌≤◌, ◌<◌, ◌==◌, ◌||◌, Bool, true, false, cond, if◌then◌else◌, Option, None, Some, is_some, List, [], ◌∷◌, length, refl, ap, sym, subst, ◌∙◌, arith, inl, inr, ◌⊎◌}
+use Rattle.std.proofs.Common.{◌≡◌, ℕ, suc, zero, ◌+◌, ◌-◌, ◌==◌, ◌||◌, true, false, cond, if◌then◌else◌, Option, None, Some, is_some, List, [], ◌∷◌, length, refl, ap, sym, subst, ◌∙◌, arith, inl, inr, ◌⊎◌}
 use Rattle.std.specs.Option.{option_map, option_and_then}
 use Rattle.std.specs.Bool.{IsTrue}
 use Rattle.std.specs.List.{list_any, AllByRecursion, IsDistinct, sum_by}

@@ -1,21 +1,20 @@
 -- The records of writes: after a reader more or less, and after more bytes.
-use Rattle.std.proofs.Common.{◌≡◌, ℕ, ◌+◌, ◌-◌, ◌<◌, ◌≤◌, ◌==◌, Bool, true, false, not, cond, ◌&&◌, ◌||◌, if◌then◌else◌, Option, None, Some, is_some, List, [], ◌∷◌, ◌++◌, refl, ap, sym, subst, ◌∙◌, arith, lt-ltb}
+use Rattle.std.proofs.Common.{◌≡◌, ℕ, ◌+◌, ◌-◌, ◌<◌, ◌==◌, Bool, true, false, cond, ◌||◌, if◌then◌else◌, Option, None, Some, is_some, List, refl, ap, sym, subst, ◌∙◌, arith, lt-ltb}
 use Rattle.std.specs.Prelude.{nat_lt}
 use Rattle.std.specs.Option.{option_map}
 use Rattle.std.specs.Ordering.{nat_cmp, eq_by_cmp}
 use Rattle.std.specs.Cmp.{nat_cmp_total}
 use Rattle.std.specs.FinMap.{FinMap, get, insert, remove, get-insert, get-remove}
-use Rattle.std.proofs.lemmas.Bool.{eqb-true, both_ways, and_parts, or_right}
+use Rattle.std.proofs.lemmas.Bool.{eqb-true, both_ways, or_right}
 use Rattle.std.proofs.lemmas.Bool.Decides.{nat_tests}
 use Rattle.pcache_base.specs.Meta.{Meta}
-use Rattle.pcache_store.specs.Store.{Store, Written, Reader, Whole, Part, Slot, Stored, found_body, found_part, found_first, found_in, find, found_flying, find_write, is_named, kept, joined_on, joined, followed_by, followed, left_on, left, wrote_on, wrote}
+use Rattle.pcache_store.specs.Store.{Store, Written, Reader, Whole, Part, is_named, kept, joined_on, joined, followed_by, followed, left_on, left}
 use Rattle.pingora_cache.specs.Requests.{left_by}
 use Rattle.pingora_cache.specs.declared.world.entry.Event.{Event}
-use Rattle.pingora_cache.specs.declared.world.entry.Event.TheVariants.{Wrote}
-use Rattle.pingora_cache.specs.Events.{begin_of, has_ended, in_flight, is_told, body_of}
-use Rattle.pingora_cache.specs.Sound.{follows, pair_reader, record_of, IsTidy, IsState}
+use Rattle.pingora_cache.specs.Events.{begin_of, in_flight, is_told, body_of}
+use Rattle.pingora_cache.specs.Sound.{follows, pair_reader, record_of, IsState}
 use Rattle.pingora_cache.proofs.States.{state-same}
-use Rattle.pingora_cache.proofs.Steps.{flies, complete-wrote}
+use Rattle.pingora_cache.proofs.Steps.{flies}
 
 pub cmp_same : (q w : ℕ) → eq_by_cmp nat_cmp q w ≡ (w == q)
 cmp_same q w = grind (arith, nat_tests)
