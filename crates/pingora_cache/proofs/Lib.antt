@@ -1,2 +1,15 @@
+pub mod Bound
+pub mod Counts
+pub mod Exact
 pub mod History
+pub mod Opened
 pub mod Purging
+pub mod StateAnswers
+pub mod StateCalls
+pub mod StatePurges
+pub mod StateSlots
+pub mod StateTotals
+pub mod StateWrites
+pub mod States
+pub mod Steps
+pub mod Tidy

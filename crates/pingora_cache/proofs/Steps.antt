@@ -1,0 +1,83 @@
+-- What stands under a key after one more event.
+use Rattle.std.proofs.Common.{◌≡◌, ℕ, ◌<◌, Bool, true, false, not, ◌&&◌, ◌||◌, ◌==◌, if◌then◌else◌, Option, None, Some, is_some, List, [], ◌∷◌, ◌++◌, refl, ap, sym, subst, ◌∙◌, arith, inl, inr}
+use Rattle.std.specs.Option.{option_map, option_and_then}
+use Rattle.std.specs.List.{list_any}
+use Rattle.std.proofs.lemmas.Bool.{eqb-true, ne_eqb, and_parts, both_ways, cases_lt}
+use Rattle.pcache_base.specs.Meta.{Meta}
+use Rattle.pcache_evict.specs.declared.eviction.entry_key.CacheEntryKey.{CacheEntryKey}
+use Rattle.pcache_store.specs.Store.{Stored}
+use Rattle.pingora_cache.specs.declared.world.entry.Event.{Event}
+use Rattle.pingora_cache.specs.declared.world.entry.Event.TheVariants.{Begin, Wrote, Finish, Admit, Purge}
+use Rattle.pingora_cache.specs.Events.{begun, begin_of, since, removes, names_key, option_any, is_removed, has_ended, in_flight, body_of, is_of, last_finished, complete}
+use Rattle.pingora_cache.specs.Sound.{IsTidy}
+
+-- a write in flight was begun, and has not ended
+pub flies : (w : ℕ) (es : List Event) → in_flight w es ≡ true → (is_some (begin_of w es) ≡ true) × (has_ended w es ≡ false)
+flies w es h = let p = and_parts _ _ h in (p.0, elim (has_ended w es) as (λ b. not b ≡ true → b ≡ false) [ true ↦ λ e. cc | false ↦ λ e. refl ] p.1)
+
+pub below : (w : ℕ) (es : List Event) → IsTidy es → is_some (begin_of w es) ≡ true → w < begun es
+below w es tidy h = elim (cases_lt w (begun es)) [ inl lt ↦ lt | inr ge ↦ absurd (both_ways _ (ap is_some (tidy.fresh w ge)) h) ]
+
+-- a write of a key was begun
+pub begun_of : (k w : ℕ) (es : List Event) → is_of k w es ≡ true → is_some (begin_of w es) ≡ true
+begun_of k w es h = elim (begin_of w es) as (λ o. option_any (λ (b : ℕ × Meta). b.0 == k) o ≡ true → is_some o ≡ true) [ None ↦ λ e. cc | Some b ↦ λ _. refl ] h
+
+-- what stands of the last finished write of a key, where two readings of each write agree
+by_last : {A : Type 0} (o : Option ℕ) (f g : ℕ → Option A) → ((w : ℕ) → o ≡ Some w → f w ≡ g w) → option_and_then f o ≡ option_and_then g o
+by_last None f g h = refl
+by_last (Some w) f g h = h w refl
+
+-- a body, unless its write met a removal
+abbrev pub unless_removed : Bool → Option (ℕ × Meta) → List ℕ → Option Stored
+unless_removed b o body = if b then None else option_map (λ x. record { meta = x.1; bytes = body }) o
+
+pub complete-wrote : (es : List Event) (w : ℕ) (bs : List ℕ) (eof : Bool) → IsTidy es → in_flight w es ≡ true → (k : ℕ) → complete k (Wrote w bs eof ∷ es) ≡ complete k es
+complete-wrote es w bs eof tidy fly k =
+    by_last (last_finished k es) _ _ (λ x is.
+    let apart : (w == x) ≡ false = ne_eqb w x (λ same. both_ways _ (flies w es fly).1 (subst (λ y. has_ended y es ≡ true) (sym same) (tidy.finished k x is).0)) in
+    ap (λ b. unless_removed (is_removed x es) (begin_of x es) (if b then body_of x es ++ bs else body_of x es)) apart)
+
+pub complete-begin : (es : List Event) (k : ℕ) (m : Meta) → IsTidy es → (q : ℕ) → complete q (Begin (begun es) k m ∷ es) ≡ complete q es
+complete-begin es k m tidy q =
+    by_last (last_finished q es) _ _ (λ x is.
+    let lt : x < begun es = below x es tidy (begun_of q x es (tidy.finished q x is).1) in
+    let apart : (begun es == x) ≡ false = ne_eqb (begun es) x (omega arith) in
+    ap (λ b. unless_removed (option_any (λ (a : ℕ × Meta). list_any (removes a.0) (if b then [] else Begin (begun es) k m ∷ since x es)) (if b then Some (k, m) else begin_of x es)) (if b then Some (k, m) else begin_of x es) (body_of x es)) apart)
+
+-- an event that removes keys
+removed-last : (p : ℕ → Bool) (k : ℕ) (o : Option (ℕ × Meta)) (rest : List Event) (body : List ℕ) → option_any (λ (b : ℕ × Meta). b.0 == k) o ≡ true
+    → unless_removed (option_any (λ (b : ℕ × Meta). p b.0 || list_any (removes b.0) rest) o) o body ≡ (if p k then None else unless_removed (option_any (λ (b : ℕ × Meta). list_any (removes b.0) rest) o) o body)
+removed-last p k None rest body h = cc
+removed-last p k (Some e) rest body h =
+    ap (λ x. unless_removed (x || list_any (removes e.0) rest) (Some e) body) (ap p (eqb-true e.0 k h))
+    ∙ elim (p k) as (λ x. unless_removed (x || list_any (removes e.0) rest) (Some e) body ≡ (if x then None else unless_removed (list_any (removes e.0) rest) (Some e) body)) [ true ↦ refl | false ↦ refl ]
+
+under : {A : Type 0} (b : Bool) (o : Option ℕ) (f : ℕ → Option A) → option_and_then (λ w. if b then None else f w) o ≡ (if b then None else option_and_then f o)
+under true None f = refl
+under true (Some w) f = refl
+under false o f = refl
+
+pub complete-purge : (es : List Event) (k : ℕ) → IsTidy es → (q : ℕ) → complete q (Purge k ∷ es) ≡ (if k == q then None else complete q es)
+complete-purge es k tidy q =
+    by_last (last_finished q es) _ (λ x. if k == q then None else unless_removed (is_removed x es) (begin_of x es) (body_of x es)) (λ x is.
+    removed-last (λ y. k == y) q (begin_of x es) (since x es) (body_of x es) (tidy.finished q x is).1)
+    ∙ under (k == q) (last_finished q es) _
+
+pub complete-admit : (es : List Event) (e : CacheEntryKey) (n : ℕ) (out : List CacheEntryKey) → IsTidy es → (q : ℕ) → complete q (Admit e n out ∷ es) ≡ (if names_key q out then None else complete q es)
+complete-admit es e n out tidy q =
+    by_last (last_finished q es) _ (λ x. if names_key q out then None else unless_removed (is_removed x es) (begin_of x es) (body_of x es)) (λ x is.
+    removed-last (λ y. names_key y out) q (begin_of x es) (since x es) (body_of x es) (tidy.finished q x is).1)
+    ∙ under (names_key q out) (last_finished q es) _
+
+-- the body of a write that is finished
+abbrev pub body_with : Meta → List ℕ → Stored
+body_with m body = record { meta = m; bytes = body }
+
+-- a finish that stores
+pub complete-finish : (es : List Event) (w k : ℕ) (m : Meta) → begin_of w es ≡ Some (k, m) → is_removed w es ≡ false → (q : ℕ) → complete q (Finish w true ∷ es) ≡ (if k == q then Some (body_with m (body_of w es)) else complete q es)
+complete-finish es w k m is kept q =
+    ap (λ o. option_and_then (λ x. unless_removed (is_removed x es) (begin_of x es) (body_of x es)) (if option_any (λ (b : ℕ × Meta). b.0 == q) o then Some w else last_finished q es)) is
+    ∙ elim (k == q) as (λ b. option_and_then (λ x. unless_removed (is_removed x es) (begin_of x es) (body_of x es)) (if b then Some w else last_finished q es) ≡ (if b then Some (body_with m (body_of w es)) else complete q es)) [
+      | true ↦ ap (λ b. unless_removed b (begin_of w es) (body_of w es)) kept ∙ ap (λ o. unless_removed false o (body_of w es)) is
+      | false ↦ refl
+    ]
