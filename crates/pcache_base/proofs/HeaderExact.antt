@@ -239,9 +239,6 @@ fields_again m (f ∷ lines) valid held =
 
 -- ---- the line of version and status
 
-version_if : (bytes text : List ℕ) (b : Bool) → bytes_eq bytes text ≡ b → b ≡ true → bytes ≡ text
-version_if bytes text b e t = (bytes_eq-Decides bytes text).0 (e ∙ t)
-
 version_takes : (bytes : List ℕ) (v : HttpVersion) → version_at bytes ≡ Some v → bytes ≡ version_text v ++ 0x20 ∷ []
 unfolding version_at
 version_takes bytes v e = elim (chosen (bytes_eq bytes (codes "HTTP/0.9 ")) _ _ _ e) [

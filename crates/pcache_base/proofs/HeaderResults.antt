@@ -28,10 +28,3 @@ header_refused bytes r h gives refused spelled =
     let none : header_at bytes ≡ None = subst P refused gives in
     let some = header_again bytes h spelled in
     cc (none, some)
-
-pub header_kinds : (bytes : List ℕ) (r : Result ResponseHeader ErrorType) → GivesOrWants (λ h. shown h) r (header_at bytes)
-    → IfErr r (λ e. (e ≡ OutOfMemory) ⊎ (e ≡ InternalError))
-header_kinds bytes (Ok h) gives = tt
-header_kinds bytes (Err InternalError) gives = inr refl
-header_kinds bytes (Err OutOfMemory) gives = inl refl
-header_kinds bytes (Err _) gives = absurd gives

@@ -1,5 +1,6 @@
 pub mod Blake2b
 pub mod CompactKey
+pub mod Fills
 pub mod Hashing
 pub mod Header
 pub mod HeaderReading
@@ -12,9 +13,10 @@ pub mod MetaBytes
 pub mod MetaReading
 pub mod MetaSpelling
 pub mod MetaWriting
-pub mod Moments
 pub mod MomentParts
+pub mod Moments
 pub mod Reading
 pub mod Reasons
 pub mod Spelling
+pub mod Totals
 pub mod Writing
