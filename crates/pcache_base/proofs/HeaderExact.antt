@@ -1,6 +1,6 @@
 -- The text of a head is read exactly where it is spelled.
-use Rattle.std.proofs.Common.{◌≡◌, ℕ, zero, suc, ◌+◌, ◌^◌, ◌<◌, ◌≤◌, Bool, true, false, cond, eqb, List, [], ◌∷◌, ◌++◌, length, Option, Some, None, refl, sym, ap, subst, ◌∙◌, append_assoc, arith, inl, inr, ◌⊎◌, length-append}
-use Rattle.std.specs.Prelude.{All, ◌&&◌, IsTrue, Result, Ok, Err, IfOk, IfErr, IsErrOf, bytes_eq, codes}
+use Rattle.std.proofs.Common.{◌≡◌, ℕ, zero, suc, ◌<◌, ◌≤◌, Bool, true, false, eqb, List, [], ◌∷◌, ◌++◌, length, Option, Some, None, refl, sym, ap, subst, ◌∙◌, append_assoc, arith, inl, inr, length-append}
+use Rattle.std.specs.Prelude.{All, ◌&&◌, IsTrue, bytes_eq, codes}
 use Rattle.std.specs.List.{list_all, flat_map}
 use Rattle.std.proofs.lemmas.Bool.{eqb-true}
 use Rattle.std.proofs.lemmas.List.{append-nil, nil_from_length}
@@ -15,9 +15,9 @@ use Rattle.http_header.specs.FieldValue.{IsFieldValue}
 use Rattle.http_header.specs.HeaderMap.{append, append_all}
 use Rattle.http_header.proofs.TokenLemmas.{IsHeaderName-from_test, AllPass-from_test}
 use Rattle.pcache_base.specs.Header.{Fields, Header}
-use Rattle.pcache_base.specs.HeaderText.{Field, IsField, IsHeld, field_text, field_line, fields_text, fields_of, version_text, status_text, line_end, header_text, SpellsHeader}
+use Rattle.pcache_base.specs.HeaderText.{Field, IsField, IsHeld, field_text, field_line, fields_text, version_text, status_text, line_end, header_text, SpellsHeader}
 use Rattle.pcache_base.specs.HeaderReading.{line_from, name_from, name_at, value_at, field_at, append_at, fields_at, version_at, status_at, status_line_at, header_at}
-use Rattle.pcache_base.specs.Reading.{◌>>=◌, when, bytes_at, mark_at}
+use Rattle.pcache_base.specs.Reading.{◌>>=◌, bytes_at, mark_at}
 use Rattle.pcache_base.specs.declared.header.HttpVersion.{HttpVersion}
 use Rattle.pcache_base.specs.declared.header.HttpVersion.TheVariants.{Http09, Http10, Http11, Http2, Http3}
 use Rattle.pcache_base.proofs.Exact.{after, after_rest, when_some, chosen, mark_takes, mark_again}
@@ -238,9 +238,6 @@ fields_again m (f ∷ lines) valid held =
     ∙ rw (some, field_again f field, append_at-held m f (held_start (append m f.0 f.1) lines held)) rest
 
 -- ---- the line of version and status
-
-version_if : (bytes text : List ℕ) (b : Bool) → bytes_eq bytes text ≡ b → b ≡ true → bytes ≡ text
-version_if bytes text b e t = (bytes_eq-Decides bytes text).0 (e ∙ t)
 
 version_takes : (bytes : List ℕ) (v : HttpVersion) → version_at bytes ≡ Some v → bytes ≡ version_text v ++ 0x20 ∷ []
 unfolding version_at

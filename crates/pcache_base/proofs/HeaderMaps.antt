@@ -1,15 +1,15 @@
 -- Maps of fields as a meta shows them, and what a map takes.
-use Rattle.std.proofs.Common.{◌≡◌, ℕ, suc, ◌+◌, ◌^◌, ◌<◌, ◌≤◌, Bool, true, false, cond, ltb, leb, List, [], ◌∷◌, ◌++◌, length, map, Some, None, refl, sym, ap, ◌∙◌, arith, inl, inr, ◌⊎◌, length-append}
-use Rattle.std.specs.Prelude.{◌&&◌, Option, bytes_eq, nat_le, nat_lt}
+use Rattle.std.proofs.Common.{◌≡◌, ℕ, suc, ◌+◌, ◌^◌, ◌<◌, ◌≤◌, Bool, true, false, cond, List, [], ◌∷◌, ◌++◌, length, map, Some, None, refl, ap, ◌∙◌, arith, inl, inr, length-append}
+use Rattle.std.specs.Prelude.{◌&&◌, bytes_eq, nat_le, nat_lt}
 use Rattle.std.proofs.lemmas.Bool.{lt-ltb, le-ltb, ltb-true}
 use Rattle.std.proofs.lemmas.List.{length-map}
 use Rattle.std.proofs.lemmas.List.Sums.{sum_by-cons}
 use Rattle.std.proofs.lemmas.Slice.Eq.{bytes_eq-Decides}
 use Rattle.http_header.specs.FieldValue.{FieldValue}
-use Rattle.http_header.specs.HeaderMap.{Entry, Entries, keys, value_count, update, append, append_all, pairs, entry_pairs, ContainsKey, IsHeaderMap, RefusesAppend}
+use Rattle.http_header.specs.HeaderMap.{Entry, Entries, value_count, append, ContainsKey, IsHeaderMap, RefusesAppend}
 use Rattle.pcache_base.specs.Header.{Fields, shown_entry, shown_fields}
 use Rattle.pcache_base.specs.HeaderText.{Field, IsHeld}
-use Rattle.pcache_base.specs.HeaderReading.{is_held, when_held, append_at}
+use Rattle.pcache_base.specs.HeaderReading.{is_held, append_at}
 use Rattle.pcache_base.proofs.HeaderNames.{not_true}
 
 module _ {X : Type 0} where

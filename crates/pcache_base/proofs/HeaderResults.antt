@@ -1,13 +1,13 @@
 -- What a reader of a head returned, as its callers see it.
-use Rattle.std.proofs.Common.{◌≡◌, ℕ, List, Some, None, refl, sym, subst, ◌∙◌, inl, inr, ◌⊎◌}
-use Rattle.std.specs.Prelude.{Result, Ok, Err, IfOk, IfErr, IsErrOf}
+use Rattle.std.proofs.Common.{◌≡◌, ℕ, List, None, sym, subst, ◌∙◌}
+use Rattle.std.specs.Prelude.{Result, Ok, Err, IfOk, IsErrOf}
 use Rattle.std.proofs.lemmas.Option.{same_Some}
 use Rattle.pcache_base.specs.Header.{Header, shown}
 use Rattle.pcache_base.specs.HeaderText.{SpellsHeader}
 use Rattle.pcache_base.specs.HeaderReading.{header_at}
 use Rattle.pcache_base.specs.Reading.{GivesOrWants}
 use Rattle.pcache_base.specs.declared.error.ErrorType.{ErrorType}
-use Rattle.pcache_base.specs.declared.error.ErrorType.TheVariants.{OutOfMemory, InternalError}
+use Rattle.pcache_base.specs.declared.error.ErrorType.TheVariants.{InternalError}
 use Rattle.pcache_base.specs.declared.header.ResponseHeader.{ResponseHeader}
 use Rattle.pcache_base.proofs.HeaderExact.{header_takes, header_again}
 
@@ -28,10 +28,3 @@ header_refused bytes r h gives refused spelled =
     let none : header_at bytes ≡ None = subst P refused gives in
     let some = header_again bytes h spelled in
     cc (none, some)
-
-pub header_kinds : (bytes : List ℕ) (r : Result ResponseHeader ErrorType) → GivesOrWants (λ h. shown h) r (header_at bytes)
-    → IfErr r (λ e. (e ≡ OutOfMemory) ⊎ (e ≡ InternalError))
-header_kinds bytes (Ok h) gives = tt
-header_kinds bytes (Err InternalError) gives = inr refl
-header_kinds bytes (Err OutOfMemory) gives = inl refl
-header_kinds bytes (Err _) gives = absurd gives

@@ -4,11 +4,11 @@ use Rattle.std.specs.Prelude.{All, IfOk, OnOk, Result, Ok, Err}
 use Rattle.std.specs.Global.{Vec}
 use Rattle.std.specs.List.{flat_map}
 use Rattle.std.proofs.lemmas.List.Concat.{flat_map-cons}
-use Rattle.std.proofs.lemmas.List.Elements.{All-cons, All-rest}
+use Rattle.std.proofs.lemmas.List.Elements.{All-cons}
 use Rattle.http.specs.StatusCode.{IsStatusCode}
 use Rattle.http_header.specs.FieldValue.{FieldValue}
-use Rattle.http_header.specs.HeaderMap.{Entry, Entries, append, append_all, pairs, entry_pairs, IsHeaderMap}
-use Rattle.pcache_base.specs.Header.{Fields, Header, shown, shown_entry, shown_fields}
+use Rattle.http_header.specs.HeaderMap.{Entries, append, append_all, pairs, entry_pairs, IsHeaderMap}
+use Rattle.pcache_base.specs.Header.{Fields, shown, shown_entry, shown_fields}
 use Rattle.pcache_base.specs.HeaderText.{Field, IsField, field_line, fields_of, header_text, header_written, shown_lines, SpellsHeader}
 use Rattle.pcache_base.specs.declared.header.ResponseHeader.{ResponseHeader}
 use Rattle.pcache_base.proofs.HeaderMaps.{shown-append, IsHeld-shown}

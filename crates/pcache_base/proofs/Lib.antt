@@ -1,7 +1,3 @@
-pub mod MetaExact
-pub mod MetaMade
-pub mod MetaSpelled
-pub mod Order
 pub mod Absorbing
 pub mod Exact
 pub mod HashLoop
@@ -15,8 +11,14 @@ pub mod HeaderMaps
 pub mod HeaderNames
 pub mod HeaderResults
 pub mod HeaderSpelled
+pub mod Maps
+pub mod MetaExact
+pub mod MetaMade
+pub mod MetaSpelled
+pub mod Order
 pub mod Refusals
 pub mod RoundTrip
 pub mod Shortest
 pub mod Spelled
 pub mod TextExact
+pub mod Totals

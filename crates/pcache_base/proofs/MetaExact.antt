@@ -1,5 +1,5 @@
 -- What a meta says beside its head is read exactly where it is spelled.
-use Rattle.std.proofs.Common.{◌≡◌, ℕ, ◌+◌, ◌-◌, ◌^◌, ◌<◌, ◌≤◌, Bool, true, false, ltb, leb, eqb, List, [], ◌∷◌, length, Option, Some, None, refl, sym, ap, ◌∙◌, arith, inl, inr}
+use Rattle.std.proofs.Common.{◌≡◌, ℕ, ◌+◌, ◌-◌, ◌^◌, ◌≤◌, Bool, true, false, ltb, leb, eqb, List, [], ◌∷◌, length, Option, Some, None, refl, sym, ap, ◌∙◌, arith, inl, inr}
 use Rattle.std.proofs.lemmas.Bool.{ltb-false, le-ltb, eqb-true}
 use Rattle.std.proofs.lemmas.List.{nil_from_length}
 use Rattle.std.proofs.lemmas.Option.{some_pair_parts, same_Some}
@@ -11,7 +11,7 @@ use Rattle.pcache_base.specs.Internal.{Internal, OldInternal, upgraded}
 use Rattle.pcache_base.specs.Spelling.{ArrayThen, HashThen}
 use Rattle.pcache_base.specs.MetaSpelling.{MomentThen, WindowsThen, OldInternalThen, ItemThen, NewInternalThen, InternalThen, SpellsInternal}
 use Rattle.pcache_base.specs.MetaSpelling as spell
-use Rattle.pcache_base.specs.Reading.{◌>>=◌, when, Gives, number_at, number_below_at, array_at, items_at, hash_at, mark_at}
+use Rattle.pcache_base.specs.Reading.{when, Gives, number_at, number_below_at, array_at, items_at, hash_at, mark_at}
 use Rattle.pcache_base.specs.MetaReading.{moment_at, item_at, old_internal_at, upgraded_at, new_internal_at, versioned_at, internal_at}
 use Rattle.pcache_base.proofs.Exact.{IsBytes, IsBytes-rest, after, after_rest, when_some, chosen, same_parts, number_takes, number_again, number_behind, array_takes, array_again, array_behind, array_not_nil, items_takes, items_again, number_below_takes, number_below_again, IsExact, optional_takes, optional_again, optional_behind, hash_exact, mark_takes, mark_again}
 

@@ -1,9 +1,9 @@
 -- What is written of a meta beside its head is spelled so.
-use Rattle.std.proofs.Common.{◌≡◌, ℕ, ◌+◌, ◌*◌, ◌/◌, ◌%◌, ◌^◌, ◌<◌, ◌≤◌, Bool, true, false, ltb, List, [], ◌∷◌, ◌++◌, length, Option, Some, None, refl, sym, append_assoc, arith, length-append}
+use Rattle.std.proofs.Common.{◌≡◌, ℕ, ◌+◌, ◌/◌, ◌%◌, ◌<◌, ◌≤◌, Bool, true, false, ltb, List, [], ◌∷◌, ◌++◌, length, Option, Some, None, refl, append_assoc, arith, length-append}
 use Rattle.std.specs.Prelude.{IfSome, IfOk, OnOk, Result, Ok, Err}
 use Rattle.std.specs.Global.{Vec}
 use Rattle.std.proofs.lemmas.List.{append-nil}
-use Rattle.pcache_base.specs.Moments.{IsMoment, nanos_of}
+use Rattle.pcache_base.specs.Moments.{IsMoment}
 use Rattle.pcache_base.specs.Internal.{Internal, OldInternal, upgraded}
 use Rattle.pcache_base.specs.Spelling.{NumberForm, number_text, ArrayForm, array_text, OptionThen, HashThen}
 use Rattle.pcache_base.specs.Spelling as form

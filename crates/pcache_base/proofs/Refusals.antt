@@ -1,6 +1,6 @@
 -- Refusals of readers, from one reading to another.
-use Rattle.std.proofs.Common.{◌≡◌, Option, Some, None, refl, sym, ◌∙◌}
-use Rattle.std.specs.Prelude.{Result, Ok, Err, IsErrOf}
+use Rattle.std.proofs.Common.{◌≡◌, Option, None, sym, ◌∙◌}
+use Rattle.std.specs.Prelude.{Result, Err, IsErrOf}
 use Rattle.pcache_base.specs.declared.error.ErrorType.{ErrorType}
 use Rattle.pcache_base.specs.declared.error.ErrorType.TheVariants.{OutOfMemory, InternalError}
 use Rattle.pcache_base.specs.Reading.{Fails, FailsOrWants}

@@ -1,5 +1,5 @@
 -- What is kept of a cache key: its hashes and its user tag.
-use Rattle.std.specs.Prelude.{ℕ, List}
+use Rattle.std.specs.Prelude.{ℕ}
 use Rattle.pcache_base.specs.Key.{Key, primary_of, slot_of}
 use Rattle.pcache_base.specs.declared.key.CompactCacheKey.{CompactCacheKey}
 

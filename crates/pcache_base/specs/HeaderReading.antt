@@ -1,6 +1,6 @@
 -- Reading the text of a head from left to right. Each `.._at` gives exactly what `HeaderText` says
 -- (`proofs/HeaderExact.antt`).
-use Rattle.std.specs.Prelude.{◌≡◌, ℕ, ◌+◌, ◌-◌, ◌*◌, ◌^◌, ◌&&◌, Bool, List, [], ◌∷◌, ◌++◌, length, Option, Some, None, nat_le, nat_lt, bytes_eq, codes, ◌==◌, if◌then◌else◌}
+use Rattle.std.specs.Prelude.{ℕ, ◌+◌, ◌-◌, ◌*◌, ◌^◌, ◌&&◌, Bool, List, [], ◌∷◌, ◌++◌, length, Option, Some, None, nat_le, nat_lt, bytes_eq, codes, ◌==◌, if◌then◌else◌}
 use Rattle.std.specs.List.{list_all}
 use Rattle.http.specs.StatusCode.{code_digits}
 use Rattle.http_header.specs.FieldName.{is_header_name}

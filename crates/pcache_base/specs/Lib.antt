@@ -13,12 +13,12 @@ pub mod MetaBytes
 pub mod MetaReading
 pub mod MetaSpelling
 pub mod MetaWriting
-pub mod Moments
 pub mod MomentParts
+pub mod Moments
 pub mod Reading
 pub mod Reasons
 pub mod Variance
-pub mod WriteId
 pub mod Totals
 pub mod Spelling
+pub mod Totals
 pub mod Writing

@@ -1,6 +1,6 @@
 -- What a contract sees of a `CacheMeta` (moments are nanoseconds since the epoch, windows are seconds), and what may be
 -- asked of it (RFC 9111 section 4.2; the epoch override is own).
-use Rattle.std.specs.Prelude.{ℕ, ◌≡◌, ◌≢◌, ◌+◌, ◌-◌, ◌*◌, ◌/◌, ◌^◌, ◌<◌, ◌≤◌, ◌⊎◌, List, Option, None, Some, unwrap_or, min}
+use Rattle.std.specs.Prelude.{ℕ, ◌≢◌, ◌+◌, ◌-◌, ◌*◌, ◌/◌, ◌≤◌, ◌⊎◌, List, Option, unwrap_or, min}
 use Rattle.pcache_base.specs.Header.{Header}
 use Rattle.pcache_base.specs.Moments.{IsMoment}
 

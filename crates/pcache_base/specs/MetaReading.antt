@@ -1,6 +1,6 @@
 -- Reading what a meta says beside its head, from left to right. Each `.._at` gives exactly what a relation of
 -- `MetaSpelling` says (`proofs/MetaExact.antt`).
-use Rattle.std.specs.Prelude.{◌≡◌, ℕ, ◌-◌, ◌^◌, Bool, List, length, Option, Some, None, nat_lt, nat_le, ◌==◌, if◌then◌else◌}
+use Rattle.std.specs.Prelude.{ℕ, ◌-◌, ◌^◌, Bool, List, length, Option, Some, None, nat_lt, nat_le, ◌==◌, if◌then◌else◌}
 use Rattle.pcache_base.specs.Moments.{nanos_of}
 use Rattle.pcache_base.specs.Internal.{Internal, OldInternal, upgraded}
 use Rattle.pcache_base.specs.Reading.{◌>>=◌, when, number_at, number_below_at, array_at, items_at, hash_at, optional_at, mark_at}

@@ -1,5 +1,5 @@
 -- The spelling that is written of what a meta says beside its head.
-use Rattle.std.specs.Prelude.{◌≡◌, ℕ, ◌/◌, ◌%◌, ◌^◌, ◌<◌, List, [], ◌∷◌, ◌++◌, Option, Some, None, IfSome}
+use Rattle.std.specs.Prelude.{ℕ, ◌/◌, ◌%◌, ◌^◌, ◌<◌, List, [], ◌∷◌, ◌++◌, Option, Some, None, IfSome}
 use Rattle.pcache_base.specs.Moments.{IsMoment}
 use Rattle.pcache_base.specs.Internal.{Internal, OldInternal}
 use Rattle.pcache_base.specs.Writing.{number_written, array_written, hash_written, optional_written, IsHash}

@@ -1,5 +1,5 @@
 -- A moment's seconds and nanoseconds come back from its number.
-use Rattle.std.specs.Prelude.{◌≡◌, ℕ, ◌+◌, ◌*◌, ◌/◌, ◌%◌, ◌<◌}
+use Rattle.std.specs.Prelude.{◌≡◌, ℕ, ◌/◌, ◌%◌, ◌<◌}
 use Rattle.std.proofs.lemmas.Nat.{div-mul-add, mod-mul-add}
 use Rattle.pcache_base.specs.Moments.{nanos_of}
 use Rattle.pcache_base.specs.declared.moment.Moment.TheInside.{Inside}

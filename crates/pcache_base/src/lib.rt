@@ -5,9 +5,10 @@
 //! - `moment`: points in time, handed in by the caller
 //! - `poll`: answers of calls that might have to wait
 //! - `text`: owned text that contracts see as its bytes
-//! - `header_text`: heads of responses as text
 //! - `key`: cache keys and their hashes; `blake2b`: the hash behind them
 //! - `reason`: why a response is not cached; `fills`: fills that a request cannot use
+//! - `header`: heads of requests and responses; `header_text`: heads of responses as text
+//! - `meta`: what is known of a stored response; `meta::codec`: that as bytes
 //! - `msgpack`: the few forms of MessagePack in which metas and files are written
 
 pub mod blake2b;
@@ -24,7 +25,6 @@ pub mod reason;
 pub mod text;
 pub mod trace;
 pub mod variance;
-pub mod write_id;
 
 pub use error::{Error, ErrorType, Result};
 

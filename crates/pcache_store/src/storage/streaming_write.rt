@@ -7,7 +7,7 @@ use pcache_base::error::{Error, ErrorType};
 use std::marker::Model;
 
 /// The eight bytes of a number, big end first. A contract sees the bytes.
-#[derive(Clone, Copy, Debug)]
+#[derive(Clone, Copy, Debug, PartialEq, Eq)]
 pub struct U64WriteId {
     bytes: [u8; 8],
 }
@@ -67,7 +67,7 @@ impl TryFrom<&[u8]> for U64WriteId {
 }
 
 /// The four bytes of a number, big end first. A contract sees the bytes.
-#[derive(Clone, Copy, Debug)]
+#[derive(Clone, Copy, Debug, PartialEq, Eq)]
 pub struct U32WriteId {
     bytes: [u8; 4],
 }
