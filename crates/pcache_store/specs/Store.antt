@@ -152,6 +152,10 @@ stands s n = stands_on s n (get s.writes n)
 abbrev pub grounded : FinMap nat_cmp Written → ℕ → Written → FinMap nat_cmp Written
 grounded ws n w = kept ws n (record w { flying = false })
 
+abbrev pub grounded_on : FinMap nat_cmp Written → ℕ → Option Written → FinMap nat_cmp Written
+grounded_on ws n None = ws
+grounded_on ws n (Some w) = grounded ws n w
+
 abbrev pub shut_on : FinMap nat_cmp Slot → ℕ → ℕ → Option Slot → FinMap nat_cmp Slot
 shut_on xs k n None = xs
 shut_on xs k n (Some x) = with_slot xs k (record x { fresh = remove x.fresh n })
@@ -193,9 +197,13 @@ abbrev pub body_of : Option Slot → Option Stored
 body_of None = None
 body_of (Some x) = x.body
 
+abbrev pub with_meta : (Meta → Meta) → Slot → Option Stored → Slot
+with_meta f x None = x
+with_meta f x (Some b) = record x { body = Some (record b { meta = f b.meta }) }
+
 abbrev pub meta_changed_in : (Meta → Meta) → FinMap nat_cmp Slot → ℕ → Slot → Option Stored → FinMap nat_cmp Slot
 meta_changed_in f xs k x None = xs
-meta_changed_in f xs k x (Some b) = insert xs k (record x { body = Some (record b { meta = f b.meta }) })
+meta_changed_in f xs k x (Some b) = insert xs k (with_meta f x (Some b))
 
 abbrev pub meta_changed_on : (Meta → Meta) → FinMap nat_cmp Slot → ℕ → Option Slot → FinMap nat_cmp Slot
 meta_changed_on f xs k None = xs

@@ -6,5 +6,6 @@
 //! - `table`: a map from numbers to values, which contracts see as a finite map.
 #![tactic(auto)]
 
+pub mod memory;
 pub mod storage;
 pub mod table;

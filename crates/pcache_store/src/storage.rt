@@ -24,6 +24,8 @@ use pcache_evict::eviction::{CacheEntryId, CacheEntryKey, CacheEntryKeyRef};
 use std::alloc::Global;
 use std::fmt;
 
+pub mod streaming_write;
+
 /// Why something is removed.
 #[derive(Clone, Copy, Debug, PartialEq, Eq)]
 pub enum PurgeType {
@@ -115,6 +117,9 @@ pub trait StoreMeaning {
     /// What the end of a write answers, where it succeeds.
     ghost finishes: { Self → ℕ → MissFinishType };
 
+    /// The number of the entry that the next write fills, where entries have numbers.
+    ghost next_entry: { Self → Option ℕ };
+
     /// Whether a removal always succeeds.
     ghost always_purges: { Bool };
 }
@@ -159,6 +164,7 @@ pub trait Storage: StoreMeaning + Sized {
         meta: &CacheMeta,
     ) -> Result<Self::Miss>
         ensures write { IfOk result (λ m. Self.Miss.write m ≡ (Self.state self.old).next) }
+        ensures entry { IfOk result (λ m. Self.Miss.entry_number m ≡ Self.next_entry self.old) }
         ensures ok { OnOk result (Self.state self.new ≡ begun (Self.state self.old) (slot key.now) meta.now) }
         ensures numbers { OnOk result ((Self.state self.old).next < 2 ^ 64) }
         ensures kind { IfErr result (λ e. MayRefuseWrite (Self.state self.old) e) }

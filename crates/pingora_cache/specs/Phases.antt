@@ -48,6 +48,11 @@ IsFilling phase.Miss = Unit {0}
 IsFilling phase.Expired = Unit {0}
 IsFilling _ = ⊥
 
+abbrev pub is_filling : CachePhase → Bool
+is_filling phase.Miss = true
+is_filling phase.Expired = true
+is_filling _ = false
+
 -- a body that was found may be read
 abbrev pub IsReading : CachePhase → Type 0
 IsReading phase.Hit = Unit {0}

@@ -84,7 +84,8 @@ impl CachePhase {
 
     /// Whether a write may be made.
     pub fn is_filling(self) -> bool
-        ensures { IsTrue result ↔ phases.IsFilling self }
+        ensures may { IsTrue result ↔ phases.IsFilling self }
+        ensures test { result ≡ phases.is_filling self }
     {
         matches!(self, CachePhase::Miss | CachePhase::Expired)
     }
@@ -151,6 +152,16 @@ impl HitStatus {
         ensures { result ≡ phases.is_fresh self }
     {
         matches!(self, HitStatus::Fresh | HitStatus::ForceFresh)
+    }
+
+    /// Whether the body is neither served as it is nor passed over.
+    pub fn is_stale(self) -> bool
+        ensures { result ≡ phases.is_stale self }
+    {
+        matches!(
+            self,
+            HitStatus::Expired | HitStatus::ForceExpired | HitStatus::ForceExpiredServeStale
+        )
     }
 
     /// Whether the body is passed over.

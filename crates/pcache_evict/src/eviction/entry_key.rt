@@ -73,14 +73,14 @@ impl CacheEntryKey {
     pub fn key_only(key: CompactCacheKey) -> CacheEntryKey
         ensures { result ≡ entry_with key None }
     {
-        CacheEntryKey::KeyOnly(key)
+        CacheEntryKey::from_entry_id(key, None)
     }
 
     /// The entry of a key that has this number.
     pub fn identified(key: CompactCacheKey, id: CacheEntryId) -> CacheEntryKey
         ensures { result ≡ entry_with key (Some id) }
     {
-        CacheEntryKey::Identified { key, id }
+        CacheEntryKey::from_entry_id(key, Some(id))
     }
 
     /// What the entry is stored under.
@@ -233,14 +233,14 @@ impl<'a> CacheEntryKeyRef<'a> {
     pub fn key_only(key: &'a CompactCacheKey) -> CacheEntryKeyRef<'a>
         ensures { referred result ≡ entry_with key.now None }
     {
-        CacheEntryKeyRef::KeyOnly(key)
+        CacheEntryKeyRef::from_entry_id(key, None)
     }
 
     /// The entry of a key that has this number.
     pub fn identified(key: &'a CompactCacheKey, id: CacheEntryId) -> CacheEntryKeyRef<'a>
         ensures { referred result ≡ entry_with key.now (Some id) }
     {
-        CacheEntryKeyRef::Identified { key, id }
+        CacheEntryKeyRef::from_entry_id(key, Some(id))
     }
 
     /// What the entry is stored under.
@@ -346,3 +346,6 @@ impl<'a> From<&'a CacheEntryKey> for CacheEntryKeyRef<'a> {
         CacheEntryKeyRef::from_entry_id(entry.key(), entry.entry_id())
     }
 }
+
+#[cfg(test)]
+mod tests;
