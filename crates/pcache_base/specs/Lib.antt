@@ -9,5 +9,4 @@ pub mod Moments
 pub mod MomentParts
 pub mod Reasons
 pub mod Variance
-pub mod WriteId
 pub mod Totals

@@ -20,6 +20,5 @@ pub mod reason;
 pub mod text;
 pub mod trace;
 pub mod variance;
-pub mod write_id;
 
 pub use error::{Error, ErrorType, Result};
