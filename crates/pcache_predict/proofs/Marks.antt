@@ -1,5 +1,5 @@
 -- A recency list's moves, as those of the plain list of marked keys.
-use Rattle.std.proofs.Common.{◌≡◌, ℕ, zero, suc, ◌-◌, ◌<◌, ◌≤◌, true, false, cond, not, Option, None, Some, option_map, List, [], ◌∷◌, refl, ap, sym, ◌∙◌, arith, length, take}
+use Rattle.std.proofs.Common.{◌≡◌, ℕ, zero, suc, ◌-◌, ◌<◌, ◌≤◌, true, false, cond, not, None, Some, option_map, List, [], ◌∷◌, refl, ap, sym, ◌∙◌, arith, length, take}
 use Rattle.std.specs.Prelude.{nat_eq}
 use Rattle.std.specs.Cmp.{nat_eq_equiv}
 use Rattle.std.specs.List.{IsDistinct, AllByRecursion}

@@ -1,5 +1,5 @@
 -- What a predictor remembers (own): for each shard a plain list of keys with reasons, last marked first.
-use Rattle.std.specs.Prelude.{◌≡◌, ℕ, ◌%◌, not, nat_eq, ◌==◌, List, [], ◌∷◌, filter, length, take, max, Option, slice_index_or, slice_set}
+use Rattle.std.specs.Prelude.{ℕ, ◌%◌, not, nat_eq, List, [], ◌∷◌, filter, length, take, max, Option, slice_index_or, slice_set}
 use Rattle.std.specs.Map.{lookup}
 use Rattle.pcache_base.specs.declared.reason.NoCacheReason.{NoCacheReason}
 

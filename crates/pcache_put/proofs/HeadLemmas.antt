@@ -1,8 +1,7 @@
 -- Heads of the grammar.
-use Rattle.std.proofs.Common.{◌≡◌, ℕ, List, [], ◌∷◌, map, All, refl, ap, sym, subst}
-use Rattle.std.specs.Prelude.{IsTrue}
+use Rattle.std.proofs.Common.{◌≡◌, ℕ, List, [], map, All, refl}
 use Rattle.std.proofs.lemmas.List.Elements.{All-map}
-use Rattle.httparse.specs.Grammar.{Field, IsField, field_value, ResponseHead, ReadsResponse, status_code, is_token_byte, is_value_byte}
+use Rattle.httparse.specs.Grammar.{Field, IsField, ResponseHead, ReadsResponse, status_code, is_token_byte, is_value_byte}
 use Rattle.httparse.specs.Spans.{name_and_value}
 use Rattle.httparse.proofs.TrimLemmas.{AllPass-trim_ows}
 use Rattle.httparse.proofs.GrammarLemmas.{response_unique}

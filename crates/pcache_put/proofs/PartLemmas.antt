@@ -1,12 +1,12 @@
 -- What parts amount to, one after another.
 use Rattle.std.proofs.Common.{◌≡◌, ℕ, ◌+◌, ◌-◌, ◌<◌, ◌≤◌, ◌⊎◌, inl, inr, Bool, true, false, cond, Option, None, Some, List, [], ◌∷◌, ◌++◌, length, take, drop, refl, ap, sym, ◌∙◌, subst, arith, length-append, length-take, length-drop, append-nil, min}
 use Rattle.std.specs.Prelude.{◌==◌, nat_le}
-use Rattle.std.proofs.lemmas.Bool.{eqb-true, eqb-false, leb-false, leb-true}
+use Rattle.std.proofs.lemmas.Bool.{eqb-true, leb-false, leb-true}
 use Rattle.std.proofs.lemmas.List.{take-append-le, drop-append-le, take_all, nil_from_length}
 use Rattle.std.proofs.Math.Seq.{take-append-add, drop-append-add, take-nil}
 use Rattle.pcache_base.specs.declared.header.ResponseHeader.{ResponseHeader}
 use Rattle.pcache_put.specs.Head.{ReadsHeader}
-use Rattle.pcache_put.specs.HeadEnd.{EndsAt, IsUnfinished}
+use Rattle.pcache_put.specs.HeadEnd.{EndsAt}
 use Rattle.pcache_put.specs.Response.{Response, IsResponse, IsUnreadable, HasSize, body_of, is_whole}
 use Rattle.pcache_put.specs.Parts.{Given, nothing, given, add_all, body_parts, left_behind, whole_parts}
 use Rattle.pcache_put.specs.Progress.{TakenIn}

@@ -1,14 +1,14 @@
 -- Bytes say one thing.
-use Rattle.std.proofs.Common.{◌≡◌, ◌≢◌, ℕ, ◌-◌, Bool, true, false, Option, None, Some, List, length, take, drop, refl, ap, sym, ◌∙◌, subst, arith}
+use Rattle.std.proofs.Common.{◌≡◌, ℕ, ◌-◌, Bool, true, false, Option, None, Some, List, length, take, drop, refl, ap, sym, ◌∙◌, subst, arith}
 use Rattle.std.specs.Prelude.{nat_le, nat_lt, not}
 use Rattle.std.specs.Option.{SomeIff}
 use Rattle.std.proofs.lemmas.Bool.Decides.{nat_tests}
 use Rattle.http_header.specs.FieldValue.{FieldValue}
 use Rattle.pcache_base.specs.declared.header.ResponseHeader.{ResponseHeader}
 use Rattle.pcache_put.specs.Head.{ReadsHeader, header_of}
-use Rattle.pcache_put.specs.HeadEnd.{EndsAt, IsUnfinished}
+use Rattle.pcache_put.specs.HeadEnd.{IsUnfinished}
 use Rattle.pcache_put.specs.Response.{Response, IsResponse, IsUnreadable, IsComplete, HasSize, HasSizeBy, may_end}
-use Rattle.pcache_put.specs.Parts.{Given, given, nothing, left_behind, is_missing}
+use Rattle.pcache_put.specs.Parts.{Given, given, left_behind, is_missing}
 use Rattle.pcache_put.specs.Progress.{TakenIn}
 use Rattle.pcache_put.specs.declared.head_end.Place.TheVariants.{Blank}
 use Rattle.pcache_put.specs.declared.response_parse.Progress.{Progress}

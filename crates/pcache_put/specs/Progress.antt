@@ -1,5 +1,5 @@
 -- How far a parser has come.
-use Rattle.std.specs.Prelude.{◌≡◌, ℕ, ◌⊎◌, List, [], ◌++◌, length, Option}
+use Rattle.std.specs.Prelude.{◌≡◌, ℕ, ◌⊎◌, List, [], ◌++◌, length}
 use Rattle.pcache_put.specs.HeadEnd.{IsUnfinished}
 use Rattle.pcache_put.specs.Response.{Response, IsResponse}
 use Rattle.pcache_put.specs.Parts.{Given, nothing, given, left_behind, body_parts, whole_parts}

@@ -1,12 +1,12 @@
 -- What a response's bytes say, all of those that have come taken together (RFC 9112; the cut of the head is own).
-use Rattle.std.specs.Prelude.{◌≡◌, ℕ, ◌<◌, ◌≤◌, ◌^◌, Bool, true, false, ◌||◌, ◌==◌, nat_le, List, [], length, take, drop, Option, Some, None, codes}
+use Rattle.std.specs.Prelude.{◌≡◌, ℕ, ◌<◌, ◌^◌, Bool, true, false, ◌||◌, ◌==◌, nat_le, List, length, take, drop, Option, Some, None, codes}
 use Rattle.std.specs.Option.{SomeIff}
 use Rattle.std.specs.Str.Parse.{IsNumeral, digits_value, without_leading_plus}
 use Rattle.http_header.specs.FieldValue.{FieldValue}
 use Rattle.http_header.specs.HeaderMap.{get}
 use Rattle.pcache_base.specs.declared.header.ResponseHeader.{ResponseHeader}
 use Rattle.pcache_put.specs.Head.{ReadsHeader}
-use Rattle.pcache_put.specs.HeadEnd.{EndsAt, IsUnfinished}
+use Rattle.pcache_put.specs.HeadEnd.{EndsAt}
 use Rattle.pcache_put.specs.declared.head_end.Place.TheVariants.{Blank}
 
 -- the length that a value spells: an optional plus and digits, within 64 bits

@@ -342,8 +342,8 @@ mod tests {
 
     fn is_refused_as<T: Drop>(answer: Result<T>, kind: ErrorType) -> bool {
         match answer {
-            Ok(_) => false,
-            Err(e) => e.etype() == kind,
+            Ok(_given) => false,
+            Err(refused) => refused.etype() == kind,
         }
     }
 

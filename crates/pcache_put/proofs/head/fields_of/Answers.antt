@@ -1,4 +1,4 @@
-use Rattle.std.proofs.Common.{◌≡◌, ℕ, ◌<◌, ◌≤◌, length, map, take, All, get_or, ap, sym, ◌∙◌, subst, arith, length-take, min}
+use Rattle.std.proofs.Common.{◌<◌, ◌≤◌, length, map, take, All, get_or, ap, sym, ◌∙◌, subst, arith, length-take}
 use Rattle.std.proofs.lemmas.List.{length-map}
 use Rattle.std.proofs.lemmas.List.Elements.{All-push, All-get_or}
 use Rattle.std.proofs.lemmas.Result.{err_from_is_err_and}

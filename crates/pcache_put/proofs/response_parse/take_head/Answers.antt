@@ -1,8 +1,7 @@
-use Rattle.std.proofs.Common.{◌≡◌, ℕ, List, ◌∷◌, ◌++◌, inr, drop, length, ap, sym, ◌∙◌, subst}
+use Rattle.std.proofs.Common.{◌++◌, inr, drop, length, ap, sym, ◌∙◌, subst}
 use Rattle.std.proofs.lemmas.Result.{err_from_is_err_and}
-use Rattle.pcache_base.specs.declared.header.ResponseHeader.{ResponseHeader}
 use Rattle.pcache_put.specs.Head.{ReadsHeader}
-use Rattle.pcache_put.specs.Response.{Response, IsResponse}
+use Rattle.pcache_put.specs.Response.{Response}
 use Rattle.pcache_put.specs.Parts.{nothing, add_all, left_behind, body_parts}
 use Rattle.pcache_put.proofs.PartLemmas.{response_starts, unreadable_there, two_parts, whole_given, rest_is}
 use Rattle.pcache_put.proofs.response_parse.take_head.Goals as goal

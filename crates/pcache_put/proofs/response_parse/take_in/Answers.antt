@@ -1,5 +1,5 @@
-use Rattle.std.proofs.Common.{◌≡◌, List, ◌++◌, subst, sym, ap, ◌∙◌}
-use Rattle.pcache_put.specs.Parts.{Given, body_parts}
+use Rattle.std.proofs.Common.{◌++◌, subst, ap, ◌∙◌}
+use Rattle.pcache_put.specs.Parts.{body_parts}
 use Rattle.pcache_put.specs.Progress.{TakenIn}
 use Rattle.pcache_put.specs.declared.response_parse.Progress.{Progress}
 use Rattle.pcache_put.proofs.PartLemmas.{body_joined}

@@ -1,5 +1,3 @@
-use Rattle.std.proofs.Common.{◌≡◌, ◌∙◌, ap}
-use Rattle.pcache_predict.specs.Remembered.{Shard, marked}
 use Rattle.pcache_predict.proofs.Marks.{put-marked}
 use Rattle.pcache_predict.proofs.recency.MarkedKeys.mark.Goals as goal
 

@@ -1,5 +1,3 @@
-use Rattle.std.proofs.Common.{◌≡◌, ◌∙◌, ap}
-use Rattle.pcache_predict.specs.Remembered.{Shard, unmarked}
 use Rattle.pcache_predict.proofs.Marks.{remove-others}
 use Rattle.pcache_predict.proofs.recency.MarkedKeys.unmark.Goals as goal
 
