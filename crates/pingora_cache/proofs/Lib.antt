@@ -4,3 +4,4 @@ pub mod Steps
 pub mod Tidy
 pub mod Exact
 pub mod Bound
+pub mod Moves
