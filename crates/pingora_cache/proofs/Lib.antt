@@ -5,3 +5,5 @@ pub mod Tidy
 pub mod Exact
 pub mod Bound
 pub mod Moves
+pub mod Runs
+pub mod Holds
