@@ -7,3 +7,4 @@ pub mod Bound
 pub mod Moves
 pub mod Runs
 pub mod Holds
+pub mod Laws
