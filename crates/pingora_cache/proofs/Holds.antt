@@ -1,5 +1,5 @@
 -- The write that a request holds is in flight and of its key, and no other request holds it.
-use Rattle.std.proofs.Common.{◌≡◌, ◌≢◌, ℕ, ◌<◌, ◌≤◌, Bool, true, false, not, ◌&&◌, ◌||◌, ◌==◌, if◌then◌else◌, Option, None, Some, is_some, List, [], ◌∷◌, ◌++◌, refl, ap, sym, subst, ◌∙◌, arith, reverse, inl, inr, ◌⊎◌}
+use Rattle.std.proofs.Common.{◌≡◌, ◌≢◌, ℕ, ◌<◌, true, false, not, ◌||◌, ◌==◌, if◌then◌else◌, Option, None, Some, is_some, List, [], ◌∷◌, ◌++◌, refl, ap, sym, subst, ◌∙◌, arith, reverse, inl, inr, ◌⊎◌}
 use Rattle.std.proofs.lemmas.Bool.{eqb-true, eqb-false, eq-eqb, ne_eqb, and_from}
 use Rattle.pcache_base.specs.Key.{Key, slot}
 use Rattle.pcache_base.specs.Meta.{Meta}
@@ -8,13 +8,13 @@ use Rattle.pingora_cache.specs.Phases.{IsFilling}
 use Rattle.pingora_cache.specs.Requests.{entry_of}
 use Rattle.pingora_cache.specs.declared.world.entry.Event.{Event}
 use Rattle.pingora_cache.specs.declared.world.entry.Event.TheVariants as E
-use Rattle.pingora_cache.specs.Events.{begun, begin_of, has_ended, in_flight, body_of}
+use Rattle.pingora_cache.specs.Events.{begun, begin_of, has_ended, in_flight}
 use Rattle.pingora_cache.specs.Held.{Held}
 use Rattle.pingora_cache.specs.Legal.{release_of}
 use Rattle.pingora_cache.specs.Sound.{IsTidy}
 use Rattle.pingora_cache.proofs.Steps.{below}
-use Rattle.pingora_cache.proofs.Moves.{IsQuiet, AreQuiet, Has, HasKeyed, IsNew, HasNone, Keeps, Move, stays, begins, writes, stores, undoes, refuses, drops, purges, clears, quiet-release}
-use Rattle.pingora_cache.proofs.Runs.{turned, after, KeptByQuiet, after-quiet, after-one, after-two}
+use Rattle.pingora_cache.proofs.Moves.{Has, HasKeyed, IsNew, HasNone, Keeps, Move, stays, begins, writes, stores, undoes, refuses, drops, purges, clears, quiet-release}
+use Rattle.pingora_cache.proofs.Runs.{after, KeptByQuiet, after-quiet, after-one, after-two}
 
 -- the write is of the request's key, and has not ended
 abbrev pub IsMine : List Event → ℕ → Option Held → Type 0
