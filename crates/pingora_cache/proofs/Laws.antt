@@ -39,7 +39,7 @@ entry_names k = eq-eqb (slot k) (slot k) refl
 
 pub step_tidy : (limits : Limits) (start : Tracked) (es : List Event) (q now : Option Held) (events : List Event) → Move limits start es q now events → AreMine es q → IsTidy es → IsTidy (reverse events ++ es)
 step_tidy limits start es q now events (stays quiet keeps) mine t = after-quiet IsTidy tidy-quiet events es quiet t
-step_tidy limits start es q now events (begins k m held is new) mine t =
+step_tidy limits start es q now events (begins k m held is free new) mine t =
     after IsTidy es events (E.Begin (begun es) (slot k) m ∷ release_of held) is (after-one IsTidy tidy-quiet (E.Begin (begun es) (slot k) m) (release_of held) es (quiet-release held) (tidy-begin es (slot k) m t))
 step_tidy limits start es q now events (writes w bytes eof is has keeps) mine t =
     after IsTidy es events (E.Wrote w bytes eof ∷ []) is (tidy-wrote es w bytes eof (flight es w q mine has) t)
@@ -66,7 +66,7 @@ step_tidy limits start es q now events (clears k is keeps) mine t = after IsTidy
 
 pub step_exact : (limits : Limits) (start : Tracked) (es : List Event) (q now : Option Held) (events : List Event) → Move limits start es q now events → AreMine es q → IsTidy es → IsExact start es → IsExact start (reverse events ++ es)
 step_exact limits start es q now events (stays quiet keeps) mine t ex = after-quiet (IsExact start) (exact-quiet start) events es quiet ex
-step_exact limits start es q now events (begins k m held is new) mine t ex =
+step_exact limits start es q now events (begins k m held is free new) mine t ex =
     after (IsExact start) es events (E.Begin (begun es) (slot k) m ∷ release_of held) is
     (after-one (IsExact start) (exact-quiet start) (E.Begin (begun es) (slot k) m) (release_of held) es (quiet-release held) (exact-begin start es (slot k) m t ex))
 step_exact limits start es q now events (writes w bytes eof is has keeps) mine t ex =
@@ -92,7 +92,7 @@ step_exact limits start es q now events (clears k is keeps) mine t ex = after (I
 
 pub step_bounded : (limits : Limits) (start : Tracked) (es : List Event) (q now : Option Held) (events : List Event) → Move limits start es q now events → AreMine es q → IsTidy es → IsExact start es → IsBounded limits es → IsBounded limits (reverse events ++ es)
 step_bounded limits start es q now events (stays quiet keeps) mine t ex b = after-quiet (IsBounded limits) (bound-quiet limits) events es quiet b
-step_bounded limits start es q now events (begins k m held is new) mine t ex b =
+step_bounded limits start es q now events (begins k m held is free new) mine t ex b =
     after (IsBounded limits) es events (E.Begin (begun es) (slot k) m ∷ release_of held) is
     (after-one (IsBounded limits) (bound-quiet limits) (E.Begin (begun es) (slot k) m) (release_of held) es (quiet-release held) (bound-begin limits es (slot k) m t b))
 step_bounded limits start es q now events (writes w bytes eof is has keeps) mine t ex b =
@@ -137,7 +137,7 @@ named e h r =
 pub legal_kept : (limits : Limits) (start : Tracked) (h : List Entry) → IsLegal limits start h → IsKept limits start h
 legal_kept limits start [] l = record {
   tidy = tidy-none;
-  held = record { mine = λ r w x. absurd x; only = λ r s w x y. absurd x };
+  held = record { mine = λ r w x. absurd x; only = λ r s w x y. absurd x; some = λ w x. absurd (cc) };
   exact = exact-none start;
   bounded = bound-none limits;
 }
@@ -177,6 +177,10 @@ legal_flies limits start h r w x l is write = mine-flies (events_of h) w (Some x
 pub legal_only : (limits : Limits) (start : Tracked) (h : List Entry) (r s w : ℕ) (x y : Held) → IsLegal limits start h → request_of r h ≡ Some x → x.request.write ≡ Some w → request_of s h ≡ Some y → y.request.write ≡ Some w → r ≡ s
 legal_only limits start h r s w x y l a xw b yw =
     (legal_kept limits start h l).held.only r s w (subst (λ q. Has q w) (sym a) xw) (subst (λ q. Has q w) (sym b) yw)
+
+-- each write in flight is held by a request
+pub legal_some : (limits : Limits) (start : Tracked) (h : List Entry) (w : ℕ) → IsLegal limits start h → in_flight w (events_of h) ≡ true → (r : ℕ) × Has (request_of r h) w
+legal_some limits start h w l fly = (legal_kept limits start h l).held.some w fly
 
 -- The three laws.
 

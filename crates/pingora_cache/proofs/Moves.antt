@@ -56,20 +56,20 @@ abbrev pub HasNone : Option Held → Type 0
 HasNone None = Unit {0}
 HasNone (Some x) = x.request.write ≡ None
 
--- a request holds no other write than before, and while it fills, its key stays
+-- a request holds the write that it held before, if any, and while it fills, its key stays
 abbrev pub KeepsIn : Request → Request → Type 0
 KeepsIn x y = (y.write ≡ x.write) × (IsFilling x.phase → (y.key ≡ x.key) × IsFilling y.phase)
 
 abbrev pub Keeps : Option Held → Option Held → Type 0
 Keeps None None = Unit {0}
 Keeps None (Some y) = y.request.write ≡ None
-Keeps (Some x) None = Unit {0}
+Keeps (Some x) None = x.request.write ≡ None
 Keeps (Some x) (Some y) = KeepsIn x.request y.request
 
 -- what a call can do after these events, where its request was q and is now this
 pub data Move (limits : Limits) (start : Tracked) (es : List Event) (q now : Option Held) (events : List Event) : Type 0 where
   stays : AreQuiet events → Keeps q now → Move limits start es q now events
-  begins : (k : Key) (m : Meta) (held : Option Locked) → events ≡ E.Begin (begun es) (slot k) m ∷ release_of held → IsNew now (begun es) k → Move limits start es q now events
+  begins : (k : Key) (m : Meta) (held : Option Locked) → events ≡ E.Begin (begun es) (slot k) m ∷ release_of held → HasNone q → IsNew now (begun es) k → Move limits start es q now events
   writes : (w : ℕ) (bytes : List ℕ) (eof : Bool) → events ≡ E.Wrote w bytes eof ∷ [] → Has q w → Keeps q now → Move limits start es q now events
   stores : (w : ℕ) (k : Key) (held : Option Locked) (out : List CacheEntryKey) → events ≡ E.Finish w true ∷ release_of held ++ E.Admit (entry_of k None) (length (body_of w es)) out ∷ []
     → HasKeyed q w k → is_removed w es ≡ false → IsFair limits (map.insert (tracked start es) (entry_of k None) (length (body_of w es))) out → HasNone now → Move limits start es q now events
@@ -174,8 +174,8 @@ module _ (limits : Limits) (start : Tracked) (es : List Event) where
   begin-move : (r : ℕ) (x : Held) (reply : Reply) (events : List Event) → MayWrite x.request → Begins (begun es) x.request reply events → At (C.Begin r) (Some x) reply events
   begin-move r x reply events may (inl a) = idle (C.Begin r) (Some x) (R.Refused OutOfMemory) reply events a (refl, λ f. (refl, f))
   begin-move r x reply events may (inr (inl (full, a))) = idle (C.Begin r) (Some x) (R.Refused NumbersExhausted) reply events a (refl, λ f. (refl, f))
-  begin-move r x reply events may (inr (inr (k, m, key, meta, lt, is, inl told))) = put (C.Begin r) (Some x) reply R.Done events (E.Begin (begun es) (slot k) m ∷ release_of x.request.held) told is (begins k m x.request.held refl (refl, key, may.0))
-  begin-move r x reply events may (inr (inr (k, m, key, meta, lt, is, inr told))) = put (C.Begin r) (Some x) reply (R.Refused OutOfMemory) events (E.Begin (begun es) (slot k) m ∷ release_of x.request.held) told is (begins k m x.request.held refl (refl, key, may.0))
+  begin-move r x reply events may (inr (inr (k, m, key, meta, lt, is, inl told))) = put (C.Begin r) (Some x) reply R.Done events (E.Begin (begun es) (slot k) m ∷ release_of x.request.held) told is (begins k m x.request.held refl may.2 (refl, key, may.0))
+  begin-move r x reply events may (inr (inr (k, m, key, meta, lt, is, inr told))) = put (C.Begin r) (Some x) reply (R.Refused OutOfMemory) events (E.Begin (begun es) (slot k) m ∷ release_of x.request.held) told is (begins k m x.request.held refl may.2 (refl, key, may.0))
 
   write-move : (r : ℕ) (bs : List ℕ) (eof : Bool) (x : Held) (reply : Reply) (events : List Event) → Writes bs eof x.request reply events → At (C.Write r bs eof) (Some x) reply events
   write-move r bs eof x reply events (inl a) = idle (C.Write r bs eof) (Some x) (R.Refused OutOfMemory) reply events a (same x)
@@ -203,7 +203,7 @@ module _ (limits : Limits) (start : Tracked) (es : List Event) where
   purge-move r x reply events (inr (k, key, inr (there, done, told))) = put (C.Purge r) (Some x) reply R.Absent events (E.Purge (slot k) ∷ []) told done (clears k refl (same x))
 
   end-move : (r : ℕ) (x : Held) (o : Option ℕ) (reply : Reply) (events : List Event) → x.request.write ≡ o → reply ≡ R.Done → events ≡ drop_of o ++ let_go_of x.request.held → At (C.End r) (Some x) reply events
-  end-move r x None reply events is told done = put (C.End r) (Some x) reply R.Done events (let_go_of x.request.held) told done (stays (quiet-let_go x.request.held) tt)
+  end-move r x None reply events is told done = put (C.End r) (Some x) reply R.Done events (let_go_of x.request.held) told done (stays (quiet-let_go x.request.held) is)
   end-move r x (Some w) reply events is told done = put (C.End r) (Some x) reply R.Done events (E.Dropped w ∷ let_go_of x.request.held) told done (drops w (let_go_of x.request.held) refl (quiet-let_go x.request.held) is tt)
 
   pub move : (call : Call) (q : Option Held) (reply : Reply) (events : List Event)
