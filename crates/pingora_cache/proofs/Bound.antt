@@ -27,7 +27,7 @@ use Rattle.pingora_cache.proofs.Steps.{complete-wrote, complete-begin, complete-
 use Rattle.pingora_cache.proofs.Tidy.{tidy-finish}
 use Rattle.pingora_cache.proofs.Exact.{apart, standing-names, exact-admit}
 
-cmp_same : (q w : ℕ) → eq_by_cmp nat_cmp q w ≡ (w == q)
+pub cmp_same : (q w : ℕ) → eq_by_cmp nat_cmp q w ≡ (w == q)
 cmp_same q w = grind (arith, nat_tests)
 
 -- The keys of finished writes are each there once.

@@ -8,3 +8,4 @@ pub mod Moves
 pub mod Runs
 pub mod Holds
 pub mod Laws
+pub mod SoundOf
