@@ -4,11 +4,12 @@
 mod replay;
 mod reply;
 mod script;
+#[cfg(test)]
+mod tests;
 
 use replay::replay;
-use std::env;
-use std::io;
 use std::process::ExitCode;
+use std::{env, io};
 
 fn main(rt: HostRuntime) -> ExitCode {
     let Ok(words) = env::args(&rt) else {

@@ -1,8 +1,8 @@
 //! Writing the replies of a script.
 
 use pingora_cache::error::ErrorType;
-use pingora_cache::world::call::{LockKind, Reply};
 use pingora_cache::world::Totals;
+use pingora_cache::world::call::{LockKind, Reply};
 use std::io;
 use std::io::Write;
 
@@ -50,11 +50,7 @@ pub fn write_stat<W: Write>(
     )
 }
 
-fn write_with_lock<W: Write>(
-    output: &mut W,
-    word: &str,
-    lock: Option<LockKind>,
-) -> io::Result<()> {
+fn write_with_lock<W: Write>(output: &mut W, word: &str, lock: Option<LockKind>) -> io::Result<()> {
     match lock {
         None => writeln!(output, "{word}"),
         Some(LockKind::Write) => writeln!(output, "{word} write"),

@@ -12,24 +12,16 @@ pub mod phase;
 pub mod world;
 
 pub use cache::{FinishReport, HttpCache};
-pub use pcache_base::error;
-pub use pcache_base::header;
-pub use pcache_base::key;
 pub use pcache_base::key::CacheKey;
-pub use pcache_base::meta;
 pub use pcache_base::meta::CacheMeta;
-pub use pcache_base::moment;
-pub use pcache_base::poll;
-pub use pcache_base::reason;
 pub use pcache_base::reason::NoCacheReason;
-pub use pcache_base::text;
+pub use pcache_base::{error, header, key, meta, moment, poll, reason, text};
 pub use pcache_evict::eviction;
 pub use pcache_evict::eviction::{CacheEntryId, CacheEntryKey, CacheEntryKeyRef};
 pub use pcache_lock::lock;
-pub use pcache_store::memory;
 pub use pcache_store::memory::MemCache;
-pub use pcache_store::storage;
 pub use pcache_store::storage::{
     HitHandler, MissHandler, PurgeAction, PurgeOutcome, PurgeTarget, PurgeType, Storage,
 };
+pub use pcache_store::{memory, storage};
 pub use phase::{CachePhase, HitStatus, InUse};

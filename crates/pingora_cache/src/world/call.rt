@@ -13,11 +13,19 @@ use pcache_base::moment::Moment;
 #[derive(Drop)]
 pub enum Call {
     /// Makes the request and turns caching on, with the manager and the lock in use.
-    Open { request: u64 },
+    Open {
+        request: u64,
+    },
     /// Sets the key.
-    Key { request: u64, key: CacheKey },
+    Key {
+        request: u64,
+        key: CacheKey,
+    },
     /// Looks the key up.
-    Look { request: u64, now: Moment },
+    Look {
+        request: u64,
+        now: Moment,
+    },
     /// Takes what the look-up found.
     Found {
         request: u64,
@@ -25,11 +33,18 @@ pub enum Call {
         now: Moment,
     },
     /// Goes on as a miss.
-    Miss { request: u64 },
+    Miss {
+        request: u64,
+    },
     /// Sets the meta of the response that is to be stored.
-    Meta { request: u64, meta: CacheMeta },
+    Meta {
+        request: u64,
+        meta: CacheMeta,
+    },
     /// Begins the write.
-    Begin { request: u64 },
+    Begin {
+        request: u64,
+    },
     /// Adds bytes to the write, and with `eof` says that they are the last.
     Write {
         request: u64,
@@ -37,13 +52,21 @@ pub enum Call {
         eof: bool,
     },
     /// Ends the write and stores the body.
-    Finish { request: u64 },
+    Finish {
+        request: u64,
+    },
     /// Reads on.
-    Read { request: u64 },
+    Read {
+        request: u64,
+    },
     /// Removes what stands under the key.
-    Purge { request: u64 },
+    Purge {
+        request: u64,
+    },
     /// Gives back all that the request holds. Its number is free then.
-    End { request: u64 },
+    End {
+        request: u64,
+    },
 }
 
 /// Which kind of lock was given.

@@ -136,7 +136,14 @@ pub(crate) fn finish<M: EvictionManager>(
     match open.cache.end_write(store, manager, lock) {
         WriteEnd::Nothing => Reply::Nothing,
         WriteEnd::Stored(report) => {
-            note_end(Event::Finish { write, is_stored: true }, permit, events);
+            note_end(
+                Event::Finish {
+                    write,
+                    is_stored: true,
+                },
+                permit,
+                events,
+            );
             let size = report.size;
             let evicted = report.evicted.len();
             events.push_reserved(Event::Admit {
@@ -149,14 +156,28 @@ pub(crate) fn finish<M: EvictionManager>(
         WriteEnd::Dropped(refused) => {
             let kind = refused.etype();
             if kind == ErrorType::WriteRemoved {
-                note_end(Event::Finish { write, is_stored: false }, permit, events);
+                note_end(
+                    Event::Finish {
+                        write,
+                        is_stored: false,
+                    },
+                    permit,
+                    events,
+                );
             } else {
                 note_end(Event::Dropped { write }, permit, events);
             }
             Reply::Refused(kind)
         }
         WriteEnd::Withdrawn(refused) => {
-            note_end(Event::Finish { write, is_stored: true }, permit, events);
+            note_end(
+                Event::Finish {
+                    write,
+                    is_stored: true,
+                },
+                permit,
+                events,
+            );
             events.push_reserved(Event::Purge { slot });
             Reply::Refused(refused.etype())
         }
@@ -176,11 +197,7 @@ fn note_end(end: Event, permit: Option<u64>, events: &mut Vec<Event>)
 }
 
 /// Reads on.
-pub(crate) fn read(
-    open: &mut OpenRequest,
-    store: &mut MemCache,
-    events: &mut Vec<Event>,
-) -> Reply
+pub(crate) fn read(open: &mut OpenRequest, store: &mut MemCache, events: &mut Vec<Event>) -> Reply
     requires { vec_len events.old + 1 ≤ vec_capacity events.old }
 {
     if !open.cache.has_body_reader() {

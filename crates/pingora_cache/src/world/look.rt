@@ -135,7 +135,10 @@ pub(crate) fn found<M: EvictionManager>(
     };
     let (meta, hit) = pair;
     let was_there = is_tracked(manager, &access);
-    if let Err(refused) = open.cache.cache_found(store, manager, lock, meta, hit, status, now) {
+    if let Err(refused) = open
+        .cache
+        .cache_found(store, manager, lock, meta, hit, status, now)
+    {
         if !was_there && is_tracked(manager, &access) {
             note_access(access, events);
         }
