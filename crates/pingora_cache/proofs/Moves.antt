@@ -172,10 +172,9 @@ module _ (limits : Limits) (start : Tracked) (es : List Event) where
       (stays (append-quiet (accesses s k p.1 x.request) more (quiet-accesses s k p.1 x.request) (quiet-asks _ _ _ _ _ asks)) (placed-write s (accesses s k p.1 x.request ++ more) x.request x.pair, λ f. absurd (no-look x.request.phase may f)))
 
   begin-move : (r : ℕ) (x : Held) (reply : Reply) (events : List Event) → MayWrite x.request → Begins (begun es) x.request reply events → At (C.Begin r) (Some x) reply events
-  begin-move r x reply events may (inl a) = idle (C.Begin r) (Some x) (R.Refused OutOfMemory) reply events a (refl, λ f. (refl, f))
-  begin-move r x reply events may (inr (inl (full, a))) = idle (C.Begin r) (Some x) (R.Refused NumbersExhausted) reply events a (refl, λ f. (refl, f))
-  begin-move r x reply events may (inr (inr (k, m, key, meta, lt, is, inl told))) = put (C.Begin r) (Some x) reply R.Done events (E.Begin (begun es) (slot k) m ∷ release_of x.request.held) told is (begins k m x.request.held refl may.2 (refl, key, may.0))
-  begin-move r x reply events may (inr (inr (k, m, key, meta, lt, is, inr told))) = put (C.Begin r) (Some x) reply (R.Refused OutOfMemory) events (E.Begin (begun es) (slot k) m ∷ release_of x.request.held) told is (begins k m x.request.held refl may.2 (refl, key, may.0))
+  begin-move r x reply events may (inl (e, why, a)) = idle (C.Begin r) (Some x) (R.Refused e) reply events a (refl, λ f. (refl, f))
+  begin-move r x reply events may (inr (k, m, key, meta, is, inl told)) = put (C.Begin r) (Some x) reply R.Done events (E.Begin (begun es) (slot k) m ∷ release_of x.request.held) told is (begins k m x.request.held refl may.2 (refl, key, may.0))
+  begin-move r x reply events may (inr (k, m, key, meta, is, inr told)) = put (C.Begin r) (Some x) reply (R.Refused OutOfMemory) events (E.Begin (begun es) (slot k) m ∷ release_of x.request.held) told is (begins k m x.request.held refl may.2 (refl, key, may.0))
 
   write-move : (r : ℕ) (bs : List ℕ) (eof : Bool) (x : Held) (reply : Reply) (events : List Event) → Writes bs eof x.request reply events → At (C.Write r bs eof) (Some x) reply events
   write-move r bs eof x reply events (inl a) = idle (C.Write r bs eof) (Some x) (R.Refused OutOfMemory) reply events a (same x)
