@@ -72,7 +72,7 @@ pub data Move (limits : Limits) (start : Tracked) (es : List Event) (q now : Opt
   begins : (k : Key) (m : Meta) (held : Option Locked) → events ≡ E.Begin (begun es) (slot k) m ∷ release_of held → HasNone q → IsNew now (begun es) k → Move limits start es q now events
   writes : (w : ℕ) (bytes : List ℕ) (eof : Bool) → events ≡ E.Wrote w bytes eof ∷ [] → Has q w → Keeps q now → Move limits start es q now events
   stores : (w : ℕ) (k : Key) (held : Option Locked) (out : List CacheEntryKey) → events ≡ E.Finish w true ∷ release_of held ++ E.Admit (entry_of k None) (length (body_of w es)) out ∷ []
-    → HasKeyed q w k → is_removed w es ≡ false → IsFair limits (map.insert (tracked start es) (entry_of k None) (length (body_of w es))) out → HasNone now → Move limits start es q now events
+      → HasKeyed q w k → is_removed w es ≡ false → IsFair limits (map.insert (tracked start es) (entry_of k None) (length (body_of w es))) out → HasNone now → Move limits start es q now events
   undoes : (w : ℕ) (k : Key) (held : Option Locked) → events ≡ E.Finish w true ∷ release_of held ++ E.Purge (slot k) ∷ [] → HasKeyed q w k → is_removed w es ≡ false → HasNone now → Move limits start es q now events
   refuses : (w : ℕ) (held : Option Locked) → events ≡ E.Finish w false ∷ release_of held → Has q w → HasNone now → Move limits start es q now events
   drops : (w : ℕ) (rest : List Event) → events ≡ E.Dropped w ∷ rest → AreQuiet rest → Has q w → HasNone now → Move limits start es q now events
@@ -206,8 +206,8 @@ module _ (limits : Limits) (start : Tracked) (es : List Event) where
   end-move r x (Some w) reply events is told done = put (C.End r) (Some x) reply R.Done events (E.Dropped w ∷ let_go_of x.request.held) told done (drops w (let_go_of x.request.held) refl (quiet-let_go x.request.held) is tt)
 
   pub move : (call : Call) (q : Option Held) (reply : Reply) (events : List Event)
-    → Answers (begun es) (Finds es) (reads es) (λ w. is_told w es) (λ w. not (is_removed w es)) (λ w. length (body_of w es)) (HasAny es) limits (tracked start es) call q reply events
-    → Move limits start es q (row call reply events q) events
+      → Answers (begun es) (Finds es) (reads es) (λ w. is_told w es) (λ w. not (is_removed w es)) (λ w. length (body_of w es)) (HasAny es) limits (tracked start es) call q reply events
+      → Move limits start es q (row call reply events q) events
   move (C.Open r) None reply events (inl a) = idle (C.Open r) None R.Done reply events a refl
   move (C.Open r) None reply events (inr a) = idle (C.Open r) None (R.Refused OutOfMemory) reply events a tt
   move (C.Open r) (Some x) reply events a = idle (C.Open r) (Some x) R.WrongCall reply events a (same x)
