@@ -1,5 +1,5 @@
 -- What is stored stays within the limits.
-use Rattle.std.proofs.Common.{◌≡◌, ◌≢◌, ℕ, ◌+◌, ◌≤◌, Bool, true, false, ◌||◌, ◌==◌, if◌then◌else◌, Option, None, Some, List, [], ◌∷◌, refl, ap, sym, subst, ◌∙◌, arith, length}
+use Rattle.std.proofs.Common.{◌≡◌, ◌≢◌, ℕ, ◌≤◌, Bool, true, false, ◌==◌, if◌then◌else◌, Option, None, Some, List, [], ◌∷◌, refl, ap, sym, subst, ◌∙◌, arith, length}
 use Rattle.std.specs.Prelude.{IfSome}
 use Rattle.std.specs.Option.{option_map, unwrap_or}
 use Rattle.std.specs.List.{AllByRecursion, IsDistinct, list_any, sum_by}
@@ -27,7 +27,7 @@ use Rattle.pingora_cache.proofs.Steps.{complete-wrote, complete-begin, complete-
 use Rattle.pingora_cache.proofs.Tidy.{tidy-finish}
 use Rattle.pingora_cache.proofs.Exact.{apart, standing-names, exact-admit}
 
-cmp_same : (q w : ℕ) → eq_by_cmp nat_cmp q w ≡ (w == q)
+pub cmp_same : (q w : ℕ) → eq_by_cmp nat_cmp q w ≡ (w == q)
 cmp_same q w = grind (arith, nat_tests)
 
 -- The keys of finished writes are each there once.

@@ -13,3 +13,10 @@ pub mod StateWrites
 pub mod States
 pub mod Steps
 pub mod Tidy
+pub mod Exact
+pub mod Bound
+pub mod Moves
+pub mod Runs
+pub mod Holds
+pub mod Laws
+pub mod SoundOf
