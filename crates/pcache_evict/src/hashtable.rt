@@ -8,6 +8,8 @@ pub mod lru_shard;
 pub mod lru_shards;
 pub mod shard;
 pub mod table;
+#[cfg(test)]
+mod tests;
 
 pub use concurrent::{ConcurrentHashTable, ConcurrentLruCache};
 pub use lru_shard::LruShard;

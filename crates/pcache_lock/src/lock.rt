@@ -17,6 +17,8 @@ pub mod lent;
 pub mod lock_core;
 pub mod outcome;
 pub mod permit;
+#[cfg(test)]
+mod random;
 pub mod status;
 #[cfg(test)]
 mod tests;

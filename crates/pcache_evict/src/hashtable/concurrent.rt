@@ -11,6 +11,7 @@ use std::sync::{RwLock, RwLockReadGuard, RwLockWriteGuard, Wait};
 
 /// A table in `N` shards, which threads read and write side by side. The type of a shard keeps
 /// that it has no keys but its own; `belongs` tells which they are.
+#[derive(Drop)]
 pub struct ConcurrentHashTable<V, const N: usize> {
     tables: [RwLock<Shard<V, N>>; N],
     ghost some: { 0 < N },
@@ -74,6 +75,7 @@ impl<V, const N: usize> ConcurrentHashTable<V, N> {
 
 /// A table in `N` shards that forget what was used longest ago, which threads read and write side
 /// by side.
+#[derive(Drop)]
 pub struct ConcurrentLruCache<V, const N: usize> {
     lrus: Vec<RwLock<LruShard<V, N>>>,
     ghost some: { 0 < N },

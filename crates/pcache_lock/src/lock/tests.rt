@@ -1,9 +1,9 @@
-use crate::lock::CacheKeyLock;
 use crate::lock::cache_lock::CacheLock;
 use crate::lock::lock_core::LockCore;
 use crate::lock::outcome::{LockWaitOutcome, WaitOutcome};
 use crate::lock::permit::{Locked, ReadLock, WritePermit};
 use crate::lock::status::LockStatus;
+use crate::lock::{CacheKeyLock, CacheKeyLockImpl};
 use pcache_base::error::ErrorType;
 use pcache_base::fills::{UnusableFill, UnusableFills};
 use pcache_base::key::CacheKey;
@@ -351,4 +351,25 @@ fn outcomes_have_statuses(rt: HostRuntime) {
         LockStatus::WaitTimeout
     );
     assert_eq!(rt; LockWaitOutcome::Done.lock_status(), LockStatus::Done);
+}
+
+#[test]
+fn in_a_box_of_any_kind(rt: HostRuntime) -> Result<(), Fail> {
+    let alloc = rt.alloc();
+    let a = key(alloc, 1)?;
+    let mut lock: CacheKeyLockImpl = Box::new(
+        alloc,
+        CacheLock::new(alloc, Duration::from_secs(10)),
+    )?;
+    let writes = match lock.lock(alloc, &a, true, at(0)) {
+        Ok(locked) => {
+            let writes = locked.is_write() && locked.number() == 0;
+            lock.drop_lock(locked);
+            writes
+        }
+        Err(_) => false,
+    };
+    assert!(rt; writes);
+    assert_eq!(rt; lock.custom_lock_status("mine"), LockStatus::GiveUp);
+    Ok(())
 }
