@@ -1,3 +1,5 @@
 pub mod Order
 pub mod Absorbing
 pub mod HashVectors
+pub mod Totals
+pub mod Maps

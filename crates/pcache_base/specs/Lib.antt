@@ -1,5 +1,6 @@
 pub mod Blake2b
 pub mod CompactKey
+pub mod Fills
 pub mod Hashing
 pub mod Header
 pub mod Key
@@ -7,3 +8,4 @@ pub mod Meta
 pub mod Moments
 pub mod MomentParts
 pub mod Reasons
+pub mod Totals

@@ -6,10 +6,11 @@
 //! - `poll`: answers of calls that might have to wait
 //! - `text`: owned text that contracts see as its bytes
 //! - `key`: cache keys and their hashes; `blake2b`: the hash behind them
-//! - `reason`: why a response is not cached
+//! - `reason`: why a response is not cached; `fills`: fills that a request cannot use
 
 pub mod blake2b;
 pub mod error;
+pub mod fills;
 pub mod header;
 pub mod key;
 pub mod meta;

@@ -1,0 +1,6 @@
+pub mod EntryOrder
+pub mod Recency
+pub mod Walks
+pub mod Evictions
+pub mod Maps
+pub mod TrackedMaps

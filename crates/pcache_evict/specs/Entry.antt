@@ -1,0 +1,92 @@
+-- Keys of entries: what they are made of, when two are one, and an order of them (own, as the Rust derives it).
+use Rattle.std.specs.Prelude.{◌≡◌, ℕ, Bool, true, false, Option, None, Some, is_some, nat_eq, ◌&&◌, ◌++◌, refl}
+use Rattle.std.specs.declared.cmp.Ordering.{Ordering}
+use Rattle.std.specs.declared.cmp.Ordering.TheVariants.{Equal}
+use Rattle.std.specs.Ordering.{nat_cmp, bool_cmp, ordering_then, eq_by_cmp}
+use Rattle.std.specs.Option.{option_eq, option_cmp}
+use Rattle.std.specs.Hash as fed
+use Rattle.std.specs.Hash.{HashWrites, Alike}
+use Rattle.std.specs.Cmp.{IsEquivalence, IsTotalOrder, IsPartialOrder, and_equiv, on_equiv, nat_eq_equiv, nat_cmp_total, bool_cmp_total, on_total, then_total, both_tied, unsigned_ties, partial_order_from_agreeing_total}
+use Rattle.std.specs.Cmp.Rules.{hashing}
+use Rattle.std.proofs.Common.{rules}
+use Rattle.std.specs.Cmp.Lexicographic.{pointwise, slice_cmp, options_equiv, options_total, nat_list_eq_equiv, nat_list_cmp_total, texts_ties}
+use Rattle.pcache_base.specs.declared.key.CompactCacheKey.{CompactCacheKey}
+use Rattle.pcache_evict.specs.declared.eviction.entry_key.CacheEntryKey.{CacheEntryKey}
+use Rattle.pcache_evict.specs.declared.eviction.entry_key.CacheEntryKey.TheVariants.{KeyOnly, Identified}
+
+-- the entry of a key with this number, or its only one
+abbrev pub entry_with : CompactCacheKey → Option ℕ → CacheEntryKey
+entry_with k None = KeyOnly k
+entry_with k (Some n) = Identified k n
+
+-- the key, and the number of the entry where it has one
+abbrev pub key_of : CacheEntryKey → CompactCacheKey
+key_of (KeyOnly k) = k
+key_of (Identified k n) = k
+
+abbrev pub id_of : CacheEntryKey → Option ℕ
+id_of (KeyOnly k) = None
+id_of (Identified k n) = Some n
+
+-- stored keys by primary, then by variance (none first), then by tag
+abbrev pub compact_cmp : CompactCacheKey → CompactCacheKey → Ordering
+compact_cmp a b = ordering_then (slice_cmp nat_cmp a.primary b.primary) (ordering_then (option_cmp (slice_cmp nat_cmp) a.variance b.variance) (slice_cmp nat_cmp a.user_tag b.user_tag))
+
+-- entries without a number stand before those with one; then by key, then by number
+abbrev pub entry_cmp : CacheEntryKey → CacheEntryKey → Ordering
+entry_cmp a b = ordering_then (bool_cmp (is_some (id_of a)) (is_some (id_of b))) (ordering_then (compact_cmp (key_of a) (key_of b)) (option_cmp nat_cmp (id_of a) (id_of b)))
+
+-- what `==` answers: all parts are the same
+abbrev pub compact_eq : CompactCacheKey → CompactCacheKey → Bool
+compact_eq a b = pointwise nat_eq a.primary b.primary && (option_eq (pointwise nat_eq) a.variance b.variance && pointwise nat_eq a.user_tag b.user_tag)
+
+abbrev pub entry_eq : CacheEntryKey → CacheEntryKey → Bool
+entry_eq a b = compact_eq (key_of a) (key_of b) && option_eq nat_eq (id_of a) (id_of b)
+
+compact_equiv : IsEquivalence compact_eq
+compact_equiv = and_equiv (on_equiv (λ (k : CompactCacheKey). k.primary) nat_list_eq_equiv) (and_equiv (on_equiv (λ (k : CompactCacheKey). k.variance) (options_equiv nat_list_eq_equiv)) (on_equiv (λ (k : CompactCacheKey). k.user_tag) nat_list_eq_equiv))
+
+pub entry_equiv : IsEquivalence entry_eq
+entry_equiv = and_equiv (on_equiv key_of compact_equiv) (on_equiv id_of (options_equiv nat_eq_equiv))
+
+-- what a hasher is fed: the key's parts, then the number
+abbrev pub compact_writes : CompactCacheKey → HashWrites
+compact_writes k = fed.slice fed.u8 k.primary ++ fed.option (fed.slice fed.u8) k.variance ++ fed.str k.user_tag
+
+abbrev pub entry_writes : CacheEntryKey → HashWrites
+entry_writes e = compact_writes (key_of e) ++ fed.option fed.u64 (id_of e)
+
+pub entry_alike : Alike entry_eq entry_writes
+entry_alike = search (hashing, rules)
+
+-- ---- the order is total, and `==` is a tie in it
+
+compact_total : IsTotalOrder compact_cmp
+compact_total = then_total (on_total (λ (k : CompactCacheKey). k.primary) nat_list_cmp_total) (then_total (on_total (λ (k : CompactCacheKey). k.variance) (options_total nat_list_cmp_total)) (on_total (λ (k : CompactCacheKey). k.user_tag) nat_list_cmp_total))
+
+pub entries_total : IsTotalOrder entry_cmp
+entries_total = then_total (on_total (λ (e : CacheEntryKey). is_some (id_of e)) bool_cmp_total) (then_total (on_total key_of compact_total) (on_total id_of (options_total nat_cmp_total)))
+
+options_ties : {X : Type 0} (E : X → X → Bool) (R : X → X → Ordering) → ((x y : X) → E x y ≡ eq_by_cmp R x y) → (a b : Option X) → option_eq E a b ≡ eq_by_cmp (option_cmp R) a b
+options_ties E R t None None = refl
+options_ties E R t None (Some b) = refl
+options_ties E R t (Some a) None = refl
+options_ties E R t (Some a) (Some b) = t a b
+
+compact_ties : (a b : CompactCacheKey) → compact_eq a b ≡ eq_by_cmp compact_cmp a b
+compact_ties a b =
+    both_tied _ _ (slice_cmp nat_cmp a.primary b.primary) _ (texts_ties a.primary b.primary)
+    (both_tied _ _ (option_cmp (slice_cmp nat_cmp) a.variance b.variance) _ (options_ties _ _ texts_ties a.variance b.variance) (texts_ties a.user_tag b.user_tag))
+
+never : (b : Bool) → (b && false) ≡ false
+never true = refl
+never false = refl
+
+pub entry_ties : (a b : CacheEntryKey) → entry_eq a b ≡ eq_by_cmp entry_cmp a b
+entry_ties (KeyOnly a) (KeyOnly b) = both_tied _ true (compact_cmp a b) Equal (compact_ties a b) refl
+entry_ties (KeyOnly a) (Identified b n) = never (compact_eq a b)
+entry_ties (Identified a m) (KeyOnly b) = never (compact_eq a b)
+entry_ties (Identified a m) (Identified b n) = both_tied _ _ (compact_cmp a b) (nat_cmp m n) (compact_ties a b) (unsigned_ties m n)
+
+pub entries_po : IsPartialOrder entry_eq (λ a b. Some (entry_cmp a b))
+entries_po = partial_order_from_agreeing_total entry_cmp entries_total (λ a b. refl) entry_ties

@@ -1,0 +1,230 @@
+//! Entries with their weights in the order of their last use.
+ghost use Rattle.std.specs.Prelude.{◌≡◌, ◌∷◌, ◌++◌, ◌+◌, ◌-◌, ◌<◌, ◌^◌, [], true, false, None, is_some, length, OnOk, OnErr, IfOk, IfErr, IfSome, IfNone, min};
+ghost use Rattle.std.specs.Vec.{vec_capacity};
+ghost use Rattle.pcache_base.specs.declared.error.ErrorType.TheVariants.{OutOfMemory};
+ghost use Rattle.pcache_evict.specs.Tracked.{limits_of};
+ghost use Rattle.pcache_evict.specs.Recency.{Recency, weight, weight_of, others, moved, IsInside, Evicts};
+ghost use Rattle.pcache_evict.specs.Listed.{IsOnce, IsEnough};
+
+use super::CacheEntryKey;
+use lru::LruCache;
+use pcache_base::error::Result;
+use std::alloc::Global;
+use std::marker::Model;
+
+/// Entries with their weights, most recent first. A contract sees the list.
+///
+/// Each move takes one look-up. No entry stands twice.
+#[derive(Drop)]
+pub(super) struct RecencyList {
+    cache: LruCache<CacheEntryKey, usize>,
+    weight: u128,
+}
+
+impl Model for RecencyList {
+    ghost use Rattle.pcache_evict.specs.Recency.{Recency};
+    ghost use Rattle.pcache_evict.specs.Listed.{IsKept};
+
+    ghost Value = { Recency };
+
+    ghost view = { λ a. a.cache.entries };
+
+    ghost invariant = { λ a. IsKept a.cache a.weight };
+}
+
+impl RecencyList {
+    /// An empty list.
+    pub(super) fn new(alloc: Global) -> Result<RecencyList>
+        ensures ok { IfOk result (λ list. list ≡ []) }
+        ensures kind { IfErr result (λ e. e ≡ OutOfMemory) }
+    {
+        Ok(RecencyList {
+            cache: LruCache::unbounded(alloc)?,
+            weight: 0,
+        })
+    }
+
+    /// The number of entries.
+    pub(super) fn len(&self) -> usize
+        ensures value { result ≡ length self.now }
+        ensures once { IsOnce self.now }
+    {
+        self.cache.len()
+    }
+
+    /// The weights of the entries, added up.
+    pub(super) fn weight(&self) -> u128
+        ensures value { result ≡ weight self.now }
+        ensures once { IsOnce self.now }
+    {
+        self.weight
+    }
+
+    /// The weight of an entry that is there.
+    pub(super) fn weight_of(&self, item: &CacheEntryKey) -> Option<usize>
+        ensures { result ≡ weight_of item.now self.now }
+    {
+        self.cache.peek(item).copied()
+    }
+
+    /// Sets the weight of an entry and moves it to the front.
+    pub(super) fn put(&mut self, item: CacheEntryKey, size: usize) -> Result<()>
+        ensures ok { OnOk result (self.new ≡ moved item size self.old) }
+        ensures once { IsOnce self.new }
+        ensures kind { IfErr result (λ e. e ≡ OutOfMemory) }
+        ensures err { OnErr result (self.new ≡ self.old) }
+    {
+        let rest = self.others(&item).0;
+        self.cache.put(item, size)?;
+        self.cache.len();
+        self.weight = rest + size as u128;
+        Ok(())
+    }
+
+    /// Moves an entry to the front, if it is there.
+    pub(super) fn promote(&mut self, item: &CacheEntryKey) -> bool
+        ensures was { result ≡ is_some (weight_of item.now self.old) }
+        ensures there { IfSome (weight_of item.now self.old) (λ w. self.new
+            ≡ moved item.now w self.old) }
+        ensures missing { result ≡ false → self.new ≡ self.old }
+    {
+        let was = self.cache.promote(item);
+        self.cache.len();
+        was
+    }
+
+    /// Takes an entry out.
+    pub(super) fn remove(&mut self, item: &CacheEntryKey)
+        ensures { self.new ≡ others item.now self.old }
+    {
+        let rest = self.others(item).0;
+        self.cache.pop(item);
+        self.weight = rest;
+    }
+
+    /// Takes the last entry out.
+    pub(super) fn pop_last(&mut self) -> Option<(CacheEntryKey, usize)>
+        ensures last { IfSome result (λ entry. self.old ≡ self.new ++ entry ∷ []) }
+        ensures empty { IfNone result (self.old ≡ []) }
+    {
+        let (key, size) = self.cache.pop_lru()?;
+        self.weight -= size as u128;
+        Some((key, size))
+    }
+
+    /// Adds a new entry at the back.
+    pub(super) fn push_last(&mut self, item: CacheEntryKey, size: usize) -> Result<()>
+        requires { weight_of item self.old ≡ None }
+        ensures ok { OnOk result (self.new ≡ self.old ++ (item, size) ∷ []) }
+        ensures kind { IfErr result (λ e. e ≡ OutOfMemory) }
+        ensures err { OnErr result (self.new ≡ self.old) }
+    {
+        let copy = item.copied()?;
+        self.put(item, size)?;
+        self.cache.demote(&copy);
+        self.cache.len();
+        Ok(())
+    }
+
+    /// The entries with their weights, most recent first.
+    pub(super) fn entries(&self, alloc: Global) -> Result<Vec<(CacheEntryKey, usize)>>
+        ensures ok { IfOk result (λ all. all.items ≡ self.now) }
+        ensures kind { IfErr result (λ e. e ≡ OutOfMemory) }
+        ensures once { IsOnce self.now }
+    {
+        let mut all = Vec::with_capacity(alloc, self.cache.len())?;
+        for (key, size) in self.cache.iter() {
+            push_copy(&mut all, key, *size)?;
+        }
+        Ok(all)
+    }
+
+    /// How many entries go at most when this one is put and the limits are then kept.
+    pub(super) fn room_for(
+        &self,
+        item: &CacheEntryKey,
+        size: usize,
+        limit: usize,
+        watermark: Option<usize>,
+    ) -> usize
+        ensures { IsEnough (limits_of limit watermark) (moved item.now size self.now) result }
+    {
+        let rest = self.others(item);
+        let mut sum = rest.0 + size as u128;
+        let mut count = rest.1 + 1;
+        let mut left = self.cache.iter();
+        let mut room = 0;
+        while exceeds(sum, count, limit, watermark) {
+            let Some((key, gone)) = left.next_back() else {
+                return room + 1;
+            };
+            let same = *item == *key;
+            if !same {
+                sum -= *gone as u128;
+                count -= 1;
+                room += 1;
+            }
+        }
+        room
+    }
+
+    /// Takes the last entries out until the limits hold, adds them to `out`, and answers what they
+    /// weighed (the largest `usize` where it is more).
+    pub(super) fn evict(
+        &mut self,
+        limit: usize,
+        watermark: Option<usize>,
+        out: &mut Vec<CacheEntryKey>,
+    ) -> usize
+        requires none { out.old.items ≡ [] }
+        requires room { IsEnough (limits_of limit watermark) self.old (vec_capacity out.old) }
+        ensures evicts { Evicts (limits_of limit watermark) self.old self.new out.new.items }
+        ensures gone { result ≡ min (weight self.old - weight self.new) (2 ^ 64 - 1) }
+    {
+        let before = self.weight();
+        while exceeds(self.weight(), self.len(), limit, watermark) {
+            let Some((key, _)) = self.pop_last() else {
+                unreachable!()
+            };
+            out.push_reserved(key);
+        }
+        usize::try_from(before - self.weight()).unwrap_or(usize::MAX)
+    }
+
+    /// The weight and the number of the other entries.
+    fn others(&self, item: &CacheEntryKey) -> (u128, usize)
+        ensures sum { result.0 ≡ weight (others item.now self.now) }
+        ensures sum_fits { result.0 + 2 ^ 64 < 2 ^ 128 }
+        ensures count { result.1 ≡ length (others item.now self.now) }
+        ensures count_fits { result.1 < 2 ^ 63 }
+    {
+        match self.weight_of(item) {
+            Some(size) => (self.weight - size as u128, self.cache.len() - 1),
+            None => (self.weight, self.cache.len()),
+        }
+    }
+}
+
+/// Adds a copy of an entry.
+fn push_copy(all: &mut Vec<(CacheEntryKey, usize)>, key: &CacheEntryKey, size: usize) -> Result<()>
+    ensures ok { OnOk result (all.new.items ≡ all.old.items ++ (key.now, size) ∷ []) }
+    ensures kind { IfErr result (λ e. e ≡ OutOfMemory) }
+{
+    all.push((key.copied()?, size))?;
+    Ok(())
+}
+
+/// Whether a weight or a number of entries is above the limits.
+fn exceeds(sum: u128, count: usize, limit: usize, watermark: Option<usize>) -> bool
+    ensures over { result ≡ true → (l : Recency) → sum ≡ weight l → count ≡ length l
+        → ¬ IsInside (limits_of limit watermark) l }
+    ensures within { result ≡ false → (l : Recency) → sum ≡ weight l → count ≡ length l
+        → IsInside (limits_of limit watermark) l }
+{
+    if let Some(most) = watermark {
+        if count > most {
+            return true;
+        }
+    }
+    sum > limit as u128
+}

@@ -1,0 +1,288 @@
+//! An eviction manager that lets the least recently used entries go.
+ghost use Rattle.std.specs.Prelude.{◌≡◌, ◌-◌, ◌^◌, [], None, is_some, length, OnOk, OnErr, IfOk, IfErr, min};
+ghost use Rattle.pcache_base.specs.declared.error.ErrorType.TheVariants.{OutOfMemory};
+ghost use Rattle.pcache_evict.specs.Tracked.{raised};
+ghost use Rattle.pcache_evict.specs.Recency.{weight, weight_of, others, moved, incremented, accessed, loaded};
+ghost use Rattle.pcache_evict.specs.Listed.{Listed, empty_list, Moves, IsOnce};
+
+use super::recency::RecencyList;
+use super::{CacheEntryKey, EvictionManager};
+use pcache_base::error::Result;
+use pcache_base::moment::Moment;
+use std::alloc::Global;
+use std::marker::Model;
+
+/// Entries with weights in the order of their last use, and limits on the sum of the weights and
+/// on the number of entries.
+///
+/// A contract sees the list, most recent first, with the limits and the totals of evictions. Each
+/// call takes a fixed number of look-ups, and two steps for each entry that it evicts.
+#[derive(Drop)]
+pub struct Manager {
+    alloc: Global,
+    limit: usize,
+    watermark: Option<usize>,
+    list: RecencyList,
+    evicted_size: usize,
+    evicted_items: usize,
+}
+
+impl Model for Manager {
+    ghost use Rattle.pcache_evict.specs.Listed.{Listed};
+
+    ghost Value = { Listed };
+
+    ghost view = { λ a. record {
+      entries = a.list;
+      limits = record { weight = a.limit; watermark = a.watermark };
+      evicted = record { weight = a.evicted_size; count = a.evicted_items };
+    } };
+}
+
+impl Manager {
+    /// An empty manager whose entries weigh at most `limit` once it has evicted.
+    pub fn new(alloc: Global, limit: usize) -> Result<Manager>
+        ensures ok { IfOk result (λ m. m ≡ empty_list limit None) }
+        ensures kind { IfErr result (λ e. e ≡ OutOfMemory) }
+    {
+        Manager::new_with_watermark(alloc, limit, None)
+    }
+
+    /// An empty manager whose entries weigh at most `limit` once it has evicted, and are at most
+    /// `items_watermark` where that is given.
+    pub fn new_with_watermark(
+        alloc: Global,
+        limit: usize,
+        items_watermark: Option<usize>,
+    ) -> Result<Manager>
+        ensures ok { IfOk result (λ m. m ≡ empty_list limit items_watermark) }
+        ensures kind { IfErr result (λ e. e ≡ OutOfMemory) }
+    {
+        Ok(Manager {
+            alloc,
+            limit,
+            watermark: items_watermark,
+            list: RecencyList::new(alloc)?,
+            evicted_size: 0,
+            evicted_items: 0,
+        })
+    }
+
+    /// The weights of the entries, added up; the largest `usize` where they are more.
+    pub fn total_size(&self) -> usize
+        ensures value { result ≡ min (weight self.now.entries) (2 ^ 64 - 1) }
+        ensures once { IsOnce self.now.entries }
+    {
+        usize::try_from(self.list.weight()).unwrap_or(usize::MAX)
+    }
+
+    /// The number of entries.
+    pub fn total_items(&self) -> usize
+        ensures value { result ≡ length self.now.entries }
+        ensures once { IsOnce self.now.entries }
+    {
+        self.list.len()
+    }
+
+    /// The weight of all that was evicted so far; the largest `usize` where it is more.
+    pub fn evicted_size(&self) -> usize
+        ensures { result ≡ self.now.evicted.weight }
+    {
+        self.evicted_size
+    }
+
+    /// The number of entries that were evicted so far; the largest `usize` where they are more.
+    pub fn evicted_items(&self) -> usize
+        ensures { result ≡ self.now.evicted.count }
+    {
+        self.evicted_items
+    }
+
+    /// The entries with their weights, most recent first.
+    pub fn entries(&self) -> Result<Vec<(CacheEntryKey, usize)>>
+        ensures ok { IfOk result (λ all. all.items ≡ self.now.entries) }
+        ensures once { IsOnce self.now.entries }
+        ensures kind { IfErr result (λ e. e ≡ OutOfMemory) }
+    {
+        self.list.entries(self.alloc)
+    }
+
+    /// Whether an entry is there. It stays where it is.
+    pub fn peek(&self, item: &CacheEntryKey) -> bool
+        ensures { result ≡ is_some (weight_of item.now self.now.entries) }
+    {
+        self.list.weight_of(item).is_some()
+    }
+
+    /// Sets the weight of an entry and moves it to the front; then the last entry goes as long as
+    /// the limits do not hold. Answers what went, least recent first. `fresh_until` is not read.
+    pub fn admit(
+        &mut self,
+        item: CacheEntryKey,
+        size: usize,
+        _fresh_until: Moment,
+    ) -> Result<Vec<CacheEntryKey>>
+        ensures ok { IfOk result (λ out. Moves self.old
+            (moved item size self.old.entries) self.new out.items) }
+        ensures kind { IfErr result (λ e. e ≡ OutOfMemory) }
+        ensures err { OnErr result (self.new ≡ self.old) }
+    {
+        self.put_and_evict(item, size)
+    }
+
+    /// Adds to the weight of an entry, up to `max_weight` (the largest `usize` where that is
+    /// `None`), and then does as `admit`. A weight never falls; a missing entry comes in with what
+    /// is added, at least 1.
+    pub fn increment_weight(
+        &mut self,
+        item: &CacheEntryKey,
+        delta: usize,
+        max_weight: Option<usize>,
+    ) -> Result<Vec<CacheEntryKey>>
+        ensures ok { IfOk result (λ out. Moves self.old
+            (incremented item.now delta max_weight self.old.entries) self.new out.items) }
+        ensures kind { IfErr result (λ e. e ≡ OutOfMemory) }
+        ensures err { OnErr result (self.new ≡ self.old) }
+    {
+        let size = raised_weight(self.list.weight_of(item), delta, max_weight);
+        let copy = item.copied()?;
+        self.put_and_evict(copy, size)
+    }
+
+    /// Takes an entry out, if it is there. That is no eviction.
+    pub fn remove(&mut self, item: &CacheEntryKey)
+        ensures { self.new ≡ record self.old { entries = others item.now self.old.entries } }
+    {
+        self.list.remove(item);
+    }
+
+    /// Moves an entry to the front and leaves its weight, or adds it there with this one. Answers
+    /// whether it was there. Nothing is evicted; `fresh_until` is not read.
+    pub fn access(
+        &mut self,
+        item: &CacheEntryKey,
+        size: usize,
+        _fresh_until: Moment,
+    ) -> Result<bool>
+        ensures was { IfOk result (λ was. was ≡ is_some (weight_of item.now self.old.entries)) }
+        ensures ok { OnOk result (self.new
+            ≡ record self.old { entries = accessed item.now size self.old.entries }) }
+        ensures kind { IfErr result (λ e. e ≡ OutOfMemory) }
+        ensures err { OnErr result (self.new ≡ self.old) }
+    {
+        if self.list.promote(item) {
+            return Ok(true);
+        }
+        let copy = item.copied()?;
+        self.list.put(copy, size)?;
+        Ok(false)
+    }
+
+    /// Puts in an entry that was read from a file: a new one at the back, one that is there at the
+    /// front with the new weight. Nothing is evicted (own).
+    pub fn load_entry(&mut self, item: CacheEntryKey, size: usize) -> Result<()>
+        ensures ok { OnOk result (self.new
+            ≡ record self.old { entries = loaded item size self.old.entries }) }
+        ensures kind { IfErr result (λ e. e ≡ OutOfMemory) }
+        ensures err { OnErr result (self.new ≡ self.old) }
+    {
+        if self.list.weight_of(&item).is_some() {
+            return self.list.put(item, size);
+        }
+        self.list.push_last(item, size)
+    }
+
+    // The room for what goes is made first, so that a refusal leaves all as it was.
+    fn put_and_evict(&mut self, item: CacheEntryKey, size: usize) -> Result<Vec<CacheEntryKey>>
+        ensures ok { IfOk result (λ out. Moves self.old
+            (moved item size self.old.entries) self.new out.items) }
+        ensures kind { IfErr result (λ e. e ≡ OutOfMemory) }
+        ensures err { OnErr result (self.new ≡ self.old) }
+    {
+        let room = self.list.room_for(&item, size, self.limit, self.watermark);
+        let mut out = Vec::with_capacity(self.alloc, room)?;
+        self.list.put(item, size)?;
+        let gone = self.list.evict(self.limit, self.watermark, &mut out);
+        self.evicted_size = self.evicted_size.saturating_add(gone);
+        self.evicted_items = self.evicted_items.saturating_add(out.len());
+        Ok(out)
+    }
+}
+
+/// The weight after an increment.
+fn raised_weight(present: Option<usize>, delta: usize, max_weight: Option<usize>) -> usize
+    ensures { result ≡ raised delta max_weight present }
+{
+    let most = max_weight.unwrap_or(usize::MAX);
+    match present {
+        Some(size) => size.saturating_add(delta).min(most).max(size),
+        None => delta.min(most).max(1),
+    }
+}
+
+impl EvictionManager for Manager {
+    ghost use Rattle.pcache_evict.specs.Listed.{map_of};
+
+    ghost tracked = { λ m. map_of m.entries };
+
+    ghost limits = { λ m. m.limits };
+
+    ghost evicted = { λ m. m.evicted };
+
+    fn total_size(&self) -> usize {
+        Manager::total_size(self)
+    }
+
+    fn total_items(&self) -> usize {
+        Manager::total_items(self)
+    }
+
+    fn evicted_size(&self) -> usize {
+        Manager::evicted_size(self)
+    }
+
+    fn evicted_items(&self) -> usize {
+        Manager::evicted_items(self)
+    }
+
+    fn entries(&self) -> Result<Vec<(CacheEntryKey, usize)>> {
+        let all = Manager::entries(self)?;
+        Ok(all)
+    }
+
+    fn admit(
+        &mut self,
+        item: CacheEntryKey,
+        size: usize,
+        fresh_until: Moment,
+    ) -> Result<Vec<CacheEntryKey>> {
+        let out = Manager::admit(self, item, size, fresh_until)?;
+        Ok(out)
+    }
+
+    fn increment_weight(
+        &mut self,
+        item: &CacheEntryKey,
+        delta: usize,
+        max_weight: Option<usize>,
+    ) -> Result<Vec<CacheEntryKey>> {
+        let out = Manager::increment_weight(self, item, delta, max_weight)?;
+        Ok(out)
+    }
+
+    fn remove(&mut self, item: &CacheEntryKey) {
+        Manager::remove(self, item);
+    }
+
+    fn access(&mut self, item: &CacheEntryKey, size: usize, fresh_until: Moment) -> Result<bool> {
+        let was = Manager::access(self, item, size, fresh_until)?;
+        Ok(was)
+    }
+
+    fn peek(&self, item: &CacheEntryKey) -> bool {
+        Manager::peek(self, item)
+    }
+}
+
+#[cfg(test)]
+mod tests;

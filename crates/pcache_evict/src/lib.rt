@@ -1,0 +1,7 @@
+#![tactic(auto)]
+//! Which entries of a cache leave it, and when.
+//!
+//! - `eviction`: the keys of entries, and what an eviction manager is
+//! - `eviction::simple_lru`: the manager with one recency list
+
+pub mod eviction;

@@ -1,0 +1,59 @@
+-- A tree's entries as a finite map from numbers.
+use Rattle.std.proofs.Common.{◌≡◌, ℕ, List, [], ◌∷◌, Option, Some, None, cond, ap, sym, refl, ◌∙◌, Bool, true, false, ◌&&◌, T, subst}
+use Rattle.std.specs.Option.{option_map, IsSome, is_some, OnSome}
+use Rattle.std.specs.Ordering.{nat_cmp}
+use Rattle.std.specs.Cmp.{nat_cmp_total, eq_by_cmp_equiv}
+use Rattle.std.specs.BTreeMap.{is_at}
+use Rattle.std.specs.Map.{lookup}
+use Rattle.std.specs.FinMap.{from_entries, get, insert, remove, find, get-from_entries, get-insert, get-remove, same_map, entries, from_sorted, get-from_sorted, entries-from_sorted}
+use Rattle.std.specs.FinMap.Entries.{is_sorted, below_all}
+use Rattle.std.specs.Map.{keys_of}
+use Rattle.std.specs.List.{AllByRecursion}
+use Rattle.std.specs.List.Sorted.{IsStrictlySortedBy}
+use Rattle.std.specs.Ordering.{is_lt}
+use Rattle.std.specs.declared.cmp.Ordering.TheVariants.{Less}
+use Rattle.std.proofs.lemmas.Map.Keys.{sorted_head, sorted_tail}
+use Rattle.std.proofs.lemmas.Map.Lookups.{exact_unsigned}
+
+module _ {X : Type 0} where
+  find_looks : (es : List (ℕ × X)) (q : ℕ) → find nat_cmp q es ≡ lookup (is_at (nat_cmp q)) es
+  find_looks [] q = refl
+  find_looks (e ∷ es) q = ap (cond (is_at (nat_cmp q) e.0) (Some e.1)) (find_looks es q)
+
+  -- what the map has at a number
+  pub got : (es : List (ℕ × X)) (q : ℕ) → get (from_entries {R = nat_cmp} es) q ≡ lookup (is_at (nat_cmp q)) es
+  got es q = get-from_entries nat_cmp_total es q ∙ find_looks es q
+
+  -- entries that differ at one number make maps that differ there
+  pub inserted : (es fs : List (ℕ × X)) (k : ℕ) (v : X) → ((q : ℕ) → lookup (is_at (nat_cmp q)) fs ≡ cond (is_at (nat_cmp k) q) (Some v) (lookup (is_at (nat_cmp q)) es)) → from_entries {R = nat_cmp} fs ≡ insert (from_entries es) k v
+  inserted es fs k v h = same_map nat_cmp_total exact_unsigned _ _ (λ q.
+      got fs q ∙ h q ∙ ap (λ b. cond b (Some v) (lookup (is_at (nat_cmp q)) es)) ((eq_by_cmp_equiv nat_cmp_total).symm k q)
+      ∙ sym (get-insert nat_cmp_total (from_entries es) k v q ∙ ap (cond (is_at (nat_cmp q) k) (Some v)) (got es q)))
+
+  pub removed : (es fs : List (ℕ × X)) (k : ℕ) → ((q : ℕ) → lookup (is_at (nat_cmp q)) fs ≡ cond (is_at (nat_cmp k) q) None (lookup (is_at (nat_cmp q)) es)) → from_entries {R = nat_cmp} fs ≡ remove (from_entries es) k
+  removed es fs k h = same_map nat_cmp_total exact_unsigned _ _ (λ q.
+      got fs q ∙ h q ∙ ap (λ b. cond b None (lookup (is_at (nat_cmp q)) es)) ((eq_by_cmp_equiv nat_cmp_total).symm k q)
+      ∙ sym (get-remove nat_cmp_total (from_entries es) k q ∙ ap (cond (is_at (nat_cmp q) k) None) (got es q)))
+
+-- what follows from a value that is there, where the value is lent
+pub on_some_lent : {X Y : Type 0} {P : Type 0} (o : Option Y) (f : Y → X) (p : Option X) → option_map f o ≡ p → (IsSome p → P) → OnSome o P
+on_some_lent None f p e k = tt
+on_some_lent (Some y) f p e k = k (ap is_some (sym e))
+
+two : (a b : Bool) → T a → T b → T (a && b)
+two true b p q = q
+two false b p q = absurd p
+
+-- entries in order are those of their map
+below_head : {X : Type 0} (k : ℕ) (es : List (ℕ × X)) → AllByRecursion (λ y. nat_cmp k y ≡ Less) (keys_of es) → T (below_all nat_cmp k es)
+below_head k [] h = tt
+below_head k (e ∷ es) h = two _ _ (subst (λ o. T (is_lt o)) (sym h.0) tt) (below_head k es h.1)
+
+in_order : {X : Type 0} (es : List (ℕ × X)) → IsStrictlySortedBy nat_cmp (keys_of es) → T (is_sorted nat_cmp es)
+in_order [] h = tt
+in_order (e ∷ es) h = two _ _ (below_head e.0 es (sorted_head nat_cmp e.0 (keys_of es) h)) (in_order es (sorted_tail nat_cmp e.0 (keys_of es) h))
+
+pub entries_of : {X : Type 0} (es : List (ℕ × X)) → IsStrictlySortedBy nat_cmp (keys_of es) → entries (from_entries {R = nat_cmp} es) ≡ es
+entries_of es h =
+    let t = in_order es h in
+    ap entries (same_map nat_cmp_total exact_unsigned (from_entries es) (from_sorted es) (λ q. get-from_entries nat_cmp_total es q ∙ sym (get-from_sorted nat_cmp es q t))) ∙ entries-from_sorted nat_cmp es t

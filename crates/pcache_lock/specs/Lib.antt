@@ -1,0 +1,4 @@
+pub mod Locks
+pub mod LocksCode
+pub mod Permits
+pub mod Statuses

@@ -1,0 +1,128 @@
+-- What a table of locks holds, and what its calls do to it (own).
+use Rattle.std.specs.Prelude.{ℕ, ◌+◌, ◌^◌, ◌==◌, ◌≤◌, Bool, true, false, Option, Some, None, cond}
+use Rattle.std.specs.Ordering.{nat_cmp}
+use Rattle.std.specs.FinMap.{FinMap, empty, get, insert, remove}
+use Rattle.pcache_base.specs.declared.error.ErrorType.{ErrorType}
+use Rattle.pcache_base.specs.declared.error.ErrorType.TheVariants.{OutOfMemory, InternalError, InvalidHttpHeader, ResponseTooLarge, IncompleteHttpBody, WriteRemoved, NumbersExhausted, Io}
+use Rattle.pcache_lock.specs.declared.lock.permit.Locked.{Locked}
+use Rattle.pcache_lock.specs.declared.lock.permit.Locked.TheVariants.{Write, Read}
+use Rattle.pcache_lock.specs.declared.lock.status.LockStatus.{LockStatus}
+use Rattle.pcache_lock.specs.Statuses.{is_free, is_aged}
+use Rattle.pcache_lock.specs.Permits.{Core, fresh_core, is_named, with_reader, without_reader, spent, released_status, dropped_status}
+
+-- the locks that are still named, by number; under each key the number of its entry; the number of
+-- the next lock; and after how many nanoseconds a permit is too old
+pub record Locks : Type 0 where
+  pub cores : FinMap nat_cmp Core
+  pub standing : FinMap nat_cmp ℕ
+  pub next : ℕ
+  pub age_timeout : ℕ
+
+-- a table with no lock
+abbrev pub no_locks : ℕ → Locks
+no_locks age_timeout = record { cores = empty; standing = empty; next = 0; age_timeout = age_timeout }
+
+-- the lock on which a request for the key would wait: that of the key's entry, unless its place may be taken
+abbrev pub unless_free : ℕ → Option Core → Option ℕ
+unless_free n None = None
+unless_free n (Some c) = cond (is_free c.status) None (Some n)
+
+abbrev pub held_by : Locks → Option ℕ → Option ℕ
+held_by t None = None
+held_by t (Some n) = unless_free n (get t.cores n)
+
+abbrev pub holder : Locks → ℕ → Option ℕ
+holder t k = held_by t (get t.standing k)
+
+-- what a request for the key gets
+abbrev pub given : Locks → Bool → Option ℕ → Locked
+given t stale None = Write (record { number = t.next; stale_writer = stale })
+given t stale (Some n) = Read (record { number = n; watch = None })
+
+-- the table after it: with a new lock as the key's entry, or with a read lock more
+abbrev pub with_core : Locks → ℕ → Core → Locks
+with_core t k c = record t {
+  cores = insert t.cores t.next c;
+  standing = insert t.standing k t.next;
+  next = t.next + 1;
+}
+
+abbrev pub with_permit : Locks → ℕ → Bool → ℕ → Locks
+with_permit t k stale now = with_core t k (fresh_core (Some k) t.age_timeout stale now)
+
+abbrev pub with_read_lock : Locks → ℕ → Option Core → Locks
+with_read_lock t n None = t
+with_read_lock t n (Some c) = record t { cores = insert t.cores n (with_reader c) }
+
+abbrev pub after_request : Locks → ℕ → Bool → ℕ → Option ℕ → Locks
+after_request t k stale now None = with_permit t k stale now
+after_request t k stale now (Some n) = with_read_lock t n (get t.cores n)
+
+-- the entries without that of this lock, where it stands under its key
+abbrev pub stands_as : ℕ → Option ℕ → Bool
+stands_as n None = false
+stands_as n (Some m) = m == n
+
+abbrev pub without_entry : ℕ → Option ℕ → FinMap nat_cmp ℕ → FinMap nat_cmp ℕ
+without_entry n None standing = standing
+without_entry n (Some k) standing = cond (stands_as n (get standing k)) (remove standing k) standing
+
+-- a lock written back; one that nobody names any more goes, and its entry with it
+abbrev pub kept : Locks → ℕ → Core → Locks
+kept t n c = cond (is_named c)
+    (record t { cores = insert t.cores n c })
+    (record t { cores = remove t.cores n; standing = without_entry n c.slot t.standing })
+
+-- a lock changed, where it is known
+abbrev pub changed : (Core → Core) → FinMap nat_cmp Core → ℕ → Option Core → FinMap nat_cmp Core
+changed f cores n None = cores
+changed f cores n (Some c) = insert cores n (f c)
+
+-- a permit spent, and a read lock dropped
+abbrev pub permit_spent : Locks → ℕ → LockStatus → Option Core → Locks
+permit_spent t n status None = t
+permit_spent t n status (Some c) = kept t n (spent c status)
+
+-- a permit released: its own entry goes, unless it aged out
+abbrev pub left : Locks → ℕ → Core → Locks
+left t n c = cond (is_aged c.status) t (record t { standing = without_entry n c.slot t.standing })
+
+abbrev pub released_on : Locks → ℕ → LockStatus → Option Core → Locks
+released_on t n reason None = t
+released_on t n reason (Some c) = kept (left t n c) n (spent c (released_status reason c.status))
+
+abbrev pub released : Locks → ℕ → LockStatus → Locks
+released t n reason = released_on t n reason (get t.cores n)
+
+-- a lock let go
+abbrev pub permit_dropped : Locks → ℕ → Option Core → Locks
+permit_dropped t n None = t
+permit_dropped t n (Some c) = kept t n (spent c (dropped_status c.status))
+
+abbrev pub reader_dropped : Locks → ℕ → Option Core → Locks
+reader_dropped t n None = t
+reader_dropped t n (Some c) = kept t n (without_reader c)
+
+abbrev pub let_go : Locks → Locked → Locks
+let_go t (Write p) = permit_dropped t p.number (get t.cores p.number)
+let_go t (Read r) = reader_dropped t r.number (get t.cores r.number)
+
+-- whether it is the permit; the lock's number
+abbrev pub is_permit : Locked → Bool
+is_permit (Write p) = true
+is_permit (Read r) = false
+
+abbrev pub number_of_lock : Locked → ℕ
+number_of_lock (Write p) = p.number
+number_of_lock (Read r) = r.number
+
+-- why a lock may be refused: memory, or all numbers were given
+abbrev pub MayRefuseLock : Locks → ErrorType → Type 0
+MayRefuseLock t OutOfMemory = Unit {0}
+MayRefuseLock t InternalError = ⊥
+MayRefuseLock t InvalidHttpHeader = ⊥
+MayRefuseLock t ResponseTooLarge = ⊥
+MayRefuseLock t IncompleteHttpBody = ⊥
+MayRefuseLock t WriteRemoved = ⊥
+MayRefuseLock t NumbersExhausted = 2 ^ 64 ≤ t.next
+MayRefuseLock t Io = ⊥

@@ -1,0 +1,9 @@
+use Rattle.pcache_store.proofs.Slots.{changed_there}
+use Rattle.pcache_base.specs.Meta.{expired_at}
+use Rattle.pcache_store.proofs.memory.slots.expire_in.Goals as goal
+
+pub returns-clause-slots : goal.returns-clause-slots
+returns-clause-slots c =
+    let is = rw c.in-Some.is at c.get_mut.ensures.value in
+    let set = rw c.in-Some.is at (c.get_mut.follows.holds c.expire.new.self) in
+    changed_there c.args.slots.now c.args.key c.in-Some.slot.now c.expire.new.self _ is set (expired_at c.args.now) c.expire.ensures.slot

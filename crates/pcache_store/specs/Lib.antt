@@ -1,0 +1,11 @@
+pub mod DraftText
+pub mod Drafts
+pub mod Finishes
+pub mod Numbers
+pub mod Purge
+pub mod Readers
+pub mod Refusals
+pub mod Store
+pub mod StoreCode
+pub mod Tag
+pub mod Totals

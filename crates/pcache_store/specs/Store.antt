@@ -1,0 +1,258 @@
+-- What a store holds, what its calls do to it, and what its readers read (own).
+use Rattle.std.specs.Prelude.{ℕ, ◌+◌, ◌-◌, ◌^◌, ◌<◌, ◌≤◌, ◌≡◌, ◌==◌, ◌&&◌, ◌||◌, nat_le, nat_lt, not, Bool, true, false, Option, Some, None, is_none, is_some, cond, List, [], ◌++◌, drop, length, slice_range, min}
+use Rattle.std.specs.Ordering.{nat_cmp}
+use Rattle.std.specs.FinMap.{FinMap, empty, get, insert, remove, contains_key, len}
+use Rattle.pcache_base.specs.Meta.{Meta}
+use Rattle.pcache_base.specs.declared.poll.Poll.{Poll}
+use Rattle.pcache_base.specs.declared.poll.Poll.TheVariants.{Ready, Pending}
+use Rattle.pcache_store.specs.Numbers.{least}
+
+-- a complete body
+pub record Stored : Type 0 where
+  pub meta : Meta
+  pub bytes : List ℕ
+
+-- a write, kept as long as its handler or a reader names it
+pub record Written : Type 0 where
+  pub slot : ℕ  -- its key
+  pub meta : Meta
+  pub bytes : List ℕ
+  pub told : Bool  -- eof was said
+  pub flying : Bool  -- its handler is there
+  pub readers : ℕ  -- how many readers follow it
+
+-- what stands under a key: a complete body, and the numbers of the writes in flight that met no removal
+pub record Slot : Type 0 where
+  pub body : Option Stored
+  pub fresh : FinMap nat_cmp (Unit {0})
+
+-- the slots by key, the writes by number, and the number of the next write
+pub record Store : Type 0 where
+  pub slots : FinMap nat_cmp Slot
+  pub writes : FinMap nat_cmp Written
+  pub next : ℕ
+
+-- what a reader goes over: a range of a complete body, which it gives once, or a write, of which it has read so much
+pub data Reader : Type 0 where
+  Whole : (body : List ℕ) (start stop : ℕ) (done : Bool) → Reader
+  Part : (write place : ℕ) → Reader
+
+-- a look-up: the earliest begun write of the key that is in flight and met no removal, else the complete body
+abbrev pub found_body : Option Stored → Option (Meta × Reader)
+found_body None = None
+found_body (Some b) = Some (b.meta, Whole b.bytes 0 (length b.bytes) false)
+
+abbrev pub found_part : ℕ → Option Written → Option (Meta × Reader)
+found_part n None = None
+found_part n (Some w) = Some (w.meta, Part n 0)
+
+abbrev pub found_first : FinMap nat_cmp Written → Option ℕ → Option Stored → Option (Meta × Reader)
+found_first ws None b = found_body b
+found_first ws (Some n) b = found_part n (get ws n)
+
+abbrev pub found_in : FinMap nat_cmp Written → Option Slot → Option (Meta × Reader)
+found_in ws None = None
+found_in ws (Some x) = found_first ws (least x.fresh) x.body
+
+abbrev pub find : Store → ℕ → Option (Meta × Reader)
+find s k = found_in s.writes (get s.slots k)
+
+-- the write of a number, where it is in flight and of the key
+abbrev pub found_flying : ℕ → ℕ → Option Written → Option (Meta × Reader)
+found_flying k n None = None
+found_flying k n (Some w) = cond (w.flying && (w.slot == k)) (Some (w.meta, Part n 0)) None
+
+abbrev pub find_write : Store → ℕ → Option ℕ → Option (Meta × Reader)
+find_write s k None = None
+find_write s k (Some n) = found_flying k n (get s.writes n)
+
+-- a write's record, which stays as long as somebody names it
+abbrev pub is_named : Written → Bool
+is_named w = w.flying || nat_lt 0 w.readers
+
+abbrev pub kept : FinMap nat_cmp Written → ℕ → Written → FinMap nat_cmp Written
+kept ws n w = cond (is_named w) (insert ws n w) (remove ws n)
+
+-- a reader more of a write
+abbrev pub joined_on : FinMap nat_cmp Written → ℕ → Option Written → FinMap nat_cmp Written
+joined_on ws n None = ws
+joined_on ws n (Some w) = insert ws n (record w { readers = w.readers + 1 })
+
+abbrev pub joined : Store → ℕ → Store
+joined s n = record s { writes = joined_on s.writes n (get s.writes n) }
+
+-- the store once a reader was given
+abbrev pub followed_by : Store → Reader → Store
+followed_by s (Whole body start stop done) = s
+followed_by s (Part n place) = joined s n
+
+abbrev pub followed : Store → Option (Meta × Reader) → Store
+followed s None = s
+followed s (Some p) = followed_by s p.1
+
+-- a reader less
+abbrev pub left_on : FinMap nat_cmp Written → ℕ → Option Written → FinMap nat_cmp Written
+left_on ws n None = ws
+left_on ws n (Some w) = kept ws n (record w { readers = w.readers - 1 })
+
+abbrev pub left : Store → Reader → Store
+left s (Whole body start stop done) = s
+left s (Part n place) = record s { writes = left_on s.writes n (get s.writes n) }
+
+-- a slot that holds nothing is taken out
+abbrev pub is_idle : Slot → Bool
+is_idle x = is_none x.body && (len x.fresh == 0)
+
+abbrev pub with_slot : FinMap nat_cmp Slot → ℕ → Slot → FinMap nat_cmp Slot
+with_slot xs k x = cond (is_idle x) (remove xs k) (insert xs k x)
+
+-- a new write of a key
+abbrev pub slot_or_new : Option Slot → Slot
+slot_or_new None = record { body = None; fresh = empty }
+slot_or_new (Some x) = x
+
+abbrev pub opened_in : Slot → ℕ → Slot
+opened_in x n = record x { fresh = insert x.fresh n tt }
+
+abbrev pub opened : FinMap nat_cmp Slot → ℕ → ℕ → FinMap nat_cmp Slot
+opened xs k n = insert xs k (opened_in (slot_or_new (get xs k)) n)
+
+abbrev pub new_write : ℕ → Meta → Written
+new_write k m = record { slot = k; meta = m; bytes = []; told = false; flying = true; readers = 0 }
+
+abbrev pub begun : Store → ℕ → Meta → Store
+begun s k m = record { slots = opened s.slots k s.next; writes = insert s.writes s.next (new_write k m); next = s.next + 1 }
+
+-- more bytes of a write
+abbrev pub wrote_on : FinMap nat_cmp Written → ℕ → List ℕ → Bool → Option Written → FinMap nat_cmp Written
+wrote_on ws n bytes eof None = ws
+wrote_on ws n bytes eof (Some w) = insert ws n (record w { bytes = w.bytes ++ bytes; told = eof })
+
+abbrev pub wrote : Store → ℕ → List ℕ → Bool → Store
+wrote s n bytes eof = record s { writes = wrote_on s.writes n bytes eof (get s.writes n) }
+
+-- whether eof was said of a write
+abbrev pub is_told : Option Written → Bool
+is_told None = false
+is_told (Some w) = w.told
+
+-- whether a write is in flight and met no removal: its number is in its key's slot
+abbrev pub is_fresh_in : ℕ → Option Slot → Bool
+is_fresh_in n None = false
+is_fresh_in n (Some x) = contains_key x.fresh n
+
+abbrev pub stands_on : Store → ℕ → Option Written → Bool
+stands_on s n None = false
+stands_on s n (Some w) = is_fresh_in n (get s.slots w.slot)
+
+abbrev pub stands : Store → ℕ → Bool
+stands s n = stands_on s n (get s.writes n)
+
+-- a write whose handler is gone, and its number gone from its key's slot
+abbrev pub grounded : FinMap nat_cmp Written → ℕ → Written → FinMap nat_cmp Written
+grounded ws n w = kept ws n (record w { flying = false })
+
+abbrev pub grounded_on : FinMap nat_cmp Written → ℕ → Option Written → FinMap nat_cmp Written
+grounded_on ws n None = ws
+grounded_on ws n (Some w) = grounded ws n w
+
+abbrev pub shut_on : FinMap nat_cmp Slot → ℕ → ℕ → Option Slot → FinMap nat_cmp Slot
+shut_on xs k n None = xs
+shut_on xs k n (Some x) = with_slot xs k (record x { fresh = remove x.fresh n })
+
+abbrev pub shut : FinMap nat_cmp Slot → ℕ → ℕ → FinMap nat_cmp Slot
+shut xs k n = shut_on xs k n (get xs k)
+
+-- a write given up
+abbrev pub dropped_on : Store → ℕ → Option Written → Store
+dropped_on s n None = s
+dropped_on s n (Some w) = record s { slots = shut s.slots w.slot n; writes = grounded s.writes n w }
+
+abbrev pub dropped : Store → ℕ → Store
+dropped s n = dropped_on s n (get s.writes n)
+
+-- a write finished: its body stands in place of an older one
+abbrev pub stored_on : FinMap nat_cmp Slot → ℕ → ℕ → Stored → Option Slot → FinMap nat_cmp Slot
+stored_on xs k n b None = xs
+stored_on xs k n b (Some x) = insert xs k (record { body = Some b; fresh = remove x.fresh n })
+
+abbrev pub finished_on : Store → ℕ → Option Written → Store
+finished_on s n None = s
+finished_on s n (Some w) = record s { slots = stored_on s.slots w.slot n (record { meta = w.meta; bytes = w.bytes }) (get s.slots w.slot); writes = grounded s.writes n w }
+
+abbrev pub finished : Store → ℕ → Store
+finished s n = finished_on s n (get s.writes n)
+
+-- how many bytes of a write there are
+abbrev pub size_of : Option Written → ℕ
+size_of None = 0
+size_of (Some w) = length w.bytes
+
+-- a removal of a key: its body and the numbers of its writes go
+abbrev pub purged : Store → ℕ → Store
+purged s k = record s { slots = remove s.slots k }
+
+-- a complete body's meta changed
+abbrev pub body_of : Option Slot → Option Stored
+body_of None = None
+body_of (Some x) = x.body
+
+abbrev pub with_meta : (Meta → Meta) → Slot → Option Stored → Slot
+with_meta f x None = x
+with_meta f x (Some b) = record x { body = Some (record b { meta = f b.meta }) }
+
+abbrev pub meta_changed_in : (Meta → Meta) → FinMap nat_cmp Slot → ℕ → Slot → Option Stored → FinMap nat_cmp Slot
+meta_changed_in f xs k x None = xs
+meta_changed_in f xs k x (Some b) = insert xs k (with_meta f x (Some b))
+
+abbrev pub meta_changed_on : (Meta → Meta) → FinMap nat_cmp Slot → ℕ → Option Slot → FinMap nat_cmp Slot
+meta_changed_on f xs k None = xs
+meta_changed_on f xs k (Some x) = meta_changed_in f xs k x x.body
+
+abbrev pub meta_changed : (Meta → Meta) → Store → ℕ → Store
+meta_changed f s k = record s { slots = meta_changed_on f s.slots k (get s.slots k) }
+
+-- one read of a write: all that is unread; nothing yet where more may come; else the end
+abbrev pub read_part : ℕ → Option Written → Poll (Option (List ℕ))
+read_part place None = Ready None
+read_part place (Some w) = cond (nat_lt place (length w.bytes)) (Ready (Some (drop place w.bytes))) (cond (w.flying && not w.told) Pending (Ready None))
+
+abbrev pub read_of : Store → Reader → Poll (Option (List ℕ))
+read_of s (Whole body start stop done) = Ready (cond done None (Some (slice_range body start stop)))
+read_of s (Part n place) = read_part place (get s.writes n)
+
+-- how far a reader of a write is after a read
+abbrev pub place_after : ℕ → Option Written → ℕ
+place_after place None = place
+place_after place (Some w) = cond (nat_lt place (length w.bytes)) (length w.bytes) place
+
+abbrev pub reader_after : Store → Reader → Reader
+reader_after s (Whole body start stop done) = Whole body start stop true
+reader_after s (Part n place) = Part n (place_after place (get s.writes n))
+
+-- another range of a complete body, from a place within it to an end that is not before; an end past the body's is the body's
+abbrev pub end_or : Option ℕ → ℕ → ℕ
+end_or None n = n
+end_or (Some e) n = min e n
+
+abbrev pub is_forward : ℕ → Option ℕ → Bool
+is_forward start None = true
+is_forward start (Some e) = nat_le start e
+
+abbrev pub sought : Reader → ℕ → Option ℕ → Option Reader
+sought (Whole body a b done) start stop = cond (nat_lt start (length body) && is_forward start stop) (Some (Whole body start (end_or stop (length body)) false)) None
+sought (Part n place) start stop = None
+
+-- whether a reader can be sent to another range
+abbrev pub can_seek : Reader → Bool
+can_seek (Whole body start stop done) = true
+can_seek (Part n place) = false
+
+-- whether a hit counts as an access, and its weight: a complete body does, with its length
+abbrev pub counts_access : Reader → Bool
+counts_access (Whole body start stop done) = true
+counts_access (Part n place) = false
+
+abbrev pub reader_weight : Reader → ℕ
+reader_weight (Whole body start stop done) = length body
+reader_weight (Part n place) = 0

@@ -1,0 +1,36 @@
+-- Codes of what contracts see of a store, which a model's value needs.
+use Rattle.std.specs.Prelude.{ℕ, List, Bool, refl, Option}
+use Rattle.std.specs.Coded.{Coded, code_by, coded×, coded_ℕ, coded_bool, coded_list, coded_option}
+use Rattle.std.specs.Ordering.{nat_cmp}
+use Rattle.std.specs.FinMap.{FinMap, code}
+use Rattle.std.specs.FinSet as set
+use Rattle.pcache_base.specs.Meta.{Meta}
+use Rattle.pcache_base.specs.contracts.meta.CacheMeta as meta_row
+use Rattle.pcache_store.specs.Store.{Stored, Written, Slot, Store}
+
+abbrev pub stored_code : Coded Stored
+stored_code = code_by (Meta × List ℕ) (coded× meta_row.the_row.coded (coded_list coded_ℕ)) (λ b. (b.meta, b.bytes)) (λ p. record { meta = p.0; bytes = p.1 }) (λ _. refl)
+
+abbrev pub written_code : Coded Written
+written_code =
+    code_by (ℕ × (Meta × (List ℕ × (Bool × (Bool × ℕ)))))
+    (coded× coded_ℕ (coded× meta_row.the_row.coded (coded× (coded_list coded_ℕ) (coded× coded_bool (coded× coded_bool coded_ℕ)))))
+    (λ w. (w.slot, (w.meta, (w.bytes, (w.told, (w.flying, w.readers))))))
+    (λ p. record { slot = p.0; meta = p.1.0; bytes = p.1.1.0; told = p.1.1.1.0; flying = p.1.1.1.1.0; readers = p.1.1.1.1.1 })
+    (λ _. refl)
+
+abbrev pub slot_code : Coded Slot
+slot_code =
+    code_by (Option Stored × FinMap nat_cmp (Unit {0}))
+    (coded× (coded_option stored_code) (set.code coded_ℕ))
+    (λ x. (x.body, x.fresh))
+    (λ p. record { body = p.0; fresh = p.1 })
+    (λ _. refl)
+
+abbrev pub store_code : Coded Store
+store_code =
+    code_by (FinMap nat_cmp Slot × (FinMap nat_cmp Written × ℕ))
+    (coded× (code coded_ℕ slot_code) (coded× (code coded_ℕ written_code) coded_ℕ))
+    (λ s. (s.slots, (s.writes, s.next)))
+    (λ p. record { slots = p.0; writes = p.1.0; next = p.1.1 })
+    (λ _. refl)

@@ -1,0 +1,32 @@
+-- How much stands complete (own): the number of bodies, and their lengths added up.
+use Rattle.std.specs.Prelude.{ℕ, ◌≡◌, ◌<◌, ◌^◌, length}
+use Rattle.std.specs.Ordering.{nat_cmp}
+use Rattle.std.specs.FinMap.{FinMap, get}
+use Rattle.pcache_base.specs.Totals.{total, share}
+use Rattle.pcache_store.specs.Store.{Slot, Stored, Store}
+
+abbrev pub body_len : Stored → ℕ
+body_len b = length b.bytes
+
+abbrev pub one : Stored → ℕ
+one b = 1
+
+abbrev pub body_size : Slot → ℕ
+body_size x = share body_len x.body
+
+abbrev pub body_count : Slot → ℕ
+body_count x = share one x.body
+
+-- the lengths of the complete bodies, added up
+abbrev pub stored_bytes : Store → ℕ
+stored_bytes s = total body_size s.slots
+
+-- the number of complete bodies
+abbrev pub slots : Store → ℕ
+slots s = total body_count s.slots
+
+-- running totals are those of the slots; a body is shorter than 2 ^ 63 bytes
+pub record IsCounted (now : FinMap nat_cmp Slot) (bodies stored : ℕ) : Type 0 where
+  pub bodies_are : bodies ≡ total body_count now
+  pub stored_is : stored ≡ total body_size now
+  pub small : (k : ℕ) → share body_size (get now k) < 2 ^ 63

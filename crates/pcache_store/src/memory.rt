@@ -1,0 +1,302 @@
+//! A store in memory.
+ghost use Rattle.std.specs.Prelude.{◌≡◌, ◌<◌, ◌^◌, ℕ, Option, Some, None, IsOk, IfOk, IfErr, OnOk, OnErr, option_map, option_copied, is_some, false, true};
+ghost use Rattle.std.specs.FinMap as map;
+ghost use Rattle.pcache_base.specs.declared.error.ErrorType.TheVariants.{OutOfMemory, WriteRemoved};
+ghost use Rattle.pcache_store.specs.Finishes.{created};
+ghost use Rattle.pcache_store.specs.Purge.{target_slot};
+ghost use Rattle.pcache_store.specs.Refusals.{MayRefuseFinish};
+ghost use Rattle.pcache_store.specs.Store.{joined, left, wrote, dropped, finished, stands, left_on, found_part};
+ghost use Rattle.pcache_store.specs.Tag.{named_by};
+ghost use Rattle.pcache_store.specs.Totals.{stored_bytes, slots};
+
+mod body;
+mod draft;
+mod drafts;
+mod hit;
+mod miss;
+mod slots;
+
+pub use hit::{CompleteHit, MemHitHandler, PartialHit};
+pub use miss::MemMissHandler;
+
+use crate::storage::streaming_write::U64WriteId;
+use crate::storage::{MissFinishType, PurgeOutcome, PurgeTarget, PurgeType, Storage, StoreMeaning};
+use draft::Draft;
+use drafts::Drafts;
+use pcache_base::error::{Error, ErrorType, Result};
+use pcache_base::key::{CacheHashKey, CacheKey};
+use pcache_base::meta::CacheMeta;
+use pcache_base::moment::Moment;
+use pcache_evict::eviction::CacheEntryKey;
+use slots::Slots;
+use std::alloc::Global;
+use std::marker::Model;
+
+/// A store that keeps bodies and writes in memory.
+///
+/// A contract sees what stands under each key and each write that somebody names. Look-ups, writes
+/// and removals take time in the logarithm of the number of keys and of writes; a complete body is
+/// shared by all that read it.
+#[derive(Drop)]
+pub struct MemCache {
+    alloc: Global,
+    slots: Slots,
+    drafts: Drafts,
+}
+
+impl Model for MemCache {
+    ghost use Rattle.pcache_store.specs.Store.{Store};
+    ghost use Rattle.pcache_store.specs.StoreCode.{store_code};
+
+    ghost Value = { Store };
+
+    ghost coded = { store_code };
+
+    ghost view = { λ a. record { slots = a.slots; writes = a.drafts.writes; next = a.drafts.next } };
+}
+
+impl MemCache {
+    /// A store with nothing in it.
+    pub fn new(alloc: Global) -> MemCache
+        ensures { result ≡ record { slots = map.empty; writes = map.empty; next = 0 } }
+    {
+        MemCache {
+            alloc,
+            slots: Slots::new(alloc),
+            drafts: Drafts::new(alloc),
+        }
+    }
+
+    /// The lengths of the complete bodies, added up.
+    pub fn stored_bytes(&self) -> u128
+        ensures { result ≡ stored_bytes self.now }
+    {
+        self.slots.stored_bytes()
+    }
+
+    /// The number of complete bodies.
+    pub fn slots(&self) -> usize
+        ensures { result ≡ slots self.now }
+    {
+        self.slots.bodies()
+    }
+
+    /// The number of writes that are kept: those that a handler or a reader names.
+    pub fn write_records(&self) -> usize
+        ensures { result ≡ map.len self.now.writes }
+    {
+        self.drafts.len()
+    }
+
+    pub(crate) fn draft(&self, number: u128) -> Option<&Draft>
+        ensures { option_copied result ≡ map.get self.now.writes number }
+    {
+        self.drafts.get(number)
+    }
+
+    ghost use Rattle.pcache_store.specs.Readers.{reader_of};
+
+    // A reader more of a write, from its beginning, and its meta.
+    fn follow(&mut self, number: u128) -> Result<Option<(CacheMeta, MemHitHandler)>>
+        ensures found { IfOk result (λ r. option_map (λ p. (p.0, reader_of p.1)) r ≡ found_part number (map.get self.old.writes number)) }
+        ensures ok { OnOk result (self.new ≡ joined self.old number) }
+        ensures kind { IfErr result (λ e. e ≡ OutOfMemory) }
+        ensures err { OnErr result (self.new ≡ self.old) }
+    {
+        match self.drafts.join(number) {
+            Ok(Some(meta)) => Ok(Some((meta, MemHitHandler::Partial(PartialHit::new(number))))),
+            Ok(None) => Ok(None),
+            Err(refused) => Err(refused),
+        }
+    }
+
+    pub(crate) fn leave(&mut self, number: u128)
+        ensures { self.new ≡ record self.old { writes = left_on self.old.writes number (map.get self.old.writes number) } }
+    {
+        self.drafts.leave(number);
+    }
+
+    pub(crate) fn write(&mut self, number: u128, bytes: &[u8], eof: bool) -> Result<()>
+        ensures ok { OnOk result (self.new ≡ wrote self.old number bytes.now eof) }
+        ensures kind { IfErr result (λ e. e ≡ OutOfMemory) }
+        ensures err { OnErr result (self.new ≡ self.old) }
+    {
+        let alloc = self.alloc;
+        self.drafts.write(alloc, number, bytes, eof)
+    }
+
+    pub(crate) fn drop_write(&mut self, number: u128)
+        ensures { self.new ≡ dropped self.old number }
+    {
+        let Some(draft) = self.drafts.get(number) else {
+            return;
+        };
+        let slot = draft.slot();
+        self.slots.shut(slot, number);
+        self.drafts.land(number);
+    }
+
+    pub(crate) fn finish(&mut self, number: u128) -> Result<MissFinishType>
+        ensures answer { IfOk result (λ f. f ≡ created self.old number) }
+        ensures ok { OnOk result (self.new ≡ finished self.old number) }
+        ensures untouched { OnOk result (stands self.old number ≡ true) }
+        ensures kind { IfErr result (λ e. MayRefuseFinish self.old number e) }
+        ensures err { OnErr result (self.new ≡ dropped self.old number) }
+    {
+        let Some(draft) = self.drafts.get(number) else {
+            return Err(Error::new(ErrorType::WriteRemoved));
+        };
+        let slot = draft.slot();
+        if !self.slots.is_fresh(slot, number) {
+            self.drop_write(number);
+            return Err(Error::new(ErrorType::WriteRemoved));
+        }
+        match self.drafts.end(number) {
+            Ok(body) => {
+                let size = body.len();
+                self.slots.store(slot, number, body);
+                Ok(MissFinishType::Created(size))
+            }
+            Err(refused) => {
+                self.slots.shut(slot, number);
+                Err(refused)
+            }
+        }
+    }
+}
+
+impl StoreMeaning for MemCache {
+    ghost state = { λ s. s };
+
+    ghost streams = { λ _. true };
+
+    ghost finishes = { created };
+
+    ghost next_entry = { λ _. None };
+
+    ghost always_purges = { true };
+}
+
+// The slot that a target names, where the entry it names has no number.
+fn slot_of(target: PurgeTarget<'_>) -> Option<u128>
+    ensures { result ≡ target_slot target.entry }
+{
+    match target {
+        PurgeTarget::Active(key) => Some(key.slot()),
+        PurgeTarget::Exact(entry) => match entry {
+            CacheEntryKey::KeyOnly(key) => Some(key.slot()),
+            CacheEntryKey::Identified { .. } => None,
+        },
+    }
+}
+
+// The number of the write that a tag names.
+fn number_named_by(tag: Option<&[u8]>) -> Option<u128>
+    ensures { result ≡ named_by (option_copied tag.entry) }
+{
+    let Some(tag) = tag else {
+        return None;
+    };
+    match U64WriteId::try_from(tag) {
+        Ok(id) => Some(u64::from(id) as u128),
+        Err(_) => None,
+    }
+}
+
+impl Storage for MemCache {
+    type Hit = MemHitHandler;
+
+    type Miss = MemMissHandler;
+
+    fn lookup(
+        &mut self,
+        _alloc: Global,
+        key: &CacheKey,
+    ) -> Result<Option<(CacheMeta, MemHitHandler)>> {
+        let Some(slot) = self.slots.get(key.slot()) else {
+            return Ok(None);
+        };
+        if let Some(number) = slot.least() {
+            return self.follow(number);
+        }
+        let Some(body) = slot.body() else {
+            return Ok(None);
+        };
+        let (meta, bytes) = body.shared()?;
+        Ok(Some((meta, MemHitHandler::Complete(CompleteHit::new(bytes)))))
+    }
+
+    fn lookup_streaming_write(
+        &mut self,
+        _alloc: Global,
+        key: &CacheKey,
+        streaming_write_tag: Option<&[u8]>,
+    ) -> Result<Option<(CacheMeta, MemHitHandler)>> {
+        let Some(number) = number_named_by(streaming_write_tag) else {
+            return Ok(None);
+        };
+        let Some(draft) = self.drafts.get(number) else {
+            return Ok(None);
+        };
+        if !draft.is_flying() || draft.slot() != key.slot() {
+            return Ok(None);
+        }
+        self.follow(number)
+    }
+
+    fn get_miss_handler(
+        &mut self,
+        alloc: Global,
+        key: &CacheKey,
+        meta: &CacheMeta,
+    ) -> Result<MemMissHandler> {
+        let Some(number) = self.drafts.next() else {
+            return Err(Error::new(ErrorType::NumbersExhausted));
+        };
+        let slot = key.slot();
+        let draft = Draft::new(alloc, slot, meta.copied()?);
+        self.drafts.begin(draft)?;
+        if let Err(refused) = self.slots.open(alloc, slot, number as u128) {
+            self.drafts.take_back();
+            return Err(refused);
+        }
+        Ok(MemMissHandler::new(number))
+    }
+
+    /// Takes no memory, so it is never refused.
+    fn purge(&mut self, target: PurgeTarget<'_>, _purge_type: PurgeType) -> Result<PurgeOutcome> {
+        let Some(slot) = slot_of(target) else {
+            return Ok(PurgeOutcome::NotFound);
+        };
+        if self.slots.remove(slot) {
+            Ok(PurgeOutcome::Purged(None))
+        } else {
+            Ok(PurgeOutcome::NotFound)
+        }
+    }
+
+    fn expire(
+        &mut self,
+        _alloc: Global,
+        target: PurgeTarget<'_>,
+        now: Moment,
+    ) -> Result<PurgeOutcome> {
+        let Some(slot) = slot_of(target) else {
+            return Ok(PurgeOutcome::NotFound);
+        };
+        if self.slots.expire(slot, now) {
+            Ok(PurgeOutcome::Expired)
+        } else {
+            Ok(PurgeOutcome::NotFound)
+        }
+    }
+
+    fn update_meta(&mut self, _alloc: Global, key: &CacheKey, meta: &CacheMeta) -> Result<bool> {
+        let meta = meta.copied()?;
+        Ok(self.slots.set_meta(key.slot(), meta))
+    }
+
+    fn support_streaming_partial_write(&self) -> bool {
+        true
+    }
+}

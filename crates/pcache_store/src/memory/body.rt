@@ -1,0 +1,180 @@
+//! What stands under a key.
+ghost use Rattle.std.specs.Prelude.{◌≡◌, ◌<◌, ◌^◌, ℕ, Option, Some, None, List, IfOk, IfErr, OnOk, OnErr, length, option_map, is_some, is_none};
+ghost use Rattle.std.specs.FinMap as map;
+ghost use Rattle.pcache_base.specs.declared.error.ErrorType.TheVariants.{OutOfMemory};
+ghost use Rattle.pcache_base.specs.Meta as meta_of;
+ghost use Rattle.pcache_store.specs.Numbers.{least};
+ghost use Rattle.pcache_store.specs.Store.{opened_in, is_idle, with_meta};
+
+use crate::table::Table;
+use bytes::Bytes;
+use pcache_base::error::Result;
+use pcache_base::meta::CacheMeta;
+use pcache_base::moment::Moment;
+use std::alloc::Global;
+use std::marker::Model;
+
+/// A complete body and its meta.
+#[derive(Drop)]
+pub(crate) struct Body {
+    meta: CacheMeta,
+    bytes: Bytes,
+}
+
+impl Model for Body {
+    ghost use Rattle.pcache_store.specs.Store.{Stored};
+    ghost use Rattle.pcache_store.specs.StoreCode.{stored_code};
+
+    ghost Value = { Stored };
+
+    ghost coded = { stored_code };
+
+    ghost view = { λ b. record { meta = b.meta; bytes = b.bytes } };
+}
+
+impl Body {
+    pub(crate) fn new(meta: CacheMeta, bytes: Bytes) -> Body
+        ensures { result ≡ record { meta = meta; bytes = bytes } }
+    {
+        Body { meta, bytes }
+    }
+
+    pub(crate) fn len(&self) -> usize
+        ensures value { result ≡ length self.now.bytes }
+        ensures small { result < 2 ^ 63 }
+    {
+        self.bytes.len()
+    }
+
+    // A second meta, and the same bytes.
+    pub(crate) fn shared(&self) -> Result<(CacheMeta, Bytes)>
+        ensures ok { IfOk result (λ p. p ≡ (self.now.meta, self.now.bytes)) }
+        ensures kind { IfErr result (λ e. e ≡ OutOfMemory) }
+    {
+        let meta = self.meta.copied()?;
+        let bytes = self.bytes.clone()?;
+        Ok((meta, bytes))
+    }
+
+    pub(crate) fn set_meta(&mut self, meta: CacheMeta)
+        ensures { self.new ≡ record self.old { meta = meta } }
+    {
+        self.meta = meta;
+    }
+
+    pub(crate) fn expire_at(&mut self, now: Moment)
+        ensures { self.new ≡ record self.old { meta = meta_of.expired_at now self.old.meta } }
+    {
+        self.meta.expire_at(now);
+    }
+}
+
+/// What stands under a key: a complete body, and the numbers of the writes in flight that met no
+/// removal.
+#[derive(Drop)]
+pub(crate) struct KeySlot {
+    body: Option<Body>,
+    fresh: Table<()>,
+}
+
+impl Model for KeySlot {
+    ghost use Rattle.pcache_store.specs.Store.{Slot};
+    ghost use Rattle.pcache_store.specs.StoreCode.{slot_code};
+
+    ghost Value = { Slot };
+
+    ghost coded = { slot_code };
+
+    ghost view = { λ s. record { body = s.body; fresh = s.fresh } };
+}
+
+impl KeySlot {
+    pub(crate) fn new(alloc: Global) -> KeySlot
+        ensures { result ≡ record { body = None; fresh = map.empty } }
+    {
+        KeySlot {
+            body: None,
+            fresh: Table::new(alloc),
+        }
+    }
+
+    pub(crate) fn body(&self) -> Option<&Body>
+        ensures { option_map (λ b. b.now) result ≡ self.now.body }
+    {
+        self.body.as_ref()
+    }
+
+    pub(crate) fn least(&self) -> Option<u128>
+        ensures { result ≡ least self.now.fresh }
+    {
+        self.fresh.least()
+    }
+
+    pub(crate) fn is_fresh(&self, number: u128) -> bool
+        ensures { result ≡ map.contains_key self.now.fresh number }
+    {
+        self.fresh.contains(number)
+    }
+
+    pub(crate) fn is_idle(&self) -> bool
+        ensures { result ≡ is_idle self.now }
+    {
+        self.body.is_none() && self.fresh.is_empty()
+    }
+
+    pub(crate) fn open(&mut self, number: u128) -> Result<()>
+        ensures ok { OnOk result (self.new ≡ opened_in self.old number) }
+        ensures kind { IfErr result (λ e. e ≡ OutOfMemory) }
+        ensures err { OnErr result (self.new ≡ self.old) }
+    {
+        self.fresh.insert(number, ())?;
+        Ok(())
+    }
+
+    pub(crate) fn shut(&mut self, number: u128)
+        ensures { self.new ≡ record self.old { fresh = map.remove self.old.fresh number } }
+    {
+        self.fresh.remove(number);
+    }
+
+    // Puts a body in place of the one that is answered.
+    pub(crate) fn store(&mut self, number: u128, body: Body) -> Option<Body>
+        ensures before { result ≡ self.old.body }
+        ensures after { self.new ≡ record { body = Some body; fresh = map.remove self.old.fresh number } }
+    {
+        self.fresh.remove(number);
+        self.body.replace(body)
+    }
+
+    // Sets the body's meta, and answers whether there is a body.
+    pub(crate) fn set_meta(&mut self, meta: CacheMeta) -> bool
+        ensures there { result ≡ is_some self.old.body }
+        ensures slot { self.new ≡ with_meta (λ _. meta) self.old self.old.body }
+    {
+        let Some(body) = &mut self.body else {
+            return false;
+        };
+        body.set_meta(meta);
+        true
+    }
+
+    // Ends the body's freshness, and answers whether there is a body.
+    pub(crate) fn expire(&mut self, now: Moment) -> bool
+        ensures there { result ≡ is_some self.old.body }
+        ensures slot { self.new ≡ with_meta (meta_of.expired_at now) self.old self.old.body }
+    {
+        let Some(body) = &mut self.body else {
+            return false;
+        };
+        body.expire_at(now);
+        true
+    }
+
+    pub(crate) fn into_body(self) -> Option<Body>
+        ensures { result ≡ self.body }
+    {
+        let KeySlot { body, fresh } = self;
+        drop(fresh);
+        body
+    }
+}

@@ -1,0 +1,205 @@
+//! The writes by number.
+ghost use Rattle.std.specs.Prelude.{◌≡◌, ◌<◌, ◌≤◌, ◌+◌, ◌-◌, ◌^◌, ◌++◌, ℕ, Option, Some, None, IsSome, IfSome, ◌↔◌, IfOk, IfErr, OnOk, OnErr, option_map, option_copied, length};
+ghost use Rattle.std.specs.FinMap as map;
+ghost use Rattle.pcache_base.specs.declared.error.ErrorType.TheVariants.{OutOfMemory};
+ghost use Rattle.pcache_store.specs.Drafts.{IsBodyOf};
+ghost use Rattle.pcache_store.specs.Store.{joined_on, left_on, wrote_on, grounded_on};
+
+use crate::memory::body::Body;
+use crate::memory::draft::Draft;
+use crate::table::Table;
+use pcache_base::error::{Error, ErrorType, Result};
+use pcache_base::meta::CacheMeta;
+use std::alloc::Global;
+use std::marker::Model;
+
+/// The writes that somebody names, by number. A number is given once.
+#[derive(Drop)]
+pub(crate) struct Drafts {
+    writes: Table<Draft>,
+    next: u128,
+}
+
+impl Model for Drafts {
+    ghost use Rattle.pcache_store.specs.Drafts.{Numbered, numbered_code, AreBefore};
+
+    ghost Value = { Numbered };
+
+    ghost coded = { numbered_code };
+
+    ghost view = { λ a. record { writes = a.writes; next = a.next } };
+
+    ghost invariant = { λ a. AreBefore a.writes a.next };
+}
+
+impl Drafts {
+    pub(crate) fn new(alloc: Global) -> Drafts
+        ensures { result ≡ record { writes = map.empty; next = 0 } }
+    {
+        Drafts {
+            writes: Table::new(alloc),
+            next: 0,
+        }
+    }
+
+    pub(crate) fn len(&self) -> usize
+        ensures { result ≡ map.len self.now.writes }
+    {
+        self.writes.len()
+    }
+
+    pub(crate) fn get(&self, number: u128) -> Option<&Draft>
+        ensures { option_copied result ≡ map.get self.now.writes number }
+    {
+        self.writes.get(number)
+    }
+
+    // The number of the next write, where it has 64 bits.
+    pub(crate) fn next(&self) -> Option<u64>
+        ensures value { IfSome result (λ n. n ≡ self.now.next) }
+        ensures some { IsSome result ↔ (self.now.next < 2 ^ 64) }
+    {
+        u64::try_from(self.next).ok()
+    }
+
+    pub(crate) fn begin(&mut self, draft: Draft) -> Result<()>
+        requires { self.old.next < 2 ^ 64 }
+        ensures fresh { map.get self.old.writes self.old.next ≡ None }
+        ensures ok { OnOk result (self.new ≡ record { writes = map.insert self.old.writes self.old.next draft; next = self.old.next + 1 }) }
+        ensures kind { IfErr result (λ e. e ≡ OutOfMemory) }
+        ensures err { OnErr result (self.new ≡ self.old) }
+    {
+        self.writes.insert(self.next, draft)?;
+        self.next += 1;
+        Ok(())
+    }
+
+    // Takes the last begun write back, as if it had not begun.
+    pub(crate) fn take_back(&mut self)
+        requires { 0 < self.old.next }
+        ensures { self.new ≡ record { writes = map.remove self.old.writes (self.old.next - 1); next = self.old.next - 1 } }
+    {
+        self.next -= 1;
+        self.writes.remove(self.next);
+    }
+
+    pub(crate) fn write(&mut self, alloc: Global, number: u128, bytes: &[u8], eof: bool) -> Result<()>
+        ensures ok { OnOk result (self.new ≡ record self.old { writes = wrote_on self.old.writes number bytes.now eof (map.get self.old.writes number) }) }
+        ensures kind { IfErr result (λ e. e ≡ OutOfMemory) }
+        ensures err { OnErr result (self.new ≡ self.old) }
+    {
+        write_in(&mut self.writes, alloc, number, bytes, eof)
+    }
+
+    // Counts a reader more of a write, and answers a second meta of it.
+    pub(crate) fn join(&mut self, number: u128) -> Result<Option<CacheMeta>>
+        ensures meta { IfOk result (λ m. m ≡ option_map (λ w. w.meta) (map.get self.old.writes number)) }
+        ensures ok { OnOk result (self.new ≡ record self.old { writes = joined_on self.old.writes number (map.get self.old.writes number) }) }
+        ensures kind { IfErr result (λ e. e ≡ OutOfMemory) }
+        ensures err { OnErr result (self.new ≡ self.old) }
+    {
+        join_in(&mut self.writes, number)
+    }
+
+    // Counts a reader less.
+    pub(crate) fn leave(&mut self, number: u128)
+        ensures { self.new ≡ record self.old { writes = left_on self.old.writes number (map.get self.old.writes number) } }
+    {
+        leave_in(&mut self.writes, number);
+    }
+
+    // A write whose handler is gone.
+    pub(crate) fn land(&mut self, number: u128)
+        ensures { self.new ≡ record self.old { writes = grounded_on self.old.writes number (map.get self.old.writes number) } }
+    {
+        land_in(&mut self.writes, number);
+    }
+
+    // A write whose handler is gone, and its body, which shares its bytes.
+    pub(crate) fn end(&mut self, number: u128) -> Result<Body>
+        requires { IsSome (map.get self.old.writes number) }
+        ensures body { IfOk result (λ b. IsBodyOf (map.get self.old.writes number) b) }
+        ensures gone { self.new ≡ record self.old { writes = grounded_on self.old.writes number (map.get self.old.writes number) } }
+        ensures kind { IfErr result (λ e. e ≡ OutOfMemory) }
+    {
+        end_in(&mut self.writes, number)
+    }
+}
+
+fn write_in(
+    writes: &mut Table<Draft>,
+    alloc: Global,
+    number: u128,
+    bytes: &[u8],
+    eof: bool,
+) -> Result<()>
+    ensures ok { OnOk result (writes.new ≡ wrote_on writes.old number bytes.now eof (map.get writes.old number)) }
+    ensures kind { IfErr result (λ e. e ≡ OutOfMemory) }
+    ensures err { OnErr result (writes.new ≡ writes.old) }
+{
+    let Some(draft) = writes.get_mut(number) else {
+        return Ok(());
+    };
+    draft.write(alloc, bytes, eof)
+}
+
+fn join_in(writes: &mut Table<Draft>, number: u128) -> Result<Option<CacheMeta>>
+    ensures meta { IfOk result (λ m. m ≡ option_map (λ w. w.meta) (map.get writes.old number)) }
+    ensures ok { OnOk result (writes.new ≡ joined_on writes.old number (map.get writes.old number)) }
+    ensures kind { IfErr result (λ e. e ≡ OutOfMemory) }
+    ensures err { OnErr result (writes.new ≡ writes.old) }
+{
+    let Some(draft) = writes.get_mut(number) else {
+        return Ok(None);
+    };
+    match draft.join() {
+        Ok(meta) => Ok(Some(meta)),
+        Err(refused) => Err(refused),
+    }
+}
+
+fn leave_in(writes: &mut Table<Draft>, number: u128)
+    ensures { writes.new ≡ left_on writes.old number (map.get writes.old number) }
+{
+    let Some(draft) = writes.get_mut(number) else {
+        return;
+    };
+    draft.leave();
+    if draft.is_named() {
+        return;
+    }
+    writes.remove(number);
+}
+
+fn land_in(writes: &mut Table<Draft>, number: u128)
+    ensures { writes.new ≡ grounded_on writes.old number (map.get writes.old number) }
+{
+    let Some(draft) = writes.get_mut(number) else {
+        return;
+    };
+    draft.land();
+    if draft.is_named() {
+        return;
+    }
+    writes.remove(number);
+}
+
+// Where nobody reads the write its meta and bytes move into the body, and else the body shares them.
+fn end_in(writes: &mut Table<Draft>, number: u128) -> Result<Body>
+    requires { IsSome (map.get writes.old number) }
+    ensures body { IfOk result (λ b. IsBodyOf (map.get writes.old number) b) }
+    ensures gone { writes.new ≡ grounded_on writes.old number (map.get writes.old number) }
+    ensures kind { IfErr result (λ e. e ≡ OutOfMemory) }
+{
+    let Some(draft) = writes.get_mut(number) else {
+        unreachable!()
+    };
+    draft.land();
+    if draft.is_named() {
+        return draft.to_body();
+    }
+    let Some(draft) = writes.remove(number) else {
+        unreachable!()
+    };
+    draft.into_body()
+}

@@ -1,0 +1,209 @@
+//! Readers of the store in memory.
+ghost use Rattle.std.specs.Prelude.{◌≡◌, ◌≤◌, ◌<◌, ℕ, Option, Some, None, IfOk, IfErr, OnOk, OnErr, length, slice_range, cond, false, true};
+ghost use Rattle.pcache_base.specs.declared.error.ErrorType.TheVariants.{OutOfMemory, InternalError};
+ghost use Rattle.pcache_store.specs.Store.{Whole, sought};
+
+use crate::memory::MemCache;
+use crate::storage::HandleHit;
+use bytes::Bytes;
+use pcache_base::error::{Error, ErrorType, Result};
+use pcache_base::poll::Poll;
+use pcache_evict::eviction::CacheEntryId;
+use std::alloc::Global;
+
+/// A reader of a complete body: it gives a range of it in one piece, and then the end.
+pub struct CompleteHit {
+    body: Bytes,
+    start: usize,
+    stop: usize,
+    done: bool,
+    ghost in_range: { (start ≤ stop) × (stop ≤ length body) },
+}
+
+impl CompleteHit {
+    // A reader of the whole body.
+    pub(crate) fn new(body: Bytes) -> CompleteHit
+        ensures body { result.body ≡ body }
+        ensures start { result.start ≡ 0 }
+        ensures stop { result.stop ≡ length body }
+        ensures done { result.done ≡ false }
+    {
+        let stop = body.len();
+        CompleteHit {
+            body,
+            start: 0,
+            stop,
+            done: false,
+        }
+    }
+
+    /// The whole body.
+    pub fn body(&self) -> &Bytes
+        ensures { result.now ≡ self.now.body }
+    {
+        &self.body
+    }
+
+    fn read(&mut self) -> Result<Option<Bytes>>
+        ensures read { IfOk result (λ r. r ≡ cond self.old.done None (Some (slice_range self.old.body self.old.start self.old.stop))) }
+        ensures body { self.new.body ≡ self.old.body }
+        ensures start { self.new.start ≡ self.old.start }
+        ensures stop { self.new.stop ≡ self.old.stop }
+        ensures ok { OnOk result (self.new.done ≡ true) }
+        ensures kind { IfErr result (λ e. e ≡ OutOfMemory) }
+        ensures err { OnErr result (self.new.done ≡ self.old.done) }
+    {
+        if self.done {
+            return Ok(None);
+        }
+        let piece = self.body.slice(self.start..self.stop)?;
+        self.done = true;
+        Ok(Some(piece))
+    }
+
+    fn seek(&mut self, start: usize, end: Option<usize>) -> Result<()>
+        ensures ok { OnOk result (Some (Whole self.new.body self.new.start self.new.stop self.new.done) ≡ sought (Whole self.old.body self.old.start self.old.stop self.old.done) start end) }
+        ensures refused { OnErr result (sought (Whole self.old.body self.old.start self.old.stop self.old.done) start end ≡ None) }
+        ensures kind { IfErr result (λ e. e ≡ InternalError) }
+        ensures body { self.new.body ≡ self.old.body }
+        ensures err { OnErr result (self.new ≡ self.old) }
+    {
+        let length = self.body.len();
+        let stop = match end {
+            Some(end) if end < start => return Err(Error::new(ErrorType::InternalError)),
+            Some(end) => end.min(length),
+            None => length,
+        };
+        if start >= length {
+            return Err(Error::new(ErrorType::InternalError));
+        }
+        self.start = start;
+        self.stop = stop;
+        self.done = false;
+        Ok(())
+    }
+}
+
+/// A reader of a write, also of one whose handler is gone: it gives all that is unread, and the end
+/// once nothing more can come.
+pub struct PartialHit {
+    write: u128,
+    place: usize,
+}
+
+impl PartialHit {
+    // A reader that has read nothing yet.
+    pub(crate) fn new(write: u128) -> PartialHit
+        ensures write { result.write ≡ write }
+        ensures place { result.place ≡ 0 }
+    {
+        PartialHit { write, place: 0 }
+    }
+
+    /// The number of the write.
+    pub fn write(&self) -> u128
+        ensures { result ≡ self.now.write }
+    {
+        self.write
+    }
+}
+
+/// What a look-up of the store in memory gives: a reader, which must be finished or let go.
+pub enum MemHitHandler {
+    /// Of a complete body.
+    Complete(CompleteHit),
+    /// Of a write.
+    Partial(PartialHit),
+}
+
+impl MemHitHandler {
+    ghost use Rattle.pcache_store.specs.Readers.{reader_of};
+    ghost use Rattle.pcache_store.specs.Store.{left};
+
+    fn leave(self, store: &mut MemCache)
+        ensures { store.new ≡ left store.old (reader_of self) }
+    {
+        match self {
+            MemHitHandler::Complete(hit) => {
+                let CompleteHit {
+                    body,
+                    start: _,
+                    stop: _,
+                    done: _,
+                } = hit;
+                drop(body);
+            }
+            MemHitHandler::Partial(part) => {
+                let PartialHit { write, place: _ } = part;
+                store.leave(write);
+            }
+        }
+    }
+}
+
+impl HandleHit<MemCache> for MemHitHandler {
+    ghost use Rattle.pcache_store.specs.Readers.{reader_of};
+
+    ghost reader = { reader_of };
+
+    ghost entry_number = { λ _. None };
+
+    fn read_body(&mut self, alloc: Global, store: &mut MemCache) -> Result<Poll<Option<Bytes>>> {
+        match self {
+            MemHitHandler::Complete(hit) => match hit.read() {
+                Ok(piece) => Ok(Poll::Ready(piece)),
+                Err(refused) => Err(refused),
+            },
+            MemHitHandler::Partial(part) => {
+                let Some(draft) = store.draft(part.write) else {
+                    return Ok(Poll::Ready(None));
+                };
+                let written = draft.len();
+                if part.place < written {
+                    let piece = draft.rest(alloc, part.place)?;
+                    part.place = written;
+                    return Ok(Poll::Ready(Some(piece)));
+                }
+                if draft.is_open() {
+                    return Ok(Poll::Pending);
+                }
+                Ok(Poll::Ready(None))
+            }
+        }
+    }
+
+    fn finish(self, store: &mut MemCache) -> Result<()> {
+        self.leave(store);
+        Ok(())
+    }
+
+    fn let_go(self, store: &mut MemCache) {
+        self.leave(store);
+    }
+
+    fn can_seek(&self) -> bool {
+        matches!(self, MemHitHandler::Complete(_))
+    }
+
+    fn seek(&mut self, start: usize, end: Option<usize>) -> Result<()> {
+        match self {
+            MemHitHandler::Complete(hit) => hit.seek(start, end),
+            MemHitHandler::Partial(_) => Err(Error::new(ErrorType::InternalError)),
+        }
+    }
+
+    fn should_count_access(&self) -> bool {
+        matches!(self, MemHitHandler::Complete(_))
+    }
+
+    fn get_eviction_weight(&self) -> usize {
+        match self {
+            MemHitHandler::Complete(hit) => hit.body.len(),
+            MemHitHandler::Partial(_) => 0,
+        }
+    }
+
+    fn entry_id(&self) -> Option<CacheEntryId> {
+        None
+    }
+}

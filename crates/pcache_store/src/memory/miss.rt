@@ -1,0 +1,70 @@
+//! Handlers of writes of the store in memory.
+ghost use Rattle.std.specs.Prelude.{◌≡◌, ◌<◌, ◌^◌, Some, None, ℕ};
+ghost use Rattle.pcache_store.specs.Tag.{number_of_tag};
+
+use crate::memory::MemCache;
+use crate::storage::streaming_write::U64WriteId;
+use crate::storage::{HandleMiss, MissFinishType};
+use bytes::Bytes;
+use pcache_base::error::Result;
+use pcache_evict::eviction::CacheEntryId;
+
+/// The handler of a write, which must be finished or dropped.
+pub struct MemMissHandler {
+    number: u64,
+    tag: U64WriteId,
+    ghost named: { number_of_tag tag ≡ Some number },
+}
+
+impl MemMissHandler {
+    pub(crate) fn new(number: u64) -> MemMissHandler
+        ensures { result.number ≡ number }
+    {
+        MemMissHandler {
+            number,
+            tag: U64WriteId::from(number),
+        }
+    }
+
+    /// The number of the write.
+    pub fn number(&self) -> u64
+        ensures { result ≡ self.now.number }
+    {
+        self.number
+    }
+}
+
+impl HandleMiss<MemCache> for MemMissHandler {
+    ghost write = { λ h. h.number };
+
+    ghost entry_number = { λ _. None };
+
+    fn write_body(&mut self, store: &mut MemCache, bytes: Bytes, eof: bool) -> Result<()> {
+        store.write(self.number as u128, bytes.as_slice(), eof)
+    }
+
+    fn at_eof(&self, store: &MemCache) -> bool {
+        match store.draft(self.number as u128) {
+            Some(draft) => draft.is_told(),
+            None => false,
+        }
+    }
+
+    fn finish(self, store: &mut MemCache) -> Result<MissFinishType> {
+        let MemMissHandler { number, tag: _ } = self;
+        store.finish(number as u128)
+    }
+
+    fn drop_write(self, store: &mut MemCache) {
+        let MemMissHandler { number, tag: _ } = self;
+        store.drop_write(number as u128);
+    }
+
+    fn streaming_write_tag(&self) -> Option<&[u8]> {
+        Some(self.tag.as_bytes())
+    }
+
+    fn entry_id(&self) -> Option<CacheEntryId> {
+        None
+    }
+}

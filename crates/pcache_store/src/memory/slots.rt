@@ -1,0 +1,210 @@
+//! The slots by key.
+ghost use Rattle.std.specs.Prelude.{◌≡◌, ◌<◌, ◌^◌, ℕ, Option, Some, None, IsSome, IfOk, IfErr, OnOk, OnErr, option_copied, is_some};
+ghost use Rattle.std.specs.FinMap as map;
+ghost use Rattle.pcache_base.specs.Meta as meta_of;
+ghost use Rattle.pcache_base.specs.Totals.{total, share};
+ghost use Rattle.pcache_base.specs.declared.error.ErrorType.TheVariants.{OutOfMemory};
+ghost use Rattle.pcache_store.specs.Store.{Stored, opened, shut_on, stored_on, body_of, meta_changed_on, is_fresh_in};
+ghost use Rattle.pcache_store.specs.Totals.{body_count, body_size, body_len, one};
+
+use crate::memory::body::{Body, KeySlot};
+use crate::table::Table;
+use pcache_base::error::Result;
+use pcache_base::meta::CacheMeta;
+use pcache_base::moment::Moment;
+use std::alloc::Global;
+use std::marker::Model;
+
+/// The slots by key, with how much stands complete in them.
+#[derive(Drop)]
+pub(crate) struct Slots {
+    slots: Table<KeySlot>,
+    bodies: usize,
+    stored: u128,
+}
+
+impl Model for Slots {
+    ghost use Rattle.std.specs.FinMap as map;
+    ghost use Rattle.std.specs.Ordering.{nat_cmp};
+    ghost use Rattle.std.specs.Coded.{coded_ℕ};
+    ghost use Rattle.pcache_store.specs.Store.{Slot};
+    ghost use Rattle.pcache_store.specs.StoreCode.{slot_code};
+    ghost use Rattle.pcache_store.specs.Totals.{IsCounted};
+
+    ghost Value = { map.FinMap nat_cmp Slot };
+
+    ghost coded = { map.code coded_ℕ slot_code };
+
+    ghost view = { λ a. a.slots };
+
+    ghost invariant = { λ a. IsCounted a.slots a.bodies a.stored };
+}
+
+impl Slots {
+    pub(crate) fn new(alloc: Global) -> Slots
+        ensures { result ≡ map.empty }
+    {
+        Slots {
+            slots: Table::new(alloc),
+            bodies: 0,
+            stored: 0,
+        }
+    }
+
+    // The number of complete bodies.
+    pub(crate) fn bodies(&self) -> usize
+        ensures { result ≡ total body_count self.now }
+    {
+        self.bodies
+    }
+
+    // The lengths of the complete bodies, added up.
+    pub(crate) fn stored_bytes(&self) -> u128
+        ensures { result ≡ total body_size self.now }
+    {
+        self.stored
+    }
+
+    pub(crate) fn get(&self, key: u128) -> Option<&KeySlot>
+        ensures { option_copied result ≡ map.get self.now key }
+    {
+        self.slots.get(key)
+    }
+
+    // Whether a write of the key is in flight and met no removal.
+    pub(crate) fn is_fresh(&self, key: u128, number: u128) -> bool
+        ensures { result ≡ is_fresh_in number (map.get self.now key) }
+    {
+        match self.slots.get(key) {
+            Some(slot) => slot.is_fresh(number),
+            None => false,
+        }
+    }
+
+    // A write of the key begins.
+    pub(crate) fn open(&mut self, alloc: Global, key: u128, number: u128) -> Result<()>
+        ensures ok { OnOk result (self.new ≡ opened self.old key number) }
+        ensures kind { IfErr result (λ e. e ≡ OutOfMemory) }
+        ensures err { OnErr result (self.new ≡ self.old) }
+    {
+        open_in(&mut self.slots, alloc, key, number)
+    }
+
+    // A write of the key ends, and nothing is stored.
+    pub(crate) fn shut(&mut self, key: u128, number: u128)
+        ensures { self.new ≡ shut_on self.old key number (map.get self.old key) }
+    {
+        shut_in(&mut self.slots, key, number);
+    }
+
+    // A write of the key ends, and its body stands in place of an older one.
+    pub(crate) fn store(&mut self, key: u128, number: u128, body: Body)
+        requires { IsSome (map.get self.old key) }
+        ensures { self.new ≡ stored_on self.old key number body (map.get self.old key) }
+    {
+        let size = body.len() as u128;
+        let _count = self.slots.len();
+        let (fewer, less) = count(store_in(&mut self.slots, key, number, body));
+        self.bodies = self.bodies - fewer + 1;
+        self.stored = self.stored - less + size;
+    }
+
+    // Takes a slot out, and answers whether it was there.
+    pub(crate) fn remove(&mut self, key: u128) -> bool
+        ensures there { result ≡ is_some (map.get self.old key) }
+        ensures removed { self.new ≡ map.remove self.old key }
+    {
+        let Some(slot) = self.slots.remove(key) else {
+            return false;
+        };
+        let (fewer, less) = count(slot.into_body());
+        self.bodies -= fewer;
+        self.stored -= less;
+        true
+    }
+
+    // Sets the meta of the complete body, and answers whether there is one.
+    pub(crate) fn set_meta(&mut self, key: u128, meta: CacheMeta) -> bool
+        ensures there { result ≡ is_some (body_of (map.get self.old key)) }
+        ensures slots { self.new ≡ meta_changed_on (λ _. meta) self.old key (map.get self.old key) }
+    {
+        set_meta_in(&mut self.slots, key, meta)
+    }
+
+    // Ends the freshness of the complete body, and answers whether there is one.
+    pub(crate) fn expire(&mut self, key: u128, now: Moment) -> bool
+        ensures there { result ≡ is_some (body_of (map.get self.old key)) }
+        ensures slots { self.new ≡ meta_changed_on (meta_of.expired_at now) self.old key (map.get self.old key) }
+    {
+        expire_in(&mut self.slots, key, now)
+    }
+}
+
+// How many bodies, and how many bytes.
+fn count(body: Option<Body>) -> (usize, u128)
+    ensures bodies { result.0 ≡ share one body }
+    ensures bytes { result.1 ≡ share body_len body }
+{
+    match body {
+        Some(body) => (1, body.len() as u128),
+        None => (0, 0),
+    }
+}
+
+fn open_in(slots: &mut Table<KeySlot>, alloc: Global, key: u128, number: u128) -> Result<()>
+    ensures ok { OnOk result (slots.new ≡ opened slots.old key number) }
+    ensures kind { IfErr result (λ e. e ≡ OutOfMemory) }
+    ensures err { OnErr result (slots.new ≡ slots.old) }
+{
+    if let Some(slot) = slots.get_mut(key) {
+        return slot.open(number);
+    }
+    let mut slot = KeySlot::new(alloc);
+    slot.open(number)?;
+    slots.insert(key, slot)?;
+    Ok(())
+}
+
+fn shut_in(slots: &mut Table<KeySlot>, key: u128, number: u128)
+    ensures { slots.new ≡ shut_on slots.old key number (map.get slots.old key) }
+{
+    let Some(slot) = slots.get_mut(key) else {
+        return;
+    };
+    slot.shut(number);
+    if slot.is_idle() {
+        slots.remove(key);
+    }
+}
+
+// Answers the older body.
+fn store_in(slots: &mut Table<KeySlot>, key: u128, number: u128, body: Body) -> Option<Body>
+    requires { IsSome (map.get slots.old key) }
+    ensures older { result ≡ body_of (map.get slots.old key) }
+    ensures slots { slots.new ≡ stored_on slots.old key number body (map.get slots.old key) }
+{
+    let Some(slot) = slots.get_mut(key) else {
+        unreachable!()
+    };
+    slot.store(number, body)
+}
+
+fn set_meta_in(slots: &mut Table<KeySlot>, key: u128, meta: CacheMeta) -> bool
+    ensures there { result ≡ is_some (body_of (map.get slots.old key)) }
+    ensures slots { slots.new ≡ meta_changed_on (λ _. meta) slots.old key (map.get slots.old key) }
+{
+    let Some(slot) = slots.get_mut(key) else {
+        return false;
+    };
+    slot.set_meta(meta)
+}
+
+fn expire_in(slots: &mut Table<KeySlot>, key: u128, now: Moment) -> bool
+    ensures there { result ≡ is_some (body_of (map.get slots.old key)) }
+    ensures slots { slots.new ≡ meta_changed_on (meta_of.expired_at now) slots.old key (map.get slots.old key) }
+{
+    let Some(slot) = slots.get_mut(key) else {
+        return false;
+    };
+    slot.expire(now)
+}

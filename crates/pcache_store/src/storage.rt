@@ -1,0 +1,328 @@
+//! What a store of bodies is asked, and what it gives.
+//!
+//! A store is lent to each call of its handlers. What a call does is stated over what the store
+//! means (`Store`: its slots by key and its writes by number), whatever the store keeps.
+ghost use Rattle.std.specs.Prelude.{◌≡◌, ◌<◌, ◌^◌, ℕ, Bool, false, true, Option, Some, None, IfOk, OnOk, OnErr, IfErr, IsOk, IsTrue, IsSome, ◌↔◌, option_map, is_some, option_copied};
+ghost use Rattle.std.specs.FinMap as map;
+ghost use Rattle.pcache_base.specs.Key.{slot};
+ghost use Rattle.pcache_base.specs.Meta.{Meta};
+ghost use Rattle.pcache_base.specs.declared.error.ErrorType.TheVariants.{OutOfMemory, InternalError};
+ghost use Rattle.pcache_evict.specs.EntryRef.{referred};
+ghost use Rattle.pcache_store.specs.declared.storage.MissFinishType.{MissFinishType};
+ghost use Rattle.pcache_store.specs.Purge.{target_key, removed_entry, IsNumberOf, target_slot, purged_at, purge_answer, expired_at, expire_answer};
+ghost use Rattle.pcache_store.specs.Refusals.{MayRefuseWrite, MayRefuseFinish};
+ghost use Rattle.pcache_store.specs.Store.{Store, Reader, find, find_write, followed, left, begun, wrote, dropped, finished, stands, body_of, meta_changed, is_told, read_of, reader_after, sought, can_seek, counts_access, reader_weight};
+ghost use Rattle.pcache_store.specs.Tag.{named_by};
+
+use bytes::Bytes;
+use pcache_base::error::Result;
+use pcache_base::key::{CacheKey, CompactCacheKey};
+use pcache_base::meta::CacheMeta;
+use pcache_base::moment::Moment;
+use pcache_base::poll::Poll;
+use pcache_evict::eviction::{CacheEntryId, CacheEntryKey, CacheEntryKeyRef};
+use std::alloc::Global;
+use std::fmt;
+
+pub mod streaming_write;
+
+/// Why something is removed.
+#[derive(Clone, Copy, Debug, PartialEq, Eq)]
+pub enum PurgeType {
+    /// To make room.
+    Eviction,
+    /// Because it is no longer good.
+    Invalidation,
+}
+
+/// What is done to something that is no longer good.
+#[derive(Clone, Copy, Debug, PartialEq, Eq)]
+pub enum PurgeAction {
+    /// It is taken out.
+    Delete,
+    /// It stays, and is stale.
+    Expire,
+}
+
+/// What a removal goes for.
+#[derive(Clone, Copy, Debug, PartialEq, Eq)]
+pub enum PurgeTarget<'a> {
+    /// Whatever stands under a key.
+    Active(&'a CompactCacheKey),
+    /// One entry, and nothing where that is not what stands.
+    Exact(&'a CacheEntryKey),
+}
+
+impl<'a> PurgeTarget<'a> {
+    /// The key that the target names.
+    pub fn key(self) -> &'a CompactCacheKey
+        ensures { result.now ≡ target_key self.entry }
+    {
+        match self {
+            PurgeTarget::Active(key) => key,
+            PurgeTarget::Exact(entry) => entry.key(),
+        }
+    }
+
+    /// The entry that a removal of this target took out, where it answered this number.
+    pub fn removed_entry(self, id: Option<CacheEntryId>) -> CacheEntryKeyRef<'a>
+        requires { IsNumberOf self id }
+        ensures { referred result ≡ removed_entry self.entry id }
+    {
+        match self {
+            PurgeTarget::Active(key) => CacheEntryKeyRef::from_entry_id(key, id),
+            PurgeTarget::Exact(entry) => CacheEntryKeyRef::from(entry),
+        }
+    }
+}
+
+/// `active entry for KEY`, or the entry.
+impl fmt::Display for PurgeTarget<'_> {
+    fn fmt<W: fmt::Write>(&self, f: &mut fmt::Formatter<W>) -> fmt::Result {
+        match self {
+            PurgeTarget::Active(key) => write!(f, "active entry for {key}"),
+            PurgeTarget::Exact(entry) => write!(f, "{entry}"),
+        }
+    }
+}
+
+/// What a removal found.
+#[derive(Clone, Copy, Debug, PartialEq, Eq)]
+pub enum PurgeOutcome {
+    /// Nothing was there.
+    NotFound,
+    /// It is gone. The number is that of the entry that went, where entries have numbers.
+    Purged(Option<CacheEntryId>),
+    /// It is still there, and stale.
+    Expired,
+}
+
+/// How a write ended.
+#[derive(Clone, Copy, Debug, PartialEq, Eq)]
+pub enum MissFinishType {
+    /// A new body stands, of this weight.
+    Created(usize),
+    /// A body grew by the first weight; the second is the most that it may weigh.
+    Appended(usize, Option<usize>),
+}
+
+/// What a store means.
+pub trait StoreMeaning {
+    /// What it holds.
+    ghost state: { Self → Store };
+
+    /// Whether a write can be read while it is made.
+    ghost streams: { Self → Bool };
+
+    /// What the end of a write answers, where it succeeds.
+    ghost finishes: { Self → ℕ → MissFinishType };
+
+    /// The number of the entry that the next write fills, where entries have numbers.
+    ghost next_entry: { Self → Option ℕ };
+
+    /// Whether a removal always succeeds.
+    ghost always_purges: { Bool };
+}
+
+/// A store of complete bodies, and of writes that fill it.
+///
+/// A refused call changes nothing.
+pub trait Storage: StoreMeaning + Sized {
+    /// The reader of a body or of a write.
+    type Hit: HandleHit<Self>;
+
+    /// The handler of a write.
+    type Miss: HandleMiss<Self>;
+
+    /// A reader of what stands under a key, and its meta: the earliest begun write in flight that met
+    /// no removal, else the complete body. It is refused for want of memory alone.
+    fn lookup(&mut self, alloc: Global, key: &CacheKey) -> Result<Option<(CacheMeta, Self::Hit)>>
+        ensures found { IfOk result (λ r. option_map (λ p. (p.0, Self.Hit.reader p.1)) r ≡ find (Self.state self.old) (slot key.now)) }
+        ensures ok { OnOk result (Self.state self.new ≡ followed (Self.state self.old) (find (Self.state self.old) (slot key.now))) }
+        ensures kind { IfErr result (λ e. e ≡ OutOfMemory) }
+        ensures err { OnErr result (Self.state self.new ≡ Self.state self.old) };
+
+    /// A reader of the write that a tag names, where it is in flight and of the key, and its meta.
+    /// It is refused for want of memory alone.
+    fn lookup_streaming_write(
+        &mut self,
+        alloc: Global,
+        key: &CacheKey,
+        streaming_write_tag: Option<&[u8]>,
+    ) -> Result<Option<(CacheMeta, Self::Hit)>>
+        ensures found { IfOk result (λ r. option_map (λ p. (p.0, Self.Hit.reader p.1)) r ≡ find_write (Self.state self.old) (slot key.now) (named_by (option_copied streaming_write_tag.entry))) }
+        ensures ok { OnOk result (Self.state self.new ≡ followed (Self.state self.old) (find_write (Self.state self.old) (slot key.now) (named_by (option_copied streaming_write_tag.entry)))) }
+        ensures kind { IfErr result (λ e. e ≡ OutOfMemory) }
+        ensures err { OnErr result (Self.state self.new ≡ Self.state self.old) };
+
+    /// Begins a write of a key. It is refused for want of memory, and exactly where all 64-bit numbers
+    /// of writes are used.
+    fn get_miss_handler(
+        &mut self,
+        alloc: Global,
+        key: &CacheKey,
+        meta: &CacheMeta,
+    ) -> Result<Self::Miss>
+        ensures write { IfOk result (λ m. Self.Miss.write m ≡ (Self.state self.old).next) }
+        ensures entry { IfOk result (λ m. Self.Miss.entry_number m ≡ Self.next_entry self.old) }
+        ensures ok { OnOk result (Self.state self.new ≡ begun (Self.state self.old) (slot key.now) meta.now) }
+        ensures numbers { OnOk result ((Self.state self.old).next < 2 ^ 64) }
+        ensures kind { IfErr result (λ e. MayRefuseWrite (Self.state self.old) e) }
+        ensures err { OnErr result (Self.state self.new ≡ Self.state self.old) };
+
+    /// Removes what a target names: the complete body and every write in flight.
+    /// It is refused for want of memory alone.
+    fn purge(&mut self, target: PurgeTarget<'_>, purge_type: PurgeType) -> Result<PurgeOutcome>
+        ensures answer { IfOk result (λ o. o ≡ purge_answer (Self.state self.old) (target_slot target.entry)) }
+        ensures ok { OnOk result (Self.state self.new ≡ purged_at (Self.state self.old) (target_slot target.entry)) }
+        ensures sure { IsTrue Self.always_purges → IsOk result }
+        ensures kind { IfErr result (λ e. e ≡ OutOfMemory) }
+        ensures err { OnErr result (Self.state self.new ≡ Self.state self.old) };
+
+    /// Ends the freshness of the complete body that a target names, where it ends later than now.
+    /// It is refused for want of memory alone.
+    fn expire(
+        &mut self,
+        alloc: Global,
+        target: PurgeTarget<'_>,
+        now: Moment,
+    ) -> Result<PurgeOutcome>
+        ensures answer { IfOk result (λ o. o ≡ expire_answer (Self.state self.old) (target_slot target.entry)) }
+        ensures ok { OnOk result (Self.state self.new ≡ expired_at now (Self.state self.old) (target_slot target.entry)) }
+        ensures kind { IfErr result (λ e. e ≡ OutOfMemory) }
+        ensures err { OnErr result (Self.state self.new ≡ Self.state self.old) };
+
+    /// Sets the meta of a key's complete body, and answers whether there is one.
+    /// It is refused for want of memory alone.
+    fn update_meta(&mut self, alloc: Global, key: &CacheKey, meta: &CacheMeta) -> Result<bool>
+        ensures there { IfOk result (λ b. b ≡ is_some (body_of (map.get (Self.state self.old).slots (slot key.now)))) }
+        ensures ok { OnOk result (Self.state self.new ≡ meta_changed (λ _. meta.now) (Self.state self.old) (slot key.now)) }
+        ensures kind { IfErr result (λ e. e ≡ OutOfMemory) }
+        ensures err { OnErr result (Self.state self.new ≡ Self.state self.old) };
+
+    /// Whether a write can be read while it is made.
+    fn support_streaming_partial_write(&self) -> bool
+        ensures { result ≡ Self.streams self.now };
+}
+
+/// The reader of a complete body or of a write. It must be finished or let go.
+pub trait HandleHit<S: StoreMeaning> {
+    /// What it goes over, and how far it is.
+    ghost reader: { Self → Reader };
+
+    /// The number of its entry, where entries have numbers.
+    ghost entry_number: { Self → Option ℕ };
+
+    /// Reads on: a piece, the end (`None`), or `Pending` where more may come. It is refused for want of
+    /// memory alone; the reader is as before then.
+    fn read_body(&mut self, alloc: Global, store: &mut S) -> Result<Poll<Option<Bytes>>>
+        ensures read { IfOk result (λ p. p ≡ read_of (S.state store.old) (reader self.old)) }
+        ensures ok { OnOk result (reader self.new ≡ reader_after (S.state store.old) (reader self.old)) }
+        ensures kind { IfErr result (λ e. e ≡ OutOfMemory) }
+        ensures err { OnErr result (reader self.new ≡ reader self.old) }
+        ensures entry { entry_number self.new ≡ entry_number self.old }
+        ensures same { S.state store.new ≡ S.state store.old };
+
+    /// Ends the reader, also where that is refused, for want of memory alone.
+    fn finish(self, store: &mut S) -> Result<()>
+        ensures gone { S.state store.new ≡ left (S.state store.old) (reader self) }
+        ensures kind { IfErr result (λ e. e ≡ OutOfMemory) };
+
+    /// Lets the reader go.
+    fn let_go(self, store: &mut S)
+        ensures { S.state store.new ≡ left (S.state store.old) (reader self) };
+
+    /// Whether the reader can be sent to another range of the body.
+    fn can_seek(&self) -> bool
+        ensures { result ≡ can_seek (reader self.now) };
+
+    /// The same, for one of several ranges.
+    fn can_seek_multipart(&self) -> bool
+        ensures { result ≡ can_seek (reader self.now) }
+    {
+        self.can_seek()
+    }
+
+    /// Sends the reader to the bytes from `start` to before `end`, or to the body's end where that is
+    /// `None` or earlier; they are read anew. It is refused where the reader can't seek, `start` is at or
+    /// past the body's length, or `end` is before `start`.
+    fn seek(&mut self, start: usize, end: Option<usize>) -> Result<()>
+        ensures ok { OnOk result (Some (reader self.new) ≡ sought (reader self.old) start end) }
+        ensures refused { OnErr result (sought (reader self.old) start end ≡ None) }
+        ensures kind { IfErr result (λ e. e ≡ InternalError) }
+        ensures err { OnErr result (reader self.new ≡ reader self.old) }
+        ensures entry { entry_number self.new ≡ entry_number self.old };
+
+    /// The same, for one of several ranges.
+    fn seek_multipart(&mut self, start: usize, end: Option<usize>) -> Result<()>
+        ensures ok { OnOk result (Some (reader self.new) ≡ sought (reader self.old) start end) }
+        ensures refused { OnErr result (sought (reader self.old) start end ≡ None) }
+        ensures kind { IfErr result (λ e. e ≡ InternalError) }
+        ensures err { OnErr result (reader self.new ≡ reader self.old) }
+        ensures entry { entry_number self.new ≡ entry_number self.old }
+    {
+        self.seek(start, end)
+    }
+
+    /// Whether the hit counts as a use of its entry: a complete body does.
+    fn should_count_access(&self) -> bool
+        ensures { result ≡ counts_access (reader self.now) };
+
+    /// The weight of the entry: the complete body's length, else 0.
+    fn get_eviction_weight(&self) -> usize
+        ensures { result ≡ reader_weight (reader self.now) };
+
+    /// The number of the entry, where entries have numbers.
+    fn entry_id(&self) -> Option<CacheEntryId>
+        ensures { result ≡ entry_number self.now };
+}
+
+/// The handler of a write. It must be finished or dropped.
+pub trait HandleMiss<S: StoreMeaning> {
+    /// The number of the write.
+    ghost write: { Self → ℕ };
+
+    /// The number of its entry, where entries have numbers.
+    ghost entry_number: { Self → Option ℕ };
+
+    /// Adds bytes to the write, and with `eof` says that they are the last. A write whose key was
+    /// removed is written as any other. It is refused for want of memory alone.
+    fn write_body(&mut self, store: &mut S, bytes: Bytes, eof: bool) -> Result<()>
+        requires { is_told (map.get (S.state store.old).writes (write self.old)) ≡ false }
+        ensures ok { OnOk result (S.state store.new ≡ wrote (S.state store.old) (write self.old) bytes eof) }
+        ensures kind { IfErr result (λ e. e ≡ OutOfMemory) }
+        ensures err { OnErr result (S.state store.new ≡ S.state store.old) }
+        ensures same { write self.new ≡ write self.old }
+        ensures entry { entry_number self.new ≡ entry_number self.old };
+
+    /// Whether the last bytes were said to be the last.
+    fn at_eof(&self, store: &S) -> bool
+        ensures { result ≡ is_told (map.get (S.state store.now).writes (write self.now)) };
+
+    /// Ends the write: its body stands in place of an older one. It is refused for want of memory, and
+    /// exactly where the key was removed since the write began; the write is dropped then.
+    fn finish(self, store: &mut S) -> Result<MissFinishType>
+        ensures answer { IfOk result (λ f. f ≡ S.finishes store.old (write self)) }
+        ensures ok { OnOk result (S.state store.new ≡ finished (S.state store.old) (write self)) }
+        ensures untouched { OnOk result (stands (S.state store.old) (write self) ≡ true) }
+        ensures kind { IfErr result (λ e. MayRefuseFinish (S.state store.old) (write self) e) }
+        ensures err { OnErr result (S.state store.new ≡ dropped (S.state store.old) (write self)) };
+
+    /// Ends the write, and stores nothing.
+    fn drop_write(self, store: &mut S)
+        ensures { S.state store.new ≡ dropped (S.state store.old) (write self) };
+
+    /// What names the write to be read while it is made.
+    fn streaming_write_tag(&self) -> Option<&[u8]>
+        ensures { named_by (option_copied result) ≡ Some (write self.now) };
+
+    /// The number of the entry, where entries have numbers.
+    fn entry_id(&self) -> Option<CacheEntryId>
+        ensures { result ≡ entry_number self.now };
+}
+
+/// The reader that a store gives.
+pub type HitHandler<S> = <S as Storage>::Hit;
+
+/// The handler of a write that a store gives.
+pub type MissHandler<S> = <S as Storage>::Miss;

@@ -1,0 +1,140 @@
+//! What a world is asked, and what it answers.
+ghost use Rattle.std.specs.Prelude.{◌≡◌, IfOk, IfErr};
+ghost use Rattle.pcache_base.specs.declared.error.ErrorType.TheVariants.{OutOfMemory};
+
+use crate::phase::{CachePhase, HitStatus};
+use bytes::Bytes;
+use pcache_base::error::{ErrorType, Result};
+use pcache_base::key::CacheKey;
+use pcache_base::meta::CacheMeta;
+use pcache_base::moment::Moment;
+
+/// A call of a request. Requests are named by numbers.
+#[derive(Drop)]
+pub enum Call {
+    /// Makes the request and turns caching on, with the manager and the lock in use.
+    Open {
+        request: u64,
+    },
+    /// Sets the key.
+    Key {
+        request: u64,
+        key: CacheKey,
+    },
+    /// Looks the key up.
+    Look {
+        request: u64,
+        now: Moment,
+    },
+    /// Takes what the look-up found.
+    Found {
+        request: u64,
+        status: HitStatus,
+        now: Moment,
+    },
+    /// Goes on as a miss.
+    Miss {
+        request: u64,
+    },
+    /// Sets the meta of the response that is to be stored.
+    Meta {
+        request: u64,
+        meta: CacheMeta,
+    },
+    /// Begins the write.
+    Begin {
+        request: u64,
+    },
+    /// Adds bytes to the write, and with `eof` says that they are the last.
+    Write {
+        request: u64,
+        bytes: Bytes,
+        eof: bool,
+    },
+    /// Ends the write and stores the body.
+    Finish {
+        request: u64,
+    },
+    /// Reads on.
+    Read {
+        request: u64,
+    },
+    /// Removes what stands under the key.
+    Purge {
+        request: u64,
+    },
+    /// Gives back all that the request holds. Its number is free then.
+    End {
+        request: u64,
+    },
+}
+
+/// Which kind of lock was given.
+#[derive(Clone, Copy, Debug, PartialEq, Eq)]
+pub enum LockKind {
+    /// The permit to fill the key.
+    Write,
+    /// A lock that waits for another's permit.
+    Read,
+}
+
+/// What a call answers.
+#[derive(Debug, Drop)]
+pub enum Reply {
+    /// A condition of the call was not met, and nothing changed.
+    WrongCall,
+    /// The call was refused.
+    Refused(ErrorType),
+    /// Done.
+    Done,
+    /// A complete body of this weight was found.
+    Hit(usize),
+    /// A write was found that can be read while it is made.
+    Part,
+    /// Nothing was found; the lock that was asked for, where one was.
+    NotFound(Option<LockKind>),
+    /// What was found is taken: the phase, and the lock that was asked for, where one was.
+    Taken(CachePhase, Option<LockKind>),
+    /// The body is stored: its size, and how many entries were evicted.
+    Stored { size: usize, evicted: usize },
+    /// There was nothing to be finished.
+    Nothing,
+    /// Bytes were read.
+    Data(Bytes),
+    /// There is nothing to read yet.
+    Pending,
+    /// All was read.
+    Finished,
+    /// What stood under the key is removed.
+    Purged,
+    /// Nothing stood under the key.
+    Absent,
+}
+
+impl Reply {
+    /// A second reply, equal to this one. It is refused for want of memory alone.
+    pub fn copied(&self) -> Result<Reply>
+        ensures ok { IfOk result (λ copy. copy ≡ self.now) }
+        ensures kind { IfErr result (λ e. e ≡ OutOfMemory) }
+    {
+        Ok(match self {
+            Reply::WrongCall => Reply::WrongCall,
+            Reply::Refused(kind) => Reply::Refused(*kind),
+            Reply::Done => Reply::Done,
+            Reply::Hit(weight) => Reply::Hit(*weight),
+            Reply::Part => Reply::Part,
+            Reply::NotFound(lock) => Reply::NotFound(*lock),
+            Reply::Taken(phase, lock) => Reply::Taken(*phase, *lock),
+            Reply::Stored { size, evicted } => Reply::Stored {
+                size: *size,
+                evicted: *evicted,
+            },
+            Reply::Nothing => Reply::Nothing,
+            Reply::Data(bytes) => Reply::Data(bytes.clone()?),
+            Reply::Pending => Reply::Pending,
+            Reply::Finished => Reply::Finished,
+            Reply::Purged => Reply::Purged,
+            Reply::Absent => Reply::Absent,
+        })
+    }
+}
