@@ -47,8 +47,9 @@ fn listed(alloc: Global, cc: &CacheControl) -> Result<Vec<u8>, Fail> {
 #[test]
 fn directives_by_name(rt: HostRuntime) -> Result<(), Fail> {
     let alloc = rt.alloc();
-    let rows: [(&[u8], &[u8]); 8] = [
+    let rows: [(&[u8], &[u8]); 9] = [
         (b"max-age=10;;public", b"max-age=10|public|"),
+        (b"a\xFF=1,\t b=2", b"b=2|"),
         (b"a=b=c, d", b"a=b|d|"),
         (b"max-age=", b"max-age|"),
         (b"private, private=\"x\"", b"private=\"x\"|"),
