@@ -53,11 +53,12 @@ module _ {X : Type 0} where
   first-some [] w h e = absurd (cc)
   first-some (x ∷ es) w h e =
       let same : x.0 ≡ w = cc in
-      subst (λ v. (is_some (map.find nat_cmp v (x ∷ es)) ≡ true) × ((q : ℕ) → q < v → map.find nat_cmp q (x ∷ es) ≡ None)) same
-      (ap (λ r. is_some (cond (is_eq r) (Some x.1) (map.find nat_cmp x.0 es))) (tied_itself nat_cmp_total x.0),
-      λ q lt.
-      let apart : (x.0 == q) ≡ false = ne_eqb x.0 q (λ same. absurd (omega arith)) in
-      ap (λ b. cond b (Some x.1) (map.find nat_cmp q es)) (cmp_same q x.0 ∙ apart) ∙ below-none q x.0 es lt (first _ _ h))
+      subst (λ v. (is_some (map.find nat_cmp v (x ∷ es)) ≡ true) × ((q : ℕ) → q < v → map.find nat_cmp q (x ∷ es) ≡ None)) same (
+        ap (λ r. is_some (cond (is_eq r) (Some x.1) (map.find nat_cmp x.0 es))) (tied_itself nat_cmp_total x.0),
+        λ q lt.
+            let apart : (x.0 == q) ≡ false = ne_eqb x.0 q (λ same. absurd (omega arith)) in
+            ap (λ b. cond b (Some x.1) (map.find nat_cmp q es)) (cmp_same q x.0 ∙ apart) ∙ below-none q x.0 es lt (first _ _ h),
+      )
 
   no-first : (es : List (ℕ × X)) → first_key es ≡ None → es ≡ []
   no-first [] e = refl

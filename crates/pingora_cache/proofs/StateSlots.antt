@@ -224,8 +224,8 @@ module _ (es : List Event) (n : ℕ → ℕ) (s : Store) (k : ℕ) (m : Meta) (t
   begun-open j q =
       elim (s.next == q) as (λ b. (s.next == q) ≡ b
       → (option_any (λ (c : ℕ × Meta). c.0 == j) (if b then Some (k, m) else begin_of q es)
-        && ((is_some (if b then Some (k, m) else begin_of q es) && not (has_ended q es))
-        && not (option_any (λ (c : ℕ × Meta). list_any (removes c.0) (if b then [] else Begin s.next k m ∷ since q es)) (if b then Some (k, m) else begin_of q es))))
+      && ((is_some (if b then Some (k, m) else begin_of q es) && not (has_ended q es))
+      && not (option_any (λ (c : ℕ × Meta). list_any (removes c.0) (if b then [] else Begin s.next k m ∷ since q es)) (if b then Some (k, m) else begin_of q es))))
       ≡ (if b then k == j else is_open j q es)) [
         | true ↦ λ t.
             let same : s.next ≡ q = eqb-true s.next q t in

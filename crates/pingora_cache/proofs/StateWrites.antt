@@ -159,7 +159,7 @@ module _ (es : List Event) (n m : ℕ → ℕ) (s : Store) (w place : ℕ) (coun
   left-writes (Some r) e =
       changed-at s.writes _ es es n m w (named (Some (fewer r))) (get-kept s.writes w (fewer r)) st.writes
       (ap (λ o. named (option_map fewer o)) (sym e ∙ st.writes w ∙ ap (λ k. recorded (in_flight w es) k (body_of w es) (is_told w es) (begin_of w es)) one_fewer)
-       ∙ shrunk (in_flight w es) (m w) (body_of w es) (is_told w es) (begin_of w es))
+      ∙ shrunk (in_flight w es) (m w) (body_of w es) (is_told w es) (begin_of w es))
       (λ q f. ap (λ k. record_of q k es) (no_fewer q f))
 
   pub state-left : IsState es m (left s (Part w place))

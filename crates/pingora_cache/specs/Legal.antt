@@ -151,7 +151,7 @@ abbrev pub Begins : ℕ → Request → Reply → List Event → Type 0
 Begins next x reply events =
     ((e : ErrorType) × IsBeginRefusal next e × IsIdle (R.Refused e) reply events)
     ⊎ ((k : Key) × (m : Meta) × (x.key ≡ Some k) × (x.meta ≡ Some m) × (events ≡ E.Begin next (slot k) m ∷ release_of x.held)
-      × ((reply ≡ R.Done) ⊎ (reply ≡ R.Refused OutOfMemory)))
+    × ((reply ≡ R.Done) ⊎ (reply ≡ R.Refused OutOfMemory)))
 
 -- a write may be written to: it is held, and its last bytes were not told
 abbrev pub MayFill : (ℕ → Bool) → Request → Type 0

@@ -75,7 +75,7 @@ abbrev pub standing_entry : ℕ → List Event → Option CacheEntryKey
 standing_entry k [] = None
 standing_entry k (e ∷ es) = admits k e (standing_entry k es)
 
--- of each standing key, the entry of its last finished write is tracked with exactly the length of its body
+-- of each standing key, the entry that was admitted last for it is tracked with exactly the length of its body
 abbrev pub IsExact : Tracked → List Event → Type 0
 IsExact start es = (k : ℕ) (b : _) → complete k es ≡ Some b → (e : CacheEntryKey) × (standing_entry k es ≡ Some e) × (map.get (tracked start es) e ≡ Some (size_of b))
 

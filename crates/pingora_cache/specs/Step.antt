@@ -41,26 +41,26 @@ LooksIn x s reply events s' =
     ((e : ErrorType) × ((t : Locks) × MayRefuseLock t e) × IsIdle (R.Refused e) reply events × (s' ≡ s))
     ⊎ (((k : Key) × (x.request.key ≡ Some k) × IsStarved reply events × (s' ≡ left_by (reader_in (find s (slot k))) (followed s (find s (slot k)))))
     ⊎ ((k : Key) × (a : Answer) × (more : List Event) × (l : Option LockKind) × (x.request.key ≡ Some k) × (pair_of a ≡ find s (slot k))
-      × AsksIf (asks_for_miss x.request.uses.lock a) (slot k) x.request.held more l × (events ≡ E.Look (slot k) a ∷ more) × (reply ≡ look_reply a l)
-      × (s' ≡ left_by (pair_reader x.pair) (followed s (pair_of a)))))
+    × AsksIf (asks_for_miss x.request.uses.lock a) (slot k) x.request.held more l × (events ≡ E.Look (slot k) a ∷ more) × (reply ≡ look_reply a l)
+    × (s' ≡ left_by (pair_reader x.pair) (followed s (pair_of a)))))
 
 -- what was found is taken, or let go where that is refused
 abbrev pub TakesIn : HitStatus → Request → Option (Meta × Reader) → Store → Tracked → Reply → List Event → Store → Tracked → Type 0
 TakesIn status x None s m reply events s' m' = ⊥
 TakesIn status x (Some p) s m reply events s' m' =
     (k : Key) × (x.key ≡ Some k) × ((
-      (e : ErrorType) × ((e ≡ OutOfMemory) ⊎ ((t : Locks) × MayRefuseLock t e)) × (reply ≡ R.Refused e) × (s' ≡ left s p.1)
-      × (((events ≡ []) × (m' ≡ m)) ⊎ ((events ≡ accesses status k p.1 x) × (m' ≡ tracked_found status p.1 None x m))))
+    (e : ErrorType) × ((e ≡ OutOfMemory) ⊎ ((t : Locks) × MayRefuseLock t e)) × (reply ≡ R.Refused e) × (s' ≡ left s p.1)
+    × (((events ≡ []) × (m' ≡ m)) ⊎ ((events ≡ accesses status k p.1 x) × (m' ≡ tracked_found status p.1 None x m))))
     ⊎ ((more : List Event) × (l : Option LockKind) × AsksIf (x.uses.lock && not (is_fresh status)) (slot k) x.held more l
-      × (events ≡ accesses status k p.1 x ++ more) × (reply ≡ R.Taken (phase_found status x.phase) l)
-      × (s' ≡ store_found status p.1 x s) × (m' ≡ tracked_found status p.1 None x m)))
+    × (events ≡ accesses status k p.1 x ++ more) × (reply ≡ R.Taken (phase_found status x.phase) l)
+    × (s' ≡ store_found status p.1 x s) × (m' ≡ tracked_found status p.1 None x m)))
 
 -- a write begins; where the request's reader can't follow it, it has begun all the same
 abbrev pub BeginsIn : Request → Store → Reply → List Event → Store → Type 0
 BeginsIn x s reply events s' =
     ((e : ErrorType) × ((e ≡ OutOfMemory) ⊎ MayRefuseWrite s e) × IsIdle (R.Refused e) reply events × (s' ≡ s))
     ⊎ ((k : Key) × (m : Meta) × (x.key ≡ Some k) × (x.meta ≡ Some m) × (events ≡ E.Begin s.next (slot k) m ∷ release_of x.held)
-      × (((reply ≡ R.Done) × (s' ≡ store_writing true s.next x s)) ⊎ ((reply ≡ R.Refused OutOfMemory) × (s' ≡ begun s (slot k) m))))
+    × (((reply ≡ R.Done) × (s' ≡ store_writing true s.next x s)) ⊎ ((reply ≡ R.Refused OutOfMemory) × (s' ≡ begun s (slot k) m))))
 
 abbrev pub WritesIn : List ℕ → Bool → Request → Store → Reply → List Event → Store → Type 0
 WritesIn bytes eof x s reply events s' =
@@ -70,14 +70,14 @@ WritesIn bytes eof x s reply events s' =
 abbrev pub EndsIn : Limits → Request → Key → ℕ → Store → Tracked → Reply → List Event → Store → Tracked → Type 0
 EndsIn limits x k w s m reply events s' m' =
     ((out : List CacheEntryKey) × (stands s w ≡ true)
-      × IsFair limits (map.insert m (entry_of k x.entry) (size_of (map.get s.writes w))) out × (m' ≡ without out (map.insert m (entry_of k x.entry) (size_of (map.get s.writes w))))
-      × PurgesAll (finished s w) out 0 s'
-      × (events ≡ E.Finish w true ∷ release_of x.held ++ E.Admit (entry_of k None) (size_of (map.get s.writes w)) out ∷ [])
-      × (reply ≡ R.Stored (size_of (map.get s.writes w)) (length out)))
+    × IsFair limits (map.insert m (entry_of k x.entry) (size_of (map.get s.writes w))) out × (m' ≡ without out (map.insert m (entry_of k x.entry) (size_of (map.get s.writes w))))
+    × PurgesAll (finished s w) out 0 s'
+    × (events ≡ E.Finish w true ∷ release_of x.held ++ E.Admit (entry_of k None) (size_of (map.get s.writes w)) out ∷ [])
+    × (reply ≡ R.Stored (size_of (map.get s.writes w)) (length out)))
     ⊎ (((e : ErrorType) × (e ≡ OutOfMemory) × (stands s w ≡ true) × (s' ≡ purged (finished s w) (slot k)) × (m' ≡ m)
-      × (events ≡ E.Finish w true ∷ release_of x.held ++ E.Purge (slot k) ∷ []) × (reply ≡ R.Refused e))
+    × (events ≡ E.Finish w true ∷ release_of x.held ++ E.Purge (slot k) ∷ []) × (reply ≡ R.Refused e))
     ⊎ ((e : ErrorType) × ((e ≡ OutOfMemory) ⊎ MayRefuseFinish s w e) × (s' ≡ dropped s w) × (m' ≡ m) × (reply ≡ R.Refused e)
-      × (((e ≡ WriteRemoved) × (events ≡ E.Finish w false ∷ release_of x.held)) ⊎ ((e ≢ WriteRemoved) × (events ≡ E.Dropped w ∷ release_of x.held)))))
+    × (((e ≡ WriteRemoved) × (events ≡ E.Finish w false ∷ release_of x.held)) ⊎ ((e ≢ WriteRemoved) × (events ≡ E.Dropped w ∷ release_of x.held)))))
 
 abbrev pub FinishesIn : Limits → Request → Option ℕ → Store → Tracked → Reply → List Event → Store → Tracked → Type 0
 FinishesIn limits x None s m reply events s' m' = IsIdle R.Nothing reply events × (s' ≡ s) × (m' ≡ m)
@@ -93,8 +93,8 @@ abbrev pub PurgesIn : Request → Store → Tracked → Reply → List Event →
 PurgesIn x s m reply events s' m' =
     (IsStarved reply events × (s' ≡ s) × (m' ≡ m))
     ⊎ ((k : Key) × (x.key ≡ Some k) × (s' ≡ purged s (slot k))
-      × (((is_some (map.get s.slots (slot k)) ≡ true) × (events ≡ E.Purge (slot k) ∷ E.Untrack (entry_of k None) ∷ []) × (reply ≡ R.Purged) × (m' ≡ cond x.uses.eviction (map.remove m (entry_of k None)) m))
-      ⊎ ((is_some (map.get s.slots (slot k)) ≡ false) × (events ≡ E.Purge (slot k) ∷ []) × (reply ≡ R.Absent) × (m' ≡ m))))
+    × (((is_some (map.get s.slots (slot k)) ≡ true) × (events ≡ E.Purge (slot k) ∷ E.Untrack (entry_of k None) ∷ []) × (reply ≡ R.Purged) × (m' ≡ cond x.uses.eviction (map.remove m (entry_of k None)) m))
+    ⊎ ((is_some (map.get s.slots (slot k)) ≡ false) × (events ≡ E.Purge (slot k) ∷ []) × (reply ≡ R.Absent) × (m' ≡ m))))
 
 -- the request is given back: its pair, its write, its reader
 abbrev pub store_ended : Held → Store → Store

@@ -15,10 +15,13 @@ pub use cache::{FinishReport, HttpCache};
 pub use pcache_base::key::CacheKey;
 pub use pcache_base::meta::CacheMeta;
 pub use pcache_base::reason::NoCacheReason;
-pub use pcache_base::{error, header, key, meta, moment, poll, reason, text};
-pub use pcache_evict::eviction;
+pub use pcache_base::{error, header, key, meta, moment, poll, reason, text, trace, variance};
+pub use pcache_control::{cache_control, filters};
 pub use pcache_evict::eviction::{CacheEntryId, CacheEntryKey, CacheEntryKeyRef};
+pub use pcache_evict::{eviction, hashtable};
 pub use pcache_lock::lock;
+pub use pcache_predict::{admission, predictor};
+pub use pcache_put::{max_file_size, response_parse};
 pub use pcache_store::memory::MemCache;
 pub use pcache_store::storage::{
     HitHandler, MissHandler, PurgeAction, PurgeOutcome, PurgeTarget, PurgeType, Storage,

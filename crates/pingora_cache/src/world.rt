@@ -4,6 +4,7 @@
 pub mod call;
 pub mod entry;
 mod fill;
+pub mod laws;
 mod look;
 mod machine;
 mod request;
