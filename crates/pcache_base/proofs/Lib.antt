@@ -11,7 +11,6 @@ pub mod HeaderMaps
 pub mod HeaderNames
 pub mod HeaderResults
 pub mod HeaderSpelled
-pub mod Maps
 pub mod MetaExact
 pub mod MetaMade
 pub mod MetaSpelled
@@ -21,4 +20,3 @@ pub mod RoundTrip
 pub mod Shortest
 pub mod Spelled
 pub mod TextExact
-pub mod Totals

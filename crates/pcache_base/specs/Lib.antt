@@ -20,5 +20,4 @@ pub mod Reasons
 pub mod Variance
 pub mod Totals
 pub mod Spelling
-pub mod Totals
 pub mod Writing

@@ -13,8 +13,6 @@ pub mod StateWrites
 pub mod States
 pub mod Steps
 pub mod Tidy
-pub mod Exact
-pub mod Bound
 pub mod Moves
 pub mod Runs
 pub mod Holds
