@@ -1,4 +1,6 @@
 //! Calls of a world, each with the reply that is wanted.
+mod plain;
+
 use super::*;
 use crate::phase::HitStatus;
 use Step::*;
