@@ -558,3 +558,6 @@ impl<S: Storage> HttpCache<S> {
         }
     }
 }
+
+#[cfg(test)]
+mod tests;

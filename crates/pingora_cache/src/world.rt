@@ -10,3 +10,6 @@ mod machine;
 mod request;
 
 pub use machine::{Totals, World};
+
+#[cfg(test)]
+mod tests;
