@@ -77,16 +77,22 @@ abbrev pub Opens : Option Held → Reply → List Event → Type 0
 Opens None reply events = IsIdle R.Done reply events ⊎ IsStarved reply events
 Opens (Some x) reply events = IsIdle R.WrongCall reply events
 
--- a permit that is let go, or released
+-- the number of the permit that is held, if one is
+abbrev pub permit_of : Option Locked → Option ℕ
+permit_of None = None
+permit_of (Some (Write p)) = Some p.number
+permit_of (Some (Read r)) = None
+
+abbrev pub each : (ℕ → Event) → Option ℕ → List Event
+each f None = []
+each f (Some n) = f n ∷ []
+
+-- a permit that is held is let go, or released
 abbrev pub let_go_of : Option Locked → List Event
-let_go_of None = []
-let_go_of (Some (Write p)) = E.LetGo p.number ∷ []
-let_go_of (Some (Read r)) = []
+let_go_of held = each E.LetGo (permit_of held)
 
 abbrev pub release_of : Option Locked → List Event
-release_of None = []
-release_of (Some (Write p)) = E.Release p.number ∷ []
-release_of (Some (Read r)) = []
+release_of held = each E.Release (permit_of held)
 
 abbrev pub kind_of : Bool → LockKind
 kind_of true = kind.Write
@@ -136,13 +142,16 @@ abbrev pub TakesPair : HitStatus → Request → Option (Meta × Reader) → Rep
 TakesPair s x None reply events = ⊥
 TakesPair s x (Some p) reply events = (k : Key) × (x.key ≡ Some k) × Takes s k p.1 x reply events
 
+-- a begin may be refused for want of memory, or where all numbers are used
+abbrev pub IsBeginRefusal : ℕ → ErrorType → Type 0
+IsBeginRefusal next e = (e ≡ OutOfMemory) ⊎ ((e ≡ NumbersExhausted) × (2 ^ 64 ≤ next))
+
 -- a write begins with the next number, the request's slot and its meta
 abbrev pub Begins : ℕ → Request → Reply → List Event → Type 0
 Begins next x reply events =
-    IsStarved reply events
-    ⊎ (((2 ^ 64 ≤ next) × IsIdle (R.Refused NumbersExhausted) reply events)
-    ⊎ ((k : Key) × (m : Meta) × (x.key ≡ Some k) × (x.meta ≡ Some m) × (next < 2 ^ 64) × (events ≡ E.Begin next (slot k) m ∷ release_of x.held)
-    × ((reply ≡ R.Done) ⊎ (reply ≡ R.Refused OutOfMemory))))
+    ((e : ErrorType) × IsBeginRefusal next e × IsIdle (R.Refused e) reply events)
+    ⊎ ((k : Key) × (m : Meta) × (x.key ≡ Some k) × (x.meta ≡ Some m) × (events ≡ E.Begin next (slot k) m ∷ release_of x.held)
+      × ((reply ≡ R.Done) ⊎ (reply ≡ R.Refused OutOfMemory)))
 
 -- a write may be written to: it is held, and its last bytes were not told
 abbrev pub MayFill : (ℕ → Bool) → Request → Type 0
@@ -183,8 +192,7 @@ Purges there x reply events =
     ⊎ (there (slot k) false × (events ≡ E.Purge (slot k) ∷ []) × (reply ≡ R.Absent))))
 
 abbrev pub drop_of : Option ℕ → List Event
-drop_of None = []
-drop_of (Some w) = E.Dropped w ∷ []
+drop_of w = each E.Dropped w
 
 abbrev pub Ends : Request → Reply → List Event → Type 0
 Ends x reply events = (reply ≡ R.Done) × (events ≡ drop_of x.write ++ let_go_of x.held)

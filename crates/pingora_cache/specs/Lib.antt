@@ -7,4 +7,5 @@ pub mod Log
 pub mod Phases
 pub mod Requests
 pub mod Sound
+pub mod Step
 pub mod WriteEnds
