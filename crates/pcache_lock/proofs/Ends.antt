@@ -1,5 +1,5 @@
 -- Which permits wait after each call, and what a reader is told when it looks twice.
-use Rattle.std.proofs.Common.{◌≡◌, ◌≤◌, ◌==◌, ℕ, Bool, true, false, ◌&&◌, ◌||◌, Option, None, Some, List, [], ◌∷◌, ◌++◌, cond, length, drop, refl, sym, ◌∙◌, ap, arith}
+use Rattle.std.proofs.Common.{◌≡◌, ◌==◌, ℕ, Bool, true, false, ◌&&◌, ◌||◌, Option, None, Some, List, [], ◌∷◌, ◌++◌, cond, length, drop, refl, sym, ◌∙◌, ap, arith}
 use Rattle.std.specs.Option.{option_or}
 use Rattle.std.proofs.Math.Seq.{drop-append_seam}
 use Rattle.std.proofs.lemmas.List.{drop-append-le}
@@ -11,13 +11,11 @@ use Rattle.pcache_base.specs.declared.fills.UnusableFill.{UnusableFill}
 use Rattle.pcache_base.specs.Fills.{first_match}
 use Rattle.pcache_lock.specs.declared.lock.outcome.Stage.{Stage}
 use Rattle.pcache_lock.specs.declared.lock.outcome.Stage.TheVariants as stage
-use Rattle.pcache_lock.specs.declared.lock.permit.Locked.TheVariants.{Write, Read}
 use Rattle.pcache_lock.specs.declared.lock.status.LockStatus.{LockStatus}
-use Rattle.pcache_lock.specs.declared.lock.status.LockStatus.TheVariants as status
 use Rattle.pcache_lock.specs.Statuses.{is_waiting, is_aged}
-use Rattle.pcache_lock.specs.Permits.{Core, Watch, is_named, with_reader, without_reader, spent, released_status, dropped_status}
+use Rattle.pcache_lock.specs.Permits.{Core, is_named, with_reader, without_reader, spent, released_status, dropped_status}
 use Rattle.pcache_lock.specs.Locks.{Locks, with_read_lock, without_entry, kept, left, released_on, permit_dropped, reader_dropped, changed}
-use Rattle.pcache_lock.specs.Waiting.{after_poll, table_at, stage_of, is_old, aged, with_publication, looked, first_told}
+use Rattle.pcache_lock.specs.Waiting.{after_poll, table_at, stage_of, is_old, aged, with_publication, first_told}
 use Rattle.pcache_lock.specs.Waits.{waiting_slot, waits_under, is_old_at, WaitsUntilItsEnd, LooksAtEachPublication}
 
 through : {A B : Type 0} (f : A → B) (b : Bool) (x y : A) → f (cond b x y) ≡ cond b (f x) (f y)

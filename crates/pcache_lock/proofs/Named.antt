@@ -2,7 +2,7 @@
 use Rattle.std.proofs.Common.{◌≡◌, ◌+◌, ◌-◌, ◌^◌, ℕ, Bool, true, false, ◌||◌, Option, None, Some, List, [], ◌∷◌, cond, refl, sym, ◌∙◌, ap, subst, inl, inr, ◌⊎◌, arith, min, nat_lt, IsSome}
 use Rattle.std.specs.Ordering.{nat_cmp, eq_by_cmp}
 use Rattle.std.proofs.lemmas.Bool.Decides.{nat_tests}
-use Rattle.std.specs.FinMap.{FinMap, empty, get, insert, remove, get-empty}
+use Rattle.std.specs.FinMap.{FinMap, get, insert, remove, get-empty}
 use Rattle.pcache_lock.specs.declared.lock.outcome.Stage.{Stage}
 use Rattle.pcache_lock.specs.declared.lock.outcome.Stage.TheVariants as stage
 use Rattle.pcache_lock.specs.declared.lock.permit.Locked.{Locked}
@@ -12,8 +12,8 @@ use Rattle.pcache_lock.specs.Statuses.{is_aged}
 use Rattle.pcache_lock.specs.Permits.{Core, fresh_core, is_named, with_reader, without_reader, spent, released_status, dropped_status}
 use Rattle.pcache_lock.specs.Locks.{Locks, no_locks, holder, after_request, with_read_lock, without_entry, kept, left, released_on, let_go, permit_dropped, reader_dropped, changed}
 use Rattle.pcache_lock.specs.Waiting.{after_poll, table_at, stage_of, aged, with_publication}
-use Rattle.pcache_lock.specs.Waits.{Call, Asked, Released, LetGo, Polled, Published, Leads, LeadsAll, AllNamed, NothingRemains, NothingRemainsAlways}
-use Rattle.pcache_lock.proofs.Tidy.{Tidy, Stands, by_test, none_some, get-insert-at, get-insert-off, get-remove-at, get-remove-off}
+use Rattle.pcache_lock.specs.Waits.{Call, Asked, Released, LetGo, Polled, Published, Leads, LeadsAll, AllNamed, NothingRemainsAlways}
+use Rattle.pcache_lock.proofs.Tidy.{Stands, by_test, none_some, get-insert-at, get-insert-off, get-remove-at, get-remove-off}
 use Rattle.pcache_lock.proofs.Calls.{start_tidy, calls_tidy}
 
 insert_named : (t : Locks) (n : ℕ) (d : Core) → is_named d ≡ true → AllNamed t → AllNamed (record t { cores = insert t.cores n d })
