@@ -31,6 +31,7 @@ use pcache_base::fills::UnusableFills;
 use pcache_base::key::CacheKey;
 use pcache_base::moment::Moment;
 use pcache_base::poll::Poll;
+use pcache_base::trace::{Span, Tag};
 pub use permit::{LockStub, Locked, ReadLock, WritePermit};
 pub use status::LockStatus;
 use std::alloc::Global;
@@ -112,4 +113,11 @@ pub trait CacheKeyLock {
     fn custom_lock_status(&self, custom_no_cache: &'static str) -> LockStatus
         ensures value { result ≡ custom_status self.now custom_no_cache.now }
         ensures reason { IsReason result };
+
+    /// Tags a span with how a wait ended. Like every call of a span it does nothing.
+    fn trace_lock_wait(&self, span: &mut Span, _read: &ReadLock, lock_status: LockStatus)
+        ensures { span.new ≡ span.old }
+    {
+        span.set_tag(|| Tag::new("status", lock_status.as_str()));
+    }
 }
