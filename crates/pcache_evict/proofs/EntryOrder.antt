@@ -8,7 +8,7 @@ use Rattle.std.specs.Cmp.Lexicographic.{slice_cmp}
 use Rattle.std.proofs.lemmas.Map.Lookups.{CmpEqualImpliesEq, exact_pairs, exact_unsigned, exact_bytes}
 use Rattle.pcache_evict.specs.declared.eviction.entry_key.CacheEntryKey.{CacheEntryKey}
 use Rattle.pcache_evict.specs.declared.eviction.entry_key.CacheEntryKey.TheVariants.{KeyOnly, Identified}
-use Rattle.pcache_evict.specs.Entry.{key_of, id_of, compact_cmp, entry_cmp, entry_eq, entry_ties}
+use Rattle.pcache_evict.specs.Entry.{key_of, id_of, entry_cmp, entry_eq, entry_ties}
 
 exact_options : {X : Type 0} {R : X → X → Ordering} → CmpEqualImpliesEq R → CmpEqualImpliesEq (option_cmp R)
 exact_options x None None h = refl

@@ -3,3 +3,4 @@ pub mod Recency
 pub mod Walks
 pub mod Evictions
 pub mod Maps
+pub mod TrackedMaps

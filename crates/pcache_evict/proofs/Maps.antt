@@ -16,7 +16,7 @@ use Rattle.pcache_evict.specs.Tracked.{Tracked, Limits, IsWithin, IsFair, withou
 use Rattle.pcache_evict.specs.Tracked as tracked
 use Rattle.pcache_evict.specs.Recency.{Recency, weight, weight_of, others, moved, accessed, IsInside, Evicts}
 use Rattle.pcache_evict.specs.Listed.{Listed, Moves, map_of, IsOnce}
-use Rattle.pcache_evict.proofs.Evictions.{Gone, gone-none, gone-more}
+use Rattle.pcache_evict.proofs.Evictions.{Gone, gone-none, gone-more, without-push}
 use Rattle.pcache_evict.proofs.Recency.{same_key, laws, distinct-front}
 
 abbrev ties : CacheEntryKey → CacheEntryKey → Bool
@@ -81,10 +81,6 @@ map-accessed k n l = map-moved k _ l ∙ (elim (weight_of k l) as (λ o. weight_
           | false ↦ λ t. refl
         ] refl))
 
-without-push : (out : List CacheEntryKey) (e : CacheEntryKey) (m : Tracked) → without (out ++ e ∷ []) m ≡ fin.remove (without out m) e
-without-push [] e m = refl
-without-push (x ∷ out) e m = without-push out e (fin.remove m x)
-
 apart_last : (k : CacheEntryKey) (front : Recency) (e : CacheEntryKey × ℕ) → AllByRecursion (λ y. entry_eq k y ≡ false) (keys_of (front ++ e ∷ [])) → entry_eq k e.0 ≡ false
 apart_last k [] e a = a.0
 apart_last k (x ∷ front) e a = apart_last k front e a.1
@@ -113,10 +109,6 @@ without-tail (e ∷ tail) list front is d =
     ∙ without-push (reverse (keys_of tail)) e.0 (map_of list)
     ∙ ap (λ m. fin.remove m e.0) (without-tail tail list (front ++ e ∷ []) split d)
     ∙ sym (map-others e.0 (front ++ e ∷ [])) ∙ ap map_of (others-last front e once)
-
-reverse-nil : {X : Type 0} (xs : List X) → xs ++ [] ≡ xs
-reverse-nil [] = refl
-reverse-nil (x ∷ xs) = ap (λ l. x ∷ l) (reverse-nil xs)
 
 -- the weight and the number of entries of a list's map
 ones-tie : (l : Recency) → IsOnce l → IsDistinct ties (keys_of l)

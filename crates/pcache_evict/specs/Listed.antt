@@ -6,7 +6,7 @@ use Rattle.std.specs.FinMap.{from_entries}
 use Rattle.lru.specs.LruCache.{LruCache}
 use Rattle.pcache_evict.specs.declared.eviction.entry_key.CacheEntryKey.{CacheEntryKey}
 use Rattle.pcache_evict.specs.Entry.{entry_cmp, entry_eq}
-use Rattle.pcache_evict.specs.Tracked.{Tracked, Limits, Evicted}
+use Rattle.pcache_evict.specs.Tracked.{Tracked, Limits, Evicted, limits_of}
 use Rattle.pcache_evict.specs.Recency.{Recency, weight, IsInside, Evicts}
 
 -- the list, the limits, and what was evicted so far
@@ -18,12 +18,9 @@ pub record Listed : Type 0 where
 abbrev pub map_of : Recency → Tracked
 map_of l = from_entries {R = entry_cmp} l
 
-abbrev pub with_entries : Recency → Listed → Listed
-with_entries l s = record { entries = l; limits = s.limits; evicted = s.evicted }
-
 -- a new manager with these limits
 abbrev pub empty_list : ℕ → Option ℕ → Listed
-empty_list limit watermark = record { entries = []; limits = record { weight = limit; watermark = watermark }; evicted = record { weight = 0; count = 0 } }
+empty_list limit watermark = record { entries = []; limits = limits_of limit watermark; evicted = record { weight = 0; count = 0 } }
 
 -- no entry stands twice
 abbrev pub IsOnce : Recency → Type 0

@@ -1,10 +1,10 @@
 -- A recency list: entries with their weights, most recent first, and what the moves do to it (own).
-use Rattle.std.specs.Prelude.{◌≡◌, ℕ, ◌+◌, ◌-◌, ◌^◌, ◌<◌, ◌≤◌, not, Option, None, Some, List, [], ◌∷◌, ◌++◌, length, reverse, min, max, unwrap_or, IfSome, sum_by, is_some, if◌then◌else◌}
+use Rattle.std.specs.Prelude.{◌≡◌, ℕ, ◌<◌, ◌≤◌, not, Option, List, [], ◌∷◌, ◌++◌, length, reverse, unwrap_or, IfSome, sum_by, is_some, if◌then◌else◌}
 use Rattle.std.specs.List.{filter}
 use Rattle.std.specs.Map.{lookup, keys_of}
 use Rattle.pcache_evict.specs.declared.eviction.entry_key.CacheEntryKey.{CacheEntryKey}
 use Rattle.pcache_evict.specs.Entry.{entry_eq}
-use Rattle.pcache_evict.specs.Tracked.{Limits}
+use Rattle.pcache_evict.specs.Tracked.{Limits, raised}
 
 abbrev pub Recency : Type 0
 Recency = List (CacheEntryKey × ℕ)
@@ -23,6 +23,10 @@ others k l = filter (λ e. not (entry_eq k e.0)) l
 -- the entry in front, with this weight
 abbrev pub moved : CacheEntryKey → ℕ → Recency → Recency
 moved k n l = (k, n) ∷ others k l
+
+-- the entry in front, with its weight raised
+abbrev pub incremented : CacheEntryKey → ℕ → Option ℕ → Recency → Recency
+incremented k delta cap l = moved k (raised delta cap (weight_of k l)) l
 
 -- an access leaves the weight of a present entry
 abbrev pub accessed : CacheEntryKey → ℕ → Recency → Recency

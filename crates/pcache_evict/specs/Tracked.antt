@@ -27,10 +27,17 @@ abbrev pub raised : ℕ → Option ℕ → Option ℕ → ℕ
 raised delta cap None = max 1 (min delta (unwrap_or cap (2 ^ 64 - 1)))
 raised delta cap (Some w) = max w (min (w + delta) (unwrap_or cap (2 ^ 64 - 1)))
 
+-- the map with the weight of an entry raised
+abbrev pub incremented : Tracked → CacheEntryKey → ℕ → Option ℕ → Tracked
+incremented m e delta cap = insert m e (raised delta cap (get m e))
+
 -- the limits of a manager: on the weight, and on the number of entries where there is a watermark
 pub record Limits : Type 0 where
   pub weight : ℕ
   pub watermark : Option ℕ
+
+abbrev pub limits_of : ℕ → Option ℕ → Limits
+limits_of limit watermark = record { weight = limit; watermark = watermark }
 
 pub record IsWithin (limits : Limits) (m : Tracked) : Type 0 where
   pub weight : weight m ≤ limits.weight

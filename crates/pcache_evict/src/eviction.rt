@@ -6,7 +6,7 @@ ghost use Rattle.std.specs.List.{IsDistinct};
 ghost use Rattle.std.specs.Map.{keys_of};
 ghost use Rattle.pcache_base.specs.declared.error.ErrorType.TheVariants.{OutOfMemory};
 ghost use Rattle.pcache_evict.specs.Entry.{entry_cmp, entry_eq};
-ghost use Rattle.pcache_evict.specs.Tracked.{Tracked, Limits, Evicted, IsFair, weight, without, added, raised, evicted_with};
+ghost use Rattle.pcache_evict.specs.Tracked.{Tracked, Limits, Evicted, IsFair, weight, without, added, incremented, evicted_with};
 
 use pcache_base::error::Result;
 use pcache_base::moment::Moment;
@@ -62,9 +62,12 @@ pub trait EvictionManager: Drop {
         fresh_until: Moment,
     ) -> Result<Vec<CacheEntryKey>>
         ensures limits { limits self.new ≡ limits self.old }
-        ensures fair { IfOk result (λ out. IsFair (limits self.old) (map.insert (tracked self.old) item size) out.items) }
-        ensures tracked { IfOk result (λ out. tracked self.new ≡ without out.items (map.insert (tracked self.old) item size)) }
-        ensures evicted { IfOk result (λ out. evicted self.new ≡ evicted_with (evicted self.old) (map.insert (tracked self.old) item size) out.items) }
+        ensures fair { IfOk result (λ out. IsFair (limits self.old)
+            (map.insert (tracked self.old) item size) out.items) }
+        ensures tracked { IfOk result (λ out. tracked self.new
+            ≡ without out.items (map.insert (tracked self.old) item size)) }
+        ensures evicted { IfOk result (λ out. evicted self.new
+            ≡ evicted_with (evicted self.old) (map.insert (tracked self.old) item size) out.items) }
         ensures kind { IfErr result (λ e. e ≡ OutOfMemory) }
         ensures err { OnErr result (tracked self.new ≡ tracked self.old) }
         ensures err_evicted { OnErr result (evicted self.new ≡ evicted self.old) };
@@ -79,9 +82,13 @@ pub trait EvictionManager: Drop {
         max_weight: Option<usize>,
     ) -> Result<Vec<CacheEntryKey>>
         ensures limits { limits self.new ≡ limits self.old }
-        ensures fair { IfOk result (λ out. IsFair (limits self.old) (map.insert (tracked self.old) item.now (raised delta max_weight (map.get (tracked self.old) item.now))) out.items) }
-        ensures tracked { IfOk result (λ out. tracked self.new ≡ without out.items (map.insert (tracked self.old) item.now (raised delta max_weight (map.get (tracked self.old) item.now)))) }
-        ensures evicted { IfOk result (λ out. evicted self.new ≡ evicted_with (evicted self.old) (map.insert (tracked self.old) item.now (raised delta max_weight (map.get (tracked self.old) item.now))) out.items) }
+        ensures fair { IfOk result (λ out. IsFair (limits self.old)
+            (incremented (tracked self.old) item.now delta max_weight) out.items) }
+        ensures tracked { IfOk result (λ out. tracked self.new
+            ≡ without out.items (incremented (tracked self.old) item.now delta max_weight)) }
+        ensures evicted { IfOk result (λ out. evicted self.new
+            ≡ evicted_with (evicted self.old)
+            (incremented (tracked self.old) item.now delta max_weight) out.items) }
         ensures kind { IfErr result (λ e. e ≡ OutOfMemory) }
         ensures err { OnErr result (tracked self.new ≡ tracked self.old) }
         ensures err_evicted { OnErr result (evicted self.new ≡ evicted self.old) };

@@ -1,4 +1,11 @@
+pub mod Events
 pub mod Finishing
+pub mod Headline
+pub mod Held
+pub mod Legal
+pub mod Log
 pub mod Phases
 pub mod Requests
+pub mod Sound
+pub mod Step
 pub mod WriteEnds

@@ -163,7 +163,7 @@ tracked_found s h id r m = tracked_found_at s h id r r.key m
 abbrev pub missed : Request → Request
 missed r = record r { phase = phase.Miss; meta = None }
 
--- a meta may be set: in Miss, or in Stale beside one
+-- a meta may be set
 abbrev pub MayTakeMetaIn : CachePhase → Option Meta → Type 0
 MayTakeMetaIn phase.Miss m = Unit {0}
 MayTakeMetaIn _ m = ⊥

@@ -17,10 +17,9 @@ ghost use Rattle.pingora_cache.specs.Requests.{settled, let_go_by, table_asked, 
 
 mod finish;
 
-pub use finish::{FinishReport, WriteEnd};
-
 use crate::phase::{CachePhase, HitStatus, InUse};
 use bytes::Bytes;
+pub use finish::{FinishReport, WriteEnd};
 use pcache_base::error::Result;
 use pcache_base::key::CacheKey;
 use pcache_base::meta::CacheMeta;
@@ -184,11 +183,7 @@ fn phase_found(status: HitStatus, phase: CachePhase) -> CachePhase
 }
 
 // Puts a reader, or none, in place of the one before, which is let go.
-fn replace_reader<S: Storage>(
-    place: &mut Option<S::Hit>,
-    reader: Option<S::Hit>,
-    storage: &mut S,
-)
+fn replace_reader<S: Storage>(place: &mut Option<S::Hit>, reader: Option<S::Hit>, storage: &mut S)
     ensures place { place.new ≡ reader }
     ensures store { S.state storage.new ≡ left_by (option_map S.Hit.reader place.old) (S.state storage.old) }
 {
@@ -312,9 +307,7 @@ impl<S: Storage> HttpCache<S> {
         ensures same_table { OnErr result (L.table lock.new ≡ L.table lock.old) }
         ensures kind { IfErr result (λ e. MayRefuseLock (L.table lock.old) e) }
     {
-        let Some(key) = &self.key else {
-            unreachable!()
-        };
+        let Some(key) = &self.key else { unreachable!() };
         let found = storage.lookup(self.alloc, key)?;
         if found.is_none() && self.uses.lock {
             if let Err(refused) = take_lock(self.alloc, &mut self.held, lock, key, false, now) {
@@ -353,9 +346,7 @@ impl<S: Storage> HttpCache<S> {
         ensures evicted { E.evicted eviction.new ≡ E.evicted eviction.old }
         ensures kind { IfErr result (λ e. MayRefuseLock (L.table lock.old) e) }
     {
-        let Some(key) = &self.key else {
-            unreachable!()
-        };
+        let Some(key) = &self.key else { unreachable!() };
         if self.uses.eviction {
             if let Err(refused) = note_access::<S, E>(eviction, key, &meta, &hit, status) {
                 hit.let_go(storage);
@@ -473,12 +464,10 @@ impl<S: Storage> HttpCache<S> {
         ensures store { OnOk result (S.state storage.new ≡ store_writing (S.streams storage.old) (S.state storage.old).next self.old (S.state storage.old)) }
         ensures table { OnOk result (L.table lock.new ≡ cond (S.streams storage.old) (settled Done self.old.held (L.table lock.old)) (L.table lock.old)) }
         ensures err { OnErr result (((self.new ≡ self.old) × (S.state storage.new ≡ S.state storage.old) × (L.table lock.new ≡ L.table lock.old))
-          ⊎ ((self.new ≡ record self.old { write = Some (S.state storage.old).next; entry = S.next_entry storage.old; held = None }) × (S.state storage.new ≡ begun_for self.old.key self.old.meta (S.state storage.old)) × (L.table lock.new ≡ settled Done self.old.held (L.table lock.old)))) }
+            ⊎ ((self.new ≡ record self.old { write = Some (S.state storage.old).next; entry = S.next_entry storage.old; held = None }) × (S.state storage.new ≡ begun_for self.old.key self.old.meta (S.state storage.old)) × (L.table lock.new ≡ settled Done self.old.held (L.table lock.old)))) }
         ensures kind { IfErr result (λ e. (e ≡ OutOfMemory) ⊎ MayRefuseWrite (S.state storage.old) e) }
     {
-        let Some(key) = &self.key else {
-            unreachable!()
-        };
+        let Some(key) = &self.key else { unreachable!() };
         let Some(meta) = &self.meta else {
             unreachable!()
         };
@@ -488,7 +477,13 @@ impl<S: Storage> HttpCache<S> {
         if !streams {
             return Ok(());
         }
-        settle(self.alloc, &self.key, &mut self.held, lock, LockStatus::Done);
+        settle(
+            self.alloc,
+            &self.key,
+            &mut self.held,
+            lock,
+            LockStatus::Done,
+        );
         let Some(writer) = &self.writer else {
             unreachable!()
         };
@@ -523,9 +518,7 @@ impl<S: Storage> HttpCache<S> {
         ensures evicted { E.evicted eviction.new ≡ E.evicted eviction.old }
         ensures kind { S.always_purges ≡ true → IfErr result (λ e. e ≡ OutOfMemory) }
     {
-        let Some(key) = &self.key else {
-            unreachable!()
-        };
+        let Some(key) = &self.key else { unreachable!() };
         let compact = key.to_compact()?;
         match storage.purge(PurgeTarget::Active(&compact), PurgeType::Invalidation)? {
             PurgeOutcome::NotFound => Ok(false),

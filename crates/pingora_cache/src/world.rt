@@ -3,3 +3,9 @@
 
 pub mod call;
 pub mod entry;
+mod fill;
+mod look;
+mod machine;
+mod request;
+
+pub use machine::{Totals, World};

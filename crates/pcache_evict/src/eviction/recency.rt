@@ -2,6 +2,7 @@
 ghost use Rattle.std.specs.Prelude.{◌≡◌, ◌∷◌, ◌++◌, ◌+◌, ◌-◌, ◌<◌, ◌^◌, [], true, false, None, is_some, length, OnOk, OnErr, IfOk, IfErr, IfSome, IfNone, min};
 ghost use Rattle.std.specs.Vec.{vec_capacity};
 ghost use Rattle.pcache_base.specs.declared.error.ErrorType.TheVariants.{OutOfMemory};
+ghost use Rattle.pcache_evict.specs.Tracked.{limits_of};
 ghost use Rattle.pcache_evict.specs.Recency.{Recency, weight, weight_of, others, moved, IsInside, Evicts};
 ghost use Rattle.pcache_evict.specs.Listed.{IsOnce, IsEnough};
 
@@ -83,7 +84,8 @@ impl RecencyList {
     /// Moves an entry to the front, if it is there.
     pub(super) fn promote(&mut self, item: &CacheEntryKey) -> bool
         ensures was { result ≡ is_some (weight_of item.now self.old) }
-        ensures there { IfSome (weight_of item.now self.old) (λ w. self.new ≡ moved item.now w self.old) }
+        ensures there { IfSome (weight_of item.now self.old) (λ w. self.new
+            ≡ moved item.now w self.old) }
         ensures missing { result ≡ false → self.new ≡ self.old }
     {
         let was = self.cache.promote(item);
@@ -145,7 +147,7 @@ impl RecencyList {
         limit: usize,
         watermark: Option<usize>,
     ) -> usize
-        ensures { IsEnough (record { weight = limit; watermark = watermark }) (moved item.now size self.now) result }
+        ensures { IsEnough (limits_of limit watermark) (moved item.now size self.now) result }
     {
         let rest = self.others(item);
         let mut sum = rest.0 + size as u128;
@@ -175,8 +177,8 @@ impl RecencyList {
         out: &mut Vec<CacheEntryKey>,
     ) -> usize
         requires none { out.old.items ≡ [] }
-        requires room { IsEnough (record { weight = limit; watermark = watermark }) self.old (vec_capacity out.old) }
-        ensures evicts { Evicts (record { weight = limit; watermark = watermark }) self.old self.new out.new.items }
+        requires room { IsEnough (limits_of limit watermark) self.old (vec_capacity out.old) }
+        ensures evicts { Evicts (limits_of limit watermark) self.old self.new out.new.items }
         ensures gone { result ≡ min (weight self.old - weight self.new) (2 ^ 64 - 1) }
     {
         let before = self.weight();
@@ -214,8 +216,10 @@ fn push_copy(all: &mut Vec<(CacheEntryKey, usize)>, key: &CacheEntryKey, size: u
 
 /// Whether a weight or a number of entries is above the limits.
 fn exceeds(sum: u128, count: usize, limit: usize, watermark: Option<usize>) -> bool
-    ensures over { result ≡ true → (l : Recency) → sum ≡ weight l → count ≡ length l → ¬ IsInside (record { weight = limit; watermark = watermark }) l }
-    ensures within { result ≡ false → (l : Recency) → sum ≡ weight l → count ≡ length l → IsInside (record { weight = limit; watermark = watermark }) l }
+    ensures over { result ≡ true → (l : Recency) → sum ≡ weight l → count ≡ length l
+        → ¬ IsInside (limits_of limit watermark) l }
+    ensures within { result ≡ false → (l : Recency) → sum ≡ weight l → count ≡ length l
+        → IsInside (limits_of limit watermark) l }
 {
     if let Some(most) = watermark {
         if count > most {

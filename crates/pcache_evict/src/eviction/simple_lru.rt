@@ -2,8 +2,8 @@
 ghost use Rattle.std.specs.Prelude.{◌≡◌, ◌-◌, ◌^◌, [], None, is_some, length, OnOk, OnErr, IfOk, IfErr, min};
 ghost use Rattle.pcache_base.specs.declared.error.ErrorType.TheVariants.{OutOfMemory};
 ghost use Rattle.pcache_evict.specs.Tracked.{raised};
-ghost use Rattle.pcache_evict.specs.Recency.{weight, weight_of, others, moved, accessed, loaded};
-ghost use Rattle.pcache_evict.specs.Listed.{Listed, with_entries, empty_list, Moves, IsOnce};
+ghost use Rattle.pcache_evict.specs.Recency.{weight, weight_of, others, moved, incremented, accessed, loaded};
+ghost use Rattle.pcache_evict.specs.Listed.{Listed, empty_list, Moves, IsOnce};
 
 use super::recency::RecencyList;
 use super::{CacheEntryKey, EvictionManager};
@@ -122,7 +122,8 @@ impl Manager {
         size: usize,
         _fresh_until: Moment,
     ) -> Result<Vec<CacheEntryKey>>
-        ensures ok { IfOk result (λ out. Moves self.old (moved item size self.old.entries) self.new out.items) }
+        ensures ok { IfOk result (λ out. Moves self.old
+            (moved item size self.old.entries) self.new out.items) }
         ensures kind { IfErr result (λ e. e ≡ OutOfMemory) }
         ensures err { OnErr result (self.new ≡ self.old) }
     {
@@ -138,7 +139,8 @@ impl Manager {
         delta: usize,
         max_weight: Option<usize>,
     ) -> Result<Vec<CacheEntryKey>>
-        ensures ok { IfOk result (λ out. Moves self.old (moved item.now (raised delta max_weight (weight_of item.now self.old.entries)) self.old.entries) self.new out.items) }
+        ensures ok { IfOk result (λ out. Moves self.old
+            (incremented item.now delta max_weight self.old.entries) self.new out.items) }
         ensures kind { IfErr result (λ e. e ≡ OutOfMemory) }
         ensures err { OnErr result (self.new ≡ self.old) }
     {
@@ -149,7 +151,7 @@ impl Manager {
 
     /// Takes an entry out, if it is there. That is no eviction.
     pub fn remove(&mut self, item: &CacheEntryKey)
-        ensures { self.new ≡ with_entries (others item.now self.old.entries) self.old }
+        ensures { self.new ≡ record self.old { entries = others item.now self.old.entries } }
     {
         self.list.remove(item);
     }
@@ -163,7 +165,8 @@ impl Manager {
         _fresh_until: Moment,
     ) -> Result<bool>
         ensures was { IfOk result (λ was. was ≡ is_some (weight_of item.now self.old.entries)) }
-        ensures ok { OnOk result (self.new ≡ with_entries (accessed item.now size self.old.entries) self.old) }
+        ensures ok { OnOk result (self.new
+            ≡ record self.old { entries = accessed item.now size self.old.entries }) }
         ensures kind { IfErr result (λ e. e ≡ OutOfMemory) }
         ensures err { OnErr result (self.new ≡ self.old) }
     {
@@ -178,7 +181,8 @@ impl Manager {
     /// Puts in an entry that was read from a file: a new one at the back, one that is there at the
     /// front with the new weight. Nothing is evicted (own).
     pub fn load_entry(&mut self, item: CacheEntryKey, size: usize) -> Result<()>
-        ensures ok { OnOk result (self.new ≡ with_entries (loaded item size self.old.entries) self.old) }
+        ensures ok { OnOk result (self.new
+            ≡ record self.old { entries = loaded item size self.old.entries }) }
         ensures kind { IfErr result (λ e. e ≡ OutOfMemory) }
         ensures err { OnErr result (self.new ≡ self.old) }
     {
@@ -190,7 +194,8 @@ impl Manager {
 
     // The room for what goes is made first, so that a refusal leaves all as it was.
     fn put_and_evict(&mut self, item: CacheEntryKey, size: usize) -> Result<Vec<CacheEntryKey>>
-        ensures ok { IfOk result (λ out. Moves self.old (moved item size self.old.entries) self.new out.items) }
+        ensures ok { IfOk result (λ out. Moves self.old
+            (moved item size self.old.entries) self.new out.items) }
         ensures kind { IfErr result (λ e. e ≡ OutOfMemory) }
         ensures err { OnErr result (self.new ≡ self.old) }
     {

@@ -37,6 +37,13 @@ impl CompleteHit {
         }
     }
 
+    /// The whole body.
+    pub fn body(&self) -> &Bytes
+        ensures { result.now ≡ self.now.body }
+    {
+        &self.body
+    }
+
     fn read(&mut self) -> Result<Option<Bytes>>
         ensures read { IfOk result (λ r. r ≡ cond self.old.done None (Some (slice_range self.old.body self.old.start self.old.stop))) }
         ensures body { self.new.body ≡ self.old.body }
@@ -91,6 +98,13 @@ impl PartialHit {
         ensures place { result.place ≡ 0 }
     {
         PartialHit { write, place: 0 }
+    }
+
+    /// The number of the write.
+    pub fn write(&self) -> u128
+        ensures { result ≡ self.now.write }
+    {
+        self.write
     }
 }
 

@@ -25,6 +25,13 @@ impl MemMissHandler {
             tag: U64WriteId::from(number),
         }
     }
+
+    /// The number of the write.
+    pub fn number(&self) -> u64
+        ensures { result ≡ self.now.number }
+    {
+        self.number
+    }
 }
 
 impl HandleMiss<MemCache> for MemMissHandler {

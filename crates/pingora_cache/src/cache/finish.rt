@@ -88,7 +88,10 @@ fn admit<E: EvictionManager>(
 }
 
 // The entry of a key, and the key itself to purge it by.
-fn entry_and_key(key: &CacheKey, id: Option<CacheEntryId>) -> Result<(CacheEntryKey, CompactCacheKey)>
+fn entry_and_key(
+    key: &CacheKey,
+    id: Option<CacheEntryId>,
+) -> Result<(CacheEntryKey, CompactCacheKey)>
     ensures ok { IfOk result (λ p. (p.0 ≡ entry_of key.now id) × (p.1 ≡ compact_of key.now)) }
     ensures kind { IfErr result (λ e. e ≡ OutOfMemory) }
 {
@@ -146,9 +149,7 @@ impl<S: Storage> HttpCache<S> {
         ensures end { Ends S.always_purges self.old self.old.key self.old.write (finishes_of (S.finishes storage.old) self.old.write) (E.limits eviction.old) result (S.state storage.old) (S.state storage.new) (E.tracked eviction.old) (E.tracked eviction.new) (L.table lock.old) (L.table lock.new) }
         ensures limits { E.limits eviction.new ≡ E.limits eviction.old }
     {
-        let Some(key) = &self.key else {
-            unreachable!()
-        };
+        let Some(key) = &self.key else { unreachable!() };
         let Some(writer) = self.writer.take() else {
             return WriteEnd::Nothing;
         };
@@ -159,18 +160,36 @@ impl<S: Storage> HttpCache<S> {
             Ok(made) => made,
             Err(refused) => {
                 writer.drop_write(storage);
-                settle(self.alloc, &self.key, &mut self.held, lock, LockStatus::TransientError);
+                settle(
+                    self.alloc,
+                    &self.key,
+                    &mut self.held,
+                    lock,
+                    LockStatus::TransientError,
+                );
                 return WriteEnd::Dropped(refused);
             }
         };
         let kind = match writer.finish(storage) {
             Ok(kind) => kind,
             Err(refused) => {
-                settle(self.alloc, &self.key, &mut self.held, lock, LockStatus::TransientError);
+                settle(
+                    self.alloc,
+                    &self.key,
+                    &mut self.held,
+                    lock,
+                    LockStatus::TransientError,
+                );
                 return WriteEnd::Dropped(refused);
             }
         };
-        settle(self.alloc, &self.key, &mut self.held, lock, LockStatus::Done);
+        settle(
+            self.alloc,
+            &self.key,
+            &mut self.held,
+            lock,
+            LockStatus::Done,
+        );
         let evicted = match admit(
             self.alloc,
             self.uses.eviction,

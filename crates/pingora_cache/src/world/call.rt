@@ -1,8 +1,10 @@
 //! What a world is asked, and what it answers.
+ghost use Rattle.std.specs.Prelude.{◌≡◌, IfOk, IfErr};
+ghost use Rattle.pcache_base.specs.declared.error.ErrorType.TheVariants.{OutOfMemory};
 
 use crate::phase::{CachePhase, HitStatus};
 use bytes::Bytes;
-use pcache_base::error::ErrorType;
+use pcache_base::error::{ErrorType, Result};
 use pcache_base::key::CacheKey;
 use pcache_base::meta::CacheMeta;
 use pcache_base::moment::Moment;
@@ -11,11 +13,19 @@ use pcache_base::moment::Moment;
 #[derive(Drop)]
 pub enum Call {
     /// Makes the request and turns caching on, with the manager and the lock in use.
-    Open { request: u64 },
+    Open {
+        request: u64,
+    },
     /// Sets the key.
-    Key { request: u64, key: CacheKey },
+    Key {
+        request: u64,
+        key: CacheKey,
+    },
     /// Looks the key up.
-    Look { request: u64, now: Moment },
+    Look {
+        request: u64,
+        now: Moment,
+    },
     /// Takes what the look-up found.
     Found {
         request: u64,
@@ -23,11 +33,18 @@ pub enum Call {
         now: Moment,
     },
     /// Goes on as a miss.
-    Miss { request: u64 },
+    Miss {
+        request: u64,
+    },
     /// Sets the meta of the response that is to be stored.
-    Meta { request: u64, meta: CacheMeta },
+    Meta {
+        request: u64,
+        meta: CacheMeta,
+    },
     /// Begins the write.
-    Begin { request: u64 },
+    Begin {
+        request: u64,
+    },
     /// Adds bytes to the write, and with `eof` says that they are the last.
     Write {
         request: u64,
@@ -35,13 +52,21 @@ pub enum Call {
         eof: bool,
     },
     /// Ends the write and stores the body.
-    Finish { request: u64 },
+    Finish {
+        request: u64,
+    },
     /// Reads on.
-    Read { request: u64 },
+    Read {
+        request: u64,
+    },
     /// Removes what stands under the key.
-    Purge { request: u64 },
+    Purge {
+        request: u64,
+    },
     /// Gives back all that the request holds. Its number is free then.
-    End { request: u64 },
+    End {
+        request: u64,
+    },
 }
 
 /// Which kind of lock was given.
@@ -84,4 +109,32 @@ pub enum Reply {
     Purged,
     /// Nothing stood under the key.
     Absent,
+}
+
+impl Reply {
+    /// A second reply, equal to this one. It is refused for want of memory alone.
+    pub fn copied(&self) -> Result<Reply>
+        ensures ok { IfOk result (λ copy. copy ≡ self.now) }
+        ensures kind { IfErr result (λ e. e ≡ OutOfMemory) }
+    {
+        Ok(match self {
+            Reply::WrongCall => Reply::WrongCall,
+            Reply::Refused(kind) => Reply::Refused(*kind),
+            Reply::Done => Reply::Done,
+            Reply::Hit(weight) => Reply::Hit(*weight),
+            Reply::Part => Reply::Part,
+            Reply::NotFound(lock) => Reply::NotFound(*lock),
+            Reply::Taken(phase, lock) => Reply::Taken(*phase, *lock),
+            Reply::Stored { size, evicted } => Reply::Stored {
+                size: *size,
+                evicted: *evicted,
+            },
+            Reply::Nothing => Reply::Nothing,
+            Reply::Data(bytes) => Reply::Data(bytes.clone()?),
+            Reply::Pending => Reply::Pending,
+            Reply::Finished => Reply::Finished,
+            Reply::Purged => Reply::Purged,
+            Reply::Absent => Reply::Absent,
+        })
+    }
 }

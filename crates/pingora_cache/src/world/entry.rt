@@ -17,38 +17,57 @@ pub enum Answer {
     /// A complete body, with its meta.
     Complete { meta: CacheMeta, body: Bytes },
     /// A write that can be read while it is made, with its meta.
-    Streaming { meta: CacheMeta, write: u64 },
+    Streaming { meta: CacheMeta, write: u128 },
 }
 
 /// One thing that a call did.
 #[derive(Drop)]
 pub enum Event {
     /// A key was looked up.
-    Look { slot: u128, answer: Answer },
+    Look {
+        slot: u128,
+        answer: Answer,
+    },
     /// A key's lock was asked for: its number, and whether it is the permit.
-    Ask { slot: u128, lock: u64, is_permit: bool },
+    Ask {
+        slot: u128,
+        lock: u64,
+        is_permit: bool,
+    },
     /// A use of an entry was noted; it came in with this weight where it was missing.
-    Access { entry: CacheEntryKey, weight: usize },
+    Access {
+        entry: CacheEntryKey,
+        weight: usize,
+    },
     /// A write began.
     Begin {
-        write: u64,
+        write: u128,
         slot: u128,
         meta: CacheMeta,
     },
     /// Bytes of a write came, and whether they are the last.
     Wrote {
-        write: u64,
+        write: u128,
         bytes: Bytes,
         eof: bool,
     },
     /// A write was finished: its body stands, or its key was removed since it began.
-    Finish { write: u64, is_stored: bool },
+    Finish {
+        write: u128,
+        is_stored: bool,
+    },
     /// A write was given up.
-    Dropped { write: u64 },
+    Dropped {
+        write: u128,
+    },
     /// A permit was released.
-    Release { lock: u64 },
+    Release {
+        lock: u64,
+    },
     /// A permit was let go.
-    LetGo { lock: u64 },
+    LetGo {
+        lock: u64,
+    },
     /// An entry was admitted with this weight, and others were evicted.
     Admit {
         entry: CacheEntryKey,
@@ -56,11 +75,17 @@ pub enum Event {
         evicted: Entries,
     },
     /// What stood under a key was removed.
-    Purge { slot: u128 },
+    Purge {
+        slot: u128,
+    },
     /// An entry was taken out of the manager.
-    Untrack { entry: CacheEntryKey },
+    Untrack {
+        entry: CacheEntryKey,
+    },
     /// A reader was read from.
-    Read { answer: Poll<Option<Bytes>> },
+    Read {
+        answer: Poll<Option<Bytes>>,
+    },
 }
 
 /// Keys of entries. A contract sees the list.

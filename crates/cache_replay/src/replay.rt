@@ -1,0 +1,168 @@
+//! Running a script.
+
+use crate::reply::{write_reply, write_stat};
+use crate::script::{Line, Unread, read};
+use pingora_cache::eviction::simple_lru::Manager;
+use pingora_cache::moment::Moment;
+use pingora_cache::world::World;
+use std::alloc::Global;
+use std::io::{BufRead, BufReader, BufWriter, Read, Write};
+use std::time::Duration;
+
+// After how many seconds a permit ages out.
+const AGE_TIMEOUT_SECS: u64 = 10;
+
+// Why a run ended early.
+#[derive(Debug, Drop)]
+enum Stop {
+    BadArguments,
+    BadCall(u64),
+    OutOfMemory,
+    InputFailed,
+    OutputFailed,
+}
+
+// A manager's limits, as the arguments give them.
+#[derive(Clone, Copy)]
+struct Limits {
+    weight: usize,
+    watermark: Option<usize>,
+}
+
+/// Runs the script that `input` has, with `LIMIT [WATERMARK]` as arguments, and writes one reply a
+/// line. Answers the status: 0, or 1 after a line to `errors` that says what was wrong.
+pub fn replay<R: Read + Drop, W: Write + Drop, E: Write>(
+    alloc: Global,
+    args: &[String],
+    input: R,
+    output: W,
+    errors: &mut E,
+) -> u8 {
+    let stop = match run(alloc, args, input, output) {
+        Ok(()) => return 0,
+        Err(stop) => stop,
+    };
+    let _ = match stop {
+        Stop::BadArguments => writeln!(errors, "bad arguments"),
+        Stop::BadCall(line) => writeln!(errors, "line {line}: bad call"),
+        Stop::OutOfMemory => writeln!(errors, "out of memory"),
+        Stop::InputFailed => writeln!(errors, "input failed"),
+        Stop::OutputFailed => writeln!(errors, "output failed"),
+    };
+    1
+}
+
+fn run<R: Read + Drop, W: Write + Drop>(
+    alloc: Global,
+    args: &[String],
+    input: R,
+    output: W,
+) -> Result<(), Stop> {
+    let limits = read_limits(args).ok_or(Stop::BadArguments)?;
+    let Ok(manager) = Manager::new_with_watermark(alloc, limits.weight, limits.watermark) else {
+        return Err(Stop::OutOfMemory);
+    };
+    let Ok(mut reader) = BufReader::new(alloc, input) else {
+        return Err(Stop::OutOfMemory);
+    };
+    let Ok(mut writer) = BufWriter::new(alloc, output) else {
+        return Err(Stop::OutOfMemory);
+    };
+    let mut world = World::new(alloc, manager, Duration::from_secs(AGE_TIMEOUT_SECS));
+    let result = run_lines(alloc, &mut world, &mut reader, &mut writer);
+    // The replies before a bad line are printed first.
+    let flushed = writer.flush();
+    result?;
+    flushed.map_err(|_| Stop::OutputFailed)
+}
+
+fn run_lines<R: BufRead, W: Write>(
+    alloc: Global,
+    world: &mut World<Manager>,
+    reader: &mut R,
+    writer: &mut W,
+) -> Result<(), Stop> {
+    let mut line = Vec::new(alloc);
+    for number in 1..u64::MAX {
+        line.clear();
+        if !read_line(reader, &mut line)? {
+            return Ok(());
+        }
+        run_line(alloc, world, line.as_slice(), number, writer)?;
+    }
+    Ok(())
+}
+
+fn run_line<W: Write>(
+    alloc: Global,
+    world: &mut World<Manager>,
+    line: &[u8],
+    number: u64,
+    writer: &mut W,
+) -> Result<(), Stop> {
+    let read = match read(alloc, line, Moment::EPOCH) {
+        Ok(read) => read,
+        Err(Unread::BadCall) => return Err(Stop::BadCall(number)),
+        Err(Unread::OutOfMemory) => return Err(Stop::OutOfMemory),
+    };
+    let written = match read {
+        Line::Skip => Ok(()),
+        Line::Stat => write_stat(writer, world.stored_bytes(), world.slots(), world.totals()),
+        Line::Call(call) => match world.step(call) {
+            Ok(reply) => write_reply(writer, &reply),
+            Err(_) => return Err(Stop::OutOfMemory),
+        },
+    };
+    written.map_err(|_| Stop::OutputFailed)
+}
+
+// Reads a line without its end, and answers whether there was one.
+fn read_line<R: BufRead>(reader: &mut R, line: &mut Vec<u8>) -> Result<bool, Stop> {
+    let mut is_there = false;
+    for _ in 0..u64::MAX {
+        let (taken, is_whole) = match reader.fill_buf() {
+            Ok(buffer) if buffer.is_empty() => return Ok(is_there),
+            Ok(buffer) => match buffer.iter().position(|byte| *byte == b'\n') {
+                Some(end) => (extend(line, &buffer[..end])?.saturating_add(1), true),
+                None => (extend(line, buffer)?, false),
+            },
+            Err(failed) if failed.kind() == std::io::ErrorKind::Interrupted => continue,
+            Err(_) => return Err(Stop::InputFailed),
+        };
+        is_there = true;
+        reader.consume(taken);
+        if is_whole {
+            return Ok(true);
+        }
+    }
+    Ok(is_there)
+}
+
+fn extend(line: &mut Vec<u8>, bytes: &[u8]) -> Result<usize, Stop> {
+    match line.extend_from_slice(bytes) {
+        Ok(()) => Ok(bytes.len()),
+        Err(_) => Err(Stop::OutOfMemory),
+    }
+}
+
+// One or two decimal numbers that fit `usize`.
+fn read_limits(args: &[String]) -> Option<Limits> {
+    match args {
+        [weight] => Some(Limits {
+            weight: number(weight)?,
+            watermark: None,
+        }),
+        [weight, watermark] => Some(Limits {
+            weight: number(weight)?,
+            watermark: Some(number(watermark)?),
+        }),
+        _ => None,
+    }
+}
+
+fn number(word: &String) -> Option<usize> {
+    if word.is_empty() || !word.as_bytes().iter().all(|byte| byte.is_ascii_digit()) {
+        return None;
+    }
+    word.as_str().parse::<usize>().ok()
+}

@@ -1,0 +1,91 @@
+//! Writing the replies of a script.
+
+use pingora_cache::error::ErrorType;
+use pingora_cache::world::Totals;
+use pingora_cache::world::call::{LockKind, Reply};
+use std::io;
+use std::io::Write;
+
+/// Writes a reply as a line.
+pub fn write_reply<W: Write>(output: &mut W, reply: &Reply) -> io::Result<()> {
+    match reply {
+        Reply::WrongCall => writeln!(output, "wrong call"),
+        Reply::Refused(kind) => {
+            let number = error_number(*kind);
+            writeln!(output, "refused E{number}")
+        }
+        Reply::Done => writeln!(output, "ok"),
+        Reply::Hit(weight) => writeln!(output, "hit {weight}"),
+        Reply::Part => writeln!(output, "part"),
+        Reply::NotFound(lock) => write_with_lock(output, "none", *lock),
+        Reply::Taken(phase, lock) => write_with_lock(output, phase.as_str(), *lock),
+        Reply::Stored { size, evicted } => writeln!(output, "stored {size} evicted {evicted}"),
+        Reply::Nothing => writeln!(output, "nothing"),
+        Reply::Data(bytes) => {
+            write!(output, "data ")?;
+            write_text(output, bytes.as_slice())?;
+            writeln!(output)
+        }
+        Reply::Pending => writeln!(output, "pending"),
+        Reply::Finished => writeln!(output, "end"),
+        Reply::Purged => writeln!(output, "purged"),
+        Reply::Absent => writeln!(output, "absent"),
+    }
+}
+
+/// Writes the numbers of the store and the manager as a line.
+pub fn write_stat<W: Write>(
+    output: &mut W,
+    stored: u128,
+    slots: usize,
+    totals: Totals,
+) -> io::Result<()> {
+    let weight = totals.weight;
+    let items = totals.items;
+    let evicted = totals.evicted_items;
+    let size = totals.evicted_weight;
+    writeln!(
+        output,
+        "stored {stored} slots {slots} weight {weight} items {items} evicted {evicted} size {size}"
+    )
+}
+
+fn write_with_lock<W: Write>(output: &mut W, word: &str, lock: Option<LockKind>) -> io::Result<()> {
+    match lock {
+        None => writeln!(output, "{word}"),
+        Some(LockKind::Write) => writeln!(output, "{word} write"),
+        Some(LockKind::Read) => writeln!(output, "{word} read"),
+    }
+}
+
+// The number by which scripts name a refusal.
+fn error_number(kind: ErrorType) -> u8 {
+    match kind {
+        ErrorType::OutOfMemory => 1,
+        ErrorType::InternalError => 2,
+        ErrorType::InvalidHttpHeader => 3,
+        ErrorType::ResponseTooLarge => 4,
+        ErrorType::IncompleteHttpBody => 5,
+        ErrorType::WriteRemoved => 6,
+        ErrorType::NumbersExhausted => 7,
+        ErrorType::Io => 8,
+    }
+}
+
+// Bytes as a word, so that reading the word gives them back.
+fn write_text<W: Write>(output: &mut W, bytes: &[u8]) -> io::Result<()> {
+    if bytes.is_empty() {
+        return write!(output, "\\e");
+    }
+    for byte in bytes {
+        match byte {
+            b' ' => write!(output, "\\s")?,
+            b'\r' => write!(output, "\\r")?,
+            b'\n' => write!(output, "\\n")?,
+            b'\\' => write!(output, "\\\\")?,
+            0x21..=0x7e => output.write_all(&[*byte])?,
+            _ => write!(output, "\\x{byte:02x}")?,
+        }
+    }
+    Ok(())
+}

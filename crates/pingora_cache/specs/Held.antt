@@ -1,0 +1,142 @@
+-- An open request with the pair that its last look-up gave, and what the entries of a history leave of it (own). Calls that
+-- do one thing move a request by their reply; calls that can be refused half way move it by their events.
+use Rattle.std.specs.Prelude.{ℕ, ◌+◌, ◌==◌, Bool, true, false, Option, Some, None, cond, if◌then◌else◌, List, [], ◌∷◌, length}
+use Rattle.std.specs.Option.{option_map}
+use Rattle.pcache_base.specs.Meta.{Meta}
+use Rattle.pcache_base.specs.declared.poll.Poll.{Poll}
+use Rattle.pcache_base.specs.declared.poll.Poll.TheVariants.{Ready, Pending}
+use Rattle.pcache_lock.specs.declared.lock.permit.Locked.{Locked}
+use Rattle.pcache_lock.specs.declared.lock.permit.Locked.TheVariants.{Write, Read}
+use Rattle.pcache_store.specs.Store.{Reader, Whole, Part}
+use Rattle.pingora_cache.specs.Phases.{is_stale, is_fresh}
+use Rattle.pingora_cache.specs.Requests.{Request, fresh_request, with_key, missed, with_meta, placed}
+use Rattle.pingora_cache.specs.declared.phase.HitStatus.{HitStatus}
+use Rattle.pingora_cache.specs.declared.phase.InUse.{InUse}
+use Rattle.pingora_cache.specs.declared.world.call.Call.{Call}
+use Rattle.pingora_cache.specs.declared.world.call.Call.TheVariants as C
+use Rattle.pingora_cache.specs.declared.world.call.Reply.{Reply}
+use Rattle.pingora_cache.specs.declared.world.call.Reply.TheVariants as R
+use Rattle.pingora_cache.specs.declared.world.entry.Answer.{Answer}
+use Rattle.pingora_cache.specs.declared.world.entry.Answer.TheVariants as A
+use Rattle.pingora_cache.specs.declared.world.entry.Entry.{Entry}
+use Rattle.pingora_cache.specs.declared.world.entry.Event.{Event}
+use Rattle.pingora_cache.specs.declared.world.entry.Event.TheVariants as E
+
+pub record Held : Type 0 where
+  pub request : Request
+  pub pair : Option (Meta × Reader)
+
+-- the request that a call names
+abbrev pub number_of : Call → ℕ
+number_of (C.Open r) = r
+number_of (C.Key r k) = r
+number_of (C.Look r t) = r
+number_of (C.Found r s t) = r
+number_of (C.Miss r) = r
+number_of (C.Meta r m) = r
+number_of (C.Begin r) = r
+number_of (C.Write r bs eof) = r
+number_of (C.Finish r) = r
+number_of (C.Read r) = r
+number_of (C.Purge r) = r
+number_of (C.End r) = r
+
+abbrev pub is_done : Reply → Bool
+is_done R.Done = true
+is_done _ = false
+
+abbrev pub is_taken : Reply → Bool
+is_taken (R.Taken p l) = true
+is_taken _ = false
+
+abbrev pub is_refused : Reply → Bool
+is_refused (R.Refused e) = true
+is_refused _ = false
+
+-- a world's requests use the manager and the lock
+abbrev pub world_use : InUse
+world_use = record { eviction = true; predictor = false; lock = true }
+
+abbrev pub opened : Held
+opened = record { request = fresh_request world_use; pair = None }
+
+-- the pair of a look-up's answer
+abbrev pub pair_of : Answer → Option (Meta × Reader)
+pair_of A.Nothing = None
+pair_of (A.Complete m body) = Some (m, Whole body 0 (length body) false)
+pair_of (A.Streaming m w) = Some (m, Part w 0)
+
+-- a lock that was given is held
+abbrev pub lock_of : Bool → Bool → ℕ → Locked
+lock_of stale true n = Write (record { number = n; stale_writer = stale })
+lock_of stale false n = Read (record { number = n; watch = None })
+
+abbrev pub with_given : Bool → Event → Request → Request
+with_given stale (E.Ask k n is_permit) x = record x { held = Some (lock_of stale is_permit n) }
+with_given stale _ x = x
+
+abbrev pub asked : Bool → List Event → Request → Request
+asked stale [] x = x
+asked stale (e ∷ es) x = asked stale es (with_given stale e x)
+
+abbrev pub looked_by : List Event → Held → Held
+looked_by [] x = x
+looked_by (E.Look k a ∷ es) x = record { request = asked false es x.request; pair = pair_of a }
+looked_by (_ ∷ es) x = x
+
+-- what was found is taken, or let go where that is refused
+abbrev pub placed_by : HitStatus → List Event → Request → Option (Meta × Reader) → Request
+placed_by s events x None = x
+placed_by s events x (Some p) = placed s p.0 p.1 (asked (is_stale s) events x)
+
+abbrev pub taken_by : HitStatus → List Event → Held → Held
+taken_by s events x = record { request = placed_by s events x.request x.pair; pair = None }
+
+abbrev pub without_pair : Held → Held
+without_pair x = record { request = x.request; pair = None }
+
+-- a write that began is held, and the permit released; where the call was not refused, the reader follows it
+abbrev pub began : Bool → List Event → Request → Request
+began joined [] x = x
+began joined (E.Begin w k m ∷ es) x = record x { write = Some w; entry = None; held = None; reader = cond joined (Some (Part w 0)) x.reader }
+began joined (_ ∷ es) x = x
+
+-- a write that ended is held no more
+abbrev pub ended : List Event → Request → Request
+ended [] x = x
+ended (e ∷ es) x = record x { write = None; entry = None; held = None }
+
+-- a reader that gave bytes is past them
+abbrev pub read_past : Poll (Option (List ℕ)) → Reader → Reader
+read_past a (Whole body start stop done) = Whole body start stop true
+read_past (Ready (Some bs)) (Part w place) = Part w (place + length bs)
+read_past (Ready None) (Part w place) = Part w place
+read_past Pending (Part w place) = Part w place
+
+abbrev pub has_read : List Event → Request → Request
+has_read [] x = x
+has_read (E.Read a ∷ es) x = record x { reader = option_map (read_past a) x.reader }
+has_read (_ ∷ es) x = x
+
+abbrev pub on_request : (Request → Request) → Held → Held
+on_request f x = record { request = f x.request; pair = x.pair }
+
+-- a call moves the request that it names by its row of the phase table
+abbrev pub row : Call → Reply → List Event → Option Held → Option Held
+row (C.Open r) reply events q = cond (is_done reply) (Some opened) q
+row (C.Key r k) reply events q = cond (is_done reply) (option_map (on_request (with_key k)) q) q
+row (C.Look r t) reply events q = option_map (looked_by events) q
+row (C.Found r s t) reply events q = cond (is_taken reply) (option_map (taken_by s events) q) (cond (is_refused reply) (option_map without_pair q) q)
+row (C.Miss r) reply events q = cond (is_done reply) (option_map (λ x. without_pair (on_request missed x)) q) q
+row (C.Meta r m) reply events q = cond (is_done reply) (option_map (on_request (with_meta m)) q) q
+row (C.Begin r) reply events q = option_map (on_request (began (is_done reply) events)) q
+row (C.Write r bs eof) reply events q = q
+row (C.Finish r) reply events q = option_map (on_request (ended events)) q
+row (C.Read r) reply events q = option_map (on_request (has_read events)) q
+row (C.Purge r) reply events q = q
+row (C.End r) reply events q = cond (is_done reply) None q
+
+-- a request as the entries that name it leave it
+abbrev pub request_of : ℕ → List Entry → Option Held
+request_of r [] = None
+request_of r (e ∷ h) = if number_of e.call == r then row e.call e.reply e.events (request_of r h) else request_of r h

@@ -1,0 +1,103 @@
+-- What a world keeps: its history is legal, and its parts are what the history says (own).
+use Rattle.std.specs.Prelude.{◌≡◌, ℕ, ◌+◌, ◌<◌, ◌≤◌, ◌==◌, ◌||◌, nat_lt, Bool, true, false, if◌then◌else◌, Option, None, Some, is_some, IfSome, List, [], ◌∷◌}
+use Rattle.std.specs.Option.{option_map}
+use Rattle.std.specs.Ordering.{nat_cmp}
+use Rattle.std.specs.FinMap as map
+use Rattle.pcache_base.specs.Meta.{Meta}
+use Rattle.pcache_base.specs.Totals.{total}
+use Rattle.pcache_evict.specs.declared.eviction.entry_key.CacheEntryKey.{CacheEntryKey}
+use Rattle.pcache_evict.specs.Tracked.{Tracked, Limits}
+use Rattle.pcache_store.specs.Store.{Store, Slot, Written, Reader, Whole, Part, body_of, is_fresh_in, is_idle}
+use Rattle.pingora_cache.specs.declared.world.entry.Entry.{Entry}
+use Rattle.pingora_cache.specs.declared.world.entry.Event.{Event}
+use Rattle.pingora_cache.specs.declared.world.entry.Event.TheVariants.{Admit}
+use Rattle.pingora_cache.specs.Events as ev
+use Rattle.pingora_cache.specs.Events.{begun, begin_of, is_removed, has_ended, was_stored, in_flight, is_told, is_of, last_finished, complete, is_open, tracked, stored, slots, names_slot, size_of}
+use Rattle.pingora_cache.specs.Held.{Held, request_of}
+use Rattle.pingora_cache.specs.Legal.{events_of, IsLegal}
+
+-- how many readers of a write there are: in one request, and in all
+abbrev pub follows : ℕ → Option Reader → ℕ
+follows w None = 0
+follows w (Some (Whole body start stop done)) = 0
+follows w (Some (Part x place)) = if x == w then 1 else 0
+
+abbrev pub pair_reader : Option (Meta × Reader) → Option Reader
+pair_reader p = option_map (λ q. q.1) p
+
+abbrev pub readers_in : ℕ → Held → ℕ
+readers_in w x = follows w x.request.reader + follows w (pair_reader x.pair)
+
+abbrev pub readers : map.FinMap nat_cmp Held → ℕ → ℕ
+readers all w = total (readers_in w) all
+
+-- how many requests hold a write
+abbrev pub writers_in : ℕ → Held → ℕ
+writers_in w x = if ev.option_any (λ q. q == w) x.request.write then 1 else 0
+
+abbrev pub writers : map.FinMap nat_cmp Held → ℕ → ℕ
+writers all w = total (writers_in w) all
+
+-- a write as the store keeps it, where it is in flight or n readers, at least one, follow it
+abbrev pub record_of : ℕ → ℕ → List Event → Option Written
+record_of w n es =
+    if in_flight w es || nat_lt 0 n
+    then option_map (λ b. record { slot = b.0; meta = b.1; bytes = ev.body_of w es; told = is_told w es; flying = in_flight w es; readers = n }) (begin_of w es)
+    else None
+
+-- numbers are given in order, and what finished was begun under its key
+pub record IsTidy (es : List Event) : Type 0 where
+  pub fresh : (w : ℕ) → begun es ≤ w → begin_of w es ≡ None
+  pub not_ended : (w : ℕ) → begun es ≤ w → has_ended w es ≡ false
+  pub no_body : (w : ℕ) → begun es ≤ w → ev.body_of w es ≡ []
+  pub not_told : (w : ℕ) → begun es ≤ w → is_told w es ≡ false
+  pub not_stored : (w : ℕ) → begun es ≤ w → was_stored w es ≡ false
+  pub finished : (k w : ℕ) → last_finished k es ≡ Some w → (has_ended w es ≡ true) × (is_of k w es ≡ true) × (was_stored w es ≡ true)
+  -- a key of which any stored write met no removal stands
+  pub survives : (k w : ℕ) → was_stored w es ≡ true → is_of k w es ≡ true → is_removed w es ≡ false → is_some (complete k es) ≡ true
+
+-- the store is what the events say, with n readers of each write
+pub record IsState (es : List Event) (n : ℕ → ℕ) (s : Store) : Type 0 where
+  pub next : s.next ≡ begun es
+  pub writes : (w : ℕ) → map.get s.writes w ≡ record_of w (n w) es
+  pub fresh : (k w : ℕ) → is_fresh_in w (map.get s.slots k) ≡ is_open k w es
+  pub bodies : (k : ℕ) → body_of (map.get s.slots k) ≡ complete k es
+  pub filled : (k : ℕ) (x : Slot) → map.get s.slots k ≡ Some x → is_idle x ≡ false
+  -- only a write that was begun is read
+  pub known : (w : ℕ) → 0 < n w → is_some (begin_of w es) ≡ true
+
+-- the entry that was admitted last for a key
+abbrev pub admits : ℕ → Event → Option CacheEntryKey → Option CacheEntryKey
+admits k (Admit e n out) before = if names_slot k e then Some e else before
+admits k _ before = before
+
+abbrev pub standing_entry : ℕ → List Event → Option CacheEntryKey
+standing_entry k [] = None
+standing_entry k (e ∷ es) = admits k e (standing_entry k es)
+
+-- of each standing key, the entry of its last finished write is tracked with exactly the length of its body
+abbrev pub IsExact : Tracked → List Event → Type 0
+IsExact start es = (k : ℕ) (b : _) → complete k es ≡ Some b → (e : CacheEntryKey) × (standing_entry k es ≡ Some e) × (map.get (tracked start es) e ≡ Some (size_of b))
+
+-- what is stored is within the limits
+pub record IsBounded (limits : Limits) (es : List Event) : Type 0 where
+  pub bytes : stored es ≤ limits.weight
+  pub count : IfSome limits.watermark (λ most. slots es ≤ most)
+
+-- each open request is what the entries that name it leave
+abbrev pub AreOpen : List Entry → map.FinMap nat_cmp Held → Type 0
+AreOpen h all = (r : ℕ) → map.get all r ≡ request_of r h
+
+-- one request holds each write that is in flight
+abbrev pub AreHeld : List Event → map.FinMap nat_cmp Held → Type 0
+AreHeld es all = (w : ℕ) → writers all w ≡ (if in_flight w es then 1 else 0)
+
+pub record IsSound (limits : Limits) (start : Tracked) (now : Tracked) (s : Store) (all : map.FinMap nat_cmp Held) (h : List Entry) : Type 0 where
+  pub legal : IsLegal limits start h
+  pub tidy : IsTidy (events_of h)
+  pub state : IsState (events_of h) (readers all) s
+  pub tracks : now ≡ tracked start (events_of h)
+  pub exact : IsExact start (events_of h)
+  pub bounded : IsBounded limits (events_of h)
+  pub requests : AreOpen h all
+  pub writes : AreHeld (events_of h) all
