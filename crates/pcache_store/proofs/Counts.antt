@@ -3,7 +3,7 @@ use Rattle.std.proofs.Common.{◌≡◌, ℕ, suc, zero, ◌+◌, ◌-◌, ◌*�
 use Rattle.std.proofs.Math.Nat.{mul-suc}
 use Rattle.std.specs.Ordering.{nat_cmp, eq_by_cmp, is_eq}
 use Rattle.std.specs.Cmp.{nat_cmp_total, tied_itself}
-use Rattle.std.specs.FinMap.{FinMap, empty, get, insert, remove, entries, len, find, contains_key, get-insert, get-remove, get-empty, get-entries, len-remove, len-entries, empty_of_len, nat_cmp-IsAntisymmetric}
+use Rattle.std.specs.FinMap.{FinMap, empty, get, insert, remove, entries, len, find, get-insert, get-remove, get-empty, get-entries, len-remove, len-entries, empty_of_len, nat_cmp-IsAntisymmetric}
 use Rattle.pcache_base.specs.Totals.{total, share}
 use Rattle.pcache_base.proofs.Totals.{total-insert, total-remove, total-empty}
 use Rattle.pcache_base.specs.Meta.{Meta}

@@ -1,5 +1,5 @@
 -- Slots that were changed in place.
-use Rattle.std.proofs.Common.{◌≡◌, ℕ, Bool, true, false, Option, None, Some, ◌∙◌, sym, ap, cond, refl, subst}
+use Rattle.std.proofs.Common.{◌≡◌, ℕ, true, false, Option, None, Some, ◌∙◌, sym, ap, cond}
 use Rattle.std.specs.Ordering.{nat_cmp}
 use Rattle.std.specs.FinMap.{FinMap, get, insert, remove}
 use Rattle.pcache_base.specs.Meta.{Meta}

@@ -1,5 +1,5 @@
 -- Writes that were changed in place, and numbers that no write has.
-use Rattle.std.proofs.Common.{◌≡◌, ℕ, ◌++◌, ◌+◌, ◌-◌, ◌≤◌, ◌<◌, List, Bool, true, false, Option, None, Some, Result, Ok, Err, OnOk, OnErr, ◌∙◌, sym, ap, cond, refl, subst, arith, unwrap_or}
+use Rattle.std.proofs.Common.{◌≡◌, ℕ, ◌++◌, ◌+◌, ◌-◌, ◌<◌, List, Bool, true, false, None, Some, Result, Ok, Err, OnOk, OnErr, ◌∙◌, sym, ap, cond, refl, subst, arith, unwrap_or}
 use Rattle.std.specs.Ordering.{nat_cmp, is_eq}
 use Rattle.std.specs.Cmp.{nat_cmp_total, tied_itself}
 use Rattle.std.proofs.lemmas.Bool.Decides.{nat_tests}

@@ -1,5 +1,4 @@
 -- What the readers and handlers of the store in memory mean.
-use Rattle.std.specs.Prelude.{ℕ, Option, Some, None, map}
 use Rattle.pcache_store.specs.Store.{Reader, Whole, Part}
 use Rattle.pcache_store.specs.declared.memory.hit.MemHitHandler.{MemHitHandler}
 use Rattle.pcache_store.specs.declared.memory.hit.MemHitHandler.TheVariants.{Complete, Partial}

@@ -1,5 +1,5 @@
 -- What a store holds, what its calls do to it, and what its readers read (own).
-use Rattle.std.specs.Prelude.{ℕ, ◌+◌, ◌-◌, ◌^◌, ◌<◌, ◌≤◌, ◌≡◌, ◌==◌, ◌&&◌, ◌||◌, nat_le, nat_lt, not, Bool, true, false, Option, Some, None, is_none, is_some, cond, List, [], ◌++◌, drop, length, slice_range, min}
+use Rattle.std.specs.Prelude.{ℕ, ◌+◌, ◌-◌, ◌==◌, ◌&&◌, ◌||◌, nat_le, nat_lt, not, Bool, true, false, Option, Some, None, is_none, cond, List, [], ◌++◌, drop, length, slice_range, min}
 use Rattle.std.specs.Ordering.{nat_cmp}
 use Rattle.std.specs.FinMap.{FinMap, empty, get, insert, remove, contains_key, len}
 use Rattle.pcache_base.specs.Meta.{Meta}

@@ -10,7 +10,6 @@ ghost use Rattle.pcache_store.specs.contracts.table.Table.{the_row};
 
 use std::alloc::{AllocFailed, Global};
 use std::collections::BTreeMap;
-use std::collections::btree_map::Iter;
 use std::marker::Model;
 
 /// Values by number. Each call goes down a tree once, so it takes time in the logarithm of the number
@@ -84,13 +83,6 @@ impl<V> Table<V> {
         }
     }
 
-    /// The entries in the order of their numbers.
-    pub fn iter(&self) -> Iter<'_, u128, V>
-        ensures { result ≡ map.entries self.now }
-    {
-        self.tree.iter()
-    }
-
     /// Sets the value of a number, and answers the one before. Memory may be refused for a new number
     /// alone; nothing is changed then, and the pair comes back.
     pub fn insert(&mut self, number: u128, value: V) -> Result<Option<V>, AllocFailed<(u128, V)>>
@@ -138,11 +130,6 @@ mod tests {
         assert_eq!(rt; table.least(), Some(3));
         assert_eq!(rt; table.get(3), Some(&9));
         assert!(rt; table.contains(7));
-        let mut sum = 0;
-        for (number, value) in table.iter() {
-            sum ^= *number ^ u128::from(*value);
-        }
-        assert_eq!(rt; sum, 3 ^ 9 ^ 7 ^ 4);
         assert_eq!(rt; table.remove(3), Some(9));
         assert_eq!(rt; table.least(), Some(7));
         Ok(())

@@ -1,4 +1,3 @@
-use Rattle.std.proofs.Common.{ap, ◌∙◌}
 use Rattle.pcache_store.proofs.Writes.{taken_back}
 use Rattle.pcache_store.proofs.memory.MemCacheStorage.get_miss_handler.Goals as goal
 

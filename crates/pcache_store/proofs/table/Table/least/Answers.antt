@@ -1,5 +1,4 @@
 use Rattle.std.proofs.Common.{◌≡◌, sym, ◌∙◌, ap, Some, None, Option, ℕ}
-use Rattle.std.specs.FinMap as map
 use Rattle.pcache_store.specs.Numbers.{least, first_key}
 use Rattle.pcache_store.proofs.Least.{if_least, if_first, if_none}
 use Rattle.pcache_store.proofs.Maps.{entries_of}

@@ -1,4 +1,4 @@
-use Rattle.std.proofs.Common.{◌≡◌, sym, ◌∙◌, ap, length}
+use Rattle.std.proofs.Common.{sym, ◌∙◌, ap, length}
 use Rattle.std.specs.FinMap as map
 use Rattle.pcache_store.proofs.Maps.{entries_of}
 use Rattle.pcache_store.proofs.table.Table.len.Goals as goal

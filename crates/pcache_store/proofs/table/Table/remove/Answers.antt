@@ -1,4 +1,4 @@
-use Rattle.std.proofs.Common.{◌≡◌, sym, ◌∙◌, ap}
+use Rattle.std.proofs.Common.{sym, ◌∙◌, ap}
 use Rattle.std.specs.FinMap as map
 use Rattle.pcache_store.proofs.Maps.{got, removed}
 use Rattle.pcache_store.proofs.table.Table.remove.Goals as goal

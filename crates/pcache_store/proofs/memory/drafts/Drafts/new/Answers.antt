@@ -1,4 +1,4 @@
-use Rattle.std.proofs.Common.{sym, subst, ◌+◌, ◌-◌}
+use Rattle.std.proofs.Common.{sym, subst}
 use Rattle.pcache_store.specs.Drafts.{AreBefore}
 use Rattle.pcache_store.proofs.Writes.{before_empty}
 use Rattle.pcache_store.proofs.memory.drafts.Drafts.new.Goals as goal
