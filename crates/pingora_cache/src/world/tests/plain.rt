@@ -7,8 +7,11 @@ use std::alloc::Global;
 use std::test::Fail;
 
 const LIMIT: usize = 9;
+
 const KEYS: [&str; 4] = ["a", "b", "c", "d"];
+
 const TEXTS: [&str; 4] = ["x", "yy", "zzz", ""];
+
 const STATUSES: [HitStatus; 4] = [
     HitStatus::Fresh,
     HitStatus::Fresh,
@@ -69,7 +72,9 @@ struct Past {
 impl Past {
     fn began(&self) -> usize {
         let facts = self.facts.iter();
-        facts.filter(|fact| matches!(fact, Fact::Began(_, _))).count()
+        facts
+            .filter(|fact| matches!(fact, Fact::Began(_, _)))
+            .count()
     }
 
     // Whether the write is of the key, and met no removal of it since it began.
@@ -376,7 +381,10 @@ struct Dice(u64);
 
 impl Dice {
     fn pick<T: Copy>(&mut self, of: &[T], other: T) -> T {
-        self.0 = self.0.wrapping_mul(6364136223846793005).wrapping_add(1442695040888963407);
+        self.0 = self
+            .0
+            .wrapping_mul(6364136223846793005)
+            .wrapping_add(1442695040888963407);
         let high = usize::try_from(self.0 >> 33).unwrap_or(0);
         let place = high.checked_rem(of.len()).unwrap_or(0);
         of.get(place).copied().unwrap_or(other)
@@ -402,7 +410,10 @@ fn next(dice: &mut Dice, request: u64, phase: Option<CachePhase>) -> Step {
     let any = [
         open, key, look, found, miss, meta, begin, write, last, finish, read, purge, end,
     ];
-    if dice.pick(&[true, false, false, false, false, false, false, false], false) {
+    if dice.pick(
+        &[true, false, false, false, false, false, false, false],
+        false,
+    ) {
         return dice.pick(&any, end);
     }
     match phase {
@@ -414,7 +425,9 @@ fn next(dice: &mut Dice, request: u64, phase: Option<CachePhase>) -> Step {
         ),
         Some(CachePhase::Stale) => dice.pick(&[look, found, read, miss], miss),
         Some(CachePhase::Miss) => dice.pick(
-            &[meta, begin, begin, write, write, last, read, read, finish, finish],
+            &[
+                meta, begin, begin, write, write, last, read, read, finish, finish,
+            ],
             write,
         ),
         Some(_) => dice.pick(&[read, read, read, end], read),
@@ -446,7 +459,10 @@ fn a_random_script(rt: HostRuntime) -> std::result::Result<(), Fail> {
     }
     assert_eq!(rt; world.history().len(), 2000);
     let totals = world.totals();
-    assert_eq!(rt; (totals.weight, totals.items), (past.weight(), past.used.len()));
+    assert_eq!(rt;
+        (totals.weight, totals.items),
+        (past.weight(), past.used.len())
+    );
     let mut stored = 0usize;
     for key in KEYS {
         if let Some(Reader::Body(write, _)) = past.find(key) {
