@@ -17,7 +17,7 @@ use Rattle.pcache_evict.specs.declared.eviction.entry_key.CacheEntryKey.TheVaria
 use Rattle.pcache_evict.specs.Entry.{entry_cmp, entries_total}
 use Rattle.pcache_evict.specs.Tracked.{Tracked, Limits, IsWithin, weight}
 use Rattle.pcache_evict.proofs.EntryOrder.{exact_entries}
-use Rattle.pcache_store.specs.Purge.{compact_slot}
+use Rattle.pcache_base.specs.CompactKey.{compact_slot}
 use Rattle.pcache_store.specs.Store.{Stored}
 use Rattle.pingora_cache.specs.declared.world.entry.Event.{Event}
 use Rattle.pingora_cache.specs.declared.world.entry.Event.TheVariants.{Look, Ask, Access, Begin, Wrote, Finish, Dropped, Release, LetGo, Admit, Purge, Untrack, Read}
