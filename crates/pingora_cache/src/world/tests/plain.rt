@@ -6,7 +6,7 @@ use pcache_base::error::Result;
 use std::alloc::Global;
 use std::test::Fail;
 
-const LIMIT: usize = 9;
+const LIMIT: usize = 5;
 
 const KEYS: [&str; 4] = ["a", "b", "c", "d"];
 
@@ -118,14 +118,8 @@ impl Past {
         facts.any(|fact| matches!(fact, Fact::Began(begun, of) if *begun == write && *of == key))
     }
 
-    // The earliest begun write of the key in flight that met no removal, else the body of the last
-    // finished one, where that met none.
-    fn find(&self, key: &str) -> Option<Reader> {
-        for write in 0..self.began() {
-            if self.is_untouched(write, key) && self.is_in_flight(write) {
-                return Some(Reader::Write(write, 0));
-            }
-        }
+    // The last finished write of the key, where it met no removal.
+    fn standing(&self, key: &str) -> Option<usize> {
         let mut last = None;
         for fact in &self.facts {
             match fact {
@@ -134,9 +128,21 @@ impl Past {
             }
         }
         let write = last?;
-        if !self.is_untouched(write, key) {
-            return None;
+        if self.is_untouched(write, key) {
+            Some(write)
+        } else {
+            None
         }
+    }
+
+    // The earliest begun write of the key in flight that met no removal, else the standing body.
+    fn find(&self, key: &str) -> Option<Reader> {
+        for write in 0..self.began() {
+            if self.is_untouched(write, key) && self.is_in_flight(write) {
+                return Some(Reader::Write(write, 0));
+            }
+        }
+        let write = self.standing(key)?;
         Some(Reader::Body(write, false))
     }
 
@@ -392,7 +398,7 @@ impl Dice {
 }
 
 // The next call of a request: mostly one that its phase allows, and else any.
-fn next(dice: &mut Dice, request: u64, phase: Option<CachePhase>) -> Step {
+fn next(dice: &mut Dice, request: u64, one: &Asked) -> Step {
     let key = Key(request, dice.pick(&KEYS, "a"));
     let look = Look(request);
     let found = Found(request, dice.pick(&STATUSES, HitStatus::Fresh));
@@ -416,21 +422,24 @@ fn next(dice: &mut Dice, request: u64, phase: Option<CachePhase>) -> Step {
     ) {
         return dice.pick(&any, end);
     }
-    match phase {
+    match one.phase {
         None => open,
         Some(CachePhase::Uninit) => key,
+        Some(CachePhase::CacheKey) if one.pair.is_some() => {
+            dice.pick(&[found, found, found, found, miss, look], found)
+        }
         Some(CachePhase::CacheKey) => dice.pick(
-            &[look, look, look, found, found, miss, miss, key, purge],
+            &[look, look, look, look, miss, miss, miss, key, purge],
             look,
         ),
-        Some(CachePhase::Stale) => dice.pick(&[look, found, read, miss], miss),
-        Some(CachePhase::Miss) => dice.pick(
-            &[
-                meta, begin, begin, write, write, last, read, read, finish, finish,
-            ],
+        Some(CachePhase::Stale) => dice.pick(&[look, found, read, miss, end], miss),
+        Some(CachePhase::Miss) if one.write.is_some() => dice.pick(
+            &[write, write, last, read, read, finish, finish, end],
             write,
         ),
-        Some(_) => dice.pick(&[read, read, read, end], read),
+        Some(CachePhase::Miss) if one.has_meta => dice.pick(&[begin, begin, begin, read, end], end),
+        Some(CachePhase::Miss) => meta,
+        Some(_) => dice.pick(&[read, read, end], read),
     }
 }
 
@@ -451,7 +460,7 @@ fn a_random_script(rt: HostRuntime) -> std::result::Result<(), Fail> {
             continue;
         };
         let request = u64::try_from(place).unwrap_or(0);
-        let step = next(&mut dice, request, one.phase);
+        let step = next(&mut dice, request, one);
         let wanted = past.answer(one, step)?;
         let reply = world.step(call_of(alloc, step)?)?;
         let told = format!(in alloc; "{reply:?}")?;
@@ -463,12 +472,15 @@ fn a_random_script(rt: HostRuntime) -> std::result::Result<(), Fail> {
         (totals.weight, totals.items),
         (past.weight(), past.used.len())
     );
-    let mut stored = 0usize;
+    let mut stored = 0u128;
+    let mut slots = 0usize;
     for key in KEYS {
-        if let Some(Reader::Body(write, _)) = past.find(key) {
-            stored = stored.saturating_add(past.body(write)?.len());
+        if let Some(write) = past.standing(key) {
+            let size = u128::try_from(past.body(write)?.len()).unwrap_or(0);
+            stored = stored.saturating_add(size);
+            slots = slots.saturating_add(1);
         }
     }
-    assert!(rt; u128::try_from(stored).unwrap_or(0) <= world.stored_bytes());
+    assert_eq!(rt; (world.stored_bytes(), world.slots()), (stored, slots));
     Ok(())
 }
