@@ -1,0 +1,21 @@
+#!/bin/sh
+# The nanoseconds of a lock and release pair, beside 1,000 and beside 100,000 keys whose permits wait. The program is proved
+# and built in a copy of the repository.
+set -eu
+top=$(cd "$(dirname "$0")/.." && pwd)
+copy=$(mktemp -d)
+trap 'rm -rf "$copy"' EXIT
+cp -r "$top" "$copy/repository"
+cd "$copy/repository"
+mkdir -p crates/lock_pairs/src crates/lock_pairs/proofs/measure
+cp bench/lock_pairs.rt.txt crates/lock_pairs/src/main.rt
+cat >crates/lock_pairs/proofs/measure/Invariants.antt <<'PROOF'
+use Rattle.std.specs.Vec.{vec_len}
+use Rattle.lock_pairs.proofs.measure.Given as goal
+
+abbrev pub decreases-loop-permit : goal.decreases-loop-permit
+decreases-loop-permit l = vec_len l.permits
+PROOF
+echo 'lock_pairs: pcache_base pcache_lock' >>crates.txt
+(cd crates/lock_pairs && rt run | grep '^keys=')
+echo "cores=$(nproc)"
