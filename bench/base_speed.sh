@@ -1,0 +1,23 @@
+#!/bin/sh
+# Bytes a second of the hash, beside those of python's hashlib in the same run, and nanoseconds of writing and reading a meta.
+# The program is proved and built in a copy of the repository.
+set -eu
+top=$(cd "$(dirname "$0")/.." && pwd)
+copy=$(mktemp -d)
+trap 'rm -rf "$copy"' EXIT
+cp -r "$top" "$copy/repository"
+cd "$copy/repository"
+mkdir -p crates/base_speed/src
+cp bench/base_speed.rt.txt crates/base_speed/src/main.rt
+echo 'base_speed: pcache_base http http_header' >>crates.txt
+(cd crates/base_speed && rt run | grep -E '^(hash|meta) ')
+python3 - <<'SPEED'
+import hashlib, time
+for length, rounds in ((64, 300000), (65536, 2000)):
+    message = b"a" * length
+    start = time.perf_counter()
+    for _ in range(rounds):
+        hashlib.blake2b(message, digest_size=16).digest()
+    print(f"hashlib bytes={length} megabytes a second={length * rounds / (time.perf_counter() - start) / 1e6:.0f}")
+SPEED
+echo "cores=$(nproc)"
