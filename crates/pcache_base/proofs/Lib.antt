@@ -12,6 +12,7 @@ pub mod HeaderNames
 pub mod HeaderResults
 pub mod HeaderSpelled
 pub mod MetaExact
+pub mod MetaKeeps
 pub mod MetaMade
 pub mod MetaSpelled
 pub mod Order

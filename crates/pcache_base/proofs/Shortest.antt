@@ -1,10 +1,13 @@
--- No spelling of a number, of an array's head, of a text or of a hash is shorter than the one that is written.
-use Rattle.std.proofs.Common.{◌≡◌, ℕ, ◌+◌, ◌^◌, ◌<◌, ◌≤◌, ltb, List, [], ◌∷◌, ◌++◌, length, refl, ap, arith, inl, inr, length-append}
+-- No spelling of a number, of an array's head, of a text, of a hash or of a moment is shorter than the one that is
+-- written.
+use Rattle.std.proofs.Common.{◌≡◌, ℕ, ◌+◌, ◌/◌, ◌%◌, ◌^◌, ◌<◌, ◌≤◌, ltb, List, [], ◌∷◌, ◌++◌, length, refl, ap, arith, inl, inr, length-append}
 use Rattle.std.specs.List.{flat_map}
 use Rattle.std.proofs.lemmas.Bool.{ltb-false}
 use Rattle.std.proofs.lemmas.List.Concat.{flat_map-cons}
 use Rattle.pcache_base.specs.Spelling.{NumberForm, number_limit, number_text, NumberThen, ArrayForm, array_limit, array_text, ArrayThen, TextForm, text_limit, text_head, TextThen, BytesThen, HashThen}
 use Rattle.pcache_base.specs.Spelling as spell
+use Rattle.pcache_base.specs.MetaSpelling.{MomentThen}
+use Rattle.pcache_base.specs.MetaWriting.{moment_written}
 use Rattle.pcache_base.specs.Writing.{shortest_number, number_written, shortest_array, array_written, shortest_text, text_head_written, text_written, hash_written}
 use Rattle.pcache_base.proofs.Exact.{chosen}
 
@@ -115,3 +118,21 @@ hash_shortest bytes hash rest t =
       array_shortest bytes 16 t.items t.head,
       each_shortest t.items hash rest t.each,
     )
+
+-- ---- moments
+
+pub moment_shortest : (bytes : List ℕ) (m : ℕ) (rest : List ℕ) → MomentThen bytes m rest → length (moment_written m) + length rest ≤ length bytes
+unfolding moment_written
+moment_shortest bytes m rest t =
+    let secs : t.secs ≡ m / 1000000000 = omega (arith, t.moment, t.in_second) in
+    let nanos : t.nanos ≡ m % 1000000000 = omega (arith, t.moment, t.in_second) in
+    let first = ap (λ (n : ℕ). length (number_written n)) secs in
+    let second = ap (λ (n : ℕ). length (number_written n)) nanos in
+    simp length-append (omega (
+      arith,
+      first,
+      second,
+      array_shortest bytes 2 t.items t.head,
+      number_shortest t.items t.secs t.later t.first,
+      number_shortest t.later t.nanos rest t.second,
+    ))

@@ -1,11 +1,11 @@
 -- A tree's entries as a finite map from byte lists.
-use Rattle.std.proofs.Common.{◌≡◌, ℕ, List, [], ◌∷◌, Option, Some, None, cond, length, ap, sym, refl, ◌∙◌, Bool, true, false, ◌&&◌, T, subst}
+use Rattle.std.proofs.Common.{◌≡◌, ℕ, List, [], ◌∷◌, Some, cond, length, ap, sym, refl, ◌∙◌, Bool, true, false, ◌&&◌, T, subst}
 use Rattle.std.specs.Ordering.{nat_cmp, is_lt}
-use Rattle.std.specs.Cmp.{nat_cmp_total, eq_by_cmp_equiv, IsTotalOrder}
+use Rattle.std.specs.Cmp.{eq_by_cmp_equiv}
 use Rattle.std.specs.Cmp.Lexicographic.{slice_cmp, nat_list_cmp_total}
 use Rattle.std.specs.BTreeMap.{is_at}
 use Rattle.std.specs.Map.{lookup, keys_of}
-use Rattle.std.specs.FinMap.{FinMap, from_entries, get, insert, len, find, get-from_entries, get-insert, same_map, entries, from_sorted, get-from_sorted, entries-from_sorted, len-entries, IsAntisymmetric, nat_cmp-IsAntisymmetric, slice_cmp-IsAntisymmetric}
+use Rattle.std.specs.FinMap.{from_entries, get, insert, len, find, get-from_entries, get-insert, same_map, entries, from_sorted, get-from_sorted, entries-from_sorted, len-entries, IsAntisymmetric, nat_cmp-IsAntisymmetric, slice_cmp-IsAntisymmetric}
 use Rattle.std.specs.FinMap.Entries.{is_sorted, below_all}
 use Rattle.std.specs.List.{AllByRecursion}
 use Rattle.std.specs.List.Sorted.{IsStrictlySortedBy}

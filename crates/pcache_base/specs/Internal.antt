@@ -1,6 +1,7 @@
 -- What a meta says beside its head (moments are nanoseconds since the epoch, windows are seconds), and what became of
 -- older versions (own).
 use Rattle.std.specs.Prelude.{ℕ, List, Option, None}
+use Rattle.pcache_base.specs.Header.{Header}
 use Rattle.pcache_base.specs.Meta.{Meta}
 
 pub record Internal : Type 0 where
@@ -44,6 +45,20 @@ internal_of m = record {
   variance = m.variance;
   epoch_override = m.epoch_override;
   provenance = m.provenance;
+}
+
+-- a meta of what it says beside its head, and its head
+abbrev pub with_header : Internal → Header → Meta
+with_header x h = record {
+  fresh_until = x.fresh_until;
+  created = x.created;
+  updated = x.updated;
+  stale_while_revalidate = x.stale_while_revalidate;
+  stale_if_error = x.stale_if_error;
+  variance = x.variance;
+  epoch_override = x.epoch_override;
+  provenance = x.provenance;
+  header = h;
 }
 
 -- made, updated and stale at the epoch, with nothing more

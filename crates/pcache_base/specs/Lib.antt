@@ -10,6 +10,7 @@ pub mod InternalParts
 pub mod Key
 pub mod Meta
 pub mod MetaBytes
+pub mod MetaKept
 pub mod MetaReading
 pub mod MetaSpelling
 pub mod MetaWriting
@@ -18,6 +19,7 @@ pub mod Moments
 pub mod Reading
 pub mod Reasons
 pub mod Variance
+pub mod Shortest
 pub mod Totals
 pub mod Spelling
 pub mod Writing

@@ -8,7 +8,8 @@
 //! - `key`: cache keys and their hashes; `blake2b`: the hash behind them
 //! - `reason`: why a response is not cached; `fills`: fills that a request cannot use
 //! - `header`: heads of requests and responses; `header_text`: heads of responses as text
-//! - `meta`: what is known of a stored response; `meta::codec`: that as bytes
+//! - `meta`: what is known of a stored response; `meta::codec`: that as bytes; `meta::spelled`: a meta
+//!   kept as bytes
 //! - `msgpack`: the few forms of MessagePack in which metas and files are written
 
 pub mod blake2b;

@@ -7,6 +7,7 @@ ghost use Rattle.pcache_base.specs.declared.error.ErrorType.TheVariants.{OutOfMe
 
 pub mod codec;
 pub mod internal_meta;
+pub mod spelled;
 
 use crate::error::Result;
 use crate::header::ResponseHeader;

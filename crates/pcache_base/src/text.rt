@@ -51,9 +51,7 @@ impl Text {
         ensures ok { IfOk result (λ copy. copy ≡ self.now) }
         ensures kind { IfErr result (λ e. e ≡ OutOfMemory) }
     {
-        Ok(Text {
-            text: self.text.clone()?,
-        })
+        Ok(Text::new(self.text.clone()?))
     }
 }
 

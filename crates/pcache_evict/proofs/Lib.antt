@@ -3,6 +3,7 @@ pub mod ShardLists
 pub mod TableMaps
 pub mod EntryOrder
 pub mod Recency
+pub mod Seats
 pub mod Walks
 pub mod Evictions
 pub mod Maps

@@ -1,6 +1,9 @@
 -- Keys in shards (own): the shard of a key is the key modulo the number of shards.
 use Rattle.std.specs.Prelude.{ℕ, ◌≡◌, ◌%◌, ◌==◌, ◌++◌, refl, Some, None, List, [], ◌∷◌, slice_get, Contains, nat_eq, map, slice_index_or}
-use Rattle.std.specs.List.{range_with_len}
+use Rattle.std.specs.List.{FoldsTo, range_with_len}
+use Rattle.std.specs.Fn.{Called}
+use denote.Ref.{Bor}
+use denote.Param.Members.{Mut}
 use Rattle.std.specs.Coded.{Coded, code_by, coded×, coded_list, coded_ℕ}
 use Rattle.std.specs.Ordering.{nat_cmp}
 use Rattle.std.specs.Map.{remove_entry}
@@ -74,3 +77,27 @@ list_at ps place = slice_index_or ps place (record { place = place; cap = 1; ent
 -- so many empty ones
 abbrev pub fresh_lists : {V : Type 0} → ℕ → ℕ → List (LruPart V)
 fresh_lists shards cap = map (λ place. record { place = place; cap = cap; entries = [] }) (range_with_len 0 shards)
+
+-- what a contract sees of the lock of such a shard: its place, and how many keys the shard may have
+pub record Seat : Type 0 where
+  pub place : ℕ
+  pub cap : ℕ
+
+-- the locks of so many of them
+abbrev pub seats : ℕ → ℕ → List Seat
+seats shards cap = map (λ place. record { place = place; cap = cap }) (range_with_len 0 shards)
+
+-- a call of f at a key and its value, both of them lent, may leave f'
+pub record CalledAtEntry {F V : Type 0} (g : Mut F (Bor ℕ × (Bor V × Unit {0})) (Unit {0})) (f : F) (entry : ℕ × V) (f' : F) : Type 0 where
+  pub key : Bor ℕ
+  pub value : Bor V
+  pub shows : (key.now ≡ entry.0) × (value.now ≡ entry.1)
+  pub called : Called g f (key, (value, tt)) tt f'
+
+-- calls of f at the entries of a shard, each once, in the order of their keys; the shard has no keys but its own
+abbrev pub Visits : {F V : Type 0} → Mut F (Bor ℕ × (Bor V × Unit {0})) (Unit {0}) → ℕ → F → Part V → F → Type 0
+Visits g shards f p f' = Belongs shards p.place p.map × FoldsTo (CalledAtEntry g) f (entries p.map) f'
+
+-- and so one shard after another, in the order of their places
+abbrev pub VisitsEach : {F V : Type 0} → Mut F (Bor ℕ × (Bor V × Unit {0})) (Unit {0}) → ℕ → F → Type 0
+VisitsEach {F} {V} g shards f = (ps : List (Part V)) × (last : F) × (map (λ p. p.place) ps ≡ range_with_len 0 shards) × FoldsTo (Visits g shards) f ps last

@@ -4,17 +4,21 @@ ghost use Rattle.std.specs.FinMap as map;
 ghost use Rattle.pcache_evict.specs.Sharding.{Part, part_of};
 
 pub mod concurrent;
+pub mod lru_lock;
 pub mod lru_shard;
 pub mod lru_shards;
 pub mod shard;
+pub mod shard_lock;
 pub mod table;
 #[cfg(test)]
 mod tests;
 
 pub use concurrent::{ConcurrentHashTable, ConcurrentLruCache};
+pub use lru_lock::LruLock;
 pub use lru_shard::LruShard;
 pub use lru_shards::LruShards;
 pub use shard::Shard;
+pub use shard_lock::ShardLock;
 use std::alloc::{AllocFailed, Global};
 use std::marker::{Model, PhantomData};
 pub use table::Table;

@@ -25,6 +25,7 @@ pub use miss::MemMissHandler;
 use pcache_base::error::{Error, ErrorType, Result};
 use pcache_base::key::{CacheHashKey, CacheKey};
 use pcache_base::meta::CacheMeta;
+use pcache_base::meta::spelled::SpelledMeta;
 use pcache_base::moment::Moment;
 use pcache_evict::eviction::CacheEntryKey;
 use slots::Slots;
@@ -35,7 +36,7 @@ use std::marker::Model;
 ///
 /// A contract sees what stands under each key and each write that somebody names. Look-ups, writes
 /// and removals take time in the logarithm of the number of keys and of writes; a complete body is
-/// shared by all that read it.
+/// shared by all that read it. Metas are kept as the bytes that spell them, and read back at look-ups.
 #[derive(Drop)]
 pub struct MemCache {
     alloc: Global,
@@ -96,13 +97,13 @@ impl MemCache {
     ghost use Rattle.pcache_store.specs.Readers.{reader_of};
 
     // A reader more of a write, from its beginning, and its meta.
-    fn follow(&mut self, number: u128) -> Result<Option<(CacheMeta, MemHitHandler)>>
+    fn follow(&mut self, alloc: Global, number: u128) -> Result<Option<(CacheMeta, MemHitHandler)>>
         ensures found { IfOk result (λ r. option_map (λ p. (p.0, reader_of p.1)) r ≡ found_part number (map.get self.old.writes number)) }
         ensures ok { OnOk result (self.new ≡ joined self.old number) }
         ensures kind { IfErr result (λ e. e ≡ OutOfMemory) }
         ensures err { OnErr result (self.new ≡ self.old) }
     {
-        match self.drafts.join(number) {
+        match self.drafts.join(alloc, number) {
             Ok(Some(meta)) => Ok(Some((meta, MemHitHandler::Partial(PartialHit::new(number))))),
             Ok(None) => Ok(None),
             Err(refused) => Err(refused),
@@ -150,7 +151,8 @@ impl MemCache {
             self.drop_write(number);
             return Err(Error::new(ErrorType::WriteRemoved));
         }
-        match self.drafts.end(number) {
+        let alloc = self.alloc;
+        match self.drafts.end(alloc, number) {
             Ok(body) => {
                 let size = body.len();
                 self.slots.store(slot, number, body);
@@ -209,25 +211,25 @@ impl Storage for MemCache {
 
     fn lookup(
         &mut self,
-        _alloc: Global,
+        alloc: Global,
         key: &CacheKey,
     ) -> Result<Option<(CacheMeta, MemHitHandler)>> {
         let Some(slot) = self.slots.get(key.slot()) else {
             return Ok(None);
         };
         if let Some(number) = slot.least() {
-            return self.follow(number);
+            return self.follow(alloc, number);
         }
         let Some(body) = slot.body() else {
             return Ok(None);
         };
-        let (meta, bytes) = body.shared()?;
+        let (meta, bytes) = body.shared(alloc)?;
         Ok(Some((meta, MemHitHandler::Complete(CompleteHit::new(bytes)))))
     }
 
     fn lookup_streaming_write(
         &mut self,
-        _alloc: Global,
+        alloc: Global,
         key: &CacheKey,
         streaming_write_tag: Option<&[u8]>,
     ) -> Result<Option<(CacheMeta, MemHitHandler)>> {
@@ -240,7 +242,7 @@ impl Storage for MemCache {
         if !draft.is_flying() || draft.slot() != key.slot() {
             return Ok(None);
         }
-        self.follow(number)
+        self.follow(alloc, number)
     }
 
     fn get_miss_handler(
@@ -253,7 +255,7 @@ impl Storage for MemCache {
             return Err(Error::new(ErrorType::NumbersExhausted));
         };
         let slot = key.slot();
-        let draft = Draft::new(alloc, slot, meta.copied()?);
+        let draft = Draft::new(alloc, slot, SpelledMeta::new(alloc, meta)?);
         self.drafts.begin(draft)?;
         if let Err(refused) = self.slots.open(alloc, slot, number as u128) {
             self.drafts.take_back();
@@ -276,22 +278,22 @@ impl Storage for MemCache {
 
     fn expire(
         &mut self,
-        _alloc: Global,
+        alloc: Global,
         target: PurgeTarget<'_>,
         now: Moment,
     ) -> Result<PurgeOutcome> {
         let Some(slot) = slot_of(target) else {
             return Ok(PurgeOutcome::NotFound);
         };
-        if self.slots.expire(slot, now) {
+        if self.slots.expire(alloc, slot, now)? {
             Ok(PurgeOutcome::Expired)
         } else {
             Ok(PurgeOutcome::NotFound)
         }
     }
 
-    fn update_meta(&mut self, _alloc: Global, key: &CacheKey, meta: &CacheMeta) -> Result<bool> {
-        let meta = meta.copied()?;
+    fn update_meta(&mut self, alloc: Global, key: &CacheKey, meta: &CacheMeta) -> Result<bool> {
+        let meta = SpelledMeta::new(alloc, meta)?;
         Ok(self.slots.set_meta(key.slot(), meta))
     }
 

@@ -6,7 +6,6 @@ use Rattle.std.specs.List.{AllByRecursion, IsDistinct, list_any, sum_by}
 use Rattle.std.specs.Ordering.{nat_cmp, eq_by_cmp}
 use Rattle.std.specs.FinMap as map
 use Rattle.std.proofs.lemmas.Bool.{eqb-true, eq-eqb, both_ways, or_parts}
-use Rattle.std.proofs.lemmas.Bool.Decides.{nat_tests}
 use Rattle.std.proofs.lemmas.List.Sums.{sum_by-cons, sum_by-le-sum_by}
 use Rattle.std.proofs.lemmas.Map.Keys.{IsDistinct-cons}
 use Rattle.pcache_base.specs.Meta.{Meta}
@@ -26,9 +25,7 @@ use Rattle.pingora_cache.specs.Sound.{IsTidy, IsExact, IsBounded, standing_entry
 use Rattle.pingora_cache.proofs.Steps.{complete-wrote, complete-begin, complete-purge, complete-finish, body_with}
 use Rattle.pingora_cache.proofs.Tidy.{tidy-finish}
 use Rattle.pingora_cache.proofs.Exact.{apart, standing-names, exact-admit}
-
-pub cmp_same : (q w : ℕ) → eq_by_cmp nat_cmp q w ≡ (w == q)
-cmp_same q w = grind (arith, nat_tests)
+use Rattle.pingora_cache.proofs.Sums.{cmp_same}
 
 -- The keys of finished writes are each there once.
 

@@ -50,10 +50,6 @@ mine-began : (es : List Event) (w : ℕ) (q : Option Held) → IsMine es w q →
 mine-began es w None p = absurd p
 mine-began es w (Some x) p = ap is_some p.4
 
-mine-live : (es : List Event) (w : ℕ) (q : Option Held) → IsMine es w q → has_ended w es ≡ false
-mine-live es w None p = absurd p
-mine-live es w (Some x) p = p.5
-
 -- One request moves.
 
 abbrev pub set : ℕ → Option Held → (ℕ → Option Held) → ℕ → Option Held
@@ -211,7 +207,7 @@ step_held limits start es n now all events (undoes w key held is has whole none)
     after (λ xs. IsHeld xs (set n now all)) es events (E.Finish w true ∷ release_of held ++ E.Purge (slot key) ∷ []) is
     (held-ended es (reverse (E.Finish w true ∷ release_of held ++ E.Purge (slot key) ∷ []) ++ es) n w now all
     (after-two (IsEnd w es) held (E.Finish w true) (E.Purge (slot key)) es (λ x. (refl, refl)) (λ p x. (refl, refl))) (has-keyed (all n) w key has) none k)
-step_held limits start es n now all events (refuses w held is has none) t k =
+step_held limits start es n now all events (refuses w held is has gone none) t k =
     after (λ xs. IsHeld xs (set n now all)) es events (E.Finish w false ∷ release_of held) is
     (held-ended es (reverse (E.Finish w false ∷ release_of held) ++ es) n w now all (after-one (IsEnd w es) (quiet-end w es) (E.Finish w false) (release_of held) es (quiet-release held) (λ x. (refl, refl))) has none k)
 step_held limits start es n now all events (drops w rest is quiet has none) t k =

@@ -1,7 +1,7 @@
 -- What holds of every legal history.
-use Rattle.std.proofs.Common.{◌≡◌, ℕ, Bool, true, false, not, ◌==◌, if◌then◌else◌, Option, None, Some, is_some, List, [], ◌∷◌, ◌++◌, refl, ap, sym, subst, length, reverse, inl, inr}
+use Rattle.std.proofs.Common.{◌≡◌, ℕ, Bool, true, false, not, ◌==◌, if◌then◌else◌, Option, None, Some, is_some, List, [], ◌∷◌, ◌++◌, refl, ap, sym, subst, ◌↔◌, length, reverse, inl, inr}
 use Rattle.std.specs.Option.{option_and_then}
-use Rattle.std.proofs.lemmas.Bool.{eqb-true, eq-eqb, and_parts, and_from, both_ways}
+use Rattle.std.proofs.lemmas.Bool.{eqb-true, eq-eqb, and_parts, and_from, both_ways, not-true}
 use Rattle.pcache_base.specs.Key.{Key, slot}
 use Rattle.pcache_base.specs.Meta.{Meta}
 use Rattle.pcache_evict.specs.Tracked.{Tracked, Limits}
@@ -15,12 +15,12 @@ use Rattle.pingora_cache.specs.Events.{begun, begin_of, names_slot, is_removed, 
 use Rattle.pingora_cache.specs.Held.{Held, number_of, row, request_of}
 use Rattle.pingora_cache.specs.Legal.{events_of, release_of, IsLegal}
 use Rattle.pingora_cache.specs.Sound.{IsTidy, IsExact, IsBounded}
-use Rattle.pingora_cache.specs.Headline.{HasUntouched, FindsExactly, ReadsTheLast, IsWithinLimits}
+use Rattle.pingora_cache.specs.Headline.{HasUntouched, FindsExactly, FinishesExactly, ReadsTheLast, IsWithinLimits}
 use Rattle.pingora_cache.proofs.Steps.{unless_removed, body_with}
 use Rattle.pingora_cache.proofs.Tidy.{tidy-none, tidy-begin, tidy-wrote, tidy-finish, tidy-refused, tidy-dropped, tidy-purge, tidy-admit, tidy-untrack, tidy-release}
 use Rattle.pingora_cache.proofs.Exact.{exact-none, exact-begin, exact-wrote, exact-purge, exact-purge_untrack, exact-admit, exact-admit_released, exact-undone, exact-undone_released}
 use Rattle.pingora_cache.proofs.Bound.{bound-none, bound-begin, bound-wrote, bound-purge, bound-admit, bound-admit_released, bound-undone, bound-undone_released}
-use Rattle.pingora_cache.proofs.Moves.{Has, Move, stays, begins, writes, stores, undoes, refuses, drops, purges, clears, quiet-release, move}
+use Rattle.pingora_cache.proofs.Moves.{Has, Move, stays, begins, writes, stores, undoes, refuses, drops, purges, clears, AreQuiet, quiet-release, move}
 use Rattle.pingora_cache.proofs.Runs.{after, after-quiet, after-one, after-two, tidy-quiet, exact-quiet, bound-quiet}
 use Rattle.pingora_cache.proofs.Holds.{IsMine, IsHeld, mine-flies, mine-begun, has-keyed, set, step_held}
 
@@ -56,7 +56,7 @@ step_tidy limits start es q now events (undoes w k held is has whole none) mine 
     let done = tidy-finish es w (slot k) b.0 b.1 whole fly t in
     after IsTidy es events (E.Finish w true ∷ release_of held ++ E.Purge (slot k) ∷ []) is
     (after-two IsTidy held (E.Finish w true) (E.Purge (slot k)) es (tidy-purge (E.Finish w true ∷ es) (slot k) done) (λ n. tidy-purge (E.Release n ∷ E.Finish w true ∷ es) (slot k) (tidy-release (E.Finish w true ∷ es) n done)))
-step_tidy limits start es q now events (refuses w held is has none) mine t =
+step_tidy limits start es q now events (refuses w held is has gone none) mine t =
     after IsTidy es events (E.Finish w false ∷ release_of held) is (after-one IsTidy tidy-quiet (E.Finish w false) (release_of held) es (quiet-release held) (tidy-refused es w (flight es w q mine has) t))
 step_tidy limits start es q now events (drops w rest is quiet has none) mine t =
     after IsTidy es events (E.Dropped w ∷ rest) is (after-one IsTidy tidy-quiet (E.Dropped w) rest es quiet (tidy-dropped es w (flight es w q mine has) t))
@@ -82,7 +82,7 @@ step_exact limits start es q now events (undoes w k held is has whole none) mine
     let b = mine-begun es w q k has (mine w (has-keyed q w k has)) in
     after (IsExact start) es events (E.Finish w true ∷ release_of held ++ E.Purge (slot k) ∷ []) is
     (after-two (IsExact start) held (E.Finish w true) (E.Purge (slot k)) es (exact-undone start es w (slot k) b.0 t fly b.1 whole ex) (λ n. exact-undone_released start es w (slot k) b.0 n t fly b.1 whole ex))
-step_exact limits start es q now events (refuses w held is has none) mine t ex =
+step_exact limits start es q now events (refuses w held is has gone none) mine t ex =
     after (IsExact start) es events (E.Finish w false ∷ release_of held) is (after-one (IsExact start) (exact-quiet start) (E.Finish w false) (release_of held) es (quiet-release held) ex)
 step_exact limits start es q now events (drops w rest is quiet has none) mine t ex =
     after (IsExact start) es events (E.Dropped w ∷ rest) is (after-one (IsExact start) (exact-quiet start) (E.Dropped w) rest es quiet ex)
@@ -109,7 +109,7 @@ step_bounded limits start es q now events (undoes w k held is has whole none) mi
     let a = mine-begun es w q k has (mine w (has-keyed q w k has)) in
     after (IsBounded limits) es events (E.Finish w true ∷ release_of held ++ E.Purge (slot k) ∷ []) is
     (after-two (IsBounded limits) held (E.Finish w true) (E.Purge (slot k)) es (bound-undone limits es w (slot k) a.0 t fly a.1 whole b) (λ n. bound-undone_released limits es w (slot k) a.0 n t fly a.1 whole b))
-step_bounded limits start es q now events (refuses w held is has none) mine t ex b =
+step_bounded limits start es q now events (refuses w held is has gone none) mine t ex b =
     after (IsBounded limits) es events (E.Finish w false ∷ release_of held) is
     (after-one (IsBounded limits) (bound-quiet limits) (E.Finish w false) (release_of held) es (quiet-release held) (record { bytes = b.bytes; count = b.count }))
 step_bounded limits start es q now events (drops w rest is quiet has none) mine t ex b =
@@ -159,9 +159,6 @@ legal_kept limits start (e ∷ h) l =
 pub legal_tidy : (limits : Limits) (start : Tracked) (h : List Entry) → IsLegal limits start h → IsTidy (events_of h)
 legal_tidy limits start h l = (legal_kept limits start h l).tidy
 
-pub legal_exact : (limits : Limits) (start : Tracked) (h : List Entry) → IsLegal limits start h → IsExact start (events_of h)
-legal_exact limits start h l = (legal_kept limits start h l).exact
-
 pub legal_bounded : (limits : Limits) (start : Tracked) (h : List Entry) → IsLegal limits start h → IsBounded limits (events_of h)
 legal_bounded limits start h l = (legal_kept limits start h l).bounded
 
@@ -170,18 +167,6 @@ pub legal_mine : (limits : Limits) (start : Tracked) (h : List Entry) (r w : ℕ
 legal_mine limits start h r w x l is write =
     subst (IsMine (events_of h) w) is ((legal_kept limits start h l).held.mine r w (subst (λ q. Has q w) (sym is) write))
 
-pub legal_flies : (limits : Limits) (start : Tracked) (h : List Entry) (r w : ℕ) (x : Held) → IsLegal limits start h → request_of r h ≡ Some x → x.request.write ≡ Some w → in_flight w (events_of h) ≡ true
-legal_flies limits start h r w x l is write = mine-flies (events_of h) w (Some x) (legal_mine limits start h r w x l is write)
-
--- two requests hold no write together
-pub legal_only : (limits : Limits) (start : Tracked) (h : List Entry) (r s w : ℕ) (x y : Held) → IsLegal limits start h → request_of r h ≡ Some x → x.request.write ≡ Some w → request_of s h ≡ Some y → y.request.write ≡ Some w → r ≡ s
-legal_only limits start h r s w x y l a xw b yw =
-    (legal_kept limits start h l).held.only r s w (subst (λ q. Has q w) (sym a) xw) (subst (λ q. Has q w) (sym b) yw)
-
--- each write in flight is held by a request
-pub legal_some : (limits : Limits) (start : Tracked) (h : List Entry) (w : ℕ) → IsLegal limits start h → in_flight w (events_of h) ≡ true → (r : ℕ) × Has (request_of r h) w
-legal_some limits start h w l fly = (legal_kept limits start h l).held.some w fly
-
 -- The three laws.
 
 -- a write that serves is untouched
@@ -189,7 +174,7 @@ opened : (k w : ℕ) (es : List Event) → is_open k w es ≡ true → HasUntouc
 opened k w es h =
     let p = and_parts _ _ h in
     let q = and_parts _ _ p.1 in
-    (w, p.0, inl q.0, elim (is_removed w es) as (λ b. not b ≡ true → b ≡ false) [ true ↦ λ x. cc | false ↦ λ _. refl ] q.1)
+    (w, p.0, inl q.0, not-true _ q.1)
 
 stands_as : (b : Bool) (o : Option (ℕ × Meta)) (body : List ℕ) (x : Stored) → unless_removed b o body ≡ Some x → (b ≡ false) × (x.bytes ≡ body)
 stands_as true o body x h = absurd (cc)
@@ -228,3 +213,44 @@ reads_the_last limits start before k m body legal f = stands_last k (events_of b
 
 pub is_within_limits : IsWithinLimits
 is_within_limits limits start before legal = let b = legal_bounded limits start before legal in (b.bytes, b.count)
+
+-- The end of a write.
+
+-- the write and the outcome that a first event tells
+abbrev finished_in : List Event → Option (ℕ × Bool)
+finished_in (E.Finish w b ∷ rest) = Some (w, b)
+finished_in _ = None
+
+-- of a finish, the outcome is that of the removals
+abbrev IsTrueOf : List Event → Option (ℕ × Bool) → Type 0
+IsTrueOf es None = Unit {0}
+IsTrueOf es (Some p) = not (is_removed p.0 es) ≡ p.1
+
+-- events that are quiet, and those of a permit that is released, finish nothing
+quiet-true : (es events : List Event) → AreQuiet events → IsTrueOf es (finished_in events)
+quiet-true es [] q = tt
+quiet-true es (E.Finish w b ∷ rest) q = absurd q.0
+quiet-true es (e ∷ rest) q = tt
+
+move-true : (limits : Limits) (start : Tracked) (es : List Event) (q now : Option Held) (events : List Event) → Move limits start es q now events → IsTrueOf es (finished_in events)
+move-true limits start es q now events (stays quiet keeps) = quiet-true es events quiet
+move-true limits start es q now events (begins k m held is free new) = subst (λ xs. IsTrueOf es (finished_in xs)) (sym is) tt
+move-true limits start es q now events (writes w bytes eof is has keeps) = subst (λ xs. IsTrueOf es (finished_in xs)) (sym is) tt
+move-true limits start es q now events (stores w k held out is has whole fair none) = subst (λ xs. IsTrueOf es (finished_in xs)) (sym is) (ap not whole)
+move-true limits start es q now events (undoes w k held is has whole none) = subst (λ xs. IsTrueOf es (finished_in xs)) (sym is) (ap not whole)
+move-true limits start es q now events (refuses w held is has gone none) = subst (λ xs. IsTrueOf es (finished_in xs)) (sym is) (ap not gone)
+move-true limits start es q now events (drops w rest is quiet has none) = subst (λ xs. IsTrueOf es (finished_in xs)) (sym is) tt
+move-true limits start es q now events (purges k is keeps) = subst (λ xs. IsTrueOf es (finished_in xs)) (sym is) tt
+move-true limits start es q now events (clears k is keeps) = subst (λ xs. IsTrueOf es (finished_in xs)) (sym is) tt
+
+opposite : (removed stored : Bool) → not removed ≡ stored → (stored ≡ true) ↔ (removed ≡ false)
+opposite true stored h = (λ t. absurd (both_ways stored (sym h) t), λ f. absurd (both_ways true f refl))
+opposite false stored h = (λ _. refl, λ _. sym h)
+
+pub finishes_exactly : FinishesExactly
+finishes_exactly limits start before entry w stored rest l is =
+    let n = number_of entry.call in
+    let q = request_of n before in
+    let es = events_of before in
+    let m = move limits start es entry.call q entry.reply entry.events l.0 in
+    opposite (is_removed w es) stored (subst (λ xs. IsTrueOf es (finished_in xs)) is (move-true limits start es q _ entry.events m))

@@ -1,9 +1,10 @@
 -- What a call can do: by which events, and to the write of its request.
 use Rattle.std.proofs.Common.{◌≡◌, ℕ, Bool, true, false, not, if◌then◌else◌, Option, None, Some, List, [], ◌∷◌, ◌++◌, refl, sym, subst, ◌∙◌, length, inl, inr, ◌⊎◌}
 use Rattle.std.specs.FinMap as map
+use Rattle.std.proofs.lemmas.Bool.{not-true, not-false}
 use Rattle.pcache_base.specs.Key.{Key, slot}
 use Rattle.pcache_base.specs.Meta.{Meta}
-use Rattle.pcache_base.specs.declared.error.ErrorType.TheVariants.{OutOfMemory, WriteRemoved, NumbersExhausted}
+use Rattle.pcache_base.specs.declared.error.ErrorType.TheVariants.{OutOfMemory, WriteRemoved}
 use Rattle.pcache_evict.specs.declared.eviction.entry_key.CacheEntryKey.{CacheEntryKey}
 use Rattle.pcache_evict.specs.Tracked.{Tracked, Limits, IsFair}
 use Rattle.pcache_lock.specs.declared.lock.permit.Locked.{Locked}
@@ -74,7 +75,7 @@ pub data Move (limits : Limits) (start : Tracked) (es : List Event) (q now : Opt
   stores : (w : ℕ) (k : Key) (held : Option Locked) (out : List CacheEntryKey) → events ≡ E.Finish w true ∷ release_of held ++ E.Admit (entry_of k None) (length (body_of w es)) out ∷ []
       → HasKeyed q w k → is_removed w es ≡ false → IsFair limits (map.insert (tracked start es) (entry_of k None) (length (body_of w es))) out → HasNone now → Move limits start es q now events
   undoes : (w : ℕ) (k : Key) (held : Option Locked) → events ≡ E.Finish w true ∷ release_of held ++ E.Purge (slot k) ∷ [] → HasKeyed q w k → is_removed w es ≡ false → HasNone now → Move limits start es q now events
-  refuses : (w : ℕ) (held : Option Locked) → events ≡ E.Finish w false ∷ release_of held → Has q w → HasNone now → Move limits start es q now events
+  refuses : (w : ℕ) (held : Option Locked) → events ≡ E.Finish w false ∷ release_of held → Has q w → is_removed w es ≡ true → HasNone now → Move limits start es q now events
   drops : (w : ℕ) (rest : List Event) → events ≡ E.Dropped w ∷ rest → AreQuiet rest → Has q w → HasNone now → Move limits start es q now events
   purges : (k : Key) → events ≡ E.Purge (slot k) ∷ E.Untrack (entry_of k None) ∷ [] → Keeps q now → Move limits start es q now events
   clears : (k : Key) → events ≡ E.Purge (slot k) ∷ [] → Keeps q now → Move limits start es q now events
@@ -97,7 +98,7 @@ no-miss p may f = elim (filling p f) [ inl e ↦ subst MayMiss e may | inr e ↦
 
 -- Quiet events.
 
-append-quiet : (xs ys : List Event) → AreQuiet xs → AreQuiet ys → AreQuiet (xs ++ ys)
+pub append-quiet : (xs ys : List Event) → AreQuiet xs → AreQuiet ys → AreQuiet (xs ++ ys)
 append-quiet [] ys a b = b
 append-quiet (x ∷ xs) ys a b = (a.0, append-quiet xs ys a.1 b)
 
@@ -111,36 +112,32 @@ quiet-let_go None = tt
 quiet-let_go (Some (L.Write p)) = (tt, tt)
 quiet-let_go (Some (L.Read r)) = tt
 
-quiet-asks : (b : Bool) (k : ℕ) (held : Option Locked) (more : List Event) (l : Option LockKind) → AsksIf b k held more l → AreQuiet more
+pub quiet-asks : (b : Bool) (k : ℕ) (held : Option Locked) (more : List Event) (l : Option LockKind) → AsksIf b k held more l → AreQuiet more
 quiet-asks true k held more l a = subst AreQuiet (sym a.2) (tt, quiet-let_go held)
 quiet-asks false k held more l a = subst AreQuiet (sym a.0) tt
 
-quiet-accesses : (s : HitStatus) (k : Key) (h : Reader) (x : Request) → AreQuiet (accesses s k h x)
+pub quiet-accesses : (s : HitStatus) (k : Key) (h : Reader) (x : Request) → AreQuiet (accesses s k h x)
 quiet-accesses s k h x = elim (counts_found s h x) as (λ b. AreQuiet (if b then E.Access (entry_of k None) (reader_weight h) ∷ [] else [])) [ true ↦ (tt, tt) | false ↦ tt ]
 
 -- A lock that is asked for changes nothing else.
 
-abbrev IsAlike : Request → Request → Type 0
-IsAlike x y = (y.write ≡ x.write) × (y.key ≡ x.key) × (y.phase ≡ x.phase)
+abbrev pub IsAlike : Request → Request → Type 0
+IsAlike x y = (y.write ≡ x.write) × (y.key ≡ x.key) × (y.phase ≡ x.phase) × (y.reader ≡ x.reader)
 
 given-alike : (stale : Bool) (e : Event) (x : Request) → IsAlike x (with_given stale e x)
-given-alike stale (E.Ask k n b) x = (refl, refl, refl)
-given-alike stale e x = (refl, refl, refl)
+given-alike stale (E.Ask k n b) x = (refl, refl, refl, refl)
+given-alike stale e x = (refl, refl, refl, refl)
 
-asked-alike : (stale : Bool) (es : List Event) (x : Request) → IsAlike x (asked stale es x)
-asked-alike stale [] x = (refl, refl, refl)
+pub asked-alike : (stale : Bool) (es : List Event) (x : Request) → IsAlike x (asked stale es x)
+asked-alike stale [] x = (refl, refl, refl, refl)
 asked-alike stale (e ∷ es) x =
     let a = given-alike stale e x in
     let b = asked-alike stale es (with_given stale e x) in
-    (b.0 ∙ a.0, b.1 ∙ a.1, b.2 ∙ a.2)
+    (b.0 ∙ a.0, b.1 ∙ a.1, b.2 ∙ a.2, b.3 ∙ a.3)
 
 placed-write : (s : HitStatus) (events : List Event) (x : Request) (p : Option (Meta × Reader)) → (placed_by s events x p).write ≡ x.write
 placed-write s events x None = refl
 placed-write s events x (Some p) = (asked-alike _ events x).0
-
-untouched : (b : Bool) → not b ≡ true → b ≡ false
-untouched true h = cc
-untouched false h = refl
 
 same : (x : Held) → Keeps (Some x) (Some x)
 same x = (refl, λ f. (refl, f))
@@ -185,10 +182,10 @@ module _ (limits : Limits) (start : Tracked) (es : List Event) where
   finish-move r x (Some w) reply events is (inl a) = idle (C.Finish r) (Some x) (R.Refused OutOfMemory) reply events a (refl, λ f. (refl, f))
   finish-move r x (Some w) reply events is (inr (k, key, inl (out, whole, fair, done, told))) =
       put (C.Finish r) (Some x) reply (R.Stored (length (body_of w es)) (length out)) events (E.Finish w true ∷ release_of x.request.held ++ E.Admit (entry_of k None) (length (body_of w es)) out ∷ []) told done
-      (stores w k x.request.held out refl (is, key) (untouched _ whole) fair refl)
+      (stores w k x.request.held out refl (is, key) (not-true _ whole) fair refl)
   finish-move r x (Some w) reply events is (inr (k, key, inr (inl (whole, done, told)))) =
-      put (C.Finish r) (Some x) reply (R.Refused OutOfMemory) events (E.Finish w true ∷ release_of x.request.held ++ E.Purge (slot k) ∷ []) told done (undoes w k x.request.held refl (is, key) (untouched _ whole) refl)
-  finish-move r x (Some w) reply events is (inr (k, key, inr (inr (inl (gone, done, told))))) = put (C.Finish r) (Some x) reply (R.Refused WriteRemoved) events (E.Finish w false ∷ release_of x.request.held) told done (refuses w x.request.held refl is refl)
+      put (C.Finish r) (Some x) reply (R.Refused OutOfMemory) events (E.Finish w true ∷ release_of x.request.held ++ E.Purge (slot k) ∷ []) told done (undoes w k x.request.held refl (is, key) (not-true _ whole) refl)
+  finish-move r x (Some w) reply events is (inr (k, key, inr (inr (inl (gone, done, told))))) = put (C.Finish r) (Some x) reply (R.Refused WriteRemoved) events (E.Finish w false ∷ release_of x.request.held) told done (refuses w x.request.held refl is (not-false _ gone) refl)
   finish-move r x (Some w) reply events is (inr (k, key, inr (inr (inr (done, told))))) = put (C.Finish r) (Some x) reply (R.Refused OutOfMemory) events (E.Dropped w ∷ release_of x.request.held) told done (drops w (release_of x.request.held) refl (quiet-release x.request.held) is refl)
 
   read-move : (r : ℕ) (x : Held) (reply : Reply) (events : List Event) → Reads (reads es) x.request reply events → At (C.Read r) (Some x) reply events

@@ -26,10 +26,3 @@ module _ (h : List Entry) (all : FinMap nat_cmp Held) (are : AreOpen h all) (e :
 
   pub open-remove : row e.call e.reply e.events (get all (number_of e.call)) ≡ None → AreOpen (e ∷ h) (remove all (number_of e.call))
   open-remove is = open-moved _ (λ q. get-unset all (number_of e.call) q ∙ ap (λ o. cond (number_of e.call == q) o (get all q)) (sym is))
-
-  -- a call that leaves its request as it is
-  pub open-same : row e.call e.reply e.events (get all (number_of e.call)) ≡ get all (number_of e.call) → AreOpen (e ∷ h) all
-  open-same is = open-moved all (λ q. elim (number_of e.call == q) as (λ b. (number_of e.call == q) ≡ b → get all q ≡ cond b (row e.call e.reply e.events (get all (number_of e.call))) (get all q)) [
-    | true ↦ λ t. ap (get all) (sym (eqb-true (number_of e.call) q t)) ∙ sym is
-    | false ↦ λ _. refl
-  ] refl)

@@ -1,5 +1,5 @@
 -- One more entry of a list that is purged in order.
-use Rattle.std.proofs.Common.{◌≡◌, ℕ, ◌+◌, ◌≤◌, ◌<◌, List, [], ◌∷◌, length, get_or, drop, refl, sym, ap, subst, inl, inr, arith, add-one, drop-cons, add-zero, Bool, true, false, ◌∙◌}
+use Rattle.std.proofs.Common.{◌≡◌, ℕ, ◌+◌, ◌≤◌, ◌<◌, List, ◌∷◌, length, get_or, drop, refl, sym, subst, inl, inr, arith, add-one, drop-cons, add-zero, Bool, true, false}
 use Rattle.std.proofs.Math.ListN.{drop_of_length-le}
 use Rattle.pcache_evict.specs.declared.eviction.entry_key.CacheEntryKey.{CacheEntryKey}
 use Rattle.pcache_store.specs.Store.{Store}

@@ -6,7 +6,7 @@ use Rattle.pcache_lock.specs.declared.lock.permit.Locked.{Locked}
 use Rattle.pcache_lock.specs.declared.lock.permit.Locked.TheVariants as L
 use Rattle.pingora_cache.specs.declared.world.entry.Event.{Event}
 use Rattle.pingora_cache.specs.declared.world.entry.Event.TheVariants.{Look, Ask, Access, Release, LetGo, Read}
-use Rattle.pingora_cache.specs.Legal.{release_of}
+use Rattle.pingora_cache.specs.Legal.{release_of, drop_of, let_go_of}
 use Rattle.pingora_cache.specs.Sound.{IsTidy, IsExact, IsBounded}
 use Rattle.pingora_cache.proofs.Tidy.{tidy-look, tidy-ask, tidy-access, tidy-release, tidy-let_go, tidy-read}
 use Rattle.pingora_cache.proofs.Exact.{exact-access}
@@ -31,11 +31,26 @@ after-quiet P keeps (e ∷ events) es q p = subst P (sym (turned e events es)) (
 pub after-one : (P : List Event → Type 0) → KeptByQuiet P → (e : Event) (events es : List Event) → AreQuiet events → P (e ∷ es) → P (reverse (e ∷ events) ++ es)
 after-one P keeps e events es q p = subst P (sym (turned e events es)) (after-quiet P keeps events (e ∷ es) q p)
 
+-- an event, and behind it perhaps the release of a permit
+pub after-release : (P : List Event → Type 0) (held : Option Locked) (a : Event) (es : List Event) → P (a ∷ es) → ((n : ℕ) → P (Release n ∷ a ∷ es)) → P (reverse (a ∷ release_of held) ++ es)
+after-release P None a es p q = p
+after-release P (Some (L.Write x)) a es p q = q x.number
+after-release P (Some (L.Read x)) a es p q = p
+
 -- two events, and between them perhaps the release of a permit
 pub after-two : (P : List Event → Type 0) (held : Option Locked) (a b : Event) (es : List Event) → P (b ∷ a ∷ es) → ((n : ℕ) → P (b ∷ Release n ∷ a ∷ es)) → P (reverse (a ∷ release_of held ++ b ∷ []) ++ es)
 after-two P None a b es p q = p
 after-two P (Some (L.Write x)) a b es p q = q x.number
 after-two P (Some (L.Read x)) a b es p q = p
+
+-- the events of an end: a write that is dropped, and a permit that is let go
+pub after-end : (P : List Event → Type 0) (es : List Event) (o : Option ℕ) (held : Option Locked) → P (drop_of o ++ es) → ((n : ℕ) → P (LetGo n ∷ drop_of o ++ es)) → P (reverse (drop_of o ++ let_go_of held) ++ es)
+after-end P es None None p q = p
+after-end P es None (Some (L.Write x)) p q = q x.number
+after-end P es None (Some (L.Read x)) p q = p
+after-end P es (Some w) None p q = p
+after-end P es (Some w) (Some (L.Write x)) p q = q x.number
+after-end P es (Some w) (Some (L.Read x)) p q = p
 
 pub tidy-quiet : KeptByQuiet IsTidy
 tidy-quiet (Look k a) es q t = tidy-look es k a t

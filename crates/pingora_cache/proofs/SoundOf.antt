@@ -1,11 +1,11 @@
 -- A legal history, and parts that are as it says, are a sound world: the rest follows from these.
-use Rattle.std.proofs.Common.{◌≡◌, ℕ, zero, suc, ◌+◌, ◌-◌, Bool, true, false, cond, ◌==◌, if◌then◌else◌, Option, None, Some, is_some, List, [], ◌∷◌, ◌++◌, length, refl, ap, sym, subst, ◌∙◌, arith, reverse}
-use Rattle.std.specs.Ordering.{nat_cmp, eq_by_cmp, is_eq}
-use Rattle.std.specs.Cmp.{nat_cmp_total, tied_itself}
-use Rattle.std.specs.FinMap.{FinMap, get, remove, entries, len, find, get-remove, get-entries, len-remove, len-entries, empty_of_len, nat_cmp-IsAntisymmetric}
+use Rattle.std.proofs.Common.{◌≡◌, ℕ, ◌+◌, Bool, true, false, cond, ◌==◌, if◌then◌else◌, Option, None, Some, List, ◌∷◌, ◌++◌, refl, ap, sym, ◌∙◌, arith, reverse}
+use Rattle.std.specs.Ordering.{nat_cmp, eq_by_cmp}
+use Rattle.std.specs.Cmp.{nat_cmp_total}
+use Rattle.std.specs.FinMap.{FinMap, get, remove, len, get-remove, nat_cmp-IsAntisymmetric}
 use Rattle.std.proofs.lemmas.Bool.{eq-eqb, ne_eqb, both_ways}
 use Rattle.pcache_base.specs.Totals.{total, share}
-use Rattle.pcache_base.proofs.Totals.{total-remove, total-empty}
+use Rattle.pcache_base.proofs.Totals.{total-remove}
 use Rattle.pcache_evict.specs.Tracked.{Tracked, Limits}
 use Rattle.pcache_store.specs.Store.{Store}
 use Rattle.pingora_cache.specs.declared.world.call.Call.{Call}
@@ -16,33 +16,11 @@ use Rattle.pingora_cache.specs.Events.{in_flight, tracked, option_any}
 use Rattle.pingora_cache.specs.Held.{Held, request_of}
 use Rattle.pingora_cache.specs.Legal.{events_of, IsLegal, Gives}
 use Rattle.pingora_cache.specs.Sound.{IsState, AreOpen, AreHeld, IsSound, readers, writers_in}
-use Rattle.pingora_cache.proofs.Bound.{cmp_same}
+use Rattle.pingora_cache.proofs.Counts.{writes-one}
+use Rattle.pingora_cache.proofs.Sums.{cmp_same, total-zero}
 use Rattle.pingora_cache.proofs.Moves.{Has}
 use Rattle.pingora_cache.proofs.Holds.{IsHeld, mine-flies}
 use Rattle.pingora_cache.proofs.Laws.{legal_kept}
-
--- A sum of nothing.
-
-module _ {X : Type 0} (f : X → ℕ) where
-  head_there : (m : FinMap nat_cmp X) (e : ℕ × X) (es : List (ℕ × X)) → entries m ≡ e ∷ es → get m e.0 ≡ Some e.1
-  head_there m e es is = get-entries m e.0 ∙ ap (find nat_cmp e.0) is ∙ ap (λ r. cond (is_eq r) (Some e.1) (find nat_cmp e.0 es)) (tied_itself nat_cmp_total e.0)
-
-  zero-remove : (m : FinMap nat_cmp X) (k q : ℕ) → share f (get m q) ≡ 0 → share f (get (remove m k) q) ≡ 0
-  zero-remove m k q h = subst (λ o. share f o ≡ 0) (sym (get-remove nat_cmp_total m k q)) (elim (eq_by_cmp nat_cmp q k) as (λ b. share f (cond b None (get m q)) ≡ 0) [ true ↦ refl | false ↦ h ])
-
-  total-zero : (n : ℕ) (m : FinMap nat_cmp X) → len m ≡ n → ((q : ℕ) → share f (get m q) ≡ 0) → total f m ≡ 0
-  total-zero zero m e h = subst (λ x. total f x ≡ 0) (sym (empty_of_len m e)) (total-empty nat_cmp_total f)
-  total-zero (suc n) m e h =
-      elim (entries m) as (λ es. entries m ≡ es → total f m ≡ 0) [
-        | [] ↦ λ is. let none : len m ≡ 0 = len-entries m ∙ ap length is in absurd (omega arith)
-        | x ∷ es ↦ λ is.
-            let here : get m x.0 ≡ Some x.1 = head_there m x es is in
-            let split : total f (remove m x.0) + share f (get m x.0) ≡ total f m = total-remove nat_cmp_total f nat_cmp-IsAntisymmetric m x.0 in
-            let shorter : len (remove m x.0) ≡ len m - 1 = len-remove nat_cmp_total m x.0 ∙ ap (λ o. cond (is_some o) (len m - 1) (len m)) here in
-            let rest : total f (remove m x.0) ≡ 0 = total-zero n (remove m x.0) (omega arith) (λ q. zero-remove m x.0 q (h q)) in
-            let first = h x.0 in
-            omega arith
-      ] refl
 
 -- Who holds a write.
 
@@ -51,7 +29,7 @@ count b = if b then 1 else 0
 
 one-writer : (w : ℕ) (q : Option Held) → Has q w → share (writers_in w) q ≡ 1
 one-writer w None h = absurd h
-one-writer w (Some x) h = ap (λ o. count (option_any (λ y. y == w) o)) h ∙ ap count (eq-eqb w w refl)
+one-writer w (Some x) h = writes-one x w h
 
 no-writer : (w : ℕ) (q : Option Held) → (Has q w → ⊥) → share (writers_in w) q ≡ 0
 no-writer w None n = refl

@@ -22,7 +22,8 @@ use Rattle.pingora_cache.specs.Events.{begin_of, in_flight, is_of, is_open, is_r
 use Rattle.pingora_cache.specs.Held.{pair_of, read_past}
 use Rattle.pingora_cache.specs.Legal.{Finds, HasAny, reads}
 use Rattle.pingora_cache.specs.Sound.{follows, pair_reader, IsState}
-use Rattle.pingora_cache.proofs.StateWrites.{cmp_same, same-number, kept_as, begun-flying, record-flying, record-read, part_of, state-followed}
+use Rattle.pingora_cache.proofs.Sums.{cmp_same, same-number}
+use Rattle.pingora_cache.proofs.StateWrites.{kept_as, begun-flying, record-flying, record-read, part_of, state-followed}
 
 -- ---- the least number
 
@@ -109,9 +110,6 @@ kept-in ws (Some x) v h = kept-first ws (least x.fresh) x.body v h
 
 pub found-kept : (s : Store) (k w : ℕ) → part_of (find s k) ≡ Some w → is_some (get s.writes w) ≡ true
 found-kept s k w h = kept-in s.writes (get s.slots k) w h
-
-pub streaming-kept : (s : Store) (k : ℕ) (m : Meta) (w : ℕ) → pair_of (A.Streaming m w) ≡ find s k → is_some (get s.writes w) ≡ true
-streaming-kept s k m w h = found-kept s k w (ap part_of (sym h))
 
 kept-flying : (ws : FinMap nat_cmp Written) (k w v : ℕ) (o : Option Written) → get ws w ≡ o → part_of (found_flying k w o) ≡ Some v → is_some (get ws v) ≡ true
 kept-flying ws k w v None e h = absurd (cc)

@@ -12,7 +12,8 @@ use Rattle.pingora_cache.specs.declared.world.entry.Event.TheVariants.{Begin}
 use Rattle.pingora_cache.specs.Events.{in_flight}
 use Rattle.pingora_cache.specs.Legal.{drop_of}
 use Rattle.pingora_cache.specs.Sound.{follows, pair_reader, IsTidy, IsState}
-use Rattle.pingora_cache.proofs.StateWrites.{same-number, get-set, state-left_by}
+use Rattle.pingora_cache.proofs.Sums.{same-number}
+use Rattle.pingora_cache.proofs.StateWrites.{get-set, state-left_by}
 use Rattle.pingora_cache.proofs.StateSlots.{state-begin, state-dropped}
 use Rattle.pingora_cache.proofs.StateAnswers.{state-found-write}
 

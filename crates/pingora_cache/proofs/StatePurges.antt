@@ -3,6 +3,7 @@ use Rattle.std.proofs.Common.{◌≡◌, ℕ, ◌<◌, ◌==◌, Bool, true, fal
 use Rattle.std.specs.List.{list_any}
 use Rattle.std.specs.FinMap.{get, remove}
 use Rattle.std.proofs.lemmas.Bool.{eqb-true}
+use Rattle.std.proofs.Math.Bool.{or-false, or_assoc}
 use Rattle.pcache_base.specs.Meta.{Meta}
 use Rattle.pcache_evict.specs.declared.eviction.entry_key.CacheEntryKey.{CacheEntryKey}
 use Rattle.pcache_store.specs.Store.{Store, Slot, is_fresh_in, is_idle, body_of, purged}
@@ -88,26 +89,18 @@ state-purge es n s k tidy st =
       known = p.known;
     }
 
-no_more : (b : Bool) → (b || false) ≡ b
-no_more true = refl
-no_more false = refl
-
-or_assoc : (a b c : Bool) → (a || (b || c)) ≡ ((a || b) || c)
-or_assoc true b c = refl
-or_assoc false b c = refl
-
 -- one entry's slot, if it names one
 purged-entry : (p : ℕ → Bool) (es : List Event) (n : ℕ → ℕ) (s : Store) (e : CacheEntryKey) → IsPurged p es n s → IsPurged (λ q. p q || names_slot q e) es n (purged_at s (entry_slot e))
 purged-entry p es n s e st = inner (entry_slot e)
   where
     inner : (o : Option ℕ) → IsPurged (λ q. p q || option_any (λ k. k == q) o) es n (purged_at s o)
-    inner None = purged-same p (λ q. p q || false) es n s (λ q. no_more (p q)) st
+    inner None = purged-same p (λ q. p q || false) es n s (λ q. or-false (p q)) st
     inner (Some k) = purged-more p (λ q. p q || k == q) es n s k (λ _. refl) st
 
 purged-all : (p : ℕ → Bool) (es : List Event) (n : ℕ → ℕ) (out : List CacheEntryKey) (s t : Store) → PurgesAll s out 0 t → IsPurged p es n s → IsPurged (λ q. p q || names_key q out) es n t
-purged-all p es n [] s t h st = purged-same p (λ q. p q || false) es n t (λ q. no_more (p q)) (subst (IsPurged p es n) (sym h.1) st)
+purged-all p es n [] s t h st = purged-same p (λ q. p q || false) es n t (λ q. or-false (p q)) (subst (IsPurged p es n) (sym h.1) st)
 purged-all p es n (e ∷ out) s t (inl h) st =
-    purged-same (λ q. (p q || names_slot q e) || names_key q out) (λ q. p q || names_key q (e ∷ out)) es n t (λ q. or_assoc (p q) (names_slot q e) (names_key q out))
+    purged-same (λ q. (p q || names_slot q e) || names_key q out) (λ q. p q || names_key q (e ∷ out)) es n t (λ q. sym (or_assoc (p q) (names_slot q e) (names_key q out)))
     (purged-all (λ q. p q || names_slot q e) es n out (purged_at s (entry_slot e)) t h (purged-entry p es n s e st))
 purged-all p es n (e ∷ out) s t (inr h) st = let none = h.1 in absurd (omega arith)
 

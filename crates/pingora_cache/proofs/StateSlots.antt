@@ -3,7 +3,7 @@ use Rattle.std.proofs.Common.{◌≡◌, ℕ, ◌+◌, ◌≤◌, ◌==◌, Bool
 use Rattle.std.specs.List.{list_any}
 use Rattle.std.specs.Ordering.{nat_cmp}
 use Rattle.std.specs.FinMap.{FinMap, get, insert, remove, contains_key, len, get-empty, empty_of_len}
-use Rattle.std.proofs.lemmas.Bool.{eqb-true, both_ways, and_parts, cases_lt, false_from_ne_true}
+use Rattle.std.proofs.lemmas.Bool.{eqb-true, both_ways, and_parts, cases_lt, false_from_ne_true, and_right}
 use Rattle.pcache_base.specs.Meta.{Meta}
 use Rattle.pcache_store.specs.Store.{Store, Slot, Stored, is_fresh_in, is_idle, body_of, with_slot, slot_or_new, opened_in, opened, new_write, begun, grounded, shut_on, shut, dropped_on, dropped, stored_on, finished_on, finished}
 use Rattle.pingora_cache.specs.declared.world.entry.Event.{Event}
@@ -12,7 +12,8 @@ use Rattle.pingora_cache.specs.Events as ev
 use Rattle.pingora_cache.specs.Events.{begin_of, since, removes, option_any, is_removed, has_ended, in_flight, is_told, is_of, is_open, complete}
 use Rattle.pingora_cache.specs.Sound.{record_of, IsTidy, IsState}
 use Rattle.pingora_cache.proofs.Steps.{complete-begin, complete-finish}
-use Rattle.pingora_cache.proofs.StateWrites.{same-number, get-set, get-unset, get-kept, changed-at, kept_as, recorded, begun-flying, record-flying}
+use Rattle.pingora_cache.proofs.Sums.{same-number}
+use Rattle.pingora_cache.proofs.StateWrites.{get-set, get-unset, get-kept, changed-at, kept_as, recorded, begun-flying, record-flying}
 
 -- ---- slots that hold nothing
 
@@ -23,15 +24,11 @@ no-body : (o : Option Stored) → is_none o ≡ true → o ≡ None
 no-body None e = refl
 no-body (Some b) e = cc
 
-no_last : (a : Bool) → (a && false) ≡ false
-no_last true = refl
-no_last false = refl
-
 -- a slot that has a number, or a body, is not idle
 pub busy-key : (x : Slot) (w : ℕ) → contains_key x.fresh w ≡ true → is_idle x ≡ false
 busy-key x w h =
     let apart : (len x.fresh == 0) ≡ false = false_from_ne_true _ (λ e. both_ways _ (no-keys x.fresh e w) h) in
-    ap (λ b. is_none x.body && b) apart ∙ no_last (is_none x.body)
+    ap (λ b. is_none x.body && b) apart ∙ and_right (is_none x.body) false refl
 
 -- a slot as it stays: taken out where it holds nothing
 abbrev tidied : Slot → Option Slot

@@ -1,17 +1,17 @@
 -- What is stored by the events is what stands in the store.
-use Rattle.std.proofs.Common.{◌≡◌, ℕ, suc, zero, ◌+◌, ◌-◌, ◌==◌, ◌||◌, true, false, cond, if◌then◌else◌, Option, None, Some, is_some, List, [], ◌∷◌, length, refl, ap, sym, subst, ◌∙◌, arith, inl, inr, ◌⊎◌}
+use Rattle.std.proofs.Common.{◌≡◌, ℕ, ◌==◌, ◌||◌, true, false, cond, if◌then◌else◌, Option, None, Some, List, [], ◌∷◌, refl, ap, sym, subst, ◌∙◌, arith, inl, inr, ◌⊎◌}
 use Rattle.std.specs.Option.{option_map, option_and_then}
 use Rattle.std.specs.Bool.{IsTrue}
 use Rattle.std.specs.List.{list_any, AllByRecursion, IsDistinct, sum_by}
-use Rattle.std.specs.Ordering.{nat_cmp, eq_by_cmp, is_eq}
-use Rattle.std.specs.Cmp.{nat_cmp_total, eq_by_cmp_equiv, tied_itself}
-use Rattle.std.specs.FinMap.{FinMap, get, remove, entries, len, find, get-remove, get-entries, len-remove, len-entries, empty_of_len, nat_cmp-IsAntisymmetric}
+use Rattle.std.specs.Ordering.{nat_cmp, eq_by_cmp}
+use Rattle.std.specs.Cmp.{nat_cmp_total, eq_by_cmp_equiv}
+use Rattle.std.specs.FinMap.{FinMap, get, remove, len, get-remove, nat_cmp-IsAntisymmetric}
 use Rattle.std.proofs.lemmas.Bool.{eqb-true, or_left, or_right}
 use Rattle.std.proofs.lemmas.List.Sums.{sum_by-cons}
 use Rattle.std.proofs.lemmas.Map.Keys.{IsDistinct-head, IsDistinct-tail}
 use Rattle.pcache_base.specs.Meta.{Meta}
 use Rattle.pcache_base.specs.Totals.{total, share}
-use Rattle.pcache_base.proofs.Totals.{total-remove, total-empty, get-remove_apart}
+use Rattle.pcache_base.proofs.Totals.{total-remove, get-remove_apart}
 use Rattle.pcache_store.specs.Store.{Store, Slot, Stored, body_of}
 use Rattle.pcache_store.specs.Totals as totals
 use Rattle.pingora_cache.specs.declared.world.entry.Event.{Event}
@@ -19,37 +19,17 @@ use Rattle.pingora_cache.specs.declared.world.entry.Event.TheVariants.{Look, Ask
 use Rattle.pingora_cache.specs.Events.{begin_of, option_any, is_removed, last_finished, body_stored, complete, with_key, finished_keys, size_of, stored, slots}
 use Rattle.pingora_cache.specs.Sound.{IsState}
 use Rattle.pingora_cache.proofs.Bound.{keys_distinct}
-use Rattle.pingora_cache.proofs.StateWrites.{cmp_same}
+use Rattle.pingora_cache.proofs.Sums.{cmp_same, zero-remove, total-zero}
 
 -- ---- a sum over keys, where the map's other keys add nothing
 
 module _ {X : Type 0} (f : X → ℕ) where
-  head_here : (m : FinMap nat_cmp X) (e : ℕ × X) (es : List (ℕ × X)) → entries m ≡ e ∷ es → get m e.0 ≡ Some e.1
-  head_here m e es is = get-entries m e.0 ∙ ap (find nat_cmp e.0) is ∙ ap (λ r. cond (is_eq r) (Some e.1) (find nat_cmp e.0 es)) (tied_itself nat_cmp_total e.0)
-
-  still : (m : FinMap nat_cmp X) (k q : ℕ) → share f (get m q) ≡ 0 → share f (get (remove m k) q) ≡ 0
-  still m k q h = subst (λ o. share f o ≡ 0) (sym (get-remove nat_cmp_total m k q)) (elim (eq_by_cmp nat_cmp q k) as (λ b. share f (cond b None (get m q)) ≡ 0) [ true ↦ refl | false ↦ h ])
-
-  total-zero : (n : ℕ) (m : FinMap nat_cmp X) → len m ≡ n → ((q : ℕ) → share f (get m q) ≡ 0) → total f m ≡ 0
-  total-zero zero m e h = subst (λ x. total f x ≡ 0) (sym (empty_of_len m e)) (total-empty nat_cmp_total f)
-  total-zero (suc n) m e h =
-      elim (entries m) as (λ es. entries m ≡ es → total f m ≡ 0) [
-        | [] ↦ λ is. let z : len m ≡ 0 = len-entries m ∙ ap length is in absurd (omega arith)
-        | x ∷ es ↦ λ is.
-            let here : get m x.0 ≡ Some x.1 = head_here m x es is in
-            let out : total f (remove m x.0) + share f (get m x.0) ≡ total f m = total-remove nat_cmp_total f nat_cmp-IsAntisymmetric m x.0 in
-            let left : len (remove m x.0) ≡ len m - 1 = len-remove nat_cmp_total m x.0 ∙ ap (λ o. cond (is_some o) (len m - 1) (len m)) here in
-            let rest : total f (remove m x.0) ≡ 0 = total-zero n (remove m x.0) (omega arith) (λ q. still m x.0 q (h q)) in
-            let top = h x.0 in
-            omega arith
-      ] refl
-
   sum-apart : (g h : ℕ → ℕ) (k : ℕ) (ks : List ℕ) → AllByRecursion (λ y. eq_by_cmp nat_cmp k y ≡ false) ks → ((q : ℕ) → eq_by_cmp nat_cmp k q ≡ false → g q ≡ h q) → sum_by g ks ≡ sum_by h ks
   sum-apart g h k [] a same_at = refl
   sum-apart g h k (q ∷ ks) a same_at = sum_by-cons g q ks ∙ (let e = same_at q a.0 in let r = sum-apart g h k ks a.1 same_at in let c = sum_by-cons h q ks in omega arith)
 
   total-over-most : (ks : List ℕ) (m : FinMap nat_cmp X) → IsDistinct (eq_by_cmp nat_cmp) ks → ((q : ℕ) → share f (get m q) ≡ 0 ⊎ IsTrue (list_any (eq_by_cmp nat_cmp q) ks)) → sum_by (λ k. share f (get m k)) ks ≡ total f m
-  total-over-most [] m d all = sym (total-zero (len m) m refl (λ q. elim (all q) [ inl e ↦ e | inr t ↦ cc ]))
+  total-over-most [] m d all = sym (total-zero f (len m) m refl (λ q. elim (all q) [ inl e ↦ e | inr t ↦ cc ]))
   total-over-most (k ∷ ks) m d all =
       let apart = IsDistinct-head (eq_by_cmp nat_cmp) k ks d in
       let rest = total-over-most ks (remove m k) (IsDistinct-tail (eq_by_cmp nat_cmp) k ks d) (λ q. covered q) in
@@ -62,7 +42,7 @@ module _ {X : Type 0} (f : X → ℕ) where
       covered q =
           elim (eq_by_cmp nat_cmp q k) as (λ b. eq_by_cmp nat_cmp q k ≡ b → IsTrue (b || list_any (eq_by_cmp nat_cmp q) ks) ⊎ share f (get m q) ≡ 0 → share f (get (remove m k) q) ≡ 0 ⊎ IsTrue (list_any (eq_by_cmp nat_cmp q) ks)) [
             | true ↦ λ t _. inl (ap (share f) (get-remove nat_cmp_total m k q ∙ ap (λ b. cond b None (get m q)) t))
-            | false ↦ λ t h. elim h [ inl any ↦ inr any | inr none ↦ inl (still m k q none) ]
+            | false ↦ λ t h. elim h [ inl any ↦ inr any | inr none ↦ inl (zero-remove f m k q none) ]
           ] refl (elim (all q) [ inl e ↦ inr e | inr t ↦ inl t ])
 
 -- ---- the keys of finished writes

@@ -2,11 +2,10 @@
 use Rattle.std.proofs.Common.{◌≡◌, ℕ, ◌+◌, ◌-◌, ◌<◌, ◌==◌, Bool, true, false, cond, ◌||◌, if◌then◌else◌, Option, None, Some, is_some, List, refl, ap, sym, subst, ◌∙◌, arith, lt-ltb}
 use Rattle.std.specs.Prelude.{nat_lt}
 use Rattle.std.specs.Option.{option_map}
-use Rattle.std.specs.Ordering.{nat_cmp, eq_by_cmp}
+use Rattle.std.specs.Ordering.{nat_cmp}
 use Rattle.std.specs.Cmp.{nat_cmp_total}
 use Rattle.std.specs.FinMap.{FinMap, get, insert, remove, get-insert, get-remove}
 use Rattle.std.proofs.lemmas.Bool.{eqb-true, both_ways, or_right}
-use Rattle.std.proofs.lemmas.Bool.Decides.{nat_tests}
 use Rattle.pcache_base.specs.Meta.{Meta}
 use Rattle.pcache_store.specs.Store.{Store, Written, Reader, Whole, Part, is_named, kept, joined_on, joined, followed_by, followed, left_on, left}
 use Rattle.pingora_cache.specs.Requests.{left_by}
@@ -15,12 +14,7 @@ use Rattle.pingora_cache.specs.Events.{begin_of, in_flight, is_told, body_of}
 use Rattle.pingora_cache.specs.Sound.{follows, pair_reader, record_of, IsState}
 use Rattle.pingora_cache.proofs.States.{state-same}
 use Rattle.pingora_cache.proofs.Steps.{flies}
-
-pub cmp_same : (q w : ℕ) → eq_by_cmp nat_cmp q w ≡ (w == q)
-cmp_same q w = grind (arith, nat_tests)
-
-pub same-number : (w : ℕ) → (w == w) ≡ true
-same-number w = grind (arith, nat_tests)
+use Rattle.pingora_cache.proofs.Sums.{cmp_same, same-number}
 
 -- ---- one write set or taken out
 
@@ -103,9 +97,6 @@ begun-flying w es h = elim (begin_of w es) as (λ o. is_some o ≡ true → (b :
 module _ (es : List Event) (n : ℕ → ℕ) (s : Store) (st : IsState es n s) (w : ℕ) where
   pub record-flying : (b : ℕ × Meta) → in_flight w es ≡ true → begin_of w es ≡ Some b → get s.writes w ≡ Some (kept_as true (n w) (body_of w es) (is_told w es) b)
   record-flying b fly is = st.writes w ∙ (λ i. recorded (fly i) (n w) (body_of w es) (is_told w es) (is i))
-
-  pub record-there : in_flight w es ≡ true → is_some (get s.writes w) ≡ true
-  record-there fly = let f = begun-flying w es fly in ap is_some (record-flying f.0 fly f.1)
 
   pub record-begun : is_some (get s.writes w) ≡ true → is_some (begin_of w es) ≡ true
   record-begun there = recorded-begun (in_flight w es) (n w) (body_of w es) (is_told w es) (begin_of w es) (ap is_some (sym (st.writes w)) ∙ there)

@@ -1,8 +1,8 @@
 -- What stands under a key after one more event.
-use Rattle.std.proofs.Common.{◌≡◌, ℕ, ◌<◌, Bool, true, false, not, ◌||◌, ◌==◌, if◌then◌else◌, Option, None, Some, is_some, List, [], ◌∷◌, ◌++◌, refl, ap, sym, subst, ◌∙◌, arith, inl, inr}
+use Rattle.std.proofs.Common.{◌≡◌, ℕ, ◌<◌, Bool, true, false, ◌||◌, ◌==◌, if◌then◌else◌, Option, None, Some, is_some, List, [], ◌∷◌, ◌++◌, refl, ap, sym, subst, ◌∙◌, arith, inl, inr}
 use Rattle.std.specs.Option.{option_map, option_and_then}
 use Rattle.std.specs.List.{list_any}
-use Rattle.std.proofs.lemmas.Bool.{eqb-true, ne_eqb, and_parts, both_ways, cases_lt}
+use Rattle.std.proofs.lemmas.Bool.{eqb-true, ne_eqb, and_parts, both_ways, cases_lt, not-true}
 use Rattle.pcache_base.specs.Meta.{Meta}
 use Rattle.pcache_evict.specs.declared.eviction.entry_key.CacheEntryKey.{CacheEntryKey}
 use Rattle.pcache_store.specs.Store.{Stored}
@@ -13,7 +13,7 @@ use Rattle.pingora_cache.specs.Sound.{IsTidy}
 
 -- a write in flight was begun, and has not ended
 pub flies : (w : ℕ) (es : List Event) → in_flight w es ≡ true → (is_some (begin_of w es) ≡ true) × (has_ended w es ≡ false)
-flies w es h = let p = and_parts _ _ h in (p.0, elim (has_ended w es) as (λ b. not b ≡ true → b ≡ false) [ true ↦ λ e. cc | false ↦ λ e. refl ] p.1)
+flies w es h = let p = and_parts _ _ h in (p.0, not-true _ p.1)
 
 pub below : (w : ℕ) (es : List Event) → IsTidy es → is_some (begin_of w es) ≡ true → w < begun es
 below w es tidy h = elim (cases_lt w (begun es)) [ inl lt ↦ lt | inr ge ↦ absurd (both_ways _ (ap is_some (tidy.fresh w ge)) h) ]

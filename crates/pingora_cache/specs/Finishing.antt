@@ -1,6 +1,6 @@
 -- What the end of a request's write leads to: the body is stored and admitted, and what is evicted for it is purged; or
 -- it is refused (own).
-use Rattle.std.specs.Prelude.{ℕ, ◌+◌, ◌≡◌, ◌⊎◌, ◌^◌, Bool, true, false, Option, Some, None, List, [], ◌∷◌, Result, Ok, Err, is_some, cond, MatchBool}
+use Rattle.std.specs.Prelude.{ℕ, ◌+◌, ◌≡◌, ◌⊎◌, Bool, true, false, Option, None, List, [], ◌∷◌, is_some, cond}
 use Rattle.std.specs.FinMap.{insert, get}
 use Rattle.pcache_base.specs.Key.{Key, slot}
 use Rattle.pcache_base.specs.CompactKey.{compact_slot}

@@ -1,14 +1,57 @@
 -- What is promised of every legal history (own).
-use Rattle.std.specs.Prelude.{◌≡◌, ℕ, ◌≤◌, Bool, true, false, Option, Some, IfSome, List, ◌⊎◌, ◌↔◌}
-use Rattle.pcache_evict.specs.Tracked.{Tracked, Limits, IsFair}
-use Rattle.std.specs.FinMap as map
-use Rattle.pcache_evict.specs.declared.eviction.entry_key.CacheEntryKey.{CacheEntryKey}
+use Rattle.std.specs.Prelude.{◌≡◌, ℕ, ◌≤◌, Bool, true, false, Option, Some, None, IsSome, IfSome, List, ◌∷◌, ◌⊎◌, ◌↔◌}
+use Rattle.pcache_base.specs.declared.poll.Poll.{Poll}
+use Rattle.pcache_evict.specs.Tracked.{Tracked, Limits}
+use Rattle.pcache_store.specs.Store.{Reader}
+use Rattle.pingora_cache.specs.declared.world.call.Call.{Call}
+use Rattle.pingora_cache.specs.declared.world.call.Call.TheVariants as C
+use Rattle.pingora_cache.specs.declared.world.call.Reply.TheVariants.{WrongCall}
 use Rattle.pingora_cache.specs.declared.world.entry.Answer.{Answer}
 use Rattle.pingora_cache.specs.declared.world.entry.Answer.TheVariants as A
 use Rattle.pingora_cache.specs.declared.world.entry.Entry.{Entry}
 use Rattle.pingora_cache.specs.declared.world.entry.Event.{Event}
-use Rattle.pingora_cache.specs.Events.{is_of, in_flight, was_stored, is_removed, last_finished, body_of, stored, slots, tracked}
-use Rattle.pingora_cache.specs.Legal.{events_of, IsLegal, Finds}
+use Rattle.pingora_cache.specs.declared.world.entry.Event.TheVariants.{Look, Finish, Read}
+use Rattle.pingora_cache.specs.Phases.{MayTakeKey, MayLookUp, MayMiss, IsFilling, MayPurge}
+use Rattle.pingora_cache.specs.Requests.{MayTakeMeta, MayWrite}
+use Rattle.pingora_cache.specs.Events.{is_told, is_of, in_flight, was_stored, is_removed, last_finished, body_of, stored, slots}
+use Rattle.pingora_cache.specs.Held.{Held, number_of, request_of}
+use Rattle.pingora_cache.specs.Legal.{events_of, MayFill, IsLegal, Finds, reads}
+use Rattle.pingora_cache.specs.ReadSoFar.{read_by, HasRead}
+
+-- the condition of a call: of the phase table, and of the world's own. A request is opened where its number is free; each
+-- other call names an open one
+abbrev pub MayBe : (ℕ → Bool) → Call → Option Held → Type 0
+MayBe told (C.Open r) None = Unit {0}
+MayBe told (C.Open r) (Some x) = ⊥
+MayBe told call None = ⊥
+MayBe told (C.Key r k) (Some x) = MayTakeKey x.request.phase
+MayBe told (C.Look r t) (Some x) = MayLookUp x.request.phase
+MayBe told (C.Found r s t) (Some x) = MayLookUp x.request.phase × IsSome x.pair
+MayBe told (C.Miss r) (Some x) = MayMiss x.request.phase
+MayBe told (C.Meta r m) (Some x) = MayTakeMeta x.request
+MayBe told (C.Begin r) (Some x) = MayWrite x.request
+MayBe told (C.Write r bytes eof) (Some x) = MayFill told x.request
+MayBe told (C.Finish r) (Some x) = IsFilling x.request.phase
+MayBe told (C.Read r) (Some x) = IsSome x.request.reader
+MayBe told (C.Purge r) (Some x) = MayPurge x.request.phase
+MayBe told (C.End r) (Some x) = Unit {0}
+
+-- a call is answered as a wrong one exactly where its condition fails
+abbrev pub IsWrongExactly : Type 0
+IsWrongExactly = (limits : Limits) (start : Tracked) (before : List Entry) (entry : Entry) → IsLegal limits start (entry ∷ before)
+    → (entry.reply ≡ WrongCall) ↔ (MayBe (λ w. is_told w (events_of before)) entry.call (request_of (number_of entry.call) before) → ⊥)
+
+-- a look-up answers what the events before it say of its key: the earliest begun write that is in flight and untouched, else
+-- the complete body, else nothing; with the meta that the write began with
+abbrev pub LooksAreTrue : Type 0
+LooksAreTrue = (limits : Limits) (start : Tracked) (before : List Entry) (entry : Entry) (k : ℕ) (answer : Answer) (rest : List Event) → IsLegal limits start (entry ∷ before) → entry.events ≡ Look k answer ∷ rest
+    → Finds (events_of before) k answer
+
+-- a read gives what the events before it say of its reader: all that is unread of a write, nothing yet where more may come,
+-- else the end; of a complete body its range once, then the end
+abbrev pub ReadsAreTrue : Type 0
+ReadsAreTrue = (limits : Limits) (start : Tracked) (before : List Entry) (entry : Entry) (answer : Poll (Option (List ℕ))) (rest : List Event) → IsLegal limits start (entry ∷ before) → entry.events ≡ Read answer ∷ rest
+    → (x : Held) × (reader : Reader) × (request_of (number_of entry.call) before ≡ Some x) × (x.request.reader ≡ Some reader) × (answer ≡ reads (events_of before) reader)
 
 -- a write of the key, in flight or finished, met no removal since it began
 abbrev pub HasUntouched : ℕ → List Event → Type 0
@@ -24,6 +67,11 @@ abbrev pub FindsExactly : Type 0
 FindsExactly = (limits : Limits) (start : Tracked) (before : List Entry) (k : ℕ) (answer : Answer) → IsLegal limits start before → Finds (events_of before) k answer
     → (is_found answer ≡ true) ↔ HasUntouched k (events_of before)
 
+-- a write's finish succeeds exactly when it met no removal since it began: of an entry that ends a write by finishing it
+abbrev pub FinishesExactly : Type 0
+FinishesExactly = (limits : Limits) (start : Tracked) (before : List Entry) (entry : Entry) (w : ℕ) (is_stored : Bool) (rest : List Event) → IsLegal limits start (entry ∷ before) → entry.events ≡ Finish w is_stored ∷ rest
+    → (is_stored ≡ true) ↔ (is_removed w (events_of before) ≡ false)
+
 -- a complete hit reads the last finished body of its key
 abbrev pub ReadsTheLast : Type 0
 ReadsTheLast = (limits : Limits) (start : Tracked) (before : List Entry) (k : ℕ) (m : _) (body : List ℕ) → IsLegal limits start before → Finds (events_of before) k (A.Complete m body)
@@ -33,3 +81,8 @@ ReadsTheLast = (limits : Limits) (start : Tracked) (before : List Entry) (k : �
 abbrev pub IsWithinLimits : Type 0
 IsWithinLimits = (limits : Limits) (start : Tracked) (before : List Entry) → IsLegal limits start before
     → (stored (events_of before) ≤ limits.weight) × IfSome limits.watermark (λ most. slots (events_of before) ≤ most)
+
+-- what a reader has given is a beginning of the body of the write that it reads, or the range of a complete body, once
+abbrev pub ReadsABeginning : Type 0
+ReadsABeginning = (limits : Limits) (start : Tracked) (before : List Entry) (r : ℕ) (x : Held) (reader : Reader) → IsLegal limits start before → request_of r before ≡ Some x → x.request.reader ≡ Some reader
+    → HasRead (events_of before) reader (read_by r before)

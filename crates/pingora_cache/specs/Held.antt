@@ -8,7 +8,7 @@ use Rattle.pcache_base.specs.declared.poll.Poll.TheVariants.{Ready, Pending}
 use Rattle.pcache_lock.specs.declared.lock.permit.Locked.{Locked}
 use Rattle.pcache_lock.specs.declared.lock.permit.Locked.TheVariants.{Write, Read}
 use Rattle.pcache_store.specs.Store.{Reader, Whole, Part}
-use Rattle.pingora_cache.specs.Phases.{is_stale, is_fresh}
+use Rattle.pingora_cache.specs.Phases.{is_stale}
 use Rattle.pingora_cache.specs.Requests.{Request, fresh_request, with_key, missed, with_meta, placed}
 use Rattle.pingora_cache.specs.declared.phase.HitStatus.{HitStatus}
 use Rattle.pingora_cache.specs.declared.phase.InUse.{InUse}

@@ -1,6 +1,6 @@
 -- Which entries a history may have: each by what stands before it (own). Histories stand newest first. Which lock a request
 -- is given stays open here.
-use Rattle.std.specs.Prelude.{◌≡◌, ℕ, ◌+◌, ◌^◌, ◌<◌, ◌≤◌, ◌⊎◌, ◌&&◌, Bool, true, false, not, if◌then◌else◌, cond, Option, Some, None, IsSome, IsTrue, List, [], ◌∷◌, ◌++◌, length, reverse}
+use Rattle.std.specs.Prelude.{◌≡◌, ℕ, ◌^◌, ◌<◌, ◌≤◌, ◌⊎◌, ◌&&◌, Bool, true, false, not, if◌then◌else◌, cond, Option, Some, None, IsSome, IsTrue, List, [], ◌∷◌, ◌++◌, length, reverse}
 use Rattle.std.specs.Option.{option_map}
 use Rattle.std.specs.FinMap as map
 use Rattle.pcache_base.specs.Key.{Key, slot}
@@ -13,7 +13,7 @@ use Rattle.pcache_evict.specs.declared.eviction.entry_key.CacheEntryKey.{CacheEn
 use Rattle.pcache_evict.specs.Tracked.{Tracked, Limits, IsFair}
 use Rattle.pcache_lock.specs.declared.lock.permit.Locked.{Locked}
 use Rattle.pcache_lock.specs.declared.lock.permit.Locked.TheVariants.{Write, Read}
-use Rattle.pcache_store.specs.Store.{Written, Reader, Whole, Part, Stored, read_part, reader_weight}
+use Rattle.pcache_store.specs.Store.{Written, Reader, Whole, Part, read_part, reader_weight}
 use Rattle.pingora_cache.specs.declared.phase.HitStatus.{HitStatus}
 use Rattle.pingora_cache.specs.declared.world.call.Call.{Call}
 use Rattle.pingora_cache.specs.declared.world.call.Call.TheVariants as C

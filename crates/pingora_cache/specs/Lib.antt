@@ -4,7 +4,9 @@ pub mod Headline
 pub mod Held
 pub mod Legal
 pub mod Log
+pub mod LogCode
 pub mod Phases
+pub mod ReadSoFar
 pub mod Requests
 pub mod Sound
 pub mod Step

@@ -1,7 +1,7 @@
 -- What a request is, and the rows of its phase table: what each call makes of the request, the store, the lock table
 -- and the tracked entries (own, after the phases of pingora-cache).
 use Rattle.std.specs.Prelude.{ℕ, ◌≡◌, ◌&&◌, Bool, true, false, not, Option, Some, None, cond, IsSome, is_some, option_map}
-use Rattle.std.specs.FinMap.{insert, remove}
+use Rattle.std.specs.FinMap.{remove}
 use Rattle.pcache_base.specs.Key.{Key, slot}
 use Rattle.pcache_base.specs.CompactKey.{compact_of}
 use Rattle.pcache_base.specs.Meta.{Meta}
@@ -13,7 +13,7 @@ use Rattle.pcache_lock.specs.Locks.{Locks, given, holder, after_request, let_go,
 use Rattle.pcache_lock.specs.declared.lock.permit.Locked.{Locked}
 use Rattle.pcache_lock.specs.declared.lock.permit.Locked.TheVariants.{Write, Read}
 use Rattle.pcache_lock.specs.declared.lock.status.LockStatus.{LockStatus}
-use Rattle.pcache_store.specs.Store.{Store, Reader, find, find_write, followed, left, begun, dropped, purged, counts_access, reader_weight}
+use Rattle.pcache_store.specs.Store.{Store, Reader, find, find_write, followed, left, begun, dropped, counts_access, reader_weight}
 use Rattle.pcache_store.specs.declared.storage.PurgeOutcome.{PurgeOutcome}
 use Rattle.pcache_store.specs.declared.storage.PurgeOutcome.TheVariants.{NotFound, Purged, Expired}
 use Rattle.pingora_cache.specs.declared.phase.CachePhase.{CachePhase}

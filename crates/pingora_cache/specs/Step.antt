@@ -10,8 +10,9 @@ use Rattle.pcache_base.specs.Meta.{Meta}
 use Rattle.pcache_base.specs.declared.error.ErrorType.{ErrorType}
 use Rattle.pcache_base.specs.declared.error.ErrorType.TheVariants.{OutOfMemory, WriteRemoved}
 use Rattle.pcache_evict.specs.declared.eviction.entry_key.CacheEntryKey.{CacheEntryKey}
-use Rattle.pcache_evict.specs.Tracked.{Tracked, Limits, IsFair, without}
-use Rattle.pcache_lock.specs.Locks.{Locks, MayRefuseLock}
+use Rattle.pcache_evict.specs.Tracked.{Tracked, Limits}
+use Rattle.pcache_lock.specs.Locks.{Locks, MayRefuseLock, is_permit, number_of_lock}
+use Rattle.pcache_lock.specs.declared.lock.permit.Locked.{Locked}
 use Rattle.pcache_store.specs.Refusals.{MayRefuseWrite, MayRefuseFinish}
 use Rattle.pcache_store.specs.Store.{Store, Reader, find, followed, left, begun, wrote, finished, dropped, purged, stands, size_of, read_of, is_told}
 use Rattle.pingora_cache.specs.declared.phase.HitStatus.{HitStatus}
@@ -25,15 +26,32 @@ use Rattle.pingora_cache.specs.declared.world.entry.Event.{Event}
 use Rattle.pingora_cache.specs.declared.world.entry.Event.TheVariants as E
 use Rattle.pingora_cache.specs.Phases.{MayTakeKey, MayLookUp, MayMiss, IsFilling, MayPurge, is_fresh}
 use Rattle.pingora_cache.specs.Requests.{Request, MayTakeMeta, MayWrite, entry_of, phase_found, left_by, dropped_by, store_found, store_writing, reader_in, tracked_found}
-use Rattle.pingora_cache.specs.Finishing.{PurgesAll}
+use Rattle.pcache_store.specs.declared.storage.MissFinishType.TheVariants.{Created}
+use Rattle.pingora_cache.specs.Finishing.{Admits, PurgesAll}
 use Rattle.pingora_cache.specs.Held.{Held, number_of, row, pair_of}
-use Rattle.pingora_cache.specs.Legal.{IsIdle, IsStarved, IsLockRefusal, Opens, AsksIf, asks_for_miss, look_reply, accesses, let_go_of, release_of, MayFill, Ends, read_reply}
+use Rattle.pingora_cache.specs.Legal.{IsIdle, IsStarved, Opens, AsksIf, asks_for_miss, look_reply, accesses, each, kind_of, release_of, MayFill, Ends, read_reply}
 use Rattle.pingora_cache.specs.Sound.{pair_reader}
 
 -- one thing where the request is open and has a property, else a wrong call and what is the same then
 abbrev pub WhereIn : (Held → Type 0) → (Held → Type 0) → Type 0 → Option Held → Reply → List Event → Type 0
 WhereIn P met same None reply events = IsIdle R.WrongCall reply events × same
 WhereIn P met same (Some x) reply events = (P x × met x) ⊎ ((P x → ⊥) × IsIdle R.WrongCall reply events × same)
+
+-- a pair that a look-up may answer
+abbrev pub IsAnswered : Meta → Reader → Type 0
+IsAnswered m reader = (a : Answer) × (pair_of a ≡ Some (m, reader))
+
+-- what is noted and answered of the lock that was asked for and is held now, where one is in use; a permit that was held
+-- before was let go
+abbrev pub asking : Bool → ℕ → Option Locked → Option ℕ → List Event
+asking true k (Some l) older = E.Ask k (number_of_lock l) (is_permit l) ∷ each E.LetGo older
+asking true k None older = []
+asking false k held older = []
+
+abbrev pub kind_asked : Bool → Option Locked → Option LockKind
+kind_asked true (Some l) = Some (kind_of (is_permit l))
+kind_asked true None = None
+kind_asked false held = None
 
 -- a look-up; where what was found can't be noted, it is let go again
 abbrev pub LooksIn : Held → Store → Reply → List Event → Store → Type 0
@@ -66,11 +84,16 @@ abbrev pub WritesIn : List ℕ → Bool → Request → Store → Reply → List
 WritesIn bytes eof x s reply events s' =
     (IsStarved reply events × (s' ≡ s)) ⊎ ((w : ℕ) × (x.write ≡ Some w) × (reply ≡ R.Done) × (events ≡ E.Wrote w bytes eof ∷ []) × (s' ≡ wrote s w bytes eof))
 
+-- what is noted of a write whose end was refused: its key was removed since it began, or it was dropped
+abbrev pub refused_end : ℕ → ErrorType → Event
+refused_end w WriteRemoved = E.Finish w false
+refused_end w _ = E.Dropped w
+
 -- the end of the write w of the key k
 abbrev pub EndsIn : Limits → Request → Key → ℕ → Store → Tracked → Reply → List Event → Store → Tracked → Type 0
 EndsIn limits x k w s m reply events s' m' =
     ((out : List CacheEntryKey) × (stands s w ≡ true)
-    × IsFair limits (map.insert m (entry_of k x.entry) (size_of (map.get s.writes w))) out × (m' ≡ without out (map.insert m (entry_of k x.entry) (size_of (map.get s.writes w))))
+    × Admits x.uses.eviction limits (Created (size_of (map.get s.writes w))) (entry_of k x.entry) m out m'
     × PurgesAll (finished s w) out 0 s'
     × (events ≡ E.Finish w true ∷ release_of x.held ++ E.Admit (entry_of k None) (size_of (map.get s.writes w)) out ∷ [])
     × (reply ≡ R.Stored (size_of (map.get s.writes w)) (length out)))
@@ -115,7 +138,17 @@ Turn limits (C.Read r) q s m reply events s' m' = WhereIn (λ x. IsSome x.reques
 Turn limits (C.Purge r) q s m reply events s' m' = WhereIn (λ x. MayPurge x.request.phase) (λ x. PurgesIn x.request s m reply events s' m') ((s' ≡ s) × (m' ≡ m)) q reply events
 Turn limits (C.End r) q s m reply events s' m' = WhereIn (λ x. Unit {0}) (λ x. Ends x.request reply events × (s' ≡ store_ended x s)) (s' ≡ s) q reply events × (m' ≡ m)
 
--- one call over all requests: the one that it names moves by its row
+-- only the request that the call names moves, by its row
+abbrev pub IsMoved : Call → Reply → List Event → List (ℕ × Held) → List (ℕ × Held) → Type 0
+IsMoved call reply events all all' = (q : ℕ) → lookup (is_at (nat_cmp q)) all' ≡ cond (is_at (nat_cmp (number_of call)) q) (row call reply events (lookup (is_at (nat_cmp (number_of call))) all)) (lookup (is_at (nat_cmp q)) all)
+
+-- one call over all requests
 pub record IsStep (limits : Limits) (call : Call) (all : List (ℕ × Held)) (s : Store) (m : Tracked) (reply : Reply) (events : List Event) (all' : List (ℕ × Held)) (s' : Store) (m' : Tracked) : Type 0 where
   pub turn : Turn limits call (lookup (is_at (nat_cmp (number_of call))) all) s m reply events s' m'
-  pub requests : (q : ℕ) → lookup (is_at (nat_cmp q)) all' ≡ cond (is_at (nat_cmp (number_of call)) q) (row call reply events (lookup (is_at (nat_cmp (number_of call))) all)) (lookup (is_at (nat_cmp q)) all)
+  pub requests : IsMoved call reply events all all'
+
+-- a call of a request that is open already, and stays so
+abbrev pub IsOfOpen : Call → Type 0
+IsOfOpen (C.Open r) = ⊥
+IsOfOpen (C.End r) = ⊥
+IsOfOpen _ = Unit {0}

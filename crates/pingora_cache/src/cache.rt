@@ -200,11 +200,11 @@ impl<S: Storage> HttpCache<S> {
     ghost use Rattle.pcache_lock.specs.Locks.{MayRefuseLock};
     ghost use Rattle.pcache_lock.specs.declared.lock.status.LockStatus.TheVariants.{Done};
     ghost use Rattle.pcache_store.specs.Store.{followed, left, read_of, reader_after};
-    ghost use Rattle.std.specs.Option.{option_copied};
+    ghost use Rattle.std.specs.Option.{option_copied, option_and_then};
     ghost use Rattle.pcache_store.specs.Purge.{purge_answer, purged_at};
     ghost use Rattle.pcache_store.specs.Refusals.{MayRefuseWrite};
     ghost use Rattle.pingora_cache.specs.Phases.{IsDisabled, MayTakeKey, MayLookUp, MayMiss, IsFilling, IsReading, MayPurge, is_filling};
-    ghost use Rattle.pingora_cache.specs.Requests.{Request, new_request, fresh_request, with_key, found_for, looked, table_looked, found_row, store_found, table_found, tracked_found, missed, MayTakeMeta, with_meta, MayWrite, writing, store_writing, begun_for, settled, left_by, dropped_by, let_go_by, tracked_gone_for, is_removed_by};
+    ghost use Rattle.pingora_cache.specs.Requests.{Request, HasKey, new_request, fresh_request, with_key, found_for, looked, table_looked, found_row, store_found, table_found, tracked_found, missed, MayTakeMeta, with_meta, MayWrite, writing, store_writing, begun_for, settled, left_by, dropped_by, let_go_by, tracked_gone_for, is_removed_by};
     ghost use Rattle.pingora_cache.specs.contracts.cache.HttpCache.{the_row};
 
     /// A request for which caching was never turned on.
@@ -252,9 +252,10 @@ impl<S: Storage> HttpCache<S> {
         self.uses
     }
 
-    /// The key, where one is set.
+    /// The key, where one is set: in each phase behind the key's there is one.
     pub fn key(&self) -> Option<&CacheKey>
-        ensures { option_copied result ≡ self.now.key }
+        ensures value { option_copied result ≡ self.now.key }
+        ensures known { HasKey self.now.phase self.now.key }
     {
         self.key.as_ref()
     }
@@ -320,13 +321,35 @@ impl<S: Storage> HttpCache<S> {
         Ok(found)
     }
 
-    /// Takes what a look-up found. A fresh hit is served; a stale one may be renewed, and one that
-    /// is treated as a miss is let go: both ask for the lock where one is in use. A hit that counts
-    /// is noted by the eviction manager. Refused, it lets the hit go; an access noted before stays.
-    pub fn cache_found<L: CacheKeyLock, E: EvictionManager>(
+    /// Notes the use of what a look-up found, where a manager is in use and the hit counts and is not
+    /// passed over. It is refused for want of memory alone, and changes nothing then.
+    pub fn note_found<E: EvictionManager>(
+        &self,
+        eviction: &mut E,
+        meta: &CacheMeta,
+        hit: &S::Hit,
+        status: HitStatus,
+    ) -> Result<()>
+        requires { MayLookUp self.now.phase }
+        ensures tracked { OnOk result (E.tracked eviction.new ≡ tracked_found status (S.Hit.reader hit.now) (S.Hit.entry_number hit.now) self.now (E.tracked eviction.old)) }
+        ensures err { OnErr result (E.tracked eviction.new ≡ E.tracked eviction.old) }
+        ensures limits { E.limits eviction.new ≡ E.limits eviction.old }
+        ensures evicted { E.evicted eviction.new ≡ E.evicted eviction.old }
+        ensures kind { IfErr result (λ e. e ≡ OutOfMemory) }
+    {
+        let Some(key) = &self.key else { unreachable!() };
+        if self.uses.eviction {
+            note_access::<S, E>(eviction, key, meta, hit, status)?;
+        }
+        Ok(())
+    }
+
+    /// Takes what a look-up found, whose use was noted. A fresh hit is served; a stale one may be
+    /// renewed, and one that is treated as a miss is let go: both ask for the lock where one is in use.
+    /// Refused, it lets the hit go.
+    pub fn take_found<L: CacheKeyLock>(
         &mut self,
         storage: &mut S,
-        eviction: &mut E,
         lock: &mut L,
         meta: CacheMeta,
         hit: S::Hit,
@@ -337,22 +360,12 @@ impl<S: Storage> HttpCache<S> {
         ensures request { OnOk result (self.new ≡ found_row status meta (S.Hit.reader hit) (L.table lock.old) self.old) }
         ensures store { OnOk result (S.state storage.new ≡ store_found status (S.Hit.reader hit) self.old (S.state storage.old)) }
         ensures table { OnOk result (L.table lock.new ≡ table_found status now self.old (L.table lock.old)) }
-        ensures tracked { OnOk result (E.tracked eviction.new ≡ tracked_found status (S.Hit.reader hit) (S.Hit.entry_number hit) self.old (E.tracked eviction.old)) }
         ensures same_request { OnErr result (self.new ≡ self.old) }
         ensures left_store { OnErr result (S.state storage.new ≡ left (S.state storage.old) (S.Hit.reader hit)) }
         ensures same_table { OnErr result (L.table lock.new ≡ L.table lock.old) }
-        ensures noted { OnErr result ((E.tracked eviction.new ≡ E.tracked eviction.old) ⊎ (E.tracked eviction.new ≡ tracked_found status (S.Hit.reader hit) (S.Hit.entry_number hit) self.old (E.tracked eviction.old))) }
-        ensures limits { E.limits eviction.new ≡ E.limits eviction.old }
-        ensures evicted { E.evicted eviction.new ≡ E.evicted eviction.old }
         ensures kind { IfErr result (λ e. MayRefuseLock (L.table lock.old) e) }
     {
         let Some(key) = &self.key else { unreachable!() };
-        if self.uses.eviction {
-            if let Err(refused) = note_access::<S, E>(eviction, key, &meta, &hit, status) {
-                hit.let_go(storage);
-                return Err(refused);
-            }
-        }
         if self.uses.lock && !status.is_fresh() {
             if let Err(refused) = take_lock(
                 self.alloc,
@@ -376,6 +389,38 @@ impl<S: Storage> HttpCache<S> {
             replace_reader(&mut self.reader, Some(hit), storage);
         }
         Ok(())
+    }
+
+    /// Takes what a look-up found: what `note_found` does, and then what `take_found` does. Refused,
+    /// it lets the hit go; an access noted before stays.
+    pub fn cache_found<L: CacheKeyLock, E: EvictionManager>(
+        &mut self,
+        storage: &mut S,
+        eviction: &mut E,
+        lock: &mut L,
+        meta: CacheMeta,
+        hit: S::Hit,
+        status: HitStatus,
+        now: Moment,
+    ) -> Result<()>
+        requires { MayLookUp self.old.phase }
+        ensures request { OnOk result (self.new ≡ found_row status meta (S.Hit.reader hit) (L.table lock.old) self.old) }
+        ensures store { OnOk result (S.state storage.new ≡ store_found status (S.Hit.reader hit) self.old (S.state storage.old)) }
+        ensures table { OnOk result (L.table lock.new ≡ table_found status now self.old (L.table lock.old)) }
+        ensures tracked { OnOk result (E.tracked eviction.new ≡ tracked_found status (S.Hit.reader hit) (S.Hit.entry_number hit) self.old (E.tracked eviction.old)) }
+        ensures same_request { OnErr result (self.new ≡ self.old) }
+        ensures left_store { OnErr result (S.state storage.new ≡ left (S.state storage.old) (S.Hit.reader hit)) }
+        ensures same_table { OnErr result (L.table lock.new ≡ L.table lock.old) }
+        ensures noted { OnErr result ((E.tracked eviction.new ≡ E.tracked eviction.old) ⊎ (E.tracked eviction.new ≡ tracked_found status (S.Hit.reader hit) (S.Hit.entry_number hit) self.old (E.tracked eviction.old))) }
+        ensures limits { E.limits eviction.new ≡ E.limits eviction.old }
+        ensures evicted { E.evicted eviction.new ≡ E.evicted eviction.old }
+        ensures kind { IfErr result (λ e. MayRefuseLock (L.table lock.old) e) }
+    {
+        if let Err(refused) = self.note_found(eviction, &meta, &hit, status) {
+            hit.let_go(storage);
+            return Err(refused);
+        }
+        self.take_found(storage, lock, meta, hit, status, now)
     }
 
     /// Goes on as a miss.
@@ -463,8 +508,8 @@ impl<S: Storage> HttpCache<S> {
         ensures request { OnOk result (self.new ≡ writing (S.streams storage.old) (S.state storage.old).next (S.next_entry storage.old) (begun_for self.old.key self.old.meta (S.state storage.old)) self.old) }
         ensures store { OnOk result (S.state storage.new ≡ store_writing (S.streams storage.old) (S.state storage.old).next self.old (S.state storage.old)) }
         ensures table { OnOk result (L.table lock.new ≡ cond (S.streams storage.old) (settled Done self.old.held (L.table lock.old)) (L.table lock.old)) }
-        ensures err { OnErr result (((self.new ≡ self.old) × (S.state storage.new ≡ S.state storage.old) × (L.table lock.new ≡ L.table lock.old))
-            ⊎ ((self.new ≡ record self.old { write = Some (S.state storage.old).next; entry = S.next_entry storage.old; held = None }) × (S.state storage.new ≡ begun_for self.old.key self.old.meta (S.state storage.old)) × (L.table lock.new ≡ settled Done self.old.held (L.table lock.old)))) }
+        ensures err { IfErr result (λ e. ((self.new ≡ self.old) × (S.state storage.new ≡ S.state storage.old) × (L.table lock.new ≡ L.table lock.old) × MayRefuseWrite (S.state storage.old) e)
+            ⊎ ((self.new ≡ record self.old { write = Some (S.state storage.old).next; entry = S.next_entry storage.old; held = None }) × (S.state storage.new ≡ begun_for self.old.key self.old.meta (S.state storage.old)) × (L.table lock.new ≡ settled Done self.old.held (L.table lock.old)) × (e ≡ OutOfMemory))) }
         ensures kind { IfErr result (λ e. (e ≡ OutOfMemory) ⊎ MayRefuseWrite (S.state storage.old) e) }
     {
         let Some(key) = &self.key else { unreachable!() };
@@ -497,6 +542,7 @@ impl<S: Storage> HttpCache<S> {
         requires { IsFilling self.old.phase }
         ensures* writes_back { sem 𝓛 (LendsIf (the_row S.row S.Hit.row S.Miss.row S.StoreMeaning S.Hit.HandleHit S.Miss.HandleMiss) S.Miss.row self.entry result (λ w. record self.old { write = Some (S.Miss.write w); entry = S.Miss.entry_number w }) self.old) }
         ensures value { option_map (λ r. S.Miss.write r.now) result ≡ self.old.write }
+        ensures entry { option_and_then (λ r. S.Miss.entry_number r.now) result ≡ self.old.entry }
     {
         let Some(writer) = &mut self.writer else {
             return None;

@@ -8,6 +8,7 @@ pub mod laws;
 mod look;
 mod machine;
 mod request;
+mod turn;
 
 pub use machine::{Totals, World};
 

@@ -3,6 +3,7 @@
 use crate::error::ErrorType;
 use crate::header::ResponseHeader;
 use crate::meta::CacheMeta;
+use crate::meta::spelled::SpelledMeta;
 use crate::moment::Moment;
 use http::StatusCode;
 use http_header::{HeaderName, HeaderValue};
@@ -82,6 +83,20 @@ fn a_meta_reads_back(rt: HostRuntime) -> Result<(), Fail> {
     assert_eq!(rt; read.stale_if_error_sec(), 60);
     assert_eq!(rt; read.variance(), Some([0xac; 16]));
     assert!(rt; *read.headers() == *meta.headers());
+    Ok(())
+}
+
+#[test]
+fn a_meta_is_kept_as_its_strings(rt: HostRuntime) -> Result<(), Fail> {
+    let alloc = rt.alloc();
+    let kept = SpelledMeta::new(alloc, &meta(alloc)).ok().ok_or("kept")?;
+    let copy = kept.copied(alloc).ok().ok_or("copied")?;
+    let (internal, header) = copy.strings();
+    assert_eq!(rt; internal, WRITTEN.as_slice());
+    assert_eq!(rt; header, b"HTTP/1.1 200\r\n\r\n".as_slice());
+    let read = copy.meta(alloc).ok().ok_or("read")?;
+    assert_eq!(rt; read.fresh_until(), Moment::from_secs(300));
+    assert_eq!(rt; read.stale_if_error_sec(), 60);
     Ok(())
 }
 

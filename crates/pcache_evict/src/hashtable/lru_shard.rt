@@ -58,6 +58,13 @@ impl<V: Drop, const N: usize> LruShard<V, N> {
         self.place
     }
 
+    /// How many keys it may have.
+    pub fn capacity(&self) -> usize
+        ensures { result ≡ self.now.cap }
+    {
+        self.cache.cap().get()
+    }
+
     /// Whether a key is one of its own.
     pub fn belongs(&self, key: u128) -> bool
         ensures { IsTrue result ↔ (key % N ≡ self.now.place) }

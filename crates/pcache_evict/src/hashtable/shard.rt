@@ -1,6 +1,7 @@
 //! One shard of a table.
 ghost use Rattle.std.specs.Prelude.{◌≡◌, None, ◌↔◌, ◌<◌, ◌%◌, IfErr, IfOk, IsTrue, OnErr, OnOk, option_copied};
 ghost use Rattle.std.specs.FinMap as map;
+ghost use Rattle.pcache_evict.specs.Sharding.{Belongs};
 
 use crate::hashtable::table::Table;
 use std::alloc::{AllocFailed, Global};
@@ -64,7 +65,8 @@ impl<V, const N: usize> Shard<V, N> {
 
     /// Its entries, in the order of their keys.
     pub fn iter(&self) -> Iter<'_, u128, V>
-        ensures { result ≡ map.entries self.now.map }
+        ensures entries { result ≡ map.entries self.now.map }
+        ensures own { Belongs N self.now.place self.now.map }
     {
         self.table.iter()
     }

@@ -80,27 +80,52 @@ fn a_capacity_of_0_counts_as_1(rt: HostRuntime) -> Result<(), Fail> {
 fn tables_behind_locks(rt: HostRuntime) -> Result<(), Fail> {
     let table = ConcurrentHashTable::<u64, 4>::new(rt.alloc());
     for key in 0..8u64 {
-        let mut shard = table.write(&rt, u128::from(key));
-        if shard.belongs(u128::from(key)) {
-            shard.insert(u128::from(key), key)?;
-        }
+        table
+            .write(&rt, u128::from(key))
+            .insert(u128::from(key), key)?;
     }
     assert_eq!(rt; table.read(&rt, 6).get(6).copied(), Some(6));
+    assert_eq!(rt; table.read(&rt, 6).iter().count(), 2);
+    assert_eq!(rt; table.get(5).place(), 1);
     assert_eq!(rt; table.get(5).read(&rt).place(), 1);
     assert!(rt; table.get_shard_at_idx(4).is_none());
-    let mut sum = 0u64;
-    table.for_each(&rt, |_key: &u128, value: &u64| {
-        sum = sum.saturating_add(*value);
-    });
-    assert_eq!(rt; sum, 28);
-    let lrus = ConcurrentLruCache::<u64, 4>::new(rt.alloc(), 0)?;
-    let mut shard = lrus.write(&rt, 9);
-    if shard.belongs(9) {
-        shard.put(9, 90)?;
+    assert_eq!(rt; table.get_shard_at_idx(3).map(|lock| lock.place()), Some(3));
+    assert_eq!(rt; table.write(&rt, 6).remove(6), Some(6));
+    assert_eq!(rt; table.write(&rt, 6).get(6).copied(), None);
+    Ok(())
+}
+
+#[test]
+fn each_entry_behind_locks(rt: HostRuntime) -> Result<(), Fail> {
+    let table = ConcurrentHashTable::<u64, 4>::new(rt.alloc());
+    for key in [5u64, 2, 0, 7, 4] {
+        table
+            .write(&rt, u128::from(key))
+            .insert(u128::from(key), key + 1)?;
     }
-    drop(shard);
+    // Shard 0 has keys 0 and 4, shard 1 has 5, shard 2 has 2 and shard 3 has 7.
+    let mut seen = 0u64;
+    table.for_each(&rt, |_key: &u128, value: &u64| {
+        seen = seen.saturating_mul(10).saturating_add(*value);
+    });
+    assert_eq!(rt; seen, 15638);
+    Ok(())
+}
+
+#[test]
+fn tables_that_forget_behind_locks(rt: HostRuntime) -> Result<(), Fail> {
+    let lrus = ConcurrentLruCache::<u64, 4>::new(rt.alloc(), 0)?;
+    assert_eq!(rt; lrus.read(&rt, 9).len(), 0);
+    assert_eq!(rt; lrus.write(&rt, 9).put(9, 90)?, None);
     assert_eq!(rt; lrus.read(&rt, 9).peek(9).copied(), Some(90));
+    assert_eq!(rt; lrus.get(9).place(), 1);
+    assert_eq!(rt; lrus.get(9).capacity(), 1);
+    // Key 13 has the shard of key 9, which has room for one.
+    lrus.write(&rt, 13).put(13, 130)?;
     assert_eq!(rt; lrus.get(9).read(&rt).len(), 1);
+    assert!(rt; !lrus.write(&rt, 9).contains(9));
+    assert_eq!(rt; lrus.write(&rt, 13).pop(13), Some(130));
+    assert_eq!(rt; lrus.read(&rt, 13).capacity(), 1);
     Ok(())
 }
 

@@ -34,7 +34,7 @@ impl WritePermit {
         }
     }
 
-    /// The lock's number.
+    /// The number of the permit's lock.
     pub fn number(&self) -> u64
         ensures { result ≡ self.now.number }
     {
@@ -220,7 +220,7 @@ impl LockStub {
         LockStub { number }
     }
 
-    /// The lock's number.
+    /// The number of the lock that it stands for.
     pub fn number(&self) -> u64
         ensures { result ≡ self.now }
     {

@@ -10,14 +10,15 @@ use crate::table::Table;
 use bytes::Bytes;
 use pcache_base::error::Result;
 use pcache_base::meta::CacheMeta;
+use pcache_base::meta::spelled::SpelledMeta;
 use pcache_base::moment::Moment;
 use std::alloc::Global;
 use std::marker::Model;
 
-/// A complete body and its meta.
+/// A complete body and its meta, which is kept as the bytes that spell it.
 #[derive(Drop)]
 pub(crate) struct Body {
-    meta: CacheMeta,
+    meta: SpelledMeta,
     bytes: Bytes,
 }
 
@@ -33,7 +34,7 @@ impl Model for Body {
 }
 
 impl Body {
-    pub(crate) fn new(meta: CacheMeta, bytes: Bytes) -> Body
+    pub(crate) fn new(meta: SpelledMeta, bytes: Bytes) -> Body
         ensures { result ≡ record { meta = meta; bytes = bytes } }
     {
         Body { meta, bytes }
@@ -46,26 +47,32 @@ impl Body {
         self.bytes.len()
     }
 
-    // A second meta, and the same bytes.
-    pub(crate) fn shared(&self) -> Result<(CacheMeta, Bytes)>
+    // The meta, read back, and the same bytes.
+    pub(crate) fn shared(&self, alloc: Global) -> Result<(CacheMeta, Bytes)>
         ensures ok { IfOk result (λ p. p ≡ (self.now.meta, self.now.bytes)) }
         ensures kind { IfErr result (λ e. e ≡ OutOfMemory) }
     {
-        let meta = self.meta.copied()?;
+        let meta = self.meta.meta(alloc)?;
         let bytes = self.bytes.clone()?;
         Ok((meta, bytes))
     }
 
-    pub(crate) fn set_meta(&mut self, meta: CacheMeta)
+    pub(crate) fn set_meta(&mut self, meta: SpelledMeta)
         ensures { self.new ≡ record self.old { meta = meta } }
     {
         self.meta = meta;
     }
 
-    pub(crate) fn expire_at(&mut self, now: Moment)
-        ensures { self.new ≡ record self.old { meta = meta_of.expired_at now self.old.meta } }
+    // Ends the freshness, in bytes that are written anew.
+    pub(crate) fn expire_at(&mut self, alloc: Global, now: Moment) -> Result<()>
+        ensures ok { OnOk result (self.new ≡ record self.old { meta = meta_of.expired_at now self.old.meta }) }
+        ensures kind { IfErr result (λ e. e ≡ OutOfMemory) }
+        ensures err { OnErr result (self.new ≡ self.old) }
     {
-        self.meta.expire_at(now);
+        let mut meta = self.meta.meta(alloc)?;
+        meta.expire_at(now);
+        self.meta = SpelledMeta::new(alloc, &meta)?;
+        Ok(())
     }
 }
 
@@ -147,7 +154,7 @@ impl KeySlot {
     }
 
     // Sets the body's meta, and answers whether there is a body.
-    pub(crate) fn set_meta(&mut self, meta: CacheMeta) -> bool
+    pub(crate) fn set_meta(&mut self, meta: SpelledMeta) -> bool
         ensures there { result ≡ is_some self.old.body }
         ensures slot { self.new ≡ with_meta (λ _. meta) self.old self.old.body }
     {
@@ -159,15 +166,17 @@ impl KeySlot {
     }
 
     // Ends the body's freshness, and answers whether there is a body.
-    pub(crate) fn expire(&mut self, now: Moment) -> bool
-        ensures there { result ≡ is_some self.old.body }
-        ensures slot { self.new ≡ with_meta (meta_of.expired_at now) self.old self.old.body }
+    pub(crate) fn expire(&mut self, alloc: Global, now: Moment) -> Result<bool>
+        ensures there { IfOk result (λ b. b ≡ is_some self.old.body) }
+        ensures slot { OnOk result (self.new ≡ with_meta (meta_of.expired_at now) self.old self.old.body) }
+        ensures kind { IfErr result (λ e. e ≡ OutOfMemory) }
+        ensures err { OnErr result (self.new ≡ self.old) }
     {
         let Some(body) = &mut self.body else {
-            return false;
+            return Ok(false);
         };
-        body.expire_at(now);
-        true
+        body.expire_at(alloc, now)?;
+        Ok(true)
     }
 
     pub(crate) fn into_body(self) -> Option<Body>

@@ -8,6 +8,7 @@ use crate::memory::body::Body;
 use bytes::Bytes;
 use pcache_base::error::{Error, ErrorType, Result};
 use pcache_base::meta::CacheMeta;
+use pcache_base::meta::spelled::SpelledMeta;
 use std::alloc::{AllocError, Global};
 use std::marker::Model;
 use std::mem;
@@ -86,11 +87,11 @@ impl DraftText {
     }
 }
 
-/// A write, as long as its handler or a reader names it.
+/// A write, as long as its handler or a reader names it. Its meta is kept as the bytes that spell it.
 #[derive(Drop)]
 pub(crate) struct Draft {
     slot: u128,
-    meta: CacheMeta,
+    meta: SpelledMeta,
     text: DraftText,
     told: bool,
     flying: bool,
@@ -110,7 +111,7 @@ impl Model for Draft {
 }
 
 impl Draft {
-    pub(crate) fn new(alloc: Global, slot: u128, meta: CacheMeta) -> Draft
+    pub(crate) fn new(alloc: Global, slot: u128, meta: SpelledMeta) -> Draft
         ensures { result ≡ new_write slot meta }
     {
         Draft {
@@ -179,9 +180,9 @@ impl Draft {
         Ok(())
     }
 
-    // Counts a reader more, and answers a second meta. The readers of one write, each of which is kept
+    // Counts a reader more, and answers the meta, read back. The readers of one write, each of which is kept
     // somewhere, never come to 2^64; if they did there would be no memory for one more.
-    pub(crate) fn join(&mut self) -> Result<CacheMeta>
+    pub(crate) fn join(&mut self, alloc: Global) -> Result<CacheMeta>
         ensures meta { IfOk result (λ m. m ≡ self.old.meta) }
         ensures ok { OnOk result (self.new ≡ record self.old { readers = self.old.readers + 1 }) }
         ensures kind { IfErr result (λ e. e ≡ OutOfMemory) }
@@ -190,7 +191,7 @@ impl Draft {
         let Some(readers) = self.readers.checked_add(1) else {
             return Err(Error::new(ErrorType::OutOfMemory));
         };
-        let meta = self.meta.copied()?;
+        let meta = self.meta.meta(alloc)?;
         self.readers = readers;
         Ok(meta)
     }
@@ -208,12 +209,12 @@ impl Draft {
     }
 
     // The write as a complete body, whose bytes it shares from now on.
-    pub(crate) fn to_body(&mut self) -> Result<Body>
+    pub(crate) fn to_body(&mut self, alloc: Global) -> Result<Body>
         ensures ok { IfOk result (λ b. b ≡ record { meta = self.old.meta; bytes = self.old.bytes }) }
         ensures kind { IfErr result (λ e. e ≡ OutOfMemory) }
         ensures same { self.new ≡ self.old }
     {
-        let meta = self.meta.copied()?;
+        let meta = self.meta.copied(alloc)?;
         let bytes = self.text.share()?;
         Ok(Body::new(meta, bytes))
     }

@@ -97,14 +97,14 @@ impl Drafts {
         write_in(&mut self.writes, alloc, number, bytes, eof)
     }
 
-    // Counts a reader more of a write, and answers a second meta of it.
-    pub(crate) fn join(&mut self, number: u128) -> Result<Option<CacheMeta>>
+    // Counts a reader more of a write, and answers its meta.
+    pub(crate) fn join(&mut self, alloc: Global, number: u128) -> Result<Option<CacheMeta>>
         ensures meta { IfOk result (λ m. m ≡ option_map (λ w. w.meta) (map.get self.old.writes number)) }
         ensures ok { OnOk result (self.new ≡ record self.old { writes = joined_on self.old.writes number (map.get self.old.writes number) }) }
         ensures kind { IfErr result (λ e. e ≡ OutOfMemory) }
         ensures err { OnErr result (self.new ≡ self.old) }
     {
-        join_in(&mut self.writes, number)
+        join_in(&mut self.writes, alloc, number)
     }
 
     // Counts a reader less.
@@ -122,13 +122,13 @@ impl Drafts {
     }
 
     // A write whose handler is gone, and its body, which shares its bytes.
-    pub(crate) fn end(&mut self, number: u128) -> Result<Body>
+    pub(crate) fn end(&mut self, alloc: Global, number: u128) -> Result<Body>
         requires { IsSome (map.get self.old.writes number) }
         ensures body { IfOk result (λ b. IsBodyOf (map.get self.old.writes number) b) }
         ensures gone { self.new ≡ record self.old { writes = grounded_on self.old.writes number (map.get self.old.writes number) } }
         ensures kind { IfErr result (λ e. e ≡ OutOfMemory) }
     {
-        end_in(&mut self.writes, number)
+        end_in(&mut self.writes, alloc, number)
     }
 }
 
@@ -149,7 +149,7 @@ fn write_in(
     draft.write(alloc, bytes, eof)
 }
 
-fn join_in(writes: &mut Table<Draft>, number: u128) -> Result<Option<CacheMeta>>
+fn join_in(writes: &mut Table<Draft>, alloc: Global, number: u128) -> Result<Option<CacheMeta>>
     ensures meta { IfOk result (λ m. m ≡ option_map (λ w. w.meta) (map.get writes.old number)) }
     ensures ok { OnOk result (writes.new ≡ joined_on writes.old number (map.get writes.old number)) }
     ensures kind { IfErr result (λ e. e ≡ OutOfMemory) }
@@ -158,7 +158,7 @@ fn join_in(writes: &mut Table<Draft>, number: u128) -> Result<Option<CacheMeta>>
     let Some(draft) = writes.get_mut(number) else {
         return Ok(None);
     };
-    match draft.join() {
+    match draft.join(alloc) {
         Ok(meta) => Ok(Some(meta)),
         Err(refused) => Err(refused),
     }
@@ -191,7 +191,7 @@ fn land_in(writes: &mut Table<Draft>, number: u128)
 }
 
 // Where nobody reads the write its meta and bytes move into the body, and else the body shares them.
-fn end_in(writes: &mut Table<Draft>, number: u128) -> Result<Body>
+fn end_in(writes: &mut Table<Draft>, alloc: Global, number: u128) -> Result<Body>
     requires { IsSome (map.get writes.old number) }
     ensures body { IfOk result (λ b. IsBodyOf (map.get writes.old number) b) }
     ensures gone { writes.new ≡ grounded_on writes.old number (map.get writes.old number) }
@@ -202,7 +202,7 @@ fn end_in(writes: &mut Table<Draft>, number: u128) -> Result<Body>
     };
     draft.land();
     if draft.is_named() {
-        return draft.to_body();
+        return draft.to_body(alloc);
     }
     let Some(draft) = writes.remove(number) else {
         unreachable!()

@@ -10,7 +10,7 @@ ghost use Rattle.pcache_store.specs.Totals.{body_count, body_size, body_len, one
 use crate::memory::body::{Body, KeySlot};
 use crate::table::Table;
 use pcache_base::error::Result;
-use pcache_base::meta::CacheMeta;
+use pcache_base::meta::spelled::SpelledMeta;
 use pcache_base::moment::Moment;
 use std::alloc::Global;
 use std::marker::Model;
@@ -124,7 +124,7 @@ impl Slots {
     }
 
     // Sets the meta of the complete body, and answers whether there is one.
-    pub(crate) fn set_meta(&mut self, key: u128, meta: CacheMeta) -> bool
+    pub(crate) fn set_meta(&mut self, key: u128, meta: SpelledMeta) -> bool
         ensures there { result ≡ is_some (body_of (map.get self.old key)) }
         ensures slots { self.new ≡ meta_changed_on (λ _. meta) self.old key (map.get self.old key) }
     {
@@ -132,11 +132,13 @@ impl Slots {
     }
 
     // Ends the freshness of the complete body, and answers whether there is one.
-    pub(crate) fn expire(&mut self, key: u128, now: Moment) -> bool
-        ensures there { result ≡ is_some (body_of (map.get self.old key)) }
-        ensures slots { self.new ≡ meta_changed_on (meta_of.expired_at now) self.old key (map.get self.old key) }
+    pub(crate) fn expire(&mut self, alloc: Global, key: u128, now: Moment) -> Result<bool>
+        ensures there { IfOk result (λ b. b ≡ is_some (body_of (map.get self.old key))) }
+        ensures slots { OnOk result (self.new ≡ meta_changed_on (meta_of.expired_at now) self.old key (map.get self.old key)) }
+        ensures kind { IfErr result (λ e. e ≡ OutOfMemory) }
+        ensures err { OnErr result (self.new ≡ self.old) }
     {
-        expire_in(&mut self.slots, key, now)
+        expire_in(&mut self.slots, alloc, key, now)
     }
 }
 
@@ -189,7 +191,7 @@ fn store_in(slots: &mut Table<KeySlot>, key: u128, number: u128, body: Body) -> 
     slot.store(number, body)
 }
 
-fn set_meta_in(slots: &mut Table<KeySlot>, key: u128, meta: CacheMeta) -> bool
+fn set_meta_in(slots: &mut Table<KeySlot>, key: u128, meta: SpelledMeta) -> bool
     ensures there { result ≡ is_some (body_of (map.get slots.old key)) }
     ensures slots { slots.new ≡ meta_changed_on (λ _. meta) slots.old key (map.get slots.old key) }
 {
@@ -199,12 +201,14 @@ fn set_meta_in(slots: &mut Table<KeySlot>, key: u128, meta: CacheMeta) -> bool
     slot.set_meta(meta)
 }
 
-fn expire_in(slots: &mut Table<KeySlot>, key: u128, now: Moment) -> bool
-    ensures there { result ≡ is_some (body_of (map.get slots.old key)) }
-    ensures slots { slots.new ≡ meta_changed_on (meta_of.expired_at now) slots.old key (map.get slots.old key) }
+fn expire_in(slots: &mut Table<KeySlot>, alloc: Global, key: u128, now: Moment) -> Result<bool>
+    ensures there { IfOk result (λ b. b ≡ is_some (body_of (map.get slots.old key))) }
+    ensures slots { OnOk result (slots.new ≡ meta_changed_on (meta_of.expired_at now) slots.old key (map.get slots.old key)) }
+    ensures kind { IfErr result (λ e. e ≡ OutOfMemory) }
+    ensures err { OnErr result (slots.new ≡ slots.old) }
 {
     let Some(slot) = slots.get_mut(key) else {
-        return false;
+        return Ok(false);
     };
-    slot.expire(now)
+    slot.expire(alloc, now)
 }

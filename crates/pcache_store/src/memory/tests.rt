@@ -562,6 +562,56 @@ fn a_meta_is_found_with_its_fields(rt: HostRuntime) -> std::result::Result<(), F
     Ok(())
 }
 
+// Whether a look-up gives this meta.
+fn finds(alloc: Global, store: &mut MemCache, key: &CacheKey, meta: &CacheMeta) -> Result<bool> {
+    let Some((found, reader)) = store.lookup(alloc, key)? else {
+        return Ok(false);
+    };
+    reader.let_go(store);
+    Ok(
+        found.fresh_until() == meta.fresh_until()
+            && found.updated() == meta.updated()
+            && found.epoch() == meta.epoch()
+            && found.stale_if_error_sec() == meta.stale_if_error_sec()
+            && found.variance() == meta.variance()
+            && *found.headers() == *meta.headers(),
+    )
+}
+
+fn meta_with_fields(alloc: Global) -> std::result::Result<CacheMeta, Fail> {
+    let mut header = ResponseHeader::build(alloc, StatusCode::OK);
+    for (name, value) in [("age", "7"), ("set-cookie", "a=1"), ("set-cookie", "b=2")] {
+        let name = HeaderName::from_bytes(alloc, name.as_bytes())?;
+        let value = HeaderValue::from_bytes(alloc, value.as_bytes())?;
+        header.headers.append(name, value)?;
+    }
+    let mut meta = CacheMeta::new(Moment::from_secs(70), Moment::from_secs(1), 10, 20, header);
+    meta.set_variance_key([0xac; 16]);
+    meta.set_epoch_override(Moment::from_secs(3));
+    Ok(meta)
+}
+
+// Of a write, of a body, and of one that was expired.
+#[test]
+fn a_meta_reads_back_equal(rt: HostRuntime) -> std::result::Result<(), Fail> {
+    let alloc = rt.alloc();
+    let mut store = MemCache::new(alloc);
+    let key = key_of(alloc, "a")?;
+    let mut meta = meta_with_fields(alloc)?;
+    let writer = store.get_miss_handler(alloc, &key, &meta)?;
+    let in_flight = finds(alloc, &mut store, &key, &meta);
+    writer.finish(&mut store)?;
+    assert!(rt; in_flight?);
+    assert!(rt; finds(alloc, &mut store, &key, &meta)?);
+    let compact = key.to_compact()?;
+    let expired = store.expire(alloc, PurgeTarget::Active(&compact), Moment::from_secs(5))?;
+    assert_eq!(rt; expired, PurgeOutcome::Expired);
+    assert!(rt; !finds(alloc, &mut store, &key, &meta)?);
+    meta.expire_at(Moment::from_secs(5));
+    assert!(rt; finds(alloc, &mut store, &key, &meta)?);
+    Ok(())
+}
+
 // By any store.
 fn is_streamed<S: Storage>(alloc: Global, store: &mut S, key: &CacheKey) -> Result<bool> {
     let meta = meta_until(alloc, 300);

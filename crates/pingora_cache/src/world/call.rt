@@ -1,6 +1,8 @@
 //! What a world is asked, and what it answers.
-ghost use Rattle.std.specs.Prelude.{◌≡◌, IfOk, IfErr};
+ghost use Rattle.std.specs.Prelude.{◌≡◌, ℕ, List, IfOk, IfErr, OnErr};
 ghost use Rattle.pcache_base.specs.declared.error.ErrorType.TheVariants.{OutOfMemory};
+ghost use Rattle.pingora_cache.specs.Held.{number_of};
+ghost use Rattle.pingora_cache.specs.declared.world.call.Reply.TheVariants.{Data};
 
 use crate::phase::{CachePhase, HitStatus};
 use bytes::Bytes;
@@ -69,6 +71,36 @@ pub enum Call {
     },
 }
 
+impl Call {
+    /// The number of the request that the call names.
+    pub fn request(&self) -> u64
+        ensures { result ≡ number_of self.now }
+    {
+        *match self {
+            Call::Open { request } => request,
+            Call::Key { request, key: _ } => request,
+            Call::Look { request, now: _ } => request,
+            Call::Found {
+                request,
+                status: _,
+                now: _,
+            } => request,
+            Call::Miss { request } => request,
+            Call::Meta { request, meta: _ } => request,
+            Call::Begin { request } => request,
+            Call::Write {
+                request,
+                bytes: _,
+                eof: _,
+            } => request,
+            Call::Finish { request } => request,
+            Call::Read { request } => request,
+            Call::Purge { request } => request,
+            Call::End { request } => request,
+        }
+    }
+}
+
 /// Which kind of lock was given.
 #[derive(Clone, Copy, Debug, PartialEq, Eq)]
 pub enum LockKind {
@@ -112,9 +144,11 @@ pub enum Reply {
 }
 
 impl Reply {
-    /// A second reply, equal to this one. It is refused for want of memory alone.
+    /// A second reply, equal to this one. It is refused for want of memory alone, and only where the
+    /// reply has bytes.
     pub fn copied(&self) -> Result<Reply>
         ensures ok { IfOk result (λ copy. copy ≡ self.now) }
+        ensures data { OnErr result ((bytes : List ℕ) × (self.now ≡ Data bytes)) }
         ensures kind { IfErr result (λ e. e ≡ OutOfMemory) }
     {
         Ok(match self {

@@ -1,10 +1,30 @@
 //! What is promised of every legal history, whatever calls it has.
-ghost use Rattle.pingora_cache.specs.Headline.{FindsExactly, IsWithinLimits, ReadsTheLast};
+ghost use Rattle.pingora_cache.specs.Headline.{FindsExactly, FinishesExactly, IsWithinLimits, IsWrongExactly, LooksAreTrue, ReadsABeginning, ReadsAreTrue, ReadsTheLast};
+
+/// A call is answered as a wrong one exactly where its condition fails.
+pub fn is_wrong_exactly()
+    ensures { IsWrongExactly }
+{}
+
+/// A look-up answers what the events before it say of its key.
+pub fn looks_are_true()
+    ensures { LooksAreTrue }
+{}
+
+/// A read gives what the events before it say of its reader.
+pub fn reads_are_true()
+    ensures { ReadsAreTrue }
+{}
 
 /// The store finds a key exactly where a write of it, in flight or finished, met no removal since
 /// it began.
 pub fn finds_exactly()
     ensures { FindsExactly }
+{}
+
+/// A write's finish succeeds exactly where it met no removal since it began.
+pub fn finishes_exactly()
+    ensures { FinishesExactly }
 {}
 
 /// A complete hit reads the body of the last finished write of its key.
@@ -16,4 +36,10 @@ pub fn hits_read_the_last()
 /// watermark.
 pub fn stored_is_within_limits()
     ensures { IsWithinLimits }
+{}
+
+/// What a reader of a write has read is a beginning of the write's body; a reader of a complete
+/// body gives its range once.
+pub fn reads_a_beginning()
+    ensures { ReadsABeginning }
 {}

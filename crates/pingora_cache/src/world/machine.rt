@@ -1,19 +1,19 @@
 //! The world itself.
-ghost use Rattle.std.specs.Prelude.{◌≡◌, ◌+◌, ◌<◌, ◌≤◌, ◌++◌, ◌∷◌, [], IfOk, IfErr, OnErr, vec_len};
+ghost use Rattle.std.specs.Prelude.{◌≡◌, ◌+◌, ◌<◌, ◌≤◌, ◌⊎◌, ◌++◌, ◌∷◌, [], Some, None, IsSome, IfSome, option_map, IfOk, IfErr, OnOk, OnErr, min, ◌^◌, ◌-◌, vec_len};
+ghost use Rattle.pcache_base.specs.declared.error.ErrorType.TheVariants.{OutOfMemory};
 ghost use Rattle.std.specs.Vec.{vec_capacity};
+ghost use Rattle.pingora_cache.specs.Log.{IsCopy, started};
 
-use crate::cache::HttpCache;
-use crate::phase::InUse;
 use crate::world::call::{Call, Reply};
 use crate::world::entry::{Entry, Event, Events};
 use crate::world::request::OpenRequest;
-use crate::world::{fill, look};
+use crate::world::turn::apply;
 use pcache_base::error::{ErrorType, Result};
 use pcache_evict::eviction::{CacheEntryKey, EvictionManager};
 use pcache_lock::lock::CacheLock;
 use pcache_store::memory::MemCache;
 use std::alloc::Global;
-use std::collections::{BTreeMap, btree_map};
+use std::collections::BTreeMap;
 use std::marker::Model;
 use std::time::Duration;
 
@@ -31,33 +31,46 @@ pub struct Totals {
 
 /// Requests over one store, one eviction manager and one lock table, with the history of what was
 /// asked. Each call is whole: it is asked, answered and noted before the next.
+///
+/// The history is legal at all times: each entry is one that the entries before it give.
 pub struct World<M: EvictionManager> {
     alloc: Global,
     store: MemCache,
     manager: M,
     lock: CacheLock,
     requests: BTreeMap<u64, OpenRequest>,
-    start: Vec<(CacheEntryKey, usize)>,
-    is_started: bool,
+    start: Option<Vec<(CacheEntryKey, usize)>>,
     history: Vec<Entry>,
 }
 
 impl<M: EvictionManager> Model for World<M> {
-    ghost use Rattle.pingora_cache.specs.Log.{Log};
+    ghost use Rattle.std.specs.Prelude.{◌≡◌, None, [], reverse};
+    ghost use Rattle.std.specs.Option.{option_map};
+    ghost use Rattle.std.specs.FinMap as map;
+    ghost use Rattle.pingora_cache.specs.Log.{Log, started};
+    ghost use Rattle.pingora_cache.specs.LogCode.{log_code};
+    ghost use Rattle.pingora_cache.specs.Sound.{IsSound};
 
     ghost Value = { Log };
 
-    ghost view = { λ w. record { history = w.history.items } };
+    ghost coded = { log_code };
+
+    ghost view = { λ w. record { history = w.history.items; start = started (option_map (λ v. v.items) w.start) (M.tracked w.manager); limits = M.limits w.manager; evicted = M.evicted w.manager } };
+
+    ghost invariant = { λ w. IsSound (M.limits w.manager) (started (option_map (λ v. v.items) w.start) (M.tracked w.manager)) (M.tracked w.manager) w.store (map.from_entries w.requests.entries) (reverse w.history.items) × (w.start ≡ None → w.history.items ≡ []) };
 }
 
 impl<M: EvictionManager> World<M> {
-    ghost use Rattle.pingora_cache.specs.Log.{Log, Adds, AddsAll, AddsSome};
+    ghost use Rattle.std.specs.FinMap as map;
+    ghost use Rattle.pingora_cache.specs.Events.{stored, slots, tracked};
+    ghost use Rattle.pingora_cache.specs.Log.{Log, Adds, AddsAll, AddsSome, HasLegal, events_in};
     ghost use Rattle.pcache_base.specs.declared.error.ErrorType.TheVariants.{OutOfMemory};
+    ghost use Rattle.pcache_evict.specs.Tracked.{weight};
 
     /// A world with no requests, nothing stored and an empty history. Permits age out after
     /// `age_timeout`.
     pub fn new(alloc: Global, manager: M, age_timeout: Duration) -> World<M>
-        ensures { result ≡ record { history = [] } }
+        ensures { result ≡ record { history = []; start = M.tracked manager; limits = M.limits manager; evicted = M.evicted manager } }
     {
         World {
             alloc,
@@ -65,36 +78,52 @@ impl<M: EvictionManager> World<M> {
             manager,
             lock: CacheLock::new(alloc, age_timeout),
             requests: BTreeMap::new(alloc),
-            start: Vec::new(alloc),
-            is_started: false,
+            start: None,
             history: Vec::new(alloc),
         }
     }
 
     /// What was asked, answered and done, in order.
     pub fn history(&self) -> &[Entry]
-        ensures { result.now ≡ self.now.history }
+        ensures entries { result.now ≡ self.now.history }
+        ensures legal { HasLegal self.now }
     {
         self.history.as_slice()
     }
 
-    /// What the manager held before the first call; nothing before that call.
-    pub fn start(&self) -> &[(CacheEntryKey, usize)] {
-        self.start.as_slice()
+    /// What the manager held before the first call, in no order; nothing before that call.
+    pub fn start(&self) -> &[(CacheEntryKey, usize)]
+        ensures { (map.from_entries result.now ≡ self.now.start) ⊎ ((result.now ≡ []) × (self.now.history ≡ [])) }
+    {
+        match &self.start {
+            Some(start) => start.as_slice(),
+            None => &[],
+        }
     }
 
-    /// The lengths of the complete bodies, added up.
-    pub fn stored_bytes(&self) -> u128 {
+    /// The lengths of the complete bodies, added up: at most the manager's limit on weight.
+    pub fn stored_bytes(&self) -> u128
+        ensures value { result ≡ stored (events_in self.now) }
+        ensures within { result ≤ self.now.limits.weight }
+    {
         self.store.stored_bytes()
     }
 
-    /// The number of complete bodies.
-    pub fn slots(&self) -> usize {
+    /// The number of complete bodies: at most the manager's watermark, where it has one.
+    pub fn slots(&self) -> usize
+        ensures value { result ≡ slots (events_in self.now) }
+        ensures within { IfSome self.now.limits.watermark (λ most. result ≤ most) }
+    {
         self.store.slots()
     }
 
     /// The manager's totals.
-    pub fn totals(&self) -> Totals {
+    pub fn totals(&self) -> Totals
+        ensures weight { result.weight ≡ min (weight (tracked self.now.start (events_in self.now))) (2 ^ 64 - 1) }
+        ensures items { result.items ≡ map.len (tracked self.now.start (events_in self.now)) }
+        ensures evicted_weight { result.evicted_weight ≡ self.now.evicted.weight }
+        ensures evicted_items { result.evicted_items ≡ self.now.evicted.count }
+    {
         Totals {
             weight: self.manager.total_size(),
             items: self.manager.total_items(),
@@ -107,15 +136,12 @@ impl<M: EvictionManager> World<M> {
     /// nothing; a refusal inside the call is its reply.
     pub fn step(&mut self, call: Call) -> Result<Reply>
         ensures ok { IfOk result (λ reply. Adds self.old call reply self.new) }
+        ensures legal { HasLegal self.new }
         ensures err { OnErr result (self.new ≡ self.old) }
         ensures kind { IfErr result (λ e. e ≡ OutOfMemory) }
     {
-        if !self.is_started {
-            self.start = self.manager.entries()?;
-            self.is_started = true;
-        }
-        self.history.reserve(1)?;
         let mut events = Vec::with_capacity(self.alloc, MOST_EVENTS)?;
+        make_ready(&mut self.history, &mut self.start, &self.manager)?;
         let reply = apply(
             self.alloc,
             &mut self.requests,
@@ -134,6 +160,7 @@ impl<M: EvictionManager> World<M> {
     /// those of a beginning of the list.
     pub fn run(&mut self, calls: Vec<Call>) -> Result<Vec<Reply>>
         ensures ok { IfOk result (λ replies. AddsAll self.old calls.items replies.items self.new) }
+        ensures legal { HasLegal self.new }
         ensures err { OnErr result (AddsSome self.old calls.items self.new) }
         ensures kind { IfErr result (λ e. e ≡ OutOfMemory) }
     {
@@ -156,172 +183,40 @@ impl<M: EvictionManager> Drop for World<M> {
             mut lock,
             mut requests,
             start: _,
-            is_started: _,
             history: _,
         } = self;
-        while let Some((_number, open)) = requests.pop_first() {
-            open.end(&mut store, &mut lock);
+        while let Some((_number, request)) = requests.pop_first() {
+            request.end(&mut store, &mut lock);
         }
         requests.destroy_empty();
         drop(manager);
     }
 }
 
-// One call over the parts.
-fn apply<M: EvictionManager>(
-    alloc: Global,
-    requests: &mut BTreeMap<u64, OpenRequest>,
-    store: &mut MemCache,
-    manager: &mut M,
-    lock: &mut CacheLock,
-    events: &mut Vec<Event>,
-    call: &Call,
-) -> Reply
-    requires { vec_len events.old + 3 ≤ vec_capacity events.old }
+// Makes room for one entry more, and before the first call takes down what the manager holds.
+fn make_ready<M: EvictionManager>(
+    history: &mut Vec<Entry>,
+    start: &mut Option<Vec<(CacheEntryKey, usize)>>,
+    manager: &M,
+) -> Result<()>
+    ensures same_history { history.new.items ≡ history.old.items }
+    ensures same_start { started (option_map (λ v. v.items) start.new) (M.tracked manager.now) ≡ started (option_map (λ v. v.items) start.old) (M.tracked manager.now) }
+    ensures kept { start.new ≡ None → start.old ≡ None }
+    ensures known { OnOk result (IsSome start.new) }
+    ensures room { OnOk result (vec_len history.new < vec_capacity history.new) }
+    ensures kind { IfErr result (λ e. e ≡ OutOfMemory) }
 {
-    match call {
-        Call::Open { request } => open(alloc, requests, *request),
-        Call::End { request } => end(requests, store, lock, events, *request),
-        Call::Key { request, key } => {
-            let Some(open) = requests.get_mut(request) else {
-                return Reply::WrongCall;
-            };
-            set_key(open, key)
-        }
-        Call::Look { request, now } => {
-            let Some(open) = requests.get_mut(request) else {
-                return Reply::WrongCall;
-            };
-            look::look(open, store, lock, events, *now)
-        }
-        Call::Found {
-            request,
-            status,
-            now,
-        } => {
-            let Some(open) = requests.get_mut(request) else {
-                return Reply::WrongCall;
-            };
-            look::found(open, store, manager, lock, events, *status, *now)
-        }
-        Call::Miss { request } => {
-            let Some(open) = requests.get_mut(request) else {
-                return Reply::WrongCall;
-            };
-            miss(open, store)
-        }
-        Call::Meta { request, meta } => {
-            let Some(open) = requests.get_mut(request) else {
-                return Reply::WrongCall;
-            };
-            fill::meta(open, meta)
-        }
-        Call::Begin { request } => {
-            let Some(open) = requests.get_mut(request) else {
-                return Reply::WrongCall;
-            };
-            fill::begin(open, store, lock, events)
-        }
-        Call::Write {
-            request,
-            bytes,
-            eof,
-        } => {
-            let Some(open) = requests.get_mut(request) else {
-                return Reply::WrongCall;
-            };
-            fill::write(open, store, events, bytes, *eof)
-        }
-        Call::Finish { request } => {
-            let Some(open) = requests.get_mut(request) else {
-                return Reply::WrongCall;
-            };
-            fill::finish(open, store, manager, lock, events)
-        }
-        Call::Read { request } => {
-            let Some(open) = requests.get_mut(request) else {
-                return Reply::WrongCall;
-            };
-            fill::read(open, store, events)
-        }
-        Call::Purge { request } => {
-            let Some(open) = requests.get_mut(request) else {
-                return Reply::WrongCall;
-            };
-            fill::purge(open, store, manager, events)
-        }
+    history.reserve(1)?;
+    if start.is_none() {
+        *start = Some(manager.entries()?);
     }
-}
-
-// Makes a request, where its number is free.
-fn open(alloc: Global, requests: &mut BTreeMap<u64, OpenRequest>, number: u64) -> Reply {
-    if requests.contains_key(&number) {
-        return Reply::WrongCall;
-    }
-    match requests.entry(number) {
-        Ok(btree_map::Entry::Vacant(place)) => {
-            let mut cache = HttpCache::new(alloc);
-            cache.enable(InUse {
-                eviction: true,
-                predictor: false,
-                lock: true,
-            });
-            place.insert(OpenRequest::new(cache));
-            Reply::Done
-        }
-        Ok(btree_map::Entry::Occupied(_)) => unreachable!(),
-        Err(_) => Reply::Refused(ErrorType::OutOfMemory),
-    }
-}
-
-fn set_key(open: &mut OpenRequest, key: &pcache_base::key::CacheKey) -> Reply {
-    if !open.cache.phase().may_take_key() {
-        return Reply::WrongCall;
-    }
-    match key.copied() {
-        Ok(copy) => {
-            open.cache.set_cache_key(copy);
-            Reply::Done
-        }
-        Err(refused) => Reply::Refused(refused.etype()),
-    }
-}
-
-fn miss(open: &mut OpenRequest, store: &mut MemCache) -> Reply {
-    if !open.cache.phase().may_miss() {
-        return Reply::WrongCall;
-    }
-    open.cache.cache_miss();
-    open.hold(None, store);
-    Reply::Done
-}
-
-// Ends a request, whose number is free then.
-fn end(
-    requests: &mut BTreeMap<u64, OpenRequest>,
-    store: &mut MemCache,
-    lock: &mut CacheLock,
-    events: &mut Vec<Event>,
-    number: u64,
-) -> Reply
-    requires { vec_len events.old + 2 ≤ vec_capacity events.old }
-{
-    let Some(open) = requests.remove(&number) else {
-        return Reply::WrongCall;
-    };
-    if let Some(write) = open.write() {
-        events.push_reserved(Event::Dropped { write });
-    }
-    if let Some(permit) = open.permit() {
-        events.push_reserved(Event::LetGo { lock: permit });
-    }
-    open.end(store, lock);
-    Reply::Done
+    Ok(())
 }
 
 // A reply for the history and one to be answered. Where the copy is refused, that is the reply.
 fn doubled(reply: Reply) -> (Reply, Reply)
-    ensures { result.0 ≡ result.1 }
+    ensures same { result.0 ≡ result.1 }
+    ensures copy { IsCopy reply result.0 }
 {
     match reply.copied() {
         Ok(copy) => (reply, copy),

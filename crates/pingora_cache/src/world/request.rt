@@ -1,9 +1,17 @@
 //! An open request, with what its last look-up gave.
+ghost use Rattle.std.specs.Prelude.{◌≡◌, None, option_map};
+ghost use Rattle.pcache_store.specs.Readers.{reader_of};
+ghost use Rattle.pingora_cache.specs.Legal.{permit_of};
+ghost use Rattle.pingora_cache.specs.Requests.{Request, left_by};
+ghost use Rattle.pingora_cache.specs.Sound.{pair_reader};
+ghost use Rattle.pingora_cache.specs.Step.{store_ended};
+
 use crate::cache::HttpCache;
 use pcache_base::meta::CacheMeta;
 use pcache_lock::lock::{CacheLock, Locked};
 use pcache_store::memory::{MemCache, MemHitHandler};
 use pcache_store::storage::HandleHit;
+use std::marker::Model;
 
 /// What a look-up gave: a meta, and the reader of the body or write.
 pub(crate) type Pair = (CacheMeta, MemHitHandler);
@@ -15,40 +23,60 @@ pub struct OpenRequest {
     pub(crate) pair: Option<Pair>,
 }
 
+impl Model for OpenRequest {
+    ghost use Rattle.std.specs.Prelude.{option_map};
+    ghost use Rattle.pcache_store.specs.Readers.{reader_of};
+    ghost use Rattle.pingora_cache.specs.Held.{Held};
+
+    ghost Value = { Held };
+
+    ghost view = { λ a. record { request = a.cache; pair = option_map (λ p. (p.0, reader_of p.1)) a.pair } };
+}
+
 impl OpenRequest {
-    pub(crate) fn new(cache: HttpCache<MemCache>) -> OpenRequest {
+    pub(crate) fn new(cache: HttpCache<MemCache>) -> OpenRequest
+        ensures { result ≡ record { request = cache; pair = None } }
+    {
         OpenRequest { cache, pair: None }
     }
 
-    /// The number of the permit that is held, if one is.
-    pub(crate) fn permit(&self) -> Option<u64> {
-        match self.cache.held() {
-            Some(Locked::Write(permit)) => Some(permit.number()),
-            _ => None,
-        }
-    }
-
-    /// The number of the write that is held, if one is.
-    pub(crate) fn write(&self) -> Option<u128> {
-        match self.cache.writer() {
-            Some(writer) => Some(u128::from(writer.number())),
-            None => None,
-        }
-    }
-
-    /// Holds a pair, or none, in place of the one before, which is let go.
-    pub(crate) fn hold(&mut self, pair: Option<Pair>, store: &mut MemCache) {
-        if let Some((_meta, hit)) = std::mem::replace(&mut self.pair, pair) {
-            hit.let_go(store);
-        }
-    }
-
     /// Gives back all that is held.
-    pub(crate) fn end(self, store: &mut MemCache, lock: &mut CacheLock) {
-        let OpenRequest { cache, pair } = self;
-        if let Some((_meta, hit)) = pair {
-            hit.let_go(store);
-        }
+    pub(crate) fn end(self, store: &mut MemCache, lock: &mut CacheLock)
+        ensures { store.new ≡ store_ended self store.old }
+    {
+        let OpenRequest { cache, mut pair } = self;
+        hold(&mut pair, None, store);
+        let None = pair else { unreachable!() };
         cache.end(store, lock);
+    }
+}
+
+/// The number of the permit that a request holds, if one is.
+pub(crate) fn permit(cache: &HttpCache<MemCache>) -> Option<u64>
+    ensures { result ≡ permit_of cache.now.held }
+{
+    match cache.held() {
+        Some(Locked::Write(permit)) => Some(permit.number()),
+        _ => None,
+    }
+}
+
+/// The number of the write that a request holds, if one is.
+pub(crate) fn write_number(cache: &HttpCache<MemCache>) -> Option<u128>
+    ensures { result ≡ cache.now.write }
+{
+    match cache.writer() {
+        Some(writer) => Some(u128::from(writer.number())),
+        None => None,
+    }
+}
+
+/// Holds a pair, or none, in place of the one before, which is let go.
+pub(crate) fn hold(place: &mut Option<Pair>, pair: Option<Pair>, store: &mut MemCache)
+    ensures place { place.new ≡ pair }
+    ensures store { store.new ≡ left_by (pair_reader (option_map (λ p. (p.0, reader_of p.1)) place.old)) store.old }
+{
+    if let Some((_meta, hit)) = std::mem::replace(place, pair) {
+        hit.let_go(store);
     }
 }

@@ -1,4 +1,4 @@
-use Rattle.std.proofs.Common.{◌≡◌, ℕ, ◌+◌, ◌≤◌, ◌<◌, length, drop, arith, add-zero, false, ◌∙◌}
+use Rattle.std.proofs.Common.{◌≡◌, arith, false, ◌∙◌}
 use Rattle.pingora_cache.proofs.Purging.{told_on, told_all}
 use Rattle.pingora_cache.proofs.cache.finish.purge_all.Goals as goal
 use Rattle.pingora_cache.proofs.cache.finish.purge_all.Goals.{then-is_purge_refused, else-is_purge_refused}

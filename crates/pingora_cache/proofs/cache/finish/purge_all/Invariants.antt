@@ -1,4 +1,4 @@
-use Rattle.std.proofs.Common.{◌≡◌, ℕ, ◌+◌, ◌≤◌, length, drop, true}
+use Rattle.std.proofs.Common.{◌≡◌, ℕ, ◌+◌, ◌≤◌, drop, true}
 use Rattle.pcache_store.specs.Store.{Store}
 use Rattle.pingora_cache.specs.Finishing.{PurgesAll}
 use Rattle.pingora_cache.proofs.cache.finish.purge_all.Given as goal

@@ -1,0 +1,75 @@
+//! One shard of a table behind a lock.
+ghost use Rattle.std.specs.Prelude.{◌≡◌, ◌<◌};
+ghost use Rattle.std.specs.Sync.RwLock.{read_guard_value, write_guard_value};
+
+use crate::hashtable::shard::Shard;
+use std::alloc::Global;
+use std::marker::{Model, PhantomData};
+use std::sync::{RwLock, RwLockReadGuard, RwLockWriteGuard, Wait};
+
+/// The lock of one of `N` shards. A contract sees the place of its shard.
+///
+/// Of what a lock lends nothing is known but its type. So the place stands beside the lock as well,
+/// and a shard is lent only where it says that place itself.
+#[derive(Drop)]
+pub struct ShardLock<V, const N: usize> {
+    place: usize,
+    shard: RwLock<Shard<V, N>>,
+}
+
+impl<V, const N: usize> Model for ShardLock<V, N> {
+    ghost use Rattle.std.specs.Prelude.{ℕ, ◌<◌};
+
+    ghost Value = { ℕ };
+
+    ghost view = { λ l. l.place };
+
+    ghost invariant = { λ l. l.place < N };
+}
+
+impl<V, const N: usize> ShardLock<V, N> {
+    /// The lock of an empty shard at a place.
+    pub fn at(alloc: Global, place: usize, like: PhantomData<Shard<V, N>>) -> ShardLock<V, N>
+        requires { place < N }
+        ensures { result ≡ place }
+    {
+        ShardLock {
+            place,
+            shard: RwLock::new(Shard::at(alloc, place, like)),
+        }
+    }
+
+    /// The place of its shard.
+    pub fn place(&self) -> usize
+        ensures place { result ≡ self.now }
+        ensures in_range { self.now < N }
+    {
+        self.place
+    }
+
+    /// Its shard, to be read. It may wait.
+    pub fn read<R: Wait>(&self, rt: &R) -> RwLockReadGuard<'_, Shard<V, N>>
+        ensures { (read_guard_value result).place ≡ self.now }
+    {
+        for _ in rt.forever() {
+            let shard = self.shard.read(rt);
+            if shard.place() == self.place {
+                return shard;
+            }
+        }
+        unreachable!()
+    }
+
+    /// Its shard, to be written. It may wait.
+    pub fn write<R: Wait>(&self, rt: &R) -> RwLockWriteGuard<'_, Shard<V, N>>
+        ensures { (write_guard_value result).place ≡ self.now }
+    {
+        for _ in rt.forever() {
+            let shard = self.shard.write(rt);
+            if shard.place() == self.place {
+                return shard;
+            }
+        }
+        unreachable!()
+    }
+}

@@ -1,0 +1,236 @@
+-- What a reader has given, over every legal history: a beginning of its write's body, or its range once.
+use Rattle.std.proofs.Common.{◌≡◌, ℕ, ◌+◌, ◌≤◌, ◌==◌, Bool, true, false, not, ◌&&◌, nat_lt, cond, if◌then◌else◌, Option, None, Some, IsSome, IfSome, List, [], ◌∷◌, ◌++◌, refl, ap, sym, subst, ◌∙◌, length, length-append, length-drop, take, drop, take-append-drop, take_all, append-nil, reverse, slice_range, arith, inl, inr}
+use Rattle.std.specs.Option.{option_map}
+use Rattle.std.proofs.lemmas.Bool.{eqb-true}
+use Rattle.std.proofs.lemmas.List.{take-append-le}
+use Rattle.pcache_base.specs.Key.{slot}
+use Rattle.pcache_base.specs.Meta.{Meta}
+use Rattle.pcache_base.specs.declared.poll.Poll.{Poll}
+use Rattle.pcache_base.specs.declared.poll.Poll.TheVariants.{Ready, Pending}
+use Rattle.pcache_evict.specs.Tracked.{Tracked, Limits}
+use Rattle.pcache_store.specs.Store.{Written, Reader, Whole, Part, read_part}
+use Rattle.pingora_cache.specs.Phases.{is_treated_as_miss}
+use Rattle.pingora_cache.specs.Requests.{Request, with_key, missed, with_meta}
+use Rattle.pingora_cache.specs.declared.phase.HitStatus.{HitStatus}
+use Rattle.pingora_cache.specs.declared.world.call.Call.{Call}
+use Rattle.pingora_cache.specs.declared.world.call.Call.TheVariants as C
+use Rattle.pingora_cache.specs.declared.world.call.Reply.{Reply}
+use Rattle.pingora_cache.specs.declared.world.call.Reply.TheVariants as R
+use Rattle.pingora_cache.specs.declared.world.entry.Answer.{Answer}
+use Rattle.pingora_cache.specs.declared.world.entry.Answer.TheVariants as A
+use Rattle.pingora_cache.specs.declared.world.entry.Entry.{Entry}
+use Rattle.pingora_cache.specs.declared.world.entry.Event.{Event}
+use Rattle.pingora_cache.specs.declared.world.entry.Event.TheVariants as E
+use Rattle.pingora_cache.specs.Events.{begun, begin_of, is_removed, in_flight, body_of, is_told, tracked}
+use Rattle.pingora_cache.specs.Held.{Held, number_of, is_done, is_taken, is_refused, opened, with_given, asked, pair_of, looked_by, placed_by, taken_by, without_pair, began, ended, read_past, has_read, on_request, row, request_of}
+use Rattle.pingora_cache.specs.Legal.{events_of, release_of, Finds, HasAny, reads, IsIdle, Begins, Reads, Answers, IsLegal}
+use Rattle.pingora_cache.specs.ReadSoFar.{given_in, read_on, read_by, HasRead}
+use Rattle.pingora_cache.specs.Headline.{ReadsABeginning}
+
+-- a reader that has given nothing
+abbrev IsAtStart : Reader → Type 0
+IsAtStart (Whole body start stop done) = done ≡ false
+IsAtStart (Part w place) = place ≡ 0
+
+abbrev FollowsIn : List Event → Held → List ℕ → Type 0
+FollowsIn es x got = IfSome x.request.reader (λ reader. HasRead es reader got) × IfSome x.pair (λ p. IsAtStart p.1)
+
+-- a request's reader has given these bytes, and that of its pair none
+abbrev Follows : List Event → Option Held → List ℕ → Type 0
+Follows es None got = Unit {0}
+Follows es (Some x) got = FollowsIn es x got
+
+-- A body only grows at its end.
+
+longer : (place : ℕ) (body more got : List ℕ) → (got ≡ take place body) × (place ≤ length body) → (got ≡ take place (body ++ more)) × (place ≤ length (body ++ more))
+longer place body more got h = let long = length-append body more in (h.0 ∙ sym (take-append-le place body more h.1), omega (arith, h.1))
+
+part-stays : (e : Event) (es : List Event) (w place : ℕ) (got : List ℕ) → HasRead es (Part w place) got → HasRead (e ∷ es) (Part w place) got
+part-stays (E.Wrote x bytes eof) es w place got h =
+    elim (x == w) as (λ b. (got ≡ take place (if b then body_of w es ++ bytes else body_of w es)) × (place ≤ length (if b then body_of w es ++ bytes else body_of w es))) [
+      | true ↦ longer place (body_of w es) bytes got h
+      | false ↦ h
+    ]
+part-stays e es w place got h = h
+
+reader-stays : (e : Event) (es : List Event) (reader : Reader) (got : List ℕ) → HasRead es reader got → HasRead (e ∷ es) reader got
+reader-stays e es (Whole body start stop done) got h = h
+reader-stays e es (Part w place) got h = part-stays e es w place got h
+
+run-stays : (events es : List Event) (reader : Reader) (got : List ℕ) → HasRead es reader got → HasRead (events ++ es) reader got
+run-stays [] es reader got h = h
+run-stays (e ∷ events) es reader got h = reader-stays e (events ++ es) reader got (run-stays events es reader got h)
+
+stays : (events es : List Event) (q : Option Held) (got : List ℕ) → Follows es q got → Follows (events ++ es) q got
+stays events es None got h = tt
+stays events es (Some x) got h =
+    (elim x.request.reader as (λ o. IfSome o (λ reader. HasRead es reader got) → IfSome o (λ reader. HasRead (events ++ es) reader got)) [ None ↦ λ _. tt | Some reader ↦ λ k. run-stays events es reader got k ] h.0, h.1)
+
+-- A reader that came to be.
+
+starts : (es : List Event) (reader : Reader) → IsAtStart reader → HasRead es reader []
+starts es (Whole body start stop done) h = ap (λ b. cond b (slice_range body start stop) []) (sym h)
+starts es (Part w place) h = subst (λ p. HasRead es (Part w p) []) (sym h) (refl, omega arith)
+
+-- A read.
+
+gave-none : (es : List Event) (reader : Reader) (got : List ℕ) → HasRead es reader got → HasRead es reader (got ++ [])
+gave-none es reader got h = subst (HasRead es reader) (sym (append-nil got)) h
+
+gave-rest : (place : ℕ) (body got : List ℕ) → (got ≡ take place body) × (place ≤ length body)
+    → (got ++ drop place body ≡ take (place + length (drop place body)) body) × (place + length (drop place body) ≤ length body)
+gave-rest place body got h =
+    let rest = length-drop place body in
+    (ap (λ (xs : List ℕ). xs ++ drop place body) h.0 ∙ take-append-drop place body ∙ sym (take_all (place + length (drop place body)) body (omega (arith, h.1))), omega (arith, h.1))
+
+-- what an answer makes of a reader of a write, and of what it has given
+abbrev HasReadPast : List Event → ℕ → ℕ → List ℕ → Poll (Option (List ℕ)) → Type 0
+HasReadPast es w place got a = HasRead es (read_past a (Part w place)) (got ++ given_in (E.Read a ∷ []))
+
+gave-part : (es : List Event) (w place : ℕ) (got : List ℕ) (more : Bool) → HasRead es (Part w place) got
+    → HasReadPast es w place got (cond (nat_lt place (length (body_of w es))) (Ready (Some (drop place (body_of w es)))) (cond more Pending (Ready None)))
+gave-part es w place got more h =
+    elim (nat_lt place (length (body_of w es))) as (λ b. HasReadPast es w place got (cond b (Ready (Some (drop place (body_of w es)))) (cond more Pending (Ready None)))) [
+      | true ↦ gave-rest place (body_of w es) got h
+      | false ↦ elim more as (λ b. HasReadPast es w place got (cond b Pending (Ready None))) [ true ↦ gave-none es (Part w place) got h | false ↦ gave-none es (Part w place) got h ]
+    ]
+
+abbrev written_as : ℕ → List Event → ℕ × Meta → Written
+written_as w es b = record { slot = b.0; meta = b.1; bytes = body_of w es; told = is_told w es; flying = in_flight w es; readers = 0 }
+
+gave : (es : List Event) (reader : Reader) (got : List ℕ) → HasRead es reader got → HasRead (E.Read (reads es reader) ∷ es) (read_past (reads es reader) reader) (got ++ given_in (E.Read (reads es reader) ∷ []))
+gave es (Whole body start stop true) got h = gave-none es (Whole body start stop true) got h
+gave es (Whole body start stop false) got h = ap (λ (xs : List ℕ). xs ++ slice_range body start stop) h
+gave es (Part w place) got h =
+    elim (begin_of w es) as (λ o. HasReadPast es w place got (read_part place (option_map (written_as w es) o))) [
+      | None ↦ gave-none es (Part w place) got h
+      | Some b ↦ gave-part es w place got (in_flight w es && not (is_told w es)) h
+    ]
+
+-- What events make of a request.
+
+on-each : (es : List Event) (got : List ℕ) (f : Held → Held) → ((x : Held) → FollowsIn es x got → FollowsIn es (f x) got) → (q : Option Held) → Follows es q got → Follows es (option_map f q) got
+on-each es got f keeps None h = tt
+on-each es got f keeps (Some x) h = keeps x h
+
+on-done : (es : List Event) (got : List ℕ) (b : Bool) (p q : Option Held) → Follows es p got → Follows es q got → Follows es (cond b p q) got
+on-done es got true p q h k = h
+on-done es got false p q h k = k
+
+given-reader : (stale : Bool) (e : Event) (x : Request) → (with_given stale e x).reader ≡ x.reader
+given-reader stale (E.Ask k n b) x = refl
+given-reader stale e x = refl
+
+asked-reader : (stale : Bool) (events : List Event) (x : Request) → (asked stale events x).reader ≡ x.reader
+asked-reader stale [] x = refl
+asked-reader stale (e ∷ events) x = asked-reader stale events (with_given stale e x) ∙ given-reader stale e x
+
+pair-starts : (a : Answer) → IfSome (pair_of a) (λ p. IsAtStart p.1)
+pair-starts A.Nothing = tt
+pair-starts (A.Complete m body) = refl
+pair-starts (A.Streaming m w) = refl
+
+looked-follows : (es events : List Event) (got : List ℕ) (x : Held) → FollowsIn es x got → FollowsIn es (looked_by events x) got
+looked-follows es [] got x h = h
+looked-follows es (E.Look k a ∷ events) got x h = (subst (λ o. IfSome o (λ reader. HasRead es reader got)) (sym (asked-reader false events x.request)) h.0, pair-starts a)
+looked-follows es (e ∷ events) got x h = h
+
+placed-follows : (es events : List Event) (s : HitStatus) (x : Request) (p : Option (Meta × Reader)) → IsSome p → IfSome p (λ q. IsAtStart q.1) → IfSome (placed_by s events x p).reader (λ reader. HasRead es reader [])
+placed-follows es events s x None some h = cc
+placed-follows es events s x (Some p) some h =
+    elim (is_treated_as_miss s) as (λ b. IfSome (cond b None (Some p.1)) (λ reader. HasRead es reader [])) [ true ↦ tt | false ↦ starts es p.1 h ]
+
+found-follows : (es events : List Event) (s : HitStatus) (x : Held) (got : List ℕ) (reply : Reply) → (is_taken reply ≡ true → IsSome x.pair) → FollowsIn es x got
+    → Follows es (cond (is_taken reply) (Some (taken_by s events x)) (cond (is_refused reply) (Some (without_pair x)) (Some x))) (cond (is_taken reply) [] got)
+found-follows es events s x got reply some h =
+    elim (is_taken reply) as (λ b. (b ≡ true → IsSome x.pair) → Follows es (cond b (Some (taken_by s events x)) (cond (is_refused reply) (Some (without_pair x)) (Some x))) (cond b [] got)) [
+      | true ↦ λ k. (placed-follows es events s x.request x.pair (k refl) h.1, tt)
+      | false ↦ λ _. on-done es got (is_refused reply) (Some (without_pair x)) (Some x) (h.0, tt) h
+    ] some
+
+-- a reader follows its write from its first byte
+began-follows : (es events : List Event) (x : Held) (got : List ℕ) (next k : ℕ) (m : Meta) (joined : Bool) → FollowsIn es x got
+    → FollowsIn es (on_request (began joined (E.Begin next k m ∷ events)) x) (cond joined [] got)
+began-follows es events x got next k m true h = (starts es (Part next 0) refl, h.1)
+began-follows es events x got next k m false h = h
+
+ended-follows : (es events : List Event) (got : List ℕ) (x : Held) → FollowsIn es x got → FollowsIn es (on_request (ended events) x) got
+ended-follows es [] got x h = h
+ended-follows es (e ∷ events) got x h = h
+
+-- One call.
+
+begin-follows : (es : List Event) (next : ℕ) (x : Held) (got : List ℕ) (reply : Reply) (events : List Event) → FollowsIn (reverse events ++ es) x got → Begins next x.request reply events
+    → FollowsIn (reverse events ++ es) (on_request (began (is_done reply) events) x) (cond (is_done reply) [] got)
+begin-follows es next x got reply events h (inl (e, why, a)) =
+    subst (λ y. FollowsIn (reverse events ++ es) (on_request (began (is_done y) events) x) (cond (is_done y) [] got)) (sym a.0)
+    (subst (λ xs. FollowsIn (reverse events ++ es) (on_request (began false xs) x) got) (sym a.1) h)
+begin-follows es next x got reply events h (inr (k, m, key, meta, is, told)) =
+    subst (λ xs. FollowsIn (reverse events ++ es) (on_request (began (is_done reply) xs) x) (cond (is_done reply) [] got)) (sym is)
+    (began-follows (reverse events ++ es) (release_of x.request.held) x got next (slot k) m (is_done reply) h)
+
+begin-idle : (es events : List Event) (x : Held) (got : List ℕ) (reply : Reply) → FollowsIn es x got → IsIdle R.WrongCall reply events → FollowsIn es (on_request (began (is_done reply) events) x) (cond (is_done reply) [] got)
+begin-idle es events x got reply h a =
+    subst (λ y. FollowsIn es (on_request (began (is_done y) events) x) (cond (is_done y) [] got)) (sym a.0) (subst (λ xs. FollowsIn es (on_request (began false xs) x) got) (sym a.1) h)
+
+-- a request after these events of a read
+abbrev FollowsRead : List Event → Held → List ℕ → List Event → Type 0
+FollowsRead es x got events = FollowsIn (reverse events ++ es) (on_request (has_read events) x) (got ++ given_in events)
+
+none-read : (es : List Event) (x : Held) (got : List ℕ) → FollowsIn es x got → FollowsRead es x got []
+none-read es x got h = subst (FollowsIn es x) (sym (append-nil got)) h
+
+read-follows : (es : List Event) (x : Held) (got : List ℕ) (reply : Reply) (events : List Event) → FollowsIn es x got → Reads (reads es) x.request reply events → FollowsRead es x got events
+read-follows es x got reply events h (inl a) = subst (FollowsRead es x got) (sym a.1) (none-read es x got h)
+read-follows es x got reply events h (inr (reader, is, done, told)) =
+    let a = reads es reader in
+    let had : HasRead es reader got = subst (λ o. IfSome o (λ y. HasRead es y got)) is h.0 in
+    subst (FollowsRead es x got) (sym done)
+    (subst (λ o. IfSome (option_map (read_past a) o) (λ y. HasRead (E.Read a ∷ es) y (got ++ given_in (E.Read a ∷ [])))) (sym is) (gave es reader got had), h.1)
+
+module _ (limits : Limits) (start : Tracked) (es : List Event) where
+  abbrev Answered : Call → Option Held → Reply → List Event → Type 0
+  Answered call q reply events = Answers (begun es) (Finds es) (reads es) (λ w. is_told w es) (λ w. not (is_removed w es)) (λ w. length (body_of w es)) (HasAny es) limits (tracked start es) call q reply events
+
+  follow : (call : Call) (q : Option Held) (reply : Reply) (events : List Event) (got : List ℕ) → Answered call q reply events → Follows es q got → Follows (reverse events ++ es) q got
+      → Follows (reverse events ++ es) (row call reply events q) (read_on call reply events got)
+  follow (C.Open r) q reply events got a old h =
+      elim (is_done reply) as (λ b. Follows (reverse events ++ es) (cond b (Some opened) q) (cond b [] got)) [ true ↦ (tt, tt) | false ↦ h ]
+  follow (C.Key r k) q reply events got a old h = on-done (reverse events ++ es) got (is_done reply) (option_map (on_request (with_key k)) q) q (on-each (reverse events ++ es) got (on_request (with_key k)) (λ x p. p) q h) h
+  follow (C.Look r t) q reply events got a old h = on-each (reverse events ++ es) got (looked_by events) (looked-follows (reverse events ++ es) events got) q h
+  follow (C.Found r s t) None reply events got a old h =
+      on-done (reverse events ++ es) (cond (is_taken reply) [] got) (is_taken reply) None (cond (is_refused reply) None None) tt (on-done (reverse events ++ es) (cond (is_taken reply) [] got) (is_refused reply) None None tt tt)
+  follow (C.Found r s t) (Some x) reply events got (inl a) old h = found-follows (reverse events ++ es) events s x got reply (λ _. a.0.1) h
+  follow (C.Found r s t) (Some x) reply events got (inr a) old h = found-follows (reverse events ++ es) events s x got reply (λ is. absurd (subst (λ y. is_taken y ≡ true → ⊥) (sym a.1.0) (λ e. cc) is)) h
+  follow (C.Miss r) q reply events got a old h = on-done (reverse events ++ es) got (is_done reply) (option_map (λ x. without_pair (on_request missed x)) q) q (on-each (reverse events ++ es) got (λ x. without_pair (on_request missed x)) (λ x p. (p.0, tt)) q h) h
+  follow (C.Meta r m) q reply events got a old h = on-done (reverse events ++ es) got (is_done reply) (option_map (on_request (with_meta m)) q) q (on-each (reverse events ++ es) got (on_request (with_meta m)) (λ x p. p) q h) h
+  follow (C.Begin r) None reply events got a old h = tt
+  follow (C.Begin r) (Some x) reply events got (inl a) old h = begin-follows es (begun es) x got reply events h a.1
+  follow (C.Begin r) (Some x) reply events got (inr a) old h = begin-idle (reverse events ++ es) events x got reply h a.1
+  follow (C.Write r bs eof) q reply events got a old h = h
+  follow (C.Finish r) q reply events got a old h = on-each (reverse events ++ es) got (on_request (ended events)) (ended-follows (reverse events ++ es) events got) q h
+  follow (C.Read r) None reply events got a old h = tt
+  follow (C.Read r) (Some x) reply events got (inl a) old h = read-follows es x got reply events old a.1
+  follow (C.Read r) (Some x) reply events got (inr a) old h = subst (FollowsRead es x got) (sym a.1.1) (none-read es x got old)
+  follow (C.Purge r) q reply events got a old h = h
+  follow (C.End r) q reply events got a old h = on-done (reverse events ++ es) got (is_done reply) None q tt h
+
+-- Histories.
+
+follows-at : (limits : Limits) (start : Tracked) (r : ℕ) (h : List Entry) → IsLegal limits start h → Follows (events_of h) (request_of r h) (read_by r h)
+follows-at limits start r [] l = tt
+follows-at limits start r (e ∷ h) l =
+    let es = events_of h in
+    let old = follows-at limits start r h l.1 in
+    let now = stays (reverse e.events) es (request_of r h) (read_by r h) old in
+    elim (number_of e.call == r) as (λ b. (number_of e.call == r) ≡ b
+    → Follows (reverse e.events ++ es) (if b then row e.call e.reply e.events (request_of r h) else request_of r h) (if b then read_on e.call e.reply e.events (read_by r h) else read_by r h)) [
+      | true ↦ λ is. follow limits start es e.call (request_of r h) e.reply e.events (read_by r h)
+          (subst (λ n. Answered limits start es e.call (request_of n h) e.reply e.events) (eqb-true (number_of e.call) r is) l.0) old now
+      | false ↦ λ _. now
+    ] refl
+
+pub reads_a_beginning : ReadsABeginning
+reads_a_beginning limits start before r x reader l is has =
+    let h = subst (λ q. Follows (events_of before) q (read_by r before)) is (follows-at limits start r before l) in
+    subst (λ o. IfSome o (λ y. HasRead (events_of before) y (read_by r before))) has h.0

@@ -1,0 +1,38 @@
+-- What the reader of a request has given since it came to be, by the history (own). Bytes whose copy was refused went by
+-- also: they are told by the event of the read, not by its reply.
+use Rattle.std.specs.Prelude.{◌≡◌, ℕ, ◌≤◌, ◌==◌, cond, if◌then◌else◌, Some, List, [], ◌∷◌, ◌++◌, length, take, slice_range}
+use Rattle.pcache_base.specs.declared.poll.Poll.TheVariants.{Ready}
+use Rattle.pcache_store.specs.Store.{Reader, Whole, Part}
+use Rattle.pingora_cache.specs.declared.world.call.Call.{Call}
+use Rattle.pingora_cache.specs.declared.world.call.Call.TheVariants as C
+use Rattle.pingora_cache.specs.declared.world.call.Reply.{Reply}
+use Rattle.pingora_cache.specs.declared.world.entry.Entry.{Entry}
+use Rattle.pingora_cache.specs.declared.world.entry.Event.{Event}
+use Rattle.pingora_cache.specs.declared.world.entry.Event.TheVariants as E
+use Rattle.pingora_cache.specs.Events.{body_of}
+use Rattle.pingora_cache.specs.Held.{number_of, is_done, is_taken}
+
+-- the bytes that a read gave, if it gave some
+abbrev pub given_in : List Event → List ℕ
+given_in (E.Read (Ready (Some bytes)) ∷ es) = bytes
+given_in _ = []
+
+-- what one call makes of the bytes that its request's reader has given: none once a request opened, a hit was taken or a
+-- write began with a reader; a read adds what it gave
+abbrev pub read_on : Call → Reply → List Event → List ℕ → List ℕ
+read_on (C.Open r) reply events before = cond (is_done reply) [] before
+read_on (C.Found r s t) reply events before = cond (is_taken reply) [] before
+read_on (C.Begin r) reply events before = cond (is_done reply) [] before
+read_on (C.Read r) reply events before = before ++ given_in events
+read_on _ reply events before = before
+
+-- the bytes that a request's reader has given since it came to be
+abbrev pub read_by : ℕ → List Entry → List ℕ
+read_by r [] = []
+read_by r (e ∷ h) = if number_of e.call == r then read_on e.call e.reply e.events (read_by r h) else read_by r h
+
+-- a reader of a complete body has given its range once it is done, and nothing before; a reader of a write has given the
+-- beginning of the write's body up to its place
+abbrev pub HasRead : List Event → Reader → List ℕ → Type 0
+HasRead es (Whole body start stop done) bytes = bytes ≡ cond done (slice_range body start stop) []
+HasRead es (Part w place) bytes = (bytes ≡ take place (body_of w es)) × (place ≤ length (body_of w es))
