@@ -28,6 +28,3 @@ pub mod trace;
 pub mod variance;
 
 pub use error::{Error, ErrorType, Result};
-
-#[cfg(test)]
-mod tests;

@@ -301,6 +301,3 @@ impl Storage for MemCache {
         true
     }
 }
-
-#[cfg(test)]
-mod tests;

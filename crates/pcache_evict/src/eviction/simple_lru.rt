@@ -283,6 +283,3 @@ impl EvictionManager for Manager {
         Manager::peek(self, item)
     }
 }
-
-#[cfg(test)]
-mod tests;

@@ -1,0 +1,4 @@
+//! Of `pcache_control`.
+
+mod directives;
+mod freshness;

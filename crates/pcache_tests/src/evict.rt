@@ -1,0 +1,5 @@
+//! Of `pcache_evict`.
+
+mod entry_key;
+mod hashtable;
+mod simple_lru;

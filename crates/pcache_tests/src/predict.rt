@@ -1,0 +1,4 @@
+//! Of `pcache_predict`.
+
+mod admission;
+mod predictor;

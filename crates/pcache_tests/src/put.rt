@@ -1,0 +1,4 @@
+//! Of `pcache_put`.
+
+mod max_file_size;
+mod response_parse;

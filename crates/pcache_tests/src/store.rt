@@ -1,0 +1,5 @@
+//! Of `pcache_store`.
+
+mod memory;
+mod storage;
+mod table;
