@@ -28,3 +28,6 @@ pub mod trace;
 pub mod variance;
 
 pub use error::{Error, ErrorType, Result};
+
+#[cfg(test)]
+mod tests;

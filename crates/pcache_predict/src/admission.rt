@@ -49,3 +49,46 @@ pub trait AdmissionPolicy {
     fn observe(&mut self, key: &CacheKey) -> Decision
         ensures { decides self.old key.now result self.new };
 }
+
+#[cfg(test)]
+mod tests {
+    use super::*;
+    use std::test::Fail;
+
+    // Stores from the third time on.
+    struct ThirdTime {
+        observed: u32,
+    }
+
+    impl AdmissionPolicy for ThirdTime {
+        fn observe(&mut self, _key: &CacheKey) -> Decision {
+            self.observed = self.observed.saturating_add(1);
+            let observed = self.observed;
+            if observed < 3 {
+                Decision::Defer { observed }
+            } else {
+                Decision::Ready { observed }
+            }
+        }
+    }
+
+    fn asked<P: AdmissionPolicy>(policy: &mut P, key: &CacheKey) -> Decision {
+        policy.observe(key)
+    }
+
+    #[test]
+    fn decisions(rt: HostRuntime) -> Result<(), Fail> {
+        let primary = b"a".to_vec(rt.alloc())?;
+        let key = CacheKey::new(primary, String::from_str(rt.alloc(), "1")?);
+        let mut policy = ThirdTime { observed: 0 };
+        let first = asked(&mut policy, &key);
+        assert!(rt; first.is_deferred());
+        assert_eq!(rt; first.observed(), 1);
+        asked(&mut policy, &key);
+        let third = asked(&mut policy, &key);
+        assert!(rt; !third.is_deferred());
+        assert_eq!(rt; third.observed(), 3);
+        let ThirdTime { observed: _ } = policy;
+        Ok(())
+    }
+}

@@ -301,3 +301,6 @@ impl Storage for MemCache {
         true
     }
 }
+
+#[cfg(test)]
+mod tests;

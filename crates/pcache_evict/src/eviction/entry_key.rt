@@ -346,3 +346,6 @@ impl<'a> From<&'a CacheEntryKey> for CacheEntryKeyRef<'a> {
         CacheEntryKeyRef::from_entry_id(entry.key(), entry.entry_id())
     }
 }
+
+#[cfg(test)]
+mod tests;

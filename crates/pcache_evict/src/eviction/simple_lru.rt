@@ -283,3 +283,6 @@ impl EvictionManager for Manager {
         Manager::peek(self, item)
     }
 }
+
+#[cfg(test)]
+mod tests;

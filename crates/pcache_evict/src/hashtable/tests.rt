@@ -1,0 +1,143 @@
+use crate::hashtable::{
+    ConcurrentHashTable, ConcurrentLruCache, LruShard, LruShards, Shard, Shards, Table,
+};
+use std::marker::PhantomData;
+use std::test::Fail;
+
+#[test]
+fn a_table_in_shards(rt: HostRuntime) -> Result<(), Fail> {
+    let mut shards = Shards::<u64, 16>::new(rt.alloc());
+    assert_eq!(rt; shards.insert(3, 30)?, None);
+    assert_eq!(rt; shards.insert(19, 190)?, None);
+    assert_eq!(rt; shards.insert(3, 31)?, Some(30));
+    assert_eq!(rt; shards.value(3).copied(), Some(31));
+    assert_eq!(rt; shards.value(4).copied(), None);
+    // Keys 3 and 19 stand in shard 3.
+    assert_eq!(rt; shards.get(19).place(), 3);
+    assert_eq!(rt; shards.get(3).get(19).copied(), Some(190));
+    assert_eq!(rt; shards.get(3).iter().count(), 2);
+    assert!(rt; shards.get_shard_at_idx(15).is_some() && shards.get_shard_at_idx(16).is_none());
+    assert_eq!(rt; shards.remove(19), Some(190));
+    assert_eq!(rt; shards.remove(19), None);
+    Ok(())
+}
+
+#[test]
+fn more_than_32_shards(rt: HostRuntime) -> Result<(), Fail> {
+    let mut shards = Shards::<u8, 64>::new(rt.alloc());
+    for key in 0..200u8 {
+        shards.insert(u128::from(key), key)?;
+    }
+    assert_eq!(rt; shards.get(63).iter().count(), 3);
+    assert_eq!(rt; shards.value(199).copied(), Some(199));
+    Ok(())
+}
+
+#[test]
+fn one_shard(rt: HostRuntime) -> Result<(), Fail> {
+    let mut shard = Shard::<u8, 4>::at(rt.alloc(), 1, PhantomData);
+    assert!(rt; shard.belongs(5) && !shard.belongs(6));
+    if shard.belongs(5) {
+        shard.insert(5, 50)?;
+    }
+    assert_eq!(rt; shard.remove(5), Some(50));
+    assert_eq!(rt; shard.get(5).copied(), None);
+    Ok(())
+}
+
+#[test]
+fn shards_that_forget(rt: HostRuntime) -> Result<(), Fail> {
+    let mut shards = LruShards::<u64, 2>::new(rt.alloc(), 2)?;
+    shards.put(0, 10)?;
+    shards.put(2, 12)?;
+    shards.put(1, 11)?;
+    // Key 2 is older than key 0 from here on.
+    assert_eq!(rt; shards.put(0, 20)?, Some(10));
+    shards.put(4, 14)?;
+    assert_eq!(rt; shards.peek(2).copied(), None);
+    assert_eq!(rt; shards.peek(0).copied(), Some(20));
+    assert_eq!(rt; shards.peek(1).copied(), Some(11));
+    assert!(rt; shards.get(4).contains(4));
+    assert_eq!(rt; shards.get(4).len(), 2);
+    assert_eq!(rt; shards.pop(4), Some(14));
+    assert_eq!(rt; shards.pop(4), None);
+    Ok(())
+}
+
+#[test]
+fn a_capacity_of_0_counts_as_1(rt: HostRuntime) -> Result<(), Fail> {
+    let mut shard = LruShard::<u8, 1>::at(rt.alloc(), 0, 0)?;
+    if shard.belongs(7) {
+        shard.put(7, 70)?;
+    }
+    assert_eq!(rt; shard.place(), 0);
+    assert_eq!(rt; shard.peek(7).copied(), Some(70));
+    assert_eq!(rt; shard.pop(7), Some(70));
+    Ok(())
+}
+
+#[test]
+fn tables_behind_locks(rt: HostRuntime) -> Result<(), Fail> {
+    let table = ConcurrentHashTable::<u64, 4>::new(rt.alloc());
+    for key in 0..8u64 {
+        table
+            .write(&rt, u128::from(key))
+            .insert(u128::from(key), key)?;
+    }
+    assert_eq!(rt; table.read(&rt, 6).get(6).copied(), Some(6));
+    assert_eq!(rt; table.read(&rt, 6).iter().count(), 2);
+    assert_eq!(rt; table.get(5).place(), 1);
+    assert_eq!(rt; table.get(5).read(&rt).place(), 1);
+    assert!(rt; table.get_shard_at_idx(4).is_none());
+    assert_eq!(rt; table.get_shard_at_idx(3).map(|lock| lock.place()), Some(3));
+    assert_eq!(rt; table.write(&rt, 6).remove(6), Some(6));
+    assert_eq!(rt; table.write(&rt, 6).get(6).copied(), None);
+    Ok(())
+}
+
+#[test]
+fn each_entry_behind_locks(rt: HostRuntime) -> Result<(), Fail> {
+    let table = ConcurrentHashTable::<u64, 4>::new(rt.alloc());
+    for key in [5u64, 2, 0, 7, 4] {
+        table
+            .write(&rt, u128::from(key))
+            .insert(u128::from(key), key + 1)?;
+    }
+    // Shard 0 has keys 0 and 4, shard 1 has 5, shard 2 has 2 and shard 3 has 7.
+    let mut seen = 0u64;
+    table.for_each(&rt, |_key: &u128, value: &u64| {
+        seen = seen.saturating_mul(10).saturating_add(*value);
+    });
+    assert_eq!(rt; seen, 15638);
+    Ok(())
+}
+
+#[test]
+fn tables_that_forget_behind_locks(rt: HostRuntime) -> Result<(), Fail> {
+    let lrus = ConcurrentLruCache::<u64, 4>::new(rt.alloc(), 0)?;
+    assert_eq!(rt; lrus.read(&rt, 9).len(), 0);
+    assert_eq!(rt; lrus.write(&rt, 9).put(9, 90)?, None);
+    assert_eq!(rt; lrus.read(&rt, 9).peek(9).copied(), Some(90));
+    assert_eq!(rt; lrus.get(9).place(), 1);
+    assert_eq!(rt; lrus.get(9).capacity(), 1);
+    // Key 13 has the shard of key 9, which has room for one.
+    lrus.write(&rt, 13).put(13, 130)?;
+    assert_eq!(rt; lrus.get(9).read(&rt).len(), 1);
+    assert!(rt; !lrus.write(&rt, 9).contains(9));
+    assert_eq!(rt; lrus.write(&rt, 13).pop(13), Some(130));
+    assert_eq!(rt; lrus.read(&rt, 13).capacity(), 1);
+    Ok(())
+}
+
+#[test]
+fn a_table_lends_its_values(rt: HostRuntime) -> Result<(), Fail> {
+    let mut table = Table::new(rt.alloc());
+    table.insert(3, 30u64)?;
+    if let Some(value) = table.get_mut(3) {
+        *value = 31;
+    }
+    assert_eq!(rt; table.get(3).copied(), Some(31));
+    assert_eq!(rt; table.iter().count(), 1);
+    assert_eq!(rt; table.remove(3), Some(31));
+    Ok(())
+}

@@ -1,4 +1,0 @@
-//! Of `pcache_control`.
-
-mod directives;
-mod freshness;

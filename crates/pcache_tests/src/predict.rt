@@ -1,4 +1,0 @@
-//! Of `pcache_predict`.
-
-mod admission;
-mod predictor;

@@ -1,5 +1,0 @@
-//! Of `pcache_store`.
-
-mod memory;
-mod storage;
-mod table;
