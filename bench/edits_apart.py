@@ -6,6 +6,7 @@ once for all of them; it sees then that the whole is refused. This cuts such fil
 'rt must-fail' try every edit alone: slower, and the way to see that none of them is let through.
 """
 import os
+import re
 import shutil
 import subprocess
 import sys
@@ -17,7 +18,7 @@ def cut_apart(folder):
     for file in sorted(os.listdir(folder)):
         path = os.path.join(folder, file)
         with open(path, encoding="utf-8") as it:
-            edits = it.read().split("edit: ")
+            edits = re.split(r"(?m)^edit: ", it.read())
         if not file.endswith(".edit") or len(edits) < 2:
             continue
         os.remove(path)
