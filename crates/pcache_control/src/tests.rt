@@ -93,11 +93,23 @@ fn what_lines_say(rt: HostRuntime) -> Result<(), Fail> {
         assert_eq!(rt; cc.is_cacheable(), cacheable);
         assert_eq!(rt; seconds, fresh);
     }
+    Ok(())
+}
+
+#[test]
+fn the_last_value_of_a_directive_counts(rt: HostRuntime) -> Result<(), Fail> {
+    let alloc = rt.alloc();
     let both = read(alloc, &[b"private=\"x\"", b"private"])?;
     assert!(rt; both.private());
     assert_eq!(rt; both.is_cacheable(), Cacheable::No);
     let parted = read(alloc, &[b"private, private=\"x\""])?;
     assert!(rt; !parted.private());
+    Ok(())
+}
+
+#[test]
+fn directives_are_found_by_their_lower_case_names(rt: HostRuntime) -> Result<(), Fail> {
+    let alloc = rt.alloc();
     let max_age = read(alloc, &[b"max-age=1"])?;
     assert!(rt; max_age.has_key("max-age"));
     assert!(rt; !max_age.has_key("Max-Age"));

@@ -538,30 +538,6 @@ fn a_write_is_joined_by_its_tag(rt: HostRuntime) -> std::result::Result<(), Fail
     Ok(())
 }
 
-// The meta that was given at the beginning is found, with its fields.
-#[test]
-fn a_meta_is_found_with_its_fields(rt: HostRuntime) -> std::result::Result<(), Fail> {
-    let alloc = rt.alloc();
-    let mut store = MemCache::new(alloc);
-    let key = key_of(alloc, "a")?;
-    let mut header = ResponseHeader::build(alloc, StatusCode::OK);
-    for name in ["foo1", "foo2", "foo3", "server"] {
-        let name = HeaderName::from_bytes(alloc, name.as_bytes())?;
-        let value = HeaderValue::from_bytes(alloc, b"pingora")?;
-        header.headers.append(name, value)?;
-    }
-    let meta = CacheMeta::new(Moment::from_secs(7), Moment::EPOCH, 0, 0, header);
-    let writer = store.get_miss_handler(alloc, &key, &meta)?;
-    writer.finish(&mut store)?;
-    let Some((found, reader)) = store.lookup(alloc, &key)? else {
-        return Err(Fail::from("not found"));
-    };
-    reader.let_go(&mut store);
-    assert_eq!(rt; found.headers().len(), 4);
-    assert!(rt; store.support_streaming_partial_write());
-    Ok(())
-}
-
 // Whether a look-up gives this meta.
 fn finds(alloc: Global, store: &mut MemCache, key: &CacheKey, meta: &CacheMeta) -> Result<bool> {
     let Some((found, reader)) = store.lookup(alloc, key)? else {
@@ -579,8 +555,15 @@ fn finds(alloc: Global, store: &mut MemCache, key: &CacheKey, meta: &CacheMeta) 
 }
 
 fn meta_with_fields(alloc: Global) -> std::result::Result<CacheMeta, Fail> {
+    let fields = [
+        ("foo1", "pingora"),
+        ("foo2", "pingora"),
+        ("server", "pingora"),
+        ("set-cookie", "a=1"),
+        ("set-cookie", "b=2"),
+    ];
     let mut header = ResponseHeader::build(alloc, StatusCode::OK);
-    for (name, value) in [("age", "7"), ("set-cookie", "a=1"), ("set-cookie", "b=2")] {
+    for (name, value) in fields {
         let name = HeaderName::from_bytes(alloc, name.as_bytes())?;
         let value = HeaderValue::from_bytes(alloc, value.as_bytes())?;
         header.headers.append(name, value)?;
@@ -591,7 +574,7 @@ fn meta_with_fields(alloc: Global) -> std::result::Result<CacheMeta, Fail> {
     Ok(meta)
 }
 
-// Of a write, of a body, and of one that was expired.
+// The meta that was given at the beginning is found with its fields, of a write and of a body; an expired one has another end.
 #[test]
 fn a_meta_reads_back_equal(rt: HostRuntime) -> std::result::Result<(), Fail> {
     let alloc = rt.alloc();
@@ -636,6 +619,7 @@ fn any_store_streams_by_its_traits(rt: HostRuntime) -> std::result::Result<(), F
     let alloc = rt.alloc();
     let mut store = MemCache::new(alloc);
     let key = key_of(alloc, "a")?;
+    assert!(rt; store.support_streaming_partial_write());
     assert!(rt; is_streamed(alloc, &mut store, &key)?);
     assert_eq!(rt; store.write_records(), 0);
     Ok(())

@@ -111,9 +111,20 @@ fn told_size(kind: MissFinishType) -> usize
 
 impl<S: Storage> HttpCache<S> {
     ghost use Rattle.std.specs.Prelude.{◌≡◌, true, IfOk, IfErr, IfSome, Ok, None, IsTrue, ◌↔◌, IsSome};
+    ghost use Rattle.pcache_lock.specs.Statuses.{IsReason};
     ghost use Rattle.pingora_cache.specs.Phases.{IsFilling};
+    ghost use Rattle.pingora_cache.specs.Requests.{settled};
     ghost use Rattle.pingora_cache.specs.Finishing.{after_finish};
     ghost use Rattle.pingora_cache.specs.WriteEnds.{Ends, EndsAs, finishes_of};
+
+    // Releases what the request holds, with a status.
+    fn settle_held<L: CacheKeyLock>(&mut self, lock: &mut L, status: LockStatus)
+        requires { IsReason status }
+        ensures request { self.new ≡ record self.old { held = None } }
+        ensures table { L.table lock.new ≡ settled status self.old.held (L.table lock.old) }
+    {
+        settle(self.alloc, &self.key, &mut self.held, lock, status);
+    }
 
     /// Ends the write and stores the body. Its entry is admitted, and what is evicted for it is
     /// purged, in order. A write that is refused is dropped, and the permit is released with
@@ -156,47 +167,30 @@ impl<S: Storage> HttpCache<S> {
         let Some(meta) = &self.meta else {
             unreachable!()
         };
+        let fresh_until = meta.fresh_until();
         let (entry, compact) = match entry_and_key(key, writer.entry_id()) {
             Ok(made) => made,
             Err(refused) => {
                 writer.drop_write(storage);
-                settle(
-                    self.alloc,
-                    &self.key,
-                    &mut self.held,
-                    lock,
-                    LockStatus::TransientError,
-                );
+                self.settle_held(lock, LockStatus::TransientError);
                 return WriteEnd::Dropped(refused);
             }
         };
         let kind = match writer.finish(storage) {
             Ok(kind) => kind,
             Err(refused) => {
-                settle(
-                    self.alloc,
-                    &self.key,
-                    &mut self.held,
-                    lock,
-                    LockStatus::TransientError,
-                );
+                self.settle_held(lock, LockStatus::TransientError);
                 return WriteEnd::Dropped(refused);
             }
         };
-        settle(
-            self.alloc,
-            &self.key,
-            &mut self.held,
-            lock,
-            LockStatus::Done,
-        );
+        self.settle_held(lock, LockStatus::Done);
         let evicted = match admit(
             self.alloc,
             self.uses.eviction,
             eviction,
             entry,
             kind,
-            meta.fresh_until(),
+            fresh_until,
         ) {
             Ok(evicted) => evicted,
             Err(refused) => {
