@@ -2,11 +2,7 @@
 # Bytes a second of the hash, beside those of python's hashlib in the same run, and nanoseconds of writing and reading a meta.
 # The program is proved and built in a copy of the repository.
 set -eu
-top=$(cd "$(dirname "$0")/.." && pwd)
-copy=$(mktemp -d)
-trap 'rm -rf "$copy"' EXIT
-cp -r "$top" "$copy/repository"
-cd "$copy/repository"
+. "$(dirname "$0")/in_a_copy.sh"
 mkdir -p crates/base_speed/src
 cp bench/base_speed.rt.txt crates/base_speed/src/main.rt
 echo 'base_speed: pcache_base http http_header' >>crates.txt

@@ -2,11 +2,7 @@
 # The nanoseconds of a lock and release pair, beside 1,000 and beside 100,000 keys whose permits wait. The program is proved
 # and built in a copy of the repository.
 set -eu
-top=$(cd "$(dirname "$0")/.." && pwd)
-copy=$(mktemp -d)
-trap 'rm -rf "$copy"' EXIT
-cp -r "$top" "$copy/repository"
-cd "$copy/repository"
+. "$(dirname "$0")/in_a_copy.sh"
 mkdir -p crates/lock_pairs/src crates/lock_pairs/proofs/measure
 cp bench/lock_pairs.rt.txt crates/lock_pairs/src/main.rt
 cat >crates/lock_pairs/proofs/measure/Invariants.antt <<'PROOF'

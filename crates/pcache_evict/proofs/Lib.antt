@@ -8,3 +8,4 @@ pub mod Walks
 pub mod Evictions
 pub mod Maps
 pub mod TrackedMaps
+pub mod Least

@@ -1,39 +1,30 @@
 -- A tree's entries as a finite map from numbers.
-use Rattle.std.proofs.Common.{◌≡◌, ℕ, List, [], ◌∷◌, Option, Some, None, cond, ap, sym, refl, ◌∙◌, Bool, true, false, ◌&&◌, T, subst}
+use Rattle.std.proofs.Common.{◌≡◌, ℕ, List, [], ◌∷◌, Option, Some, None, cond, ap, sym, ◌∙◌, Bool, true, false, ◌&&◌, T, subst}
 use Rattle.std.specs.Option.{option_map, IsSome, is_some, OnSome}
-use Rattle.std.specs.Ordering.{nat_cmp}
-use Rattle.std.specs.Cmp.{nat_cmp_total, eq_by_cmp_equiv}
+use Rattle.std.specs.Ordering.{nat_cmp, is_lt}
+use Rattle.std.specs.Cmp.{nat_cmp_total}
 use Rattle.std.specs.BTreeMap.{is_at}
-use Rattle.std.specs.Map.{lookup}
-use Rattle.std.specs.FinMap.{from_entries, get, insert, remove, find, get-from_entries, get-insert, get-remove, same_map, entries, from_sorted, get-from_sorted, entries-from_sorted}
+use Rattle.std.specs.Map.{lookup, keys_of}
+use Rattle.std.specs.FinMap.{from_entries, get, insert, remove, get-from_entries, same_map, entries, from_sorted, get-from_sorted, entries-from_sorted}
 use Rattle.std.specs.FinMap.Entries.{is_sorted, below_all}
-use Rattle.std.specs.Map.{keys_of}
 use Rattle.std.specs.List.{AllByRecursion}
 use Rattle.std.specs.List.Sorted.{IsStrictlySortedBy}
-use Rattle.std.specs.Ordering.{is_lt}
 use Rattle.std.specs.declared.cmp.Ordering.TheVariants.{Less}
 use Rattle.std.proofs.lemmas.Map.Keys.{sorted_head, sorted_tail}
 use Rattle.std.proofs.lemmas.Map.Lookups.{exact_unsigned}
+use Rattle.pcache_base.proofs.Maps.{get-made, made-insert, made-remove}
 
 module _ {X : Type 0} where
-  find_looks : (es : List (ℕ × X)) (q : ℕ) → find nat_cmp q es ≡ lookup (is_at (nat_cmp q)) es
-  find_looks [] q = refl
-  find_looks (e ∷ es) q = ap (cond (is_at (nat_cmp q) e.0) (Some e.1)) (find_looks es q)
-
   -- what the map has at a number
   pub got : (es : List (ℕ × X)) (q : ℕ) → get (from_entries {R = nat_cmp} es) q ≡ lookup (is_at (nat_cmp q)) es
-  got es q = get-from_entries nat_cmp_total es q ∙ find_looks es q
+  got = get-made nat_cmp_total
 
   -- entries that differ at one number make maps that differ there
   pub inserted : (es fs : List (ℕ × X)) (k : ℕ) (v : X) → ((q : ℕ) → lookup (is_at (nat_cmp q)) fs ≡ cond (is_at (nat_cmp k) q) (Some v) (lookup (is_at (nat_cmp q)) es)) → from_entries {R = nat_cmp} fs ≡ insert (from_entries es) k v
-  inserted es fs k v h = same_map nat_cmp_total exact_unsigned _ _ (λ q.
-      got fs q ∙ h q ∙ ap (λ b. cond b (Some v) (lookup (is_at (nat_cmp q)) es)) ((eq_by_cmp_equiv nat_cmp_total).symm k q)
-      ∙ sym (get-insert nat_cmp_total (from_entries es) k v q ∙ ap (cond (is_at (nat_cmp q) k) (Some v)) (got es q)))
+  inserted = made-insert nat_cmp_total exact_unsigned
 
   pub removed : (es fs : List (ℕ × X)) (k : ℕ) → ((q : ℕ) → lookup (is_at (nat_cmp q)) fs ≡ cond (is_at (nat_cmp k) q) None (lookup (is_at (nat_cmp q)) es)) → from_entries {R = nat_cmp} fs ≡ remove (from_entries es) k
-  removed es fs k h = same_map nat_cmp_total exact_unsigned _ _ (λ q.
-      got fs q ∙ h q ∙ ap (λ b. cond b None (lookup (is_at (nat_cmp q)) es)) ((eq_by_cmp_equiv nat_cmp_total).symm k q)
-      ∙ sym (get-remove nat_cmp_total (from_entries es) k q ∙ ap (cond (is_at (nat_cmp q) k) None) (got es q)))
+  removed = made-remove nat_cmp_total exact_unsigned
 
 -- what follows from a value that is there, where the value is lent
 pub on_some_lent : {X Y : Type 0} {P : Type 0} (o : Option Y) (f : Y → X) (p : Option X) → option_map f o ≡ p → (IsSome p → P) → OnSome o P

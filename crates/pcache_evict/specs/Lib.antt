@@ -4,3 +4,4 @@ pub mod Tracked
 pub mod Sharding
 pub mod Recency
 pub mod Listed
+pub mod Numbers

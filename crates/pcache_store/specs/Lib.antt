@@ -1,7 +1,6 @@
 pub mod DraftText
 pub mod Drafts
 pub mod Finishes
-pub mod Numbers
 pub mod Purge
 pub mod Readers
 pub mod Refusals

@@ -1,11 +1,9 @@
+#![tactic(auto)]
 //! The store of a cache: complete bodies and writes in flight, the traits that it is asked by, and a
 //! store in memory.
 //!
 //! - `storage`: the traits `Storage`, `HandleHit` and `HandleMiss`, and the types of removals.
 //! - `memory`: `MemCache`, which keeps everything in memory.
-//! - `table`: a map from numbers to values, which contracts see as a finite map.
-#![tactic(auto)]
 
 pub mod memory;
 pub mod storage;
-pub mod table;

@@ -130,14 +130,21 @@ fn tables_that_forget_behind_locks(rt: HostRuntime) -> Result<(), Fail> {
 }
 
 #[test]
-fn a_table_lends_its_values(rt: HostRuntime) -> Result<(), Fail> {
-    let mut table = Table::new(rt.alloc());
-    table.insert(3, 30u64)?;
+fn values_go_in_and_out_of_a_table(rt: HostRuntime) -> Result<(), Fail> {
+    let mut table: Table<u64> = Table::new(rt.alloc());
+    assert!(rt; table.is_empty());
+    assert_eq!(rt; table.insert(7, 1)?, None);
+    assert_eq!(rt; table.insert(3, 2)?, None);
+    assert_eq!(rt; table.insert(7, 4)?, Some(1));
     if let Some(value) = table.get_mut(3) {
-        *value = 31;
+        *value = 9;
     }
-    assert_eq!(rt; table.get(3).copied(), Some(31));
-    assert_eq!(rt; table.iter().count(), 1);
-    assert_eq!(rt; table.remove(3), Some(31));
+    assert_eq!(rt; table.len(), 2);
+    assert_eq!(rt; table.least(), Some(3));
+    assert_eq!(rt; table.get(3), Some(&9));
+    assert!(rt; table.contains(7));
+    assert_eq!(rt; table.iter().count(), 2);
+    assert_eq!(rt; table.remove(3), Some(9));
+    assert_eq!(rt; table.least(), Some(7));
     Ok(())
 }

@@ -3,15 +3,15 @@ ghost use Rattle.std.specs.Prelude.{◌≡◌, ◌<◌, ◌^◌, ℕ, Option, So
 ghost use Rattle.std.specs.FinMap as map;
 ghost use Rattle.pcache_base.specs.declared.error.ErrorType.TheVariants.{OutOfMemory};
 ghost use Rattle.pcache_base.specs.Meta as meta_of;
-ghost use Rattle.pcache_store.specs.Numbers.{least};
+ghost use Rattle.pcache_evict.specs.Numbers.{least};
 ghost use Rattle.pcache_store.specs.Store.{opened_in, is_idle, with_meta};
 
-use crate::table::Table;
 use bytes::Bytes;
 use pcache_base::error::Result;
 use pcache_base::meta::CacheMeta;
 use pcache_base::meta::spelled::SpelledMeta;
 use pcache_base::moment::Moment;
+use pcache_evict::hashtable::Table;
 use std::alloc::Global;
 use std::marker::Model;
 

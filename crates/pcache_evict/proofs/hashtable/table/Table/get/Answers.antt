@@ -4,4 +4,4 @@ use Rattle.pcache_evict.proofs.TableMaps.{got}
 use Rattle.pcache_evict.proofs.hashtable.table.Table.get.Goals as goal
 
 pub returns : goal.returns
-returns g c = c.get.ensures.value ∙ sym (got c.self.inside.inside.entries c.args.key) ∙ ap (λ m. map.get m c.args.key) c.self.view_is
+returns g c = c.get.ensures.value ∙ sym (got c.self.inside.tree.entries c.args.number) ∙ ap (λ m. map.get m c.args.number) c.self.view_is

@@ -6,15 +6,15 @@ use Rattle.pcache_evict.proofs.hashtable.table.Table.get_mut.Goals as goal
 
 pub returns : goal.returns
 returns g c =
-    let es = c.self.inside.inside.entries in (
+    let es = c.self.inside.tree.entries in (
       (
         refl,
         λ w. on_some_lent c.get_mut.result (λ x. x.now) _ c.get_mut.ensures.value (λ some.
-            inserted es (c.get_mut.follows.lender w).entries c.args.key w (((c.get_mut.follows.holds w).3 some).0) ∙ ap (λ m. map.insert m c.args.key w) c.self.view_is),
+            inserted es (c.get_mut.follows.lender w).entries c.args.number w (((c.get_mut.follows.holds w).3 some).0) ∙ ap (λ m. map.insert m c.args.number w) c.self.view_is),
         ap (λ (n : _). map.from_entries {R = nat_cmp} n.entries) c.get_mut.follows.holds-at-none ∙ c.self.view_is,
       ),
       record {
         writes_back = tt;
-        value = c.get_mut.ensures.value ∙ sym (got es c.args.key) ∙ ap (λ m. map.get m c.args.key) c.self.view_is;
+        value = c.get_mut.ensures.value ∙ sym (got es c.args.number) ∙ ap (λ m. map.get m c.args.number) c.self.view_is;
       },
     )

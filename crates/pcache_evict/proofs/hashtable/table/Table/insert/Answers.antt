@@ -5,10 +5,10 @@ use Rattle.pcache_evict.proofs.TableMaps.{got, inserted}
 use Rattle.pcache_evict.proofs.hashtable.table.Table.insert.Goals as goal
 
 pub returns-clause-before : goal.returns-clause-before
-returns-clause-before g c = IfOk-weaker c.insert.result _ _ (λ old h. h ∙ sym (got c.self.inside.inside.entries c.args.key) ∙ ap (λ m. map.get m c.args.key) c.self.view_is) c.insert.ensures.old
+returns-clause-before g c = IfOk-weaker c.insert.result _ _ (λ old h. h ∙ sym (got c.self.inside.tree.entries c.args.number) ∙ ap (λ m. map.get m c.args.number) c.self.view_is) c.insert.ensures.old
 
 pub returns-clause-ok : goal.returns-clause-ok
-returns-clause-ok g c = on_ok_weaker c.insert.result (λ h. inserted c.self.inside.inside.entries c.insert.new.self.entries c.args.key c.args.value h.0 ∙ ap (λ m. map.insert m c.args.key c.args.value) c.self.view_is) c.insert.ensures.updates
+returns-clause-ok g c = on_ok_weaker c.insert.result (λ h. inserted c.self.inside.tree.entries c.insert.new.self.entries c.args.number c.args.value h.0 ∙ ap (λ m. map.insert m c.args.number c.args.value) c.self.view_is) c.insert.ensures.updates
 
 pub returns-clause-absent : goal.returns-clause-absent
-returns-clause-absent g c = on_err_weaker c.insert.result (λ h. sym (ap (λ m. map.get m c.args.key) c.self.view_is) ∙ got c.self.inside.inside.entries c.args.key ∙ h) c.insert.ensures.absent
+returns-clause-absent g c = on_err_weaker c.insert.result (λ h. sym (ap (λ m. map.get m c.args.number) c.self.view_is) ∙ got c.self.inside.tree.entries c.args.number ∙ h) c.insert.ensures.absent

@@ -4,4 +4,4 @@ use Rattle.pcache_evict.proofs.TableMaps.{entries_of}
 use Rattle.pcache_evict.proofs.hashtable.table.Table.iter.Goals as goal
 
 pub returns : goal.returns
-returns g c = c.iter.ensures.rest ∙ sym (entries_of c.self.inside.inside.entries c.iter.ensures.ordered) ∙ ap map.entries c.self.view_is
+returns g c = c.iter.ensures.rest ∙ sym (entries_of c.self.inside.tree.entries c.iter.ensures.ordered) ∙ ap map.entries c.self.view_is

@@ -4,7 +4,7 @@ use Rattle.pcache_evict.proofs.TableMaps.{got, removed}
 use Rattle.pcache_evict.proofs.hashtable.table.Table.remove.Goals as goal
 
 pub returns-clause-before : goal.returns-clause-before
-returns-clause-before g c = c.remove.ensures.value ∙ sym (got c.self.inside.inside.entries c.args.key) ∙ ap (λ m. map.get m c.args.key) c.self.view_is
+returns-clause-before g c = c.remove.ensures.value ∙ sym (got c.self.inside.tree.entries c.args.number) ∙ ap (λ m. map.get m c.args.number) c.self.view_is
 
 pub returns-clause-removed : goal.returns-clause-removed
-returns-clause-removed g c = removed c.self.inside.inside.entries c.remove.new.self.entries c.args.key c.remove.ensures.updates.0 ∙ ap (λ m. map.remove m c.args.key) c.self.view_is
+returns-clause-removed g c = removed c.self.inside.tree.entries c.remove.new.self.entries c.args.number c.remove.ensures.updates.0 ∙ ap (λ m. map.remove m c.args.number) c.self.view_is

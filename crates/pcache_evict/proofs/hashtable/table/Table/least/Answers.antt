@@ -1,8 +1,8 @@
 use Rattle.std.proofs.Common.{◌≡◌, sym, ◌∙◌, ap, Some, None, Option, ℕ}
-use Rattle.pcache_store.specs.Numbers.{least, first_key}
-use Rattle.pcache_store.proofs.Least.{if_least, if_first, if_none}
-use Rattle.pcache_store.proofs.Maps.{entries_of}
-use Rattle.pcache_store.proofs.table.Table.least.Goals as goal
+use Rattle.pcache_evict.specs.Numbers.{least, first_key}
+use Rattle.pcache_evict.proofs.Least.{if_least, if_first, if_none}
+use Rattle.pcache_evict.proofs.TableMaps.{entries_of}
+use Rattle.pcache_evict.proofs.hashtable.table.Table.least.Goals as goal
 
 pub returns-in-Some : goal.returns-in-Some
 returns-in-Some g c =

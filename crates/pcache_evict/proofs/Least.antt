@@ -7,7 +7,7 @@ use Rattle.std.specs.Ordering.{nat_cmp, is_eq, is_lt}
 use Rattle.std.specs.Cmp.{nat_cmp_total, nat_cmp_is, ranked, tied_itself}
 use Rattle.std.specs.FinMap.{FinMap, get, entries, entries_sorted, get-entries, find, is_sorted}
 use Rattle.std.specs.FinMap.Entries.{below_all}
-use Rattle.pcache_store.specs.Numbers.{first_key, least}
+use Rattle.pcache_evict.specs.Numbers.{first_key, least}
 
 less : (o : Ordering) → T (is_lt o) → o ≡ Less
 less Less p = refl
