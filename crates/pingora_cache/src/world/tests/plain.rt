@@ -454,7 +454,7 @@ fn a_random_script(rt: HostRuntime) -> std::result::Result<(), Fail> {
     };
     let mut asked = [NOT_OPEN; 5];
     let mut dice = Dice(20261122);
-    for at in 0..2000 {
+    for at in 0..4000 {
         let place = dice.pick(&[0usize, 1, 2, 3, 4], 0);
         let Some(one) = asked.get_mut(place) else {
             continue;
@@ -466,7 +466,7 @@ fn a_random_script(rt: HostRuntime) -> std::result::Result<(), Fail> {
         let told = format!(in alloc; "{reply:?}")?;
         assert_eq!(rt; told.as_str(), wanted.as_str(), "at {at}");
     }
-    assert_eq!(rt; world.history().len(), 2000);
+    assert_eq!(rt; world.history().len(), 4000);
     let totals = world.totals();
     assert_eq!(rt;
         (totals.weight, totals.items),
