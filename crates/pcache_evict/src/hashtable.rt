@@ -1,4 +1,4 @@
-//! Tables from 128-bit keys to values, in shards: the shard of a key is the key modulo their number.
+//! Tables from 128-bit keys to values, alone (`Table`) and in shards: the shard of a key is the key modulo their number.
 ghost use Rattle.std.specs.Prelude.{◌≡◌, None, IsSome, IfSome, ◌↔◌, ◌<◌, ◌%◌, IfErr, IfOk, OnErr, OnOk, option_copied};
 ghost use Rattle.std.specs.FinMap as map;
 ghost use Rattle.pcache_evict.specs.Sharding.{Part, part_of};
