@@ -111,7 +111,12 @@ fn the_least_recent_go(rt: HostRuntime) -> std::result::Result<(), Fail> {
         Admit(b'd', 2),
     ];
     check(&rt, alloc, 4, &steps, "b | d2 c1 | 2 of 3, 1 of 2 went")?;
-    // an access adds, and evicts nothing
+    Ok(())
+}
+
+#[test]
+fn an_access_adds_and_evicts_nothing(rt: HostRuntime) -> std::result::Result<(), Fail> {
+    let alloc = rt.alloc();
     let steps = [Access(b'a', 1), Access(b'b', 2), Access(b'c', 2)];
     check(
         &rt,
@@ -127,7 +132,12 @@ fn the_least_recent_go(rt: HostRuntime) -> std::result::Result<(), Fail> {
         Admit(b'd', 2),
     ];
     check(&rt, alloc, 4, &steps, "---ab | d2 c2 | 2 of 4, 2 of 3 went")?;
-    // an entry that is admitted again takes the new weight
+    Ok(())
+}
+
+#[test]
+fn an_entry_takes_the_weight_it_is_admitted_with(rt: HostRuntime) -> std::result::Result<(), Fail> {
+    let alloc = rt.alloc();
     let steps = [
         Admit(b'a', 1),
         Admit(b'b', 2),
