@@ -574,7 +574,8 @@ fn meta_with_fields(alloc: Global) -> std::result::Result<CacheMeta, Fail> {
     Ok(meta)
 }
 
-// The meta that was given at the beginning is found with its fields, of a write and of a body; an expired one has another end.
+// The meta that was given at the beginning is found with its fields, of a write and of a body;
+// an expired one has another end.
 #[test]
 fn a_meta_reads_back_equal(rt: HostRuntime) -> std::result::Result<(), Fail> {
     let alloc = rt.alloc();
