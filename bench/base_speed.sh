@@ -5,7 +5,7 @@ set -eu
 . "$(dirname "$0")/in_a_copy.sh"
 mkdir -p crates/base_speed/src
 cp bench/base_speed.rt.txt crates/base_speed/src/main.rt
-echo 'base_speed: pcache_base http http_header' >>crates.txt
+echo 'base_speed: pcache_base pcache_meta http http_header' >>crates.txt
 (cd crates/base_speed && rt run | grep -E '^(hash|meta) ')
 python3 - <<'SPEED'
 import hashlib, time

@@ -2,9 +2,7 @@
 //!
 //! The calls stand where a tracing back end would be told of a request's course. None of them does
 //! anything, and none calls the closure that it is given (so none requires that it may be called).
-ghost use Rattle.std.specs.Prelude.{◌≡◌};
 
-use crate::meta::CacheMeta;
 use crate::moment::Moment;
 
 /// A named value of a span. Nothing of it is kept.
@@ -66,25 +64,6 @@ impl SpanOptionsPlaceholder {
 /// What is handed on of a span. Nothing can be told to it.
 #[derive(Clone, Copy, Debug, PartialEq, Eq)]
 pub struct SpanHandle {}
-
-/// Tags a span with what is known of a stored response. Like every call of a span it does nothing.
-pub fn tag_span_with_meta(span: &mut Span, meta: &CacheMeta)
-    ensures { span.new ≡ span.old }
-{
-    span.set_tags(|| {
-        [
-            Tag::new("created", meta.created()),
-            Tag::new("fresh_until", meta.fresh_until()),
-            Tag::new("updated", meta.updated()),
-            Tag::new("stale_if_error_sec", meta.stale_if_error_sec()),
-            Tag::new(
-                "stale_while_revalidate_sec",
-                meta.stale_while_revalidate_sec(),
-            ),
-            Tag::new("variance", meta.variance().is_some()),
-        ]
-    });
-}
 
 #[cfg(test)]
 mod tests {

@@ -3,7 +3,7 @@ use Rattle.std.proofs.Common.{◌≡◌, ℕ, Bool, true, false, cond, List, [],
 use Rattle.std.specs.Prelude.{slice_get, codes, OnOk}
 use Rattle.http_header.specs.FieldValue.{FieldValue}
 use Rattle.http_header.specs.HeaderMap.{Entries, get, get_all}
-use Rattle.pcache_base.specs.Header.{Fields, shown_fields}
+use Rattle.pcache_meta.specs.Header.{Fields, shown_fields}
 use Rattle.pcache_base.specs.declared.error.ErrorType.{ErrorType}
 use Rattle.pcache_control.specs.Requests.{values_in, first_in, bytes_of, with_field, AsksSince, AsksUnlike}
 

@@ -7,9 +7,9 @@ use Rattle.std.specs.declared.time.Duration.{Duration}
 use Rattle.http_header.specs.FieldValue.{FieldValue}
 use Rattle.http_header.specs.HeaderMap.{Entries, get_all}
 use Rattle.httpdate.specs.Date.{parse_secs}
-use Rattle.pcache_base.specs.Header.{shown}
-use Rattle.pcache_base.specs.Meta.{Meta}
-use Rattle.pcache_base.specs.declared.header.ResponseHeader.{ResponseHeader}
+use Rattle.pcache_meta.specs.Header.{shown}
+use Rattle.pcache_meta.specs.Meta.{Meta}
+use Rattle.pcache_meta.specs.declared.header.ResponseHeader.{ResponseHeader}
 use Rattle.pcache_control.specs.declared.cache_control.CacheControl.{CacheControl}
 use Rattle.pcache_control.specs.declared.cache_control.Cacheable.{Cacheable}
 use Rattle.pcache_control.specs.declared.cache_control.Cacheable.TheVariants.{Yes, No, Default}

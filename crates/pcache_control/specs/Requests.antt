@@ -3,8 +3,8 @@ use Rattle.std.specs.Prelude.{◌≡◌, ℕ, ◌⊎◌, List, [], ◌∷◌, Op
 use Rattle.std.specs.Option.{option_map}
 use Rattle.http_header.specs.FieldValue.{FieldValue}
 use Rattle.http_header.specs.HeaderMap.{Entries, insert, remove}
-use Rattle.pcache_base.specs.Header.{Fields}
-use Rattle.pcache_base.specs.Meta.{Meta}
+use Rattle.pcache_meta.specs.Header.{Fields}
+use Rattle.pcache_meta.specs.Meta.{Meta}
 
 -- an answer to HEAD has no body to store
 abbrev pub sent_method : List ℕ → List ℕ

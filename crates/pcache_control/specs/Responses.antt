@@ -1,7 +1,7 @@
 -- What becomes of a response.
 use Rattle.std.specs.Prelude.{◌≡◌, ℕ, Bool, true, false, Option, Some, None}
 use Rattle.std.specs.declared.time.Duration.{Duration}
-use Rattle.pcache_base.specs.declared.header.ResponseHeader.{ResponseHeader}
+use Rattle.pcache_meta.specs.declared.header.ResponseHeader.{ResponseHeader}
 use Rattle.pcache_base.specs.declared.reason.NoCacheReason.TheVariants.{OriginNotCache}
 use Rattle.pcache_control.specs.declared.cache_control.CacheControl.{CacheControl}
 use Rattle.pcache_control.specs.declared.response.RespCacheable.{RespCacheable}

@@ -19,7 +19,7 @@ pub use crate::value::{DirectiveValue, ListValueIter};
 use http_header::{GetAll, HeaderMap, HeaderValue};
 use indexmap::IndexMap;
 use pcache_base::error::Result;
-use pcache_base::header::{ReqHeader, RespHeader};
+use pcache_meta::header::{ReqHeader, RespHeader};
 use std::alloc::Global;
 
 /// Directives by name, in the order of their first places, with their last values. A directive

@@ -18,10 +18,10 @@ use crate::value::trim_ows;
 use http::Method;
 use http_header::HeaderValue;
 use httpdate::HttpDate;
-use pcache_base::header::{ReqHeader, RespHeader, ResponseHeader};
-use pcache_base::meta::CacheMeta;
 use pcache_base::moment::Moment;
 use pcache_base::reason::NoCacheReason;
+use pcache_meta::header::{ReqHeader, RespHeader, ResponseHeader};
+use pcache_meta::meta::CacheMeta;
 use std::time::Duration;
 
 /// Whether a request's response may come from the cache: its method is GET or HEAD.

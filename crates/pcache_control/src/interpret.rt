@@ -3,7 +3,7 @@
 ghost use Rattle.std.specs.Prelude.{◌≡◌, ℕ, Bool, Option, Some};
 ghost use Rattle.std.specs.Option.{option_map};
 ghost use Rattle.std.specs.Duration.{as_nanos};
-ghost use Rattle.pcache_base.specs.declared.header.ResponseHeader.{ResponseHeader};
+ghost use Rattle.pcache_meta.specs.declared.header.ResponseHeader.{ResponseHeader};
 ghost use Rattle.pcache_control.specs.declared.cache_control.Cacheable.{Cacheable};
 ghost use Rattle.pcache_control.specs.declared.key.DirectiveKey.TheVariants.{StaleWhileRevalidate, StaleIfError};
 ghost use Rattle.pcache_control.specs.Control.{as_duration, cacheable_of, allows_authorized, forbids_stale, fresh_seconds, stale_seconds, stripped, without_fields};
@@ -12,7 +12,7 @@ use crate::cache_control::{CacheControl, Cacheable};
 use crate::key::DirectiveKey;
 use crate::value::ListValueIter;
 use http_header::HeaderMap;
-use pcache_base::header::ResponseHeader;
+use pcache_meta::header::ResponseHeader;
 use std::time::Duration;
 
 /// What directives say of a response, whatever field they come from.

@@ -4,8 +4,8 @@ ghost use Rattle.std.specs.Prelude.{◌≡◌, true};
 ghost use Rattle.pcache_control.specs.Responses.{is_cacheable};
 ghost use Rattle.pcache_control.specs.declared.response.RespCacheable.TheVariants.{Cacheable};
 
-use pcache_base::meta::CacheMeta;
 use pcache_base::reason::NoCacheReason;
+use pcache_meta::meta::CacheMeta;
 
 /// Whether a response is to be stored.
 #[derive(Drop)]

@@ -7,7 +7,7 @@ use crate::cache_control::{
 use http::StatusCode;
 use http_header::HeaderValue;
 use pcache_base::error::{Error, ErrorType};
-use pcache_base::header::ResponseHeader;
+use pcache_meta::header::ResponseHeader;
 use std::alloc::Global;
 use std::test::Fail;
 use std::time::Duration;

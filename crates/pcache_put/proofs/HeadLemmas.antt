@@ -8,8 +8,8 @@ use Rattle.httparse.proofs.GrammarLemmas.{response_unique}
 use Rattle.http_header.specs.Token as token
 use Rattle.http_header.specs.FieldValue.{FieldValue}
 use Rattle.http_header.specs.HeaderMap.{Entries}
-use Rattle.pcache_base.specs.declared.header.HttpVersion.{HttpVersion}
-use Rattle.pcache_base.specs.declared.header.ResponseHeader.{ResponseHeader}
+use Rattle.pcache_meta.specs.declared.header.HttpVersion.{HttpVersion}
+use Rattle.pcache_meta.specs.declared.header.ResponseHeader.{ResponseHeader}
 use Rattle.pcache_put.specs.Fields.{IsPair, fields_after}
 use Rattle.pcache_put.specs.Head.{version_of, header_of}
 

@@ -4,7 +4,7 @@ use Rattle.std.specs.Prelude.{◌==◌, nat_le}
 use Rattle.std.proofs.lemmas.Bool.{eqb-true, leb-false, leb-true}
 use Rattle.std.proofs.lemmas.List.{take-append-le, drop-append-le, take_all, nil_from_length}
 use Rattle.std.proofs.Math.Seq.{take-append-add, drop-append-add, take-nil}
-use Rattle.pcache_base.specs.declared.header.ResponseHeader.{ResponseHeader}
+use Rattle.pcache_meta.specs.declared.header.ResponseHeader.{ResponseHeader}
 use Rattle.pcache_put.specs.Head.{ReadsHeader}
 use Rattle.pcache_put.specs.HeadEnd.{EndsAt}
 use Rattle.pcache_put.specs.Response.{Response, IsResponse, IsUnreadable, HasSize, body_of, is_whole}

@@ -4,7 +4,7 @@ use Rattle.std.specs.Prelude.{nat_le, nat_lt, not}
 use Rattle.std.specs.Option.{SomeIff}
 use Rattle.std.proofs.lemmas.Bool.Decides.{nat_tests}
 use Rattle.http_header.specs.FieldValue.{FieldValue}
-use Rattle.pcache_base.specs.declared.header.ResponseHeader.{ResponseHeader}
+use Rattle.pcache_meta.specs.declared.header.ResponseHeader.{ResponseHeader}
 use Rattle.pcache_put.specs.Head.{ReadsHeader, header_of}
 use Rattle.pcache_put.specs.HeadEnd.{IsUnfinished}
 use Rattle.pcache_put.specs.Response.{Response, IsResponse, IsUnreadable, IsComplete, HasSize, HasSizeBy, may_end}

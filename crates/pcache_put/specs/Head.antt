@@ -3,9 +3,9 @@ use Rattle.std.specs.Prelude.{◌≡◌, ℕ, ◌≤◌, List, [], map, length, 
 use Rattle.httparse.specs.Grammar.{ResponseHead, ReadsResponse, status_code}
 use Rattle.httparse.specs.Spans.{name_and_value}
 use Rattle.http.specs.StatusCode.{IsStatusCode}
-use Rattle.pcache_base.specs.declared.header.HttpVersion.{HttpVersion}
-use Rattle.pcache_base.specs.declared.header.HttpVersion.TheVariants.{Http10, Http11}
-use Rattle.pcache_base.specs.declared.header.ResponseHeader.{ResponseHeader}
+use Rattle.pcache_meta.specs.declared.header.HttpVersion.{HttpVersion}
+use Rattle.pcache_meta.specs.declared.header.HttpVersion.TheVariants.{Http10, Http11}
+use Rattle.pcache_meta.specs.declared.header.ResponseHeader.{ResponseHeader}
 use Rattle.pcache_put.specs.Fields.{IsShort, fields_after}
 
 -- the bytes, all of them, are a head of the grammar, with at most so many fields

@@ -4,7 +4,7 @@ use Rattle.std.specs.Option.{SomeIff}
 use Rattle.std.specs.Str.Parse.{IsNumeral, digits_value, without_leading_plus}
 use Rattle.http_header.specs.FieldValue.{FieldValue}
 use Rattle.http_header.specs.HeaderMap.{get}
-use Rattle.pcache_base.specs.declared.header.ResponseHeader.{ResponseHeader}
+use Rattle.pcache_meta.specs.declared.header.ResponseHeader.{ResponseHeader}
 use Rattle.pcache_put.specs.Head.{ReadsHeader}
 use Rattle.pcache_put.specs.HeadEnd.{EndsAt}
 use Rattle.pcache_put.specs.declared.head_end.Place.TheVariants.{Blank}

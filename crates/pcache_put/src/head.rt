@@ -16,7 +16,7 @@ use http_header::{
 use httparse::Status;
 use httparse::spans::{EMPTY_HEADER_SPAN, HeaderSpan, ResponseSpans, parse_response};
 use pcache_base::error::{Error, ErrorType, Result};
-use pcache_base::header::{HttpVersion, ResponseHeader};
+use pcache_meta::header::{HttpVersion, ResponseHeader};
 use std::alloc::Global;
 
 // How many fields a head may have.

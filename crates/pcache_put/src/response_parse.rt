@@ -2,7 +2,7 @@
 ghost use Rattle.std.specs.Prelude.{◌≡◌, ◌⊎◌, ℕ, ◌<◌, ◌^◌, List, [], ◌∷◌, ◌++◌, length, IsOk, IfOk, IfErr, OnOk, OnErr, Option, Ok, Err, IfNone, IfSome, None, Some};
 ghost use Rattle.pcache_put.specs.Head.{ReadsHeader};
 ghost use Rattle.pcache_put.specs.Response.{SpellsLength, HasSize, is_whole, IsUnreadable, IsComplete};
-ghost use Rattle.pcache_base.specs.declared.header.ResponseHeader.{ResponseHeader};
+ghost use Rattle.pcache_meta.specs.declared.header.ResponseHeader.{ResponseHeader};
 ghost use Rattle.pcache_put.specs.declared.response_parse.Progress.{Progress};
 ghost use Rattle.pcache_base.specs.declared.error.ErrorType.{ErrorType};
 ghost use Rattle.pcache_base.specs.declared.error.ErrorType.TheVariants.{OutOfMemory, InvalidHttpHeader, IncompleteHttpBody};
@@ -14,7 +14,7 @@ use crate::head_end::{HeadBytes, HeadPiece};
 use bytes::Bytes;
 use http_header::CONTENT_LENGTH;
 use pcache_base::error::{Error, ErrorType, Result};
-use pcache_base::header::ResponseHeader;
+use pcache_meta::header::ResponseHeader;
 use std::alloc::Global;
 use std::marker::Model;
 use std::mem;
@@ -370,7 +370,7 @@ mod tests {
             return Err(Fail::from("no head"));
         };
         assert!(rt; !whole);
-        assert!(rt; head.version == pcache_base::header::HttpVersion::Http11);
+        assert!(rt; head.version == pcache_meta::header::HttpVersion::Http11);
         assert!(rt; head.status == StatusCode::OK);
         let server = head.headers.get("server").ok_or("no server")?;
         assert_eq!(rt; server.as_bytes(), b"pingora".as_slice());

@@ -6,7 +6,7 @@ use Rattle.std.specs.Cmp.{nat_cmp_total, tied_itself}
 use Rattle.std.specs.FinMap.{FinMap, empty, get, insert, remove, entries, len, find, get-insert, get-remove, get-empty, get-entries, len-remove, len-entries, empty_of_len, nat_cmp-IsAntisymmetric}
 use Rattle.pcache_base.specs.Totals.{total, share}
 use Rattle.pcache_base.proofs.Totals.{total-insert, total-remove, total-empty}
-use Rattle.pcache_base.specs.Meta.{Meta}
+use Rattle.pcache_meta.specs.Meta.{Meta}
 use Rattle.pcache_store.specs.Store.{Slot, Stored, body_of, is_idle, with_slot, slot_or_new, opened_in, opened, shut_on, stored_on, with_meta, meta_changed_in, meta_changed_on}
 use Rattle.pcache_store.specs.Totals.{body_len, one, body_size, body_count, IsCounted}
 

@@ -2,7 +2,7 @@
 use Rattle.std.proofs.Common.{◌≡◌, ℕ, true, false, Option, None, Some, ◌∙◌, sym, ap, cond}
 use Rattle.std.specs.Ordering.{nat_cmp}
 use Rattle.std.specs.FinMap.{FinMap, get, insert, remove}
-use Rattle.pcache_base.specs.Meta.{Meta}
+use Rattle.pcache_meta.specs.Meta.{Meta}
 use Rattle.pcache_store.proofs.Maps.{insert_same, remove-insert}
 use Rattle.pcache_store.specs.Store.{Slot, Stored, is_idle, with_slot, opened_in, opened, slot_or_new, shut_on, stored_on, with_meta, meta_changed_in, meta_changed_on}
 

@@ -2,7 +2,7 @@
 use Rattle.std.specs.Prelude.{ℕ, ◌≡◌, ◌⊎◌, Option, Some, None, is_some, cond}
 use Rattle.std.specs.FinMap.{get}
 use Rattle.pcache_base.specs.CompactKey.{compact_slot}
-use Rattle.pcache_base.specs.Meta as meta
+use Rattle.pcache_meta.specs.Meta as meta
 use Rattle.pcache_base.specs.declared.key.CompactCacheKey.{CompactCacheKey}
 use Rattle.pcache_evict.specs.Entry.{entry_with, key_of, id_of}
 use Rattle.pcache_evict.specs.declared.eviction.entry_key.CacheEntryKey.{CacheEntryKey}

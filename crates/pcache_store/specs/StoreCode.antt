@@ -4,8 +4,8 @@ use Rattle.std.specs.Coded.{Coded, code_by, coded×, coded_ℕ, coded_bool, code
 use Rattle.std.specs.Ordering.{nat_cmp}
 use Rattle.std.specs.FinMap.{FinMap, code}
 use Rattle.std.specs.FinSet as set
-use Rattle.pcache_base.specs.Meta.{Meta}
-use Rattle.pcache_base.specs.contracts.meta.CacheMeta as meta_row
+use Rattle.pcache_meta.specs.Meta.{Meta}
+use Rattle.pcache_meta.specs.contracts.meta.CacheMeta as meta_row
 use Rattle.pcache_store.specs.Store.{Stored, Written, Slot, Store}
 
 abbrev pub stored_code : Coded Stored

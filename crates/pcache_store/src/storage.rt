@@ -5,7 +5,7 @@
 ghost use Rattle.std.specs.Prelude.{◌≡◌, ◌<◌, ◌^◌, ℕ, Bool, false, true, Option, Some, None, IfOk, OnOk, OnErr, IfErr, IsOk, IsTrue, IsSome, ◌↔◌, option_map, is_some, option_copied};
 ghost use Rattle.std.specs.FinMap as map;
 ghost use Rattle.pcache_base.specs.Key.{slot};
-ghost use Rattle.pcache_base.specs.Meta.{Meta};
+ghost use Rattle.pcache_meta.specs.Meta.{Meta};
 ghost use Rattle.pcache_base.specs.declared.error.ErrorType.TheVariants.{OutOfMemory, InternalError};
 ghost use Rattle.pcache_evict.specs.EntryRef.{referred};
 ghost use Rattle.pcache_store.specs.declared.storage.MissFinishType.{MissFinishType};
@@ -17,10 +17,10 @@ ghost use Rattle.pcache_store.specs.Tag.{named_by};
 use bytes::Bytes;
 use pcache_base::error::Result;
 use pcache_base::key::{CacheKey, CompactCacheKey};
-use pcache_base::meta::CacheMeta;
 use pcache_base::moment::Moment;
 use pcache_base::poll::Poll;
 use pcache_evict::eviction::{CacheEntryId, CacheEntryKey, CacheEntryKeyRef};
+use pcache_meta::meta::CacheMeta;
 use std::alloc::Global;
 use std::fmt;
 

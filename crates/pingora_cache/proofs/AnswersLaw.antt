@@ -1,12 +1,12 @@
 -- What a legal history tells of a look-up and of a read is what the events before it say.
 use Rattle.std.proofs.Common.{◌≡◌, ℕ, ◌⊎◌, Bool, true, false, not, if◌then◌else◌, Option, None, Some, List, [], ◌∷◌, ◌++◌, length, refl, sym, subst, inl, inr}
 use Rattle.pcache_base.specs.Key.{Key}
-use Rattle.pcache_base.specs.Meta.{Meta}
+use Rattle.pcache_meta.specs.Meta.{Meta}
 use Rattle.pcache_evict.specs.Tracked.{Tracked, Limits}
 use Rattle.pcache_lock.specs.declared.lock.permit.Locked.{Locked}
 use Rattle.pcache_lock.specs.declared.lock.permit.Locked.TheVariants as L
 use Rattle.pcache_store.specs.Store.{Reader, reader_weight}
-use Rattle.pingora_cache.specs.declared.phase.HitStatus.{HitStatus}
+use Rattle.pcache_request.specs.declared.phase.HitStatus.{HitStatus}
 use Rattle.pingora_cache.specs.declared.world.call.Call.{Call}
 use Rattle.pingora_cache.specs.declared.world.call.Call.TheVariants as C
 use Rattle.pingora_cache.specs.declared.world.call.LockKind.{LockKind}
@@ -14,7 +14,7 @@ use Rattle.pingora_cache.specs.declared.world.call.Reply.{Reply}
 use Rattle.pingora_cache.specs.declared.world.entry.Entry.{Entry}
 use Rattle.pingora_cache.specs.declared.world.entry.Event.{Event}
 use Rattle.pingora_cache.specs.declared.world.entry.Event.TheVariants as E
-use Rattle.pingora_cache.specs.Requests.{Request, entry_of, counts_found}
+use Rattle.pcache_request.specs.Requests.{Request, entry_of, counts_found}
 use Rattle.pingora_cache.specs.Events.{begun, is_removed, is_told, body_of, tracked}
 use Rattle.pingora_cache.specs.Held.{Held, number_of, request_of}
 use Rattle.pingora_cache.specs.Legal.{events_of, reads, Finds, HasAny, IsIdle, IsStarved, Where, Opens, AsksIf, Looks, accesses, TakesPair, Begins, Writes, Finishes, Reads, Purges, drop_of, let_go_of, Ends, Answers, IsLegal}

@@ -3,12 +3,12 @@ use Rattle.std.proofs.Common.{◌≡◌, ℕ, ◌⊎◌, Option, None, Some, Lis
 use Rattle.std.specs.Ordering.{nat_cmp}
 use Rattle.std.specs.BTreeMap.{is_at}
 use Rattle.std.specs.Map.{lookup}
-use Rattle.pcache_base.specs.Meta.{Meta}
+use Rattle.pcache_meta.specs.Meta.{Meta}
 use Rattle.pcache_base.specs.Key.{Key}
 use Rattle.pcache_base.specs.declared.error.ErrorType.TheVariants.{OutOfMemory}
 use Rattle.pcache_evict.specs.Tracked.{Tracked, Limits}
 use Rattle.pcache_store.specs.Store.{Store, Reader}
-use Rattle.pingora_cache.specs.declared.phase.HitStatus.{HitStatus}
+use Rattle.pcache_request.specs.declared.phase.HitStatus.{HitStatus}
 use Rattle.pingora_cache.specs.declared.world.call.Call.{Call}
 use Rattle.pingora_cache.specs.declared.world.call.Call.TheVariants as C
 use Rattle.pingora_cache.specs.declared.world.call.LockKind.{LockKind}
@@ -17,7 +17,7 @@ use Rattle.pingora_cache.specs.declared.world.call.Reply.TheVariants as R
 use Rattle.pingora_cache.specs.declared.world.entry.Answer.{Answer}
 use Rattle.pingora_cache.specs.declared.world.entry.Answer.TheVariants as A
 use Rattle.pingora_cache.specs.declared.world.entry.Event.{Event}
-use Rattle.pingora_cache.specs.Requests.{Request}
+use Rattle.pcache_request.specs.Requests.{Request}
 use Rattle.pingora_cache.specs.Held.{Held}
 use Rattle.pingora_cache.specs.Legal.{IsIdle, IsStarved, Opens, look_reply}
 use Rattle.pingora_cache.specs.Log.{IsCopy}

@@ -6,13 +6,13 @@ use Rattle.std.specs.declared.cmp.Ordering.TheVariants.{Less, Equal, Greater}
 use Rattle.std.specs.Cmp.{tied_itself}
 use Rattle.std.specs.FinMap as map
 use Rattle.std.proofs.lemmas.Bool.{eqb-true, both_ways, or_parts}
-use Rattle.pcache_base.specs.Meta.{Meta}
+use Rattle.pcache_meta.specs.Meta.{Meta}
 use Rattle.pcache_evict.specs.declared.eviction.entry_key.CacheEntryKey.{CacheEntryKey}
 use Rattle.pcache_evict.specs.Entry.{entry_cmp, entries_total}
 use Rattle.pcache_evict.specs.Tracked.{Tracked, without, added}
 use Rattle.pcache_evict.proofs.EntryOrder.{exact_entries}
 use Rattle.pcache_store.specs.Store.{Stored}
-use Rattle.pingora_cache.specs.Finishing.{entry_slot}
+use Rattle.pcache_request.specs.Finishing.{entry_slot}
 use Rattle.pingora_cache.specs.declared.world.entry.Event.{Event}
 use Rattle.pingora_cache.specs.declared.world.entry.Event.TheVariants.{Look, Ask, Access, Begin, Wrote, Finish, Dropped, Release, LetGo, Admit, Purge, Untrack, Read}
 use Rattle.pingora_cache.specs.Events.{begun, begin_of, names_slot, names_key, option_any, is_removed, in_flight, body_of, complete, tracked, size_of}

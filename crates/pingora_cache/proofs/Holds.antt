@@ -2,10 +2,10 @@
 use Rattle.std.proofs.Common.{Bool, ◌&&◌, ◌≡◌, ◌≢◌, ℕ, ◌<◌, true, false, not, ◌||◌, ◌==◌, if◌then◌else◌, Option, None, Some, is_some, List, [], ◌∷◌, ◌++◌, refl, ap, sym, subst, ◌∙◌, arith, reverse, inl, inr, ◌⊎◌}
 use Rattle.std.proofs.lemmas.Bool.{eqb-true, eqb-false, eq-eqb, ne_eqb, and_from}
 use Rattle.pcache_base.specs.Key.{Key, slot}
-use Rattle.pcache_base.specs.Meta.{Meta}
+use Rattle.pcache_meta.specs.Meta.{Meta}
 use Rattle.pcache_evict.specs.Tracked.{Tracked, Limits}
-use Rattle.pingora_cache.specs.Phases.{IsFilling}
-use Rattle.pingora_cache.specs.Requests.{entry_of}
+use Rattle.pcache_request.specs.Phases.{IsFilling}
+use Rattle.pcache_request.specs.Requests.{entry_of}
 use Rattle.pingora_cache.specs.declared.world.entry.Event.{Event}
 use Rattle.pingora_cache.specs.declared.world.entry.Event.TheVariants as E
 use Rattle.pingora_cache.specs.Events.{begun, begin_of, has_ended, in_flight}

@@ -3,18 +3,18 @@ use Rattle.std.proofs.Common.{◌≡◌, ℕ, Bool, true, false, not, if◌then�
 use Rattle.std.specs.FinMap as map
 use Rattle.std.proofs.lemmas.Bool.{not-true, not-false}
 use Rattle.pcache_base.specs.Key.{Key, slot}
-use Rattle.pcache_base.specs.Meta.{Meta}
+use Rattle.pcache_meta.specs.Meta.{Meta}
 use Rattle.pcache_base.specs.declared.error.ErrorType.TheVariants.{OutOfMemory, WriteRemoved}
 use Rattle.pcache_evict.specs.declared.eviction.entry_key.CacheEntryKey.{CacheEntryKey}
 use Rattle.pcache_evict.specs.Tracked.{Tracked, Limits, IsFair}
 use Rattle.pcache_lock.specs.declared.lock.permit.Locked.{Locked}
 use Rattle.pcache_lock.specs.declared.lock.permit.Locked.TheVariants as L
 use Rattle.pcache_store.specs.Store.{Reader, reader_weight}
-use Rattle.pingora_cache.specs.Phases.{MayTakeKey, MayLookUp, MayMiss, IsFilling}
-use Rattle.pingora_cache.specs.Requests.{Request, MayWrite, entry_of, counts_found, phase_found}
-use Rattle.pingora_cache.specs.declared.phase.CachePhase.{CachePhase}
-use Rattle.pingora_cache.specs.declared.phase.CachePhase.TheVariants as phase
-use Rattle.pingora_cache.specs.declared.phase.HitStatus.{HitStatus}
+use Rattle.pcache_request.specs.Phases.{MayTakeKey, MayLookUp, MayMiss, IsFilling}
+use Rattle.pcache_request.specs.Requests.{Request, MayWrite, entry_of, counts_found, phase_found}
+use Rattle.pcache_request.specs.declared.phase.CachePhase.{CachePhase}
+use Rattle.pcache_request.specs.declared.phase.CachePhase.TheVariants as phase
+use Rattle.pcache_request.specs.declared.phase.HitStatus.{HitStatus}
 use Rattle.pingora_cache.specs.declared.world.call.Call.{Call}
 use Rattle.pingora_cache.specs.declared.world.call.Call.TheVariants as C
 use Rattle.pingora_cache.specs.declared.world.call.LockKind.{LockKind}

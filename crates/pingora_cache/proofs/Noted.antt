@@ -2,15 +2,15 @@
 use Rattle.std.proofs.Common.{◌≡◌, ℕ, Bool, true, false, not, ◌&&◌, cond, if◌then◌else◌, Option, None, Some, is_some, List, [], ◌∷◌, ◌++◌, refl, ap, sym, ◌∙◌, IfSome, option_map}
 use Rattle.std.proofs.lemmas.Bool.{both_ways}
 use Rattle.pcache_base.specs.Key.{Key, slot}
-use Rattle.pcache_base.specs.Meta.{Meta}
+use Rattle.pcache_meta.specs.Meta.{Meta}
 use Rattle.pcache_lock.specs.Locks.{Locks, given, holder, is_permit, number_of_lock}
 use Rattle.pcache_base.specs.declared.poll.Poll.{Poll}
 use Rattle.pcache_store.specs.Store.{Store, Reader, Part, find, followed, left, reader_weight, read_of, reader_after}
-use Rattle.pingora_cache.specs.declared.phase.HitStatus.{HitStatus}
+use Rattle.pcache_request.specs.declared.phase.HitStatus.{HitStatus}
 use Rattle.pingora_cache.specs.declared.world.entry.Event.{Event}
 use Rattle.pingora_cache.specs.declared.world.entry.Event.TheVariants as E
-use Rattle.pingora_cache.specs.Phases.{is_stale, is_fresh}
-use Rattle.pingora_cache.specs.Requests.{Request, found_for, locked_found, found_row, placed, with_lock, counts_found, entry_of, left_by, reader_in, writing, begun_for, joined_for}
+use Rattle.pcache_request.specs.Phases.{is_stale, is_fresh}
+use Rattle.pcache_request.specs.Requests.{Request, found_for, locked_found, found_row, placed, with_lock, counts_found, entry_of, left_by, reader_in, writing, begun_for, joined_for}
 use Rattle.pingora_cache.specs.Held.{Held, lock_of, asked, began, read_past}
 use Rattle.pingora_cache.specs.Legal.{each, accesses}
 use Rattle.pingora_cache.specs.Step.{IsAnswered, asking}

@@ -1,11 +1,11 @@
 -- A request of a history has no entry number, and uses what a world's requests use.
 use Rattle.std.proofs.Common.{◌≡◌, ℕ, ◌==◌, Bool, true, false, cond, if◌then◌else◌, Option, None, Some, List, [], ◌∷◌, refl, subst}
 use Rattle.std.specs.Option.{option_map}
-use Rattle.pcache_base.specs.Meta.{Meta}
+use Rattle.pcache_meta.specs.Meta.{Meta}
 use Rattle.pcache_store.specs.Store.{Reader}
-use Rattle.pingora_cache.specs.Phases.{is_stale}
-use Rattle.pingora_cache.specs.Requests.{Request, with_key, missed, with_meta}
-use Rattle.pingora_cache.specs.declared.phase.HitStatus.{HitStatus}
+use Rattle.pcache_request.specs.Phases.{is_stale}
+use Rattle.pcache_request.specs.Requests.{Request, with_key, missed, with_meta}
+use Rattle.pcache_request.specs.declared.phase.HitStatus.{HitStatus}
 use Rattle.pingora_cache.specs.declared.world.call.Call.{Call}
 use Rattle.pingora_cache.specs.declared.world.call.Call.TheVariants as C
 use Rattle.pingora_cache.specs.declared.world.call.Reply.{Reply}

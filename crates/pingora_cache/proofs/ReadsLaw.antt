@@ -4,14 +4,14 @@ use Rattle.std.specs.Option.{option_map}
 use Rattle.std.proofs.lemmas.Bool.{eqb-true}
 use Rattle.std.proofs.lemmas.List.{take-append-le}
 use Rattle.pcache_base.specs.Key.{slot}
-use Rattle.pcache_base.specs.Meta.{Meta}
+use Rattle.pcache_meta.specs.Meta.{Meta}
 use Rattle.pcache_base.specs.declared.poll.Poll.{Poll}
 use Rattle.pcache_base.specs.declared.poll.Poll.TheVariants.{Ready, Pending}
 use Rattle.pcache_evict.specs.Tracked.{Tracked, Limits}
 use Rattle.pcache_store.specs.Store.{Written, Reader, Whole, Part, read_part}
-use Rattle.pingora_cache.specs.Phases.{is_treated_as_miss}
-use Rattle.pingora_cache.specs.Requests.{Request, with_key, missed, with_meta}
-use Rattle.pingora_cache.specs.declared.phase.HitStatus.{HitStatus}
+use Rattle.pcache_request.specs.Phases.{is_treated_as_miss}
+use Rattle.pcache_request.specs.Requests.{Request, with_key, missed, with_meta}
+use Rattle.pcache_request.specs.declared.phase.HitStatus.{HitStatus}
 use Rattle.pingora_cache.specs.declared.world.call.Call.{Call}
 use Rattle.pingora_cache.specs.declared.world.call.Call.TheVariants as C
 use Rattle.pingora_cache.specs.declared.world.call.Reply.{Reply}

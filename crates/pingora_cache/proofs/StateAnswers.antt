@@ -9,7 +9,7 @@ use Rattle.std.specs.FinMap.{FinMap, get, contains_key, len, entries, get-entrie
 use Rattle.std.specs.FinMap as map
 use Rattle.std.specs.FinMap.Entries.{is_sorted, below_all}
 use Rattle.std.proofs.lemmas.Bool.{and_parts}
-use Rattle.pcache_base.specs.Meta.{Meta}
+use Rattle.pcache_meta.specs.Meta.{Meta}
 use Rattle.pcache_base.specs.declared.poll.Poll.TheVariants.{Ready, Pending}
 use Rattle.pcache_evict.specs.Numbers.{first_key, least}
 use Rattle.pcache_store.specs.Store.{Store, Slot, Stored, Written, Reader, Whole, Part, found_body, found_part, found_first, found_in, find, found_flying, find_write, followed, is_fresh_in, is_idle, stands_on, stands, read_part, read_of, place_after, reader_after}

@@ -4,11 +4,11 @@ use Rattle.std.specs.List.{list_any}
 use Rattle.std.specs.FinMap.{get, remove}
 use Rattle.std.proofs.lemmas.Bool.{eqb-true}
 use Rattle.std.proofs.Math.Bool.{or-false, or_assoc}
-use Rattle.pcache_base.specs.Meta.{Meta}
+use Rattle.pcache_meta.specs.Meta.{Meta}
 use Rattle.pcache_evict.specs.declared.eviction.entry_key.CacheEntryKey.{CacheEntryKey}
 use Rattle.pcache_store.specs.Store.{Store, Slot, is_fresh_in, is_idle, body_of, purged}
 use Rattle.pcache_store.specs.Purge.{purged_at}
-use Rattle.pingora_cache.specs.Finishing.{PurgesAll, entry_slot}
+use Rattle.pcache_request.specs.Finishing.{PurgesAll, entry_slot}
 use Rattle.pingora_cache.specs.declared.world.entry.Event.{Event}
 use Rattle.pingora_cache.specs.declared.world.entry.Event.TheVariants.{Admit, Purge}
 use Rattle.pingora_cache.specs.Events.{begun, begin_of, since, removes, names_slot, names_key, option_any, in_flight, is_open, complete}

@@ -4,7 +4,7 @@ use Rattle.std.specs.List.{list_any}
 use Rattle.std.specs.Ordering.{nat_cmp}
 use Rattle.std.specs.FinMap.{FinMap, get, insert, remove, contains_key, len, get-empty, empty_of_len}
 use Rattle.std.proofs.lemmas.Bool.{eqb-true, both_ways, and_parts, cases_lt, false_from_ne_true, and_right}
-use Rattle.pcache_base.specs.Meta.{Meta}
+use Rattle.pcache_meta.specs.Meta.{Meta}
 use Rattle.pcache_store.specs.Store.{Store, Slot, Stored, is_fresh_in, is_idle, body_of, with_slot, slot_or_new, opened_in, opened, new_write, begun, grounded, shut_on, shut, dropped_on, dropped, stored_on, finished_on, finished}
 use Rattle.pingora_cache.specs.declared.world.entry.Event.{Event}
 use Rattle.pingora_cache.specs.declared.world.entry.Event.TheVariants.{Begin, Finish, Dropped}

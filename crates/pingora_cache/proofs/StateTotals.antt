@@ -9,7 +9,7 @@ use Rattle.std.specs.FinMap.{FinMap, get, remove, len, get-remove, nat_cmp-IsAnt
 use Rattle.std.proofs.lemmas.Bool.{eqb-true, or_left, or_right}
 use Rattle.std.proofs.lemmas.List.Sums.{sum_by-cons}
 use Rattle.std.proofs.lemmas.Map.Keys.{IsDistinct-head, IsDistinct-tail}
-use Rattle.pcache_base.specs.Meta.{Meta}
+use Rattle.pcache_meta.specs.Meta.{Meta}
 use Rattle.pcache_base.specs.Totals.{total, share}
 use Rattle.pcache_base.proofs.Totals.{total-remove, get-remove_apart}
 use Rattle.pcache_store.specs.Store.{Store, Slot, Stored, body_of}

@@ -6,9 +6,9 @@ use Rattle.std.specs.Ordering.{nat_cmp}
 use Rattle.std.specs.Cmp.{nat_cmp_total}
 use Rattle.std.specs.FinMap.{FinMap, get, insert, remove, get-insert, get-remove}
 use Rattle.std.proofs.lemmas.Bool.{eqb-true, both_ways, or_right}
-use Rattle.pcache_base.specs.Meta.{Meta}
+use Rattle.pcache_meta.specs.Meta.{Meta}
 use Rattle.pcache_store.specs.Store.{Store, Written, Reader, Whole, Part, is_named, kept, joined_on, joined, followed_by, followed, left_on, left}
-use Rattle.pingora_cache.specs.Requests.{left_by}
+use Rattle.pcache_request.specs.Requests.{left_by}
 use Rattle.pingora_cache.specs.declared.world.entry.Event.{Event}
 use Rattle.pingora_cache.specs.Events.{begin_of, in_flight, is_told, body_of}
 use Rattle.pingora_cache.specs.Sound.{follows, pair_reader, record_of, IsState}

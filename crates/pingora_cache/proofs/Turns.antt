@@ -5,15 +5,15 @@ use Rattle.std.specs.Prelude.{IsSome}
 use Rattle.std.specs.Ordering.{nat_cmp}
 use Rattle.std.specs.FinMap.{FinMap, get, insert, remove}
 use Rattle.pcache_base.specs.Key.{Key}
-use Rattle.pcache_base.specs.Meta.{Meta}
+use Rattle.pcache_meta.specs.Meta.{Meta}
 use Rattle.pcache_base.specs.declared.error.ErrorType.TheVariants.{OutOfMemory}
 use Rattle.pcache_base.specs.declared.poll.Poll.{Poll}
 use Rattle.pcache_base.specs.declared.poll.Poll.TheVariants.{Ready, Pending}
 use Rattle.pcache_evict.specs.Tracked.{Tracked, Limits}
 use Rattle.pcache_store.specs.Store as store
 use Rattle.pcache_store.specs.Store.{Store, Reader, Whole, Part, read_of, wrote}
-use Rattle.pingora_cache.specs.Phases.{MayTakeKey, MayMiss}
-use Rattle.pingora_cache.specs.Requests.{MayTakeMeta, left_by, dropped_by, with_key, missed, with_meta}
+use Rattle.pcache_request.specs.Phases.{MayTakeKey, MayMiss}
+use Rattle.pcache_request.specs.Requests.{MayTakeMeta, left_by, dropped_by, with_key, missed, with_meta}
 use Rattle.pingora_cache.specs.declared.world.call.Call.{Call}
 use Rattle.pingora_cache.specs.declared.world.call.Call.TheVariants as C
 use Rattle.pingora_cache.specs.declared.world.call.Reply.{Reply}

@@ -8,7 +8,7 @@ use Rattle.pcache_base.specs.declared.error.ErrorType.TheVariants.{OutOfMemory, 
 use Rattle.pcache_evict.specs.Tracked.{Tracked, Limits}
 use Rattle.pcache_store.specs.Refusals.{MayRefuseWrite}
 use Rattle.pcache_store.specs.Store.{Store, Part, begun}
-use Rattle.pingora_cache.specs.Requests.{MayWrite, store_writing}
+use Rattle.pcache_request.specs.Requests.{MayWrite, store_writing}
 use Rattle.pingora_cache.specs.declared.world.call.Call.TheVariants as C
 use Rattle.pingora_cache.specs.declared.world.call.Reply.{Reply}
 use Rattle.pingora_cache.specs.declared.world.call.Reply.TheVariants as R

@@ -13,9 +13,9 @@ use Rattle.pcache_lock.specs.declared.lock.permit.Locked.{Locked}
 use Rattle.pcache_store.specs.Refusals.{MayRefuseFinish}
 use Rattle.pcache_store.specs.Store.{Store, stands, finished, dropped, purged, size_of}
 use Rattle.pcache_store.specs.declared.storage.MissFinishType.TheVariants.{Created}
-use Rattle.pingora_cache.specs.Finishing.{Admits, PurgesAll}
-use Rattle.pingora_cache.specs.Phases.{IsFilling}
-use Rattle.pingora_cache.specs.Requests.{entry_of}
+use Rattle.pcache_request.specs.Finishing.{Admits, PurgesAll}
+use Rattle.pcache_request.specs.Phases.{IsFilling}
+use Rattle.pcache_request.specs.Requests.{entry_of}
 use Rattle.pingora_cache.specs.declared.world.call.Call.TheVariants as C
 use Rattle.pingora_cache.specs.declared.world.call.Reply.{Reply}
 use Rattle.pingora_cache.specs.declared.world.call.Reply.TheVariants as R

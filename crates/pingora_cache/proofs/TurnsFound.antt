@@ -5,15 +5,15 @@ use Rattle.std.specs.Ordering.{nat_cmp}
 use Rattle.std.specs.FinMap.{FinMap, get, insert}
 use Rattle.std.proofs.lemmas.List.{append-nil}
 use Rattle.pcache_base.specs.Key.{Key, slot}
-use Rattle.pcache_base.specs.Meta.{Meta}
+use Rattle.pcache_meta.specs.Meta.{Meta}
 use Rattle.pcache_base.specs.declared.error.ErrorType.{ErrorType}
 use Rattle.pcache_base.specs.declared.error.ErrorType.TheVariants.{OutOfMemory}
 use Rattle.pcache_evict.specs.Tracked.{Tracked, Limits, added}
 use Rattle.pcache_lock.specs.Locks.{Locks, MayRefuseLock}
 use Rattle.pcache_store.specs.Store.{Store, Reader, left, reader_weight}
-use Rattle.pingora_cache.specs.Phases.{MayLookUp, is_fresh, is_treated_as_miss}
-use Rattle.pingora_cache.specs.Requests.{Request, entry_of, counts_found, phase_found, store_found, tracked_found, tracked_found_at}
-use Rattle.pingora_cache.specs.declared.phase.HitStatus.{HitStatus}
+use Rattle.pcache_request.specs.Phases.{MayLookUp, is_fresh, is_treated_as_miss}
+use Rattle.pcache_request.specs.Requests.{Request, entry_of, counts_found, phase_found, store_found, tracked_found, tracked_found_at}
+use Rattle.pcache_request.specs.declared.phase.HitStatus.{HitStatus}
 use Rattle.pingora_cache.specs.declared.world.call.Call.TheVariants as C
 use Rattle.pingora_cache.specs.declared.world.call.Reply.{Reply}
 use Rattle.pingora_cache.specs.declared.world.call.Reply.TheVariants as R

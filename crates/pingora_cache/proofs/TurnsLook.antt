@@ -3,12 +3,12 @@ use Rattle.std.proofs.Common.{◌≡◌, ℕ, ◌+◌, false, Option, None, Some
 use Rattle.std.specs.Ordering.{nat_cmp}
 use Rattle.std.specs.FinMap.{FinMap, get, insert}
 use Rattle.pcache_base.specs.Key.{slot}
-use Rattle.pcache_base.specs.Meta.{Meta}
+use Rattle.pcache_meta.specs.Meta.{Meta}
 use Rattle.pcache_base.specs.declared.error.ErrorType.TheVariants.{OutOfMemory}
 use Rattle.pcache_evict.specs.Tracked.{Tracked, Limits}
 use Rattle.pcache_store.specs.Store.{Store, Reader, find, followed}
-use Rattle.pingora_cache.specs.Phases.{MayLookUp}
-use Rattle.pingora_cache.specs.Requests.{left_by, reader_in}
+use Rattle.pcache_request.specs.Phases.{MayLookUp}
+use Rattle.pcache_request.specs.Requests.{left_by, reader_in}
 use Rattle.pingora_cache.specs.declared.world.call.Call.TheVariants as C
 use Rattle.pingora_cache.specs.declared.world.call.Reply.{Reply}
 use Rattle.pingora_cache.specs.declared.world.call.Reply.TheVariants as R

@@ -7,9 +7,9 @@ use Rattle.pcache_base.specs.Key.{slot}
 use Rattle.pcache_base.specs.declared.error.ErrorType.TheVariants.{OutOfMemory}
 use Rattle.pcache_evict.specs.Tracked.{Tracked, Limits}
 use Rattle.pcache_store.specs.Store.{Store, purged}
-use Rattle.pingora_cache.specs.Phases.{MayPurge}
-use Rattle.pingora_cache.specs.Requests.{entry_of}
-use Rattle.pingora_cache.specs.declared.phase.InUse.{InUse}
+use Rattle.pcache_request.specs.Phases.{MayPurge}
+use Rattle.pcache_request.specs.Requests.{entry_of}
+use Rattle.pcache_request.specs.declared.phase.InUse.{InUse}
 use Rattle.pingora_cache.specs.declared.world.call.Call.TheVariants as C
 use Rattle.pingora_cache.specs.declared.world.call.Reply.{Reply}
 use Rattle.pingora_cache.specs.declared.world.call.Reply.TheVariants as R

@@ -1,12 +1,12 @@
 -- In a legal history a call is answered as a wrong one exactly where its condition fails.
 use Rattle.std.proofs.Common.{◌≡◌, ℕ, ◌⊎◌, ◌↔◌, Bool, not, Option, None, Some, List, length, refl, sym, subst, inl, inr}
-use Rattle.pcache_base.specs.Meta.{Meta}
+use Rattle.pcache_meta.specs.Meta.{Meta}
 use Rattle.pcache_base.specs.declared.error.ErrorType.TheVariants.{OutOfMemory, WriteRemoved}
 use Rattle.pcache_base.specs.declared.poll.Poll.{Poll}
 use Rattle.pcache_base.specs.declared.poll.Poll.TheVariants.{Ready, Pending}
 use Rattle.pcache_evict.specs.Tracked.{Tracked, Limits}
 use Rattle.pcache_store.specs.Store.{Reader}
-use Rattle.pingora_cache.specs.declared.phase.HitStatus.{HitStatus}
+use Rattle.pcache_request.specs.declared.phase.HitStatus.{HitStatus}
 use Rattle.pingora_cache.specs.declared.world.call.Call.{Call}
 use Rattle.pingora_cache.specs.declared.world.call.Call.TheVariants as C
 use Rattle.pingora_cache.specs.declared.world.call.LockKind.{LockKind}
@@ -15,7 +15,7 @@ use Rattle.pingora_cache.specs.declared.world.call.Reply.TheVariants as R
 use Rattle.pingora_cache.specs.declared.world.entry.Answer.{Answer}
 use Rattle.pingora_cache.specs.declared.world.entry.Answer.TheVariants as A
 use Rattle.pingora_cache.specs.declared.world.entry.Event.{Event}
-use Rattle.pingora_cache.specs.Requests.{Request}
+use Rattle.pcache_request.specs.Requests.{Request}
 use Rattle.pingora_cache.specs.Events.{begun, is_removed, is_told, body_of, tracked}
 use Rattle.pingora_cache.specs.Held.{Held, number_of, request_of}
 use Rattle.pingora_cache.specs.Legal.{events_of, reads, read_reply, look_reply, Finds, HasAny, IsIdle, IsStarved, Where, Opens, Looks, TakesPair, Begins, Writes, Finishes, Reads, Purges, Answers}

@@ -11,8 +11,8 @@ use Rattle.pingora_cache.specs.declared.world.entry.Answer.TheVariants as A
 use Rattle.pingora_cache.specs.declared.world.entry.Entry.{Entry}
 use Rattle.pingora_cache.specs.declared.world.entry.Event.{Event}
 use Rattle.pingora_cache.specs.declared.world.entry.Event.TheVariants.{Look, Finish, Read}
-use Rattle.pingora_cache.specs.Phases.{MayTakeKey, MayLookUp, MayMiss, IsFilling, MayPurge}
-use Rattle.pingora_cache.specs.Requests.{MayTakeMeta, MayWrite}
+use Rattle.pcache_request.specs.Phases.{MayTakeKey, MayLookUp, MayMiss, IsFilling, MayPurge}
+use Rattle.pcache_request.specs.Requests.{MayTakeMeta, MayWrite}
 use Rattle.pingora_cache.specs.Events.{is_told, is_of, in_flight, was_stored, is_removed, last_finished, body_of, stored, slots}
 use Rattle.pingora_cache.specs.Held.{Held, number_of, request_of}
 use Rattle.pingora_cache.specs.Legal.{events_of, MayFill, IsLegal, Finds, reads}

@@ -2,16 +2,16 @@
 -- do one thing move a request by their reply; calls that can be refused half way move it by their events.
 use Rattle.std.specs.Prelude.{ℕ, ◌+◌, ◌==◌, Bool, true, false, Option, Some, None, cond, if◌then◌else◌, List, [], ◌∷◌, length}
 use Rattle.std.specs.Option.{option_map}
-use Rattle.pcache_base.specs.Meta.{Meta}
+use Rattle.pcache_meta.specs.Meta.{Meta}
 use Rattle.pcache_base.specs.declared.poll.Poll.{Poll}
 use Rattle.pcache_base.specs.declared.poll.Poll.TheVariants.{Ready, Pending}
 use Rattle.pcache_lock.specs.declared.lock.permit.Locked.{Locked}
 use Rattle.pcache_lock.specs.declared.lock.permit.Locked.TheVariants.{Write, Read}
 use Rattle.pcache_store.specs.Store.{Reader, Whole, Part}
-use Rattle.pingora_cache.specs.Phases.{is_stale}
-use Rattle.pingora_cache.specs.Requests.{Request, fresh_request, with_key, missed, with_meta, placed}
-use Rattle.pingora_cache.specs.declared.phase.HitStatus.{HitStatus}
-use Rattle.pingora_cache.specs.declared.phase.InUse.{InUse}
+use Rattle.pcache_request.specs.Phases.{is_stale}
+use Rattle.pcache_request.specs.Requests.{Request, fresh_request, with_key, missed, with_meta, placed}
+use Rattle.pcache_request.specs.declared.phase.HitStatus.{HitStatus}
+use Rattle.pcache_request.specs.declared.phase.InUse.{InUse}
 use Rattle.pingora_cache.specs.declared.world.call.Call.{Call}
 use Rattle.pingora_cache.specs.declared.world.call.Call.TheVariants as C
 use Rattle.pingora_cache.specs.declared.world.call.Reply.{Reply}

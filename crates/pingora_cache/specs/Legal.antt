@@ -4,7 +4,7 @@ use Rattle.std.specs.Prelude.{◌≡◌, ℕ, ◌^◌, ◌<◌, ◌≤◌, ◌�
 use Rattle.std.specs.Option.{option_map}
 use Rattle.std.specs.FinMap as map
 use Rattle.pcache_base.specs.Key.{Key, slot}
-use Rattle.pcache_base.specs.Meta.{Meta}
+use Rattle.pcache_meta.specs.Meta.{Meta}
 use Rattle.pcache_base.specs.declared.error.ErrorType.{ErrorType}
 use Rattle.pcache_base.specs.declared.error.ErrorType.TheVariants.{OutOfMemory, WriteRemoved, NumbersExhausted}
 use Rattle.pcache_base.specs.declared.poll.Poll.{Poll}
@@ -14,7 +14,7 @@ use Rattle.pcache_evict.specs.Tracked.{Tracked, Limits, IsFair}
 use Rattle.pcache_lock.specs.declared.lock.permit.Locked.{Locked}
 use Rattle.pcache_lock.specs.declared.lock.permit.Locked.TheVariants.{Write, Read}
 use Rattle.pcache_store.specs.Store.{Written, Reader, Whole, Part, read_part, reader_weight}
-use Rattle.pingora_cache.specs.declared.phase.HitStatus.{HitStatus}
+use Rattle.pcache_request.specs.declared.phase.HitStatus.{HitStatus}
 use Rattle.pingora_cache.specs.declared.world.call.Call.{Call}
 use Rattle.pingora_cache.specs.declared.world.call.Call.TheVariants as C
 use Rattle.pingora_cache.specs.declared.world.call.LockKind.{LockKind}
@@ -27,8 +27,8 @@ use Rattle.pingora_cache.specs.declared.world.entry.Entry.{Entry}
 use Rattle.pingora_cache.specs.declared.world.entry.Event.{Event}
 use Rattle.pingora_cache.specs.declared.world.entry.Event.TheVariants as E
 use Rattle.std.specs.Prelude.{slice_range}
-use Rattle.pingora_cache.specs.Phases.{MayTakeKey, MayLookUp, MayMiss, IsFilling, MayPurge, is_fresh}
-use Rattle.pingora_cache.specs.Requests.{Request, MayTakeMeta, MayWrite, entry_of, counts_found, phase_found}
+use Rattle.pcache_request.specs.Phases.{MayTakeKey, MayLookUp, MayMiss, IsFilling, MayPurge, is_fresh}
+use Rattle.pcache_request.specs.Requests.{Request, MayTakeMeta, MayWrite, entry_of, counts_found, phase_found}
 use Rattle.pingora_cache.specs.Events.{begun, begin_of, is_removed, in_flight, body_of, is_told, complete, is_open, tracked}
 use Rattle.pingora_cache.specs.Held.{Held, number_of, request_of}
 

@@ -1,13 +1,9 @@
 pub mod Events
-pub mod Finishing
 pub mod Headline
 pub mod Held
 pub mod Legal
 pub mod Log
 pub mod LogCode
-pub mod Phases
 pub mod ReadSoFar
-pub mod Requests
 pub mod Sound
 pub mod Step
-pub mod WriteEnds

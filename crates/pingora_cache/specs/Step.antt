@@ -6,7 +6,7 @@ use Rattle.std.specs.Map.{lookup}
 use Rattle.std.specs.BTreeMap.{is_at}
 use Rattle.std.specs.FinMap as map
 use Rattle.pcache_base.specs.Key.{Key, slot}
-use Rattle.pcache_base.specs.Meta.{Meta}
+use Rattle.pcache_meta.specs.Meta.{Meta}
 use Rattle.pcache_base.specs.declared.error.ErrorType.{ErrorType}
 use Rattle.pcache_base.specs.declared.error.ErrorType.TheVariants.{OutOfMemory, WriteRemoved}
 use Rattle.pcache_evict.specs.declared.eviction.entry_key.CacheEntryKey.{CacheEntryKey}
@@ -15,7 +15,7 @@ use Rattle.pcache_lock.specs.Locks.{Locks, MayRefuseLock, is_permit, number_of_l
 use Rattle.pcache_lock.specs.declared.lock.permit.Locked.{Locked}
 use Rattle.pcache_store.specs.Refusals.{MayRefuseWrite, MayRefuseFinish}
 use Rattle.pcache_store.specs.Store.{Store, Reader, find, followed, left, begun, wrote, finished, dropped, purged, stands, size_of, read_of, is_told}
-use Rattle.pingora_cache.specs.declared.phase.HitStatus.{HitStatus}
+use Rattle.pcache_request.specs.declared.phase.HitStatus.{HitStatus}
 use Rattle.pingora_cache.specs.declared.world.call.Call.{Call}
 use Rattle.pingora_cache.specs.declared.world.call.Call.TheVariants as C
 use Rattle.pingora_cache.specs.declared.world.call.LockKind.{LockKind}
@@ -24,10 +24,10 @@ use Rattle.pingora_cache.specs.declared.world.call.Reply.TheVariants as R
 use Rattle.pingora_cache.specs.declared.world.entry.Answer.{Answer}
 use Rattle.pingora_cache.specs.declared.world.entry.Event.{Event}
 use Rattle.pingora_cache.specs.declared.world.entry.Event.TheVariants as E
-use Rattle.pingora_cache.specs.Phases.{MayTakeKey, MayLookUp, MayMiss, IsFilling, MayPurge, is_fresh}
-use Rattle.pingora_cache.specs.Requests.{Request, MayTakeMeta, MayWrite, entry_of, phase_found, left_by, dropped_by, store_found, store_writing, reader_in, tracked_found}
+use Rattle.pcache_request.specs.Phases.{MayTakeKey, MayLookUp, MayMiss, IsFilling, MayPurge, is_fresh}
+use Rattle.pcache_request.specs.Requests.{Request, MayTakeMeta, MayWrite, entry_of, phase_found, left_by, dropped_by, store_found, store_writing, reader_in, tracked_found}
 use Rattle.pcache_store.specs.declared.storage.MissFinishType.TheVariants.{Created}
-use Rattle.pingora_cache.specs.Finishing.{Admits, PurgesAll}
+use Rattle.pcache_request.specs.Finishing.{Admits, PurgesAll}
 use Rattle.pingora_cache.specs.Held.{Held, number_of, row, pair_of}
 use Rattle.pingora_cache.specs.Legal.{IsIdle, IsStarved, Opens, AsksIf, asks_for_miss, look_reply, accesses, each, kind_of, release_of, MayFill, Ends, read_reply}
 use Rattle.pingora_cache.specs.Sound.{pair_reader}

@@ -1,30 +1,26 @@
 #![tactic(auto)]
-//! A cache for HTTP proxies: one request's way through it, and a world of requests with its history.
+//! A cache for HTTP proxies, and a world of requests with its history.
 //!
-//! - `cache`: `HttpCache`, one request over a storage, an eviction manager and a lock table
-//! - `phase`: where a request stands, and what a hit is worth
 //! - `world`: requests over one store, with the history of what was asked
 //!
 //! The crates below are re-exported under the names of their modules.
 
-pub mod cache;
-pub mod phase;
 pub mod world;
 
-pub use cache::{FinishReport, HttpCache};
 pub use pcache_base::key::CacheKey;
-pub use pcache_base::meta::CacheMeta;
 pub use pcache_base::reason::NoCacheReason;
-pub use pcache_base::{error, header, key, meta, moment, poll, reason, text, trace, variance};
+pub use pcache_base::{error, key, moment, poll, reason, text, variance};
 pub use pcache_control::{cache_control, filters};
 pub use pcache_evict::eviction::{CacheEntryId, CacheEntryKey, CacheEntryKeyRef};
 pub use pcache_evict::{eviction, hashtable};
 pub use pcache_lock::lock;
+pub use pcache_meta::meta::CacheMeta;
+pub use pcache_meta::{header, meta, trace};
 pub use pcache_predict::{admission, predictor};
 pub use pcache_put::{max_file_size, response_parse};
+pub use pcache_request::{CachePhase, FinishReport, HitStatus, HttpCache, InUse, cache, phase};
 pub use pcache_store::memory::MemCache;
 pub use pcache_store::storage::{
     HitHandler, MissHandler, PurgeAction, PurgeOutcome, PurgeTarget, PurgeType, Storage,
 };
 pub use pcache_store::{memory, storage};
-pub use phase::{CachePhase, HitStatus, InUse};

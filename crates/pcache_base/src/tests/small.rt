@@ -1,11 +1,9 @@
-//! Texts, heads, errors, reasons and polls.
+//! Texts, errors, reasons and polls.
 
 use crate::error::{Error, ErrorType};
-use crate::header::{HttpVersion, ResponseHeader};
 use crate::poll::Poll;
 use crate::reason::NoCacheReason;
 use crate::text::Text;
-use http::StatusCode;
 use std::test::Fail;
 
 #[test]
@@ -18,16 +16,6 @@ fn owned_texts(rt: HostRuntime) -> Result<(), Fail> {
     assert!(rt; copy == text);
     assert!(rt; text < other);
     assert_eq!(rt; format!(in alloc; "{text}")?.as_str(), "ab");
-    Ok(())
-}
-
-#[test]
-fn heads(rt: HostRuntime) -> Result<(), Fail> {
-    let header = ResponseHeader::build(rt.alloc(), StatusCode::NOT_FOUND);
-    assert_eq!(rt; header.version, HttpVersion::Http11);
-    let copy = header.copied().ok().ok_or("copy")?;
-    assert_eq!(rt; copy.status, StatusCode::NOT_FOUND);
-    assert!(rt; copy.headers.is_empty());
     Ok(())
 }
 

@@ -12,8 +12,8 @@ use http_header::{
     IF_RANGE, IF_UNMODIFIED_SINCE, LAST_MODIFIED, RANGE,
 };
 use pcache_base::error::{Error, ErrorType, Result};
-use pcache_base::header::RequestHeader;
-use pcache_base::meta::CacheMeta;
+use pcache_meta::header::RequestHeader;
+use pcache_meta::meta::CacheMeta;
 
 // Preconditions and ranges of the client's are removed.
 #[tactic(auto, unfolding(crate::specs::Requests::without_conditions))]

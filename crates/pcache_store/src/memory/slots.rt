@@ -1,7 +1,7 @@
 //! The slots by key.
 ghost use Rattle.std.specs.Prelude.{◌≡◌, ◌<◌, ◌^◌, ℕ, Option, Some, None, IsSome, IfOk, IfErr, OnOk, OnErr, option_copied, is_some};
 ghost use Rattle.std.specs.FinMap as map;
-ghost use Rattle.pcache_base.specs.Meta as meta_of;
+ghost use Rattle.pcache_meta.specs.Meta as meta_of;
 ghost use Rattle.pcache_base.specs.Totals.{total, share};
 ghost use Rattle.pcache_base.specs.declared.error.ErrorType.TheVariants.{OutOfMemory};
 ghost use Rattle.pcache_store.specs.Store.{Stored, opened, shut_on, stored_on, body_of, meta_changed_on, is_fresh_in};
@@ -9,9 +9,9 @@ ghost use Rattle.pcache_store.specs.Totals.{body_count, body_size, body_len, one
 
 use crate::memory::body::{Body, KeySlot};
 use pcache_base::error::Result;
-use pcache_base::meta::spelled::SpelledMeta;
 use pcache_base::moment::Moment;
 use pcache_evict::hashtable::Table;
+use pcache_meta::meta::spelled::SpelledMeta;
 use std::alloc::Global;
 use std::marker::Model;
 

@@ -4,12 +4,12 @@ ghost use Rattle.pcache_base.specs.declared.error.ErrorType.TheVariants.{OutOfMe
 ghost use Rattle.pingora_cache.specs.Held.{number_of};
 ghost use Rattle.pingora_cache.specs.declared.world.call.Reply.TheVariants.{Data};
 
-use crate::phase::{CachePhase, HitStatus};
 use bytes::Bytes;
 use pcache_base::error::{ErrorType, Result};
 use pcache_base::key::CacheKey;
-use pcache_base::meta::CacheMeta;
 use pcache_base::moment::Moment;
+use pcache_meta::meta::CacheMeta;
+use pcache_request::phase::{CachePhase, HitStatus};
 
 /// A call of a request. Requests are named by numbers.
 #[derive(Drop)]

@@ -4,9 +4,9 @@ ghost use Rattle.std.specs.Prelude.{◌≡◌};
 use crate::world::call::{Call, Reply};
 use bytes::Bytes;
 use pcache_base::key::CompactCacheKey;
-use pcache_base::meta::CacheMeta;
 use pcache_base::poll::Poll;
 use pcache_evict::eviction::CacheEntryKey;
+use pcache_meta::meta::CacheMeta;
 use std::marker::Model;
 
 /// What a look-up found.

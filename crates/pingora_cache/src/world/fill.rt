@@ -6,24 +6,24 @@ ghost use Rattle.pcache_base.specs.declared.error.ErrorType.TheVariants.{OutOfMe
 ghost use Rattle.pcache_store.specs.Store.{is_told};
 ghost use Rattle.pingora_cache.specs.Held.{on_request, began, ended, has_read, is_done, row};
 ghost use Rattle.pingora_cache.specs.Legal.{IsIdle, IsStarved, MayFill, permit_of, each, read_reply};
-ghost use Rattle.pingora_cache.specs.Phases.{IsFilling, MayPurge};
-ghost use Rattle.pingora_cache.specs.Requests.{MayTakeMeta, MayWrite};
+ghost use Rattle.pcache_request.specs.Phases.{IsFilling, MayPurge};
+ghost use Rattle.pcache_request.specs.Requests.{MayTakeMeta, MayWrite};
 ghost use Rattle.pingora_cache.specs.Step.{WhereIn, BeginsIn, WritesIn, FinishesIn, ReadsIn, PurgesIn, refused_end};
 ghost use Rattle.pingora_cache.specs.declared.world.call.Call.TheVariants as calls;
 ghost use Rattle.pingora_cache.specs.declared.world.call.Reply.TheVariants as replies;
 ghost use Rattle.pingora_cache.specs.declared.world.entry.Event.TheVariants.{Release};
 
-use crate::cache::{HttpCache, WriteEnd};
 use crate::world::call::Reply;
 use crate::world::entry::{Entries, Event};
 use crate::world::request::{OpenRequest, permit, write_number};
 use bytes::Bytes;
 use pcache_base::error::ErrorType;
 use pcache_base::key::CacheHashKey;
-use pcache_base::meta::CacheMeta;
 use pcache_base::poll::Poll;
 use pcache_evict::eviction::{CacheEntryKey, EvictionManager};
 use pcache_lock::lock::CacheLock;
+use pcache_meta::meta::CacheMeta;
+use pcache_request::cache::{HttpCache, WriteEnd};
 use pcache_store::memory::MemCache;
 use pcache_store::storage::HandleMiss;
 

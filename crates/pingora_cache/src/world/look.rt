@@ -6,22 +6,22 @@ ghost use Rattle.pcache_store.specs.Readers.{reader_of};
 ghost use Rattle.pcache_store.specs.Store.{reader_weight};
 ghost use Rattle.pingora_cache.specs.Held.{pair_of, looked_by, row};
 ghost use Rattle.pingora_cache.specs.Legal.{accesses, look_reply};
-ghost use Rattle.pingora_cache.specs.Phases.{MayLookUp};
-ghost use Rattle.pingora_cache.specs.Requests.{asks_for_hit, counts_found, entry_of, tracked_found};
+ghost use Rattle.pcache_request.specs.Phases.{MayLookUp};
+ghost use Rattle.pcache_request.specs.Requests.{asks_for_hit, counts_found, entry_of, tracked_found};
 ghost use Rattle.pingora_cache.specs.Step.{WhereIn, LooksIn, TakesIn, IsAnswered, asking, kind_asked};
 ghost use Rattle.pingora_cache.specs.declared.world.call.Call.TheVariants.{Found};
 
-use crate::cache::HttpCache;
-use crate::phase::HitStatus;
 use crate::world::call::{LockKind, Reply};
 use crate::world::entry::{Answer, Event};
 use crate::world::request::{OpenRequest, hold, permit};
 use pcache_base::error::Result;
 use pcache_base::key::{CacheHashKey, CacheKey};
-use pcache_base::meta::CacheMeta;
 use pcache_base::moment::Moment;
 use pcache_evict::eviction::{CacheEntryKey, EvictionManager};
 use pcache_lock::lock::CacheLock;
+use pcache_meta::meta::CacheMeta;
+use pcache_request::cache::HttpCache;
+use pcache_request::phase::HitStatus;
 use pcache_store::memory::{MemCache, MemHitHandler};
 use pcache_store::storage::HandleHit;
 

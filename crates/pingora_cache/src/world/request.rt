@@ -2,13 +2,13 @@
 ghost use Rattle.std.specs.Prelude.{◌≡◌, None, option_map};
 ghost use Rattle.pcache_store.specs.Readers.{reader_of};
 ghost use Rattle.pingora_cache.specs.Legal.{permit_of};
-ghost use Rattle.pingora_cache.specs.Requests.{Request, left_by};
+ghost use Rattle.pcache_request.specs.Requests.{Request, left_by};
 ghost use Rattle.pingora_cache.specs.Sound.{pair_reader};
 ghost use Rattle.pingora_cache.specs.Step.{store_ended};
 
-use crate::cache::HttpCache;
-use pcache_base::meta::CacheMeta;
 use pcache_lock::lock::{CacheLock, Locked};
+use pcache_meta::meta::CacheMeta;
+use pcache_request::cache::HttpCache;
 use pcache_store::memory::{MemCache, MemHitHandler};
 use pcache_store::storage::HandleHit;
 use std::marker::Model;

@@ -2,18 +2,18 @@
 mod plain;
 
 use super::*;
-use crate::phase::HitStatus;
 use Step::*;
 use bytes::Bytes;
 use call::{Call, Reply};
 use http::StatusCode;
 use pcache_base::error::Result;
-use pcache_base::header::ResponseHeader;
 use pcache_base::key::{CacheHashKey, CacheKey};
-use pcache_base::meta::CacheMeta;
 use pcache_base::moment::Moment;
 use pcache_evict::eviction::CacheEntryKey;
 use pcache_evict::eviction::simple_lru::Manager;
+use pcache_meta::header::ResponseHeader;
+use pcache_meta::meta::CacheMeta;
+use pcache_request::phase::HitStatus;
 use std::alloc::Global;
 use std::process::Abort;
 use std::test::Fail;

@@ -1,11 +1,11 @@
 use super::*;
 use bytes::Bytes;
 use http::StatusCode;
-use pcache_base::header::ResponseHeader;
 use pcache_base::key::CacheKey;
-use pcache_base::meta::CacheMeta;
 use pcache_base::moment::Moment;
 use pcache_evict::eviction::simple_lru::Manager;
+use pcache_meta::header::ResponseHeader;
+use pcache_meta::meta::CacheMeta;
 use std::sync::{Mutex, Wait};
 use std::test::Fail;
 

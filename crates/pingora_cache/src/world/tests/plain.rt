@@ -1,8 +1,8 @@
 //! A long random script, against a plain slow reading of what its calls did.
 use super::Step::*;
 use super::{Step, call_of, world_of};
-use crate::phase::{CachePhase, HitStatus};
 use pcache_base::error::Result;
+use pcache_request::phase::{CachePhase, HitStatus};
 use std::alloc::Global;
 use std::test::Fail;
 

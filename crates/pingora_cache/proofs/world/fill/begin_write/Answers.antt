@@ -1,6 +1,6 @@
 use Rattle.std.proofs.Common.{◌++◌, ◌∷◌, ap, sym, ◌∙◌}
 use Rattle.pingora_cache.specs.Legal.{each}
-use Rattle.pingora_cache.specs.Requests.{Request}
+use Rattle.pcache_request.specs.Requests.{Request}
 use Rattle.pingora_cache.specs.declared.world.entry.Event.TheVariants as E
 use Rattle.pingora_cache.proofs.Noted.{began-is, not-begun}
 use Rattle.pingora_cache.proofs.world.fill.begin_write.Goals as goal

@@ -1,7 +1,7 @@
 use Rattle.std.proofs.Common.{rules, refl, ap, sym, subst, ◌∙◌, inl, IsSome, option_map}
 use Rattle.pcache_store.specs.Readers.{reader_of}
 use Rattle.pingora_cache.specs.Held.{Held}
-use Rattle.pingora_cache.specs.Phases.{MayLookUp}
+use Rattle.pcache_request.specs.Phases.{MayLookUp}
 use Rattle.pingora_cache.specs.Step.{TakesIn}
 use Rattle.pingora_cache.proofs.Noted.{held_with}
 use Rattle.pingora_cache.proofs.world.look.found.Goals as goal

@@ -3,8 +3,8 @@ use Rattle.pcache_lock.specs.Locks.{MayRefuseLock}
 use Rattle.pcache_store.specs.Readers.{reader_of}
 use Rattle.pingora_cache.specs.Held.{asked}
 use Rattle.pingora_cache.specs.Legal.{accesses}
-use Rattle.pingora_cache.specs.Phases.{is_stale}
-use Rattle.pingora_cache.specs.Requests.{placed}
+use Rattle.pcache_request.specs.Phases.{is_stale}
+use Rattle.pcache_request.specs.Requests.{placed}
 use Rattle.pingora_cache.specs.Step.{asking}
 use Rattle.pingora_cache.proofs.Noted.{held_with, found-asked}
 use Rattle.pingora_cache.proofs.world.look.take.Goals as goal

@@ -1,8 +1,0 @@
-//! Numbers, arrays, texts and nil in MessagePack.
-//!
-//! Metas and the files of eviction managers are written in these few forms. A reader takes any width
-//! that holds a value; a writer takes the shortest.
-
-pub mod laws;
-pub mod reader;
-pub mod writer;

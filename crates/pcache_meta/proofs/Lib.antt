@@ -1,0 +1,17 @@
+pub mod Exact
+pub mod HashLoop
+pub mod HeaderExact
+pub mod HeaderLines
+pub mod HeaderMaps
+pub mod HeaderNames
+pub mod HeaderResults
+pub mod HeaderSpelled
+pub mod MetaExact
+pub mod MetaKeeps
+pub mod MetaMade
+pub mod MetaSpelled
+pub mod Refusals
+pub mod RoundTrip
+pub mod Shortest
+pub mod Spelled
+pub mod TextExact

@@ -1,0 +1,15 @@
+pub mod Header
+pub mod HeaderReading
+pub mod HeaderText
+pub mod Internal
+pub mod InternalParts
+pub mod Meta
+pub mod MetaBytes
+pub mod MetaKept
+pub mod MetaReading
+pub mod MetaSpelling
+pub mod MetaWriting
+pub mod Reading
+pub mod Shortest
+pub mod Spelling
+pub mod Writing

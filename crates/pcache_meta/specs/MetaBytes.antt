@@ -1,0 +1,10 @@
+-- Which two byte strings spell a meta (own).
+use Rattle.std.specs.Prelude.{ℕ, List}
+use Rattle.pcache_meta.specs.Meta.{Meta}
+use Rattle.pcache_meta.specs.Internal.{internal_of}
+use Rattle.pcache_meta.specs.MetaSpelling.{SpellsInternal}
+use Rattle.pcache_meta.specs.HeaderText.{SpellsHeader}
+
+-- the first says all but the head, the second is the head's text
+abbrev pub SpellsMeta : List ℕ → List ℕ → Meta → Type 0
+SpellsMeta internal header m = SpellsInternal internal (internal_of m) × SpellsHeader header m.header

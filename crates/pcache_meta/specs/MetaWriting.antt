@@ -1,0 +1,51 @@
+-- The spelling that is written of what a meta says beside its head.
+use Rattle.std.specs.Prelude.{ℕ, ◌/◌, ◌%◌, ◌^◌, ◌<◌, List, [], ◌∷◌, ◌++◌, Option, Some, None, IfSome}
+use Rattle.pcache_base.specs.Moments.{IsMoment}
+use Rattle.pcache_meta.specs.Internal.{Internal, OldInternal}
+use Rattle.pcache_meta.specs.Writing.{number_written, array_written, hash_written, optional_written, IsHash}
+
+unfoldable pub moment_written : ℕ → List ℕ
+moment_written m = array_written 2 ++ number_written (m / 1000000000) ++ number_written (m % 1000000000)
+
+-- the provenance is the ninth item, where there is one
+abbrev pub item_count : Option ℕ → ℕ
+item_count None = 8
+item_count (Some m) = 9
+
+unfoldable pub last_written : Option ℕ → List ℕ
+last_written None = []
+last_written (Some m) = moment_written m
+
+unfoldable pub internal_written : Internal → List ℕ
+internal_written m =
+    array_written (item_count m.provenance) ++ 2 ∷ [] ++ moment_written m.fresh_until ++ moment_written m.created ++ moment_written m.updated
+    ++ number_written m.stale_while_revalidate ++ number_written m.stale_if_error ++ optional_written hash_written m.variance
+    ++ optional_written moment_written m.epoch_override ++ last_written m.provenance
+
+-- versions 0 and 1, behind the head and the version
+unfoldable pub old_written : OldInternal → List ℕ
+old_written m = moment_written m.fresh_until ++ moment_written m.created ++ number_written m.stale_while_revalidate ++ number_written m.stale_if_error
+
+unfoldable pub version0_written : OldInternal → List ℕ
+version0_written m = array_written 4 ++ old_written m
+
+unfoldable pub version1_written : OldInternal → List ℕ
+version1_written m = array_written 5 ++ 1 ∷ [] ++ old_written m
+
+-- ---- what has a spelling
+
+pub record IsInternal (m : Internal) : Type 0 where
+  pub fresh_until : IsMoment m.fresh_until
+  pub created : IsMoment m.created
+  pub updated : IsMoment m.updated
+  pub stale_while_revalidate : m.stale_while_revalidate < 2 ^ 32
+  pub stale_if_error : m.stale_if_error < 2 ^ 32
+  pub variance : IfSome m.variance IsHash
+  pub epoch_override : IfSome m.epoch_override IsMoment
+  pub provenance : IfSome m.provenance IsMoment
+
+pub record IsOldInternal (m : OldInternal) : Type 0 where
+  pub fresh_until : IsMoment m.fresh_until
+  pub created : IsMoment m.created
+  pub stale_while_revalidate : m.stale_while_revalidate < 2 ^ 32
+  pub stale_if_error : m.stale_if_error < 2 ^ 32

@@ -1,0 +1,179 @@
+//! What metas say beside their header: worked rows, and upstream's tests of the versions.
+
+use crate::meta::codec::deserialize_internal;
+use crate::meta::internal_meta::{InternalMetaV0, InternalMetaV1, InternalMetaV2};
+use pcache_base::error::ErrorType;
+use pcache_base::moment::Moment;
+use std::test::Fail;
+
+fn at(secs: u64) -> Moment {
+    Moment::from_secs(secs)
+}
+
+fn refused(bytes: &[u8]) -> bool {
+    match deserialize_internal(bytes) {
+        Ok(_) => false,
+        Err(e) => e.etype() == ErrorType::InternalError,
+    }
+}
+
+#[test]
+fn version_0_reads(rt: HostRuntime) -> Result<(), Fail> {
+    // Nine bytes are too few, whatever they say.
+    assert!(rt; refused(&[0x94, 0x92, 1, 0, 0x92, 1, 0, 0, 0]));
+    let bytes = [0x94, 0x92, 0xcd, 1, 0x2c, 0, 0x92, 1, 0, 0, 0];
+    let meta = deserialize_internal(&bytes).ok().ok_or("version 0")?;
+    assert_eq!(rt; meta.fresh_until, at(300));
+    assert_eq!(rt; meta.created, at(1));
+    assert_eq!(rt; meta.updated, at(1));
+    assert_eq!(rt; meta.version, 2);
+    Ok(())
+}
+
+#[test]
+fn windows_stand_in_order(rt: HostRuntime) -> Result<(), Fail> {
+    let bytes = [0x95, 1, 0x92, 1, 0, 0x92, 1, 0, 30, 60];
+    let meta = deserialize_internal(&bytes).ok().ok_or("version 1")?;
+    assert_eq!(rt; meta.stale_while_revalidate_sec, 30);
+    assert_eq!(rt; meta.stale_if_error_sec, 60);
+    // A window of more than 32 bits.
+    let wide = [
+        0x95, 1, 0x92, 1, 0, 0x92, 1, 0, 0xcf, 0, 0, 0, 1, 0, 0, 0, 0, 60,
+    ];
+    assert!(rt; refused(&wide));
+    Ok(())
+}
+
+#[test]
+fn version_2_reads_in_any_width(rt: HostRuntime) -> Result<(), Fail> {
+    let short = [0x96, 2, 0x92, 1, 0, 0x92, 1, 0, 0x92, 1, 0, 0, 0];
+    let meta = deserialize_internal(&short).ok().ok_or("version 2")?;
+    let wanted = InternalMetaV2 {
+        version: 2,
+        fresh_until: at(1),
+        created: at(1),
+        updated: at(1),
+        stale_while_revalidate_sec: 0,
+        stale_if_error_sec: 0,
+        variance: None,
+        epoch_override: None,
+        provenance: None,
+    };
+    assert_eq!(rt; meta, wanted);
+    let wide = [0xdc, 0, 6, 2, 0x92, 1, 0, 0x92, 1, 0, 0x92, 1, 0, 0, 0];
+    assert_eq!(rt; deserialize_internal(&wide).ok(), Some(wanted));
+    let written = meta.serialize(rt.alloc()).ok().ok_or("written")?;
+    let bytes = [
+        0x98, 2, 0x92, 1, 0, 0x92, 1, 0, 0x92, 1, 0, 0, 0, 0xc0, 0xc0,
+    ];
+    assert_eq!(rt; written.as_slice(), bytes.as_slice());
+    Ok(())
+}
+
+#[test]
+fn what_is_no_meta(rt: HostRuntime) {
+    // The version in a wider form.
+    let wide_version = [0x96, 0xcc, 2, 0x92, 1, 0, 0x92, 1, 0, 0x92, 1, 0, 0, 0];
+    assert!(rt; refused(&wide_version));
+    // A version that is not known.
+    assert!(rt; refused(&[0x96, 3, 0x92, 1, 0, 0x92, 1, 0, 0x92, 1, 0, 0, 0]));
+    // A byte behind.
+    assert!(rt; refused(&[0x96, 2, 0x92, 1, 0, 0x92, 1, 0, 0x92, 1, 0, 0, 0, 0]));
+    // Too many items.
+    let ten = [
+        0x9a, 2, 0x92, 1, 0, 0x92, 1, 0, 0x92, 1, 0, 0, 0, 0xc0, 0xc0, 0xc0, 0xc0,
+    ];
+    assert!(rt; refused(&ten));
+    // A whole second of nanoseconds.
+    let second = [
+        0x96, 2, 0x92, 1, 0xce, 0x3b, 0x9a, 0xca, 0x00, 0x92, 1, 0, 0x92, 1, 0, 0, 0,
+    ];
+    assert!(rt; refused(&second));
+}
+
+#[test]
+fn the_last_nanosecond_reads(rt: HostRuntime) -> Result<(), Fail> {
+    let bytes = [
+        0x96, 2, 0x92, 1, 0xce, 0x3b, 0x9a, 0xc9, 0xff, 0x92, 1, 0, 0x92, 1, 0, 0, 0,
+    ];
+    let meta = deserialize_internal(&bytes).ok().ok_or("meta")?;
+    let wanted = Moment::new(1, 999_999_999).ok_or("moment")?;
+    assert_eq!(rt; meta.fresh_until, wanted);
+    Ok(())
+}
+
+#[test]
+fn each_version_reads_as_the_latest(rt: HostRuntime) -> Result<(), Fail> {
+    let old = InternalMetaV0 {
+        fresh_until: at(300),
+        created: at(1),
+        stale_while_revalidate_sec: 30,
+        stale_if_error_sec: 60,
+    };
+    let next = InternalMetaV1 {
+        version: InternalMetaV1::VERSION,
+        fresh_until: at(300),
+        created: at(1),
+        stale_while_revalidate_sec: 30,
+        stale_if_error_sec: 60,
+    };
+    let wanted = InternalMetaV2 {
+        version: InternalMetaV2::VERSION,
+        fresh_until: at(300),
+        created: at(1),
+        updated: at(1),
+        stale_while_revalidate_sec: 30,
+        stale_if_error_sec: 60,
+        variance: None,
+        epoch_override: None,
+        provenance: None,
+    };
+    assert_eq!(rt; InternalMetaV2::from(old), wanted);
+    assert_eq!(rt; InternalMetaV2::from(next), wanted);
+    let bytes = old.serialize(rt.alloc()).ok().ok_or("version 0")?;
+    assert_eq!(rt;
+        bytes.as_slice(),
+        [0x94, 0x92, 0xcd, 1, 0x2c, 0, 0x92, 1, 0, 30, 60].as_slice()
+    );
+    assert_eq!(rt; deserialize_internal(&bytes).ok(), Some(wanted));
+    let bytes = next.serialize(rt.alloc()).ok().ok_or("version 1")?;
+    assert_eq!(rt; deserialize_internal(&bytes).ok(), Some(wanted));
+    let bytes = wanted.serialize(rt.alloc()).ok().ok_or("version 2")?;
+    assert_eq!(rt; deserialize_internal(&bytes).ok(), Some(wanted));
+    Ok(())
+}
+
+#[test]
+fn the_default_reads_back(rt: HostRuntime) -> Result<(), Fail> {
+    let meta = InternalMetaV2::default();
+    assert_eq!(rt; meta.version, 2);
+    let bytes = meta.serialize(rt.alloc()).ok().ok_or("written")?;
+    assert_eq!(rt; deserialize_internal(&bytes).ok(), Some(meta));
+    Ok(())
+}
+
+#[test]
+fn items_that_came_later(rt: HostRuntime) -> Result<(), Fail> {
+    let meta = InternalMetaV2 {
+        version: InternalMetaV2::VERSION,
+        fresh_until: at(300),
+        created: at(1),
+        updated: at(2),
+        stale_while_revalidate_sec: 30,
+        stale_if_error_sec: 60,
+        variance: Some([7; 16]),
+        epoch_override: Some(at(3)),
+        provenance: Some(at(4)),
+    };
+    let bytes = meta.serialize(rt.alloc()).ok().ok_or("written")?;
+    assert_eq!(rt; bytes[0], 0x99);
+    assert_eq!(rt; deserialize_internal(&bytes).ok(), Some(meta));
+    let without = InternalMetaV2 {
+        provenance: None,
+        ..meta
+    };
+    let bytes = without.serialize(rt.alloc()).ok().ok_or("written")?;
+    assert_eq!(rt; bytes[0], 0x98);
+    assert_eq!(rt; deserialize_internal(&bytes).ok(), Some(without));
+    Ok(())
+}

@@ -1,0 +1,71 @@
+-- What the end of a request's write leads to: the body is stored and admitted, and what is evicted for it is purged; or
+-- it is refused (own).
+use Rattle.std.specs.Prelude.{ℕ, ◌+◌, ◌≡◌, ◌⊎◌, Bool, true, false, Option, None, List, [], ◌∷◌, is_some, cond}
+use Rattle.std.specs.FinMap.{insert, get}
+use Rattle.pcache_base.specs.Key.{Key, slot}
+use Rattle.pcache_base.specs.CompactKey.{compact_slot}
+use Rattle.pcache_base.specs.declared.error.ErrorType.{ErrorType}
+use Rattle.pcache_base.specs.declared.error.ErrorType.TheVariants.{OutOfMemory}
+use Rattle.pcache_evict.specs.declared.eviction.entry_key.CacheEntryKey.{CacheEntryKey}
+use Rattle.pcache_evict.specs.Entry.{key_of, id_of}
+use Rattle.pcache_evict.specs.Tracked.{Tracked, Limits, IsFair, without, raised}
+use Rattle.pcache_lock.specs.Locks.{Locks}
+use Rattle.pcache_lock.specs.declared.lock.status.LockStatus.TheVariants.{Done, TransientError}
+use Rattle.pcache_store.specs.Store.{Store, stands, finished, dropped, purged}
+use Rattle.pcache_store.specs.Refusals.{MayRefuseFinish}
+use Rattle.pcache_store.specs.declared.storage.MissFinishType.{MissFinishType}
+use Rattle.pcache_store.specs.declared.storage.MissFinishType.TheVariants.{Created, Appended}
+use Rattle.pcache_store.specs.Purge.{unless_numbered, purged_at}
+use Rattle.pcache_request.specs.Requests.{Request, settled, entry_of}
+
+-- the size that a report of the end tells
+abbrev pub size_told : MissFinishType → ℕ
+size_told (Created n) = n
+size_told (Appended n most) = n
+
+-- the tracked entries with that of a write that ended so
+abbrev pub with_entry : MissFinishType → CacheEntryKey → Tracked → Tracked
+with_entry (Created n) e m = insert m e n
+with_entry (Appended n most) e m = insert m e (raised n most (get m e))
+
+-- the request after the end of its write, if it had one
+abbrev pub after_finish : Request → Request
+after_finish r = cond (is_some r.write) (record r { write = None; entry = None; held = None }) r
+
+-- the slot that an evicted entry names: none where it has a number, since no entry of a store has one
+abbrev pub entry_slot : CacheEntryKey → Option ℕ
+entry_slot e = unless_numbered (compact_slot (key_of e)) (id_of e)
+
+-- t is s once each entry was purged in order, or left where that was refused, which happened n times
+abbrev pub PurgesAll : Store → List CacheEntryKey → ℕ → Store → Type 0
+PurgesAll s [] n t = (n ≡ 0) × (t ≡ s)
+PurgesAll s (e ∷ es) n t = PurgesAll (purged_at s (entry_slot e)) es n t ⊎ ((m : ℕ) × (n ≡ m + 1) × PurgesAll s es m t)
+
+-- with a manager in use the entry is admitted, and a fair eviction follows; else nothing is tracked or evicted
+abbrev pub Admits : Bool → Limits → MissFinishType → CacheEntryKey → Tracked → List CacheEntryKey → Tracked → Type 0
+Admits true limits kind e m out m' = IsFair limits (with_entry kind e m) out × (m' ≡ without out (with_entry kind e m))
+Admits false limits kind e m out m' = (out ≡ []) × (m' ≡ m)
+
+-- the write w of the key k is stored and admitted, and what is evicted is purged
+pub record Stores (always_purges : Bool) (r : Request) (k : Key) (w : ℕ) (kind : MissFinishType) (limits : Limits) (size failed : ℕ) (out : List CacheEntryKey) (s s' : Store) (m m' : Tracked) (t t' : Locks) : Type 0 where
+  pub untouched : stands s w ≡ true
+  pub size_is : size ≡ size_told kind
+  pub admitted : Admits r.uses.eviction limits kind (entry_of k r.entry) m out m'
+  pub purges : PurgesAll (finished s w) out failed s'
+  pub sure : always_purges ≡ true → failed ≡ 0
+  pub released : t' ≡ settled Done r.held t
+
+-- the write w of the key k is refused and dropped
+pub record Drops (r : Request) (w : ℕ) (e : ErrorType) (s s' : Store) (m m' : Tracked) (t t' : Locks) : Type 0 where
+  pub why : (e ≡ OutOfMemory) ⊎ MayRefuseFinish s w e
+  pub dropped : s' ≡ dropped s w
+  pub tracked : m' ≡ m
+  pub released : t' ≡ settled TransientError r.held t
+
+-- the write w of the key k is stored, but its admission is refused, and its key is purged again
+pub record Withdraws (always_purges : Bool) (r : Request) (k : Key) (w : ℕ) (e : ErrorType) (s s' : Store) (m m' : Tracked) (t t' : Locks) : Type 0 where
+  pub why : e ≡ OutOfMemory
+  pub untouched : stands s w ≡ true
+  pub purged : (s' ≡ purged (finished s w) (slot k)) ⊎ ((always_purges ≡ false) × (s' ≡ finished s w))
+  pub tracked : m' ≡ m
+  pub released : t' ≡ settled Done r.held t

@@ -1,0 +1,4 @@
+pub mod Finishing
+pub mod Phases
+pub mod Requests
+pub mod WriteEnds

@@ -1,0 +1,217 @@
+-- What a request is, and the rows of its phase table: what each call makes of the request, the store, the lock table
+-- and the tracked entries (own, after the phases of pingora-cache).
+use Rattle.std.specs.Prelude.{ℕ, ◌≡◌, ◌&&◌, Bool, true, false, not, Option, Some, None, cond, IsSome, is_some, option_map}
+use Rattle.std.specs.FinMap.{remove}
+use Rattle.pcache_base.specs.Key.{Key, slot}
+use Rattle.pcache_base.specs.CompactKey.{compact_of}
+use Rattle.pcache_meta.specs.Meta.{Meta}
+use Rattle.pcache_base.specs.declared.reason.NoCacheReason.TheVariants as reason
+use Rattle.pcache_evict.specs.declared.eviction.entry_key.CacheEntryKey.{CacheEntryKey}
+use Rattle.pcache_evict.specs.Entry.{entry_with}
+use Rattle.pcache_evict.specs.Tracked.{Tracked, added}
+use Rattle.pcache_lock.specs.Locks.{Locks, given, holder, after_request, let_go, released}
+use Rattle.pcache_lock.specs.declared.lock.permit.Locked.{Locked}
+use Rattle.pcache_lock.specs.declared.lock.permit.Locked.TheVariants.{Write, Read}
+use Rattle.pcache_lock.specs.declared.lock.status.LockStatus.{LockStatus}
+use Rattle.pcache_store.specs.Store.{Store, Reader, find, find_write, followed, left, begun, dropped, counts_access, reader_weight}
+use Rattle.pcache_store.specs.declared.storage.PurgeOutcome.{PurgeOutcome}
+use Rattle.pcache_store.specs.declared.storage.PurgeOutcome.TheVariants.{NotFound, Purged, Expired}
+use Rattle.pcache_request.specs.declared.phase.CachePhase.{CachePhase}
+use Rattle.pcache_request.specs.declared.phase.CachePhase.TheVariants as phase
+use Rattle.pcache_request.specs.declared.phase.HitStatus.{HitStatus}
+use Rattle.pcache_request.specs.declared.phase.HitStatus.TheVariants as status
+use Rattle.pcache_request.specs.declared.phase.InUse.{InUse}
+use Rattle.pcache_request.specs.Phases.{IsFilling, is_treated_as_miss, is_stale, is_fresh}
+
+-- a request, as its contracts see it
+pub record Request : Type 0 where
+  pub phase : CachePhase
+  pub uses : InUse
+  pub key : Option Key
+  pub meta : Option Meta
+  pub held : Option Locked
+  pub reader : Option Reader
+  pub write : Option ℕ
+  -- the number of the entry that the write fills, where entries have numbers
+  pub entry : Option ℕ
+
+-- which parts a request uses that was never enabled
+abbrev pub nothing_used : InUse
+nothing_used = record { eviction = false; predictor = false; lock = false }
+
+-- a request before caching is turned on
+abbrev pub new_request : Request
+new_request = record { phase = phase.Disabled reason.NeverEnabled; uses = nothing_used; key = None; meta = None; held = None; reader = None; write = None; entry = None }
+
+-- a request that was just enabled
+abbrev pub fresh_request : InUse → Request
+fresh_request uses = record { phase = phase.Uninit; uses = uses; key = None; meta = None; held = None; reader = None; write = None; entry = None }
+
+-- a phase behind the key's has a key
+abbrev pub HasKey : {K : Type 0} → CachePhase → Option K → Type 0
+HasKey (phase.Disabled r) k = Unit {0}
+HasKey phase.Uninit k = Unit {0}
+HasKey _ k = IsSome k
+
+-- a disabled request holds nothing that has to be given back
+abbrev pub IsClear : {H R W : Type 0} → CachePhase → Option H → Option R → Option W → Type 0
+IsClear (phase.Disabled r) h d w = (h ≡ None) × (d ≡ None) × (w ≡ None)
+IsClear _ h d w = Unit {0}
+
+-- a write is held only where a write may be made, beside the meta that it began with
+abbrev pub IsWriting : {M W : Type 0} → CachePhase → Option M → Option W → Type 0
+IsWriting p m None = Unit {0}
+IsWriting p m (Some w) = IsFilling p × IsSome m
+
+-- a reader is let go, a write dropped, a lock let go, where there is one
+abbrev pub left_by : Option Reader → Store → Store
+left_by None s = s
+left_by (Some r) s = left s r
+
+abbrev pub dropped_by : Option ℕ → Store → Store
+dropped_by None s = s
+dropped_by (Some w) s = dropped s w
+
+abbrev pub let_go_by : Option Locked → Locks → Locks
+let_go_by None t = t
+let_go_by (Some l) t = let_go t l
+
+-- a held lock is released: a permit with a status, a read lock is let go
+abbrev pub settled : LockStatus → Option Locked → Locks → Locks
+settled s None t = t
+settled s (Some (Write p)) t = released t p.number s
+settled s (Some (Read r)) t = let_go t (Read r)
+
+-- the key is set
+abbrev pub with_key : Key → Request → Request
+with_key k r = record r { phase = phase.CacheKey; key = Some k }
+
+-- what the store has for a request
+abbrev pub found_for : Store → Option Key → Option (Meta × Reader)
+found_for s None = None
+found_for s (Some k) = find s (slot k)
+
+-- a lock that is asked for is held; the older one is let go once the new one was given
+abbrev pub with_lock : Bool → Locks → Option Key → Request → Request
+with_lock stale t None r = r
+with_lock stale t (Some k) r = record r { held = Some (given t stale (holder t (slot k))) }
+
+abbrev pub table_asked : Bool → ℕ → Option Key → Option Locked → Locks → Locks
+table_asked stale now None h t = t
+table_asked stale now (Some k) h t = let_go_by h (after_request t (slot k) stale now (holder t (slot k)))
+
+-- a look-up asks for the lock where nothing was found and one is in use
+abbrev pub asks_for_miss : Store → Request → Bool
+asks_for_miss s r = r.uses.lock && not (is_some (found_for s r.key))
+
+abbrev pub looked : Store → Locks → Request → Request
+looked s t r = cond (asks_for_miss s r) (with_lock false t r.key r) r
+
+abbrev pub table_looked : Store → ℕ → Request → Locks → Locks
+table_looked s now r t = cond (asks_for_miss s r) (table_asked false now r.key r.held t) t
+
+-- the entry of a key, and of the body or write of that number where it has one
+abbrev pub entry_of : Key → Option ℕ → CacheEntryKey
+entry_of k id = entry_with (compact_of k) id
+
+-- a found pair asks for the lock where it is not served as it is and one is in use
+abbrev pub asks_for_hit : HitStatus → Request → Bool
+asks_for_hit s r = r.uses.lock && not (is_fresh s)
+
+abbrev pub locked_found : HitStatus → Locks → Request → Request
+locked_found s t r = cond (asks_for_hit s r) (with_lock (is_stale s) t r.key r) r
+
+abbrev pub table_found : HitStatus → ℕ → Request → Locks → Locks
+table_found s now r t = cond (asks_for_hit s r) (table_asked (is_stale s) now r.key r.held t) t
+
+-- the phase, meta and reader that a found pair brings
+abbrev pub phase_found : HitStatus → CachePhase → CachePhase
+phase_found status.Fresh p = phase.Hit
+phase_found status.ForceFresh p = phase.Hit
+phase_found status.Expired p = phase.Stale
+phase_found status.ForceExpired p = phase.Stale
+phase_found status.ForceExpiredServeStale p = phase.Stale
+phase_found status.ForceMiss p = p
+phase_found status.FailedHitFilter p = p
+
+abbrev pub placed : HitStatus → Meta → Reader → Request → Request
+placed s m h r = record r {
+  phase = phase_found s r.phase;
+  meta = cond (is_treated_as_miss s) None (Some m);
+  reader = cond (is_treated_as_miss s) None (Some h);
+}
+
+abbrev pub found_row : HitStatus → Meta → Reader → Locks → Request → Request
+found_row s m h t r = placed s m h (locked_found s t r)
+
+-- the hit that is passed over and the reader that is replaced are let go
+abbrev pub store_found : HitStatus → Reader → Request → Store → Store
+store_found s h r st = left_by r.reader (cond (is_treated_as_miss s) (left st h) st)
+
+-- an access is counted for a hit that counts and is not passed over
+abbrev pub counts_found : HitStatus → Reader → Request → Bool
+counts_found s h r = r.uses.eviction && (counts_access h && not (is_treated_as_miss s))
+
+abbrev pub tracked_found_at : HitStatus → Reader → Option ℕ → Request → Option Key → Tracked → Tracked
+tracked_found_at s h id r None m = m
+tracked_found_at s h id r (Some k) m = cond (counts_found s h r) (added m (entry_of k id) (reader_weight h)) m
+
+abbrev pub tracked_found : HitStatus → Reader → Option ℕ → Request → Tracked → Tracked
+tracked_found s h id r m = tracked_found_at s h id r r.key m
+
+-- the request goes on as a miss; a reader stays
+abbrev pub missed : Request → Request
+missed r = record r { phase = phase.Miss; meta = None }
+
+-- a meta may be set
+abbrev pub MayTakeMetaIn : CachePhase → Option Meta → Type 0
+MayTakeMetaIn phase.Miss m = Unit {0}
+MayTakeMetaIn _ m = ⊥
+
+abbrev pub MayTakeMeta : Request → Type 0
+MayTakeMeta r = MayTakeMetaIn r.phase r.meta
+
+abbrev pub with_meta : Meta → Request → Request
+with_meta m r = record r { meta = Some m }
+
+-- a write may begin
+abbrev pub MayWrite : Request → Type 0
+MayWrite r = IsFilling r.phase × IsSome r.meta × (r.write ≡ None)
+
+-- the write that begins, of the request's key and meta
+abbrev pub begun_for : Option Key → Option Meta → Store → Store
+begun_for (Some k) (Some m) s = begun s (slot k) m
+begun_for (Some k) None s = s
+begun_for None m s = s
+
+-- the reader that joins the request's write
+abbrev pub joined_for : Option Key → ℕ → Store → Option (Meta × Reader)
+joined_for None n s = None
+joined_for (Some k) n s = find_write s (slot k) (Some n)
+
+abbrev pub reader_in : Option (Meta × Reader) → Option Reader
+reader_in p = option_map (λ q. q.1) p
+
+-- the request once its write n began in a store that is s then
+abbrev pub writing : Bool → ℕ → Option ℕ → Store → Request → Request
+writing streams n id s r = cond streams (record r { write = Some n; entry = id; held = None; reader = reader_in (joined_for r.key n s) }) (record r { write = Some n; entry = id })
+
+abbrev pub store_writing : Bool → ℕ → Request → Store → Store
+store_writing streams n r s =
+    let t = begun_for r.key r.meta s in
+    cond streams (left_by r.reader (followed t (joined_for r.key n t))) t
+
+-- what a purge leaves of the tracked entries: the entry that went is taken out
+abbrev pub tracked_gone : Bool → Key → PurgeOutcome → Tracked → Tracked
+tracked_gone uses k NotFound m = m
+tracked_gone uses k (Purged id) m = cond uses (remove m (entry_of k id)) m
+tracked_gone uses k Expired m = m
+
+abbrev pub is_removed_by : PurgeOutcome → Bool
+is_removed_by NotFound = false
+is_removed_by (Purged id) = true
+is_removed_by Expired = true
+
+abbrev pub tracked_gone_for : Bool → Option Key → PurgeOutcome → Tracked → Tracked
+tracked_gone_for uses None o m = m
+tracked_gone_for uses (Some k) o m = tracked_gone uses k o m

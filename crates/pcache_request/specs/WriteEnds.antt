@@ -1,0 +1,42 @@
+-- How the end of a request's write went, and what it leaves (own).
+use Rattle.std.specs.Prelude.{ℕ, ◌≡◌, Bool, Option, Some, None, Result, Ok, Err, ◌⊎◌}
+use Rattle.pcache_base.specs.Key.{Key}
+use Rattle.pcache_base.specs.declared.error.ErrorType.{ErrorType}
+use Rattle.pcache_evict.specs.Tracked.{Tracked, Limits}
+use Rattle.pcache_lock.specs.Locks.{Locks}
+use Rattle.pcache_store.specs.Store.{Store}
+use Rattle.pcache_store.specs.declared.storage.MissFinishType.{MissFinishType}
+use Rattle.pcache_store.specs.declared.storage.MissFinishType.TheVariants.{Created}
+use Rattle.pcache_request.specs.Requests.{Request}
+use Rattle.pcache_request.specs.Finishing.{Stores, Drops, Withdraws}
+use Rattle.pcache_request.specs.declared.cache.finish.FinishReport.{FinishReport}
+use Rattle.pcache_request.specs.declared.cache.finish.WriteEnd.{WriteEnd}
+use Rattle.pcache_request.specs.declared.cache.finish.WriteEnd.TheVariants as end
+
+-- what a storage answers at the end of the write, if there is one
+abbrev pub finishes_of : (ℕ → MissFinishType) → Option ℕ → MissFinishType
+finishes_of f None = Created 0
+finishes_of f (Some w) = f w
+
+-- there was no write, and nothing changed
+abbrev pub EndsIdle : WriteEnd → Store → Store → Tracked → Tracked → Locks → Locks → Type 0
+EndsIdle end.Nothing s s' m m' t t' = (s' ≡ s) × (m' ≡ m) × (t' ≡ t)
+EndsIdle _ s s' m m' t t' = ⊥
+
+-- the write w of the key k is stored, dropped or withdrawn
+abbrev pub EndsWrite : Bool → Request → Key → ℕ → MissFinishType → Limits → WriteEnd → Store → Store → Tracked → Tracked → Locks → Locks → Type 0
+EndsWrite sure r k w kind limits end.Nothing s s' m m' t t' = ⊥
+EndsWrite sure r k w kind limits (end.Stored f) s s' m m' t t' = Stores sure r k w kind limits f.size f.failed_purges f.evicted.items s s' m m' t t'
+EndsWrite sure r k w kind limits (end.Dropped e) s s' m m' t t' = Drops r w e s s' m m' t t'
+EndsWrite sure r k w kind limits (end.Withdrawn e) s s' m m' t t' = Withdraws sure r k w e s s' m m' t t'
+
+abbrev pub Ends : Bool → Request → Option Key → Option ℕ → MissFinishType → Limits → WriteEnd → Store → Store → Tracked → Tracked → Locks → Locks → Type 0
+Ends sure r k None kind limits end s s' m m' t t' = EndsIdle end s s' m m' t t'
+Ends sure r (Some k) (Some w) kind limits end s s' m m' t t' = EndsWrite sure r k w kind limits end s s' m m' t t'
+Ends sure r None (Some w) kind limits end s s' m m' t t' = ⊥
+
+-- the same as it is answered: a refusal does not tell how far it came
+abbrev pub EndsAs : Result (Option FinishReport) ErrorType → (WriteEnd → Type 0) → Type 0
+EndsAs (Ok None) P = P end.Nothing
+EndsAs (Ok (Some f)) P = P (end.Stored f)
+EndsAs (Err e) P = P (end.Dropped e) ⊎ P (end.Withdrawn e)

@@ -1,0 +1,609 @@
+//! One request's way through the cache.
+//!
+//! A request is lent what it works on: the storage, the eviction manager and the lock table. Parts
+//! that it does not use are left as they are. What it holds (a lock, a reader, a write) has to be
+//! given back, so a request is spent by `end`.
+ghost use Rattle.std.specs.Prelude.{◌≡◌, IfOk, IfErr, OnOk, OnErr, Option, Some, None, option_map, cond, not, ◌&&◌};
+ghost use Rattle.pcache_base.specs.Key.{slot};
+ghost use Rattle.pcache_base.specs.declared.error.ErrorType.TheVariants.{OutOfMemory};
+ghost use Rattle.std.specs.Option.{option_copied};
+ghost use Rattle.pcache_lock.specs.Locks.{MayRefuseLock, given, holder};
+ghost use Rattle.pcache_lock.specs.Statuses.{IsReason};
+ghost use Rattle.pcache_store.specs.Store.{find_write, followed, counts_access, reader_weight};
+ghost use Rattle.pcache_store.specs.Tag.{named_by};
+ghost use Rattle.pcache_evict.specs.Tracked.{added};
+ghost use Rattle.pcache_request.specs.Phases as phases;
+ghost use Rattle.pcache_request.specs.Requests.{settled, let_go_by, table_asked, left_by, entry_of, reader_in, phase_found};
+
+mod finish;
+
+use crate::phase::{CachePhase, HitStatus, InUse};
+use bytes::Bytes;
+pub use finish::{FinishReport, WriteEnd};
+use pcache_base::error::Result;
+use pcache_base::key::CacheKey;
+use pcache_base::moment::Moment;
+use pcache_base::poll::Poll;
+use pcache_base::reason::NoCacheReason;
+use pcache_evict::eviction::{CacheEntryId, CacheEntryKey, EvictionManager};
+use pcache_lock::lock::{CacheKeyLock, LockStatus, Locked};
+use pcache_meta::meta::CacheMeta;
+use pcache_store::storage::{HandleHit, HandleMiss, PurgeOutcome, PurgeTarget, PurgeType, Storage};
+use std::alloc::Global;
+use std::marker::Model;
+
+/// One request's way through the cache.
+pub struct HttpCache<S: Storage> {
+    alloc: Global,
+    phase: CachePhase,
+    uses: InUse,
+    key: Option<CacheKey>,
+    meta: Option<CacheMeta>,
+    held: Option<Locked>,
+    reader: Option<S::Hit>,
+    writer: Option<S::Miss>,
+}
+
+impl<S: Storage> Model for HttpCache<S> {
+    ghost use Rattle.std.specs.Prelude.{option_map};
+    ghost use Rattle.std.specs.Option.{option_and_then};
+    ghost use Rattle.pcache_request.specs.Requests.{Request, HasKey, IsClear, IsWriting};
+
+    ghost Value = { Request };
+
+    ghost view = { λ a. record {
+      phase = a.phase;
+      uses = a.uses;
+      key = a.key;
+      meta = a.meta;
+      held = a.held;
+      reader = option_map S.Hit.reader a.reader;
+      write = option_map S.Miss.write a.writer;
+      entry = option_and_then S.Miss.entry_number a.writer;
+    } };
+
+    ghost invariant = { λ a. HasKey a.phase a.key × IsClear a.phase a.held a.reader a.writer × IsWriting a.phase a.meta a.writer };
+}
+
+// Puts a linear value where none is.
+fn put<T>(place: &mut Option<T>, value: T)
+    requires { place.old ≡ None }
+    ensures { place.new ≡ Some value }
+{
+    let before = place.replace(value);
+    let None = before else { unreachable!() };
+}
+
+// Asks for a key's lock, and lets an older one go once the new one was given.
+fn take_lock<L: CacheKeyLock>(
+    alloc: Global,
+    held: &mut Option<Locked>,
+    lock: &mut L,
+    key: &CacheKey,
+    stale_writer: bool,
+    now: Moment,
+) -> Result<()>
+    ensures table { OnOk result (L.table lock.new ≡ table_asked stale_writer now (Some key.now) held.old (L.table lock.old)) }
+    ensures held { OnOk result (held.new ≡ Some (given (L.table lock.old) stale_writer (holder (L.table lock.old) (slot key.now)))) }
+    ensures same_table { OnErr result (L.table lock.new ≡ L.table lock.old) }
+    ensures same_held { OnErr result (held.new ≡ held.old) }
+    ensures kind { IfErr result (λ e. MayRefuseLock (L.table lock.old) e) }
+{
+    let given = lock.lock(alloc, key, stale_writer, now)?;
+    if let Some(older) = held.replace(given) {
+        lock.drop_lock(older);
+    }
+    Ok(())
+}
+
+// Releases what is held: a permit with a status, which needs no key of its own; a read lock is let go.
+fn settle<L: CacheKeyLock>(
+    alloc: Global,
+    key: &Option<CacheKey>,
+    held: &mut Option<Locked>,
+    lock: &mut L,
+    status: LockStatus,
+)
+    requires { IsReason status }
+    ensures held { held.new ≡ None }
+    ensures table { L.table lock.new ≡ settled status held.old (L.table lock.old) }
+{
+    match held.take() {
+        Some(Locked::Write(permit)) => match key {
+            Some(key) => lock.release(key, permit, status),
+            None => {
+                let no_key = CacheKey::new(Vec::new(alloc), String::new(alloc));
+                lock.release(&no_key, permit, status);
+            }
+        },
+        Some(Locked::Read(read)) => lock.drop_lock(Locked::Read(read)),
+        None => {}
+    }
+}
+
+// The reader that follows a write, where the store has one by this tag.
+fn join_write<S: Storage>(
+    alloc: Global,
+    storage: &mut S,
+    key: &CacheKey,
+    tag: Option<&[u8]>,
+) -> Result<Option<S::Hit>>
+    ensures joined { IfOk result (λ r. option_map S.Hit.reader r ≡ reader_in (find_write (S.state storage.old) (slot key.now) (named_by (option_copied tag.entry)))) }
+    ensures ok { OnOk result (S.state storage.new ≡ followed (S.state storage.old) (find_write (S.state storage.old) (slot key.now) (named_by (option_copied tag.entry)))) }
+    ensures err { OnErr result (S.state storage.new ≡ S.state storage.old) }
+    ensures kind { IfErr result (λ e. e ≡ OutOfMemory) }
+{
+    match storage.lookup_streaming_write(alloc, key, tag)? {
+        Some((_meta, hit)) => Ok(Some(hit)),
+        None => Ok(None),
+    }
+}
+
+// The entry of a key, and of the body or write of this number where it has one.
+fn entry_for(key: &CacheKey, id: Option<CacheEntryId>) -> Result<CacheEntryKey>
+    ensures ok { IfOk result (λ entry. entry ≡ entry_of key.now id) }
+    ensures kind { IfErr result (λ e. e ≡ OutOfMemory) }
+{
+    Ok(CacheEntryKey::from_entry_id(key.to_compact()?, id))
+}
+
+// Notes the use of a body that counts and is not passed over.
+fn note_access<S: Storage, E: EvictionManager>(
+    eviction: &mut E,
+    key: &CacheKey,
+    meta: &CacheMeta,
+    hit: &S::Hit,
+    status: HitStatus,
+) -> Result<()>
+    ensures tracked { OnOk result (E.tracked eviction.new ≡ cond (counts_access (S.Hit.reader hit.now) && not (phases.is_treated_as_miss status)) (added (E.tracked eviction.old) (entry_of key.now (S.Hit.entry_number hit.now)) (reader_weight (S.Hit.reader hit.now))) (E.tracked eviction.old)) }
+    ensures err { OnErr result (E.tracked eviction.new ≡ E.tracked eviction.old) }
+    ensures limits { E.limits eviction.new ≡ E.limits eviction.old }
+    ensures evicted { E.evicted eviction.new ≡ E.evicted eviction.old }
+    ensures kind { IfErr result (λ e. e ≡ OutOfMemory) }
+{
+    if !hit.should_count_access() || status.is_treated_as_miss() {
+        return Ok(());
+    }
+    let entry = entry_for(key, hit.entry_id())?;
+    eviction.access(&entry, hit.get_eviction_weight(), meta.fresh_until())?;
+    Ok(())
+}
+
+// The phase that what was found brings.
+fn phase_found(status: HitStatus, phase: CachePhase) -> CachePhase
+    ensures { result ≡ phase_found status phase }
+{
+    match status {
+        HitStatus::Fresh | HitStatus::ForceFresh => CachePhase::Hit,
+        HitStatus::Expired | HitStatus::ForceExpired | HitStatus::ForceExpiredServeStale => {
+            CachePhase::Stale
+        }
+        HitStatus::ForceMiss | HitStatus::FailedHitFilter => phase,
+    }
+}
+
+// Puts a reader, or none, in place of the one before, which is let go.
+fn replace_reader<S: Storage>(place: &mut Option<S::Hit>, reader: Option<S::Hit>, storage: &mut S)
+    ensures place { place.new ≡ reader }
+    ensures store { S.state storage.new ≡ left_by (option_map S.Hit.reader place.old) (S.state storage.old) }
+{
+    if let Some(older) = std::mem::replace(place, reader) {
+        older.let_go(storage);
+    }
+}
+
+impl<S: Storage> HttpCache<S> {
+    ghost use Rattle.std.specs.Prelude.{◌≡◌, ◌≢◌, ◌↔◌, ◌⊎◌, ℕ, true, false, cond, IfOk, IfErr, IfSome, OnOk, OnErr, IsTrue, IsSome, Option, Some, None, option_map, is_some, ◌&&◌};
+    ghost use Rattle.std.specs.Borrow.{Lends, LendsIf, sem};
+    ghost use Rattle.pcache_base.specs.Key.{Key, slot};
+    ghost use Rattle.pcache_base.specs.declared.error.ErrorType.TheVariants.{OutOfMemory};
+    ghost use Rattle.pcache_lock.specs.Locks.{MayRefuseLock};
+    ghost use Rattle.pcache_lock.specs.declared.lock.status.LockStatus.TheVariants.{Done};
+    ghost use Rattle.pcache_store.specs.Store.{followed, left, read_of, reader_after};
+    ghost use Rattle.std.specs.Option.{option_copied, option_and_then};
+    ghost use Rattle.pcache_store.specs.Purge.{purge_answer, purged_at};
+    ghost use Rattle.pcache_store.specs.Refusals.{MayRefuseWrite};
+    ghost use Rattle.pcache_request.specs.Phases.{IsDisabled, MayTakeKey, MayLookUp, MayMiss, IsFilling, IsReading, MayPurge, is_filling};
+    ghost use Rattle.pcache_request.specs.Requests.{Request, HasKey, new_request, fresh_request, with_key, found_for, looked, table_looked, found_row, store_found, table_found, tracked_found, missed, MayTakeMeta, with_meta, MayWrite, writing, store_writing, begun_for, settled, left_by, dropped_by, let_go_by, tracked_gone_for, is_removed_by};
+    ghost use Rattle.pcache_request.specs.contracts.cache.HttpCache.{the_row};
+
+    /// A request for which caching was never turned on.
+    pub fn new(alloc: Global) -> HttpCache<S>
+        ensures { result ≡ new_request }
+    {
+        HttpCache {
+            alloc,
+            phase: CachePhase::Disabled(NoCacheReason::NeverEnabled),
+            uses: InUse {
+                eviction: false,
+                predictor: false,
+                lock: false,
+            },
+            key: None,
+            meta: None,
+            held: None,
+            reader: None,
+            writer: None,
+        }
+    }
+
+    /// Turns caching on, with these parts in use and all else fresh.
+    pub fn enable(&mut self, uses: InUse)
+        requires { IsDisabled self.old.phase }
+        ensures { self.new ≡ fresh_request uses }
+    {
+        self.phase = CachePhase::Uninit;
+        self.uses = uses;
+        self.key = None;
+        self.meta = None;
+    }
+
+    /// Where the request stands.
+    pub fn phase(&self) -> CachePhase
+        ensures { result ≡ self.now.phase }
+    {
+        self.phase
+    }
+
+    /// Which parts are in use.
+    pub fn uses(&self) -> InUse
+        ensures { result ≡ self.now.uses }
+    {
+        self.uses
+    }
+
+    /// The key, where one is set: in each phase behind the key's there is one.
+    pub fn key(&self) -> Option<&CacheKey>
+        ensures value { option_copied result ≡ self.now.key }
+        ensures known { HasKey self.now.phase self.now.key }
+    {
+        self.key.as_ref()
+    }
+
+    /// The meta, where there is one.
+    pub fn meta(&self) -> Option<&CacheMeta>
+        ensures { option_copied result ≡ self.now.meta }
+    {
+        self.meta.as_ref()
+    }
+
+    /// The lock that is held, where there is one.
+    pub fn held(&self) -> Option<&Locked>
+        ensures { option_copied result ≡ self.now.held }
+    {
+        self.held.as_ref()
+    }
+
+    /// The handler of the write, where there is one, to be asked.
+    pub fn writer(&self) -> Option<&S::Miss>
+        ensures { option_map (λ w. S.Miss.write w.now) result ≡ self.now.write }
+    {
+        self.writer.as_ref()
+    }
+
+    /// Sets the key.
+    pub fn set_cache_key(&mut self, key: CacheKey)
+        requires { MayTakeKey self.old.phase }
+        ensures { self.new ≡ with_key key self.old }
+    {
+        self.key = Some(key);
+        self.phase = CachePhase::CacheKey;
+    }
+
+    /// Looks for the key in the store, and asks for its lock where nothing is there and a lock is in
+    /// use. Refused, it changes nothing.
+    pub fn cache_lookup<L: CacheKeyLock>(
+        &mut self,
+        storage: &mut S,
+        lock: &mut L,
+        now: Moment,
+    ) -> Result<Option<(CacheMeta, S::Hit)>>
+        requires { MayLookUp self.old.phase }
+        ensures found { IfOk result (λ r. option_map (λ p. (p.0, S.Hit.reader p.1)) r ≡ found_for (S.state storage.old) self.old.key) }
+        ensures request { OnOk result (self.new ≡ looked (S.state storage.old) (L.table lock.old) self.old) }
+        ensures store { OnOk result (S.state storage.new ≡ followed (S.state storage.old) (found_for (S.state storage.old) self.old.key)) }
+        ensures table { OnOk result (L.table lock.new ≡ table_looked (S.state storage.old) now self.old (L.table lock.old)) }
+        ensures same_request { OnErr result (self.new ≡ self.old) }
+        ensures same_store { OnErr result (S.state storage.new ≡ S.state storage.old) }
+        ensures same_table { OnErr result (L.table lock.new ≡ L.table lock.old) }
+        ensures kind { IfErr result (λ e. MayRefuseLock (L.table lock.old) e) }
+    {
+        let Some(key) = &self.key else { unreachable!() };
+        let found = storage.lookup(self.alloc, key)?;
+        if found.is_none() && self.uses.lock {
+            if let Err(refused) = take_lock(self.alloc, &mut self.held, lock, key, false, now) {
+                if let Some((_meta, hit)) = found {
+                    hit.let_go(storage);
+                }
+                return Err(refused);
+            }
+        }
+        Ok(found)
+    }
+
+    /// Notes the use of what a look-up found, where a manager is in use and the hit counts and is not
+    /// passed over. It is refused for want of memory alone, and changes nothing then.
+    pub fn note_found<E: EvictionManager>(
+        &self,
+        eviction: &mut E,
+        meta: &CacheMeta,
+        hit: &S::Hit,
+        status: HitStatus,
+    ) -> Result<()>
+        requires { MayLookUp self.now.phase }
+        ensures tracked { OnOk result (E.tracked eviction.new ≡ tracked_found status (S.Hit.reader hit.now) (S.Hit.entry_number hit.now) self.now (E.tracked eviction.old)) }
+        ensures err { OnErr result (E.tracked eviction.new ≡ E.tracked eviction.old) }
+        ensures limits { E.limits eviction.new ≡ E.limits eviction.old }
+        ensures evicted { E.evicted eviction.new ≡ E.evicted eviction.old }
+        ensures kind { IfErr result (λ e. e ≡ OutOfMemory) }
+    {
+        let Some(key) = &self.key else { unreachable!() };
+        if self.uses.eviction {
+            note_access::<S, E>(eviction, key, meta, hit, status)?;
+        }
+        Ok(())
+    }
+
+    /// Takes what a look-up found, whose use was noted. A fresh hit is served; a stale one may be
+    /// renewed, and one that is treated as a miss is let go: both ask for the lock where one is in use.
+    /// Refused, it lets the hit go.
+    pub fn take_found<L: CacheKeyLock>(
+        &mut self,
+        storage: &mut S,
+        lock: &mut L,
+        meta: CacheMeta,
+        hit: S::Hit,
+        status: HitStatus,
+        now: Moment,
+    ) -> Result<()>
+        requires { MayLookUp self.old.phase }
+        ensures request { OnOk result (self.new ≡ found_row status meta (S.Hit.reader hit) (L.table lock.old) self.old) }
+        ensures store { OnOk result (S.state storage.new ≡ store_found status (S.Hit.reader hit) self.old (S.state storage.old)) }
+        ensures table { OnOk result (L.table lock.new ≡ table_found status now self.old (L.table lock.old)) }
+        ensures same_request { OnErr result (self.new ≡ self.old) }
+        ensures left_store { OnErr result (S.state storage.new ≡ left (S.state storage.old) (S.Hit.reader hit)) }
+        ensures same_table { OnErr result (L.table lock.new ≡ L.table lock.old) }
+        ensures kind { IfErr result (λ e. MayRefuseLock (L.table lock.old) e) }
+    {
+        let Some(key) = &self.key else { unreachable!() };
+        if self.uses.lock && !status.is_fresh() {
+            if let Err(refused) = take_lock(
+                self.alloc,
+                &mut self.held,
+                lock,
+                key,
+                status.is_stale(),
+                now,
+            ) {
+                hit.let_go(storage);
+                return Err(refused);
+            }
+        }
+        self.phase = phase_found(status, self.phase);
+        if status.is_treated_as_miss() {
+            hit.let_go(storage);
+            self.meta = None;
+            replace_reader(&mut self.reader, None, storage);
+        } else {
+            self.meta = Some(meta);
+            replace_reader(&mut self.reader, Some(hit), storage);
+        }
+        Ok(())
+    }
+
+    /// Takes what a look-up found: what `note_found` does, and then what `take_found` does. Refused,
+    /// it lets the hit go; an access noted before stays.
+    pub fn cache_found<L: CacheKeyLock, E: EvictionManager>(
+        &mut self,
+        storage: &mut S,
+        eviction: &mut E,
+        lock: &mut L,
+        meta: CacheMeta,
+        hit: S::Hit,
+        status: HitStatus,
+        now: Moment,
+    ) -> Result<()>
+        requires { MayLookUp self.old.phase }
+        ensures request { OnOk result (self.new ≡ found_row status meta (S.Hit.reader hit) (L.table lock.old) self.old) }
+        ensures store { OnOk result (S.state storage.new ≡ store_found status (S.Hit.reader hit) self.old (S.state storage.old)) }
+        ensures table { OnOk result (L.table lock.new ≡ table_found status now self.old (L.table lock.old)) }
+        ensures tracked { OnOk result (E.tracked eviction.new ≡ tracked_found status (S.Hit.reader hit) (S.Hit.entry_number hit) self.old (E.tracked eviction.old)) }
+        ensures same_request { OnErr result (self.new ≡ self.old) }
+        ensures left_store { OnErr result (S.state storage.new ≡ left (S.state storage.old) (S.Hit.reader hit)) }
+        ensures same_table { OnErr result (L.table lock.new ≡ L.table lock.old) }
+        ensures noted { OnErr result ((E.tracked eviction.new ≡ E.tracked eviction.old) ⊎ (E.tracked eviction.new ≡ tracked_found status (S.Hit.reader hit) (S.Hit.entry_number hit) self.old (E.tracked eviction.old))) }
+        ensures limits { E.limits eviction.new ≡ E.limits eviction.old }
+        ensures evicted { E.evicted eviction.new ≡ E.evicted eviction.old }
+        ensures kind { IfErr result (λ e. MayRefuseLock (L.table lock.old) e) }
+    {
+        if let Err(refused) = self.note_found(eviction, &meta, &hit, status) {
+            hit.let_go(storage);
+            return Err(refused);
+        }
+        self.take_found(storage, lock, meta, hit, status, now)
+    }
+
+    /// Goes on as a miss.
+    pub fn cache_miss(&mut self)
+        requires { MayMiss self.old.phase }
+        ensures { self.new ≡ missed self.old }
+    {
+        self.phase = CachePhase::Miss;
+        self.meta = None;
+    }
+
+    /// Whether there is a reader.
+    pub fn has_body_reader(&self) -> bool
+        ensures { IsTrue result ↔ IsSome self.now.reader }
+    {
+        self.reader.is_some()
+    }
+
+    /// Reads on. It is refused for want of memory alone, and changes nothing then.
+    pub fn read_body(&mut self, storage: &mut S) -> Result<Poll<Option<Bytes>>>
+        requires { IsSome self.old.reader }
+        ensures read { IfOk result (λ p. IfSome self.old.reader (λ r. p ≡ read_of (S.state storage.old) r)) }
+        ensures request { OnOk result (self.new ≡ record self.old { reader = option_map (reader_after (S.state storage.old)) self.old.reader }) }
+        ensures same_request { OnErr result (self.new ≡ self.old) }
+        ensures same_store { S.state storage.new ≡ S.state storage.old }
+        ensures kind { IfErr result (λ e. e ≡ OutOfMemory) }
+    {
+        let Some(reader) = &mut self.reader else {
+            unreachable!()
+        };
+        reader.read_body(self.alloc, storage)
+    }
+
+    /// The reader of what was found.
+    pub fn hit_handler(&mut self) -> &mut S::Hit
+        requires phase { IsReading self.old.phase }
+        requires reader { IsSome self.old.reader }
+        ensures* writes_back { sem 𝓛 (Lends (the_row S.row S.Hit.row S.Miss.row S.StoreMeaning S.Hit.HandleHit S.Miss.HandleMiss) S.Hit.row self.entry result (λ h. record self.old { reader = Some (S.Hit.reader h) })) }
+        ensures value { Some (S.Hit.reader result.now) ≡ self.old.reader }
+    {
+        self.reader.as_mut().unwrap()
+    }
+
+    /// The reader of the write that fills the cache, in a storage whose writes can be read while they
+    /// are made.
+    pub fn miss_body_reader(&mut self, storage: &S) -> Option<&mut S::Hit>
+        ensures* writes_back { sem 𝓛 (LendsIf (the_row S.row S.Hit.row S.Miss.row S.StoreMeaning S.Hit.HandleHit S.Miss.HandleMiss) S.Hit.row self.entry result (λ h. record self.old { reader = Some (S.Hit.reader h) }) self.old) }
+        ensures value { option_map (λ r. S.Hit.reader r.now) result ≡ cond (is_filling self.old.phase && S.streams storage.now) self.old.reader None }
+    {
+        if self.phase.is_filling() && storage.support_streaming_partial_write() {
+            self.reader.as_mut()
+        } else {
+            None
+        }
+    }
+
+    /// Whether `set_cache_meta` may be called.
+    pub fn may_take_meta(&self) -> bool
+        ensures { IsTrue result ↔ MayTakeMeta self.now }
+    {
+        matches!(self.phase, CachePhase::Miss)
+    }
+
+    /// Sets the meta of the response that is to be stored.
+    pub fn set_cache_meta(&mut self, meta: CacheMeta)
+        requires { MayTakeMeta self.old }
+        ensures { self.new ≡ with_meta meta self.old }
+    {
+        self.meta = Some(meta);
+    }
+
+    /// Whether `set_miss_handler` may be called.
+    pub fn may_write(&self) -> bool
+        ensures may { IsTrue result ↔ MayWrite self.now }
+        ensures has_key { IsTrue result → IsSome self.now.key }
+    {
+        self.phase.is_filling() && self.meta.is_some() && self.writer.is_none()
+    }
+
+    /// Begins the write. In a storage whose writes can be read while they are made, the permit is
+    /// released and the request's reader follows the write; where that is refused, the write has
+    /// begun and the permit is released.
+    pub fn set_miss_handler<L: CacheKeyLock>(&mut self, storage: &mut S, lock: &mut L) -> Result<()>
+        requires { MayWrite self.old }
+        ensures request { OnOk result (self.new ≡ writing (S.streams storage.old) (S.state storage.old).next (S.next_entry storage.old) (begun_for self.old.key self.old.meta (S.state storage.old)) self.old) }
+        ensures store { OnOk result (S.state storage.new ≡ store_writing (S.streams storage.old) (S.state storage.old).next self.old (S.state storage.old)) }
+        ensures table { OnOk result (L.table lock.new ≡ cond (S.streams storage.old) (settled Done self.old.held (L.table lock.old)) (L.table lock.old)) }
+        ensures err { IfErr result (λ e. ((self.new ≡ self.old) × (S.state storage.new ≡ S.state storage.old) × (L.table lock.new ≡ L.table lock.old) × MayRefuseWrite (S.state storage.old) e)
+            ⊎ ((self.new ≡ record self.old { write = Some (S.state storage.old).next; entry = S.next_entry storage.old; held = None }) × (S.state storage.new ≡ begun_for self.old.key self.old.meta (S.state storage.old)) × (L.table lock.new ≡ settled Done self.old.held (L.table lock.old)) × (e ≡ OutOfMemory))) }
+        ensures kind { IfErr result (λ e. (e ≡ OutOfMemory) ⊎ MayRefuseWrite (S.state storage.old) e) }
+    {
+        let Some(key) = &self.key else { unreachable!() };
+        let Some(meta) = &self.meta else {
+            unreachable!()
+        };
+        let streams = storage.support_streaming_partial_write();
+        let writer = storage.get_miss_handler(self.alloc, key, meta)?;
+        put(&mut self.writer, writer);
+        if !streams {
+            return Ok(());
+        }
+        settle(
+            self.alloc,
+            &self.key,
+            &mut self.held,
+            lock,
+            LockStatus::Done,
+        );
+        let Some(writer) = &self.writer else {
+            unreachable!()
+        };
+        let joined = join_write(self.alloc, storage, key, writer.streaming_write_tag())?;
+        replace_reader(&mut self.reader, joined, storage);
+        Ok(())
+    }
+
+    /// The handler of the write, where there is one.
+    pub fn miss_handler(&mut self) -> Option<&mut S::Miss>
+        requires { IsFilling self.old.phase }
+        ensures* writes_back { sem 𝓛 (LendsIf (the_row S.row S.Hit.row S.Miss.row S.StoreMeaning S.Hit.HandleHit S.Miss.HandleMiss) S.Miss.row self.entry result (λ w. record self.old { write = Some (S.Miss.write w); entry = S.Miss.entry_number w }) self.old) }
+        ensures value { option_map (λ r. S.Miss.write r.now) result ≡ self.old.write }
+        ensures entry { option_and_then (λ r. S.Miss.entry_number r.now) result ≡ self.old.entry }
+    {
+        let Some(writer) = &mut self.writer else {
+            return None;
+        };
+        Some(writer)
+    }
+
+    /// Removes what stands under the key, and takes the entry that went out of the manager. Answers
+    /// whether anything was there.
+    pub fn purge<E: EvictionManager>(&mut self, storage: &mut S, eviction: &mut E) -> Result<bool>
+        requires { MayPurge self.old.phase }
+        ensures same { self.new ≡ self.old }
+        ensures there { IfOk result (λ there. there ≡ is_removed_by (purge_answer (S.state storage.old) (option_map slot self.old.key))) }
+        ensures store { OnOk result (S.state storage.new ≡ purged_at (S.state storage.old) (option_map slot self.old.key)) }
+        ensures tracked { OnOk result (E.tracked eviction.new ≡ tracked_gone_for self.old.uses.eviction self.old.key (purge_answer (S.state storage.old) (option_map slot self.old.key)) (E.tracked eviction.old)) }
+        ensures same_store { OnErr result (S.state storage.new ≡ S.state storage.old) }
+        ensures same_tracked { OnErr result (E.tracked eviction.new ≡ E.tracked eviction.old) }
+        ensures limits { E.limits eviction.new ≡ E.limits eviction.old }
+        ensures evicted { E.evicted eviction.new ≡ E.evicted eviction.old }
+        ensures kind { S.always_purges ≡ true → IfErr result (λ e. e ≡ OutOfMemory) }
+    {
+        let Some(key) = &self.key else { unreachable!() };
+        let compact = key.to_compact()?;
+        match storage.purge(PurgeTarget::Active(&compact), PurgeType::Invalidation)? {
+            PurgeOutcome::NotFound => Ok(false),
+            PurgeOutcome::Expired => Ok(true),
+            PurgeOutcome::Purged(id) => {
+                if self.uses.eviction {
+                    eviction.remove(&CacheEntryKey::from_entry_id(compact, id));
+                }
+                Ok(true)
+            }
+        }
+    }
+
+    /// Gives back all that is held: the write is dropped, a permit dangles, the rest is let go.
+    pub fn end<L: CacheKeyLock>(self, storage: &mut S, lock: &mut L)
+        ensures store { S.state storage.new ≡ left_by self.reader (dropped_by self.write (S.state storage.old)) }
+        ensures table { L.table lock.new ≡ let_go_by self.held (L.table lock.old) }
+    {
+        let HttpCache {
+            alloc: _,
+            phase: _,
+            uses: _,
+            key: _,
+            meta: _,
+            held,
+            reader,
+            writer,
+        } = self;
+        if let Some(writer) = writer {
+            writer.drop_write(storage);
+        }
+        if let Some(held) = held {
+            lock.drop_lock(held);
+        }
+        if let Some(reader) = reader {
+            reader.let_go(storage);
+        }
+    }
+}
+
+#[cfg(test)]
+mod tests;

@@ -1,0 +1,181 @@
+//! Where a request stands, and what a hit is worth.
+ghost use Rattle.std.specs.Prelude.{◌≡◌, ◌↔◌, IsTrue};
+ghost use Rattle.pcache_request.specs.Phases as phases;
+
+use pcache_base::reason::NoCacheReason;
+
+/// Where a request stands.
+#[derive(Clone, Copy, Debug, PartialEq, Eq)]
+pub enum CachePhase {
+    /// Nothing is cached.
+    Disabled(NoCacheReason),
+    /// Caching is on, and nothing is known yet.
+    Uninit,
+    /// The cache is passed by, and the key is kept.
+    Bypass,
+    /// The key is known.
+    CacheKey,
+    /// A fresh body was found.
+    Hit,
+    /// No body was found.
+    Miss,
+    /// A body was found that is not fresh.
+    Stale,
+    /// The same, while another request renews it.
+    StaleUpdating,
+    /// A body was found that is not fresh, and a new one is fetched.
+    Expired,
+    /// The origin said that the body found is still good.
+    Revalidated,
+    /// The same, and the new answer is not to be stored.
+    RevalidatedNoCache(NoCacheReason),
+}
+
+impl CachePhase {
+    /// The phase's word.
+    pub fn as_str(self) -> &'static str
+        ensures { result.now ≡ phases.word_of self }
+    {
+        match self {
+            CachePhase::Disabled(_) => "disabled",
+            CachePhase::Uninit => "uninitialized",
+            CachePhase::Bypass => "bypass",
+            CachePhase::CacheKey => "key",
+            CachePhase::Hit => "hit",
+            CachePhase::Miss => "miss",
+            CachePhase::Stale => "stale",
+            CachePhase::StaleUpdating => "stale-updating",
+            CachePhase::Expired => "expired",
+            CachePhase::Revalidated => "revalidated",
+            CachePhase::RevalidatedNoCache(_) => "revalidated-nocache",
+        }
+    }
+
+    /// Whether caching may be turned on.
+    pub fn is_disabled(self) -> bool
+        ensures { IsTrue result ↔ phases.IsDisabled self }
+    {
+        matches!(self, CachePhase::Disabled(_))
+    }
+
+    /// Whether a key may be set.
+    pub fn may_take_key(self) -> bool
+        ensures { IsTrue result ↔ phases.MayTakeKey self }
+    {
+        matches!(self, CachePhase::Uninit | CachePhase::CacheKey)
+    }
+
+    /// Whether the key may be looked up, and what was found be taken.
+    pub fn may_look_up(self) -> bool
+        ensures { IsTrue result ↔ phases.MayLookUp self }
+    {
+        matches!(self, CachePhase::CacheKey | CachePhase::Stale)
+    }
+
+    /// Whether the request may go on as a miss.
+    pub fn may_miss(self) -> bool
+        ensures { IsTrue result ↔ phases.MayMiss self }
+    {
+        matches!(
+            self,
+            CachePhase::CacheKey | CachePhase::Bypass | CachePhase::Stale
+        )
+    }
+
+    /// Whether a write may be made.
+    pub fn is_filling(self) -> bool
+        ensures may { IsTrue result ↔ phases.IsFilling self }
+        ensures test { result ≡ phases.is_filling self }
+    {
+        matches!(self, CachePhase::Miss | CachePhase::Expired)
+    }
+
+    /// Whether a body that was found may be read.
+    pub fn is_reading(self) -> bool
+        ensures { IsTrue result ↔ phases.IsReading self }
+    {
+        matches!(
+            self,
+            CachePhase::Hit
+                | CachePhase::Stale
+                | CachePhase::StaleUpdating
+                | CachePhase::Revalidated
+                | CachePhase::RevalidatedNoCache(_)
+        )
+    }
+
+    /// Whether the key may be purged.
+    pub fn may_purge(self) -> bool
+        ensures { IsTrue result ↔ phases.MayPurge self }
+    {
+        matches!(self, CachePhase::CacheKey)
+    }
+}
+
+/// What a hit is worth.
+#[derive(Clone, Copy, Debug, PartialEq, Eq)]
+pub enum HitStatus {
+    /// Its freshness ended.
+    Expired,
+    /// It is to be taken as expired.
+    ForceExpired,
+    /// It is to be taken as expired, and may be served stale.
+    ForceExpiredServeStale,
+    /// It is to be taken as a miss.
+    ForceMiss,
+    /// A filter refused it, so that it is taken as a miss.
+    FailedHitFilter,
+    /// It is fresh.
+    Fresh,
+    /// It is to be taken as fresh.
+    ForceFresh,
+}
+
+impl HitStatus {
+    /// The status' word.
+    pub fn as_str(self) -> &'static str
+        ensures { result.now ≡ phases.status_word self }
+    {
+        match self {
+            HitStatus::Expired => "expired",
+            HitStatus::ForceExpired => "force_expired",
+            HitStatus::ForceExpiredServeStale => "force_expired_serve_stale",
+            HitStatus::ForceMiss => "force_miss",
+            HitStatus::FailedHitFilter => "failed_hit_filter",
+            HitStatus::Fresh => "fresh",
+            HitStatus::ForceFresh => "force_fresh",
+        }
+    }
+
+    /// Whether the body is served as it is.
+    pub fn is_fresh(self) -> bool
+        ensures { result ≡ phases.is_fresh self }
+    {
+        matches!(self, HitStatus::Fresh | HitStatus::ForceFresh)
+    }
+
+    /// Whether the body is neither served as it is nor passed over.
+    pub fn is_stale(self) -> bool
+        ensures { result ≡ phases.is_stale self }
+    {
+        matches!(
+            self,
+            HitStatus::Expired | HitStatus::ForceExpired | HitStatus::ForceExpiredServeStale
+        )
+    }
+
+    /// Whether the body is passed over.
+    pub fn is_treated_as_miss(self) -> bool
+        ensures { result ≡ phases.is_treated_as_miss self }
+    {
+        matches!(self, HitStatus::ForceMiss | HitStatus::FailedHitFilter)
+    }
+}
+
+/// Which of the parts that calls are lent a request uses.
+#[derive(Clone, Copy, Debug, PartialEq, Eq)]
+pub struct InUse {
+    pub eviction: bool,
+    pub predictor: bool,
+    pub lock: bool,
+}
