@@ -1,11 +1,6 @@
-pub mod Sharded
-pub mod ShardLists
-pub mod TableMaps
 pub mod EntryOrder
-pub mod Recency
-pub mod Seats
-pub mod Walks
 pub mod Evictions
 pub mod Maps
+pub mod Recency
 pub mod TrackedMaps
-pub mod Least
+pub mod Walks

@@ -3,7 +3,5 @@
 //!
 //! - `eviction`: the keys of entries, and what an eviction manager is
 //! - `eviction::simple_lru`: the manager with one recency list
-//! - `hashtable`: tables of values by number, alone and in shards
 
 pub mod eviction;
-pub mod hashtable;

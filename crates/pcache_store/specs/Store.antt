@@ -5,7 +5,7 @@ use Rattle.std.specs.FinMap.{FinMap, empty, get, insert, remove, contains_key, l
 use Rattle.pcache_meta.specs.Meta.{Meta}
 use Rattle.pcache_base.specs.declared.poll.Poll.{Poll}
 use Rattle.pcache_base.specs.declared.poll.Poll.TheVariants.{Ready, Pending}
-use Rattle.pcache_evict.specs.Numbers.{least}
+use Rattle.pcache_table.specs.Numbers.{least}
 
 -- a complete body
 pub record Stored : Type 0 where

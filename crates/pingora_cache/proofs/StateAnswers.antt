@@ -11,7 +11,7 @@ use Rattle.std.specs.FinMap.Entries.{is_sorted, below_all}
 use Rattle.std.proofs.lemmas.Bool.{and_parts}
 use Rattle.pcache_meta.specs.Meta.{Meta}
 use Rattle.pcache_base.specs.declared.poll.Poll.TheVariants.{Ready, Pending}
-use Rattle.pcache_evict.specs.Numbers.{first_key, least}
+use Rattle.pcache_table.specs.Numbers.{first_key, least}
 use Rattle.pcache_store.specs.Store.{Store, Slot, Stored, Written, Reader, Whole, Part, found_body, found_part, found_first, found_in, find, found_flying, find_write, followed, is_fresh_in, is_idle, stands_on, stands, read_part, read_of, place_after, reader_after}
 use Rattle.pcache_store.specs.Store as store
 use Rattle.pingora_cache.specs.declared.world.entry.Answer.{Answer}

@@ -11,8 +11,8 @@ pub use pcache_base::key::CacheKey;
 pub use pcache_base::reason::NoCacheReason;
 pub use pcache_base::{error, key, moment, poll, reason, text, variance};
 pub use pcache_control::{cache_control, filters};
+pub use pcache_evict::eviction;
 pub use pcache_evict::eviction::{CacheEntryId, CacheEntryKey, CacheEntryKeyRef};
-pub use pcache_evict::{eviction, hashtable};
 pub use pcache_lock::lock;
 pub use pcache_meta::meta::CacheMeta;
 pub use pcache_meta::{header, meta, trace};
@@ -24,3 +24,4 @@ pub use pcache_store::storage::{
     HitHandler, MissHandler, PurgeAction, PurgeOutcome, PurgeTarget, PurgeType, Storage,
 };
 pub use pcache_store::{memory, storage};
+pub use pcache_table::hashtable;

@@ -19,7 +19,7 @@ use pcache_base::fills::UnusableFills;
 use pcache_base::key::{CacheHashKey, CacheKey};
 use pcache_base::moment::Moment;
 use pcache_base::poll::Poll;
-use pcache_evict::hashtable::{Shards, Table};
+use pcache_table::hashtable::{Shards, Table};
 use std::alloc::Global;
 use std::marker::Model;
 use std::time::Duration;

@@ -3,15 +3,15 @@ ghost use Rattle.std.specs.Prelude.{◌≡◌, ◌<◌, ◌^◌, ℕ, Option, So
 ghost use Rattle.std.specs.FinMap as map;
 ghost use Rattle.pcache_base.specs.declared.error.ErrorType.TheVariants.{OutOfMemory};
 ghost use Rattle.pcache_meta.specs.Meta as meta_of;
-ghost use Rattle.pcache_evict.specs.Numbers.{least};
+ghost use Rattle.pcache_table.specs.Numbers.{least};
 ghost use Rattle.pcache_store.specs.Store.{opened_in, is_idle, with_meta};
 
 use bytes::Bytes;
 use pcache_base::error::Result;
 use pcache_base::moment::Moment;
-use pcache_evict::hashtable::Table;
 use pcache_meta::meta::CacheMeta;
 use pcache_meta::meta::spelled::SpelledMeta;
+use pcache_table::hashtable::Table;
 use std::alloc::Global;
 use std::marker::Model;
 

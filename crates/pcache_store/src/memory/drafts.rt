@@ -8,8 +8,8 @@ ghost use Rattle.pcache_store.specs.Store.{joined_on, left_on, wrote_on, grounde
 use crate::memory::body::Body;
 use crate::memory::draft::Draft;
 use pcache_base::error::{Error, ErrorType, Result};
-use pcache_evict::hashtable::Table;
 use pcache_meta::meta::CacheMeta;
+use pcache_table::hashtable::Table;
 use std::alloc::Global;
 use std::marker::Model;
 

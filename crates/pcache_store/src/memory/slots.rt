@@ -10,8 +10,8 @@ ghost use Rattle.pcache_store.specs.Totals.{body_count, body_size, body_len, one
 use crate::memory::body::{Body, KeySlot};
 use pcache_base::error::Result;
 use pcache_base::moment::Moment;
-use pcache_evict::hashtable::Table;
 use pcache_meta::meta::spelled::SpelledMeta;
+use pcache_table::hashtable::Table;
 use std::alloc::Global;
 use std::marker::Model;
 

@@ -1,7 +1,0 @@
-use Rattle.std.specs.List.{FoldsTo}
-use Rattle.pcache_evict.specs.Sharding.{CalledAtEntry}
-use Rattle.pcache_evict.proofs.hashtable.concurrent.visit.Given as goal
-
--- the calls at the entries that are left complete the calls at all of them
-abbrev pub invariant-loop-key : goal.invariant-loop-key
-invariant-loop-key g l = goal.F-IsAlwaysCallable g l.f × ((last : _) → FoldsTo (CalledAtEntry g.F.FnMut) l.f l.key-iterator last → FoldsTo (CalledAtEntry g.F.FnMut) l.fn.f l.initial.key-iterator last)

@@ -1,8 +1,0 @@
-use Rattle.std.proofs.Common.{◌≡◌}
-use Rattle.std.specs.Prelude.{max}
-use Rattle.pcache_evict.specs.Sharding.{fresh_lists}
-use Rattle.pcache_evict.proofs.hashtable.lru_shards.LruShards.new.Given as goal
-
--- the shards below the place are made
-abbrev pub invariant-loop-place : goal.invariant-loop-place
-invariant-loop-place g l = l.shards.items ≡ fresh_lists l.place (max l.shard_capacity 1)

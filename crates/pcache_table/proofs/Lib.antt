@@ -1,0 +1,5 @@
+pub mod Least
+pub mod Seats
+pub mod ShardLists
+pub mod Sharded
+pub mod TableMaps

@@ -1,0 +1,8 @@
+use Rattle.std.proofs.Common.{◌≡◌}
+use Rattle.std.specs.Prelude.{max}
+use Rattle.pcache_table.specs.Sharding.{seats}
+use Rattle.pcache_table.proofs.hashtable.concurrent.ConcurrentLruCache.new.Given as goal
+
+-- the locks below the place are made
+abbrev pub invariant-loop-place : goal.invariant-loop-place
+invariant-loop-place g l = l.lrus.items ≡ seats l.place (max l.shard_capacity 1)

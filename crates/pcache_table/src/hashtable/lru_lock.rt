@@ -1,0 +1,93 @@
+//! One shard that forgets, behind a lock.
+ghost use Rattle.std.specs.Prelude.{◌≡◌, ◌<◌, IfErr, IfOk, max};
+ghost use Rattle.std.specs.Sync.RwLock.{read_guard_value, write_guard_value};
+ghost use Rattle.pcache_base.specs.declared.error.ErrorType.TheVariants.{OutOfMemory};
+
+use crate::hashtable::lru_shard::LruShard;
+use pcache_base::error::Result;
+use std::alloc::Global;
+use std::marker::Model;
+use std::sync::{RwLock, RwLockReadGuard, RwLockWriteGuard, Wait};
+
+/// The lock of one of `N` shards. A contract sees the place and the capacity of its shard.
+///
+/// Of what a lock lends nothing is known but its type. So both stand beside the lock as well, and
+/// a shard is lent only where it says the same itself.
+#[derive(Drop)]
+pub struct LruLock<V, const N: usize> {
+    place: usize,
+    capacity: usize,
+    shard: RwLock<LruShard<V, N>>,
+}
+
+impl<V, const N: usize> Model for LruLock<V, N> {
+    ghost use Rattle.std.specs.Prelude.{◌<◌};
+    ghost use Rattle.pcache_table.specs.Sharding.{Seat};
+
+    ghost Value = { Seat };
+
+    ghost view = { λ l. record { place = l.place; cap = l.capacity } };
+
+    ghost invariant = { λ l. l.place < N };
+}
+
+impl<V: Drop, const N: usize> LruLock<V, N> {
+    /// The lock of an empty shard at a place. A capacity of 0 counts as 1.
+    ///
+    /// It is refused for want of memory alone.
+    pub fn at(alloc: Global, place: usize, capacity: usize) -> Result<LruLock<V, N>>
+        requires { place < N }
+        ensures made { IfOk result (λ l. l ≡ record { place = place; cap = max capacity 1 }) }
+        ensures kind { IfErr result (λ e. e ≡ OutOfMemory) }
+    {
+        let shard = LruShard::at(alloc, place, capacity)?;
+        Ok(LruLock {
+            place,
+            capacity: shard.capacity(),
+            shard: RwLock::new(shard),
+        })
+    }
+
+    /// The place of its shard.
+    pub fn place(&self) -> usize
+        ensures place { result ≡ self.now.place }
+        ensures in_range { self.now.place < N }
+    {
+        self.place
+    }
+
+    /// How many keys its shard may have.
+    pub fn capacity(&self) -> usize
+        ensures { result ≡ self.now.cap }
+    {
+        self.capacity
+    }
+
+    /// Its shard, to be read. It may wait.
+    pub fn read<R: Wait>(&self, rt: &R) -> RwLockReadGuard<'_, LruShard<V, N>>
+        ensures place { (read_guard_value result).place ≡ self.now.place }
+        ensures capacity { (read_guard_value result).cap ≡ self.now.cap }
+    {
+        for _ in rt.forever() {
+            let shard = self.shard.read(rt);
+            if shard.place() == self.place && shard.capacity() == self.capacity {
+                return shard;
+            }
+        }
+        unreachable!()
+    }
+
+    /// Its shard, to be written. It may wait.
+    pub fn write<R: Wait>(&self, rt: &R) -> RwLockWriteGuard<'_, LruShard<V, N>>
+        ensures place { (write_guard_value result).place ≡ self.now.place }
+        ensures capacity { (write_guard_value result).cap ≡ self.now.cap }
+    {
+        for _ in rt.forever() {
+            let shard = self.shard.write(rt);
+            if shard.place() == self.place && shard.capacity() == self.capacity {
+                return shard;
+            }
+        }
+        unreachable!()
+    }
+}

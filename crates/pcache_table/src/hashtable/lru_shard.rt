@@ -1,0 +1,120 @@
+//! One shard of a table that forgets what was used longest ago.
+ghost use Rattle.std.specs.Prelude.{◌≡◌, ◌↔◌, ◌<◌, ◌%◌, IfErr, IfOk, IsTrue, OnErr, OnOk, [], is_some, length, max, nat_eq, option_copied};
+ghost use Rattle.std.specs.Map.{lookup};
+ghost use Rattle.pcache_base.specs.declared.error.ErrorType.TheVariants.{OutOfMemory};
+ghost use Rattle.pcache_table.specs.Sharding.{part_with, part_without};
+
+use lru::LruCache;
+use pcache_base::error::Result;
+use std::alloc::{AllocFailed, Global};
+use std::marker::{Model, PhantomData};
+use std::num::NonZeroUsize;
+
+/// One of `N` shards, which has no keys but its own, and as many as its capacity.
+/// A contract sees its place, its capacity and its entries, the one used last first.
+#[derive(Drop)]
+pub struct LruShard<V, const N: usize> {
+    place: usize,
+    cache: LruCache<u128, V>,
+}
+
+impl<V, const N: usize> Model for LruShard<V, N> {
+    ghost use Rattle.std.specs.Prelude.{◌<◌};
+    ghost use Rattle.pcache_table.specs.Sharding.{LruPart, OwnKeys, lru_part_code};
+
+    ghost Value = { LruPart V };
+
+    ghost coded = { lru_part_code V.code };
+
+    ghost view = { λ s. record { place = s.place; cap = s.cache.cap; entries = s.cache.entries } };
+
+    ghost invariant = { λ s. (s.place < N) × OwnKeys N s.place s.cache.entries };
+}
+
+impl<V: Drop, const N: usize> LruShard<V, N> {
+    /// An empty shard at a place. A capacity of 0 counts as 1.
+    ///
+    /// It is refused for want of memory alone.
+    pub fn at(alloc: Global, place: usize, capacity: usize) -> Result<LruShard<V, N>>
+        requires { place < N }
+        ensures made { IfOk result (λ s. s ≡ record { place = place; cap = max capacity 1; entries = [] }) }
+        ensures kind { IfErr result (λ e. e ≡ OutOfMemory) }
+    {
+        let capacity = capacity.max(1);
+        let Some(capacity) = NonZeroUsize::new(capacity) else {
+            unreachable!()
+        };
+        Ok(LruShard {
+            place,
+            cache: LruCache::sparse(alloc, capacity)?,
+        })
+    }
+
+    /// Its place among the shards.
+    pub fn place(&self) -> usize
+        ensures place { result ≡ self.now.place }
+        ensures in_range { self.now.place < N }
+    {
+        self.place
+    }
+
+    /// How many keys it may have.
+    pub fn capacity(&self) -> usize
+        ensures { result ≡ self.now.cap }
+    {
+        self.cache.cap().get()
+    }
+
+    /// Whether a key is one of its own.
+    pub fn belongs(&self, key: u128) -> bool
+        ensures { IsTrue result ↔ (key % N ≡ self.now.place) }
+    {
+        let place = self.place;
+        (key % N as u128) as usize == place
+    }
+
+    /// How many keys it has.
+    pub fn len(&self) -> usize
+        ensures { result ≡ length self.now.entries }
+    {
+        self.cache.len()
+    }
+
+    /// The value at a key, which counts as no use.
+    pub fn peek(&self, key: u128) -> Option<&V>
+        ensures { option_copied result ≡ lookup (nat_eq key) self.now.entries }
+    {
+        self.cache.peek(&key)
+    }
+
+    /// Whether it has a key, which counts as no use.
+    pub fn contains(&self, key: u128) -> bool
+        ensures { result ≡ is_some (lookup (nat_eq key) self.now.entries) }
+    {
+        self.cache.contains(&key)
+    }
+
+    /// Sets the value at a key of its own and puts it in front; of a full shard the last key goes.
+    /// It answers the value before.
+    pub fn put(
+        &mut self,
+        key: u128,
+        value: V,
+    ) -> std::result::Result<Option<V>, AllocFailed<(u128, V)>>
+        requires { key % N ≡ self.old.place }
+        ensures before { IfOk result (λ old. old ≡ lookup (nat_eq key) self.old.entries) }
+        ensures ok { OnOk result (self.new ≡ part_with key value self.old) }
+        ensures err { OnErr result (self.new ≡ self.old) }
+        ensures value_returned { IfErr result (λ y. y.value ≡ (key, value)) }
+    {
+        self.cache.put(key, value)
+    }
+
+    /// Takes a key out, and answers its value.
+    pub fn pop(&mut self, key: u128) -> Option<V>
+        ensures before { result ≡ lookup (nat_eq key) self.old.entries }
+        ensures gone { self.new ≡ part_without key self.old }
+    {
+        self.cache.pop(&key)
+    }
+}

@@ -1,0 +1,88 @@
+//! Tables in shards that forget what was used longest ago.
+ghost use Rattle.std.specs.Prelude.{◌≡◌, ◌<◌, ◌%◌, IfErr, IfOk, OnErr, OnOk, max, nat_eq, option_copied, slice_set};
+ghost use Rattle.std.specs.Map.{lookup};
+ghost use Rattle.pcache_base.specs.declared.error.ErrorType.TheVariants.{OutOfMemory};
+ghost use Rattle.pcache_table.specs.Sharding.{fresh_lists, list_at, part_with, part_without};
+
+use crate::hashtable::lru_shard::LruShard;
+use pcache_base::error::Result;
+use std::alloc::{AllocFailed, Global};
+use std::marker::Model;
+
+/// `N` shards, each of which forgets what was used longest ago. A contract sees the list of them.
+#[derive(Drop)]
+pub struct LruShards<V, const N: usize> {
+    shards: Vec<LruShard<V, N>>,
+}
+
+impl<V, const N: usize> Model for LruShards<V, N> {
+    ghost use Rattle.std.specs.Prelude.{List, ◌<◌, ◌≡◌, length};
+    ghost use Rattle.pcache_table.specs.Sharding.{AllInPlace, LruPart};
+
+    ghost Value = { List (LruPart V) };
+
+    ghost view = { λ a. a.shards.items };
+
+    ghost invariant = { λ a. (0 < N) × (length a.shards.items ≡ N) × AllInPlace N a.shards.items };
+}
+
+impl<V: Drop, const N: usize> LruShards<V, N> {
+    /// `N` empty shards, each for as many keys as the capacity. A capacity of 0 counts as 1.
+    ///
+    /// It is refused for want of memory alone.
+    pub fn new(alloc: Global, shard_capacity: usize) -> Result<LruShards<V, N>>
+        requires { 0 < N }
+        ensures made { IfOk result (λ s. s ≡ fresh_lists N (max shard_capacity 1)) }
+        ensures kind { IfErr result (λ e. e ≡ OutOfMemory) }
+    {
+        let mut shards = Vec::new(alloc);
+        for place in 0..N {
+            shards.push(LruShard::at(alloc, place, shard_capacity)?)?;
+        }
+        Ok(LruShards { shards })
+    }
+
+    /// The shard of a key.
+    pub fn get(&self, key: u128) -> &LruShard<V, N>
+        ensures { result.now ≡ list_at self.now (key % N) }
+    {
+        let shards = &self.shards;
+        &shards[(key % N as u128) as usize]
+    }
+
+    /// The value at a key, which counts as no use.
+    pub fn peek(&self, key: u128) -> Option<&V>
+        ensures { option_copied result ≡ lookup (nat_eq key) (list_at self.now (key % N)).entries }
+    {
+        self.get(key).peek(key)
+    }
+
+    /// Sets the value at a key and puts it in front of its shard; of a full shard the last key
+    /// goes. It answers the value before.
+    pub fn put(
+        &mut self,
+        key: u128,
+        value: V,
+    ) -> std::result::Result<Option<V>, AllocFailed<(u128, V)>>
+        ensures before { IfOk result (λ old. old ≡ lookup (nat_eq key) (list_at self.old (key % N)).entries) }
+        ensures ok { OnOk result (self.new ≡ slice_set self.old (key % N) (part_with key value (list_at self.old (key % N)))) }
+        ensures err { OnErr result (self.new ≡ self.old) }
+        ensures value_returned { IfErr result (λ y. y.value ≡ (key, value)) }
+    {
+        let _ = &self.shards;
+        let place = (key % N as u128) as usize;
+        let shard = &mut self.shards[place];
+        shard.put(key, value)
+    }
+
+    /// Takes a key out, and answers its value.
+    pub fn pop(&mut self, key: u128) -> Option<V>
+        ensures before { result ≡ lookup (nat_eq key) (list_at self.old (key % N)).entries }
+        ensures gone { self.new ≡ slice_set self.old (key % N) (part_without key (list_at self.old (key % N))) }
+    {
+        let _ = &self.shards;
+        let place = (key % N as u128) as usize;
+        let shard = &mut self.shards[place];
+        shard.pop(key)
+    }
+}
