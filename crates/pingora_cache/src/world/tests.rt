@@ -129,22 +129,45 @@ fn check(
     Ok(())
 }
 
-// Makes calls whose condition is not met: each answers so, and nothing else is changed.
-fn refuses(
+// Makes the calls of a table one by one. A call whose condition is not met changes no number.
+fn step_by_step(
     rt: &impl Abort,
     alloc: Global,
     world: &mut World<Manager>,
-    wrong: &[Step],
+    rows: &[(Step, &str)],
 ) -> std::result::Result<(), Fail> {
-    let before = numbers(alloc, world)?;
-    for (at, step) in wrong.iter().enumerate() {
+    for (at, (step, wanted)) in rows.iter().enumerate() {
+        let before = numbers(alloc, world)?;
         let reply = world.step(call_of(alloc, *step)?)?;
-        assert!(rt; matches!(reply, Reply::WrongCall), "at {at}");
-        let now = numbers(alloc, world)?;
-        assert_eq!(rt; now.as_str(), before.as_str(), "at {at}");
+        let told = format!(in alloc; "{reply:?}")?;
+        assert_eq!(rt; told.as_str(), *wanted, "at {at}");
+        if matches!(reply, Reply::WrongCall) {
+            let now = numbers(alloc, world)?;
+            assert_eq!(rt; now.as_str(), before.as_str(), "at {at}");
+        }
     }
     Ok(())
 }
+
+// Makes the calls of two tables on a new world, all of a table in one run, and on another world one
+// by one. Answers the numbers at the end. Both worlds go with what is still open in them.
+fn play(
+    rt: &impl Abort,
+    alloc: Global,
+    limit: usize,
+    first: &[(Step, &str)],
+    rows: &[(Step, &str)],
+) -> std::result::Result<String, Fail> {
+    let mut world = world_of(alloc, limit)?;
+    check(rt, alloc, &mut world, first)?;
+    check(rt, alloc, &mut world, rows)?;
+    let mut other = world_of(alloc, limit)?;
+    step_by_step(rt, alloc, &mut other, first)?;
+    step_by_step(rt, alloc, &mut other, rows)?;
+    Ok(numbers(alloc, &world)?)
+}
+
+const WRONG: &str = "WrongCall";
 
 const FILLED: [(Step, &'static str); 8] = [
     (Open(1), "Done"),
@@ -157,174 +180,180 @@ const FILLED: [(Step, &'static str); 8] = [
     (Finish(1), "Stored { size: 2, evicted: 0 }"),
 ];
 
+// A number that was closed is that of no request.
 #[test]
 fn calls_of_no_request(rt: HostRuntime) -> std::result::Result<(), Fail> {
-    let mut world = world_of(rt.alloc(), 9)?;
-    let wrong = [
-        Key(1, "k"),
-        Look(1),
-        Found(1, HitStatus::Fresh),
-        Miss(1),
-        Meta(1),
-        Begin(1),
-        Write(1, "a"),
-        Finish(1),
-        Read(1),
-        Purge(1),
-        End(1),
+    let rows = [
+        (Key(1, "k"), WRONG),
+        (Look(1), WRONG),
+        (Found(1, HitStatus::Fresh), WRONG),
+        (Miss(1), WRONG),
+        (Meta(1), WRONG),
+        (Begin(1), WRONG),
+        (Write(1, "a"), WRONG),
+        (Finish(1), WRONG),
+        (Read(1), WRONG),
+        (Purge(1), WRONG),
+        (End(1), WRONG),
+        (Open(1), "Done"),
+        (End(1), "Done"),
+        (Key(1, "k"), WRONG),
+        (Look(1), WRONG),
+        (Found(1, HitStatus::Fresh), WRONG),
+        (Miss(1), WRONG),
+        (Meta(1), WRONG),
+        (Begin(1), WRONG),
+        (Write(1, "a"), WRONG),
+        (Finish(1), WRONG),
+        (Read(1), WRONG),
+        (Purge(1), WRONG),
+        (End(1), WRONG),
+        (Open(1), "Done"),
     ];
-    refuses(&rt, rt.alloc(), &mut world, &wrong)?;
-    // a number that was closed is that of no request
-    let rows = [(Open(1), "Done"), (End(1), "Done")];
-    check(&rt, rt.alloc(), &mut world, &rows)?;
-    refuses(&rt, rt.alloc(), &mut world, &wrong)?;
-    check(&rt, rt.alloc(), &mut world, &[(Open(1), "Done")])
+    play(&rt, rt.alloc(), 9, &[], &rows)?;
+    Ok(())
 }
 
 #[test]
 fn calls_before_the_key(rt: HostRuntime) -> std::result::Result<(), Fail> {
-    let mut world = world_of(rt.alloc(), 9)?;
-    check(&rt, rt.alloc(), &mut world, &[(Open(1), "Done")])?;
-    let wrong = [
-        Open(1),
-        Look(1),
-        Found(1, HitStatus::Fresh),
-        Miss(1),
-        Meta(1),
-        Begin(1),
-        Write(1, "a"),
-        Finish(1),
-        Read(1),
-        Purge(1),
+    let rows = [
+        (Open(1), "Done"),
+        (Open(1), WRONG),
+        (Look(1), WRONG),
+        (Found(1, HitStatus::Fresh), WRONG),
+        (Miss(1), WRONG),
+        (Meta(1), WRONG),
+        (Begin(1), WRONG),
+        (Write(1, "a"), WRONG),
+        (Finish(1), WRONG),
+        (Read(1), WRONG),
+        (Purge(1), WRONG),
+        (Key(1, "k"), "Done"),
     ];
-    refuses(&rt, rt.alloc(), &mut world, &wrong)?;
-    check(&rt, rt.alloc(), &mut world, &[(Key(1, "k"), "Done")])
+    play(&rt, rt.alloc(), 9, &[], &rows)?;
+    Ok(())
 }
 
+// Where nothing was found, there is nothing to be taken.
 #[test]
 fn calls_behind_the_key(rt: HostRuntime) -> std::result::Result<(), Fail> {
-    let mut world = world_of(rt.alloc(), 9)?;
-    let rows = [(Open(1), "Done"), (Key(1, "k"), "Done")];
-    check(&rt, rt.alloc(), &mut world, &rows)?;
-    let wrong = [
-        Open(1),
-        Found(1, HitStatus::Fresh),
-        Meta(1),
-        Begin(1),
-        Write(1, "a"),
-        Finish(1),
-        Read(1),
+    let rows = [
+        (Open(1), "Done"),
+        (Key(1, "k"), "Done"),
+        (Open(1), WRONG),
+        (Found(1, HitStatus::Fresh), WRONG),
+        (Meta(1), WRONG),
+        (Begin(1), WRONG),
+        (Write(1, "a"), WRONG),
+        (Finish(1), WRONG),
+        (Read(1), WRONG),
+        (Key(1, "l"), "Done"),
+        (Look(1), "NotFound(Some(Write))"),
+        (Open(1), WRONG),
+        (Found(1, HitStatus::Fresh), WRONG),
+        (Meta(1), WRONG),
+        (Begin(1), WRONG),
+        (Write(1, "a"), WRONG),
+        (Finish(1), WRONG),
+        (Read(1), WRONG),
+        (Purge(1), "Absent"),
     ];
-    refuses(&rt, rt.alloc(), &mut world, &wrong)?;
-    // nor is there anything to be taken where nothing was found
-    let rows = [(Key(1, "l"), "Done"), (Look(1), "NotFound(Some(Write))")];
-    check(&rt, rt.alloc(), &mut world, &rows)?;
-    refuses(&rt, rt.alloc(), &mut world, &wrong)?;
-    check(&rt, rt.alloc(), &mut world, &[(Purge(1), "Absent")])
+    play(&rt, rt.alloc(), 9, &[], &rows)?;
+    Ok(())
 }
 
+// There is one write at a time, and nothing behind its last bytes.
 #[test]
 fn calls_of_a_miss(rt: HostRuntime) -> std::result::Result<(), Fail> {
-    let mut world = world_of(rt.alloc(), 9)?;
     let rows = [
         (Open(1), "Done"),
         (Key(1, "k"), "Done"),
         (Look(1), "NotFound(Some(Write))"),
         (Miss(1), "Done"),
-    ];
-    check(&rt, rt.alloc(), &mut world, &rows)?;
-    let wrong = [
-        Open(1),
-        Key(1, "k"),
-        Look(1),
-        Found(1, HitStatus::Fresh),
-        Miss(1),
-        Purge(1),
-    ];
-    refuses(&rt, rt.alloc(), &mut world, &wrong)?;
-    let without_a_write = [Begin(1), Write(1, "a"), Read(1)];
-    refuses(&rt, rt.alloc(), &mut world, &without_a_write)?;
-    let rows = [
+        (Open(1), WRONG),
+        (Key(1, "k"), WRONG),
+        (Look(1), WRONG),
+        (Found(1, HitStatus::Fresh), WRONG),
+        (Miss(1), WRONG),
+        (Purge(1), WRONG),
+        (Begin(1), WRONG),
+        (Write(1, "a"), WRONG),
+        (Read(1), WRONG),
         (Finish(1), "Nothing"),
         (Meta(1), "Done"),
         (Begin(1), "Done"),
         (Read(1), "Pending"),
         (WriteLast(1, "ab"), "Done"),
-    ];
-    check(&rt, rt.alloc(), &mut world, &rows)?;
-    refuses(&rt, rt.alloc(), &mut world, &wrong)?;
-    // one write at a time, and nothing behind its last bytes
-    refuses(&rt, rt.alloc(), &mut world, &[Begin(1), Write(1, "c")])?;
-    let rows = [
+        (Open(1), WRONG),
+        (Key(1, "k"), WRONG),
+        (Look(1), WRONG),
+        (Found(1, HitStatus::Fresh), WRONG),
+        (Miss(1), WRONG),
+        (Purge(1), WRONG),
+        (Begin(1), WRONG),
+        (Write(1, "c"), WRONG),
         (Finish(1), "Stored { size: 2, evicted: 0 }"),
         (Finish(1), "Nothing"),
+        (Open(1), WRONG),
+        (Key(1, "k"), WRONG),
+        (Look(1), WRONG),
+        (Found(1, HitStatus::Fresh), WRONG),
+        (Miss(1), WRONG),
+        (Purge(1), WRONG),
+        (Write(1, "c"), WRONG),
     ];
-    check(&rt, rt.alloc(), &mut world, &rows)?;
-    refuses(&rt, rt.alloc(), &mut world, &wrong)?;
-    refuses(&rt, rt.alloc(), &mut world, &[Write(1, "c")])
+    play(&rt, rt.alloc(), 9, &[], &rows)?;
+    Ok(())
 }
 
 #[test]
 fn calls_of_a_hit(rt: HostRuntime) -> std::result::Result<(), Fail> {
-    let mut world = world_of(rt.alloc(), 9)?;
-    check(&rt, rt.alloc(), &mut world, &FILLED)?;
     let rows = [
         (Open(2), "Done"),
         (Key(2, "k"), "Done"),
         (Look(2), "Hit(2)"),
         (Found(2, HitStatus::Fresh), "Taken(Hit, None)"),
+        (Open(2), WRONG),
+        (Key(2, "k"), WRONG),
+        (Look(2), WRONG),
+        (Found(2, HitStatus::Fresh), WRONG),
+        (Miss(2), WRONG),
+        (Meta(2), WRONG),
+        (Begin(2), WRONG),
+        (Write(2, "a"), WRONG),
+        (Finish(2), WRONG),
+        (Purge(2), WRONG),
+        (Read(2), "Data(b\"ab\")"),
+        (Read(2), "Finished"),
     ];
-    check(&rt, rt.alloc(), &mut world, &rows)?;
-    let wrong = [
-        Open(2),
-        Key(2, "k"),
-        Look(2),
-        Found(2, HitStatus::Fresh),
-        Miss(2),
-        Meta(2),
-        Begin(2),
-        Write(2, "a"),
-        Finish(2),
-        Purge(2),
-    ];
-    refuses(&rt, rt.alloc(), &mut world, &wrong)?;
-    let rows = [(Read(2), "Data(b\"ab\")"), (Read(2), "Finished")];
-    check(&rt, rt.alloc(), &mut world, &rows)
+    play(&rt, rt.alloc(), 9, &FILLED, &rows)?;
+    Ok(())
 }
 
 #[test]
 fn calls_of_a_stale_hit(rt: HostRuntime) -> std::result::Result<(), Fail> {
-    let mut world = world_of(rt.alloc(), 9)?;
-    check(&rt, rt.alloc(), &mut world, &FILLED)?;
     let rows = [
         (Open(2), "Done"),
         (Key(2, "k"), "Done"),
         (Look(2), "Hit(2)"),
         (Found(2, HitStatus::Expired), "Taken(Stale, Some(Write))"),
-    ];
-    check(&rt, rt.alloc(), &mut world, &rows)?;
-    let wrong = [
-        Open(2),
-        Key(2, "k"),
-        Found(2, HitStatus::Fresh),
-        Begin(2),
-        Write(2, "a"),
-        Finish(2),
-        Purge(2),
-    ];
-    refuses(&rt, rt.alloc(), &mut world, &wrong)?;
-    let rows = [
+        (Open(2), WRONG),
+        (Key(2, "k"), WRONG),
+        (Found(2, HitStatus::Fresh), WRONG),
+        (Begin(2), WRONG),
+        (Write(2, "a"), WRONG),
+        (Finish(2), WRONG),
+        (Purge(2), WRONG),
         (Read(2), "Data(b\"ab\")"),
         (Look(2), "Hit(2)"),
         (Found(2, HitStatus::ForceFresh), "Taken(Hit, None)"),
     ];
-    check(&rt, rt.alloc(), &mut world, &rows)
+    play(&rt, rt.alloc(), 9, &FILLED, &rows)?;
+    Ok(())
 }
 
 #[test]
 fn a_hit_that_is_passed_over(rt: HostRuntime) -> std::result::Result<(), Fail> {
-    let mut world = world_of(rt.alloc(), 9)?;
-    check(&rt, rt.alloc(), &mut world, &FILLED)?;
     let rows = [
         (Open(2), "Done"),
         (Key(2, "k"), "Done"),
@@ -333,23 +362,15 @@ fn a_hit_that_is_passed_over(rt: HostRuntime) -> std::result::Result<(), Fail> {
             Found(2, HitStatus::ForceMiss),
             "Taken(CacheKey, Some(Write))",
         ),
-    ];
-    check(&rt, rt.alloc(), &mut world, &rows)?;
-    refuses(
-        &rt,
-        rt.alloc(),
-        &mut world,
-        &[Read(2), Found(2, HitStatus::Fresh)],
-    )?;
-    let rows = [
+        (Read(2), WRONG),
+        (Found(2, HitStatus::Fresh), WRONG),
         (Miss(2), "Done"),
         (Meta(2), "Done"),
         (Begin(2), "Done"),
         (Write(2, "abc"), "Done"),
         (Finish(2), "Stored { size: 3, evicted: 0 }"),
     ];
-    check(&rt, rt.alloc(), &mut world, &rows)?;
-    let told = numbers(rt.alloc(), &world)?;
+    let told = play(&rt, rt.alloc(), 9, &FILLED, &rows)?;
     let wanted =
         "3 in 1, Totals { weight: 3, items: 1, evicted_weight: 0, evicted_items: 0 }, 0 before";
     assert_eq!(rt; told.as_str(), wanted);
@@ -359,10 +380,9 @@ fn a_hit_that_is_passed_over(rt: HostRuntime) -> std::result::Result<(), Fail> {
 // The second waits for the first's permit; once the write can be read, a third follows it.
 #[test]
 fn one_permit_at_a_time(rt: HostRuntime) -> std::result::Result<(), Fail> {
-    let mut world = world_of(rt.alloc(), 9)?;
     let rows = [
         (Open(1), "Done"),
-        (Open(1), "WrongCall"),
+        (Open(1), WRONG),
         (Key(1, "k"), "Done"),
         (Look(1), "NotFound(Some(Write))"),
         (Open(2), "Done"),
@@ -381,12 +401,12 @@ fn one_permit_at_a_time(rt: HostRuntime) -> std::result::Result<(), Fail> {
         (Read(3), "Finished"),
         (Finish(1), "Stored { size: 3, evicted: 0 }"),
     ];
-    check(&rt, rt.alloc(), &mut world, &rows)
+    play(&rt, rt.alloc(), 9, &[], &rows)?;
+    Ok(())
 }
 
 #[test]
 fn a_purge_while_a_write_is_in_flight(rt: HostRuntime) -> std::result::Result<(), Fail> {
-    let mut world = world_of(rt.alloc(), 9)?;
     let rows = [
         (Open(1), "Done"),
         (Key(1, "k"), "Done"),
@@ -414,12 +434,12 @@ fn a_purge_while_a_write_is_in_flight(rt: HostRuntime) -> std::result::Result<()
         (Read(4), "Data(b\"yy\")"),
         (Read(4), "Finished"),
     ];
-    check(&rt, rt.alloc(), &mut world, &rows)
+    play(&rt, rt.alloc(), 9, &[], &rows)?;
+    Ok(())
 }
 
 #[test]
 fn a_reader_follows_a_purged_write(rt: HostRuntime) -> std::result::Result<(), Fail> {
-    let mut world = world_of(rt.alloc(), 9)?;
     let rows = [
         (Open(1), "Done"),
         (Key(1, "k"), "Done"),
@@ -445,14 +465,13 @@ fn a_reader_follows_a_purged_write(rt: HostRuntime) -> std::result::Result<(), F
         (Key(4, "k"), "Done"),
         (Look(4), "NotFound(Some(Write))"),
     ];
-    check(&rt, rt.alloc(), &mut world, &rows)
+    play(&rt, rt.alloc(), 9, &[], &rows)?;
+    Ok(())
 }
 
 // Two bodies of 2 are more than 3: the older goes, and is no longer found.
 #[test]
 fn the_older_body_goes(rt: HostRuntime) -> std::result::Result<(), Fail> {
-    let mut world = world_of(rt.alloc(), 3)?;
-    check(&rt, rt.alloc(), &mut world, &FILLED)?;
     let rows = [
         (Open(2), "Done"),
         (Key(2, "l"), "Done"),
@@ -472,8 +491,7 @@ fn the_older_body_goes(rt: HostRuntime) -> std::result::Result<(), Fail> {
         (Read(3), "Data(b\"cd\")"),
         (Read(3), "Finished"),
     ];
-    check(&rt, rt.alloc(), &mut world, &rows)?;
-    let told = numbers(rt.alloc(), &world)?;
+    let told = play(&rt, rt.alloc(), 3, &FILLED, &rows)?;
     let wanted =
         "2 in 1, Totals { weight: 2, items: 1, evicted_weight: 2, evicted_items: 1 }, 0 before";
     assert_eq!(rt; told.as_str(), wanted);
@@ -505,7 +523,6 @@ fn a_manager_that_held_something(rt: HostRuntime) -> std::result::Result<(), Fai
 // A write, a permit, a reader and a pair that was not taken are given back with the world.
 #[test]
 fn a_world_goes_with_open_requests(rt: HostRuntime) -> std::result::Result<(), Fail> {
-    let mut world = world_of(rt.alloc(), 9)?;
     let rows = [
         (Open(1), "Done"),
         (Key(1, "k"), "Done"),
@@ -522,7 +539,6 @@ fn a_world_goes_with_open_requests(rt: HostRuntime) -> std::result::Result<(), F
         (Look(3), "NotFound(Some(Write))"),
         (Open(4), "Done"),
     ];
-    check(&rt, rt.alloc(), &mut world, &rows)?;
-    drop(world);
+    play(&rt, rt.alloc(), 9, &[], &rows)?;
     Ok(())
 }
