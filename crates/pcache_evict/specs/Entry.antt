@@ -5,11 +5,12 @@ use Rattle.std.specs.declared.cmp.Ordering.TheVariants.{Equal}
 use Rattle.std.specs.Ordering.{nat_cmp, bool_cmp, ordering_then, eq_by_cmp}
 use Rattle.std.specs.Option.{option_eq, option_cmp}
 use Rattle.std.specs.Hash as fed
-use Rattle.std.specs.Hash.{HashWrites, Alike}
+use Rattle.std.specs.Hash.{HashWrites, Alike, and-Alike, on_Alike, same_Alike}
+use Rattle.pcache_base.specs.Key.{number_of}
 use Rattle.std.specs.Cmp.{IsEquivalence, IsTotalOrder, IsPartialOrder, and_equiv, on_equiv, nat_eq_equiv, nat_cmp_total, bool_cmp_total, on_total, then_total, both_tied, unsigned_ties, partial_order_from_agreeing_total}
 use Rattle.std.specs.Cmp.Rules.{hashing}
 use Rattle.std.proofs.Common.{rules}
-use Rattle.std.specs.Cmp.Lexicographic.{pointwise, slice_cmp, options_equiv, options_total, nat_list_eq_equiv, nat_list_cmp_total, texts_ties}
+use Rattle.std.specs.Cmp.Lexicographic.{pointwise, bytes_decides, slice_cmp, options_equiv, options_total, nat_list_eq_equiv, nat_list_cmp_total, texts_ties}
 use Rattle.pcache_base.specs.declared.key.CompactCacheKey.{CompactCacheKey}
 use Rattle.pcache_evict.specs.declared.eviction.entry_key.CacheEntryKey.{CacheEntryKey}
 use Rattle.pcache_evict.specs.declared.eviction.entry_key.CacheEntryKey.TheVariants.{KeyOnly, Identified}
@@ -51,13 +52,16 @@ entry_equiv = and_equiv (on_equiv key_of compact_equiv) (on_equiv id_of (options
 
 -- what a hasher is fed: the key's parts, then the number
 abbrev pub compact_writes : CompactCacheKey → HashWrites
-compact_writes k = fed.slice fed.u8 k.primary ++ fed.option (fed.slice fed.u8) k.variance ++ fed.str k.user_tag
+compact_writes k = fed.u128 (number_of k.primary) ++ fed.option (fed.slice fed.u8) k.variance ++ fed.str k.user_tag
 
 abbrev pub entry_writes : CacheEntryKey → HashWrites
 entry_writes e = compact_writes (key_of e) ++ fed.option fed.u64 (id_of e)
 
+compact_alike : Alike compact_eq compact_writes
+compact_alike = and-Alike (on_Alike (λ (k : CompactCacheKey). k.primary) (same_Alike (λ p. fed.u128 (number_of p)) bytes_decides)) (search (hashing, rules))
+
 pub entry_alike : Alike entry_eq entry_writes
-entry_alike = search (hashing, rules)
+entry_alike = and-Alike (on_Alike key_of compact_alike) (search (hashing, rules))
 
 -- ---- the order is total, and `==` is a tie in it
 

@@ -1,10 +1,11 @@
 //! The keys of entries that eviction managers know.
 ghost use Rattle.std.specs.Prelude.{◌≡◌, ℕ, IfOk, IfErr, None, Some, refl};
 ghost use Rattle.std.specs.Cmp.{partial_equiv_from_equiv};
+ghost use Rattle.pcache_base.specs.Key.{number_of};
 ghost use Rattle.pcache_base.specs.declared.error.ErrorType.TheVariants.{OutOfMemory};
 
 use pcache_base::error::Result;
-use pcache_base::key::CompactCacheKey;
+use pcache_base::key::{CompactCacheKey, HashBinary};
 use std::cmp::Ordering;
 use std::fmt;
 use std::hash::{Hash, Hasher};
@@ -54,6 +55,14 @@ pub enum CacheEntryKey {
         /// Which of the key's entries it is.
         id: CacheEntryId,
     },
+}
+
+// The primary hash as a number, which a hasher takes in one step.
+#[tactic(auto, unfolding(pcache_base::specs::Key::number_of))]
+fn number(hash: HashBinary) -> u128
+    ensures { result ≡ number_of hash }
+{
+    u128::from_be_bytes(hash)
 }
 
 impl CacheEntryKey {
@@ -155,7 +164,10 @@ impl Hash for CacheEntryKey {
     ghost respects_eq = { entry_alike.fed };
 
     fn hash<H: Hasher>(&self, state: &mut H) {
-        self.key().hash(state);
+        let key = self.key();
+        number(key.primary).hash(state);
+        key.variance.hash(state);
+        key.user_tag.hash(state);
         self.entry_id().hash(state);
     }
 }
@@ -319,7 +331,9 @@ impl<'a> Hash for CacheEntryKeyRef<'a> {
 
     fn hash<H: Hasher>(&self, state: &mut H) {
         let (key, id) = self.parts();
-        key.hash(state);
+        number(key.primary).hash(state);
+        key.variance.hash(state);
+        key.user_tag.hash(state);
         id.hash(state);
     }
 }

@@ -75,6 +75,18 @@ impl RecencyList {
         ensures err { OnErr result (self.new ≡ self.old) }
     {
         let rest = self.others(&item).0;
+        self.put_beside(item, size, rest)
+    }
+
+    /// The same, where it is known what the other entries weigh.
+    pub(super) fn put_beside(&mut self, item: CacheEntryKey, size: usize, rest: u128) -> Result<()>
+        requires sum { rest ≡ weight (others item self.old) }
+        requires fits { rest + 2 ^ 64 < 2 ^ 128 }
+        ensures ok { OnOk result (self.new ≡ moved item size self.old) }
+        ensures once { IsOnce self.new }
+        ensures kind { IfErr result (λ e. e ≡ OutOfMemory) }
+        ensures err { OnErr result (self.new ≡ self.old) }
+    {
         self.cache.put(item, size)?;
         self.cache.len();
         self.weight = rest + size as u128;
@@ -146,10 +158,14 @@ impl RecencyList {
         size: usize,
         limit: usize,
         watermark: Option<usize>,
+        rest: (u128, usize),
     ) -> usize
+        requires sum { rest.0 ≡ weight (others item.now self.now) }
+        requires sum_fits { rest.0 + 2 ^ 64 < 2 ^ 128 }
+        requires count { rest.1 ≡ length (others item.now self.now) }
+        requires count_fits { rest.1 < 2 ^ 63 }
         ensures { IsEnough (limits_of limit watermark) (moved item.now size self.now) result }
     {
-        let rest = self.others(item);
         let mut sum = rest.0 + size as u128;
         let mut count = rest.1 + 1;
         let mut left = self.cache.iter();
@@ -192,7 +208,7 @@ impl RecencyList {
     }
 
     /// The weight and the number of the other entries.
-    fn others(&self, item: &CacheEntryKey) -> (u128, usize)
+    pub(super) fn others(&self, item: &CacheEntryKey) -> (u128, usize)
         ensures sum { result.0 ≡ weight (others item.now self.now) }
         ensures sum_fits { result.0 + 2 ^ 64 < 2 ^ 128 }
         ensures count { result.1 ≡ length (others item.now self.now) }

@@ -199,9 +199,10 @@ impl Manager {
         ensures kind { IfErr result (λ e. e ≡ OutOfMemory) }
         ensures err { OnErr result (self.new ≡ self.old) }
     {
-        let room = self.list.room_for(&item, size, self.limit, self.watermark);
+        let rest = self.list.others(&item);
+        let room = self.list.room_for(&item, size, self.limit, self.watermark, rest);
         let mut out = Vec::with_capacity(self.alloc, room)?;
-        self.list.put(item, size)?;
+        self.list.put_beside(item, size, rest.0)?;
         let gone = self.list.evict(self.limit, self.watermark, &mut out);
         self.evicted_size = self.evicted_size.saturating_add(gone);
         self.evicted_items = self.evicted_items.saturating_add(out.len());

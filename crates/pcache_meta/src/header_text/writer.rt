@@ -76,7 +76,7 @@ fn write_header(alloc: Global, header: &ResponseHeader) -> Result<Vec<u8>>
 {
     // What is true of each map.
     let _values = header.headers.len();
-    let mut out = Vec::new(alloc);
+    let mut out = Vec::with_capacity(alloc, 512)?;
     put_status_line(&mut out, header.version, header.status)?;
     put_fields(&mut out, &header.headers)?;
     Ok(out)

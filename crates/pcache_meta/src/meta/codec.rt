@@ -217,7 +217,7 @@ fn write_internal(alloc: Global, meta: &InternalMetaV2) -> Result<Vec<u8>>
     ensures range { OnOk result (IsInternal meta.now) }
     ensures kind { IfErr result (λ e. e ≡ OutOfMemory) }
 {
-    let mut out = Vec::new(alloc);
+    let mut out = Vec::with_capacity(alloc, 64)?;
     put_array(&mut out, if meta.provenance.is_some() { 9 } else { 8 })?;
     out.push(InternalMetaV2::VERSION)?;
     put_moment(&mut out, meta.fresh_until)?;
