@@ -12,10 +12,11 @@ use Rattle.pcache_base.specs.Fills.{first_match}
 use Rattle.pcache_lock.specs.declared.lock.outcome.Stage.{Stage}
 use Rattle.pcache_lock.specs.declared.lock.outcome.Stage.TheVariants as stage
 use Rattle.pcache_lock.specs.declared.lock.status.LockStatus.{LockStatus}
-use Rattle.pcache_lock.specs.Statuses.{is_waiting, is_aged}
-use Rattle.pcache_lock.specs.Permits.{Core, is_named, with_reader, without_reader, spent, released_status, dropped_status}
-use Rattle.pcache_lock.specs.Locks.{Locks, with_read_lock, without_entry, kept, left, released_on, permit_dropped, reader_dropped, changed}
+use Rattle.pcache_lock.specs.Statuses.{IsReason, is_waiting, is_aged}
+use Rattle.pcache_lock.specs.Permits.{Core, fresh_core, is_named, with_reader, without_reader, spent, released_status, dropped_status}
+use Rattle.pcache_lock.specs.Locks.{Locks, with_read_lock, without_entry, kept, left, released_on, permit_dropped, reader_dropped, changed, ended}
 use Rattle.pcache_lock.specs.Waiting.{after_poll, table_at, stage_of, is_old, aged, with_publication, first_told}
+use Rattle.pcache_lock.proofs.Calls.{reason_ends}
 use Rattle.pcache_lock.specs.Waits.{waiting_slot, waits_under, is_old_at, WaitsUntilItsEnd, LooksAtEachPublication}
 
 through : {A B : Type 0} (f : A → B) (b : Bool) (x y : A) → f (cond b x y) ≡ cond b (f x) (f y)
@@ -106,6 +107,12 @@ polled_at : (t : Locks) (now m n : ℕ) (o : Option Core) → waits_under (after
 polled_at t now m n None = and_false (n == m) None (waits_under t n)
 polled_at t now m n (Some c) = polled_by (stage_of now c) t m c n
 
+unlocked_at : (t : Locks) (m : ℕ) (reason : LockStatus) (n : ℕ) (o : Option Core) → get t.cores m ≡ o → IsReason reason → waits_under (record t { cores = changed (ended reason) t.cores m o }) n ≡ cond (n == m) None (waits_under t n)
+unlocked_at t m reason n None e r = unknown t m n e
+unlocked_at t m reason n (Some c) e r =
+    at_insert t m (ended reason c) n
+    ∙ ap (λ o. cond (n == m) o (waits_under t n)) (ap (λ b. cond (c.held && b) c.slot None) (reason_ends reason r) ∙ never_waits c.held c.slot)
+
 pub waits_until_its_end : WaitsUntilItsEnd
 waits_until_its_end = record {
   asking = λ t slot stale now n. at_insert t t.next _ n;
@@ -115,6 +122,9 @@ waits_until_its_end = record {
   leaving = λ t r n. left_at t r.number n (get t.cores r.number) refl;
   polling = λ t now m n. polled_at t now m n (get t.cores m);
   publishing = λ t m tokens n. published_at t m tokens n (get t.cores m) refl;
+  making = λ t age stale now n. at_insert t t.next (fresh_core None age stale now) n;
+  reading = λ t m n. joined_at t m n (get t.cores m) refl;
+  unlocking = λ t m reason n r. unlocked_at t m reason n (get t.cores m) refl r;
 }
 
 -- publications looked at in two goes

@@ -10,9 +10,9 @@ use Rattle.pcache_lock.specs.declared.lock.permit.Locked.TheVariants.{Write, Rea
 use Rattle.pcache_lock.specs.declared.lock.status.LockStatus.{LockStatus}
 use Rattle.pcache_lock.specs.Statuses.{is_aged}
 use Rattle.pcache_lock.specs.Permits.{Core, fresh_core, is_named, with_reader, without_reader, spent, released_status, dropped_status}
-use Rattle.pcache_lock.specs.Locks.{Locks, no_locks, holder, after_request, with_read_lock, without_entry, kept, left, released_on, let_go, permit_dropped, reader_dropped, changed}
+use Rattle.pcache_lock.specs.Locks.{Locks, no_locks, holder, after_request, with_read_lock, without_entry, kept, left, released_on, let_go, permit_dropped, reader_dropped, changed, ended}
 use Rattle.pcache_lock.specs.Waiting.{after_poll, table_at, stage_of, aged, with_publication}
-use Rattle.pcache_lock.specs.Waits.{Call, Asked, Released, LetGo, Polled, Published, Leads, LeadsAll, AllNamed, NothingRemainsAlways}
+use Rattle.pcache_lock.specs.Waits.{Call, Asked, Released, LetGo, Polled, Published, Made, Joined, Unlocked, Leads, LeadsAll, AllNamed, NothingRemainsAlways}
 use Rattle.pcache_lock.proofs.Tidy.{Stands, by_test, none_some, get-insert-at, get-insert-off, get-remove-at, get-remove-off}
 use Rattle.pcache_lock.proofs.Calls.{start_tidy, calls_tidy}
 
@@ -36,7 +36,7 @@ kept_by false t n d is all = remove_named t n (without_entry n d.slot t.standing
 kept_named : (t : Locks) (n : ℕ) (d : Core) → AllNamed t → AllNamed (kept t n d)
 kept_named t n d all = kept_by (is_named d) t n d refl all
 
-reads : (held : Bool) (r : ℕ) → (held || nat_lt 0 (min (r + 1) (2 ^ 64 - 1))) ≡ true
+reads : (held : Bool) (r : ℕ) → (held || nat_lt 0 (min (r + 1) (2 ^ 128 - 1))) ≡ true
 reads true r = refl
 reads false r = grind (arith, nat_tests)
 
@@ -81,6 +81,10 @@ publish_named : (t : Locks) (n : ℕ) (tokens : List ℕ) (o : Option Core) → 
 publish_named t n tokens None is all = all
 publish_named t n tokens (Some c) is all = insert_named t n (with_publication tokens c) (all n c is) all
 
+unlock_named : (t : Locks) (n : ℕ) (reason : LockStatus) (o : Option Core) → get t.cores n ≡ o → AllNamed t → AllNamed (record t { cores = changed (ended reason) t.cores n o })
+unlock_named t n reason None is all = all
+unlock_named t n reason (Some c) is all = insert_named t n (ended reason c) (all n c is) all
+
 either : {s t u : Locks} → (t ≡ s) ⊎ (t ≡ u) → AllNamed s → AllNamed u → AllNamed t
 either (inl e) a b = subst AllNamed (sym e) a
 either (inr e) a b = subst AllNamed (sym e) b
@@ -91,18 +95,21 @@ call_named (Released n reason) s t h all = subst AllNamed (sym h.1) (release_nam
 call_named (LetGo l) s t h all = subst AllNamed (sym h) (let_go_named s l all)
 call_named (Polled n now) s t h all = either h all (poll_named s now n (get s.cores n) refl all)
 call_named (Published n tokens) s t h all = either h all (publish_named s n tokens (get s.cores n) refl all)
+call_named (Made age stale now) s t h all = either h all (insert_named s s.next (fresh_core None age stale now) refl all)
+call_named (Joined n) s t h all = subst AllNamed (sym h) (read_named s n (get s.cores n) all)
+call_named (Unlocked n reason) s t h all = subst AllNamed (sym h.1) (unlock_named s n reason (get s.cores n) refl all)
 
 calls_named : (calls : List Call) (s t : Locks) → LeadsAll calls s t → AllNamed s → AllNamed t
 calls_named [] s t h all = subst AllNamed (sym h) all
 calls_named (call ∷ calls) s t (m, h) all = calls_named calls m t h.1 (call_named call s m h.0 all)
 
-known : (slot : ℕ) (o : Option Core) → Stands slot o → IsSome o
+known : (slot : ℕ) (o : Option Core) → Stands true slot o → IsSome o
 known slot None s = absurd s
 known slot (Some c) s = refl
 
 pub nothing_remains : NothingRemainsAlways
 nothing_remains age calls t h =
-    let tidy = calls_tidy calls (no_locks age) t h (start_tidy age) in
+    let tidy = calls_tidy true calls (no_locks age) t h (λ _. refl) (start_tidy true age) in
     record {
       locks = calls_named calls (no_locks age) t h (λ n c e. none_some (get (no_locks age).cores n) c (get-empty nat_cmp n) e);
       entries = λ slot n e. known slot (get t.cores n) (tidy.entries slot n e);

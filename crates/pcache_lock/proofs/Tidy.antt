@@ -13,18 +13,20 @@ use Rattle.pcache_lock.specs.Permits.{Core, fresh_core}
 use Rattle.pcache_lock.specs.Locks.{Locks, holder, held_by, unless_free, with_permit, without_entry, stands_as}
 use Rattle.pcache_lock.specs.Waits.{waiting_slot, waits_under}
 
--- what stands under a key is a lock of that key whose place may be taken, or whose permit waits
+-- what stands under a key is a lock of that key whose place may be taken, or whose permit waits;
+-- where permits may be unlocked, any lock of that key
 abbrev pub is_open : Core → Bool
 is_open c = is_free c.status || (c.held && is_waiting c.status)
 
-abbrev pub Stands : ℕ → Option Core → Type 0
-Stands slot None = ⊥
-Stands slot (Some c) = (c.slot ≡ Some slot) × (is_open c ≡ true)
+module _ (unlocks : Bool) where
+  abbrev pub Stands : ℕ → Option Core → Type 0
+  Stands slot None = ⊥
+  Stands slot (Some c) = (c.slot ≡ Some slot) × ((unlocks || is_open c) ≡ true)
 
-pub record Tidy (t : Locks) : Type 0 where
-  pub entries : (slot n : ℕ) → get t.standing slot ≡ Some n → Stands slot (get t.cores n)
-  pub waiting : (slot n : ℕ) → waits_under t n ≡ Some slot → get t.standing slot ≡ Some n
-  pub fresh : (n : ℕ) → t.next ≤ n → get t.cores n ≡ None
+  pub record Tidy (t : Locks) : Type 0 where
+    pub entries : (slot n : ℕ) → get t.standing slot ≡ Some n → Stands slot (get t.cores n)
+    pub waiting : (slot n : ℕ) → waits_under t n ≡ Some slot → get t.standing slot ≡ Some n
+    pub fresh : (n : ℕ) → t.next ≤ n → get t.cores n ≡ None
 
 -- keys that are tested equal, and keys that are not
 pub by_test : {P : Type 0} (q k : ℕ) (b : Bool) → eq_by_cmp nat_cmp q k ≡ b → (q ≡ k → P) → (eq_by_cmp nat_cmp q k ≡ false → P) → P
@@ -93,39 +95,6 @@ open_of false bc d c slot w e h = cc
 pub none_some : {X P : Type 0} (o : Option X) (x : X) → o ≡ None → o ≡ Some x → P
 none_some o x n s = cc
 
-pub put_tidy : (t : Locks) (n : ℕ) (c d : Core) → get t.cores n ≡ Some c → d.slot ≡ c.slot → (is_open c ≡ true → is_open d ≡ true) → ((d.held && is_waiting d.status) ≡ true → (c.held && is_waiting c.status) ≡ true) → Tidy t → Tidy (record t { cores = insert t.cores n d })
-put_tidy t n c d is e o w tidy = record {
-  entries = λ slot m h. by_test m n (eq_by_cmp nat_cmp m n) refl
-      (λ same. let old = subst (Stands slot) (ap (get t.cores) same ∙ is) (tidy.entries slot m h) in
-      subst (Stands slot) (sym (ap (get (insert t.cores n d)) same ∙ get-insert-at t.cores n d)) (e ∙ old.0, o old.1))
-      (λ off. subst (Stands slot) (sym (get-insert-off t.cores n d m off)) (tidy.entries slot m h));
-  waiting = λ slot m h. by_test m n (eq_by_cmp nat_cmp m n) refl
-      (λ same. tidy.waiting slot m (ap waiting_slot (ap (get t.cores) same ∙ is)
-      ∙ open_of (d.held && is_waiting d.status) (c.held && is_waiting c.status) d.slot c.slot slot w e (sym (ap waiting_slot (ap (get (insert t.cores n d)) same ∙ get-insert-at t.cores n d)) ∙ h)))
-      (λ off. tidy.waiting slot m (ap waiting_slot (sym (get-insert-off t.cores n d m off)) ∙ h));
-  fresh = λ m le. by_test m n (eq_by_cmp nat_cmp m n) refl
-      (λ same. none_some (get t.cores m) c (tidy.fresh m le) (ap (get t.cores) same ∙ is))
-      (λ off. get-insert-off t.cores n d m off ∙ tidy.fresh m le);
-}
-
--- a lock that does not wait any more, with its entry gone
-pub left_tidy : (t : Locks) (n : ℕ) (c : Core) (cores : FinMap nat_cmp Core) (st : FinMap nat_cmp ℕ) → get t.cores n ≡ Some c → ((m : ℕ) → eq_by_cmp nat_cmp m n ≡ false → get cores m ≡ get t.cores m) → waiting_slot (get cores n) ≡ None → st ≡ without_entry n c.slot t.standing → Tidy t → Tidy (record t { cores = cores; standing = st })
-left_tidy t n c cores st is rest none gone tidy = record {
-  entries = λ slot m h.
-      let now = ap (λ s. get s slot) (sym gone) ∙ h in
-      let old = stood n c.slot t.standing slot m now in
-      by_test m n (eq_by_cmp nat_cmp m n) refl
-      (λ same. let own = (subst (Stands slot) (ap (get t.cores) same ∙ is) (tidy.entries slot m old)).0 in
-      absurd (own_gone n slot t.standing (ap (λ o. get (without_entry n o t.standing) slot) (sym own) ∙ now ∙ ap Some same)))
-      (λ off. subst (Stands slot) (sym (rest m off)) (tidy.entries slot m old));
-  waiting = λ slot m h. by_test m n (eq_by_cmp nat_cmp m n) refl
-      (λ same. none_some (waiting_slot (get cores m)) slot (ap (λ x. waiting_slot (get cores x)) same ∙ none) h)
-      (λ off. ap (λ s. get s slot) gone ∙ other_stays n c.slot t.standing slot m (tidy.waiting slot m (ap waiting_slot (sym (rest m off)) ∙ h)) (sym (unsigned_tied m n) ∙ off));
-  fresh = λ m le. by_test m n (eq_by_cmp nat_cmp m n) refl
-      (λ same. none_some (get t.cores m) c (tidy.fresh m le) (ap (get t.cores) same ∙ is))
-      (λ off. rest m off ∙ tidy.fresh m le);
-}
-
 -- what a request finds is what waits
 free_not : (held : Bool) (s : LockStatus) (v : Option ℕ) (slot n : ℕ) → cond (held && is_waiting s) v None ≡ Some slot → cond (is_free s) None (Some n) ≡ Some n
 free_not false s v slot n h = cc
@@ -141,53 +110,97 @@ waits_free : (n slot : ℕ) (o : Option Core) → waiting_slot o ≡ Some slot �
 waits_free n slot None h = cc
 waits_free n slot (Some c) h = free_not c.held c.status c.slot slot n h
 
-pub found : (t : Locks) → Tidy t → (slot n : ℕ) → waits_under t n ≡ Some slot → holder t slot ≡ Some n
-found t tidy slot n h = ap (held_by t) (tidy.waiting slot n h) ∙ waits_free n slot (get t.cores n) h
-
 stands_waits : (free waits : Bool) (o : Option ℕ) (slot m n : ℕ) → o ≡ Some slot → (free || waits) ≡ true → cond free None (Some m) ≡ Some n → (m ≡ n) × (cond waits o None ≡ Some slot)
 stands_waits true waits o slot m n e b h = cc
 stands_waits false true o slot m n e b h = (cc, e)
 stands_waits false false o slot m n e b h = cc
 
-core_waits : (o : Option Core) (slot m n : ℕ) → Stands slot o → unless_free m o ≡ Some n → (m ≡ n) × (waiting_slot o ≡ Some slot)
+or_true : (b : Bool) → (b || true) ≡ true
+or_true true = refl
+or_true false = refl
+
+-- a fact of a lock that is kept, whether permits may be unlocked or not
+pub or_kept : (b x y : Bool) → (x ≡ true → y ≡ true) → (b || x) ≡ true → (b || y) ≡ true
+or_kept true x y f h = refl
+or_kept false x y f h = f h
+
+module _ (unlocks : Bool) where
+  pub put_tidy : (t : Locks) (n : ℕ) (c d : Core) → get t.cores n ≡ Some c → d.slot ≡ c.slot → ((unlocks || is_open c) ≡ true → (unlocks || is_open d) ≡ true) → ((d.held && is_waiting d.status) ≡ true → (c.held && is_waiting c.status) ≡ true) → Tidy unlocks t → Tidy unlocks (record t { cores = insert t.cores n d })
+  put_tidy t n c d is e o w tidy = record {
+    entries = λ slot m h. by_test m n (eq_by_cmp nat_cmp m n) refl
+        (λ same. let old = subst (Stands unlocks slot) (ap (get t.cores) same ∙ is) (tidy.entries slot m h) in
+        subst (Stands unlocks slot) (sym (ap (get (insert t.cores n d)) same ∙ get-insert-at t.cores n d)) (e ∙ old.0, o old.1))
+        (λ off. subst (Stands unlocks slot) (sym (get-insert-off t.cores n d m off)) (tidy.entries slot m h));
+    waiting = λ slot m h. by_test m n (eq_by_cmp nat_cmp m n) refl
+        (λ same. tidy.waiting slot m (ap waiting_slot (ap (get t.cores) same ∙ is)
+        ∙ open_of (d.held && is_waiting d.status) (c.held && is_waiting c.status) d.slot c.slot slot w e (sym (ap waiting_slot (ap (get (insert t.cores n d)) same ∙ get-insert-at t.cores n d)) ∙ h)))
+        (λ off. tidy.waiting slot m (ap waiting_slot (sym (get-insert-off t.cores n d m off)) ∙ h));
+    fresh = λ m le. by_test m n (eq_by_cmp nat_cmp m n) refl
+        (λ same. none_some (get t.cores m) c (tidy.fresh m le) (ap (get t.cores) same ∙ is))
+        (λ off. get-insert-off t.cores n d m off ∙ tidy.fresh m le);
+  }
+
+  -- a lock that does not wait any more, with its entry gone
+  pub left_tidy : (t : Locks) (n : ℕ) (c : Core) (cores : FinMap nat_cmp Core) (st : FinMap nat_cmp ℕ) → get t.cores n ≡ Some c → ((m : ℕ) → eq_by_cmp nat_cmp m n ≡ false → get cores m ≡ get t.cores m) → waiting_slot (get cores n) ≡ None → st ≡ without_entry n c.slot t.standing → Tidy unlocks t → Tidy unlocks (record t { cores = cores; standing = st })
+  left_tidy t n c cores st is rest none gone tidy = record {
+    entries = λ slot m h.
+        let now = ap (λ s. get s slot) (sym gone) ∙ h in
+        let old = stood n c.slot t.standing slot m now in
+        by_test m n (eq_by_cmp nat_cmp m n) refl
+        (λ same. let own = (subst (Stands unlocks slot) (ap (get t.cores) same ∙ is) (tidy.entries slot m old)).0 in
+        absurd (own_gone n slot t.standing (ap (λ o. get (without_entry n o t.standing) slot) (sym own) ∙ now ∙ ap Some same)))
+        (λ off. subst (Stands unlocks slot) (sym (rest m off)) (tidy.entries slot m old));
+    waiting = λ slot m h. by_test m n (eq_by_cmp nat_cmp m n) refl
+        (λ same. none_some (waiting_slot (get cores m)) slot (ap (λ x. waiting_slot (get cores x)) same ∙ none) h)
+        (λ off. ap (λ s. get s slot) gone ∙ other_stays n c.slot t.standing slot m (tidy.waiting slot m (ap waiting_slot (sym (rest m off)) ∙ h)) (sym (unsigned_tied m n) ∙ off));
+    fresh = λ m le. by_test m n (eq_by_cmp nat_cmp m n) refl
+        (λ same. none_some (get t.cores m) c (tidy.fresh m le) (ap (get t.cores) same ∙ is))
+        (λ off. rest m off ∙ tidy.fresh m le);
+  }
+
+  pub found : (t : Locks) → Tidy unlocks t → (slot n : ℕ) → waits_under t n ≡ Some slot → holder t slot ≡ Some n
+  found t tidy slot n h = ap (held_by t) (tidy.waiting slot n h) ∙ waits_free n slot (get t.cores n) h
+
+  -- a new permit
+  pub asked_tidy : (t : Locks) (k : ℕ) (stale : Bool) (now : ℕ) → holder t k ≡ None → Tidy unlocks t → Tidy unlocks (with_permit t k stale now)
+  asked_tidy t k stale now free tidy =
+      let c : Core = fresh_core (Some k) t.age_timeout stale now in
+      record {
+        entries = λ slot m h. by_test slot k (eq_by_cmp nat_cmp slot k) refl
+            (λ same.
+            let at : Some t.next ≡ Some m = sym (ap (get (insert t.standing k t.next)) same ∙ get-insert-at t.standing k t.next) ∙ h in
+            let is : t.next ≡ m = cc at in
+            subst (Stands unlocks slot) (sym (ap (get (insert t.cores t.next c)) (sym is) ∙ get-insert-at t.cores t.next c)) (ap Some (sym same), or_true unlocks))
+            (λ off.
+            let old = tidy.entries slot m (sym (get-insert-off t.standing k t.next slot off) ∙ h) in
+            by_test m t.next (eq_by_cmp nat_cmp m t.next) refl
+            (λ same. absurd (subst (Stands unlocks slot) (ap (get t.cores) same ∙ tidy.fresh t.next (omega arith)) old))
+            (λ other. subst (Stands unlocks slot) (sym (get-insert-off t.cores t.next c m other)) old));
+        waiting = λ slot m h. by_test m t.next (eq_by_cmp nat_cmp m t.next) refl
+            (λ same.
+            let at : Some k ≡ Some slot = sym (ap waiting_slot (ap (get (insert t.cores t.next c)) same ∙ get-insert-at t.cores t.next c)) ∙ h in
+            let is : k ≡ slot = cc at in
+            ap (get (insert t.standing k t.next)) (sym is) ∙ get-insert-at t.standing k t.next ∙ ap Some (sym same))
+            (λ other.
+            let old : waits_under t m ≡ Some slot = ap waiting_slot (sym (get-insert-off t.cores t.next c m other)) ∙ h in
+            by_test slot k (eq_by_cmp nat_cmp slot k) refl
+            (λ same. none_some (holder t slot) m (ap (holder t) same ∙ free) (found t tidy slot m old))
+            (λ off. get-insert-off t.standing k t.next slot off ∙ tidy.waiting slot m old));
+        fresh = λ m le. by_test m t.next (eq_by_cmp nat_cmp m t.next) refl
+            (λ same. absurd (omega arith))
+            (λ other. get-insert-off t.cores t.next c m other ∙ tidy.fresh m (omega arith));
+      }
+
+-- where none was unlocked, what a request finds waits
+core_waits : (o : Option Core) (slot m n : ℕ) → Stands false slot o → unless_free m o ≡ Some n → (m ≡ n) × (waiting_slot o ≡ Some slot)
 core_waits None slot m n s h = absurd s
 core_waits (Some c) slot m n s h = stands_waits (is_free c.status) (c.held && is_waiting c.status) c.slot slot m n s.0 s.1 h
 
-entry_waits : (t : Locks) → Tidy t → (slot n : ℕ) (o : Option ℕ) → get t.standing slot ≡ o → held_by t o ≡ Some n → waits_under t n ≡ Some slot
+entry_waits : (t : Locks) → Tidy false t → (slot n : ℕ) (o : Option ℕ) → get t.standing slot ≡ o → held_by t o ≡ Some n → waits_under t n ≡ Some slot
 entry_waits t tidy slot n None e h = cc
 entry_waits t tidy slot n (Some m) e h =
     let w = core_waits (get t.cores m) slot m n (tidy.entries slot m e) h in
     ap (λ x. waiting_slot (get t.cores x)) (sym w.0) ∙ w.1
 
-pub asked_waits : (t : Locks) → Tidy t → (slot n : ℕ) → holder t slot ≡ Some n → waits_under t n ≡ Some slot
+pub asked_waits : (t : Locks) → Tidy false t → (slot n : ℕ) → holder t slot ≡ Some n → waits_under t n ≡ Some slot
 asked_waits t tidy slot n h = entry_waits t tidy slot n (get t.standing slot) refl h
-
--- a new permit
-pub asked_tidy : (t : Locks) (k : ℕ) (stale : Bool) (now : ℕ) → holder t k ≡ None → Tidy t → Tidy (with_permit t k stale now)
-asked_tidy t k stale now free tidy =
-    let c : Core = fresh_core (Some k) t.age_timeout stale now in
-    record {
-      entries = λ slot m h. by_test slot k (eq_by_cmp nat_cmp slot k) refl
-          (λ same.
-          let at : Some t.next ≡ Some m = sym (ap (get (insert t.standing k t.next)) same ∙ get-insert-at t.standing k t.next) ∙ h in
-          let is : t.next ≡ m = cc at in
-          subst (Stands slot) (sym (ap (get (insert t.cores t.next c)) (sym is) ∙ get-insert-at t.cores t.next c)) (ap Some (sym same), refl))
-          (λ off.
-          let old = tidy.entries slot m (sym (get-insert-off t.standing k t.next slot off) ∙ h) in
-          by_test m t.next (eq_by_cmp nat_cmp m t.next) refl
-          (λ same. absurd (subst (Stands slot) (ap (get t.cores) same ∙ tidy.fresh t.next (omega arith)) old))
-          (λ other. subst (Stands slot) (sym (get-insert-off t.cores t.next c m other)) old));
-      waiting = λ slot m h. by_test m t.next (eq_by_cmp nat_cmp m t.next) refl
-          (λ same.
-          let at : Some k ≡ Some slot = sym (ap waiting_slot (ap (get (insert t.cores t.next c)) same ∙ get-insert-at t.cores t.next c)) ∙ h in
-          let is : k ≡ slot = cc at in
-          ap (get (insert t.standing k t.next)) (sym is) ∙ get-insert-at t.standing k t.next ∙ ap Some (sym same))
-          (λ other.
-          let old : waits_under t m ≡ Some slot = ap waiting_slot (sym (get-insert-off t.cores t.next c m other)) ∙ h in
-          by_test slot k (eq_by_cmp nat_cmp slot k) refl
-          (λ same. none_some (holder t slot) m (ap (holder t) same ∙ free) (found t tidy slot m old))
-          (λ off. get-insert-off t.standing k t.next slot off ∙ tidy.waiting slot m old));
-      fresh = λ m le. by_test m t.next (eq_by_cmp nat_cmp m t.next) refl
-          (λ same. absurd (omega arith))
-          (λ other. get-insert-off t.cores t.next c m other ∙ tidy.fresh m (omega arith));
-    }

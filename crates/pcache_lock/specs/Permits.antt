@@ -53,9 +53,9 @@ is_named c = c.held || nat_lt 0 c.readers
 abbrev pub is_locked : Core → Bool
 is_locked c = c.held && is_pending c.status
 
--- a read lock more, up to what 64 bits count; a read lock less
+-- a read lock more, up to what 128 bits count; a read lock less
 abbrev pub with_reader : Core → Core
-with_reader c = record c { readers = min (c.readers + 1) (2 ^ 64 - 1) }
+with_reader c = record c { readers = min (c.readers + 1) (2 ^ 128 - 1) }
 
 abbrev pub without_reader : Core → Core
 without_reader c = record c { readers = c.readers - 1 }

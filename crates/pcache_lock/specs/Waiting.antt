@@ -1,5 +1,5 @@
 -- What a wait answers, and what a writer publishes (own).
-use Rattle.std.specs.Prelude.{false, ℕ, ◌-◌, ◌==◌, nat_le, ◌&&◌, ◌||◌, ◌++◌, Bool, true, Option, Some, None, List, [], ◌∷◌, length, drop, cond, slice_get, unwrap_or}
+use Rattle.std.specs.Prelude.{false, ℕ, ◌≡◌, ◌<◌, ◌-◌, ◌==◌, nat_le, ◌&&◌, ◌||◌, ◌++◌, Bool, true, Option, Some, None, List, [], ◌∷◌, length, drop, cond, slice_get, unwrap_or}
 use Rattle.std.specs.Option.{option_or}
 use Rattle.std.specs.FinMap.{get, insert}
 use Rattle.pcache_base.specs.declared.fills.UnusableFill.{UnusableFill}
@@ -99,6 +99,10 @@ status_seen now (Some c) = status_at now c
 abbrev pub says_nothing : Option (List ℕ) → Bool
 says_nothing None = true
 says_nothing (Some tokens) = length tokens == 0
+
+-- where something stands published, there is room for one publication more
+abbrev pub HasRoom : List (List ℕ) → ℕ → Type 0
+HasRoom ps capacity = says_nothing (slice_get ps (length ps - 1)) ≡ false → length ps < capacity
 
 -- a publication takes the place of the one that stood. The earlier ones are kept only where a read
 -- lock may still look at them. To publish nothing where nothing stands is to do nothing.

@@ -2,7 +2,7 @@
 //!
 //! A request that finds nothing asks for the lock of its key. The first gets a permit to fill the
 //! key; the others get read locks, and poll until the permit is released, let go or too old.
-ghost use Rattle.std.specs.Prelude.{◌≡◌, ℕ, IfErr, IfOk, IsOk, IsSome, List, None, OnErr, OnOk, option_copied};
+ghost use Rattle.std.specs.Prelude.{◌≡◌, ℕ, [], IfErr, IfOk, IsOk, IsSome, List, None, OnErr, OnOk, option_copied};
 ghost use Rattle.std.specs.FinMap.{get};
 ghost use Rattle.pcache_base.specs.declared.error.ErrorType.TheVariants.{OutOfMemory};
 ghost use Rattle.pcache_base.specs.Key.{slot};
@@ -50,8 +50,8 @@ pub trait CacheKeyLock {
     /// Asks for the lock of a key: the permit where no request that the key would wait on holds
     /// it, else a read lock on that one. A permit for a stale entry is marked as such.
     ///
-    /// It is refused for want of memory, or where all 64-bit numbers of locks are used, and then
-    /// changes nothing.
+    /// Only a permit is refused: for want of memory, or where all 64-bit numbers of locks are used.
+    /// That changes nothing.
     fn lock(
         &mut self,
         alloc: Global,
@@ -62,6 +62,7 @@ pub trait CacheKeyLock {
         ensures gives { IfOk result (λ l. l ≡ given (table self.old) stale_writer (holder (table self.old) (slot key.now))) }
         ensures ok { OnOk result (table self.new ≡ after_request (table self.old) (slot key.now) stale_writer now (holder (table self.old) (slot key.now))) }
         ensures err { OnErr result (table self.new ≡ table self.old) }
+        ensures joins { IsSome (holder (table self.old) (slot key.now)) → IsOk result }
         ensures kind { IfErr result (λ e. MayRefuseLock (table self.old) e) };
 
     /// Releases a permit with a reason, which its readers are told. It goes by the permit alone
@@ -103,9 +104,11 @@ pub trait CacheKeyLock {
 
     /// Publishes what a permit's holder found out about the fill, in place of what stood.
     ///
-    /// It is refused for want of memory alone, and then changes nothing.
+    /// It is refused for want of memory alone, and then changes nothing. No tokens clear what
+    /// stood, which is never refused.
     fn publish(&mut self, alloc: Global, permit: &WritePermit, tokens: &[u64]) -> Result<()>
         ensures ok { OnOk result (table self.new ≡ published (table self.old) permit.now.number tokens.now) }
+        ensures clears { tokens.now ≡ [] → IsOk result }
         ensures err { OnErr result (table self.new ≡ table self.old) }
         ensures kind { IfErr result (λ e. e ≡ OutOfMemory) };
 
@@ -119,5 +122,56 @@ pub trait CacheKeyLock {
         ensures { span.new ≡ span.old }
     {
         span.set_tag(|| Tag::new("status", lock_status.as_str()));
+    }
+}
+
+/// A call on a box goes to the table inside.
+impl CacheKeyLock for CacheKeyLockImpl {
+    ghost table = { λ b. (CacheKeyLock-box b).table b.value };
+
+    ghost custom_status = { λ b. (CacheKeyLock-box b).custom_status b.value };
+
+    fn lock(
+        &mut self,
+        alloc: Global,
+        key: &CacheKey,
+        stale_writer: bool,
+        now: Moment,
+    ) -> Result<Locked> {
+        (**self).lock(alloc, key, stale_writer, now)
+    }
+
+    fn release(&mut self, key: &CacheKey, permit: WritePermit, reason: LockStatus) {
+        (**self).release(key, permit, reason);
+    }
+
+    fn drop_lock(&mut self, locked: Locked) {
+        (**self).drop_lock(locked);
+    }
+
+    fn poll_wait(
+        &mut self,
+        alloc: Global,
+        read: &mut ReadLock,
+        fills: Option<&UnusableFills>,
+        now: Moment,
+    ) -> Result<Poll<WaitOutcome>> {
+        (**self).poll_wait(alloc, read, fills, now)
+    }
+
+    fn lock_status(&self, read: &ReadLock, now: Moment) -> LockStatus {
+        (**self).lock_status(read, now)
+    }
+
+    fn publish(&mut self, alloc: Global, permit: &WritePermit, tokens: &[u64]) -> Result<()> {
+        (**self).publish(alloc, permit, tokens)
+    }
+
+    fn custom_lock_status(&self, custom_no_cache: &'static str) -> LockStatus {
+        (**self).custom_lock_status(custom_no_cache)
+    }
+
+    fn trace_lock_wait(&self, span: &mut Span, read: &ReadLock, lock_status: LockStatus) {
+        (**self).trace_lock_wait(span, read, lock_status);
     }
 }

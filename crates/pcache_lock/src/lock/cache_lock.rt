@@ -1,5 +1,5 @@
 //! The table of locks.
-ghost use Rattle.std.specs.Prelude.{option_copied, ◌≡◌, ◌^◌, ◌<◌, ◌≤◌, IfOk, IfErr, IsSome, OnErr, OnOk, Some};
+ghost use Rattle.std.specs.Prelude.{option_copied, ◌≡◌, ◌^◌, ◌<◌, ◌≤◌, [], IfOk, IfErr, IsOk, IsSome, OnErr, OnOk, Some};
 ghost use Rattle.std.specs.Duration.{as_nanos};
 ghost use Rattle.std.specs.FinMap as map;
 ghost use Rattle.pcache_base.specs.declared.error.ErrorType.TheVariants.{NumbersExhausted, OutOfMemory};
@@ -125,6 +125,7 @@ fn age(cores: &mut Table<LockCore>, place: u128)
 // A publication in place of the one that stood.
 fn publish(alloc: Global, cores: &mut Table<LockCore>, place: u128, tokens: &[u64]) -> Result<()>
     ensures ok { OnOk result (cores.new ≡ changed (with_publication tokens.now) cores.old place (map.get cores.old place)) }
+    ensures clears { tokens.now ≡ [] → IsOk result }
     ensures err { OnErr result (cores.new ≡ cores.old) }
     ensures kind { IfErr result (λ e. e ≡ OutOfMemory) }
 {

@@ -6,14 +6,14 @@ pub fn at_most_one_waits()
     ensures { OneWaitsAlways }
 {}
 
-/// A request gets the permit exactly where no permit waits under its key, and else a read lock on
-/// the one that does.
+/// Where no permit was unlocked while it was held, a request gets the permit exactly where none
+/// waits under its key, and else a read lock on the one that does.
 pub fn request_finds_the_waiting()
     ensures { AskFindsTheWaitingAlways }
 {}
 
-/// A permit waits from its asking until it is released, let go or found too old, whatever else
-/// happens to other locks.
+/// A permit waits from its asking until it is released, unlocked, let go or found too old, whatever
+/// else happens to other locks.
 pub fn permits_wait_until_their_end()
     ensures { WaitsUntilItsEnd }
 {}

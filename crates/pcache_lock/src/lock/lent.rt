@@ -1,5 +1,5 @@
 //! Calls of permits, read locks and stubs that are lent their table.
-ghost use Rattle.std.specs.Prelude.{◌≡◌, IfErr, IfOk, None, OnErr, OnOk, Some};
+ghost use Rattle.std.specs.Prelude.{◌≡◌, [], IfErr, IfOk, IsOk, None, OnErr, OnOk, Some};
 ghost use Rattle.std.specs.FinMap.{get};
 ghost use Rattle.pcache_base.specs.declared.error.ErrorType.TheVariants.{OutOfMemory};
 ghost use Rattle.pcache_lock.specs.Locks.{locked_at, status_kept, unlocked, with_read_lock};
@@ -39,7 +39,8 @@ impl WritePermit {
 
     /// Publishes what its holder found out about the fill, in place of what stood.
     ///
-    /// It is refused for want of memory alone, and then changes nothing.
+    /// It is refused for want of memory alone, and then changes nothing. No tokens clear what
+    /// stood, which is never refused.
     pub fn publish<L: CacheKeyLock>(
         &self,
         alloc: Global,
@@ -47,6 +48,7 @@ impl WritePermit {
         tokens: &[u64],
     ) -> Result<()>
         ensures ok { OnOk result (L.table lock.new ≡ published (L.table lock.old) self.now.number tokens.now) }
+        ensures clears { tokens.now ≡ [] → IsOk result }
         ensures err { OnErr result (L.table lock.new ≡ L.table lock.old) }
         ensures kind { IfErr result (λ e. e ≡ OutOfMemory) }
     {

@@ -1,5 +1,5 @@
 //! What a table knows of a lock.
-ghost use Rattle.std.specs.Prelude.{◌≡◌, ◌-◌, IfErr, None, OnErr, OnOk, Some, drop, length, nat_lt, slice_get};
+ghost use Rattle.std.specs.Prelude.{◌≡◌, ◌==◌, ◌-◌, [], IfErr, IsOk, None, OnErr, OnOk, Some, drop, false, length, nat_lt, slice_get};
 ghost use Rattle.pcache_base.specs.declared.error.ErrorType.TheVariants.{OutOfMemory};
 ghost use Rattle.std.specs.Duration.{as_nanos};
 ghost use Rattle.pcache_lock.specs.Locks.{ended};
@@ -69,7 +69,7 @@ pub struct LockCore {
     age_timeout: Duration,
     stale_writer: bool,
     held: bool,
-    readers: u64,
+    readers: u128,
     publications: Vec<Publication>,
 }
 
@@ -77,7 +77,13 @@ impl Model for LockCore {
     ghost use Rattle.std.specs.Duration.{as_nanos};
     ghost use Rattle.pcache_lock.specs.Permits.{Core};
 
+    ghost use Rattle.std.specs.Vec.{vec_capacity};
+    ghost use Rattle.pcache_lock.specs.Waiting.{HasRoom};
+
     ghost Value = { Core };
+
+    // What stands published can be cleared without memory.
+    ghost invariant = { λ c. HasRoom c.publications.items (vec_capacity c.publications) };
 
     ghost view = { λ c. record {
       slot = c.slot;
@@ -285,21 +291,50 @@ impl LockCore {
     // Puts a publication in the place of the one that stood.
     pub(super) fn publish(&mut self, alloc: Global, tokens: &[u64]) -> Result<()>
         ensures ok { OnOk result (self.new ≡ with_publication tokens.now self.old) }
+        ensures clears { tokens.now ≡ [] → IsOk result }
         ensures err { OnErr result (self.new ≡ self.old) }
         ensures kind { IfErr result (λ e. e ≡ OutOfMemory) }
     {
-        if tokens.is_empty() && says_nothing(self.publications.as_slice()) {
+        if tokens.is_empty() {
+            self.clear(alloc);
             return Ok(());
         }
+        self.say(alloc, tokens)
+    }
+
+    // Puts an empty publication in the place of one that says something.
+    fn clear(&mut self, alloc: Global)
+        ensures { self.new ≡ with_publication [] self.old }
+    {
+        if says_nothing(self.publications.as_slice()) {
+            return;
+        }
+        if self.readers == 0 {
+            self.publications.clear();
+        }
+        self.publications.push_reserved(Publication {
+            tokens: Vec::new(alloc),
+        });
+    }
+
+    // Puts a publication that says something in the place of the one that stood, with room to
+    // clear it.
+    fn say(&mut self, alloc: Global, tokens: &[u64]) -> Result<()>
+        requires { (length tokens.now == 0) ≡ false }
+        ensures ok { OnOk result (self.new ≡ with_publication tokens.now self.old) }
+        ensures err { OnErr result (self.new ≡ self.old) }
+        ensures kind { IfErr result (λ e. e ≡ OutOfMemory) }
+    {
         let publication = Publication {
             tokens: tokens.to_vec(alloc)?,
         };
         if self.readers > 0 {
-            self.publications.push(publication)?;
+            self.publications.reserve(2)?;
+            self.publications.push_reserved(publication);
             return Ok(());
         }
-        let mut publications = Vec::new(alloc);
-        publications.push(publication)?;
+        let mut publications = Vec::with_capacity(alloc, 2)?;
+        publications.push_reserved(publication);
         self.publications = publications;
         Ok(())
     }
