@@ -1,10 +1,10 @@
 -- Lists of entries: an entry taken out, moved to the front.
 use Rattle.std.proofs.Common.{◌≡◌, ℕ, zero, suc, ◌+◌, ◌-◌, ◌<◌, ◌≤◌, ◌^◌, true, false, cond, not, Option, None, Some, is_some, option_map, unwrap_or, [], ◌∷◌, ◌++◌, refl, ap, sym, subst, ◌∙◌, arith, length, length-append, take, All}
-use Rattle.std.specs.Prelude.{IfSome}
+use Rattle.std.specs.Prelude.{IfSome, IsSome}
 use Rattle.std.specs.Cmp.{IsEquivalence, eq_by_cmp_equiv}
 use Rattle.std.specs.List.{IsDistinct, AllByRecursion, slice_get}
 use Rattle.std.specs.Option.{option_map_or}
-use Rattle.std.specs.Map.{lookup, lookup_entry, remove_entry, keys_of}
+use Rattle.std.specs.Map.{lookup, lookup_entry, remove_entry, set_value, keys_of}
 use Rattle.std.specs.Ordering.{is_eq}
 use Rattle.std.specs.declared.cmp.Ordering.{Ordering}
 use Rattle.std.specs.declared.cmp.Ordering.TheVariants.{Less, Equal, Greater}
@@ -68,6 +68,17 @@ put-moved c k n d few =
       | Some w ↦ λ h. ap (λ xs. (k, n) ∷ xs) (remove-others k c.entries d)
     ] refl)
 
+-- a weight written where it stands is what `put` makes of a present entry
+written_by : (k : CacheEntryKey) (n : ℕ) (rest es more : Recency) (o : Option ℕ) → IsSome o → set_value (entry_eq k) (option_map_or (λ (e : CacheEntryKey × ℕ). e ∷ rest) (option_map (λ w. (k, w)) o) es) n ≡ option_map_or (λ (e : CacheEntryKey × ℕ). (e.0, n) ∷ rest) (option_map (λ w. (k, w)) o) more
+written_by k n rest es more None there = cc
+written_by k n rest es more (Some w) there = ap (λ b. cond b ((k, n) ∷ rest) ((k, w) ∷ set_value (entry_eq k) rest n)) (laws.refl k)
+
+pub written-put : (c : LruCache CacheEntryKey ℕ) (k : CacheEntryKey) (n : ℕ) → IsSome (weight_of k c.entries) → set_value (entry_eq k) (promoted (entry_eq k) c.entries) n ≡ put_entries entry_eq c k n
+written-put c k n there =
+    ap (λ o. set_value (entry_eq k) (option_map_or (λ (e : CacheEntryKey × ℕ). e ∷ remove_entry (entry_eq k) c.entries) o c.entries) n) (entry_found k c.entries)
+    ∙ written_by k n (remove_entry (entry_eq k) c.entries) c.entries ((k, n) ∷ take (c.cap - 1) c.entries) (weight_of k c.entries) there
+    ∙ sym (ap (λ o. option_map_or (λ (e : CacheEntryKey × ℕ). (e.0, n) ∷ remove_entry (entry_eq k) c.entries) o ((k, n) ∷ take (c.cap - 1) c.entries)) (entry_found k c.entries))
+
 -- `promote` moves a present entry to the front with its weight
 pub promoted-moved : (k : CacheEntryKey) (l : Recency) (w : ℕ) → IsDistinct entry_eq (keys_of l) → weight_of k l ≡ Some w → promoted (entry_eq k) l ≡ moved k w l
 promoted-moved k l w d h =
@@ -81,6 +92,9 @@ weight-others k (e ∷ l) d =
       | true ↦ λ t. let same = ap weight (all_apart k e.0 l t (IsDistinct-head entry_eq e.0 (keys_of l) d)) in omega arith
       | false ↦ λ t. let rest = weight-others k l (IsDistinct-tail entry_eq e.0 (keys_of l) d) in let split : weight (e ∷ others k l) ≡ e.1 + weight (others k l) = sum_by-cons (λ (e : CacheEntryKey × ℕ). e.1) e (others k l) in omega arith
     ] refl
+
+pub weight-moved : (k : CacheEntryKey) (n : ℕ) (l : Recency) → weight (moved k n l) ≡ n + weight (others k l)
+weight-moved k n l = sum_by-cons (λ (e : CacheEntryKey × ℕ). e.1) (k, n) (others k l)
 
 pub length-others : (k : CacheEntryKey) (l : Recency) → IsDistinct entry_eq (keys_of l) → length (others k l) + cond (is_some (weight_of k l)) 1 0 ≡ length l
 length-others k [] d = refl

@@ -1,12 +1,12 @@
 //! What an eviction manager is: it knows the entries of a cache with their weights, and says which
 //! of them leave when there are too many.
-ghost use Rattle.std.specs.Prelude.{◌≡◌, ◌^◌, ◌-◌, IfOk, IfErr, OnErr, OnOk, min};
+ghost use Rattle.std.specs.Prelude.{◌≡◌, ◌^◌, ◌-◌, IfOk, IfErr, IsOk, IsTrue, OnErr, OnOk, min};
 ghost use Rattle.std.specs.FinMap as map;
 ghost use Rattle.std.specs.List.{IsDistinct};
 ghost use Rattle.std.specs.Map.{keys_of};
 ghost use Rattle.pcache_base.specs.declared.error.ErrorType.TheVariants.{OutOfMemory};
 ghost use Rattle.pcache_evict.specs.Entry.{entry_cmp, entry_eq};
-ghost use Rattle.pcache_evict.specs.Tracked.{Tracked, Limits, Evicted, IsFair, weight, without, added, incremented, evicted_with};
+ghost use Rattle.pcache_evict.specs.Tracked.{Tracked, Limits, Evicted, IsFair, IsWithin, weight, without, added, incremented, evicted_with};
 
 use pcache_base::error::Result;
 use pcache_base::moment::Moment;
@@ -74,7 +74,7 @@ pub trait EvictionManager: Drop {
 
     /// Adds to the weight of an entry, up to `max_weight` (the largest `usize` where that is
     /// `None`), and evicts as `admit` does. A weight never falls; a missing entry comes in with what
-    /// is added, at least 1.
+    /// is added, at least 1. It is not refused where the entry is there and nothing is evicted.
     fn increment_weight(
         &mut self,
         item: &CacheEntryKey,
@@ -89,6 +89,9 @@ pub trait EvictionManager: Drop {
         ensures evicted { IfOk result (λ out. evicted self.new
             ≡ evicted_with (evicted self.old)
             (incremented (tracked self.old) item.now delta max_weight) out.items) }
+        ensures within { IsTrue (map.contains_key (tracked self.old) item.now)
+            → IsWithin (limits self.old) (incremented (tracked self.old) item.now delta max_weight)
+            → IsOk result }
         ensures kind { IfErr result (λ e. e ≡ OutOfMemory) }
         ensures err { OnErr result (tracked self.new ≡ tracked self.old) }
         ensures err_evicted { OnErr result (evicted self.new ≡ evicted self.old) };
@@ -100,11 +103,13 @@ pub trait EvictionManager: Drop {
         ensures evicted { evicted self.new ≡ evicted self.old };
 
     /// Notes a use of an entry and answers whether it was there. A missing one is added with this
-    /// weight; nothing is evicted, even if the limits no longer hold.
+    /// weight; nothing is evicted, even if the limits no longer hold. It is not refused where the
+    /// entry is there.
     fn access(&mut self, item: &CacheEntryKey, size: usize, fresh_until: Moment) -> Result<bool>
         ensures limits { limits self.new ≡ limits self.old }
         ensures was { IfOk result (λ was. was ≡ map.contains_key (tracked self.old) item.now) }
         ensures ok { OnOk result (tracked self.new ≡ added (tracked self.old) item.now size) }
+        ensures there { IsTrue (map.contains_key (tracked self.old) item.now) → IsOk result }
         ensures evicted { evicted self.new ≡ evicted self.old }
         ensures kind { IfErr result (λ e. e ≡ OutOfMemory) }
         ensures err { OnErr result (tracked self.new ≡ tracked self.old) };

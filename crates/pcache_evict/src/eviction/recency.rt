@@ -1,7 +1,9 @@
 //! Entries with their weights in the order of their last use.
-ghost use Rattle.std.specs.Prelude.{◌≡◌, ◌∷◌, ◌++◌, ◌+◌, ◌-◌, ◌<◌, ◌^◌, [], true, false, None, is_some, length, OnOk, OnErr, IfOk, IfErr, IfSome, IfNone, min};
+ghost use Rattle.std.specs.Prelude.{◌≡◌, ◌∷◌, ◌++◌, ◌+◌, ◌-◌, ◌<◌, ◌^◌, [], true, false, None, is_some, length, OnOk, OnErr, IfOk, IfErr, IfSome, IfNone, IsSome, min};
 ghost use Rattle.std.specs.Vec.{vec_capacity};
 ghost use Rattle.pcache_base.specs.declared.error.ErrorType.TheVariants.{OutOfMemory};
+ghost use Rattle.lru.specs.LruCache.{lru_cache, put_entries};
+ghost use Rattle.pcache_evict.specs.Entry.{entry_eq};
 ghost use Rattle.pcache_evict.specs.Tracked.{limits_of};
 ghost use Rattle.pcache_evict.specs.Recency.{Recency, weight, weight_of, others, moved, IsInside, Evicts};
 ghost use Rattle.pcache_evict.specs.Listed.{IsOnce, IsEnough};
@@ -62,7 +64,8 @@ impl RecencyList {
 
     /// The weight of an entry that is there.
     pub(super) fn weight_of(&self, item: &CacheEntryKey) -> Option<usize>
-        ensures { result ≡ weight_of item.now self.now }
+        ensures value { result ≡ weight_of item.now self.now }
+        ensures once { IsOnce self.now }
     {
         self.cache.peek(item).copied()
     }
@@ -91,6 +94,20 @@ impl RecencyList {
         self.cache.len();
         self.weight = rest + size as u128;
         Ok(())
+    }
+
+    /// Sets the weight of an entry that is there and moves it to the front, which takes no memory;
+    /// it is known what the other entries weigh.
+    pub(super) fn reweigh(&mut self, item: &CacheEntryKey, size: usize, rest: u128)
+        requires there { IsSome (weight_of item.now self.old) }
+        requires sum { rest ≡ weight (others item.now self.old) }
+        requires fits { rest + 2 ^ 64 < 2 ^ 128 }
+        ensures list { self.new ≡ moved item.now size self.old }
+        ensures once { IsOnce self.new }
+    {
+        set_weight(&mut self.cache, item, size);
+        self.cache.len();
+        self.weight = rest + size as u128;
     }
 
     /// Moves an entry to the front, if it is there.
@@ -149,6 +166,26 @@ impl RecencyList {
             push_copy(&mut all, key, *size)?;
         }
         Ok(all)
+    }
+
+    /// Whether the limits hold once this entry is put; it is known what the other entries weigh and
+    /// how many there are.
+    pub(super) fn fits(
+        &self,
+        item: &CacheEntryKey,
+        size: usize,
+        limit: usize,
+        watermark: Option<usize>,
+        rest: (u128, usize),
+    ) -> bool
+        requires sum { rest.0 ≡ weight (others item.now self.now) }
+        requires sum_fits { rest.0 + 2 ^ 64 < 2 ^ 128 }
+        requires count { rest.1 ≡ length (others item.now self.now) }
+        requires count_fits { rest.1 < 2 ^ 63 }
+        ensures inside { result ≡ true → IsInside (limits_of limit watermark) (moved item.now size self.now) }
+        ensures outside { result ≡ false → ¬ IsInside (limits_of limit watermark) (moved item.now size self.now) }
+    {
+        !exceeds(rest.0 + size as u128, rest.1 + 1, limit, watermark)
     }
 
     /// How many entries go at most when this one is put and the limits are then kept.
@@ -219,6 +256,17 @@ impl RecencyList {
             None => (self.weight, self.cache.len()),
         }
     }
+}
+
+/// Sets the weight of an entry that is there, and moves it to the front.
+fn set_weight(cache: &mut LruCache<CacheEntryKey, usize>, item: &CacheEntryKey, size: usize)
+    requires { IsSome (weight_of item.now cache.old.entries) }
+    ensures { cache.new ≡ lru_cache (put_entries entry_eq cache.old item.now size) cache.old.cap }
+{
+    let Some(weight) = cache.get_mut(item) else {
+        unreachable!()
+    };
+    *weight = size;
 }
 
 /// Adds a copy of an entry.

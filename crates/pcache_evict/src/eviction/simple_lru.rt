@@ -1,9 +1,10 @@
 //! An eviction manager that lets the least recently used entries go.
-ghost use Rattle.std.specs.Prelude.{◌≡◌, ◌-◌, ◌^◌, [], None, is_some, length, OnOk, OnErr, IfOk, IfErr, min};
+ghost use Rattle.std.specs.Prelude.{◌≡◌, ◌-◌, ◌^◌, [], None, is_some, length, OnOk, OnErr, IfOk, IfErr, IsOk, IsSome, min};
+ghost use Rattle.std.specs.Vec.{vec_capacity};
 ghost use Rattle.pcache_base.specs.declared.error.ErrorType.TheVariants.{OutOfMemory};
 ghost use Rattle.pcache_evict.specs.Tracked.{raised};
-ghost use Rattle.pcache_evict.specs.Recency.{weight, weight_of, others, moved, incremented, accessed, loaded};
-ghost use Rattle.pcache_evict.specs.Listed.{Listed, empty_list, Moves, IsOnce};
+ghost use Rattle.pcache_evict.specs.Recency.{IsInside, weight, weight_of, others, moved, incremented, accessed, loaded};
+ghost use Rattle.pcache_evict.specs.Listed.{Listed, empty_list, Moves, IsEnough, IsOnce};
 
 use super::recency::RecencyList;
 use super::{CacheEntryKey, EvictionManager};
@@ -132,7 +133,7 @@ impl Manager {
 
     /// Adds to the weight of an entry, up to `max_weight` (the largest `usize` where that is
     /// `None`), and then does as `admit`. A weight never falls; a missing entry comes in with what
-    /// is added, at least 1.
+    /// is added, at least 1. It is not refused where the entry is there and nothing is evicted.
     pub fn increment_weight(
         &mut self,
         item: &CacheEntryKey,
@@ -141,10 +142,22 @@ impl Manager {
     ) -> Result<Vec<CacheEntryKey>>
         ensures ok { IfOk result (λ out. Moves self.old
             (incremented item.now delta max_weight self.old.entries) self.new out.items) }
+        ensures within { IsSome (weight_of item.now self.old.entries)
+            → IsInside self.old.limits (incremented item.now delta max_weight self.old.entries)
+            → IsOk result }
+        ensures once { IsOnce self.old.entries }
         ensures kind { IfErr result (λ e. e ≡ OutOfMemory) }
         ensures err { OnErr result (self.new ≡ self.old) }
     {
-        let size = raised_weight(self.list.weight_of(item), delta, max_weight);
+        let present = self.list.weight_of(item);
+        let size = raised_weight(present, delta, max_weight);
+        if present.is_some() {
+            let rest = self.list.others(item);
+            if self.list.fits(item, size, self.limit, self.watermark, rest) {
+                self.list.reweigh(item, size, rest.0);
+                return Ok(self.keep_limits(Vec::new(self.alloc)));
+            }
+        }
         let copy = item.copied()?;
         self.put_and_evict(copy, size)
     }
@@ -157,7 +170,8 @@ impl Manager {
     }
 
     /// Moves an entry to the front and leaves its weight, or adds it there with this one. Answers
-    /// whether it was there. Nothing is evicted; `fresh_until` is not read.
+    /// whether it was there. Nothing is evicted; `fresh_until` is not read. It is not refused where
+    /// the entry is there.
     pub fn access(
         &mut self,
         item: &CacheEntryKey,
@@ -167,6 +181,7 @@ impl Manager {
         ensures was { IfOk result (λ was. was ≡ is_some (weight_of item.now self.old.entries)) }
         ensures ok { OnOk result (self.new
             ≡ record self.old { entries = accessed item.now size self.old.entries }) }
+        ensures there { IsSome (weight_of item.now self.old.entries) → IsOk result }
         ensures kind { IfErr result (λ e. e ≡ OutOfMemory) }
         ensures err { OnErr result (self.new ≡ self.old) }
     {
@@ -200,13 +215,25 @@ impl Manager {
         ensures err { OnErr result (self.new ≡ self.old) }
     {
         let rest = self.list.others(&item);
-        let room = self.list.room_for(&item, size, self.limit, self.watermark, rest);
-        let mut out = Vec::with_capacity(self.alloc, room)?;
+        let room = self
+            .list
+            .room_for(&item, size, self.limit, self.watermark, rest);
+        let out = Vec::with_capacity(self.alloc, room)?;
         self.list.put_beside(item, size, rest.0)?;
+        Ok(self.keep_limits(out))
+    }
+
+    // Evicts into a list that has the room for what goes.
+    fn keep_limits(&mut self, mut out: Vec<CacheEntryKey>) -> Vec<CacheEntryKey>
+        requires none { out.items ≡ [] }
+        requires room { IsEnough self.old.limits self.old.entries (vec_capacity out) }
+        requires once { IsOnce self.old.entries }
+        ensures { Moves self.old self.old.entries self.new result.items }
+    {
         let gone = self.list.evict(self.limit, self.watermark, &mut out);
         self.evicted_size = self.evicted_size.saturating_add(gone);
         self.evicted_items = self.evicted_items.saturating_add(out.len());
-        Ok(out)
+        out
     }
 }
 

@@ -8,3 +8,8 @@ returns-clause-was c = c.in_ok-was.ensures.was ∙ ap is_some (sym (get-map_of c
 
 pub returns-clause-ok : goal.returns-clause-ok
 returns-clause-ok c = ap (λ s. map_of s.entries) c.in_ok-was.ensures.ok ∙ map-accessed c.args.item.now c.args.size c.args.self.now.entries
+
+pub returns-in_err-was-clause-there : goal.returns-in_err-was-clause-there
+returns-in_err-was-clause-there c = λ has.
+    let given = c.in_err-was.ensures.there (ap is_some (sym (get-map_of c.args.self.now.entries c.args.item.now)) ∙ has) in
+    cc
