@@ -1,5 +1,5 @@
 -- What a store holds, what its calls do to it, and what its readers read (own).
-use Rattle.std.specs.Prelude.{ℕ, ◌+◌, ◌-◌, ◌==◌, ◌&&◌, ◌||◌, nat_le, nat_lt, not, Bool, true, false, Option, Some, None, is_none, cond, List, [], ◌++◌, drop, length, slice_range, min}
+use Rattle.std.specs.Prelude.{ℕ, ◌+◌, ◌-◌, ◌==◌, ◌&&◌, ◌||◌, nat_le, nat_lt, not, Bool, true, false, Option, Some, None, is_none, is_some, cond, List, [], ◌++◌, drop, length, slice_range, min}
 use Rattle.std.specs.Ordering.{nat_cmp}
 use Rattle.std.specs.FinMap.{FinMap, empty, get, insert, remove, contains_key, len}
 use Rattle.pcache_meta.specs.Meta.{Meta}
@@ -220,6 +220,11 @@ read_part place (Some w) = cond (nat_lt place (length w.bytes)) (Ready (Some (dr
 abbrev pub read_of : Store → Reader → Poll (Option (List ℕ))
 read_of s (Whole body start stop done) = Ready (cond done None (Some (slice_range body start stop)))
 read_of s (Part n place) = read_part place (get s.writes n)
+
+-- a read gives a piece
+abbrev pub gives_piece : Poll (Option (List ℕ)) → Bool
+gives_piece (Ready piece) = is_some piece
+gives_piece Pending = false
 
 -- how far a reader of a write is after a read
 abbrev pub place_after : ℕ → Option Written → ℕ

@@ -1,5 +1,5 @@
 //! A store in memory.
-ghost use Rattle.std.specs.Prelude.{◌≡◌, ◌<◌, ◌^◌, ℕ, Option, Some, None, IsOk, IfOk, IfErr, OnOk, OnErr, option_map, option_copied, is_some, false, true};
+ghost use Rattle.std.specs.Prelude.{◌≡◌, ◌<◌, ◌^◌, ℕ, Option, Some, None, IsOk, IsSome, IfOk, IfErr, OnOk, OnErr, option_map, option_copied, is_some, false, true};
 ghost use Rattle.std.specs.FinMap as map;
 ghost use Rattle.pcache_base.specs.declared.error.ErrorType.TheVariants.{OutOfMemory, WriteRemoved};
 ghost use Rattle.pcache_store.specs.Finishes.{created};
@@ -100,6 +100,7 @@ impl MemCache {
     fn follow(&mut self, alloc: Global, number: u128) -> Result<Option<(CacheMeta, MemHitHandler)>>
         ensures found { IfOk result (λ r. option_map (λ p. (p.0, reader_of p.1)) r ≡ found_part number (map.get self.old.writes number)) }
         ensures ok { OnOk result (self.new ≡ joined self.old number) }
+        ensures something { OnErr result (IsSome (map.get self.old.writes number)) }
         ensures kind { IfErr result (λ e. e ≡ OutOfMemory) }
         ensures err { OnErr result (self.new ≡ self.old) }
     {
@@ -293,6 +294,9 @@ impl Storage for MemCache {
     }
 
     fn update_meta(&mut self, alloc: Global, key: &CacheKey, meta: &CacheMeta) -> Result<bool> {
+        if !self.slots.has_body(key.slot()) {
+            return Ok(false);
+        }
         let meta = SpelledMeta::new(alloc, meta)?;
         Ok(self.slots.set_meta(key.slot(), meta))
     }

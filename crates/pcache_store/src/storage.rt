@@ -9,9 +9,10 @@ ghost use Rattle.pcache_meta.specs.Meta.{Meta};
 ghost use Rattle.pcache_base.specs.declared.error.ErrorType.TheVariants.{OutOfMemory, InternalError};
 ghost use Rattle.pcache_evict.specs.EntryRef.{referred};
 ghost use Rattle.pcache_store.specs.declared.storage.MissFinishType.{MissFinishType};
+ghost use Rattle.pcache_store.specs.declared.storage.PurgeOutcome.TheVariants.{Expired};
 ghost use Rattle.pcache_store.specs.Purge.{target_key, removed_entry, IsNumberOf, target_slot, purged_at, purge_answer, expired_at, expire_answer};
 ghost use Rattle.pcache_store.specs.Refusals.{MayRefuseWrite, MayRefuseFinish};
-ghost use Rattle.pcache_store.specs.Store.{Store, Reader, find, find_write, followed, left, begun, wrote, dropped, finished, stands, body_of, meta_changed, is_told, read_of, reader_after, sought, can_seek, counts_access, reader_weight};
+ghost use Rattle.pcache_store.specs.Store.{Store, Reader, find, find_write, followed, left, begun, wrote, dropped, finished, stands, body_of, meta_changed, is_told, gives_piece, read_of, reader_after, sought, can_seek, counts_access, reader_weight};
 ghost use Rattle.pcache_store.specs.Tag.{named_by};
 
 use bytes::Bytes;
@@ -135,15 +136,17 @@ pub trait Storage: StoreMeaning + Sized {
     type Miss: HandleMiss<Self>;
 
     /// A reader of what stands under a key, and its meta: the earliest begun write in flight that met
-    /// no removal, else the complete body. It is refused for want of memory alone.
+    /// no removal, else the complete body. It is refused for want of memory alone, and only where there
+    /// is something to read.
     fn lookup(&mut self, alloc: Global, key: &CacheKey) -> Result<Option<(CacheMeta, Self::Hit)>>
         ensures found { IfOk result (λ r. option_map (λ p. (p.0, Self.Hit.reader p.1)) r ≡ find (Self.state self.old) (slot key.now)) }
         ensures ok { OnOk result (Self.state self.new ≡ followed (Self.state self.old) (find (Self.state self.old) (slot key.now))) }
+        ensures something { OnErr result (IsSome (find (Self.state self.old) (slot key.now))) }
         ensures kind { IfErr result (λ e. e ≡ OutOfMemory) }
         ensures err { OnErr result (Self.state self.new ≡ Self.state self.old) };
 
     /// A reader of the write that a tag names, where it is in flight and of the key, and its meta.
-    /// It is refused for want of memory alone.
+    /// It is refused for want of memory alone, and only where there is such a write.
     fn lookup_streaming_write(
         &mut self,
         alloc: Global,
@@ -152,6 +155,7 @@ pub trait Storage: StoreMeaning + Sized {
     ) -> Result<Option<(CacheMeta, Self::Hit)>>
         ensures found { IfOk result (λ r. option_map (λ p. (p.0, Self.Hit.reader p.1)) r ≡ find_write (Self.state self.old) (slot key.now) (named_by (option_copied streaming_write_tag.entry))) }
         ensures ok { OnOk result (Self.state self.new ≡ followed (Self.state self.old) (find_write (Self.state self.old) (slot key.now) (named_by (option_copied streaming_write_tag.entry)))) }
+        ensures something { OnErr result (IsSome (find_write (Self.state self.old) (slot key.now) (named_by (option_copied streaming_write_tag.entry)))) }
         ensures kind { IfErr result (λ e. e ≡ OutOfMemory) }
         ensures err { OnErr result (Self.state self.new ≡ Self.state self.old) };
 
@@ -180,7 +184,7 @@ pub trait Storage: StoreMeaning + Sized {
         ensures err { OnErr result (Self.state self.new ≡ Self.state self.old) };
 
     /// Ends the freshness of the complete body that a target names, where it ends later than now.
-    /// It is refused for want of memory alone.
+    /// It is refused for want of memory alone, and only where there is one.
     fn expire(
         &mut self,
         alloc: Global,
@@ -189,14 +193,16 @@ pub trait Storage: StoreMeaning + Sized {
     ) -> Result<PurgeOutcome>
         ensures answer { IfOk result (λ o. o ≡ expire_answer (Self.state self.old) (target_slot target.entry)) }
         ensures ok { OnOk result (Self.state self.new ≡ expired_at now (Self.state self.old) (target_slot target.entry)) }
+        ensures something { OnErr result (expire_answer (Self.state self.old) (target_slot target.entry) ≡ Expired) }
         ensures kind { IfErr result (λ e. e ≡ OutOfMemory) }
         ensures err { OnErr result (Self.state self.new ≡ Self.state self.old) };
 
     /// Sets the meta of a key's complete body, and answers whether there is one.
-    /// It is refused for want of memory alone.
+    /// It is refused for want of memory alone, and only where there is one.
     fn update_meta(&mut self, alloc: Global, key: &CacheKey, meta: &CacheMeta) -> Result<bool>
         ensures there { IfOk result (λ b. b ≡ is_some (body_of (map.get (Self.state self.old).slots (slot key.now)))) }
         ensures ok { OnOk result (Self.state self.new ≡ meta_changed (λ _. meta.now) (Self.state self.old) (slot key.now)) }
+        ensures something { OnErr result (is_some (body_of (map.get (Self.state self.old).slots (slot key.now))) ≡ true) }
         ensures kind { IfErr result (λ e. e ≡ OutOfMemory) }
         ensures err { OnErr result (Self.state self.new ≡ Self.state self.old) };
 
@@ -214,10 +220,11 @@ pub trait HandleHit<S: StoreMeaning> {
     ghost entry_number: { Self → Option ℕ };
 
     /// Reads on: a piece, the end (`None`), or `Pending` where more may come. It is refused for want of
-    /// memory alone; the reader is as before then.
+    /// memory alone, and only where there is a piece; the reader is as before then.
     fn read_body(&mut self, alloc: Global, store: &mut S) -> Result<Poll<Option<Bytes>>>
         ensures read { IfOk result (λ p. p ≡ read_of (S.state store.old) (reader self.old)) }
         ensures ok { OnOk result (reader self.new ≡ reader_after (S.state store.old) (reader self.old)) }
+        ensures something { OnErr result (gives_piece (read_of (S.state store.old) (reader self.old)) ≡ true) }
         ensures kind { IfErr result (λ e. e ≡ OutOfMemory) }
         ensures err { OnErr result (reader self.new ≡ reader self.old) }
         ensures entry { entry_number self.new ≡ entry_number self.old }

@@ -1,5 +1,5 @@
 //! What stands under a key.
-ghost use Rattle.std.specs.Prelude.{◌≡◌, ◌<◌, ◌^◌, ℕ, Option, Some, None, List, IfOk, IfErr, OnOk, OnErr, length, option_map, is_some, is_none};
+ghost use Rattle.std.specs.Prelude.{◌≡◌, ◌<◌, ◌^◌, ℕ, Option, Some, None, List, IfOk, IfErr, OnOk, OnErr, length, option_map, is_some, is_none, true};
 ghost use Rattle.std.specs.FinMap as map;
 ghost use Rattle.pcache_base.specs.declared.error.ErrorType.TheVariants.{OutOfMemory};
 ghost use Rattle.pcache_meta.specs.Meta as meta_of;
@@ -169,6 +169,7 @@ impl KeySlot {
     pub(crate) fn expire(&mut self, alloc: Global, now: Moment) -> Result<bool>
         ensures there { IfOk result (λ b. b ≡ is_some self.old.body) }
         ensures slot { OnOk result (self.new ≡ with_meta (meta_of.expired_at now) self.old self.old.body) }
+        ensures something { OnErr result (is_some self.old.body ≡ true) }
         ensures kind { IfErr result (λ e. e ≡ OutOfMemory) }
         ensures err { OnErr result (self.new ≡ self.old) }
     {

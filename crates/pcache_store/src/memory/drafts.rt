@@ -101,6 +101,7 @@ impl Drafts {
     pub(crate) fn join(&mut self, alloc: Global, number: u128) -> Result<Option<CacheMeta>>
         ensures meta { IfOk result (λ m. m ≡ option_map (λ w. w.meta) (map.get self.old.writes number)) }
         ensures ok { OnOk result (self.new ≡ record self.old { writes = joined_on self.old.writes number (map.get self.old.writes number) }) }
+        ensures something { OnErr result (IsSome (map.get self.old.writes number)) }
         ensures kind { IfErr result (λ e. e ≡ OutOfMemory) }
         ensures err { OnErr result (self.new ≡ self.old) }
     {
@@ -152,6 +153,7 @@ fn write_in(
 fn join_in(writes: &mut Table<Draft>, alloc: Global, number: u128) -> Result<Option<CacheMeta>>
     ensures meta { IfOk result (λ m. m ≡ option_map (λ w. w.meta) (map.get writes.old number)) }
     ensures ok { OnOk result (writes.new ≡ joined_on writes.old number (map.get writes.old number)) }
+    ensures something { OnErr result (IsSome (map.get writes.old number)) }
     ensures kind { IfErr result (λ e. e ≡ OutOfMemory) }
     ensures err { OnErr result (writes.new ≡ writes.old) }
 {

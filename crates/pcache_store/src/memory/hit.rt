@@ -50,6 +50,7 @@ impl CompleteHit {
         ensures start { self.new.start ≡ self.old.start }
         ensures stop { self.new.stop ≡ self.old.stop }
         ensures ok { OnOk result (self.new.done ≡ true) }
+        ensures something { OnErr result (self.old.done ≡ false) }
         ensures kind { IfErr result (λ e. e ≡ OutOfMemory) }
         ensures err { OnErr result (self.new.done ≡ self.old.done) }
     {

@@ -1,5 +1,5 @@
 //! The slots by key.
-ghost use Rattle.std.specs.Prelude.{◌≡◌, ◌<◌, ◌^◌, ℕ, Option, Some, None, IsSome, IfOk, IfErr, OnOk, OnErr, option_copied, is_some};
+ghost use Rattle.std.specs.Prelude.{◌≡◌, ◌<◌, ◌^◌, ℕ, Option, Some, None, IsSome, IfOk, IfErr, OnOk, OnErr, option_copied, is_some, true};
 ghost use Rattle.std.specs.FinMap as map;
 ghost use Rattle.pcache_meta.specs.Meta as meta_of;
 ghost use Rattle.pcache_base.specs.Totals.{total, share};
@@ -81,6 +81,16 @@ impl Slots {
         }
     }
 
+    // Whether there is a complete body.
+    pub(crate) fn has_body(&self, key: u128) -> bool
+        ensures { result ≡ is_some (body_of (map.get self.now key)) }
+    {
+        match self.slots.get(key) {
+            Some(slot) => slot.body().is_some(),
+            None => false,
+        }
+    }
+
     // A write of the key begins.
     pub(crate) fn open(&mut self, alloc: Global, key: u128, number: u128) -> Result<()>
         ensures ok { OnOk result (self.new ≡ opened self.old key number) }
@@ -135,6 +145,7 @@ impl Slots {
     pub(crate) fn expire(&mut self, alloc: Global, key: u128, now: Moment) -> Result<bool>
         ensures there { IfOk result (λ b. b ≡ is_some (body_of (map.get self.old key))) }
         ensures slots { OnOk result (self.new ≡ meta_changed_on (meta_of.expired_at now) self.old key (map.get self.old key)) }
+        ensures something { OnErr result (is_some (body_of (map.get self.old key)) ≡ true) }
         ensures kind { IfErr result (λ e. e ≡ OutOfMemory) }
         ensures err { OnErr result (self.new ≡ self.old) }
     {
@@ -204,6 +215,7 @@ fn set_meta_in(slots: &mut Table<KeySlot>, key: u128, meta: SpelledMeta) -> bool
 fn expire_in(slots: &mut Table<KeySlot>, alloc: Global, key: u128, now: Moment) -> Result<bool>
     ensures there { IfOk result (λ b. b ≡ is_some (body_of (map.get slots.old key))) }
     ensures slots { OnOk result (slots.new ≡ meta_changed_on (meta_of.expired_at now) slots.old key (map.get slots.old key)) }
+    ensures something { OnErr result (is_some (body_of (map.get slots.old key)) ≡ true) }
     ensures kind { IfErr result (λ e. e ≡ OutOfMemory) }
     ensures err { OnErr result (slots.new ≡ slots.old) }
 {
