@@ -1,8 +1,8 @@
 //! Reading values from the front of a slice.
 //!
 //! No reader takes memory, so each refusal says that the bytes spell no such value: it is an
-//! `InternalError`.
-ghost use Rattle.std.specs.Prelude.{◌≡◌, ◌<◌, ◌==◌, length, drop, IfOk, if◌then◌else◌};
+//! `InternalError`. A reader that refuses has read nothing.
+ghost use Rattle.std.specs.Prelude.{◌≡◌, ◌<◌, ◌==◌, length, drop, IfOk, OnErr, if◌then◌else◌};
 ghost use Rattle.std.specs.Int.{w8, w16, w32, w64};
 ghost use Rattle.pcache_meta.specs.Reading.{Gives, array_at, hash_at, bytes_at, items_at, mark_at, number_at, number_below_at, optional_at, small_numbers_at, starts_with_nil, text_at, text_head_at, utf8_of, wide_at};
 ghost use Rattle.pcache_base.specs.declared.error.ErrorType.TheVariants.{InternalError};
@@ -95,8 +95,22 @@ impl<'a> Reader<'a> {
     }
 
     /// A number, in any width.
-    #[tactic(auto, unfolding(crate::specs::Reading::number_at))]
     pub fn number(&mut self) -> Result<u64>
+        ensures value { Gives (λ n. (n, self.new)) result (number_at self.old) }
+        ensures unread { OnErr result (self.new ≡ self.old) }
+    {
+        let before = self.rest;
+        match self.take_number() {
+            Ok(read) => Ok(read),
+            Err(refused) => {
+                self.rest = before;
+                Err(refused)
+            }
+        }
+    }
+
+    #[tactic(auto, unfolding(crate::specs::Reading::number_at))]
+    fn take_number(&mut self) -> Result<u64>
         ensures { Gives (λ n. (n, self.new)) result (number_at self.old) }
     {
         let [first, rest @ ..] = self.rest else {
@@ -115,8 +129,23 @@ impl<'a> Reader<'a> {
     }
 
     /// A number below a limit.
-    #[tactic(auto, unfolding(crate::specs::Reading::number_below_at))]
     pub fn number_below(&mut self, limit: u64) -> Result<u64>
+        ensures value { Gives (λ n. (n, self.new)) result (number_below_at limit self.old) }
+        ensures below { IfOk result (λ n. n < limit) }
+        ensures unread { OnErr result (self.new ≡ self.old) }
+    {
+        let before = self.rest;
+        match self.take_number_below(limit) {
+            Ok(read) => Ok(read),
+            Err(refused) => {
+                self.rest = before;
+                Err(refused)
+            }
+        }
+    }
+
+    #[tactic(auto, unfolding(crate::specs::Reading::number_below_at))]
+    fn take_number_below(&mut self, limit: u64) -> Result<u64>
         ensures value { Gives (λ n. (n, self.new)) result (number_below_at limit self.old) }
         ensures below { IfOk result (λ n. n < limit) }
     {
@@ -128,8 +157,22 @@ impl<'a> Reader<'a> {
     }
 
     /// How many items an array has, in any width. They are what is read next.
-    #[tactic(auto, unfolding(crate::specs::Reading::array_at))]
     pub fn array(&mut self) -> Result<u64>
+        ensures value { Gives (λ n. (n, self.new)) result (array_at self.old) }
+        ensures unread { OnErr result (self.new ≡ self.old) }
+    {
+        let before = self.rest;
+        match self.take_array() {
+            Ok(read) => Ok(read),
+            Err(refused) => {
+                self.rest = before;
+                Err(refused)
+            }
+        }
+    }
+
+    #[tactic(auto, unfolding(crate::specs::Reading::array_at))]
+    fn take_array(&mut self) -> Result<u64>
         ensures { Gives (λ n. (n, self.new)) result (array_at self.old) }
     {
         let [first, rest @ ..] = self.rest else {
@@ -146,8 +189,22 @@ impl<'a> Reader<'a> {
     }
 
     /// The head of an array of just `count` items.
-    #[tactic(auto, unfolding(crate::specs::Reading::items_at))]
     pub fn items(&mut self, count: u64) -> Result<()>
+        ensures value { Gives (λ _. self.new) result (items_at count self.old) }
+        ensures unread { OnErr result (self.new ≡ self.old) }
+    {
+        let before = self.rest;
+        match self.take_items(count) {
+            Ok(read) => Ok(read),
+            Err(refused) => {
+                self.rest = before;
+                Err(refused)
+            }
+        }
+    }
+
+    #[tactic(auto, unfolding(crate::specs::Reading::items_at))]
+    fn take_items(&mut self, count: u64) -> Result<()>
         ensures { Gives (λ _. self.new) result (items_at count self.old) }
     {
         if self.array()? != count {
@@ -176,8 +233,22 @@ impl<'a> Reader<'a> {
     }
 
     /// A text, as it lies in the bytes.
-    #[tactic(auto, unfolding(crate::specs::Reading::text_at))]
     pub fn text(&mut self) -> Result<&'a str>
+        ensures value { Gives (λ t. (t.now, self.new)) result (text_at self.old) }
+        ensures unread { OnErr result (self.new ≡ self.old) }
+    {
+        let before = self.rest;
+        match self.take_text() {
+            Ok(read) => Ok(read),
+            Err(refused) => {
+                self.rest = before;
+                Err(refused)
+            }
+        }
+    }
+
+    #[tactic(auto, unfolding(crate::specs::Reading::text_at))]
+    fn take_text(&mut self) -> Result<&'a str>
         ensures { Gives (λ t. (t.now, self.new)) result (text_at self.old) }
     {
         let len = self.text_head()? as usize;
@@ -197,8 +268,22 @@ impl<'a> Reader<'a> {
     }
 
     /// A hash: an array of sixteen bytes.
-    #[tactic(auto, unfolding(crate::specs::Reading::hash_at))]
     pub fn hash(&mut self) -> Result<HashBinary>
+        ensures value { Gives (λ hash. (hash, self.new)) result (hash_at self.old) }
+        ensures unread { OnErr result (self.new ≡ self.old) }
+    {
+        let before = self.rest;
+        match self.take_hash() {
+            Ok(read) => Ok(read),
+            Err(refused) => {
+                self.rest = before;
+                Err(refused)
+            }
+        }
+    }
+
+    #[tactic(auto, unfolding(crate::specs::Reading::hash_at))]
+    fn take_hash(&mut self) -> Result<HashBinary>
         ensures { Gives (λ hash. (hash, self.new)) result (hash_at self.old) }
     {
         self.items(16)?;
@@ -208,7 +293,8 @@ impl<'a> Reader<'a> {
     /// A hash, or nil.
     #[tactic(auto, unfolding(crate::specs::Reading::optional_at))]
     pub fn optional_hash(&mut self) -> Result<Option<HashBinary>>
-        ensures { Gives (λ hash. (hash, self.new)) result (optional_at hash_at self.old) }
+        ensures value { Gives (λ hash. (hash, self.new)) result (optional_at hash_at self.old) }
+        ensures unread { OnErr result (self.new ≡ self.old) }
     {
         if self.skip_nil() {
             return Ok(None);
@@ -233,7 +319,8 @@ impl<'a> Reader<'a> {
     /// Takes this one byte.
     #[tactic(auto, unfolding(crate::specs::Reading::mark_at))]
     pub fn mark(&mut self, mark: u8) -> Result<()>
-        ensures { Gives (λ _. self.new) result (mark_at mark self.old) }
+        ensures value { Gives (λ _. self.new) result (mark_at mark self.old) }
+        ensures unread { OnErr result (self.new ≡ self.old) }
     {
         match self.rest {
             [first, rest @ ..] if *first == mark => {
