@@ -3,7 +3,7 @@ use Rattle.std.proofs.Common.{◌≡◌, ℕ, zero, suc, ◌<◌, ◌≤◌, Boo
 use Rattle.std.specs.Prelude.{All, ◌&&◌, IsTrue, bytes_eq, codes}
 use Rattle.std.specs.List.{list_all, flat_map}
 use Rattle.std.proofs.lemmas.Bool.{eqb-true}
-use Rattle.std.proofs.lemmas.List.{append-nil, nil_from_length}
+use Rattle.std.proofs.lemmas.List.{append-nil, append_cancel_left, nil_from_length}
 use Rattle.std.proofs.lemmas.List.Concat.{flat_map-cons}
 use Rattle.std.proofs.lemmas.List.Elements.{All-nil, All-cons, All-head, All-tail}
 use Rattle.std.proofs.lemmas.Option.{some_pair_parts, same_Some}
@@ -12,11 +12,11 @@ use Rattle.http.specs.StatusCode.{IsStatusCode, code_digits}
 use Rattle.http_header.specs.Token.{is_token_byte, token_test, is_value_byte, AllPass}
 use Rattle.http_header.specs.FieldName.{IsHeaderName, is_header_name}
 use Rattle.http_header.specs.FieldValue.{IsFieldValue}
-use Rattle.http_header.specs.HeaderMap.{append, append_all}
+use Rattle.http_header.specs.HeaderMap.{append, append_all, pairs}
 use Rattle.http_header.proofs.TokenLemmas.{IsHeaderName-from_test, AllPass-from_test}
 use Rattle.pcache_meta.specs.Header.{Fields, Header}
 use Rattle.pcache_meta.specs.HeaderText.{Field, IsField, IsHeld, field_text, field_line, fields_text, version_text, status_text, line_end, header_text, SpellsHeader}
-use Rattle.pcache_meta.specs.HeaderReading.{line_from, name_from, name_at, value_at, field_at, append_at, fields_at, version_at, status_at, status_line_at, header_at}
+use Rattle.pcache_meta.specs.HeaderReading.{line_from, name_from, name_at, value_at, field_at, append_at, fields_at, version_at, status_at, status_line_at, ordered_at, header_at}
 use Rattle.pcache_meta.specs.Reading.{◌>>=◌, bytes_at, mark_at}
 use Rattle.pcache_meta.specs.declared.header.HttpVersion.{HttpVersion}
 use Rattle.pcache_meta.specs.declared.header.HttpVersion.TheVariants.{Http09, Http10, Http11, Http2, Http3}
@@ -317,6 +317,18 @@ joined : (bytes k text rest first fields : List ℕ) → bytes ≡ k ++ (0x0D �
     → bytes ≡ first ++ (0x0D ∷ 0x0A ∷ fields)
 joined bytes k text rest first fields whole line is later = rw (whole, ← line, is, later) refl
 
+-- lines that stand in their map's order, and no others
+ordered_takes : (bytes : List ℕ) (m n : Fields) → ordered_at bytes m ≡ Some n → (n ≡ m) × (bytes ≡ fields_text (pairs m))
+unfolding ordered_at
+ordered_takes bytes m n e = elim (chosen (bytes_eq bytes (fields_text (pairs m))) _ _ _ e) [
+  | inl p ↦ (sym (same_Some m n p.1), (bytes_eq-Decides bytes (fields_text (pairs m))).0 p.0)
+  | inr p ↦ absurd (cc p.1)
+]
+
+ordered_again : (bytes : List ℕ) (m : Fields) → bytes ≡ fields_text (pairs m) → ordered_at bytes m ≡ Some m
+unfolding ordered_at
+ordered_again bytes m is = rw ((bytes_eq-Decides bytes (fields_text (pairs m))).1 is) refl
+
 -- what is read is spelled so
 pub header_takes : (bytes : List ℕ) (h : Header) → header_at bytes ≡ Some h → SpellsHeader bytes h
 unfolding header_at
@@ -324,8 +336,10 @@ header_takes bytes h e = after (line_from [] bytes) _ h e (λ text rest line go.
     let (k, is, whole) = line_takes [] bytes text rest line in
     after_one (status_line_at text) _ h go (λ x status go.
     let first = status_line_takes text x status in
-    after_one (fields_at [] rest) _ h go (λ fields read end.
+    after_one (fields_at [] rest) _ h go (λ fields read go.
+    after_one (ordered_at rest fields) _ h go (λ ordered order end.
     let made = fields_takes rest fields read in
+    let stands = ordered_takes rest fields ordered order in
     let there : SpellsHeader bytes (record { version = x.0; status = x.1; fields = fields }) = record {
       lines = made.lines;
       text =
@@ -334,16 +348,20 @@ header_takes bytes h e = after (line_from [] bytes) _ h e (λ text rest line go.
       valid = made.valid;
       fields = made.made;
       held = made.held;
+      order =
+          joined bytes k text rest (status_text x.0 x.1) (fields_text (pairs fields)) whole is first.0 stands.1 ∙ sym (text_parts x.0 x.1 (pairs fields));
     } in
     let P : Header → Type 0 = λ y. SpellsHeader bytes y in
-    subst P (same_Some (record { version = x.0; status = x.1; fields = fields }) h end) there)))
+    subst P (ap (λ (f : Fields). let y : Header = record { version = x.0; status = x.1; fields = f } in y) (sym stands.0) ∙ same_Some (record { version = x.0; status = x.1; fields = ordered }) h end) there))))
 
 -- what is spelled so is read
 pub header_again : (bytes : List ℕ) (h : Header) → SpellsHeader bytes h → header_at bytes ≡ Some h
-unfolding header_at
+unfolding header_at header_text
 header_again bytes h spelled =
     let whole : bytes ≡ status_text h.version h.status ++ (0x0D ∷ 0x0A ∷ fields_text spelled.lines) = spelled.text ∙ text_parts h.version h.status spelled.lines in
     let line = line_again [] (status_text h.version h.status) (fields_text spelled.lines) (status_no_return h.version h.status) in
     let fields = fields_again [] spelled.lines spelled.valid (rw (← spelled.fields) spelled.held) in
-    rw (whole, line, status_line_again h.version h.status spelled.status, fields)
+    let same : fields_text spelled.lines ≡ fields_text (pairs (append_all [] spelled.lines)) =
+    append_cancel_left (status_text h.version h.status ++ line_end) _ _ (sym spelled.text ∙ spelled.order ∙ ap (λ (m : Fields). header_text h.version h.status (pairs m)) spelled.fields) in
+    rw (whole, line, status_line_again h.version h.status spelled.status, fields, ordered_again (fields_text spelled.lines) (append_all [] spelled.lines) same)
     (ap (λ (f : Fields). let x : Header = record { version = h.version; status = h.status; fields = f } in Some x) (sym spelled.fields))

@@ -77,5 +77,6 @@ spelled_header (Ok v) h written status valid is = record {
   valid = valid;
   fields = fields_of-pairs h.headers is ∙ ap (λ (fs : List Field). fields_of fs) (pairs-shown h.headers);
   held = IsHeld-shown h.headers is;
+  order = written ∙ ap (λ (fs : List Field). header_text h.version h.status fs) (sym (pairs-shown h.headers));
 }
 spelled_header (Err e) h written status valid is = tt

@@ -4,6 +4,7 @@ pub mod HeaderExact
 pub mod HeaderLines
 pub mod HeaderMaps
 pub mod HeaderNames
+pub mod HeaderOrder
 pub mod HeaderResults
 pub mod HeaderSpelled
 pub mod MetaExact

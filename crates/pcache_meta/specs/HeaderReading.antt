@@ -4,10 +4,10 @@ use Rattle.std.specs.Prelude.{ℕ, ◌+◌, ◌-◌, ◌*◌, ◌^◌, ◌&&◌,
 use Rattle.std.specs.List.{list_all}
 use Rattle.http.specs.StatusCode.{code_digits}
 use Rattle.http_header.specs.FieldName.{is_header_name}
-use Rattle.http_header.specs.HeaderMap.{append, value_count}
+use Rattle.http_header.specs.HeaderMap.{append, pairs, value_count}
 use Rattle.http_header.specs.Token.{is_value_byte}
 use Rattle.pcache_meta.specs.Header.{Fields, Header}
-use Rattle.pcache_meta.specs.HeaderText.{Field}
+use Rattle.pcache_meta.specs.HeaderText.{Field, fields_text}
 use Rattle.pcache_meta.specs.Reading.{◌>>=◌, when, bytes_at, mark_at}
 use Rattle.pcache_meta.specs.declared.header.HttpVersion.{HttpVersion}
 use Rattle.pcache_meta.specs.declared.header.HttpVersion.TheVariants.{Http09, Http10, Http11, Http2, Http3}
@@ -93,10 +93,15 @@ fields_from front m (a ∷ b ∷ bytes) =
 unfoldable pub fields_at : Fields → List ℕ → Option Fields
 fields_at m bytes = fields_from [] m bytes
 
+-- the map, if the lines that made it stand by name, in its order
+unfoldable pub ordered_at : List ℕ → Fields → Option Fields
+ordered_at bytes m = if bytes_eq bytes (fields_text (pairs m)) then Some m else None
+
 -- all of the bytes
 unfoldable pub header_at : List ℕ → Option Header
 header_at bytes = do
   parts ← line_from [] bytes
   first ← status_line_at parts.0
-  fields ← fields_at [] parts.1
+  read ← fields_at [] parts.1
+  fields ← ordered_at parts.1 read
   Some (record { version = first.0; status = first.1; fields = fields })

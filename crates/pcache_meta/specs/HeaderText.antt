@@ -58,7 +58,11 @@ fields_of lines = append_all [] lines
 abbrev pub IsHeld : Fields → Type 0
 IsHeld fields = (length fields ≤ 24576) × (value_count fields < 2 ^ 64)
 
--- all of the bytes are the text of lines that make this head
+-- the text of a head: a line for each value, by name, in the map's order
+abbrev pub header_written : Header → List ℕ
+header_written h = header_text h.version h.status (pairs h.fields)
+
+-- all of the bytes are the text of lines that make this head, and the lines stand in its map's order
 pub record SpellsHeader (bytes : List ℕ) (h : Header) : Type 0 where
   pub lines : List Field
   pub text : bytes ≡ header_text h.version h.status lines
@@ -66,7 +70,9 @@ pub record SpellsHeader (bytes : List ℕ) (h : Header) : Type 0 where
   pub valid : All IsField lines
   pub fields : h.fields ≡ fields_of lines
   pub held : IsHeld h.fields
+  pub order : bytes ≡ header_written h
 
--- the text that is written: a line for each value, by name, in the map's order
-abbrev pub header_written : Header → List ℕ
-header_written h = header_text h.version h.status (pairs h.fields)
+-- a head has one text, and a text one head
+pub record IsOneToOne : Type 0 where
+  pub text : (a b : List ℕ) (h : Header) → SpellsHeader a h → SpellsHeader b h → a ≡ b
+  pub head : (bytes : List ℕ) (h k : Header) → SpellsHeader bytes h → SpellsHeader bytes k → h ≡ k

@@ -1,12 +1,13 @@
 //! Reading the text of a head.
 ghost use Rattle.std.specs.Prelude.{◌≡◌, [], IfOk, IfErr, IsErrOf, ◌⊎◌};
 ghost use Rattle.pcache_meta.specs.Header.{Header, shown, shown_fields};
-ghost use Rattle.pcache_meta.specs.HeaderReading.{append_at, field_at, fields_at, header_at, line_from, name_at, name_from, status_at, status_line_at, value_at, version_at};
+ghost use Rattle.pcache_meta.specs.HeaderReading.{append_at, field_at, fields_at, header_at, line_from, name_at, name_from, ordered_at, status_at, status_line_at, value_at, version_at};
 ghost use Rattle.pcache_meta.specs.HeaderText.{SpellsHeader};
 ghost use Rattle.pcache_meta.specs.Reading.{Gives, GivesOrWants, mark_at};
 ghost use Rattle.pcache_base.specs.declared.error.ErrorType.TheVariants.{InternalError, OutOfMemory};
 
 use crate::header::{HttpVersion, ResponseHeader};
+use crate::header_text::order::are_lines_of;
 use crate::msgpack::reader::unreadable;
 use http::StatusCode;
 use http_header::{
@@ -176,6 +177,18 @@ fn read_fields(alloc: Global, bytes: &[u8]) -> Result<HeaderMap>
     }
 }
 
+// Refuses lines that stand in another order than that of the map that they made.
+#[tactic(auto, unfolding(crate::specs::HeaderReading::ordered_at))]
+fn in_order(bytes: &[u8], headers: &HeaderMap) -> Result<()>
+    ensures { Gives (λ _. shown_fields headers.now) result (ordered_at bytes.now (shown_fields headers.now)) }
+{
+    if are_lines_of(bytes, headers) {
+        Ok(())
+    } else {
+        Err(unreadable())
+    }
+}
+
 // The head that all of the bytes are, read from left to right.
 #[tactic(auto, unfolding(crate::specs::HeaderReading::header_at))]
 fn read_header(alloc: Global, bytes: &[u8]) -> Result<ResponseHeader>
@@ -184,6 +197,7 @@ fn read_header(alloc: Global, bytes: &[u8]) -> Result<ResponseHeader>
     let (line, rest) = split_line(bytes)?;
     let (version, status) = status_line(line)?;
     let headers = read_fields(alloc, rest)?;
+    in_order(rest, &headers)?;
     Ok(ResponseHeader {
         version,
         status,
@@ -191,7 +205,8 @@ fn read_header(alloc: Global, bytes: &[u8]) -> Result<ResponseHeader>
     })
 }
 
-/// The head that all of the bytes are the text of.
+/// The head that all of the bytes are the text of: its lines stand by name, in the order in which the
+/// names first come.
 pub fn header_deserialize(alloc: Global, bytes: &[u8]) -> Result<ResponseHeader>
     ensures found { IfOk result (λ h. SpellsHeader bytes.now (shown h)) }
     ensures same { (h : Header) → SpellsHeader bytes.now h → IfOk result (λ found. shown found ≡ h) }

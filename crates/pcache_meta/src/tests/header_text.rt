@@ -103,4 +103,6 @@ fn what_is_no_head(rt: HostRuntime) {
     assert!(rt; refused(alloc, b"HTTP/1.1 200 OK\r\n\r\n"));
     assert!(rt; refused(alloc, b"HTTP/1.1 200\r\nfoo1: b\x01\r\n\r\n"));
     assert!(rt; refused(alloc, b""));
+    // A name that comes again behind another.
+    assert!(rt; refused(alloc, b"HTTP/1.1 200\r\na: 1\r\nb: 2\r\na: 3\r\n\r\n"));
 }
