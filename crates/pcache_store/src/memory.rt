@@ -302,5 +302,3 @@ impl Storage for MemCache {
     }
 }
 
-#[cfg(test)]
-mod tests;

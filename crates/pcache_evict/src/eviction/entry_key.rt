@@ -347,5 +347,3 @@ impl<'a> From<&'a CacheEntryKey> for CacheEntryKeyRef<'a> {
     }
 }
 
-#[cfg(test)]
-mod tests;

@@ -284,5 +284,3 @@ impl EvictionManager for Manager {
     }
 }
 
-#[cfg(test)]
-mod tests;
