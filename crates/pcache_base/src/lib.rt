@@ -22,6 +22,3 @@ pub mod trace;
 pub mod variance;
 
 pub use error::{Error, ErrorType, Result};
-
-#[cfg(test)]
-mod tests;

@@ -64,20 +64,3 @@ impl SpanOptionsPlaceholder {
 /// What is handed on of a span. Nothing can be told to it.
 #[derive(Clone, Copy, Debug, PartialEq, Eq)]
 pub struct SpanHandle {}
-
-#[cfg(test)]
-mod tests {
-    use super::*;
-
-    #[test]
-    fn no_effect(rt: HostRuntime) {
-        let mut span = Span::inactive();
-        let child = span.child("hit", |options: SpanOptionsPlaceholder| options.start());
-        assert_eq!(rt; child, Span::inactive());
-        assert_eq!(rt; child.handle(), span.handle());
-        span.set_tag(|| Tag::new("phase", 1u8));
-        span.set_tags(|| [Tag::new("phase", 1u8)]);
-        span.set_finish_time(|| Moment::from_secs(7));
-        assert_eq!(rt; span, Span::inactive());
-    }
-}

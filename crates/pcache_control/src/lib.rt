@@ -22,8 +22,3 @@ pub mod value;
 
 pub use defaults::{CacheMetaDefaults, FreshDurationByStatusFn};
 pub use response::RespCacheable;
-
-#[cfg(test)]
-mod freshness_tests;
-#[cfg(test)]
-mod tests;

@@ -23,6 +23,10 @@ pub record Locks : Type 0 where
 abbrev pub no_locks : ℕ → Locks
 no_locks age_timeout = record { cores = empty; standing = empty; next = 0; age_timeout = age_timeout }
 
+-- a table with no lock, whose next permit has this number
+abbrev pub no_locks_from : ℕ → ℕ → Locks
+no_locks_from next age_timeout = record { cores = empty; standing = empty; next = next; age_timeout = age_timeout }
+
 -- the lock on which a request for the key would wait: that of the key's entry, unless its place may be taken
 abbrev pub unless_free : ℕ → Option Core → Option ℕ
 unless_free n None = None

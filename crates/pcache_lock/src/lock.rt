@@ -17,11 +17,7 @@ pub mod lent;
 pub mod lock_core;
 pub mod outcome;
 pub mod permit;
-#[cfg(test)]
-mod random;
 pub mod status;
-#[cfg(test)]
-mod tests;
 
 pub use cache_lock::CacheLock;
 pub use lock_core::LockCore;

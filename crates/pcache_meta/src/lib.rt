@@ -11,6 +11,4 @@ pub mod header;
 pub mod header_text;
 pub mod meta;
 pub mod msgpack;
-#[cfg(test)]
-mod tests;
 pub mod trace;

@@ -604,6 +604,3 @@ impl<S: Storage> HttpCache<S> {
         }
     }
 }
-
-#[cfg(test)]
-mod tests;

@@ -306,5 +306,3 @@ impl Storage for MemCache {
     }
 }
 
-#[cfg(test)]
-mod tests;

@@ -10,8 +10,6 @@ pub mod lru_shards;
 pub mod shard;
 pub mod shard_lock;
 pub mod table;
-#[cfg(test)]
-mod tests;
 
 pub use concurrent::{ConcurrentHashTable, ConcurrentLruCache};
 pub use lru_lock::LruLock;

@@ -361,5 +361,3 @@ impl<'a> From<&'a CacheEntryKey> for CacheEntryKeyRef<'a> {
     }
 }
 
-#[cfg(test)]
-mod tests;

@@ -312,5 +312,3 @@ impl EvictionManager for Manager {
     }
 }
 
-#[cfg(test)]
-mod tests;

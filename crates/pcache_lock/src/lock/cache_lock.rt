@@ -4,7 +4,7 @@ ghost use Rattle.std.specs.Duration.{as_nanos};
 ghost use Rattle.std.specs.FinMap as map;
 ghost use Rattle.pcache_base.specs.declared.error.ErrorType.TheVariants.{NumbersExhausted, OutOfMemory};
 ghost use Rattle.pcache_base.specs.Key.{slot};
-ghost use Rattle.pcache_lock.specs.Locks.{MayRefuseLock, changed, ended, holder, no_locks, permit_dropped, permit_spent, reader_dropped, released, unlocked, with_core, with_free_permit, with_read_lock, without_entry};
+ghost use Rattle.pcache_lock.specs.Locks.{MayRefuseLock, changed, ended, holder, no_locks, no_locks_from, permit_dropped, permit_spent, reader_dropped, released, unlocked, with_core, with_free_permit, with_read_lock, without_entry};
 ghost use Rattle.pcache_lock.specs.Statuses.{IsReason};
 ghost use Rattle.pcache_lock.specs.Permits.{spent, with_reader, without_reader};
 ghost use Rattle.pcache_lock.specs.Waiting.{aged, with_publication};
@@ -148,9 +148,10 @@ impl CacheLock {
         }
     }
 
-    // A table that gives this number next.
-    #[cfg(test)]
-    pub(super) fn starting_at(alloc: Global, age_timeout: Duration, next: u128) -> CacheLock {
+    /// A table with no lock whose next permit has this number, so that a caller sees how the last numbers are given.
+    pub fn starting_at(alloc: Global, age_timeout: Duration, next: u128) -> CacheLock
+        ensures { result ≡ no_locks_from next (as_nanos age_timeout) }
+    {
         CacheLock {
             cores: Table::new(alloc),
             standing: Shards::new(alloc),
@@ -159,7 +160,7 @@ impl CacheLock {
         }
     }
 
-    /// The same in a box. It is refused for want of memory alone.
+    /// A table with no lock, in a box. It is refused for want of memory alone.
     pub fn new_boxed(alloc: Global, age_timeout: Duration) -> Result<Box<CacheLock>>
         ensures made { IfOk result (λ b. b.value ≡ no_locks (as_nanos age_timeout)) }
         ensures kind { IfErr result (λ e. e ≡ OutOfMemory) }

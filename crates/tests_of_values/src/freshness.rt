@@ -1,20 +1,21 @@
 //! Worked rows of freshness and of requests to the origin. Moments are 1,000 s and some seconds.
 
-use crate::cache_control::CacheControl;
-use crate::defaults::CacheMetaDefaults;
-use crate::filters::upstream::request_filter;
-use crate::filters::{
-    calculate_expires_header_time, calculate_serve_stale_durations, request_cacheable,
-    resp_cacheable,
-};
-use crate::response::RespCacheable;
 use http::{Method, StatusCode};
 use http_header::{HeaderMap, HeaderName, HeaderValue};
 use pcache_base::error::{Error, ErrorType};
 use pcache_base::moment::Moment;
+use pcache_control::cache_control::CacheControl;
+use pcache_control::defaults::CacheMetaDefaults;
+use pcache_control::filters::upstream::request_filter;
+use pcache_control::filters::{
+    calculate_expires_header_time, calculate_serve_stale_durations, request_cacheable,
+    resp_cacheable,
+};
+use pcache_control::response::RespCacheable;
 use pcache_meta::header::{RequestHeader, ResponseHeader};
 use pcache_meta::meta::CacheMeta;
 use std::alloc::Global;
+use std::process::Abort;
 use std::test::Fail;
 use std::time::Duration;
 
@@ -118,12 +119,17 @@ fn lifetimes_by_expires(rt: HostRuntime) -> Result<(), Fail> {
         let found = until(alloc, StatusCode::OK, "", expires, false, &defaults)?;
         assert_eq!(rt; found, wanted);
     }
-    let mut twice = ResponseHeader::build(alloc, StatusCode::OK);
-    set(&mut twice, alloc, "expires", LATE)?;
-    set(&mut twice, alloc, "expires", LATE)?;
+    let twice = expires_twice(alloc)?;
     assert!(rt; calculate_expires_header_time(&twice).is_none());
     assert!(rt; !outcome(alloc, twice, false, &defaults)?.is_cacheable());
     Ok(())
+}
+
+fn expires_twice(alloc: Global) -> Result<ResponseHeader, Fail> {
+    let mut twice = ResponseHeader::build(alloc, StatusCode::OK);
+    set(&mut twice, alloc, "expires", LATE)?;
+    set(&mut twice, alloc, "expires", LATE)?;
+    Ok(twice)
 }
 
 #[test]
@@ -185,25 +191,36 @@ fn stale_windows(rt: HostRuntime) -> Result<(), Fail> {
     Ok(())
 }
 
+fn with_three_fields(alloc: Global, line: &str) -> Result<ResponseHeader, Fail> {
+    let mut header = ResponseHeader::build(alloc, StatusCode::OK);
+    let fields = [
+        ("cache-control", line),
+        ("set-cookie", "a=b"),
+        ("something", "x"),
+        ("meta1", "y"),
+    ];
+    for (name, text) in fields {
+        set(&mut header, alloc, name, text)?;
+    }
+    Ok(header)
+}
+
 // Which of its three fields are stored of a response with this Cache-Control.
 fn kept(alloc: Global, line: &str) -> Result<(bool, bool, bool), Fail> {
     let defaults = CacheMetaDefaults::new(by_status, 0, 0);
-    let mut header = ResponseHeader::build(alloc, StatusCode::OK);
-    set(&mut header, alloc, "cache-control", line)?;
-    set(&mut header, alloc, "set-cookie", "a=b")?;
-    set(&mut header, alloc, "something", "x")?;
-    set(&mut header, alloc, "meta1", "y")?;
-    let outcome = outcome(alloc, header, false, &defaults)?;
-    if !outcome.is_cacheable() {
-        return Err(Fail::from(Error::new(ErrorType::InternalError)));
+    match outcome(alloc, with_three_fields(alloc, line)?, false, &defaults)? {
+        RespCacheable::Cacheable(meta) => Ok(fields_of(&meta)),
+        RespCacheable::Uncacheable(_) => Err(Fail::from(Error::new(ErrorType::InternalError))),
     }
-    let meta = outcome.unwrap_meta();
+}
+
+fn fields_of(meta: &CacheMeta) -> (bool, bool, bool) {
     let headers = meta.headers();
-    Ok((
+    (
         headers.contains_key("set-cookie"),
         headers.contains_key("something"),
         headers.contains_key("meta1"),
-    ))
+    )
 }
 
 #[test]
@@ -229,40 +246,47 @@ fn request(alloc: Global, method: Method) -> Result<RequestHeader, Fail> {
     Ok(req)
 }
 
-#[test]
-fn a_request_that_nothing_is_kept_for(rt: HostRuntime) -> Result<(), Fail> {
-    let alloc = rt.alloc();
-    let mut plain = request(alloc, Method::POST)?;
-    assert!(rt; !request_cacheable(&plain));
-    request_filter(&mut plain, None)?;
+fn is_passed_on(rt: &impl Abort, plain: &mut RequestHeader) -> Result<(), Fail> {
+    assert!(rt; !request_cacheable(plain));
+    request_filter(plain, None)?;
     assert!(rt; plain.method == Method::POST);
     assert!(rt; plain.headers.is_empty());
     Ok(())
 }
 
 #[test]
-fn a_request_asks_whether_what_is_kept_is_still_good(rt: HostRuntime) -> Result<(), Fail> {
-    let alloc = rt.alloc();
-    let mut head = request(alloc, Method::HEAD)?;
-    assert!(rt; request_cacheable(&head));
-    let date = "Thu, 01 Jan 1970 01:00:00 GMT";
+fn a_request_that_nothing_is_kept_for(rt: HostRuntime) -> Result<(), Fail> {
+    is_passed_on(&rt, &mut request(rt.alloc(), Method::POST)?)
+}
+
+const LAST_MODIFIED: &str = "Thu, 01 Jan 1970 01:00:00 GMT";
+
+fn kept_meta(alloc: Global) -> Result<CacheMeta, Fail> {
     let mut header = ResponseHeader::build(alloc, StatusCode::OK);
     set(&mut header, alloc, "etag", "\"a\"")?;
-    set(&mut header, alloc, "last-modified", date)?;
+    set(&mut header, alloc, "last-modified", LAST_MODIFIED)?;
     let now = Moment::from_secs(1000);
-    let meta = CacheMeta::new(now, now, 0, 0, header);
-    request_filter(&mut head, Some(&meta))?;
+    Ok(CacheMeta::new(now, now, 0, 0, header))
+}
+
+fn has_value(head: &RequestHeader, name: &str, wanted: &[u8]) -> bool {
+    head.headers
+        .get(name)
+        .is_some_and(|value| value.as_bytes() == wanted)
+}
+
+fn asks_again(rt: &impl Abort, head: &mut RequestHeader, meta: &CacheMeta) -> Result<(), Fail> {
+    assert!(rt; request_cacheable(head));
+    request_filter(head, Some(meta))?;
     assert!(rt; head.method == Method::GET);
     assert!(rt; !head.headers.contains_key("range") && !head.headers.contains_key("if-match"));
-    match (
-        head.headers.get("if-none-match"),
-        head.headers.get("if-modified-since"),
-    ) {
-        (Some(tag), Some(since)) => {
-            assert!(rt; tag.as_bytes() == b"\"a\"".as_slice());
-            assert!(rt; since.as_bytes() == date.as_bytes());
-        }
-        _ => assert!(rt; false),
-    }
+    assert!(rt; has_value(head, "if-none-match", b"\"a\""));
+    assert!(rt; has_value(head, "if-modified-since", LAST_MODIFIED.as_bytes()));
     Ok(())
+}
+
+#[test]
+fn a_request_asks_whether_what_is_kept_is_still_good(rt: HostRuntime) -> Result<(), Fail> {
+    let meta = kept_meta(rt.alloc())?;
+    asks_again(&rt, &mut request(rt.alloc(), Method::HEAD)?, &meta)
 }

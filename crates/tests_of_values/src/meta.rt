@@ -1,11 +1,11 @@
 //! What is known of a stored response.
 
-use crate::header::{HttpVersion, ResponseHeader};
-use crate::meta::CacheMeta;
 use http::StatusCode;
 use pcache_base::moment::Moment;
+use pcache_meta::header::{HttpVersion, ResponseHeader};
+use pcache_meta::meta::CacheMeta;
 use std::alloc::Global;
-use std::test::Fail;
+use std::process::Abort;
 use std::time::Duration;
 
 fn at(secs: u64) -> Moment {
@@ -20,7 +20,10 @@ fn meta(alloc: Global) -> CacheMeta {
 
 #[test]
 fn a_new_meta(rt: HostRuntime) {
-    let meta = meta(rt.alloc());
+    shows_its_times(&rt, &meta(rt.alloc()));
+}
+
+fn shows_its_times(rt: &impl Abort, meta: &CacheMeta) {
     assert_eq!(rt; meta.created(), at(1));
     assert_eq!(rt; meta.updated(), at(1));
     assert_eq!(rt; meta.provenance(), at(1));
@@ -38,7 +41,10 @@ fn a_new_meta(rt: HostRuntime) {
 
 #[test]
 fn windows(rt: HostRuntime) {
-    let mut meta = meta(rt.alloc());
+    has_windows(&rt, &mut meta(rt.alloc()));
+}
+
+fn has_windows(rt: &impl Abort, meta: &mut CacheMeta) {
     assert!(rt; meta.serve_stale_while_revalidate(at(330)));
     assert!(rt; !meta.serve_stale_while_revalidate(at(331)));
     assert!(rt; meta.serve_stale_if_error(at(360)));
@@ -54,7 +60,10 @@ fn windows(rt: HostRuntime) {
 
 #[test]
 fn expiring_keeps_the_windows(rt: HostRuntime) {
-    let mut meta = meta(rt.alloc());
+    keeps_its_windows(&rt, &mut meta(rt.alloc()));
+}
+
+fn keeps_its_windows(rt: &impl Abort, meta: &mut CacheMeta) {
     meta.expire_at(at(400));
     assert_eq!(rt; meta.fresh_until(), at(300));
     meta.expire_at(at(200));
@@ -65,7 +74,10 @@ fn expiring_keeps_the_windows(rt: HostRuntime) {
 
 #[test]
 fn what_can_be_set(rt: HostRuntime) {
-    let mut meta = meta(rt.alloc());
+    can_be_set(&rt, &mut meta(rt.alloc()));
+}
+
+fn can_be_set(rt: &impl Abort, meta: &mut CacheMeta) {
     meta.set_provenance(at(9));
     assert_eq!(rt; meta.provenance(), at(9));
     meta.reset_provenance_to_created();
@@ -83,16 +95,25 @@ fn what_can_be_set(rt: HostRuntime) {
     assert_eq!(rt; meta.variance(), None);
 }
 
-#[test]
-fn the_head(rt: HostRuntime) -> Result<(), Fail> {
-    let mut meta = meta(rt.alloc());
+fn copied_head(meta: &CacheMeta) -> Option<(StatusCode, HttpVersion)> {
+    let copy = meta.response_header_copy().ok()?;
+    Some((copy.status, copy.version))
+}
+
+fn copied_until(meta: &CacheMeta) -> Option<Moment> {
+    let copy = meta.copied().ok()?;
+    Some(copy.fresh_until())
+}
+
+fn has_the_head(rt: &impl Abort, meta: &mut CacheMeta) {
     meta.response_header_mut().version = HttpVersion::Http2;
     assert_eq!(rt; meta.response_header().version, HttpVersion::Http2);
-    let copy = meta.response_header_copy().ok().ok_or("copy")?;
-    assert_eq!(rt; copy.status, StatusCode::OK);
-    assert_eq!(rt; copy.version, HttpVersion::Http2);
+    assert!(rt; copied_head(meta) == Some((StatusCode::OK, HttpVersion::Http2)));
     assert!(rt; meta.headers().is_empty());
-    let copy = meta.copied().ok().ok_or("copy")?;
-    assert_eq!(rt; copy.fresh_until(), at(300));
-    Ok(())
+    assert_eq!(rt; copied_until(meta), Some(at(300)));
+}
+
+#[test]
+fn the_head(rt: HostRuntime) {
+    has_the_head(&rt, &mut meta(rt.alloc()));
 }

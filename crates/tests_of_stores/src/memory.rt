@@ -1,12 +1,19 @@
-use super::*;
-use crate::storage::{HandleHit, HandleMiss};
 use Step::*;
 use bytes::Bytes;
 use http::StatusCode;
 use http_header::{HeaderName, HeaderValue};
+use pcache_base::error::{Error, ErrorType, Result};
+use pcache_base::key::{CacheHashKey, CacheKey};
+use pcache_base::moment::Moment;
 use pcache_base::poll::Poll;
-use pcache_evict::eviction::CacheEntryId;
+use pcache_evict::eviction::{CacheEntryId, CacheEntryKey};
 use pcache_meta::header::ResponseHeader;
+use pcache_meta::meta::CacheMeta;
+use pcache_store::memory::*;
+use pcache_store::storage::{
+    HandleHit, HandleMiss, MissFinishType, PurgeOutcome, PurgeTarget, PurgeType, Storage,
+};
+use std::alloc::Global;
 use std::collections::BTreeMap;
 use std::process::Abort;
 use std::test::Fail;
@@ -316,9 +323,13 @@ fn told(alloc: Global, steps: &[Step]) -> Result<String> {
     Ok(told)
 }
 
-fn check(rt: &impl Abort, alloc: Global, steps: &[Step], wanted: &str) -> Result<()> {
+fn tells(alloc: Global, steps: &[Step], wanted: &str) -> Result<bool> {
     let text = told(alloc, steps)?;
-    assert_eq!(rt; text.as_str(), wanted);
+    Ok(text.as_str() == wanted)
+}
+
+fn check(rt: &impl Abort, alloc: Global, steps: &[Step], wanted: &str) -> Result<()> {
+    assert!(rt; tells(alloc, steps, wanted)?, "{wanted}");
     Ok(())
 }
 
@@ -582,17 +593,46 @@ fn a_meta_reads_back_equal(rt: HostRuntime) -> std::result::Result<(), Fail> {
     let mut store = MemCache::new(alloc);
     let key = key_of(alloc, "a")?;
     let mut meta = meta_with_fields(alloc)?;
-    let writer = store.get_miss_handler(alloc, &key, &meta)?;
-    let in_flight = finds(alloc, &mut store, &key, &meta);
-    writer.finish(&mut store)?;
-    assert!(rt; in_flight?);
-    assert!(rt; finds(alloc, &mut store, &key, &meta)?);
+    is_kept(&rt, alloc, &mut store, &key, &mut meta)
+}
+
+fn is_found_while_written(
+    alloc: Global,
+    store: &mut MemCache,
+    key: &CacheKey,
+    meta: &CacheMeta,
+) -> std::result::Result<bool, Fail> {
+    let writer = store.get_miss_handler(alloc, key, meta)?;
+    let in_flight = finds(alloc, store, key, meta);
+    writer.finish(store)?;
+    Ok(in_flight?)
+}
+
+fn is_expired(
+    alloc: Global,
+    store: &mut MemCache,
+    key: &CacheKey,
+) -> std::result::Result<bool, Fail> {
     let compact = key.to_compact()?;
-    let expired = store.expire(alloc, PurgeTarget::Active(&compact), Moment::from_secs(5))?;
-    assert_eq!(rt; expired, PurgeOutcome::Expired);
-    assert!(rt; !finds(alloc, &mut store, &key, &meta)?);
+    Ok(
+        store.expire(alloc, PurgeTarget::Active(&compact), Moment::from_secs(5))?
+            == PurgeOutcome::Expired,
+    )
+}
+
+fn is_kept(
+    rt: &impl Abort,
+    alloc: Global,
+    store: &mut MemCache,
+    key: &CacheKey,
+    meta: &mut CacheMeta,
+) -> std::result::Result<(), Fail> {
+    assert!(rt; is_found_while_written(alloc, store, key, meta)?);
+    assert!(rt; finds(alloc, store, key, meta)?);
+    assert!(rt; is_expired(alloc, store, key)?);
+    assert!(rt; !finds(alloc, store, key, meta)?);
     meta.expire_at(Moment::from_secs(5));
-    assert!(rt; finds(alloc, &mut store, &key, &meta)?);
+    assert!(rt; finds(alloc, store, key, meta)?);
     Ok(())
 }
 

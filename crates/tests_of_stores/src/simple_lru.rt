@@ -1,8 +1,11 @@
-use super::*;
-use crate::eviction::CacheEntryId;
 use Step::*;
+use pcache_base::error::Result;
 use pcache_base::key::CompactCacheKey;
+use pcache_base::moment::Moment;
 use pcache_base::text::Text;
+use pcache_evict::eviction::simple_lru::Manager;
+use pcache_evict::eviction::{CacheEntryId, CacheEntryKey, EvictionManager};
+use std::alloc::Global;
 use std::fmt::Write;
 use std::process::Abort;
 use std::test::*;
@@ -76,10 +79,15 @@ fn told(alloc: Global, manager: &mut Manager, steps: &[Step]) -> Result<String> 
     Ok(told)
 }
 
+// Whether the steps answer this.
+fn tells(alloc: Global, manager: &mut Manager, steps: &[Step], wanted: &str) -> Result<bool> {
+    let text = told(alloc, manager, steps)?;
+    Ok(text.as_str() == wanted)
+}
+
 fn check(rt: &impl Abort, alloc: Global, limit: usize, steps: &[Step], wanted: &str) -> Result<()> {
-    let mut manager = Manager::new(alloc, limit)?;
-    let text = told(alloc, &mut manager, steps)?;
-    assert_eq!(rt; text.as_str(), wanted);
+    let is_told = tells(alloc, &mut Manager::new(alloc, limit)?, steps, wanted)?;
+    assert!(rt; is_told, "{wanted}");
     Ok(())
 }
 
@@ -231,14 +239,51 @@ fn the_watermark_bounds_the_number(rt: HostRuntime) -> std::result::Result<(), F
         Admit(b'e', 1),
         Admit(b'f', 1),
     ];
-    let text = told(alloc, &mut manager, &steps)?;
-    assert_eq!(rt; text.as_str(), "ab | f1 e1 d1 c1 | 4 of 4, 2 of 2 went");
-    assert!(rt; manager.peek(&entry(alloc, b'c')?));
-    assert!(rt; !manager.peek(&entry(alloc, b'b')?));
+    watermark_is_kept(&rt, alloc, &mut manager, &steps)?;
     let mut manager = Manager::new_with_watermark(alloc, 0, Some(0))?;
-    let text = told(alloc, &mut manager, &[Admit(b'a', 0)])?;
-    assert_eq!(rt; text.as_str(), "a | | 0 of 0, 1 of 0 went");
+    let is_told = tells(
+        alloc,
+        &mut manager,
+        &[Admit(b'a', 0)],
+        "a | | 0 of 0, 1 of 0 went",
+    )?;
+    assert!(rt; is_told);
     Ok(())
+}
+
+fn peeks(alloc: Global, manager: &Manager, name: u8) -> Result<bool> {
+    Ok(manager.peek(&entry(alloc, name)?))
+}
+
+fn watermark_is_kept(
+    rt: &impl Abort,
+    alloc: Global,
+    manager: &mut Manager,
+    steps: &[Step],
+) -> Result<()> {
+    let is_told = tells(
+        alloc,
+        manager,
+        steps,
+        "ab | f1 e1 d1 c1 | 4 of 4, 2 of 2 went",
+    )?;
+    assert!(rt; is_told);
+    let (third, second) = (peeks(alloc, manager, b'c')?, peeks(alloc, manager, b'b')?);
+    assert!(rt; third && !second);
+    Ok(())
+}
+
+// Admits both, and answers how many of the first call and whether exactly the first entry of the second went.
+fn second_evicts_first(
+    alloc: Global,
+    manager: &mut Manager,
+    first: CacheEntryKey,
+    second: CacheEntryKey,
+) -> Result<bool> {
+    let copy = first.copied()?;
+    let none = manager.admit(first, 1, NEVER_READ)?.is_empty();
+    let out = manager.admit(second, 1, NEVER_READ)?;
+    Ok(none && out.len() == 1 && out.first() == Some(&copy))
 }
 
 #[test]
@@ -246,22 +291,37 @@ fn entries_of_one_key_are_told_apart(rt: HostRuntime) -> std::result::Result<(),
     let alloc = rt.alloc();
     let first = CacheEntryKey::identified(compact(alloc, b'a', "1")?, CacheEntryId::new(1));
     let second = CacheEntryKey::identified(compact(alloc, b'a', "1")?, CacheEntryId::new(2));
-    let mut manager = Manager::new(alloc, 1)?;
-    assert_eq!(rt; manager.admit(first.copied()?, 1, NEVER_READ)?.len(), 0);
-    let out = manager.admit(second, 1, NEVER_READ)?;
-    assert_eq!(rt; out.as_slice(), [first].as_slice());
+    let evicts = second_evicts_first(alloc, &mut Manager::new(alloc, 1)?, first, second)?;
+    assert!(rt; evicts);
     Ok(())
 }
 
 #[test]
 fn tags_of_one_key_are_told_apart(rt: HostRuntime) -> std::result::Result<(), Fail> {
     let alloc = rt.alloc();
-    let mut manager = Manager::new(alloc, 4)?;
     let other = CacheEntryKey::key_only(compact(alloc, b'a', "2")?);
-    assert_eq!(rt; manager.admit(entry(alloc, b'a')?, 3, NEVER_READ)?.len(), 0);
-    let out = manager.admit(other, 2, NEVER_READ)?;
-    assert_eq!(rt; out.as_slice(), [entry(alloc, b'a')?].as_slice());
-    assert_eq!(rt; manager.total_size(), 2);
+    let mut manager = Manager::new(alloc, 1)?;
+    let evicts = second_evicts_first(alloc, &mut manager, entry(alloc, b'a')?, other)?;
+    assert!(rt; evicts);
+    assert_eq!(rt; manager.total_size(), 1);
+    Ok(())
+}
+
+fn admits_and_raises(
+    rt: &impl Abort,
+    boxed: &mut Box<dyn EvictionManager + Send>,
+    a: &CacheEntryKey,
+    b: &CacheEntryKey,
+) -> Result<()> {
+    assert!(rt; boxed.admit(a.copied()?, 2, NEVER_READ)?.is_empty());
+    assert!(rt; !boxed.access(b, 1, NEVER_READ)?);
+    assert!(rt; boxed.peek(b));
+    let out = boxed.increment_weight(b, 3, None)?;
+    assert!(rt; out.len() == 1 && out.first() == Some(a));
+    assert_eq!(rt; (boxed.total_size(), boxed.total_items()), (4, 1));
+    assert_eq!(rt; (boxed.evicted_size(), boxed.evicted_items()), (2, 1));
+    boxed.remove(b);
+    assert_eq!(rt; boxed.entries()?.len(), 0);
     Ok(())
 }
 
@@ -270,28 +330,23 @@ fn a_boxed_manager_is_one(rt: HostRuntime) -> std::result::Result<(), Fail> {
     let alloc = rt.alloc();
     let manager = Manager::new(alloc, 4)?;
     let mut boxed: Box<dyn EvictionManager + Send> = Box::new(alloc, manager)?;
-    let (a, b) = (entry(alloc, b'a')?, entry(alloc, b'b')?);
-    assert_eq!(rt; boxed.admit(a.copied()?, 2, NEVER_READ)?.len(), 0);
-    assert!(rt; !boxed.access(&b, 1, NEVER_READ)?);
-    assert!(rt; boxed.peek(&b));
-    let out = boxed.increment_weight(&b, 3, None)?;
-    assert_eq!(rt; out.as_slice(), [a].as_slice());
-    assert_eq!(rt; (boxed.total_size(), boxed.total_items()), (4, 1));
-    assert_eq!(rt; (boxed.evicted_size(), boxed.evicted_items()), (2, 1));
-    boxed.remove(&b);
-    assert_eq!(rt; boxed.entries()?.len(), 0);
-    Ok(())
+    Ok(admits_and_raises(&rt, &mut boxed, &entry(alloc, b'a')?, &entry(alloc, b'b')?)?)
 }
 
 #[test]
 fn many_admissions_are_fast(rt: HostRuntime) -> std::result::Result<(), Fail> {
     let alloc = rt.alloc();
     let mut manager = Manager::new(alloc, 5000)?;
+    admit_all(alloc, &mut manager)?;
+    assert_eq!(rt; manager.evicted_items(), 45000);
+    Ok(())
+}
+
+fn admit_all(alloc: Global, manager: &mut Manager) -> Result<()> {
     for number in 0..50000u64 {
         let key = compact(alloc, b'a', "1")?;
         let item = CacheEntryKey::identified(key, CacheEntryId::new(number));
         drop(manager.admit(item, 1, NEVER_READ)?);
     }
-    assert_eq!(rt; manager.evicted_items(), 45000);
     Ok(())
 }

@@ -1,6 +1,6 @@
 //! Points in time.
 
-use crate::moment::Moment;
+use pcache_base::moment::Moment;
 use std::test::Fail;
 use std::time::Duration;
 

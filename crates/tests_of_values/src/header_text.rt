@@ -1,12 +1,13 @@
 //! The text of heads.
 
-use crate::header::{HttpVersion, ResponseHeader};
-use crate::header_text::reader::header_deserialize;
-use crate::header_text::writer::header_serialize;
 use http::StatusCode;
 use http_header::{HeaderName, HeaderValue};
 use pcache_base::error::ErrorType;
+use pcache_meta::header::{HttpVersion, ResponseHeader};
+use pcache_meta::header_text::reader::header_deserialize;
+use pcache_meta::header_text::writer::header_serialize;
 use std::alloc::Global;
+use std::process::Abort;
 use std::test::Fail;
 
 fn refused(alloc: Global, bytes: &[u8]) -> bool {
@@ -25,46 +26,63 @@ fn add(alloc: Global, header: &mut ResponseHeader, name: &[u8], value: &[u8]) ->
     header.headers.append(name, value).is_ok()
 }
 
+// Whether this text is written of the head.
+fn writes(alloc: Global, header: &ResponseHeader, wanted: &[u8]) -> Result<bool, Fail> {
+    let text = header_serialize(alloc, header).ok().ok_or("written")?;
+    Ok(text.as_slice() == wanted)
+}
+
+fn read(alloc: Global, text: &[u8]) -> Result<ResponseHeader, Fail> {
+    Ok(header_deserialize(alloc, text).ok().ok_or("read")?)
+}
+
+fn has_one_field(rt: &impl Abort, read: &ResponseHeader) -> Result<(), Fail> {
+    assert_eq!(rt; read.version, HttpVersion::Http11);
+    assert_eq!(rt; read.status, StatusCode::OK);
+    assert_eq!(rt; read.headers.len(), 1);
+    let value = read.headers.get("foo1").ok_or("foo1")?;
+    assert!(rt; value.as_bytes() == b"bar1".as_slice());
+    Ok(())
+}
+
 #[test]
 fn a_head_is_written_and_read(rt: HostRuntime) -> Result<(), Fail> {
     let alloc = rt.alloc();
+    let text = b"HTTP/1.1 200\r\nfoo1: bar1\r\n\r\n";
     let mut header = ResponseHeader::build(alloc, StatusCode::OK);
     assert!(rt; add(alloc, &mut header, b"foo1", b"bar1"));
-    let text = header_serialize(alloc, &header).ok().ok_or("written")?;
-    assert_eq!(rt;
-        text.as_slice(),
-        b"HTTP/1.1 200\r\nfoo1: bar1\r\n\r\n".as_slice()
-    );
-    let read = header_deserialize(alloc, &text).ok().ok_or("read")?;
-    assert_eq!(rt; read.version, HttpVersion::Http11);
-    assert_eq!(rt; read.status, StatusCode::OK);
-    let value = read.headers.get("foo1").ok_or("foo1")?;
-    assert_eq!(rt; value.as_bytes(), b"bar1".as_slice());
-    assert_eq!(rt; read.headers.len(), 1);
-    Ok(())
+    assert!(rt; writes(alloc, &header, text)?);
+    has_one_field(&rt, &read(alloc, text)?)
+}
+
+fn with_values_apart(alloc: Global) -> (ResponseHeader, bool) {
+    let mut header = ResponseHeader::build(alloc, StatusCode::NOT_FOUND);
+    header.version = HttpVersion::Http3;
+    let added = add(alloc, &mut header, b"a", b"1")
+        && add(alloc, &mut header, b"B", b"")
+        && add(alloc, &mut header, b"a", b" 3");
+    (header, added)
 }
 
 #[test]
 fn values_of_a_name_stand_together(rt: HostRuntime) -> Result<(), Fail> {
     let alloc = rt.alloc();
-    let mut header = ResponseHeader::build(alloc, StatusCode::NOT_FOUND);
-    header.version = HttpVersion::Http3;
-    assert!(rt; add(alloc, &mut header, b"a", b"1"));
-    assert!(rt; add(alloc, &mut header, b"B", b""));
-    assert!(rt; add(alloc, &mut header, b"a", b" 3"));
-    let text = header_serialize(alloc, &header).ok().ok_or("written")?;
-    assert_eq!(rt;
-        text.as_slice(),
-        b"HTTP/3.0 404\r\na: 1\r\na:  3\r\nb: \r\n\r\n".as_slice()
-    );
-    let read = header_deserialize(alloc, &text).ok().ok_or("read")?;
-    assert!(rt; read.headers == header.headers);
+    let text = b"HTTP/3.0 404\r\na: 1\r\na:  3\r\nb: \r\n\r\n";
+    let (header, added) = with_values_apart(alloc);
+    assert!(rt; added);
+    assert!(rt; writes(alloc, &header, text)?);
+    assert!(rt; read(alloc, text)?.headers == header.headers);
     Ok(())
+}
+
+fn is_version_of(alloc: Global, version: HttpVersion, text: &[u8]) -> Result<bool, Fail> {
+    let mut header = ResponseHeader::build(alloc, StatusCode::OK);
+    header.version = version;
+    Ok(writes(alloc, &header, text)? && read(alloc, text)?.version == version)
 }
 
 #[test]
 fn each_version_has_its_text(rt: HostRuntime) -> Result<(), Fail> {
-    let alloc = rt.alloc();
     let rows = [
         (HttpVersion::Http09, b"HTTP/0.9 200\r\n\r\n"),
         (HttpVersion::Http10, b"HTTP/1.0 200\r\n\r\n"),
@@ -73,14 +91,7 @@ fn each_version_has_its_text(rt: HostRuntime) -> Result<(), Fail> {
         (HttpVersion::Http3, b"HTTP/3.0 200\r\n\r\n"),
     ];
     for (version, text) in rows {
-        let mut header = ResponseHeader::build(alloc, StatusCode::OK);
-        header.version = version;
-        let written = header_serialize(alloc, &header).ok().ok_or("written")?;
-        assert_eq!(rt; written.as_slice(), text.as_slice());
-        let read = header_deserialize(alloc, text.as_slice())
-            .ok()
-            .ok_or("read")?;
-        assert_eq!(rt; read.version, version);
+        assert!(rt; is_version_of(rt.alloc(), version, text.as_slice())?);
     }
     Ok(())
 }

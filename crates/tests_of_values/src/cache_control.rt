@@ -1,14 +1,15 @@
 //! Worked rows.
 
-use crate::cache_control::{
-    CacheControl, Cacheable, DELTA_SECONDS_OVERFLOW_VALUE, DirectiveKey, DirectiveValue,
-    InterpretCacheControl, ListValueIter, delta_seconds_overflow_duration,
-};
 use http::StatusCode;
 use http_header::HeaderValue;
 use pcache_base::error::{Error, ErrorType};
+use pcache_control::cache_control::{
+    CacheControl, Cacheable, DELTA_SECONDS_OVERFLOW_VALUE, DirectiveKey, DirectiveValue,
+    InterpretCacheControl, ListValueIter, delta_seconds_overflow_duration,
+};
 use pcache_meta::header::ResponseHeader;
 use std::alloc::Global;
+use std::process::Abort;
 use std::test::Fail;
 use std::time::Duration;
 
@@ -44,9 +45,15 @@ fn listed(alloc: Global, cc: &CacheControl) -> Result<Vec<u8>, Fail> {
     Ok(text)
 }
 
+// Whether a line has these directives, as text.
+fn lists(alloc: Global, line: &[u8], wanted: &[u8]) -> Result<bool, Fail> {
+    let cc = read(alloc, &[line])?;
+    let text = listed(alloc, &cc)?;
+    Ok(text.as_slice() == wanted)
+}
+
 #[test]
 fn directives_by_name(rt: HostRuntime) -> Result<(), Fail> {
-    let alloc = rt.alloc();
     let rows: [(&[u8], &[u8]); 9] = [
         (b"max-age=10;;public", b"max-age=10|public|"),
         (b"a\xFF=1,\t b=2", b"b=2|"),
@@ -62,16 +69,22 @@ fn directives_by_name(rt: HostRuntime) -> Result<(), Fail> {
         (b"a=\"b\\\",c\";,d", b"a=\"b\\\",c\"|d|"),
     ];
     for (line, wanted) in rows {
-        let cc = read(alloc, &[line])?;
-        let text = listed(alloc, &cc)?;
-        assert_eq!(rt; text.as_slice(), wanted);
+        assert!(rt; lists(rt.alloc(), line, wanted)?);
     }
     Ok(())
 }
 
+// What a line says of storing, and for how many seconds.
+fn says(alloc: Global, line: &[u8]) -> Result<(Cacheable, Option<u64>), Fail> {
+    let cc = read(alloc, &[line])?;
+    Ok((
+        cc.is_cacheable(),
+        cc.fresh_duration().map(|it| it.as_secs()),
+    ))
+}
+
 #[test]
 fn what_lines_say(rt: HostRuntime) -> Result<(), Fail> {
-    let alloc = rt.alloc();
     let rows: [(&[u8], Cacheable, Option<u64>); 10] = [
         (b"max-age=10;;public", Cacheable::Yes, Some(10)),
         (b"max-age=", Cacheable::Yes, None),
@@ -85,38 +98,35 @@ fn what_lines_say(rt: HostRuntime) -> Result<(), Fail> {
         (b"no-cache, max-age=5", Cacheable::Yes, Some(0)),
     ];
     for (line, cacheable, fresh) in rows {
-        let cc = read(alloc, &[line])?;
-        let seconds = match cc.fresh_duration() {
-            Some(duration) => Some(duration.as_secs()),
-            None => None,
-        };
-        assert_eq!(rt; cc.is_cacheable(), cacheable);
-        assert_eq!(rt; seconds, fresh);
+        assert!(rt; says(rt.alloc(), line)? == (cacheable, fresh));
     }
     Ok(())
 }
 
+// Whether the lines make a response private, and what they say of storing.
+fn privacy(alloc: Global, lines: &[&[u8]]) -> Result<(bool, Cacheable), Fail> {
+    let cc = read(alloc, lines)?;
+    Ok((cc.private(), cc.is_cacheable()))
+}
+
 #[test]
 fn the_last_value_of_a_directive_counts(rt: HostRuntime) -> Result<(), Fail> {
-    let alloc = rt.alloc();
-    let both = read(alloc, &[b"private=\"x\"", b"private"])?;
-    assert!(rt; both.private());
-    assert_eq!(rt; both.is_cacheable(), Cacheable::No);
-    let parted = read(alloc, &[b"private, private=\"x\""])?;
-    assert!(rt; !parted.private());
+    assert!(rt; privacy(rt.alloc(), &[b"private=\"x\"", b"private"])? == (true, Cacheable::No));
+    assert!(rt; !privacy(rt.alloc(), &[b"private, private=\"x\""])?.0);
     Ok(())
+}
+
+fn has_max_age(rt: &impl Abort, cc: &CacheControl) {
+    assert!(rt; cc.has_key("max-age"));
+    assert!(rt; !cc.has_key("Max-Age"));
+    assert!(rt; cc.has_directive(&DirectiveKey::MaxAge));
+    assert!(rt; !cc.only_if_cached());
 }
 
 #[test]
 fn directives_are_found_by_their_lower_case_names(rt: HostRuntime) -> Result<(), Fail> {
-    let alloc = rt.alloc();
-    let max_age = read(alloc, &[b"max-age=1"])?;
-    assert!(rt; max_age.has_key("max-age"));
-    assert!(rt; !max_age.has_key("Max-Age"));
-    assert!(rt; max_age.has_directive(&DirectiveKey::MaxAge));
-    assert!(rt; !max_age.only_if_cached());
-    let own = read(alloc, &[b"Own-Name=1"])?;
-    assert!(rt; own.has_key("own-name"));
+    has_max_age(&rt, &read(rt.alloc(), &[b"max-age=1"])?);
+    assert!(rt; read(rt.alloc(), &[b"Own-Name=1"])?.has_key("own-name"));
     Ok(())
 }
 
@@ -132,28 +142,30 @@ fn joined(alloc: Global, items: Option<ListValueIter<'_>>) -> Result<Vec<u8>, Fa
     Ok(text)
 }
 
+fn joins_as(alloc: Global, items: Option<ListValueIter<'_>>, wanted: &[u8]) -> Result<bool, Fail> {
+    let text = joined(alloc, items)?;
+    Ok(text.as_slice() == wanted)
+}
+
+fn lists_its_names(rt: &impl Abort, alloc: Global, cc: &CacheControl) -> Result<(), Fail> {
+    assert!(rt; !cc.no_cache());
+    assert!(rt; joins_as(alloc, cc.no_cache_field_names(), b"|meta1|SeT-Cookie|meta2")?);
+    assert!(rt; joins_as(alloc, cc.private_field_names(), b"|a")?);
+    Ok(())
+}
+
 #[test]
 fn listed_field_names(rt: HostRuntime) -> Result<(), Fail> {
     let alloc = rt.alloc();
-    let cc = read(
-        alloc,
-        &[b"no-cache=\"meta1, SeT-Cookie ,meta2\", private=a"],
-    )?;
-    assert!(rt; !cc.no_cache());
-    assert_eq!(rt;
-        joined(alloc, cc.no_cache_field_names())?.as_slice(),
-        b"|meta1|SeT-Cookie|meta2".as_slice()
-    );
-    assert_eq!(rt;
-        joined(alloc, cc.private_field_names())?.as_slice(),
-        b"|a".as_slice()
-    );
-    let value = DirectiveValue(Vec::from_slice(alloc, b"\t,b\t c ")?);
-    assert_eq!(rt;
-        joined(alloc, Some(ListValueIter::from(&value)))?.as_slice(),
-        b"||b\t c".as_slice()
-    );
+    let line = b"no-cache=\"meta1, SeT-Cookie ,meta2\", private=a";
+    lists_its_names(&rt, alloc, &read(alloc, &[line])?)?;
+    let value = value(alloc, b"\t,b\t c ")?;
+    assert!(rt; joins_as(alloc, Some(ListValueIter::from(&value)), b"||b\t c")?);
     Ok(())
+}
+
+fn value(alloc: Global, text: &[u8]) -> Result<DirectiveValue, Fail> {
+    Ok(DirectiveValue(Vec::from_slice(alloc, text)?))
 }
 
 // The number, or none where the value was refused as unreadable.
@@ -163,6 +175,15 @@ fn number(answer: Result<u32, Error>) -> Option<u32> {
         Err(e) if e.etype() == ErrorType::InternalError => None,
         Err(_) => Some(u32::MAX - 1),
     }
+}
+
+// What a text is as whole seconds, and as seconds whose parts are cut off.
+fn seconds(alloc: Global, text: &[u8]) -> Result<(Option<u32>, Option<u32>), Fail> {
+    let value = value(alloc, text)?;
+    Ok((
+        number(value.parse_as_delta_seconds()),
+        number(value.parse_as_delta_seconds_floor()),
+    ))
 }
 
 #[test]
@@ -179,9 +200,7 @@ fn numbers_of_seconds(rt: HostRuntime) -> Result<(), Fail> {
         (b"-1", None),
     ];
     for (text, wanted) in whole {
-        let value = DirectiveValue(Vec::from_slice(alloc, text)?);
-        assert_eq!(rt; number(value.parse_as_delta_seconds()), wanted);
-        assert_eq!(rt; number(value.parse_as_delta_seconds_floor()), wanted);
+        assert!(rt; seconds(alloc, text)? == (wanted, wanted));
     }
     let floor: [(&[u8], Option<u32>); 7] = [
         (b"1.9", Some(1)),
@@ -193,9 +212,7 @@ fn numbers_of_seconds(rt: HostRuntime) -> Result<(), Fail> {
         (b"1.2.3", None),
     ];
     for (text, wanted) in floor {
-        let value = DirectiveValue(Vec::from_slice(alloc, text)?);
-        assert_eq!(rt; number(value.parse_as_delta_seconds()), None);
-        assert_eq!(rt; number(value.parse_as_delta_seconds_floor()), wanted);
+        assert!(rt; seconds(alloc, text)? == (None, wanted));
     }
     assert_eq!(rt;
         delta_seconds_overflow_duration(),
@@ -204,35 +221,35 @@ fn numbers_of_seconds(rt: HostRuntime) -> Result<(), Fail> {
     Ok(())
 }
 
+fn is_read(rt: &impl Abort, cc: &CacheControl) {
+    assert!(rt; cc.max_age().is_err());
+    assert!(rt; cc.no_store() && cc.must_revalidate() && cc.proxy_revalidate() && !cc.public());
+    assert!(rt; cc.allow_caching_authorized_req());
+    assert!(rt; cc.serve_stale_if_error_duration() == Some(Duration::ZERO));
+    assert!(rt; cc.serve_stale_while_revalidate_duration() == Some(Duration::ZERO));
+    assert!(rt; matches!(cc.stale_while_revalidate(), Ok(Some(30))));
+    assert!(rt; matches!(cc.stale_if_error(), Ok(Some(60))));
+    assert!(rt; cc.s_maxage().is_err());
+}
+
 #[test]
 fn readings_of_a_field(rt: HostRuntime) -> Result<(), Fail> {
     let alloc = rt.alloc();
     let line =
         b"max-age=1.5, s-maxage=x, stale-while-revalidate=30, stale-if-error=60, no-store, must-revalidate, proxy-revalidate";
     let cc = read(alloc, &[line])?;
-    assert!(rt; cc.max_age().is_err());
-    assert!(rt; cc.no_store() && cc.must_revalidate() && cc.proxy_revalidate() && !cc.public());
-    assert!(rt; cc.allow_caching_authorized_req());
-    assert!(rt; cc.serve_stale_if_error_duration() == Some(Duration::ZERO));
-    assert!(rt; cc.serve_stale_while_revalidate_duration() == Some(Duration::ZERO));
-    match (
-        cc.stale_while_revalidate(),
-        cc.stale_if_error(),
-        cc.s_maxage(),
-    ) {
-        (Ok(Some(30)), Ok(Some(60)), Err(_)) => {}
-        _ => assert!(rt; false),
-    }
+    is_read(&rt, &cc);
     let cc = cc.with_float_seconds();
-    match cc.max_age() {
-        Ok(Some(1)) => {}
-        _ => assert!(rt; false),
-    }
-    let value = DirectiveValue(Vec::from_slice(alloc, b"\"a b\"")?);
-    assert_eq!(rt; value.parse_as_bytes(), b"a b".as_slice());
-    assert_eq!(rt; value.parse_as_str()?, "a b");
-    let bytes = DirectiveValue(Vec::from_slice(alloc, b"\"\xFF\"")?);
-    assert!(rt; bytes.parse_as_str().is_err());
+    assert!(rt; matches!(cc.max_age(), Ok(Some(1))));
+    Ok(())
+}
+
+#[test]
+fn values_without_their_quotes(rt: HostRuntime) -> Result<(), Fail> {
+    let quoted = value(rt.alloc(), b"\"a b\"")?;
+    assert!(rt; quoted.parse_as_bytes() == b"a b".as_slice());
+    assert!(rt; matches!(quoted.parse_as_str(), Ok("a b")));
+    assert!(rt; value(rt.alloc(), b"\"\xFF\"")?.parse_as_str().is_err());
     Ok(())
 }
 
@@ -258,13 +275,19 @@ fn keys(rt: HostRuntime) -> Result<(), Fail> {
     for name in names {
         let key = DirectiveKey::from_lowercase(alloc, name)?;
         assert!(rt; key.is(name));
-        assert!(rt; key != DirectiveKey::Unknown(String::from_str(alloc, name)?));
-        assert_eq!(rt; format!(in alloc; "{key}")?.as_str(), name);
+        assert!(rt; key != unknown(alloc, name)?);
+        assert!(rt; prints_as(alloc, &key, name)?);
     }
     let other = DirectiveKey::from_lowercase_owned(String::from_str(alloc, "own")?);
-    assert_eq!(rt;
-        other,
-        DirectiveKey::Unknown(String::from_str(alloc, "own")?)
-    );
+    assert!(rt; other == unknown(alloc, "own")?);
     Ok(())
+}
+
+fn unknown(alloc: Global, name: &str) -> Result<DirectiveKey, Fail> {
+    Ok(DirectiveKey::Unknown(String::from_str(alloc, name)?))
+}
+
+fn prints_as(alloc: Global, key: &DirectiveKey, wanted: &str) -> Result<bool, Fail> {
+    let text = format!(in alloc; "{key}")?;
+    Ok(text.as_str() == wanted)
 }

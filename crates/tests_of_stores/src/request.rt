@@ -1,10 +1,19 @@
 //! One request's way through a store, a manager and a lock table, call by call.
-use super::*;
+use bytes::Bytes;
 use http::StatusCode;
+use pcache_base::error::Result;
+use pcache_base::key::CacheKey;
+use pcache_base::moment::Moment;
+use pcache_base::poll::Poll;
 use pcache_evict::eviction::simple_lru::Manager;
 use pcache_lock::lock::CacheLock;
 use pcache_meta::header::ResponseHeader;
+use pcache_meta::meta::CacheMeta;
+use pcache_request::cache::*;
+use pcache_request::phase::*;
 use pcache_store::memory::MemCache;
+use pcache_store::storage::{HandleHit, HandleMiss, PurgeTarget, PurgeType, Storage};
+use std::alloc::Global;
 use std::process::Abort;
 use std::test::Fail;
 use std::time::Duration;

@@ -1,12 +1,12 @@
 // Random calls, against a plain list of all permits that were ever given.
-use crate::lock::CacheKeyLock;
-use crate::lock::cache_lock::CacheLock;
-use crate::lock::outcome::WaitOutcome;
-use crate::lock::permit::{Locked, ReadLock, WritePermit};
-use crate::lock::status::LockStatus;
 use pcache_base::key::CacheKey;
 use pcache_base::moment::Moment;
 use pcache_base::poll::Poll;
+use pcache_lock::lock::CacheKeyLock;
+use pcache_lock::lock::cache_lock::CacheLock;
+use pcache_lock::lock::outcome::WaitOutcome;
+use pcache_lock::lock::permit::{Locked, ReadLock, WritePermit};
+use pcache_lock::lock::status::LockStatus;
 use rand::rngs::StdRng;
 use rand::{RngExt, SeedableRng};
 use std::alloc::Global;

@@ -1,9 +1,10 @@
 //! What metas say beside their header: worked rows, and upstream's tests of the versions.
 
-use crate::meta::codec::deserialize_internal;
-use crate::meta::internal_meta::{InternalMetaV0, InternalMetaV1, InternalMetaV2};
 use pcache_base::error::ErrorType;
 use pcache_base::moment::Moment;
+use pcache_meta::meta::codec::deserialize_internal;
+use pcache_meta::meta::internal_meta::{InternalMetaV0, InternalMetaV1, InternalMetaV2};
+use std::alloc::Global;
 use std::test::Fail;
 
 fn at(secs: u64) -> Moment {
@@ -62,12 +63,21 @@ fn version_2_reads_in_any_width(rt: HostRuntime) -> Result<(), Fail> {
     assert_eq!(rt; meta, wanted);
     let wide = [0xdc, 0, 6, 2, 0x92, 1, 0, 0x92, 1, 0, 0x92, 1, 0, 0, 0];
     assert_eq!(rt; deserialize_internal(&wide).ok(), Some(wanted));
-    let written = meta.serialize(rt.alloc()).ok().ok_or("written")?;
     let bytes = [
         0x98, 2, 0x92, 1, 0, 0x92, 1, 0, 0x92, 1, 0, 0, 0, 0xc0, 0xc0,
     ];
-    assert_eq!(rt; written.as_slice(), bytes.as_slice());
+    assert!(rt; written(rt.alloc(), &meta)?.as_slice() == bytes.as_slice());
     Ok(())
+}
+
+fn written(alloc: Global, meta: &InternalMetaV2) -> Result<Vec<u8>, Fail> {
+    Ok(meta.serialize(alloc).ok().ok_or("written")?)
+}
+
+// Whether what is written of the meta reads back as it, and begins with this byte.
+fn reads_back(alloc: Global, meta: InternalMetaV2, first: u8) -> Result<bool, Fail> {
+    let bytes = written(alloc, &meta)?;
+    Ok(bytes[0] == first && deserialize_internal(&bytes).ok() == Some(meta))
 }
 
 #[test]
@@ -130,25 +140,43 @@ fn each_version_reads_as_the_latest(rt: HostRuntime) -> Result<(), Fail> {
     };
     assert_eq!(rt; InternalMetaV2::from(old), wanted);
     assert_eq!(rt; InternalMetaV2::from(next), wanted);
-    let bytes = old.serialize(rt.alloc()).ok().ok_or("version 0")?;
-    assert_eq!(rt;
-        bytes.as_slice(),
-        [0x94, 0x92, 0xcd, 1, 0x2c, 0, 0x92, 1, 0, 30, 60].as_slice()
+    assert!(rt;
+        old_reads_as(
+            rt.alloc(),
+            &old,
+            &[0x94, 0x92, 0xcd, 1, 0x2c, 0, 0x92, 1, 0, 30, 60],
+            wanted
+        )?
     );
-    assert_eq!(rt; deserialize_internal(&bytes).ok(), Some(wanted));
-    let bytes = next.serialize(rt.alloc()).ok().ok_or("version 1")?;
-    assert_eq!(rt; deserialize_internal(&bytes).ok(), Some(wanted));
-    let bytes = wanted.serialize(rt.alloc()).ok().ok_or("version 2")?;
-    assert_eq!(rt; deserialize_internal(&bytes).ok(), Some(wanted));
+    assert!(rt; next_reads_as(rt.alloc(), &next, wanted)?);
+    assert!(rt; reads_back(rt.alloc(), wanted, 0x98)?);
     Ok(())
+}
+
+fn old_reads_as(
+    alloc: Global,
+    old: &InternalMetaV0,
+    spelled: &[u8],
+    wanted: InternalMetaV2,
+) -> Result<bool, Fail> {
+    let bytes = old.serialize(alloc).ok().ok_or("version 0")?;
+    Ok(bytes.as_slice() == spelled && deserialize_internal(&bytes).ok() == Some(wanted))
+}
+
+fn next_reads_as(
+    alloc: Global,
+    next: &InternalMetaV1,
+    wanted: InternalMetaV2,
+) -> Result<bool, Fail> {
+    let bytes = next.serialize(alloc).ok().ok_or("version 1")?;
+    Ok(deserialize_internal(&bytes).ok() == Some(wanted))
 }
 
 #[test]
 fn the_default_reads_back(rt: HostRuntime) -> Result<(), Fail> {
     let meta = InternalMetaV2::default();
     assert_eq!(rt; meta.version, 2);
-    let bytes = meta.serialize(rt.alloc()).ok().ok_or("written")?;
-    assert_eq!(rt; deserialize_internal(&bytes).ok(), Some(meta));
+    assert!(rt; reads_back(rt.alloc(), meta, 0x98)?);
     Ok(())
 }
 
@@ -165,15 +193,11 @@ fn items_that_came_later(rt: HostRuntime) -> Result<(), Fail> {
         epoch_override: Some(at(3)),
         provenance: Some(at(4)),
     };
-    let bytes = meta.serialize(rt.alloc()).ok().ok_or("written")?;
-    assert_eq!(rt; bytes[0], 0x99);
-    assert_eq!(rt; deserialize_internal(&bytes).ok(), Some(meta));
+    assert!(rt; reads_back(rt.alloc(), meta, 0x99)?);
     let without = InternalMetaV2 {
         provenance: None,
         ..meta
     };
-    let bytes = without.serialize(rt.alloc()).ok().ok_or("written")?;
-    assert_eq!(rt; bytes[0], 0x98);
-    assert_eq!(rt; deserialize_internal(&bytes).ok(), Some(without));
+    assert!(rt; reads_back(rt.alloc(), without, 0x98)?);
     Ok(())
 }

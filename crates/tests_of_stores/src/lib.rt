@@ -1,0 +1,20 @@
+#![tactic(auto)]
+//! Tests of what holds entries: tables, managers, locks, the store in memory, and a request over them.
+//! They stand apart from the libraries, so that each library is proved once, and a test of its own does not prove it again.
+
+#[cfg(test)]
+mod entry_key;
+#[cfg(test)]
+mod hashtable;
+#[cfg(test)]
+mod lock;
+#[cfg(test)]
+mod memory;
+#[cfg(test)]
+mod random_locks;
+#[cfg(test)]
+mod request;
+#[cfg(test)]
+mod simple_lru;
+#[cfg(test)]
+mod storage;

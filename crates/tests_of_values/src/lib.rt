@@ -1,0 +1,41 @@
+#![tactic(auto)]
+//! Tests of what is made and read as a value: keys, hashes, metas, directives, predictions, puts.
+//! Expected values come from outside: the standards, worked rows of the formats, and upstream's tests in our own words.
+//! They stand apart from the libraries, so that each library is proved once, and a test of its own does not prove it again.
+
+#[cfg(test)]
+mod admission;
+#[cfg(test)]
+mod blake2b;
+#[cfg(test)]
+mod cache_control;
+#[cfg(test)]
+mod freshness;
+#[cfg(test)]
+mod header;
+#[cfg(test)]
+mod header_text;
+#[cfg(test)]
+mod internal_meta;
+#[cfg(test)]
+mod key;
+#[cfg(test)]
+mod max_file_size;
+#[cfg(test)]
+mod meta;
+#[cfg(test)]
+mod meta_bytes;
+#[cfg(test)]
+mod moment;
+#[cfg(test)]
+mod msgpack;
+#[cfg(test)]
+mod predictor;
+#[cfg(test)]
+mod response_parse;
+#[cfg(test)]
+mod small_types;
+#[cfg(test)]
+mod trace;
+#[cfg(test)]
+mod variance;
