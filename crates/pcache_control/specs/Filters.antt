@@ -73,7 +73,8 @@ abbrev pub FreshUntil : ℕ → Option CacheControl → Entries FieldValue → B
 FreshUntil now cc fields authorized answers result =
     MatchBool (forbids cc authorized) (result ≡ None) (FreshBy now (said_moment now cc fields) answers result)
 
--- a window in whole seconds: what was said where that fits 32 bits, else the default
+-- a window in whole seconds: what was said, the overflow value where that does not fit 32 bits, and the default where
+-- nothing was said
 abbrev pub window : Option ℕ → ℕ → ℕ
 window None default = default
 window (Some nanos) default = if nat_lt (nanos / second) (2 ^ 32) then nanos / second else overflow_seconds

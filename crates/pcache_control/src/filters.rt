@@ -123,7 +123,8 @@ pub fn calculate_fresh_until(
     end_of(now, defaults.fresh_sec(resp_header.status)?)
 }
 
-// A window in whole seconds: what was said where that fits 32 bits, else the default.
+// A window in whole seconds: what was said, the overflow value where that does not fit 32 bits, and
+// the default where nothing was said.
 fn window(said: Option<Duration>, default: u32) -> u32
     ensures { result ≡ window (option_map as_nanos said) default }
 {

@@ -55,7 +55,7 @@ pub record Stores (always_purges : Bool) (r : Request) (k : Key) (w : ℕ) (kind
   pub sure : always_purges ≡ true → failed ≡ 0
   pub released : t' ≡ settled Done r.held t
 
--- the write w of the key k is refused and dropped
+-- the write w is refused and dropped
 pub record Drops (r : Request) (w : ℕ) (e : ErrorType) (s s' : Store) (m m' : Tracked) (t t' : Locks) : Type 0 where
   pub why : (e ≡ OutOfMemory) ⊎ MayRefuseFinish s w e
   pub dropped : s' ≡ dropped s w

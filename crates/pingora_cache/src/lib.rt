@@ -2,20 +2,25 @@
 //! A cache for HTTP proxies, and a world of requests with its history.
 //!
 //! - `world`: requests over one store, with the history of what was asked
+//! - `lock`, `meta`, `put`, `prelude`: items of several crates under one name
 //!
 //! The crates below are re-exported under the names of their modules.
 
+pub mod lock;
+pub mod meta;
+pub mod prelude;
+pub mod put;
 pub mod world;
 
 pub use pcache_base::key::CacheKey;
 pub use pcache_base::reason::NoCacheReason;
+pub use pcache_base::variance::VarianceBuilder;
 pub use pcache_base::{error, key, moment, poll, reason, text, variance};
-pub use pcache_control::{cache_control, filters};
+pub use pcache_control::{CacheMetaDefaults, RespCacheable, cache_control, filters};
 pub use pcache_evict::eviction;
 pub use pcache_evict::eviction::{CacheEntryId, CacheEntryKey, CacheEntryKeyRef};
-pub use pcache_lock::lock;
 pub use pcache_meta::meta::CacheMeta;
-pub use pcache_meta::{header, meta, trace};
+pub use pcache_meta::{header, trace};
 pub use pcache_predict::{admission, predictor};
 pub use pcache_put::{max_file_size, response_parse};
 pub use pcache_request::{CachePhase, FinishReport, HitStatus, HttpCache, InUse, cache, phase};

@@ -1,0 +1,1 @@
+//! Nothing yet: what most callers need stands at the root.
