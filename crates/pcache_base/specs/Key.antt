@@ -1,6 +1,7 @@
 -- Cache keys: the hashes of their bytes (BLAKE2b with 16 bytes out, RFC 7693), and the slot that they name (own).
-use Rattle.std.specs.Prelude.{ℕ, List, ◌++◌, Option, None, Some, unwrap_or}
+use Rattle.std.specs.Prelude.{◌≡◌, ℕ, List, ◌++◌, length, Ok, Option, None, Some, unwrap_or}
 use Rattle.std.specs.Int.{w128, from_be_bytes}
+use Rattle.hex.specs.Hex.{decode_of}
 use Rattle.pcache_base.specs.Blake2b.{blake2b_128}
 use Rattle.pcache_base.specs.declared.fills.UnusableFill.{UnusableFill}
 
@@ -22,6 +23,10 @@ primary_of k = unwrap_or k.primary_override (blake2b_128 k.primary)
 abbrev pub combined_of : List ℕ → Option (List ℕ) → List ℕ
 combined_of primary None = primary
 combined_of primary (Some variance) = blake2b_128 (primary ++ variance)
+
+-- the text of a hash: 32 hexadecimal digits, two a byte
+abbrev pub SpellsHash : List ℕ → List ℕ → Type 0
+SpellsHash text hash = (length text ≡ 32) × (decode_of text ≡ Ok hash)
 
 -- a hash as a number, big end first
 unfoldable pub number_of : List ℕ → ℕ

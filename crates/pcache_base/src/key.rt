@@ -3,7 +3,7 @@ ghost use Rattle.std.specs.Prelude.{◌≡◌, ◌*◌, ℕ, List, Option, ◌�
 ghost use Rattle.std.specs.List.{AllPass};
 ghost use Rattle.hex.specs.Hex.{encode_lower, decode_of, is_hex_digit};
 ghost use Rattle.pcache_base.specs.Blake2b.{blake2b_128};
-ghost use Rattle.pcache_base.specs.Key.{combined_of, number_of, slot_of};
+ghost use Rattle.pcache_base.specs.Key.{SpellsHash, combined_of, number_of, slot_of};
 ghost use Rattle.pcache_base.specs.declared.error.ErrorType.TheVariants.{OutOfMemory};
 
 use crate::blake2b::Hasher;
@@ -38,13 +38,16 @@ pub fn hash_u8(key: &str) -> u8
 pub fn str2hex(text: &str) -> Option<HashBinary>
     ensures value { IfSome result (λ hash. decode_of text.now ≡ Ok hash) }
     ensures found { IsSome result ↔ ((length text.now ≡ 32) × AllPass is_hex_digit text.now) }
+    ensures back { (hash : List ℕ) → SpellsHash text.now hash → result ≡ Some hash }
 {
     <HashBinary as FromHex>::from_hex(text).ok()
 }
 
 // The lower-case hexadecimal text of a hash.
-fn hex_text(alloc: Global, hash: HashBinary) -> Result<String>
-    ensures text { IfOk result (λ text. string_bytes text ≡ encode_lower hash) }
+fn hex_text(alloc: Global, hash: &[u8]) -> Result<String>
+    requires { length hash.now ≡ 16 }
+    ensures text { IfOk result (λ text. string_bytes text ≡ encode_lower hash.now) }
+    ensures spelled { IfOk result (λ text. SpellsHash (string_bytes text) hash.now) }
     ensures kind { IfErr result (λ e. e ≡ OutOfMemory) }
 {
     Ok(hex::encode(alloc, hash)?)
@@ -97,9 +100,10 @@ pub trait CacheHashKey {
     /// The primary hash in lower-case hexadecimal digits. It is refused for want of memory alone.
     fn primary(&self, alloc: Global) -> Result<String>
         ensures text { IfOk result (λ text. string_bytes text ≡ encode_lower (primary_hash self.now)) }
+        ensures spelled { IfOk result (λ text. SpellsHash (string_bytes text) (primary_hash self.now)) }
         ensures kind { IfErr result (λ e. e ≡ OutOfMemory) }
     {
-        hex_text(alloc, self.primary_bin())
+        hex_text(alloc, &self.primary_bin())
     }
 
     /// The variance in lower-case hexadecimal digits. It is refused for want of memory alone.
@@ -108,7 +112,7 @@ pub trait CacheHashKey {
         ensures kind { IfErr result (λ e. e ≡ OutOfMemory) }
     {
         match self.variance_bin() {
-            Some(hash) => Ok(Some(hex_text(alloc, hash)?)),
+            Some(hash) => Ok(Some(hex_text(alloc, &hash)?)),
             None => Ok(None),
         }
     }
@@ -116,9 +120,10 @@ pub trait CacheHashKey {
     /// The combined hash in lower-case hexadecimal digits. It is refused for want of memory alone.
     fn combined(&self, alloc: Global) -> Result<String>
         ensures text { IfOk result (λ text. string_bytes text ≡ encode_lower (combined_of (primary_hash self.now) (variance_hash self.now))) }
+        ensures spelled { IfOk result (λ text. SpellsHash (string_bytes text) (combined_of (primary_hash self.now) (variance_hash self.now))) }
         ensures kind { IfErr result (λ e. e ≡ OutOfMemory) }
     {
-        hex_text(alloc, self.combined_bin())
+        hex_text(alloc, &self.combined_bin())
     }
 }
 

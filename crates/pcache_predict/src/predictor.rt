@@ -145,13 +145,15 @@ impl<const N_SHARDS: usize> CacheablePredictor for Predictor<N_SHARDS> {
 
     ghost unmarks = { λ p key new q.
         (new ≡ is_none (reason_of (memory_of p) (number_of key)))
-        × (q ≡ record p { memory = after_unmark (memory_of p) (number_of key) }) };
+        × (memory_of q ≡ after_unmark (memory_of p) (number_of key))
+        × (predicate_of q ≡ predicate_of p) };
 
     // A marking that does not count answers None and changes nothing.
     ghost marks = { λ p key why answer q.
         (skipped : Bool) × Skips CustomReasonPredicate.post (predicate_of p) why skipped
         × (answer ≡ (if counts why skipped then Some (is_none (reason_of (memory_of p) (number_of key))) else None))
-        × (q ≡ (if counts why skipped then record p { memory = after_mark (memory_of p) (number_of key) why } else p)) };
+        × (memory_of q ≡ (if counts why skipped then after_mark (memory_of p) (number_of key) why else memory_of p))
+        × (predicate_of q ≡ predicate_of p) };
 
     fn cacheable_prediction(&self, key: &CacheKey) -> bool {
         self.predicted_uncacheable_reason(key).is_none()

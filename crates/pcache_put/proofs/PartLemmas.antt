@@ -9,8 +9,7 @@ use Rattle.pcache_put.specs.Head.{ReadsHeader}
 use Rattle.pcache_put.specs.HeadEnd.{EndsAt}
 use Rattle.pcache_put.specs.Response.{Response, IsResponse, IsUnreadable, HasSize, body_of, is_whole}
 use Rattle.pcache_put.specs.Parts.{Given, nothing, given, add_all, body_parts, left_behind, whole_parts}
-use Rattle.pcache_put.specs.Progress.{TakenIn}
-use Rattle.pcache_put.specs.declared.response_parse.Progress.TheVariants as progress
+use Rattle.pcache_put.specs.Progress.{AtBody, TakenIn}
 use Rattle.pcache_put.specs.declared.response_parse.ParsePart.{ParsePart}
 use Rattle.pcache_put.specs.declared.response_parse.ParsePart.TheVariants as part
 use Rattle.pcache_put.specs.declared.head_end.Place.TheVariants.{Blank}
@@ -138,8 +137,8 @@ unreadable_there before piece head used ends is none = record {
 }
 
 -- a body goes on
-pub body_joined : (left after : Option ℕ) (bytes piece : List ℕ) (g : Given) (new : List ParsePart) → TakenIn (progress.Body left) bytes g → after ≡ left_behind left (length piece) → new ≡ body_parts left piece
-    → TakenIn (progress.Body after) (bytes ++ piece) (add_all g new)
+pub body_joined : (left after : Option ℕ) (bytes piece : List ℕ) (g : Given) (new : List ParsePart) → TakenIn (AtBody left) bytes g → after ≡ left_behind left (length piece) → new ≡ body_parts left piece
+    → TakenIn (AtBody after) (bytes ++ piece) (add_all g new)
 body_joined left after bytes piece g new taken e f =
     let r = taken.0 in (
       record r { behind = r.behind ++ piece },

@@ -9,10 +9,8 @@ use Rattle.pcache_put.specs.Head.{ReadsHeader, header_of}
 use Rattle.pcache_put.specs.HeadEnd.{IsUnfinished}
 use Rattle.pcache_put.specs.Response.{Response, IsResponse, IsUnreadable, IsComplete, HasSize, HasSizeBy, may_end}
 use Rattle.pcache_put.specs.Parts.{Given, given, left_behind, is_missing}
-use Rattle.pcache_put.specs.Progress.{TakenIn}
+use Rattle.pcache_put.specs.Progress.{Parsed, AtHead, AtBody, AtEnd, HasFailed, TakenIn}
 use Rattle.pcache_put.specs.declared.head_end.Place.TheVariants.{Blank}
-use Rattle.pcache_put.specs.declared.response_parse.Progress.{Progress}
-use Rattle.pcache_put.specs.declared.response_parse.Progress.TheVariants as progress
 use Rattle.pcache_put.proofs.HeadLemmas.{one_head}
 use Rattle.pcache_put.proofs.Joins.{EndsAt-unique, unfinished_has_no_end}
 
@@ -49,7 +47,7 @@ bytes_missing left (Some k) behind is = rw is (counted k (length behind))
     counted k n = grind (arith, nat_tests)
 
 -- where bytes of the body are missing, the response may not end
-pub missing_early : (left : Option ℕ) (bytes : List ℕ) (g : Given) → is_missing left ≡ true → TakenIn (progress.Body left) bytes g → IsComplete bytes → ⊥
+pub missing_early : (left : Option ℕ) (bytes : List ℕ) (g : Given) → is_missing left ≡ true → TakenIn (AtBody left) bytes g → IsComplete bytes → ⊥
 missing_early left bytes g some taken complete =
     let same = one_response bytes complete.0 taken.0 complete.1 taken.1 in
     let ends = subst (λ (r : Response). may_end r.size r.behind ≡ true) same complete.2 in
@@ -61,7 +59,7 @@ missing_early left bytes g some taken complete =
     clash false h e = cc
 
 -- else it may
-pub nothing_missing : (left : Option ℕ) (bytes : List ℕ) (g : Given) → is_missing left ≡ false → TakenIn (progress.Body left) bytes g → IsComplete bytes
+pub nothing_missing : (left : Option ℕ) (bytes : List ℕ) (g : Given) → is_missing left ≡ false → TakenIn (AtBody left) bytes g → IsComplete bytes
 nothing_missing left bytes g none taken = (taken.0, taken.1, settled (may_end taken.0.size taken.0.behind) (sym (bytes_missing left taken.0.size taken.0.behind taken.2) ∙ none))
   where
     settled : (b : Bool) → not b ≡ false → b ≡ true
@@ -76,28 +74,28 @@ one_head_or_body : (bytes : List ℕ) (r : Response) → IsUnfinished bytes → 
 one_head_or_body bytes r unended h = unfinished_has_no_end bytes h.cut unended h.ends
 
 -- whoever took in the same bytes stands at the same place and gave the same
-pub one_outcome : (p q : Progress) (bytes : List ℕ) (g h : Given) → TakenIn p bytes g → TakenIn q bytes h → (p ≡ q) × (g ≡ h)
-one_outcome (progress.Head a) (progress.Head b) bytes g h x y = (ap (λ (k : List ℕ). progress.Head k) (x.0 ∙ sym y.0), x.2 ∙ sym y.2)
-one_outcome (progress.Head a) (progress.Body b) bytes g h x y = absurd (one_head_or_body bytes y.0 x.1 y.1)
-one_outcome (progress.Head a) progress.Finished bytes g h x y = absurd y
-one_outcome (progress.Head a) (progress.Failed e) bytes g h x y = absurd y
-one_outcome (progress.Body a) (progress.Head b) bytes g h x y = absurd (one_head_or_body bytes x.0 y.1 x.1)
-one_outcome (progress.Body a) (progress.Body b) bytes g h x y =
+pub one_outcome : (p q : Parsed) (bytes : List ℕ) (g h : Given) → TakenIn p bytes g → TakenIn q bytes h → (p ≡ q) × (g ≡ h)
+one_outcome (AtHead a) (AtHead b) bytes g h x y = (ap (λ (k : List ℕ). AtHead k) (x.0 ∙ sym y.0), x.2 ∙ sym y.2)
+one_outcome (AtHead a) (AtBody b) bytes g h x y = absurd (one_head_or_body bytes y.0 x.1 y.1)
+one_outcome (AtHead a) AtEnd bytes g h x y = absurd y
+one_outcome (AtHead a) (HasFailed e) bytes g h x y = absurd y
+one_outcome (AtBody a) (AtHead b) bytes g h x y = absurd (one_head_or_body bytes x.0 y.1 x.1)
+one_outcome (AtBody a) (AtBody b) bytes g h x y =
     let same = one_response bytes x.0 y.0 x.1 y.1 in (
-      ap (λ (l : Option ℕ). progress.Body l) (x.2 ∙ ap (λ (r : Response). left_behind r.size (length r.behind)) same ∙ sym y.2),
+      ap (λ (l : Option ℕ). AtBody l) (x.2 ∙ ap (λ (r : Response). left_behind r.size (length r.behind)) same ∙ sym y.2),
       x.3 ∙ ap given same ∙ sym y.3,
     )
-one_outcome (progress.Body a) progress.Finished bytes g h x y = absurd y
-one_outcome (progress.Body a) (progress.Failed e) bytes g h x y = absurd y
-one_outcome progress.Finished q bytes g h x y = absurd x
-one_outcome (progress.Failed e) q bytes g h x y = absurd x
+one_outcome (AtBody a) AtEnd bytes g h x y = absurd y
+one_outcome (AtBody a) (HasFailed e) bytes g h x y = absurd y
+one_outcome AtEnd q bytes g h x y = absurd x
+one_outcome (HasFailed e) q bytes g h x y = absurd x
 
 -- a head that can't be read is no response, and has ended
-pub unreadable_is_none : (p : Progress) (bytes : List ℕ) (g : Given) → TakenIn p bytes g → IsUnreadable bytes → ⊥
-unreadable_is_none (progress.Head a) bytes g x bad = unfinished_has_no_end bytes bad.cut x.1 bad.ends
-unreadable_is_none (progress.Body a) bytes g x bad =
+pub unreadable_is_none : (p : Parsed) (bytes : List ℕ) (g : Given) → TakenIn p bytes g → IsUnreadable bytes → ⊥
+unreadable_is_none (AtHead a) bytes g x bad = unfinished_has_no_end bytes bad.cut x.1 bad.ends
+unreadable_is_none (AtBody a) bytes g x bad =
     let is = x.1 in
     let cut = EndsAt-unique Blank bytes is.cut bad.cut is.ends bad.ends in
     bad.no_head x.0.head (subst (λ n. ReadsHeader (take n bytes) x.0.head) cut is.head)
-unreadable_is_none progress.Finished bytes g x bad = x
-unreadable_is_none (progress.Failed e) bytes g x bad = x
+unreadable_is_none AtEnd bytes g x bad = x
+unreadable_is_none (HasFailed e) bytes g x bad = x

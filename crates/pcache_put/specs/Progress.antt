@@ -1,5 +1,6 @@
 -- How far a parser has come.
-use Rattle.std.specs.Prelude.{◌≡◌, ℕ, ◌⊎◌, List, [], ◌++◌, length}
+use Rattle.std.specs.Prelude.{◌≡◌, ℕ, ◌⊎◌, Option, List, [], ◌++◌, length}
+use Rattle.pcache_base.specs.declared.error.ErrorType.{ErrorType}
 use Rattle.pcache_put.specs.HeadEnd.{IsUnfinished}
 use Rattle.pcache_put.specs.Response.{Response, IsResponse}
 use Rattle.pcache_put.specs.Parts.{Given, nothing, given, left_behind, body_parts, whole_parts}
@@ -7,20 +8,35 @@ use Rattle.pcache_put.specs.declared.response_parse.ParsePart.{ParsePart}
 use Rattle.pcache_put.specs.declared.response_parse.Progress.{Progress}
 use Rattle.pcache_put.specs.declared.response_parse.Progress.TheVariants as progress
 
+-- where a parser stands: in a head that has not ended, of which these bytes have come; in a body of which so
+-- much is left, None where it lasts to the end; behind its end; or refusing every call for this kind
+pub data Parsed : Type 0 where
+  AtHead : (bytes : List ℕ) → Parsed
+  AtBody : (left : Option ℕ) → Parsed
+  AtEnd : Parsed
+  HasFailed : (kind : ErrorType) → Parsed
+
+-- the same, as the code keeps it
+abbrev pub parsed_of : Progress → Parsed
+parsed_of (progress.Head kept) = AtHead kept
+parsed_of (progress.Body left) = AtBody left
+parsed_of progress.Finished = AtEnd
+parsed_of (progress.Failed kind) = HasFailed kind
+
 -- the parser has taken in these bytes, in whatever pieces, and given this of them: what the bytes say taken
 -- together. Of a parser that has finished or failed it is not asked.
-abbrev pub TakenIn : Progress → List ℕ → Given → Type 0
-TakenIn (progress.Head kept) bytes g = (kept ≡ bytes) × IsUnfinished bytes × (g ≡ nothing)
-TakenIn (progress.Body left) bytes g =
+abbrev pub TakenIn : Parsed → List ℕ → Given → Type 0
+TakenIn (AtHead kept) bytes g = (kept ≡ bytes) × IsUnfinished bytes × (g ≡ nothing)
+TakenIn (AtBody left) bytes g =
     (r : Response) × IsResponse bytes r × (left ≡ left_behind r.size (length r.behind)) × (g ≡ given r)
-TakenIn progress.Finished bytes g = ⊥
-TakenIn (progress.Failed kind) bytes g = ⊥
+TakenIn AtEnd bytes g = ⊥
+TakenIn (HasFailed kind) bytes g = ⊥
 
 -- the parts that a piece gives
-abbrev pub GivesParts : Progress → List ℕ → List ParsePart → Type 0
-GivesParts (progress.Head kept) piece parts =
+abbrev pub GivesParts : Parsed → List ℕ → List ParsePart → Type 0
+GivesParts (AtHead kept) piece parts =
     (IsUnfinished (kept ++ piece) × (parts ≡ []))
     ⊎ ((r : Response) × IsResponse (kept ++ piece) r × (parts ≡ whole_parts r))
-GivesParts (progress.Body left) piece parts = parts ≡ body_parts left piece
-GivesParts progress.Finished piece parts = parts ≡ []
-GivesParts (progress.Failed kind) piece parts = ⊥
+GivesParts (AtBody left) piece parts = parts ≡ body_parts left piece
+GivesParts AtEnd piece parts = parts ≡ []
+GivesParts (HasFailed kind) piece parts = ⊥

@@ -1,5 +1,5 @@
 //! Reading the head of a response.
-ghost use Rattle.std.specs.Prelude.{◌≡◌, ◌⊎◌, ℕ, ◌+◌, ◌<◌, ◌≤◌, ◌^◌, List, [], length, take, map, All, IfOk, IfErr, OnOk, OnErr};
+ghost use Rattle.std.specs.Prelude.{◌≡◌, ◌⊎◌, ℕ, ◌+◌, ◌<◌, ◌≤◌, ◌^◌, List, [], length, take, map, All, IfOk, IfErr, OnOk, OnErr, IsErrOf};
 ghost use Rattle.httparse.specs.Grammar.{ResponseHead, status_code};
 ghost use Rattle.httparse.specs.Spans.{AreFieldsAt, IsHeaderWithin, header_bytes};
 ghost use Rattle.http_header.specs.Token.{IsToken, lowercase};
@@ -47,6 +47,7 @@ fn add_field(alloc: Global, fields: &mut HeaderMap, name: &[u8], value: &[u8]) -
     ensures ok { OnOk result (fields.new ≡ append fields.old (lowercase name.now) (plain_value value.now)) }
     ensures short { OnOk result (IsShort (name.now, value.now)) }
     ensures long { IfErr result (λ e. e ≡ InvalidHttpHeader → ¬ (IsShort (name.now, value.now))) }
+    ensures too_long { ¬ (IsShort (name.now, value.now)) → IsErrOf result InvalidHttpHeader }
     ensures kind { IfErr result (λ e. (e ≡ OutOfMemory) ⊎ (e ≡ InvalidHttpHeader)) }
 {
     if name.len() > MAX_NAME_LEN {
@@ -114,6 +115,7 @@ fn version_of(minor: u8) -> HttpVersion
 pub(crate) fn read_header(alloc: Global, bytes: &[u8]) -> Result<ResponseHeader>
     ensures ok { IfOk result (ReadsHeader bytes.now) }
     ensures invalid { IfErr result (λ e. e ≡ InvalidHttpHeader → (header : _) → ¬ (ReadsHeader bytes.now header)) }
+    ensures no_head { ((h : ResponseHead) → ¬ (IsHead 256 bytes.now h)) → IsErrOf result InvalidHttpHeader }
     ensures kind { IfErr result (λ e. (e ≡ OutOfMemory) ⊎ (e ≡ InvalidHttpHeader)) }
 {
     let mut room = [EMPTY_HEADER_SPAN; MAX_FIELDS];

@@ -3,11 +3,10 @@ ghost use Rattle.std.specs.Prelude.{◌≡◌, ◌⊎◌, ℕ, ◌<◌, ◌^◌,
 ghost use Rattle.pcache_put.specs.Head.{ReadsHeader};
 ghost use Rattle.pcache_put.specs.Response.{SpellsLength, HasSize, is_whole, IsUnreadable, IsComplete};
 ghost use Rattle.pcache_meta.specs.declared.header.ResponseHeader.{ResponseHeader};
-ghost use Rattle.pcache_put.specs.declared.response_parse.Progress.{Progress};
 ghost use Rattle.pcache_base.specs.declared.error.ErrorType.{ErrorType};
 ghost use Rattle.pcache_base.specs.declared.error.ErrorType.TheVariants.{OutOfMemory, InvalidHttpHeader, IncompleteHttpBody};
 ghost use Rattle.pcache_put.specs.Parts.{Given, nothing, add_all, left_behind, is_missing, body_parts};
-ghost use Rattle.pcache_put.specs.Progress.{TakenIn, GivesParts};
+ghost use Rattle.pcache_put.specs.Progress.{Parsed, AtHead, AtBody, AtEnd, HasFailed, parsed_of, TakenIn, GivesParts};
 
 use crate::head::read_header;
 use crate::head_end::{HeadBytes, HeadPiece};
@@ -115,8 +114,8 @@ fn take_head(
     parts: &mut Vec<ParsePart>,
 ) -> Result<Progress>
     requires { parts.old.items ≡ [] }
-    ensures joined { IfOk result (λ after. TakenIn after (head ++ piece.now) (add_all nothing parts.new.items)) }
-    ensures gives { OnOk result (GivesParts (Progress.Head head) piece.now parts.new.items) }
+    ensures joined { IfOk result (λ after. TakenIn (parsed_of after) (head ++ piece.now) (add_all nothing parts.new.items)) }
+    ensures gives { OnOk result (GivesParts (AtHead head) piece.now parts.new.items) }
     ensures invalid { IfErr result (λ e. e ≡ InvalidHttpHeader → IsUnreadable (head ++ piece.now)) }
     ensures kind { IfErr result (λ e. (e ≡ OutOfMemory) ⊎ (e ≡ InvalidHttpHeader)) }
 {
@@ -138,15 +137,15 @@ fn take_in(
     parts: &mut Vec<ParsePart>,
 ) -> Result<Progress>
     requires { parts.old.items ≡ [] }
-    ensures joined { IfOk result (λ after. (bytes : List ℕ) (g : Given) → TakenIn progress bytes g
-        → TakenIn after (bytes ++ piece.now) (add_all g parts.new.items)) }
-    ensures gives { OnOk result (GivesParts progress piece.now parts.new.items) }
-    ensures finished { progress ≡ Progress.Finished → result ≡ Ok Progress.Finished }
-    ensures whole { progress ≡ Progress.Body (Some 0) → IsOk result }
-    ensures failed { (kind : ErrorType) → progress ≡ Progress.Failed kind → result ≡ Err kind }
-    ensures invalid { IfErr result (λ e. e ≡ InvalidHttpHeader → (bytes : List ℕ) (g : Given) → TakenIn progress bytes g
+    ensures joined { IfOk result (λ after. (bytes : List ℕ) (g : Given) → TakenIn (parsed_of progress) bytes g
+        → TakenIn (parsed_of after) (bytes ++ piece.now) (add_all g parts.new.items)) }
+    ensures gives { OnOk result (GivesParts (parsed_of progress) piece.now parts.new.items) }
+    ensures finished { parsed_of progress ≡ AtEnd → result ≡ Ok Progress.Finished }
+    ensures whole { parsed_of progress ≡ AtBody (Some 0) → IsOk result }
+    ensures failed { (kind : ErrorType) → parsed_of progress ≡ HasFailed kind → result ≡ Err kind }
+    ensures invalid { IfErr result (λ e. e ≡ InvalidHttpHeader → (bytes : List ℕ) (g : Given) → TakenIn (parsed_of progress) bytes g
         → IsUnreadable (bytes ++ piece.now)) }
-    ensures kind { IfErr result (λ e. (e ≡ OutOfMemory) ⊎ (e ≡ InvalidHttpHeader) ⊎ (progress ≡ Progress.Failed e)) }
+    ensures kind { IfErr result (λ e. (e ≡ OutOfMemory) ⊎ (e ≡ InvalidHttpHeader) ⊎ (parsed_of progress ≡ HasFailed e)) }
 {
     match progress {
         Progress::Head(head) => take_head(alloc, head, piece, parts),
@@ -165,12 +164,12 @@ fn is_missing(left: Option<usize>) -> bool
 
 // Why a response may not end where the parser stands.
 fn missing(progress: &Progress) -> Option<ErrorType>
-    ensures complete { IfNone result ((bytes : List ℕ) (g : Given) → TakenIn progress.now bytes g → IsComplete bytes) }
-    ensures early { IfSome result (λ e. e ≡ IncompleteHttpBody → (bytes : List ℕ) (g : Given) → TakenIn progress.now bytes g
+    ensures complete { IfNone result ((bytes : List ℕ) (g : Given) → TakenIn (parsed_of progress.now) bytes g → IsComplete bytes) }
+    ensures early { IfSome result (λ e. e ≡ IncompleteHttpBody → (bytes : List ℕ) (g : Given) → TakenIn (parsed_of progress.now) bytes g
         → ¬ (IsComplete bytes)) }
-    ensures kind { IfSome result (λ e. (e ≡ IncompleteHttpBody) ⊎ (progress.now ≡ Progress.Failed e)) }
-    ensures finished { progress.now ≡ Progress.Finished → result ≡ None }
-    ensures failed { (kind : ErrorType) → progress.now ≡ Progress.Failed kind → result ≡ Some kind }
+    ensures kind { IfSome result (λ e. (e ≡ IncompleteHttpBody) ⊎ (parsed_of progress.now ≡ HasFailed e)) }
+    ensures finished { parsed_of progress.now ≡ AtEnd → result ≡ None }
+    ensures failed { (kind : ErrorType) → parsed_of progress.now ≡ HasFailed kind → result ≡ Some kind }
 {
     match progress {
         Progress::Head(_) => Some(INCOMPLETE_BODY),
@@ -189,8 +188,8 @@ fn missing(progress: &Progress) -> Option<ErrorType>
 /// Of two parsers that took in the same bytes, in whatever pieces, both have given the same and stand at the
 /// same place, and the head of these bytes can be read where it has ended. A law; the call does nothing.
 pub fn same_however_cut()
-    ensures given { (p q : Progress) (bytes : List ℕ) (g h : Given) → TakenIn p bytes g → TakenIn q bytes h → (p ≡ q) × (g ≡ h) }
-    ensures readable { (p : Progress) (bytes : List ℕ) (g : Given) → TakenIn p bytes g → ¬ (IsUnreadable bytes) }
+    ensures given { (p q : Parsed) (bytes : List ℕ) (g h : Given) → TakenIn p bytes g → TakenIn q bytes h → (p ≡ q) × (g ≡ h) }
+    ensures readable { (p : Parsed) (bytes : List ℕ) (g : Given) → TakenIn p bytes g → ¬ (IsUnreadable bytes) }
 {}
 
 /// Reads a response whose bytes come in pieces of any size.
@@ -201,7 +200,7 @@ pub fn same_however_cut()
 /// read, and further ones are ignored; else all bytes to the end. Only the bytes of a head that has not
 /// ended are kept.
 ///
-/// After a refusal every later call is refused for the same kind.
+/// A contract sees where the parser stands. After a refusal every later call is refused for the same kind.
 #[derive(Drop)]
 pub struct ResponseParse {
     progress: Progress,
@@ -209,18 +208,18 @@ pub struct ResponseParse {
 }
 
 impl Model for ResponseParse {
-    ghost use Rattle.pcache_put.specs.declared.response_parse.Progress.{Progress};
+    ghost use Rattle.pcache_put.specs.Progress.{Parsed, parsed_of};
 
-    ghost Value = { Progress };
+    ghost Value = { Parsed };
 
-    ghost view = { λ p. p.progress };
+    ghost view = { λ p. parsed_of p.progress };
 }
 
 impl ResponseParse {
     /// No byte yet.
     pub fn new(alloc: Global) -> ResponseParse
         ensures start { TakenIn result [] nothing }
-        ensures empty { result ≡ Progress.Head [] }
+        ensures empty { result ≡ AtHead [] }
     {
         ResponseParse {
             progress: Progress::Head(HeadBytes::new(alloc)),
@@ -238,14 +237,14 @@ impl ResponseParse {
         ensures gives { IfOk result (λ parts. GivesParts self.old piece.now parts.items) }
         ensures invalid { IfErr result (λ e. e ≡ InvalidHttpHeader → (bytes : List ℕ) (g : Given) → TakenIn self.old bytes g
             → IsUnreadable (bytes ++ piece.now)) }
-        ensures kind { IfErr result (λ e. (e ≡ OutOfMemory) ⊎ (e ≡ InvalidHttpHeader) ⊎ (self.old ≡ Progress.Failed e)) }
+        ensures kind { IfErr result (λ e. (e ≡ OutOfMemory) ⊎ (e ≡ InvalidHttpHeader) ⊎ (self.old ≡ HasFailed e)) }
 
         // After the end, and behind a whole body, pieces are ignored. After a refusal they are refused for the
         // same kind.
-        ensures finished { self.old ≡ Progress.Finished → IsOk result × (self.new ≡ Progress.Finished) }
-        ensures whole { self.old ≡ Progress.Body (Some 0) → IsOk result }
-        ensures failed { (kind : ErrorType) → self.old ≡ Progress.Failed kind → result ≡ Err kind }
-        ensures fails { IfErr result (λ e. self.new ≡ Progress.Failed e) }
+        ensures finished { self.old ≡ AtEnd → IsOk result × (self.new ≡ AtEnd) }
+        ensures whole { self.old ≡ AtBody (Some 0) → IsOk result }
+        ensures failed { (kind : ErrorType) → self.old ≡ HasFailed kind → result ≡ Err kind }
+        ensures fails { IfErr result (λ e. self.new ≡ HasFailed e) }
     {
         let mut parts = Vec::new(self.alloc);
         let progress = mem::replace(&mut self.progress, Progress::Finished);
@@ -267,11 +266,11 @@ impl ResponseParse {
         ensures complete { OnOk result ((bytes : List ℕ) (g : Given) → TakenIn self.old bytes g → IsComplete bytes) }
         ensures early { IfErr result (λ e. e ≡ IncompleteHttpBody → (bytes : List ℕ) (g : Given) → TakenIn self.old bytes g
             → ¬ (IsComplete bytes)) }
-        ensures kind { IfErr result (λ e. (e ≡ IncompleteHttpBody) ⊎ (self.old ≡ Progress.Failed e)) }
-        ensures finished { OnOk result (self.new ≡ Progress.Finished) }
-        ensures again { self.old ≡ Progress.Finished → IsOk result }
-        ensures failed { (kind : ErrorType) → self.old ≡ Progress.Failed kind → result ≡ Err kind }
-        ensures fails { IfErr result (λ e. self.new ≡ Progress.Failed e) }
+        ensures kind { IfErr result (λ e. (e ≡ IncompleteHttpBody) ⊎ (self.old ≡ HasFailed e)) }
+        ensures finished { OnOk result (self.new ≡ AtEnd) }
+        ensures again { self.old ≡ AtEnd → IsOk result }
+        ensures failed { (kind : ErrorType) → self.old ≡ HasFailed kind → result ≡ Err kind }
+        ensures fails { IfErr result (λ e. self.new ≡ HasFailed e) }
     {
         let Some(kind) = missing(&self.progress) else {
             self.progress = Progress::Finished;

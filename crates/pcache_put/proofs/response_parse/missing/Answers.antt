@@ -1,9 +1,9 @@
 use Rattle.std.proofs.Common.{sym, subst, ◌∙◌}
-use Rattle.pcache_put.specs.Progress.{TakenIn}
+use Rattle.pcache_put.specs.Progress.{TakenIn, parsed_of}
 use Rattle.pcache_put.specs.declared.response_parse.Progress.{Progress}
 use Rattle.pcache_put.proofs.Unique.{missing_early}
 use Rattle.pcache_put.proofs.response_parse.missing.Goals as goal
 
 pub returns-then-is_missing-clause-early : goal.returns-then-is_missing-clause-early
 returns-then-is_missing-clause-early c = λ e bytes g taken complete.
-    missing_early c.in-Body.left bytes g (sym c.is_missing.ensures ∙ c.if-is_missing.true) (subst (λ (p : Progress). TakenIn p bytes g) c.in-Body.is taken) complete
+    missing_early c.in-Body.left bytes g (sym c.is_missing.ensures ∙ c.if-is_missing.true) (subst (λ (p : Progress). TakenIn (parsed_of p) bytes g) c.in-Body.is taken) complete

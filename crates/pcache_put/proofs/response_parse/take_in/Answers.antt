@@ -1,6 +1,6 @@
 use Rattle.std.proofs.Common.{◌++◌, subst, ap, ◌∙◌}
 use Rattle.pcache_put.specs.Parts.{body_parts}
-use Rattle.pcache_put.specs.Progress.{TakenIn}
+use Rattle.pcache_put.specs.Progress.{TakenIn, parsed_of}
 use Rattle.pcache_put.specs.declared.response_parse.Progress.{Progress}
 use Rattle.pcache_put.proofs.PartLemmas.{body_joined}
 use Rattle.pcache_put.proofs.response_parse.take_in.Goals as goal
@@ -8,6 +8,6 @@ use Rattle.pcache_put.proofs.response_parse.take_in.Goals as goal
 pub returns-in_ok-give_body-in-Body-clause-joined : goal.returns-in_ok-give_body-in-Body-clause-joined
 returns-in_ok-give_body-in-Body-clause-joined c = λ bytes g taken.
     body_joined c.in-Body.left c.in_ok-give_body-in-Body.field-0 bytes c.args.piece.now g c.give_body.new.parts.items
-    (subst (λ (p : Progress). TakenIn p bytes g) c.in-Body.is taken)
+    (subst (λ (p : Progress). TakenIn (parsed_of p) bytes g) c.in-Body.is taken)
     c.in_ok-give_body-in-Body.ensures.left
     (c.in_ok-give_body-in-Body.ensures.parts ∙ ap (λ xs. xs ++ body_parts c.in-Body.left c.args.piece.now) c.requires)
