@@ -99,7 +99,7 @@ fn fill(
     );
     assert!(rt; cache.phase().is_filling());
     let again = cache.end_write(&mut parts.store, &mut parts.manager, &mut parts.lock);
-    assert!(rt; matches!(again, WriteEnd::Nothing));
+    assert!(rt; matches!(again.end, WriteEnd::Nothing) && again.released.is_none());
     Ok(())
 }
 
