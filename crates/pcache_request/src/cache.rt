@@ -13,24 +13,28 @@ ghost use Rattle.pcache_store.specs.Store.{find_write, followed, counts_access, 
 ghost use Rattle.pcache_store.specs.Tag.{named_by};
 ghost use Rattle.pcache_evict.specs.Tracked.{added};
 ghost use Rattle.pcache_request.specs.Phases as phases;
-ghost use Rattle.pcache_request.specs.Requests.{settled, let_go_by, table_asked, left_by, entry_of, reader_in, phase_found, tracked_gone};
-ghost use Rattle.pcache_request.specs.Reports.{name_of, asked_with, untracked};
+ghost use Rattle.pcache_request.specs.Requests.{settled, let_go_by, table_asked, left_by, entry_of, reader_in, phase_found};
+ghost use Rattle.pcache_request.specs.Reports.{name_of, asked_with};
 
+mod disable;
 mod finish;
+mod purge;
 mod report;
+mod shown;
+mod stale;
 
 use crate::phase::{CachePhase, HitStatus, InUse};
 use bytes::Bytes;
 pub use finish::{FinishReport, WriteEnd};
 use pcache_base::error::Result;
-use pcache_base::key::{CacheKey, CompactCacheKey};
+use pcache_base::key::CacheKey;
 use pcache_base::moment::Moment;
 use pcache_base::poll::Poll;
 use pcache_base::reason::NoCacheReason;
 use pcache_evict::eviction::{CacheEntryId, CacheEntryKey, EvictionManager};
 use pcache_lock::lock::{CacheKeyLock, LockStatus, Locked};
 use pcache_meta::meta::CacheMeta;
-use pcache_store::storage::{HandleHit, HandleMiss, PurgeOutcome, PurgeTarget, PurgeType, Storage};
+use pcache_store::storage::{HandleHit, HandleMiss, Storage};
 pub use report::{Access, AskedLock, LockName, LookUp, Removal, WriteBegin, WriteReport};
 use std::alloc::Global;
 use std::marker::Model;
@@ -216,31 +220,6 @@ fn note_access<S: Storage, E: EvictionManager>(
     Ok(Some(Access { entry, weight }))
 }
 
-// Takes what a removal took out of the storage out of a manager in use too, and answers it.
-fn untrack<E: EvictionManager>(
-    eviction: &mut E,
-    is_used: bool,
-    key: CompactCacheKey,
-    outcome: &PurgeOutcome,
-) -> Option<CacheEntryKey>
-    ensures untracked { result ≡ untracked is_used key outcome.now }
-    ensures tracked { E.tracked eviction.new ≡ tracked_gone is_used key outcome.now (E.tracked eviction.old) }
-    ensures limits { E.limits eviction.new ≡ E.limits eviction.old }
-    ensures evicted { E.evicted eviction.new ≡ E.evicted eviction.old }
-{
-    if !is_used {
-        return None;
-    }
-    match outcome {
-        PurgeOutcome::Purged(id) => {
-            let entry = CacheEntryKey::from_entry_id(key, *id);
-            eviction.remove(&entry);
-            Some(entry)
-        }
-        PurgeOutcome::NotFound | PurgeOutcome::Expired => None,
-    }
-}
-
 // The phase that what was found brings.
 fn phase_found(status: HitStatus, phase: CachePhase) -> CachePhase
     ensures { result ≡ phase_found status phase }
@@ -265,7 +244,7 @@ fn replace_reader<S: Storage>(place: &mut Option<S::Hit>, reader: Option<S::Hit>
 }
 
 impl<S: Storage> HttpCache<S> {
-    ghost use Rattle.std.specs.Prelude.{◌≡◌, ◌≢◌, ◌↔◌, ◌⊎◌, ℕ, true, false, cond, IfOk, IfErr, IfSome, OnOk, OnErr, IsTrue, IsSome, Option, Some, None, option_map, is_some, ◌&&◌};
+    ghost use Rattle.std.specs.Prelude.{◌≡◌, ◌≢◌, ◌↔◌, ◌⊎◌, ℕ, true, false, cond, IfOk, IfErr, IfSome, OnOk, OnErr, IsOk, IsTrue, IsSome, Option, Some, None, option_map, is_some, ◌&&◌};
     ghost use Rattle.std.specs.Borrow.{Lends, LendsIf, sem};
     ghost use Rattle.pcache_base.specs.Key.{Key, slot};
     ghost use Rattle.pcache_base.specs.declared.error.ErrorType.TheVariants.{OutOfMemory, NumbersExhausted};
@@ -273,11 +252,10 @@ impl<S: Storage> HttpCache<S> {
     ghost use Rattle.pcache_lock.specs.declared.lock.status.LockStatus.TheVariants.{Done};
     ghost use Rattle.pcache_store.specs.Store.{followed, left, read_of, reader_after};
     ghost use Rattle.std.specs.Option.{option_copied, option_and_then};
-    ghost use Rattle.pcache_store.specs.Purge.{purge_answer, purged_at};
     ghost use Rattle.pcache_store.specs.Refusals.{MayRefuseWrite};
-    ghost use Rattle.pcache_request.specs.Phases.{IsDisabled, MayTakeKey, MayLookUp, MayMiss, IsFilling, IsReading, MayPurge, is_filling};
-    ghost use Rattle.pcache_request.specs.Requests.{Request, HasKey, new_request, fresh_request, with_key, found_for, looked, asks_for_miss, table_looked, found_row, asks_for_hit, store_found, table_found, tracked_found, missed, MayTakeMeta, with_meta, MayWrite, writing, store_writing, begun_for, settled, left_by, dropped_by, let_go_by, tracked_gone_for, is_removed_by};
-    ghost use Rattle.pcache_request.specs.Reports.{name_of, asked_in_look_up, asked_by_found, access_by_found, untracked_for};
+    ghost use Rattle.pcache_request.specs.Phases.{IsDisabled, MayTakeKey, MayLookUp, MayMiss, IsFilling, IsReading, MayFinishHit, is_filling};
+    ghost use Rattle.pcache_request.specs.Requests.{Request, HasKey, new_request, fresh_request, with_key, found_for, looked, asks_for_miss, table_looked, found_row, asks_for_hit, store_found, table_found, tracked_found, missed, without_reader, MayTakeMeta, with_meta, MayWrite, writing, store_writing, begun_for, settled, left_by, dropped_by, let_go_by};
+    ghost use Rattle.pcache_request.specs.Reports.{name_of, asked_in_look_up, asked_by_found, access_by_found};
     ghost use Rattle.pcache_request.specs.contracts.cache.HttpCache.{the_row};
 
     /// A request for which caching was never turned on.
@@ -576,6 +554,20 @@ impl<S: Storage> HttpCache<S> {
         self.reader.as_mut().unwrap()
     }
 
+    /// Ends the reader, where there is one, also where that is refused, for want of memory alone.
+    pub fn finish_hit_handler(&mut self, storage: &mut S) -> Result<()>
+        requires { MayFinishHit self.old.phase }
+        ensures request { self.new ≡ without_reader self.old }
+        ensures store { S.state storage.new ≡ left_by self.old.reader (S.state storage.old) }
+        ensures kind { IfErr result (λ e. e ≡ OutOfMemory) }
+        ensures none { self.old.reader ≡ None → IsOk result }
+    {
+        let Some(reader) = self.reader.take() else {
+            return Ok(());
+        };
+        reader.finish(storage)
+    }
+
     /// The reader of the write that fills the cache, in a storage whose writes can be read while they
     /// are made.
     pub fn miss_body_reader(&mut self, storage: &S) -> Option<&mut S::Hit>
@@ -593,15 +585,30 @@ impl<S: Storage> HttpCache<S> {
     pub fn may_take_meta(&self) -> bool
         ensures { IsTrue result ↔ MayTakeMeta self.now }
     {
-        matches!(self.phase, CachePhase::Miss)
+        match self.phase {
+            CachePhase::Miss => true,
+            CachePhase::Stale => self.meta.is_some(),
+            _ => false,
+        }
     }
 
-    /// Sets the meta of the response that is to be stored.
+    /// Sets the meta of the response that is to be stored. In place of a stale one it keeps the
+    /// moment from which that one's body came, and the request goes on as expired.
     pub fn set_cache_meta(&mut self, meta: CacheMeta)
         requires { MayTakeMeta self.old }
         ensures { self.new ≡ with_meta meta self.old }
     {
+        if !self.phase.is_stale() {
+            self.meta = Some(meta);
+            return;
+        }
+        let Some(stale) = &self.meta else {
+            unreachable!()
+        };
+        let mut meta = meta;
+        meta.set_provenance(stale.provenance());
         self.meta = Some(meta);
+        self.phase = CachePhase::Expired;
     }
 
     /// Whether `set_miss_handler` may be called.
@@ -692,48 +699,6 @@ impl<S: Storage> HttpCache<S> {
             return None;
         };
         Some(writer)
-    }
-
-    /// Removes what stands under the key, and takes the entry that went out of the manager. Answers
-    /// whether anything was there.
-    pub fn purge<E: EvictionManager>(&mut self, storage: &mut S, eviction: &mut E) -> Result<bool>
-        requires { MayPurge self.old.phase }
-        ensures same { self.new ≡ self.old }
-        ensures there { IfOk result (λ there. there ≡ is_removed_by (purge_answer (S.state storage.old) (option_map slot self.old.key))) }
-        ensures store { OnOk result (S.state storage.new ≡ purged_at (S.state storage.old) (option_map slot self.old.key)) }
-        ensures tracked { OnOk result (E.tracked eviction.new ≡ tracked_gone_for self.old.uses.eviction self.old.key (purge_answer (S.state storage.old) (option_map slot self.old.key)) (E.tracked eviction.old)) }
-        ensures same_store { OnErr result (S.state storage.new ≡ S.state storage.old) }
-        ensures same_tracked { OnErr result (E.tracked eviction.new ≡ E.tracked eviction.old) }
-        ensures limits { E.limits eviction.new ≡ E.limits eviction.old }
-        ensures evicted { E.evicted eviction.new ≡ E.evicted eviction.old }
-        ensures kind { S.always_purges ≡ true → IfErr result (λ e. e ≡ OutOfMemory) }
-    {
-        Ok(self.purge_key(storage, eviction)?.was_there())
-    }
-
-    /// What `purge` does, with what the storage found and the entry that was taken out.
-    pub fn purge_key<E: EvictionManager>(
-        &mut self,
-        storage: &mut S,
-        eviction: &mut E,
-    ) -> Result<Removal>
-        requires { MayPurge self.old.phase }
-        ensures same { self.new ≡ self.old }
-        ensures outcome { IfOk result (λ r. r.outcome ≡ purge_answer (S.state storage.old) (option_map slot self.old.key)) }
-        ensures untracked { IfOk result (λ r. r.untracked ≡ untracked_for self.old.uses.eviction self.old.key r.outcome) }
-        ensures store { OnOk result (S.state storage.new ≡ purged_at (S.state storage.old) (option_map slot self.old.key)) }
-        ensures tracked { OnOk result (E.tracked eviction.new ≡ tracked_gone_for self.old.uses.eviction self.old.key (purge_answer (S.state storage.old) (option_map slot self.old.key)) (E.tracked eviction.old)) }
-        ensures same_store { OnErr result (S.state storage.new ≡ S.state storage.old) }
-        ensures same_tracked { OnErr result (E.tracked eviction.new ≡ E.tracked eviction.old) }
-        ensures limits { E.limits eviction.new ≡ E.limits eviction.old }
-        ensures evicted { E.evicted eviction.new ≡ E.evicted eviction.old }
-        ensures kind { IfErr result (λ e. e ≡ OutOfMemory) }
-    {
-        let Some(key) = &self.key else { unreachable!() };
-        let compact = key.to_compact()?;
-        let outcome = storage.purge(PurgeTarget::Active(&compact), PurgeType::Invalidation)?;
-        let untracked = untrack(eviction, self.uses.eviction, compact, &outcome);
-        Ok(Removal { outcome, untracked })
     }
 
     /// Gives back all that is held: the write is dropped, a permit dangles, the rest is let go.
