@@ -9,6 +9,8 @@ use std::process::Abort;
 use std::test::Fail;
 use std::time::Duration;
 
+mod phases;
+
 const ALL_BUT_THE_PREDICTOR: InUse = InUse {
     eviction: true,
     predictor: false,
@@ -109,41 +111,50 @@ fn fill_telling(
     parts: &mut Parts,
     cache: &mut HttpCache<MemCache>,
 ) -> std::result::Result<(), Fail> {
-    let first = ask(rt, parts, cache)?;
-    let Some(
-        AskedLock {
-            given: permit,
-            replaced: None,
-        },
-    ) = first
-    else {
-        panic!(rt; "nothing was held")
+    let permit = LockName {
+        number: 0,
+        is_permit: true,
     };
-    assert!(rt; permit.is_permit);
-    let again = ask(rt, parts, cache)?;
     let wait = LockName {
-        number: permit.number,
+        number: 0,
         is_permit: false,
     };
-    assert_eq!(rt;
-        again,
-        Some(AskedLock {
-            given: wait,
-            replaced: Some(permit)
-        })
-    );
+    let first = AskedLock {
+        given: permit,
+        replaced: None,
+    };
+    assert!(rt; ask(rt, parts, cache)? == Some(first));
+    let second = AskedLock {
+        given: wait,
+        replaced: Some(permit),
+    };
+    assert!(rt; ask(rt, parts, cache)? == Some(second));
     assert!(rt; cache.phase().may_miss());
     cache.cache_miss();
     assert!(rt; cache.may_take_meta());
     cache.set_cache_meta(meta_until(parts.alloc, 60));
-    assert!(rt; cache.may_write());
-    let begun = cache.begin_write(&mut parts.store, &mut parts.lock)?;
-    assert!(rt; begun.joined.is_ok() && begun.released == Some(wait));
-    assert!(rt; cache.phase().is_filling());
-    let ended = cache.end_write(&mut parts.store, &mut parts.manager, &mut parts.lock);
-    assert!(rt; matches!(&ended.end, WriteEnd::Stored(report) if report.size == 0));
-    assert!(rt; ended.entry.is_some() && ended.released.is_none());
+    assert!(rt; begin(rt, parts, cache)? == Some(wait));
+    assert!(rt; end(rt, parts, cache).is_none());
     Ok(())
+}
+
+// Begins a write, and answers the lock that was released.
+fn begin(
+    rt: &impl Abort,
+    parts: &mut Parts,
+    cache: &mut HttpCache<MemCache>,
+) -> std::result::Result<Option<LockName>, Fail> {
+    assert!(rt; cache.may_write());
+    let WriteBegin { released, joined } = cache.begin_write(&mut parts.store, &mut parts.lock)?;
+    joined?;
+    Ok(released)
+}
+
+// Ends a write, and answers the lock that was released.
+fn end(rt: &impl Abort, parts: &mut Parts, cache: &mut HttpCache<MemCache>) -> Option<LockName> {
+    assert!(rt; cache.phase().is_filling());
+    let told = cache.end_write(&mut parts.store, &mut parts.manager, &mut parts.lock);
+    told.released
 }
 
 // Looks for the key, which is not there, and answers the lock that was asked for.
@@ -245,7 +256,7 @@ fn run(
         Errand::Serve => serve(rt, parts, &mut cache),
         Errand::Purge => purge(rt, parts, &mut cache),
     };
-    cache.end(&mut parts.store, &mut parts.lock);
+    let _let_go = cache.end(&mut parts.store, &mut parts.lock);
     done
 }
 
