@@ -23,11 +23,21 @@ abbrev pub IsDisabled : CachePhase → Type 0
 IsDisabled (phase.Disabled r) = Unit {0}
 IsDisabled _ = ⊥
 
+-- caching is on
+abbrev pub is_on : CachePhase → Bool
+is_on (phase.Disabled r) = false
+is_on _ = true
+
 -- a key may be set
 abbrev pub MayTakeKey : CachePhase → Type 0
 MayTakeKey phase.Uninit = Unit {0}
 MayTakeKey phase.CacheKey = Unit {0}
 MayTakeKey _ = ⊥
+
+-- the cache may be passed by
+abbrev pub MayBypass : CachePhase → Type 0
+MayBypass phase.CacheKey = Unit {0}
+MayBypass _ = ⊥
 
 -- the key may be looked up, and what was found be taken
 abbrev pub MayLookUp : CachePhase → Type 0
@@ -62,7 +72,23 @@ IsReading phase.Revalidated = Unit {0}
 IsReading (phase.RevalidatedNoCache r) = Unit {0}
 IsReading _ = ⊥
 
--- the key may be purged
+-- a reader may be ended
+abbrev pub MayFinishHit : CachePhase → Type 0
+MayFinishHit phase.Hit = Unit {0}
+MayFinishHit phase.Miss = Unit {0}
+MayFinishHit phase.Stale = Unit {0}
+MayFinishHit phase.StaleUpdating = Unit {0}
+MayFinishHit phase.Expired = Unit {0}
+MayFinishHit phase.Revalidated = Unit {0}
+MayFinishHit (phase.RevalidatedNoCache r) = Unit {0}
+MayFinishHit _ = ⊥
+
+-- a stale body was found
+abbrev pub IsStale : CachePhase → Type 0
+IsStale phase.Stale = Unit {0}
+IsStale _ = ⊥
+
+-- the key may be purged, and what stands under it be expired
 abbrev pub MayPurge : CachePhase → Type 0
 MayPurge phase.CacheKey = Unit {0}
 MayPurge _ = ⊥

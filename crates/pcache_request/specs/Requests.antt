@@ -4,7 +4,8 @@ use Rattle.std.specs.Prelude.{ℕ, ◌≡◌, ◌&&◌, Bool, true, false, not, 
 use Rattle.std.specs.FinMap.{remove}
 use Rattle.pcache_base.specs.Key.{Key, slot}
 use Rattle.pcache_base.specs.CompactKey.{compact_of}
-use Rattle.pcache_meta.specs.Meta.{Meta}
+use Rattle.pcache_base.specs.declared.key.CompactCacheKey.{CompactCacheKey}
+use Rattle.pcache_meta.specs.Meta.{Meta, provenance_of}
 use Rattle.pcache_base.specs.declared.reason.NoCacheReason.TheVariants as reason
 use Rattle.pcache_evict.specs.declared.eviction.entry_key.CacheEntryKey.{CacheEntryKey}
 use Rattle.pcache_evict.specs.Entry.{entry_with}
@@ -159,20 +160,38 @@ tracked_found_at s h id r (Some k) m = cond (counts_found s h r) (added m (entry
 abbrev pub tracked_found : HitStatus → Reader → Option ℕ → Request → Tracked → Tracked
 tracked_found s h id r m = tracked_found_at s h id r r.key m
 
+-- the reader is ended
+abbrev pub without_reader : Request → Request
+without_reader r = record r { reader = None }
+
 -- the request goes on as a miss; a reader stays
 abbrev pub missed : Request → Request
 missed r = record r { phase = phase.Miss; meta = None }
 
--- a meta may be set
+-- a meta may be set: of a response that is to be stored first, or in place of a stale one
 abbrev pub MayTakeMetaIn : CachePhase → Option Meta → Type 0
 MayTakeMetaIn phase.Miss m = Unit {0}
+MayTakeMetaIn phase.Stale m = IsSome m
 MayTakeMetaIn _ m = ⊥
 
 abbrev pub MayTakeMeta : Request → Type 0
 MayTakeMeta r = MayTakeMetaIn r.phase r.meta
 
+-- a meta in place of a stale one keeps where that came from, and the body is fetched anew
+abbrev pub phase_with_meta : CachePhase → CachePhase
+phase_with_meta phase.Stale = phase.Expired
+phase_with_meta p = p
+
+abbrev pub with_provenance_of : Option Meta → Meta → Meta
+with_provenance_of None m = m
+with_provenance_of (Some old) m = record m { provenance = Some (provenance_of old) }
+
+abbrev pub meta_taken : CachePhase → Option Meta → Meta → Meta
+meta_taken phase.Stale old m = with_provenance_of old m
+meta_taken _ old m = m
+
 abbrev pub with_meta : Meta → Request → Request
-with_meta m r = record r { meta = Some m }
+with_meta m r = record r { phase = phase_with_meta r.phase; meta = Some (meta_taken r.phase r.meta m) }
 
 -- a write may begin
 abbrev pub MayWrite : Request → Type 0
@@ -201,10 +220,10 @@ store_writing streams n r s =
     let t = begun_for r.key r.meta s in
     cond streams (left_by r.reader (followed t (joined_for r.key n t))) t
 
--- what a purge leaves of the tracked entries: the entry that went is taken out
-abbrev pub tracked_gone : Bool → Key → PurgeOutcome → Tracked → Tracked
+-- what a removal leaves of the tracked entries: the entry that went is taken out
+abbrev pub tracked_gone : Bool → CompactCacheKey → PurgeOutcome → Tracked → Tracked
 tracked_gone uses k NotFound m = m
-tracked_gone uses k (Purged id) m = cond uses (remove m (entry_of k id)) m
+tracked_gone uses k (Purged id) m = cond uses (remove m (entry_with k id)) m
 tracked_gone uses k Expired m = m
 
 abbrev pub is_removed_by : PurgeOutcome → Bool
@@ -214,4 +233,4 @@ is_removed_by Expired = true
 
 abbrev pub tracked_gone_for : Bool → Option Key → PurgeOutcome → Tracked → Tracked
 tracked_gone_for uses None o m = m
-tracked_gone_for uses (Some k) o m = tracked_gone uses k o m
+tracked_gone_for uses (Some k) o m = tracked_gone uses (compact_of k) o m

@@ -58,6 +58,13 @@ impl CachePhase {
         matches!(self, CachePhase::Disabled(_))
     }
 
+    /// Whether the cache may be passed by.
+    pub fn may_bypass(self) -> bool
+        ensures { IsTrue result ↔ phases.MayBypass self }
+    {
+        matches!(self, CachePhase::CacheKey)
+    }
+
     /// Whether a key may be set.
     pub fn may_take_key(self) -> bool
         ensures { IsTrue result ↔ phases.MayTakeKey self }
@@ -104,7 +111,30 @@ impl CachePhase {
         )
     }
 
-    /// Whether the key may be purged.
+    /// Whether a reader may be ended.
+    pub fn may_finish_hit(self) -> bool
+        ensures { IsTrue result ↔ phases.MayFinishHit self }
+    {
+        matches!(
+            self,
+            CachePhase::Hit
+                | CachePhase::Miss
+                | CachePhase::Stale
+                | CachePhase::StaleUpdating
+                | CachePhase::Expired
+                | CachePhase::Revalidated
+                | CachePhase::RevalidatedNoCache(_)
+        )
+    }
+
+    /// Whether a stale body was found.
+    pub fn is_stale(self) -> bool
+        ensures { IsTrue result ↔ phases.IsStale self }
+    {
+        matches!(self, CachePhase::Stale)
+    }
+
+    /// Whether the key may be purged, and what stands under it be expired.
     pub fn may_purge(self) -> bool
         ensures { IsTrue result ↔ phases.MayPurge self }
     {

@@ -18,6 +18,8 @@ use std::process::Abort;
 use std::test::Fail;
 use std::time::Duration;
 
+mod phases;
+
 const ALL_BUT_THE_PREDICTOR: InUse = InUse {
     eviction: true,
     predictor: false,
@@ -108,8 +110,75 @@ fn fill(
     );
     assert!(rt; cache.phase().is_filling());
     let again = cache.end_write(&mut parts.store, &mut parts.manager, &mut parts.lock);
-    assert!(rt; matches!(again, WriteEnd::Nothing));
+    assert!(rt; matches!(again.end, WriteEnd::Nothing) && again.released.is_none());
     Ok(())
+}
+
+// Looks the key up twice, and stores an empty body: each call tells of the locks and of the entry.
+fn fill_telling(
+    rt: &impl Abort,
+    parts: &mut Parts,
+    cache: &mut HttpCache<MemCache>,
+) -> std::result::Result<(), Fail> {
+    let permit = LockName {
+        number: 0,
+        is_permit: true,
+    };
+    let wait = LockName {
+        number: 0,
+        is_permit: false,
+    };
+    let first = AskedLock {
+        given: permit,
+        replaced: None,
+    };
+    assert!(rt; ask(rt, parts, cache)? == Some(first));
+    let second = AskedLock {
+        given: wait,
+        replaced: Some(permit),
+    };
+    assert!(rt; ask(rt, parts, cache)? == Some(second));
+    assert!(rt; cache.phase().may_miss());
+    cache.cache_miss();
+    assert!(rt; cache.may_take_meta());
+    cache.set_cache_meta(meta_until(parts.alloc, 60));
+    assert!(rt; begin(rt, parts, cache)? == Some(wait));
+    assert!(rt; end(rt, parts, cache).is_none());
+    Ok(())
+}
+
+// Begins a write, and answers the lock that was released.
+fn begin(
+    rt: &impl Abort,
+    parts: &mut Parts,
+    cache: &mut HttpCache<MemCache>,
+) -> std::result::Result<Option<LockName>, Fail> {
+    assert!(rt; cache.may_write());
+    let WriteBegin { released, joined } = cache.begin_write(&mut parts.store, &mut parts.lock)?;
+    joined?;
+    Ok(released)
+}
+
+// Ends a write, and answers the lock that was released.
+fn end(rt: &impl Abort, parts: &mut Parts, cache: &mut HttpCache<MemCache>) -> Option<LockName> {
+    assert!(rt; cache.phase().is_filling());
+    let told = cache.end_write(&mut parts.store, &mut parts.manager, &mut parts.lock);
+    told.released
+}
+
+// Looks for the key, which is not there, and answers the lock that was asked for.
+fn ask(
+    rt: &impl Abort,
+    parts: &mut Parts,
+    cache: &mut HttpCache<MemCache>,
+) -> std::result::Result<Option<AskedLock>, Fail> {
+    assert!(rt; cache.phase().may_look_up());
+    let LookUp { found, asked } = cache.look_up(&mut parts.store, &mut parts.lock, Moment::EPOCH)?;
+    if let Some((_meta, hit)) = found {
+        hit.let_go(&mut parts.store);
+        panic!(rt; "nothing was stored");
+    }
+    Ok(asked)
 }
 
 // Looks the key up, and takes the hit with this status.
@@ -164,11 +233,11 @@ fn purge(
     parts: &mut Parts,
     cache: &mut HttpCache<MemCache>,
 ) -> std::result::Result<(), Fail> {
-    for wanted in [true, false] {
-        assert!(rt; cache.phase().may_purge());
-        let was_there = cache.purge(&mut parts.store, &mut parts.manager)?;
-        assert_eq!(rt; was_there, wanted);
-    }
+    assert!(rt; cache.phase().may_purge());
+    let removal = cache.purge_key(&mut parts.store, &mut parts.manager)?;
+    assert!(rt; removal.was_there() && removal.untracked.is_some());
+    assert!(rt; cache.phase().may_purge());
+    assert!(rt; !cache.purge(&mut parts.store, &mut parts.manager)?);
     Ok(())
 }
 
@@ -176,6 +245,7 @@ fn purge(
 #[derive(Clone, Copy)]
 enum Errand {
     Fill,
+    FillTelling,
     Serve,
     Purge,
 }
@@ -191,10 +261,11 @@ fn run(
     start(rt, &mut cache, key);
     let done = match errand {
         Errand::Fill => fill(rt, parts, &mut cache),
+        Errand::FillTelling => fill_telling(rt, parts, &mut cache),
         Errand::Serve => serve(rt, parts, &mut cache),
         Errand::Purge => purge(rt, parts, &mut cache),
     };
-    cache.end(&mut parts.store, &mut parts.lock);
+    let _let_go = cache.end(&mut parts.store, &mut parts.lock);
     done
 }
 
@@ -217,4 +288,13 @@ fn a_body_is_stored_read_and_purged(rt: HostRuntime) -> std::result::Result<(), 
         (0, 0)
     );
     Ok(())
+}
+
+#[test]
+fn calls_tell_what_they_did(rt: HostRuntime) -> std::result::Result<(), Fail> {
+    let alloc = rt.alloc();
+    let mut parts = Parts::new(alloc)?;
+    let key = key_of(alloc, "k")?;
+    run(&rt, &mut parts, key.copied()?, Errand::FillTelling)?;
+    run(&rt, &mut parts, key, Errand::Purge)
 }

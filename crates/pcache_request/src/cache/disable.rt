@@ -1,0 +1,125 @@
+//! Turning caching off, or passing it by.
+ghost use Rattle.std.specs.Prelude.{◌≡◌, ◌↔◌, IsTrue};
+ghost use Rattle.pcache_lock.specs.Statuses.{IsReason};
+ghost use Rattle.pcache_request.specs.Releasing.{IsHoldersReason, IsDisableReason, status_for};
+
+use super::{HttpCache, LockName, settle};
+use crate::phase::{CachePhase, InUse};
+use pcache_base::reason::NoCacheReason;
+use pcache_lock::lock::{CacheKeyLock, LockStatus, Locked};
+use pcache_store::storage::{HandleHit, HandleMiss, Storage};
+
+// Whether the holder of a permit can have this reason.
+fn is_holders_reason(reason: NoCacheReason) -> bool
+    ensures { IsTrue result ↔ IsHoldersReason reason }
+{
+    !matches!(
+        reason,
+        NoCacheReason::NeverEnabled
+            | NoCacheReason::CacheLockGiveUp
+            | NoCacheReason::CacheLockTimeout
+            | NoCacheReason::CacheLockRetryLimit
+    )
+}
+
+// Whether caching may be turned off for this reason.
+fn is_disable_reason(reason: NoCacheReason) -> bool
+    ensures { IsTrue result ↔ IsDisableReason reason }
+{
+    !matches!(reason, NoCacheReason::NeverEnabled)
+}
+
+// What the others are told when a permit is released for this reason.
+pub(super) fn status_for<L: CacheKeyLock>(lock: &L, reason: NoCacheReason) -> LockStatus
+    ensures value { result ≡ status_for (L.custom_status lock.now) reason }
+    ensures reason { IsReason result }
+{
+    match reason {
+        NoCacheReason::StorageError
+        | NoCacheReason::InternalError
+        | NoCacheReason::Deferred
+        | NoCacheReason::DeclinedToUpstream
+        | NoCacheReason::UpstreamError => LockStatus::TransientError,
+        NoCacheReason::Custom(text) => lock.custom_lock_status(text),
+        NoCacheReason::NeverEnabled
+        | NoCacheReason::OriginNotCache
+        | NoCacheReason::ResponseTooLarge
+        | NoCacheReason::PredictedResponseTooLarge
+        | NoCacheReason::CacheLockGiveUp
+        | NoCacheReason::CacheLockTimeout
+        | NoCacheReason::CacheLockRetryLimit => LockStatus::GiveUp,
+    }
+}
+
+impl<S: Storage> HttpCache<S> {
+    ghost use Rattle.std.specs.Prelude.{◌≡◌, ◌↔◌, IsTrue, option_map};
+    ghost use Rattle.pcache_request.specs.Phases.{MayBypass};
+    ghost use Rattle.pcache_request.specs.Releasing.{MayRelease, MayDisable, status_for, disabled_for, bypassed};
+    ghost use Rattle.pcache_request.specs.Reports.{name_of};
+    ghost use Rattle.pcache_request.specs.Requests.{settled, left_by, dropped_by};
+
+    /// Passes the cache by. The key is kept, and what is held.
+    pub fn bypass(&mut self)
+        requires { MayBypass self.old.phase }
+        ensures { self.new ≡ bypassed self.old }
+    {
+        self.phase = CachePhase::Bypass;
+    }
+
+    /// Whether the lock that is held may be given up for this reason: that of a reader, or that
+    /// caching was never turned on, is no reason to release a permit.
+    pub fn may_release(&self, reason: NoCacheReason) -> bool
+        ensures { IsTrue result ↔ MayRelease reason self.now.held }
+    {
+        match &self.held {
+            Some(Locked::Write(_)) => is_holders_reason(reason),
+            _ => true,
+        }
+    }
+
+    /// Whether `disable` may be called with this reason.
+    pub fn may_disable(&self, reason: NoCacheReason) -> bool
+        ensures { IsTrue result ↔ MayDisable reason self.now }
+    {
+        is_disable_reason(reason) && self.may_release(reason)
+    }
+
+    /// Turns caching off. The write is dropped, a permit is released with what the reason tells the
+    /// others, and the rest is let go; the key stays. Where caching was never turned on, nothing
+    /// changes. Answers the lock that was released.
+    pub fn disable<L: CacheKeyLock>(
+        &mut self,
+        storage: &mut S,
+        lock: &mut L,
+        reason: NoCacheReason,
+    ) -> Option<LockName>
+        requires { MayDisable reason self.old }
+        ensures request { self.new ≡ disabled_for reason self.old }
+        ensures store { S.state storage.new ≡ left_by self.old.reader (dropped_by self.old.write (S.state storage.old)) }
+        ensures table { L.table lock.new ≡ settled (status_for (L.custom_status lock.old) reason) self.old.held (L.table lock.old) }
+        ensures released { result ≡ option_map name_of self.old.held }
+    {
+        if matches!(
+            self.phase,
+            CachePhase::Disabled(NoCacheReason::NeverEnabled)
+        ) {
+            return None;
+        }
+        let status = status_for(lock, reason);
+        let released = settle(self.alloc, &self.key, &mut self.held, lock, status);
+        if let Some(writer) = self.writer.take() {
+            writer.drop_write(storage);
+        }
+        if let Some(reader) = self.reader.take() {
+            reader.let_go(storage);
+        }
+        self.meta = None;
+        self.uses = InUse {
+            eviction: false,
+            predictor: self.uses.predictor,
+            lock: false,
+        };
+        self.phase = CachePhase::Disabled(reason);
+        released
+    }
+}

@@ -1,0 +1,148 @@
+//! What a request shows of itself.
+use super::HttpCache;
+use crate::phase::CachePhase;
+use pcache_base::key::CacheKey;
+use pcache_base::moment::Moment;
+use pcache_base::reason::NoCacheReason;
+use pcache_meta::meta::CacheMeta;
+use pcache_store::storage::Storage;
+
+impl<S: Storage> HttpCache<S> {
+    ghost use Rattle.std.specs.Prelude.{◌≡◌, ◌↔◌, IsTrue, IsSome, Some, None, option_copied, cond};
+    ghost use Rattle.pcache_request.specs.Shown.{is_enabled, is_bypassing, has_used_upstream, shown_key, shown_meta, read_meta, stale_meta, ServesAfterError, ServesWhileUpdating};
+    ghost use Rattle.pcache_request.specs.Phases.{is_on};
+
+    /// Whether the cache is on, and not passed by.
+    pub fn enabled(&self) -> bool
+        ensures { result ≡ is_enabled self.now.phase }
+    {
+        !matches!(self.phase, CachePhase::Disabled(_) | CachePhase::Bypass)
+    }
+
+    /// Whether the cache is passed by.
+    pub fn bypassing(&self) -> bool
+        ensures { result ≡ is_bypassing self.now.phase }
+    {
+        matches!(self.phase, CachePhase::Bypass)
+    }
+
+    /// Whether the origin was asked.
+    pub fn upstream_used(&self) -> bool
+        ensures { result ≡ has_used_upstream self.now.phase }
+    {
+        matches!(
+            self.phase,
+            CachePhase::Disabled(_)
+                | CachePhase::Bypass
+                | CachePhase::Miss
+                | CachePhase::Expired
+                | CachePhase::Revalidated
+                | CachePhase::RevalidatedNoCache(_)
+        )
+    }
+
+    /// The key, where one is set and caching was turned on.
+    pub fn maybe_cache_key(&self) -> Option<&CacheKey>
+        ensures { option_copied result ≡ shown_key self.now }
+    {
+        match self.phase {
+            CachePhase::Disabled(NoCacheReason::NeverEnabled) | CachePhase::Uninit => None,
+            _ => self.key.as_ref(),
+        }
+    }
+
+    /// The key.
+    pub fn cache_key(&self) -> &CacheKey
+        requires { IsSome (shown_key self.now) }
+        ensures { Some result.now ≡ shown_key self.now }
+    {
+        let Some(key) = self.maybe_cache_key() else {
+            unreachable!()
+        };
+        key
+    }
+
+    /// The meta of what was found or is to be stored.
+    pub fn maybe_cache_meta(&self) -> Option<&CacheMeta>
+        ensures { option_copied result ≡ shown_meta self.now }
+    {
+        match self.phase {
+            CachePhase::Hit
+            | CachePhase::Miss
+            | CachePhase::Stale
+            | CachePhase::StaleUpdating
+            | CachePhase::Expired
+            | CachePhase::Revalidated
+            | CachePhase::RevalidatedNoCache(_) => self.meta.as_ref(),
+            _ => None,
+        }
+    }
+
+    // The meta of the body that is read.
+    fn read_meta(&self) -> Option<&CacheMeta>
+        ensures { option_copied result ≡ read_meta self.now }
+    {
+        if matches!(self.phase, CachePhase::Miss) && self.reader.is_none() {
+            return None;
+        }
+        self.maybe_cache_meta()
+    }
+
+    /// Whether `cache_meta` may be asked: there is a meta, and of a miss also a reader.
+    pub fn has_cache_meta(&self) -> bool
+        ensures { IsTrue result ↔ IsSome (read_meta self.now) }
+    {
+        self.read_meta().is_some()
+    }
+
+    /// The meta of the body that is read.
+    pub fn cache_meta(&self) -> &CacheMeta
+        requires { IsSome (read_meta self.now) }
+        ensures { Some result.now ≡ read_meta self.now }
+    {
+        let Some(meta) = self.read_meta() else {
+            unreachable!()
+        };
+        meta
+    }
+
+    // The meta of a stale body.
+    fn stale_meta(&self) -> Option<&CacheMeta>
+        ensures { option_copied result ≡ stale_meta self.now }
+    {
+        match self.phase {
+            CachePhase::Stale | CachePhase::StaleUpdating => self.meta.as_ref(),
+            _ => None,
+        }
+    }
+
+    /// Whether the body is stale, and may be served now in place of an error.
+    pub fn can_serve_stale_error(&self, now: Moment) -> bool
+        ensures { IsTrue result ↔ ServesAfterError now (stale_meta self.now) }
+    {
+        let Some(meta) = self.stale_meta() else {
+            return false;
+        };
+        meta.serve_stale_if_error(now)
+    }
+
+    /// Whether the body is stale, and may be served now while another request renews it.
+    pub fn can_serve_stale_updating(&self, now: Moment) -> bool
+        ensures { IsTrue result ↔ ServesWhileUpdating now (stale_meta self.now) }
+    {
+        let Some(meta) = self.stale_meta() else {
+            return false;
+        };
+        meta.serve_stale_while_revalidate(now)
+    }
+
+    /// Whether the storage's writes can be read while they are made, where caching is on.
+    pub fn support_streaming_partial_write(&self, storage: &S) -> Option<bool>
+        ensures { result ≡ cond (is_on self.now.phase) (Some (S.streams storage.now)) None }
+    {
+        if matches!(self.phase, CachePhase::Disabled(_)) {
+            return None;
+        }
+        Some(storage.support_streaming_partial_write())
+    }
+}

@@ -1,0 +1,58 @@
+//! What becomes of a stale body.
+use super::disable::status_for;
+use super::{HttpCache, LockName, settle};
+use crate::phase::CachePhase;
+use pcache_base::reason::NoCacheReason;
+use pcache_lock::lock::CacheKeyLock;
+use pcache_meta::header::ResponseHeader;
+use pcache_store::storage::Storage;
+
+impl<S: Storage> HttpCache<S> {
+    ghost use Rattle.std.specs.Prelude.{◌≡◌, ◌↔◌, IsTrue, option_map};
+    ghost use Rattle.pcache_request.specs.Phases.{IsStale};
+    ghost use Rattle.pcache_request.specs.Releasing.{MayRelease, status_for};
+    ghost use Rattle.pcache_request.specs.Reports.{name_of};
+    ghost use Rattle.pcache_request.specs.Requests.{settled};
+    ghost use Rattle.pcache_meta.specs.Header.{shown};
+    ghost use Rattle.pcache_request.specs.Stale.{MayRevalidate, updating, uncacheable};
+
+    /// Serves the stale body while another request renews it.
+    pub fn set_stale_updating(&mut self)
+        requires { IsStale self.old.phase }
+        ensures { self.new ≡ updating self.old }
+    {
+        self.phase = CachePhase::StaleUpdating;
+    }
+
+    /// Whether a stale body was found, and its meta is there.
+    pub fn may_revalidate(&self) -> bool
+        ensures { IsTrue result ↔ MayRevalidate self.now }
+    {
+        matches!(self.phase, CachePhase::Stale) && self.meta.is_some()
+    }
+
+    /// Serves the stale body, of which the origin said that it is good, with this header. The new
+    /// answer is not stored, for this reason, and a permit is released with what that tells the
+    /// others. Answers the lock that was released.
+    pub fn revalidate_uncacheable<L: CacheKeyLock>(
+        &mut self,
+        lock: &mut L,
+        header: ResponseHeader,
+        reason: NoCacheReason,
+    ) -> Option<LockName>
+        requires stale { MayRevalidate self.old }
+        requires reason { MayRelease reason self.old.held }
+        ensures request { self.new ≡ uncacheable (shown header) reason self.old }
+        ensures table { L.table lock.new ≡ settled (status_for (L.custom_status lock.old) reason) self.old.held (L.table lock.old) }
+        ensures released { result ≡ option_map name_of self.old.held }
+    {
+        let Some(meta) = &mut self.meta else {
+            unreachable!()
+        };
+        *meta.response_header_mut() = header;
+        let status = status_for(lock, reason);
+        let released = settle(self.alloc, &self.key, &mut self.held, lock, status);
+        self.phase = CachePhase::RevalidatedNoCache(reason);
+        released
+    }
+}
