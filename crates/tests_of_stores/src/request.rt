@@ -5,6 +5,7 @@ use pcache_base::error::Result;
 use pcache_base::key::CacheKey;
 use pcache_base::moment::Moment;
 use pcache_base::poll::Poll;
+use pcache_base::reason::NoCacheReason;
 use pcache_evict::eviction::simple_lru::Manager;
 use pcache_lock::lock::CacheLock;
 use pcache_meta::header::ResponseHeader;
