@@ -11,6 +11,3 @@ mod request;
 mod turn;
 
 pub use machine::{Totals, World};
-
-#[cfg(test)]
-mod tests;

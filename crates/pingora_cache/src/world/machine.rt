@@ -238,6 +238,3 @@ fn note(history: &mut Vec<Entry>, call: Call, reply: Reply, events: Vec<Event>)
         events: Events::new(events),
     });
 }
-
-#[cfg(test)]
-mod tests;

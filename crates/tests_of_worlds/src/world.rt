@@ -1,10 +1,10 @@
 //! Calls of a world, each with the reply that is wanted.
 mod plain;
 
-use super::*;
 use Step::*;
 use bytes::Bytes;
-use call::{Call, Reply};
+use pingora_cache::world::World;
+use pingora_cache::world::call::{Call, Reply};
 use http::StatusCode;
 use pcache_base::error::Result;
 use pcache_base::key::{CacheHashKey, CacheKey};

@@ -1,5 +1,5 @@
 use Rattle.std.proofs.Common.{vec_len}
-use Rattle.pcache_lock.proofs.lock.random.Hands.end.Given as goal
+use Rattle.tests_of_stores.proofs.random_locks.Hands.end.Given as goal
 
 abbrev pub decreases-loop-permit : goal.decreases-loop-permit
 decreases-loop-permit l = vec_len l.permits

@@ -1,5 +1,5 @@
 use Rattle.std.specs.BTreeMap.{btree_map_len}
-use Rattle.pcache_store.proofs.memory.tests.Desk.close.Given as goal
+use Rattle.tests_of_stores.proofs.memory.Desk.close.Given as goal
 
 abbrev pub decreases-loop-number : goal.decreases-loop-number
 decreases-loop-number l = btree_map_len l.writers
