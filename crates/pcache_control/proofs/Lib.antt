@@ -1,4 +1,5 @@
 pub mod Starts
+pub mod Quotes
 pub mod Only
 pub mod Digits
 pub mod Lists

@@ -1,10 +1,10 @@
 -- A line has one list of directives.
-use Rattle.std.proofs.Common.{◌≡◌, ℕ, ◌≤◌, inl, inr, false, List, [], ◌∷◌, slice_index, Option, Some, None, refl, sym, ap, ◌∙◌, arith}
+use Rattle.std.proofs.Common.{◌≡◌, ℕ, ◌+◌, ◌≤◌, inl, inr, false, List, [], ◌∷◌, slice_index, Option, Some, None, refl, sym, ap, ◌∙◌, arith}
 use Rattle.std.proofs.lemmas.Bool.{cases_lt}
-use Rattle.std.proofs.lemmas.Option.{same_Some}
 use Rattle.pcache_control.specs.Bytes.{is_token_byte}
 use Rattle.pcache_control.specs.Directives.{IsTokenAt, IsLongestRun, IsNextStart, IsText, HasValue, EndsWith, IsDirective, AreDirectivesFrom}
 use Rattle.pcache_control.specs.declared.scan.Span.{Span}
+use Rattle.pcache_control.proofs.Quotes.{closed_once}
 use Rattle.pcache_control.proofs.Starts.{clash}
 
 run_no_shorter : (line : List ℕ) (i j k : ℕ) → IsLongestRun line i j → IsLongestRun line i k → j ≤ k
@@ -31,7 +31,7 @@ text_only line start a b (inl p) (inr q) =
     absurd (clash (is_token_byte (slice_index line start)) (p.1.run start (omega arith) p.0) (quote_no_token (slice_index line start) q.1))
 text_only line start a b (inr p) (inl q) =
     absurd (clash (is_token_byte (slice_index line start)) (q.1.run start (omega arith) q.0) (quote_no_token (slice_index line start) p.1))
-text_only line start a b (inr p) (inr q) = same_Some a b (sym p.2 ∙ q.2)
+text_only line start a b (inr p) (inr q) = closed_once line (start + 1) a b p.2 q.2
 
 value_only : (line : List ℕ) (e : ℕ) (v w : ℕ × ℕ) → HasValue line e v → HasValue line e w → v ≡ w
 value_only line e v w first second =

@@ -1,5 +1,6 @@
 -- Which parts of a line are directives.
-use Rattle.std.specs.Prelude.{◌≡◌, ℕ, ◌+◌, ◌<◌, ◌≤◌, ◌⊎◌, Bool, true, false, List, [], ◌∷◌, length, drop, slice_index, Option, Some, None, IfSome, ◌==◌, if◌then◌else◌}
+use Rattle.std.specs.Prelude.{◌≡◌, ◌≢◌, ℕ, ◌+◌, ◌<◌, ◌≤◌, ◌⊎◌, true, false, List, [], ◌∷◌, ◌++◌, length, drop, slice_index, Option, Some, None, IfSome, All}
+use Rattle.std.specs.List.{flat_map}
 use Rattle.pcache_control.specs.Bytes.{is_token_byte, is_delimiter, is_white_space}
 use Rattle.pcache_control.specs.declared.scan.Span.{Span}
 
@@ -41,19 +42,26 @@ pub record IsFirstStart (line : List ℕ) (from s : ℕ) : Type 0 where
 abbrev pub IsAdmitted : List ℕ → ℕ → ℕ → Type 0
 IsAdmitted line from s = ((s ≡ 0) × IsTokenAt line 0) ⊎ ((d : ℕ) × (from ≤ d) × Leads line d s)
 
--- the place behind the quote that closes a quoted text, from place `at` on; a backslash takes the
--- next byte along, which is no line feed
-abbrev pub quote_end : Bool → ℕ → List ℕ → Option ℕ
-quote_end escaped at [] = None
-quote_end true at (b ∷ bytes) = if b == 0x0A then None else quote_end false (at + 1) bytes
-quote_end false at (b ∷ bytes) =
-    if b == 0x22 then Some (at + 1)
-    else quote_end (b == 0x5C) (at + 1) bytes
+-- a unit of a quoted text: a byte that is neither a quote nor a backslash, or a backslash and the next byte,
+-- which is no line feed
+abbrev pub IsUnit : List ℕ → Type 0
+IsUnit u = ((b : ℕ) × (u ≡ b ∷ []) × (b ≢ 0x22) × (b ≢ 0x5C)) ⊎ ((b : ℕ) × (u ≡ 0x5C ∷ b ∷ []) × (b ≢ 0x0A))
+
+abbrev pub AreUnits : List ℕ → Type 0
+AreUnits text = (units : List (List ℕ)) × All IsUnit units × (text ≡ flat_map (λ u. u) units)
+
+-- from a place on stand units, and a quote that closes them; the end is behind it
+pub record IsClosed (line : List ℕ) (at end : ℕ) : Type 0 where
+  pub text : List ℕ
+  pub behind : List ℕ
+  pub units : AreUnits text
+  pub whole : drop at line ≡ text ++ 0x22 ∷ behind
+  pub ends : end ≡ at + length text + 1
 
 -- the text from v.0 to v.1 is a value: a nonempty longest run of token bytes, or a quoted text
 abbrev pub IsText : List ℕ → ℕ × ℕ → Type 0
 IsText line v = ((v.0 < v.1) × IsLongestRun line v.0 v.1)
-    ⊎ ((v.0 < length line) × (slice_index line v.0 ≡ 0x22) × (quote_end false (v.0 + 1) (drop (v.0 + 1) line) ≡ Some v.1))
+    ⊎ ((v.0 < length line) × (slice_index line v.0 ≡ 0x22) × IsClosed line (v.0 + 1) v.1)
 
 -- the value v follows directly: an equals sign, and then the value
 pub record HasValue (line : List ℕ) (name_end : ℕ) (v : ℕ × ℕ) : Type 0 where

@@ -7,7 +7,7 @@
 ghost use Rattle.std.specs.Prelude.{◌≡◌, ◌≤◌, ◌<◌, ◌+◌, ◌-◌, ℕ, List, length, drop, IfSome, IfNone, slice_index, false};
 ghost use Rattle.pcache_control.specs.declared.scan.Span.{Span};
 ghost use Rattle.pcache_control.specs.Bytes.{is_token_byte, is_delimiter, is_white_space};
-ghost use Rattle.pcache_control.specs.Directives.{IsTokenAt, IsFirstStart, IsNextStart, IsLongestRun, IsWhiteSpaceRun, Leads, IsAdmitted, quote_end, HasValue, IsDirective};
+ghost use Rattle.pcache_control.specs.Directives.{IsTokenAt, IsFirstStart, IsNextStart, IsLongestRun, IsWhiteSpaceRun, Leads, IsAdmitted, IsClosed, HasValue, IsDirective};
 
 use std::marker::Model;
 
@@ -76,7 +76,8 @@ fn token_end(line: &[u8], at: usize) -> usize
 // The place behind the closing quote, `at` being behind the opening one.
 fn quote_end(line: &[u8], at: usize) -> Option<usize>
     requires { at ≤ length line.now }
-    ensures value { result ≡ quote_end false at (drop at line.now) }
+    ensures found { IfSome result (λ end. IsClosed line.now at end) }
+    ensures none { IfNone result ((end : ℕ) → ¬ (IsClosed line.now at end)) }
     ensures behind { IfSome result (λ end. at < end) }
     ensures within { IfSome result (λ end. end ≤ length line.now) }
 {
@@ -117,7 +118,9 @@ fn value_at(line: &[u8], name_end: usize) -> Option<(usize, usize)>
     if start >= line.len() || line[start] != b'"' {
         return None;
     }
-    let end = quote_end(line, start + 1)?;
+    let Some(end) = quote_end(line, start + 1) else {
+        return None;
+    };
     Some((start, end))
 }
 

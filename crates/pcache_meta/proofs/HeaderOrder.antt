@@ -1,5 +1,5 @@
 -- Lines that stand in the order of the map that they make.
-use Rattle.std.proofs.Common.{◌≡◌, ℕ, Bool, true, false, List, [], ◌∷◌, ◌++◌, length, drop, take, Some, None, refl, sym, ap, subst, ◌∙◌, append_assoc}
+use Rattle.std.proofs.Common.{◌≡◌, ℕ, Bool, true, false, List, [], ◌∷◌, ◌++◌, length, drop, take, Some, None, refl, sym, ap, ◌∙◌, append_assoc}
 use Rattle.std.specs.Prelude.{Option, bytes_eq, IfNone, IfSome, MatchOption, ◌+◌}
 use Rattle.std.specs.List.{flat_map}
 use Rattle.std.proofs.Math.Seq.{take-append_seam}
@@ -8,10 +8,7 @@ use Rattle.std.proofs.lemmas.List.Concat.{flat_map-cons}
 use Rattle.std.proofs.lemmas.Option.{same_Some}
 use Rattle.std.proofs.lemmas.Slice.Eq.{bytes_eq-Decides}
 use Rattle.http_header.specs.FieldValue.{FieldValue}
-use Rattle.http_header.specs.HeaderMap.{pairs}
-use Rattle.pcache_meta.specs.Header.{Fields, Header}
-use Rattle.pcache_meta.specs.HeaderText.{Field, field_text, field_line, fields_text, line_end, shown_lines, SpellsHeader, IsOneToOne}
-use Rattle.pcache_meta.specs.HeaderReading.{header_at}
+use Rattle.pcache_meta.specs.HeaderText.{Field, field_text, field_line, fields_text, line_end, shown_lines, IsOneToOne}
 use Rattle.pcache_meta.proofs.HeaderExact.{header_again}
 
 -- ---- a prefix, as `strip_prefix` finds it

@@ -1,6 +1,5 @@
-use Rattle.std.proofs.Common.{◌≡◌, ◌*◌, ◌<◌, ◌∙◌, ap, arith, length}
-use Rattle.std.specs.Prelude.{string_bytes}
-use Rattle.hex.specs.Hex.{IsBytes, decode_of, lower_digits}
+use Rattle.std.proofs.Common.{◌∙◌, ap, arith, length}
+use Rattle.hex.specs.Hex.{decode_of, lower_digits}
 use Rattle.hex.proofs.HexLemmas.{decode_of-encode_lower, length-encode_with}
 use Rattle.pcache_base.proofs.key.hex_text.Goals as goal
 

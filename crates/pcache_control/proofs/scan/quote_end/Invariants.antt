@@ -1,5 +1,5 @@
 use Rattle.std.proofs.Common.{◌≡◌, false, drop}
-use Rattle.pcache_control.specs.Directives.{quote_end}
+use Rattle.pcache_control.proofs.Quotes.{quote_end}
 use Rattle.pcache_control.proofs.scan.quote_end.Given as goal
 
 abbrev pub invariant-bytes : goal.invariant-bytes
