@@ -1,6 +1,6 @@
 -- What a request took (own, after pingora-cache).
 use Rattle.std.specs.Prelude.{ℕ, ◌+◌, Option, Some, None, min}
-use Rattle.core.specs.Duration.{max_nanos}
+use Rattle.std.specs.Duration.{max_nanos}
 
 pub record Digest : Type 0 where
   -- how many nanoseconds its look-ups took, where that was recorded
