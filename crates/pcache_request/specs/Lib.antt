@@ -1,3 +1,4 @@
+pub mod Digest
 pub mod Finishing
 pub mod Phases
 pub mod Releasing

@@ -64,10 +64,9 @@ abbrev pub without_parts : InUse → InUse
 without_parts uses = record { eviction = false; predictor = uses.predictor; lock = false }
 
 abbrev pub switched_off : NoCacheReason → Request → Request
-switched_off why r = record {
+switched_off why r = record r {
   phase = phase.Disabled why;
   uses = without_parts r.uses;
-  key = r.key;
   meta = None;
   held = None;
   reader = None;

@@ -22,6 +22,7 @@ use Rattle.pcache_request.specs.declared.phase.CachePhase.TheVariants as phase
 use Rattle.pcache_request.specs.declared.phase.HitStatus.{HitStatus}
 use Rattle.pcache_request.specs.declared.phase.HitStatus.TheVariants as status
 use Rattle.pcache_request.specs.declared.phase.InUse.{InUse}
+use Rattle.pcache_request.specs.Digest.{Digest, empty_digest, time_added}
 use Rattle.pcache_request.specs.Phases.{IsFilling, is_treated_as_miss, is_stale, is_fresh}
 
 -- a request, as its contracts see it
@@ -35,6 +36,7 @@ pub record Request : Type 0 where
   pub write : Option ℕ
   -- the number of the entry that the write fills, where entries have numbers
   pub entry : Option ℕ
+  pub digest : Digest
 
 -- which parts a request uses that was never enabled
 abbrev pub nothing_used : InUse
@@ -42,11 +44,15 @@ nothing_used = record { eviction = false; predictor = false; lock = false }
 
 -- a request before caching is turned on
 abbrev pub new_request : Request
-new_request = record { phase = phase.Disabled reason.NeverEnabled; uses = nothing_used; key = None; meta = None; held = None; reader = None; write = None; entry = None }
+new_request = record { phase = phase.Disabled reason.NeverEnabled; uses = nothing_used; key = None; meta = None; held = None; reader = None; write = None; entry = None; digest = empty_digest }
 
 -- a request that was just enabled
 abbrev pub fresh_request : InUse → Request
-fresh_request uses = record { phase = phase.Uninit; uses = uses; key = None; meta = None; held = None; reader = None; write = None; entry = None }
+fresh_request uses = record { phase = phase.Uninit; uses = uses; key = None; meta = None; held = None; reader = None; write = None; entry = None; digest = empty_digest }
+
+-- a request that is enabled keeps its digest
+abbrev pub enabled_with : InUse → Request → Request
+enabled_with uses r = let fresh : Request = fresh_request uses in record fresh { digest = r.digest }
 
 -- a phase behind the key's has a key
 abbrev pub HasKey : {K : Type 0} → CachePhase → Option K → Type 0
@@ -234,3 +240,7 @@ is_removed_by Expired = true
 abbrev pub tracked_gone_for : Bool → Option Key → PurgeOutcome → Tracked → Tracked
 tracked_gone_for uses None o m = m
 tracked_gone_for uses (Some k) o m = tracked_gone uses (compact_of k) o m
+
+-- a look-up took so many nanoseconds more
+abbrev pub with_look_up_time : ℕ → Request → Request
+with_look_up_time n r = record r { digest = record { look_ups = time_added r.digest.look_ups n } }

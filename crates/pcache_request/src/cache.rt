@@ -23,6 +23,7 @@ mod report;
 mod shown;
 mod stale;
 
+use crate::digest::HttpCacheDigest;
 use crate::phase::{CachePhase, HitStatus, InUse};
 use bytes::Bytes;
 pub use finish::{FinishReport, WriteEnd};
@@ -49,6 +50,7 @@ pub struct HttpCache<S: Storage> {
     held: Option<Locked>,
     reader: Option<S::Hit>,
     writer: Option<S::Miss>,
+    digest: HttpCacheDigest,
 }
 
 impl<S: Storage> Model for HttpCache<S> {
@@ -67,6 +69,7 @@ impl<S: Storage> Model for HttpCache<S> {
       reader = option_map S.Hit.reader a.reader;
       write = option_map S.Miss.write a.writer;
       entry = option_and_then S.Miss.entry_number a.writer;
+      digest = a.digest;
     } };
 
     ghost invariant = { λ a. HasKey a.phase a.key × IsClear a.phase a.held a.reader a.writer × IsWriting a.phase a.meta a.writer };
@@ -254,7 +257,7 @@ impl<S: Storage> HttpCache<S> {
     ghost use Rattle.std.specs.Option.{option_copied, option_and_then};
     ghost use Rattle.pcache_store.specs.Refusals.{MayRefuseWrite};
     ghost use Rattle.pcache_request.specs.Phases.{IsDisabled, MayTakeKey, MayLookUp, MayMiss, IsFilling, IsReading, MayFinishHit, is_filling};
-    ghost use Rattle.pcache_request.specs.Requests.{Request, HasKey, new_request, fresh_request, with_key, found_for, looked, asks_for_miss, table_looked, found_row, asks_for_hit, store_found, table_found, tracked_found, missed, without_reader, MayTakeMeta, with_meta, MayWrite, writing, store_writing, begun_for, settled, left_by, dropped_by, let_go_by};
+    ghost use Rattle.pcache_request.specs.Requests.{Request, HasKey, new_request, enabled_with, with_key, found_for, looked, asks_for_miss, table_looked, found_row, asks_for_hit, store_found, table_found, tracked_found, missed, without_reader, MayTakeMeta, with_meta, MayWrite, writing, store_writing, begun_for, settled, left_by, dropped_by, let_go_by};
     ghost use Rattle.pcache_request.specs.Reports.{name_of, asked_in_look_up, asked_by_found, access_by_found};
     ghost use Rattle.pcache_request.specs.contracts.cache.HttpCache.{the_row};
 
@@ -275,13 +278,14 @@ impl<S: Storage> HttpCache<S> {
             held: None,
             reader: None,
             writer: None,
+            digest: HttpCacheDigest::new(),
         }
     }
 
-    /// Turns caching on, with these parts in use and all else fresh.
+    /// Turns caching on, with these parts in use and all else fresh but the digest.
     pub fn enable(&mut self, uses: InUse)
         requires { IsDisabled self.old.phase }
-        ensures { self.new ≡ fresh_request uses }
+        ensures { self.new ≡ enabled_with uses self.old }
     {
         self.phase = CachePhase::Uninit;
         self.uses = uses;
@@ -717,6 +721,7 @@ impl<S: Storage> HttpCache<S> {
             held,
             reader,
             writer,
+            digest: _,
         } = self;
         if let Some(writer) = writer {
             writer.drop_write(storage);

@@ -2,10 +2,13 @@
 //! One request's way through the cache.
 //!
 //! - `cache`: `HttpCache`, one request over a storage, an eviction manager and a lock table
+//! - `digest`: what a request took
 //! - `phase`: where a request stands, and what a hit is worth
 
 pub mod cache;
+pub mod digest;
 pub mod phase;
 
 pub use cache::{FinishReport, HttpCache};
+pub use digest::HttpCacheDigest;
 pub use phase::{CachePhase, HitStatus, InUse};

@@ -6,9 +6,12 @@ use pcache_base::moment::Moment;
 use pcache_base::reason::NoCacheReason;
 use pcache_meta::meta::CacheMeta;
 use pcache_store::storage::Storage;
+use std::time::Duration;
 
 impl<S: Storage> HttpCache<S> {
-    ghost use Rattle.std.specs.Prelude.{◌≡◌, ◌↔◌, IsTrue, IsSome, Some, None, option_copied, cond};
+    ghost use Rattle.std.specs.Prelude.{◌≡◌, ◌↔◌, IsTrue, IsSome, Some, None, option_copied, option_map, cond};
+    ghost use Rattle.std.specs.Duration.{as_nanos};
+    ghost use Rattle.pcache_request.specs.Requests.{with_look_up_time};
     ghost use Rattle.pcache_request.specs.Shown.{is_enabled, is_bypassing, has_used_upstream, shown_key, shown_meta, read_meta, stale_meta, ServesAfterError, ServesWhileUpdating};
     ghost use Rattle.pcache_request.specs.Phases.{is_on};
 
@@ -134,6 +137,20 @@ impl<S: Storage> HttpCache<S> {
             return false;
         };
         meta.serve_stale_while_revalidate(now)
+    }
+
+    /// Adds what a look-up took, as the caller measured it.
+    pub fn record_lookup_duration(&mut self, duration: Duration)
+        ensures { self.new ≡ with_look_up_time (as_nanos duration) self.old }
+    {
+        self.digest.add_lookup_duration(duration);
+    }
+
+    /// What the look-ups took so far, where that was recorded.
+    pub fn lookup_duration(&self) -> Option<Duration>
+        ensures { option_map as_nanos result ≡ self.now.digest.look_ups }
+    {
+        self.digest.lookup_duration
     }
 
     /// Whether the storage's writes can be read while they are made, where caching is on.

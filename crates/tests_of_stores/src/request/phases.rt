@@ -20,7 +20,7 @@ enum Step {
 }
 
 // Makes a call where its condition holds, and answers whether it did.
-fn step(
+fn make(
     rt: &impl Abort,
     parts: &mut Parts,
     cache: &mut HttpCache<MemCache>,
@@ -169,7 +169,7 @@ fn play(
     steps: &[(Step, bool, CachePhase)],
 ) -> std::result::Result<(), Fail> {
     for (call, is_made, phase) in steps {
-        let made = step(rt, parts, cache, *call)?;
+        let made = make(rt, parts, cache, *call)?;
         assert_eq!(rt; made, *is_made);
         assert_eq!(rt; cache.phase(), *phase);
     }
@@ -280,6 +280,9 @@ fn shows_a_stale_body(
             .is_none()
     );
     play(rt, parts, cache, UPDATING.as_slice())?;
+    cache.record_lookup_duration(Duration::from_secs(1));
+    cache.record_lookup_duration(Duration::from_secs(2));
+    assert!(rt; cache.lookup_duration() == Some(Duration::from_secs(3)));
     assert!(rt; cache.enabled() && !cache.bypassing() && !cache.upstream_used());
     assert!(rt; cache.support_streaming_partial_write(&parts.store) == Some(true));
     assert!(rt; cache.maybe_cache_key().is_some() && cache.has_cache_meta());

@@ -1,0 +1,15 @@
+-- What a request took (own, after pingora-cache).
+use Rattle.std.specs.Prelude.{ℕ, ◌+◌, Option, Some, None, min}
+use Rattle.std.specs.Duration.{max_nanos}
+
+pub record Digest : Type 0 where
+  -- how many nanoseconds its look-ups took, where that was recorded
+  pub look_ups : Option ℕ
+
+abbrev pub empty_digest : Digest
+empty_digest = record { look_ups = None }
+
+-- a time added to what was recorded: the longest duration stands for itself and all above it
+abbrev pub time_added : Option ℕ → ℕ → Option ℕ
+time_added None n = Some n
+time_added (Some m) n = Some (min (m + n) max_nanos)
