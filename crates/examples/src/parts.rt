@@ -1,0 +1,53 @@
+//! What requests are lent.
+ghost use Rattle.std.specs.Prelude.{◌≡◌, IfOk};
+ghost use Rattle.pcache_request.specs.declared.phase.CachePhase.TheVariants.{CacheKey};
+
+use pingora_cache::error::Result;
+use pingora_cache::eviction::simple_lru::Manager;
+use pingora_cache::lock::CacheLock;
+use pingora_cache::{HttpCache, InUse, MemCache};
+use std::alloc::Global;
+use std::time::Duration;
+
+// After how many seconds another request may fill a key whose permit was not released.
+const AGE_TIMEOUT_SECS: u64 = 10;
+
+/// A request over a store in memory.
+pub type Request = HttpCache<MemCache>;
+
+/// One store, one eviction manager and one lock table, which any number of requests are lent.
+#[derive(Drop)]
+pub struct Parts {
+    pub alloc: Global,
+    pub store: MemCache,
+    pub manager: Manager,
+    pub lock: CacheLock,
+}
+
+impl Parts {
+    /// Nothing is stored. Bodies will have at most `limit` bytes together.
+    pub fn new(alloc: Global, limit: usize) -> Result<Parts> {
+        Ok(Parts {
+            alloc,
+            store: MemCache::new(alloc),
+            manager: Manager::new(alloc, limit)?,
+            lock: CacheLock::new(alloc, Duration::from_secs(AGE_TIMEOUT_SECS)),
+        })
+    }
+}
+
+/// A request for a path, with caching turned on and the key set.
+pub fn request_for(alloc: Global, path: &str) -> Result<Request>
+    ensures { IfOk result (λ request. request.phase ≡ CacheKey) }
+{
+    let primary = path.as_bytes().to_vec(alloc)?;
+    let key = pingora_cache::CacheKey::new(primary, String::new(alloc));
+    let mut request = HttpCache::new(alloc);
+    request.enable(InUse {
+        eviction: true,
+        predictor: false,
+        lock: true,
+    });
+    request.set_cache_key(key);
+    Ok(request)
+}

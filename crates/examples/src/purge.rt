@@ -1,0 +1,21 @@
+//! A purge service: takes what stands under a path out of the store and out of the manager.
+ghost use Rattle.std.specs.Prelude.{◌≡◌};
+ghost use Rattle.pcache_request.specs.declared.phase.CachePhase.TheVariants.{CacheKey};
+
+use crate::parts::{Parts, Request, request_for};
+use pingora_cache::error::Result;
+
+/// Purges a path, and answers whether anything was there: a body, or writes in flight, which are then
+/// refused at their end.
+pub fn purge(parts: &mut Parts, path: &str) -> Result<bool> {
+    let mut request = request_for(parts.alloc, path)?;
+    let was_there = purge_key(parts, &mut request);
+    request.end(&mut parts.store, &mut parts.lock);
+    was_there
+}
+
+fn purge_key(parts: &mut Parts, request: &mut Request) -> Result<bool>
+    requires { request.old.phase ≡ CacheKey }
+{
+    request.purge(&mut parts.store, &mut parts.manager)
+}
