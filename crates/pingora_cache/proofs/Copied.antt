@@ -1,14 +1,14 @@
 -- Bytes that were read went by also where the copy of the reply is refused; no other reply has anything to be copied.
-use Rattle.std.proofs.Common.{◌≡◌, ℕ, ◌⊎◌, Option, None, Some, List, refl, sym, subst, inl, inr}
+use Rattle.std.proofs.Common.{◌≡◌, ℕ, ◌⊎◌, Bool, Option, None, Some, List, refl, sym, subst, inl, inr}
 use Rattle.std.specs.Ordering.{nat_cmp}
 use Rattle.std.specs.BTreeMap.{is_at}
 use Rattle.std.specs.Map.{lookup}
 use Rattle.pcache_meta.specs.Meta.{Meta}
-use Rattle.pcache_base.specs.Key.{Key}
 use Rattle.pcache_base.specs.declared.error.ErrorType.TheVariants.{OutOfMemory}
 use Rattle.pcache_evict.specs.Tracked.{Tracked, Limits}
 use Rattle.pcache_store.specs.Store.{Store, Reader}
 use Rattle.pcache_request.specs.declared.phase.HitStatus.{HitStatus}
+use Rattle.pcache_request.specs.Requests.{Request}
 use Rattle.pingora_cache.specs.declared.world.call.Call.{Call}
 use Rattle.pingora_cache.specs.declared.world.call.Call.TheVariants as C
 use Rattle.pingora_cache.specs.declared.world.call.LockKind.{LockKind}
@@ -17,101 +17,116 @@ use Rattle.pingora_cache.specs.declared.world.call.Reply.TheVariants as R
 use Rattle.pingora_cache.specs.declared.world.entry.Answer.{Answer}
 use Rattle.pingora_cache.specs.declared.world.entry.Answer.TheVariants as A
 use Rattle.pingora_cache.specs.declared.world.entry.Event.{Event}
-use Rattle.pcache_request.specs.Requests.{Request}
-use Rattle.pingora_cache.specs.Held.{Held}
-use Rattle.pingora_cache.specs.Legal.{IsIdle, IsStarved, Opens, look_reply}
+use Rattle.pingora_cache.specs.Facts.{Facts, facts_in, request_in}
+use Rattle.pingora_cache.specs.Held.{Held, number_of}
+use Rattle.pingora_cache.specs.Legal.{IsIdle, IsStarved, look_reply}
 use Rattle.pingora_cache.specs.Log.{IsCopy}
-use Rattle.pingora_cache.specs.Step.{WhereIn, LooksIn, TakesIn, BeginsIn, WritesIn, EndsIn, FinishesIn, PurgesIn, Turn, IsStep}
+use Rattle.pingora_cache.specs.Moved.{IsPlainIn}
+use Rattle.pingora_cache.specs.Rules.{Answers, Does, IsDone, Looks, Takes, Begins, Finishes, Purges}
+use Rattle.pingora_cache.specs.Step.{IsMoved}
+use Rattle.pingora_cache.specs.Uniform.{Turn}
 
 abbrev NotData : Reply → Type 0
 NotData (R.Data b) = ⊥
 NotData _ = Unit {0}
 
-as-told : (reply told : Reply) → reply ≡ told → NotData told → NotData reply
-as-told reply told is not = subst NotData (sym is) not
+abbrev IsRead : Call → Type 0
+IsRead (C.Read r) = Unit {0}
+IsRead _ = ⊥
 
 module _ (reply : Reply) (events : List Event) where
-  idle : (told : Reply) → IsIdle told reply events → NotData told → NotData reply
-  idle told a not = as-told reply told a.0 not
+  as-told : (told : Reply) → reply ≡ told → NotData told → NotData reply
+  as-told told is not = subst NotData (sym is) not
 
-  in-where : (P met : Held → Type 0) (same : Type 0) (q : Option Held) → WhereIn P met same q reply events → ((x : Held) → met x → NotData reply) → NotData reply
-  in-where P met same None a f = idle R.WrongCall a.0 tt
-  in-where P met same (Some x) (inl a) f = f x a.1
-  in-where P met same (Some x) (inr a) f = idle R.WrongCall a.1 tt
-
-  in-open : (q : Option Held) → Opens q reply events → NotData reply
-  in-open None (inl a) = idle R.Done a tt
-  in-open None (inr a) = idle (R.Refused OutOfMemory) a tt
-  in-open (Some x) a = idle R.WrongCall a tt
-
-  either : IsIdle R.Done reply events ⊎ IsStarved reply events → NotData reply
-  either (inl a) = idle R.Done a tt
-  either (inr a) = idle (R.Refused OutOfMemory) a tt
+  in-done : IsDone reply events → NotData reply
+  in-done (inl a) = as-told R.Done a.0 tt
+  in-done (inr a) = as-told (R.Refused OutOfMemory) a.0 tt
 
   not-found : (a : Answer) (l : Option LockKind) → NotData (look_reply a l)
   not-found A.Nothing l = tt
   not-found (A.Complete m body) l = tt
   not-found (A.Streaming m w) l = tt
 
-  in-look : (x : Held) (s s' : Store) → LooksIn x s reply events s' → NotData reply
-  in-look x s s' (inl (e, why, a, same)) = idle (R.Refused e) a tt
-  in-look x s s' (inr (inl (k, key, a, same))) = idle (R.Refused OutOfMemory) a tt
-  in-look x s s' (inr (inr (k, a, more, l, key, finds, asks, is, told, same))) = as-told reply (look_reply a l) told (not-found a l)
+  in-look : (f : Facts) (x : Request) → Looks f x reply events → NotData reply
+  in-look f x (inl (e, why, a)) = as-told (R.Refused e) a.0 tt
+  in-look f x (inr (k, a, more, l, key, finds, asks, is, told)) = as-told (look_reply a l) told (not-found a l)
 
-  in-take : (status : HitStatus) (x : Request) (p : Option (Meta × Reader)) (s s' : Store) (m m' : Tracked) → TakesIn status x p s m reply events s' m' → NotData reply
-  in-take status x None s s' m m' a = absurd a
-  in-take status x (Some p) s s' m m' (k, key, inl (e, why, told, left, rest)) = as-told reply (R.Refused e) told tt
-  in-take status x (Some p) s s' m m' (k, key, inr (more, l, asks, is, told, left, rest)) = as-told reply _ told tt
+  in-take : (s : HitStatus) (x : Request) (p : Option (Meta × Reader)) → Takes s x p reply events → NotData reply
+  in-take s x None a = absurd a
+  in-take s x (Some p) (k, key, inl (e, why, told, is)) = as-told (R.Refused e) told tt
+  in-take s x (Some p) (k, key, inr (more, l, asks, is, told)) = as-told _ told tt
 
-  in-begin : (x : Request) (s s' : Store) → BeginsIn x s reply events s' → NotData reply
-  in-begin x s s' (inl (e, why, a, same)) = idle (R.Refused e) a tt
-  in-begin x s s' (inr (k, m, key, meta, is, inl told)) = as-told reply R.Done told.0 tt
-  in-begin x s s' (inr (k, m, key, meta, is, inr told)) = as-told reply (R.Refused OutOfMemory) told.0 tt
+  in-begin : (f : Facts) (x : Request) → Begins f x reply events → NotData reply
+  in-begin f x (inl (e, why, a)) = as-told (R.Refused e) a.0 tt
+  in-begin f x (inr (k, m, key, meta, is, inl told)) = as-told R.Done told tt
+  in-begin f x (inr (k, m, key, meta, is, inr told)) = as-told (R.Refused OutOfMemory) told tt
 
-  in-write : (bytes : List ℕ) (eof : _) (x : Request) (s s' : Store) → WritesIn bytes eof x s reply events s' → NotData reply
-  in-write bytes eof x s s' (inl a) = idle (R.Refused OutOfMemory) a.0 tt
-  in-write bytes eof x s s' (inr (w, is, told, e, rest)) = as-told reply R.Done told tt
+  in-finish : (f : Facts) (x : Request) (o : Option ℕ) → Finishes f x o reply events → NotData reply
+  in-finish f x None a = as-told R.Nothing a.0 tt
+  in-finish f x (Some w) (inl a) = as-told (R.Refused OutOfMemory) a.0 tt
+  in-finish f x (Some w) (inr (k, key, inl (out, whole, fair, done, told))) = as-told _ told tt
+  in-finish f x (Some w) (inr (k, key, inr (inl (whole, done, told)))) = as-told _ told tt
+  in-finish f x (Some w) (inr (k, key, inr (inr (inl (gone, done, told))))) = as-told _ told tt
+  in-finish f x (Some w) (inr (k, key, inr (inr (inr (done, told))))) = as-told _ told tt
 
-  in-end : (limits : Limits) (x : Request) (k : Key) (w : ℕ) (s s' : Store) (m m' : Tracked) → EndsIn limits x k w s m reply events s' m' → NotData reply
-  in-end limits x k w s s' m m' (inl (out, a, b, c, d, told)) = as-told reply _ told tt
-  in-end limits x k w s s' m m' (inr (inl (e, a, b, c, d, f, told))) = as-told reply (R.Refused e) told tt
-  in-end limits x k w s s' m m' (inr (inr (e, a, b, c, told, rest))) = as-told reply (R.Refused e) told tt
+  in-purge : (f : Facts) (x : Request) → Purges f x reply events → NotData reply
+  in-purge f x (inl a) = as-told (R.Refused OutOfMemory) a.0 tt
+  in-purge f x (inr (k, key, inl (there, done, told))) = as-told R.Purged told tt
+  in-purge f x (inr (k, key, inr (none, done, told))) = as-told R.Absent told tt
 
-  in-finish : (limits : Limits) (x : Request) (o : Option ℕ) (s s' : Store) (m m' : Tracked) → FinishesIn limits x o s m reply events s' m' → NotData reply
-  in-finish limits x None s s' m m' a = idle R.Nothing a.0 tt
-  in-finish limits x (Some w) s s' m m' (inl a) = idle (R.Refused OutOfMemory) a.0 tt
-  in-finish limits x (Some w) s s' m m' (inr (k, key, a)) = in-end limits x k w s s' m m' a
+module _ (f : Facts) (events : List Event) (bytes : List ℕ) where
+  does-read : (call : Call) (q : Option Held) → Does f call q (R.Data bytes) events → IsRead call
+  does-read (C.Open r) q a = absurd (in-done (R.Data bytes) events a)
+  does-read (C.Key r k) (Some x) a = absurd (in-done (R.Data bytes) events a)
+  does-read (C.Look r t) (Some x) a = absurd (in-look (R.Data bytes) events f x.request a)
+  does-read (C.Found r s t) (Some x) a = absurd (in-take (R.Data bytes) events s x.request x.pair a)
+  does-read (C.Miss r) (Some x) a = absurd (as-told (R.Data bytes) events R.Done a.0 tt)
+  does-read (C.Meta r m) (Some x) a = absurd (in-done (R.Data bytes) events a)
+  does-read (C.Begin r) (Some x) a = absurd (in-begin (R.Data bytes) events f x.request a)
+  does-read (C.Write r bs eof) (Some x) (inl a) = absurd (as-told (R.Data bytes) events (R.Refused OutOfMemory) a.0 tt)
+  does-read (C.Write r bs eof) (Some x) (inr (w, is, told, done)) = absurd (as-told (R.Data bytes) events R.Done told tt)
+  does-read (C.Finish r) (Some x) a = absurd (in-finish (R.Data bytes) events f x.request x.request.write a)
+  does-read (C.Read r) q a = tt
+  does-read (C.Purge r) (Some x) a = absurd (in-purge (R.Data bytes) events f x.request a)
+  does-read (C.End r) (Some x) a = absurd (as-told (R.Data bytes) events R.Done a.0 tt)
+  does-read (C.Key r k) None a = absurd a
+  does-read (C.Look r t) None a = absurd a
+  does-read (C.Found r s t) None a = absurd a
+  does-read (C.Miss r) None a = absurd a
+  does-read (C.Meta r m) None a = absurd a
+  does-read (C.Begin r) None a = absurd a
+  does-read (C.Write r bs eof) None a = absurd a
+  does-read (C.Finish r) None a = absurd a
+  does-read (C.Purge r) None a = absurd a
+  does-read (C.End r) None a = absurd a
 
-  in-purge : (x : Request) (s s' : Store) (m m' : Tracked) → PurgesIn x s m reply events s' m' → NotData reply
-  in-purge x s s' m m' (inl a) = idle (R.Refused OutOfMemory) a.0 tt
-  in-purge x s s' m m' (inr (k, key, is, inl (there, e, told, rest))) = as-told reply R.Purged told tt
-  in-purge x s s' m m' (inr (k, key, is, inr (none, e, told, rest))) = as-told reply R.Absent told tt
+  only-reads : (call : Call) (q : Option Held) → Answers f call q (R.Data bytes) events → IsRead call
+  only-reads call q (inl a) = does-read call q a.1
+  only-reads call q (inr a) = absurd (as-told (R.Data bytes) events R.WrongCall a.1.0 tt)
 
-module _ (limits : Limits) (s s' : Store) (m m' : Tracked) (events : List Event) (bytes : List ℕ) where
-  read-starved : (r : ℕ) (q : Option Held) → Turn limits (C.Read r) q s m (R.Data bytes) events s' m' → Turn limits (C.Read r) q s m (R.Refused OutOfMemory) events s' m'
-  read-starved r None a = absurd (idle (R.Data bytes) events R.WrongCall a.0.0 tt)
-  read-starved r (Some x) (inl (may, inl a), same, more) = absurd (idle (R.Data bytes) events (R.Refused OutOfMemory) a tt)
-  read-starved r (Some x) (inl (may, inr (rd, is, e, told)), same, more) = (inl (may, inr (rd, is, e, inr refl)), same, more)
-  read-starved r (Some x) (inr a, same, more) = absurd (idle (R.Data bytes) events R.WrongCall a.1 tt)
+  read-starved : (r : ℕ) (q : Option Held) → Answers f (C.Read r) q (R.Data bytes) events → Answers f (C.Read r) q (R.Refused OutOfMemory) events
+  read-starved r None (inl a) = absurd a.0
+  read-starved r None (inr a) = absurd (as-told (R.Data bytes) events R.WrongCall a.1.0 tt)
+  read-starved r (Some x) (inl (may, inl a)) = absurd (as-told (R.Data bytes) events (R.Refused OutOfMemory) a.0 tt)
+  read-starved r (Some x) (inl (may, inr (done, told))) = inl (may, inr (done, inr refl))
+  read-starved r (Some x) (inr a) = absurd (as-told (R.Data bytes) events R.WrongCall a.1.0 tt)
 
-  pub step-starved : (call : Call) (all all' : List (ℕ × Held)) → IsStep limits call all s m (R.Data bytes) events all' s' m' → IsStep limits call all s m (R.Refused OutOfMemory) events all' s' m'
-  step-starved (C.Open r) all all' st = absurd (in-open (R.Data bytes) events (lookup (is_at (nat_cmp r)) all) st.turn.0)
-  step-starved (C.Key r k) all all' st = absurd (in-where (R.Data bytes) events _ _ _ (lookup (is_at (nat_cmp r)) all) st.turn.0 (λ x met. either (R.Data bytes) events met))
-  step-starved (C.Look r t) all all' st = absurd (in-where (R.Data bytes) events _ _ _ (lookup (is_at (nat_cmp r)) all) st.turn.0 (λ x met. in-look (R.Data bytes) events x s s' met))
-  step-starved (C.Found r status t) all all' st = absurd (in-where (R.Data bytes) events _ _ _ (lookup (is_at (nat_cmp r)) all) st.turn (λ x met. in-take (R.Data bytes) events status x.request x.pair s s' m m' met))
-  step-starved (C.Miss r) all all' st = absurd (in-where (R.Data bytes) events _ _ _ (lookup (is_at (nat_cmp r)) all) st.turn.0 (λ x met. idle (R.Data bytes) events R.Done met.0 tt))
-  step-starved (C.Meta r meta) all all' st = absurd (in-where (R.Data bytes) events _ _ _ (lookup (is_at (nat_cmp r)) all) st.turn.0 (λ x met. either (R.Data bytes) events met))
-  step-starved (C.Begin r) all all' st = absurd (in-where (R.Data bytes) events _ _ _ (lookup (is_at (nat_cmp r)) all) st.turn.0 (λ x met. in-begin (R.Data bytes) events x.request s s' met))
-  step-starved (C.Write r bs eof) all all' st = absurd (in-where (R.Data bytes) events _ _ _ (lookup (is_at (nat_cmp r)) all) st.turn.0 (λ x met. in-write (R.Data bytes) events bs eof x.request s s' met))
-  step-starved (C.Finish r) all all' st = absurd (in-where (R.Data bytes) events _ _ _ (lookup (is_at (nat_cmp r)) all) st.turn (λ x met. in-finish (R.Data bytes) events limits x.request x.request.write s s' m m' met))
-  step-starved (C.Read r) all all' st = record { turn = read-starved r (lookup (is_at (nat_cmp r)) all) st.turn; requests = st.requests }
-  step-starved (C.Purge r) all all' st = absurd (in-where (R.Data bytes) events _ _ _ (lookup (is_at (nat_cmp r)) all) st.turn (λ x met. in-purge (R.Data bytes) events x.request s s' m m' met))
-  step-starved (C.End r) all all' st = absurd (in-where (R.Data bytes) events _ _ _ (lookup (is_at (nat_cmp r)) all) st.turn.0 (λ x met. as-told (R.Data bytes) R.Done met.0.0 tt))
+-- one call over the parts, and what it leaves of the requests
+pub record Steps (limits : Limits) (call : Call) (q : Option Held) (s : Store) (m : Tracked) (reply : Reply) (events : List Event) (s' : Store) (m' : Tracked) (all all' : List (ℕ × Held)) : Type 0 where
+  pub turn : Turn limits call q s m reply events s' m'
+  pub requests : IsMoved call reply events all all'
+
+starved : (limits : Limits) (call : Call) (q : Option Held) (s s' : Store) (m m' : Tracked) (events : List Event) (all all' : List (ℕ × Held)) (bytes : List ℕ) → IsRead call
+    → Steps limits call q s m (R.Data bytes) events s' m' all all' → Steps limits call q s m (R.Refused OutOfMemory) events s' m' all all'
+starved limits (C.Read r) q s s' m m' events all all' bytes read st =
+    record { turn = record { answers = read-starved (facts_in limits m s (request_in q)) events bytes r q st.turn.answers; moves = st.turn.moves; tracks = st.turn.tracks }; requests = st.requests }
+starved limits call q s s' m m' events all all' bytes read st = absurd read
 
 -- what is noted and answered is the reply, or a refusal where the bytes that it gives can't be copied
-pub step-copied : (limits : Limits) (call : Call) (all all' : List (ℕ × Held)) (s s' : Store) (m m' : Tracked) (events : List Event) (reply told : Reply)
-    → IsCopy reply told → IsStep limits call all s m reply events all' s' m' → IsStep limits call all s m told events all' s' m'
-step-copied limits call all all' s s' m m' events reply told (inl same) st = subst (λ r. IsStep limits call all s m r events all' s' m') (sym same) st
-step-copied limits call all all' s s' m m' events reply told (inr (refused, given)) st =
-    subst (λ r. IsStep limits call all s m r events all' s' m') (sym refused)
-    (step-starved limits s s' m m' events given.0 call all all' (subst (λ r. IsStep limits call all s m r events all' s' m') given.1 st))
+pub step-copied : (limits : Limits) (call : Call) (q : Option Held) (s s' : Store) (m m' : Tracked) (events : List Event) (all all' : List (ℕ × Held)) (reply told : Reply)
+    → IsCopy reply told → Steps limits call q s m reply events s' m' all all' → Steps limits call q s m told events s' m' all all'
+step-copied limits call q s s' m m' events all all' reply told (inl same) st = subst (λ r. Steps limits call q s m r events s' m' all all') (sym same) st
+step-copied limits call q s s' m m' events all all' reply told (inr (refused, given)) st =
+    let read : Steps limits call q s m (R.Data given.0) events s' m' all all' = subst (λ r. Steps limits call q s m r events s' m' all all') given.1 st in
+    subst (λ r. Steps limits call q s m r events s' m' all all') (sym refused)
+    (starved limits call q s s' m m' events all all' given.0 (only-reads (facts_in limits m s (request_in q)) events given.0 call q read.turn.answers) read)

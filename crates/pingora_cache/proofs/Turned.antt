@@ -1,4 +1,4 @@
--- A call that is a turn owes nothing more, and a step of a sound world leaves it sound.
+-- A step of a sound world leaves it sound.
 use Rattle.std.proofs.Common.{◌≡◌, ℕ, ◌==◌, cond, Option, None, Some, List, [], ◌∷◌, ap, sym, subst, ◌∙◌, refl, arith}
 use Rattle.std.specs.BTreeMap.{is_at}
 use Rattle.std.specs.Cmp.{nat_cmp_total}
@@ -9,32 +9,21 @@ use Rattle.std.proofs.lemmas.Bool.Decides.{nat_tests}
 use Rattle.pcache_evict.specs.Tracked.{Tracked, Limits}
 use Rattle.pcache_store.specs.Store.{Store}
 use Rattle.pingora_cache.specs.declared.world.call.Call.{Call}
-use Rattle.pingora_cache.specs.declared.world.call.Call.TheVariants as C
 use Rattle.pingora_cache.specs.declared.world.call.Reply.{Reply}
 use Rattle.pingora_cache.specs.declared.world.entry.Entry.{Entry}
 use Rattle.pingora_cache.specs.declared.world.entry.Event.{Event}
-use Rattle.pingora_cache.specs.Held.{Held, number_of, row}
+use Rattle.pingora_cache.specs.Held.{Held, number_of, row, request_of}
+use Rattle.pingora_cache.specs.Log.{IsCopy}
+use Rattle.pingora_cache.specs.Moved.{IsPlainIn, set_to}
 use Rattle.pingora_cache.specs.Sound.{IsSound}
-use Rattle.pingora_cache.specs.Step.{Turn, IsStep}
-use Rattle.pingora_cache.proofs.Owed.{set_to, after_call, Owes, sound-after}
+use Rattle.pingora_cache.specs.Step.{IsMoved}
+use Rattle.pingora_cache.specs.Uniform.{Turn, after_call}
+use Rattle.pingora_cache.proofs.Bridge.{bridges}
+use Rattle.pingora_cache.proofs.Copied.{step-copied}
+use Rattle.pingora_cache.proofs.Plain.{plain}
+use Rattle.pingora_cache.proofs.SoundOf.{sound-more}
 use Rattle.pingora_cache.proofs.StateWrites.{get-set, get-unset}
-use Rattle.pingora_cache.proofs.Turns.{turn-open, turn-key, turn-miss, turn-meta, turn-write, turn-read, turn-end}
-use Rattle.pingora_cache.proofs.TurnsOther.{turn-look, turn-found, turn-begin, turn-finish, turn-purge}
-
-pub turned : (limits : Limits) (start m m' : Tracked) (s s' : Store) (all : FinMap nat_cmp Held) (h : List Entry) (call : Call) (reply : Reply) (events : List Event)
-    → IsSound limits start m s all h → Turn limits call (get all (number_of call)) s m reply events s' m' → Owes limits start all h call reply events s' m'
-turned limits start m m' s s' all h (C.Open r) reply events k t = turn-open limits start m m' s s' all h r reply events k t
-turned limits start m m' s s' all h (C.Key r key) reply events k t = turn-key limits start m m' s s' all h r key reply events k t
-turned limits start m m' s s' all h (C.Look r now) reply events k t = turn-look limits start m m' s s' all h r now reply events k t
-turned limits start m m' s s' all h (C.Found r status now) reply events k t = turn-found limits start m m' s s' all h r status now reply events k t
-turned limits start m m' s s' all h (C.Miss r) reply events k t = turn-miss limits start m m' s s' all h r reply events k t
-turned limits start m m' s s' all h (C.Meta r meta) reply events k t = turn-meta limits start m m' s s' all h r meta reply events k t
-turned limits start m m' s s' all h (C.Begin r) reply events k t = turn-begin limits start m m' s s' all h r reply events k t
-turned limits start m m' s s' all h (C.Write r bytes eof) reply events k t = turn-write limits start m m' s s' all h r bytes eof reply events k t
-turned limits start m m' s s' all h (C.Finish r) reply events k t = turn-finish limits start m m' s s' all h r reply events k t
-turned limits start m m' s s' all h (C.Read r) reply events k t = turn-read limits start m m' s s' all h r reply events k t
-turned limits start m m' s s' all h (C.Purge r) reply events k t = turn-purge limits start m m' s s' all h r reply events k t
-turned limits start m m' s s' all h (C.End r) reply events k t = turn-end limits start m m' s s' all h r reply events k t
+use Rattle.pingora_cache.proofs.Uniform.{each-call-keeps}
 
 -- the requests as entries, and as the map that the entries make
 find-lookup : (es : List (ℕ × Held)) (q : ℕ) → find nat_cmp q es ≡ lookup (is_at (nat_cmp q)) es
@@ -63,12 +52,23 @@ entries-after before after call reply events is =
     ∙ (λ i. cond (is_at (nat_cmp n) q) (row call reply events (lookup-get before n i)) (lookup-get before q i))
     ∙ sym (get-set_to all n (row call reply events (get all n)) q))
 
--- one call of a sound world leaves it sound, with an entry more in its history
-pub step_sound : (limits : Limits) (start m m' : Tracked) (s s' : Store) (before after : List (ℕ × Held)) (h : List Entry) (call : Call) (reply : Reply) (events : List Event)
-    → IsSound limits start m s (from_entries {R = nat_cmp} before) h → IsStep limits call before s m reply events after s' m'
-    → IsSound limits start m' s' (from_entries {R = nat_cmp} after) (record { call = call; reply = reply; events = events } ∷ h)
-step_sound limits start m m' s s' before after h call reply events k step =
+-- a request of a sound world uses the manager, and its entry has no number
+plain-in : (h : List Entry) (r : ℕ) (q : Option Held) → q ≡ request_of r h → IsPlainIn q
+plain-in h r None is = tt
+plain-in h r (Some x) is = let p = plain r h x (sym is) in (ap (λ u. u.eviction) p.1, p.0)
+
+-- one call of a sound world leaves it sound, with an entry more in its history; its reply is told as it is copied
+pub step_sound : (limits : Limits) (start m m' : Tracked) (s s' : Store) (before after : List (ℕ × Held)) (h : List Entry) (call : Call) (reply told : Reply) (events : List Event)
+    → IsSound limits start m s (from_entries {R = nat_cmp} before) h
+    → (IsPlainIn (lookup (is_at (nat_cmp (number_of call))) before) → Turn limits call (lookup (is_at (nat_cmp (number_of call))) before) s m reply events s' m')
+    → IsMoved call reply events before after → IsCopy reply told
+    → IsSound limits start m' s' (from_entries {R = nat_cmp} after) (record { call = call; reply = told; events = events } ∷ h)
+step_sound limits start m m' s s' before after h call reply told events k turn moved copy =
+    let n = number_of call in
     let all : FinMap nat_cmp Held = from_entries {R = nat_cmp} before in
-    let turn : Turn limits call (get all (number_of call)) s m reply events s' m' = subst (λ q. Turn limits call q s m reply events s' m') (lookup-get before (number_of call)) step.turn in
-    subst (λ now. IsSound limits start m' s' now (record { call = call; reply = reply; events = events } ∷ h)) (sym (entries-after before after call reply events step.requests))
-    (sound-after limits start m m' s s' all h call reply events k (turned limits start m m' s s' all h call reply events k turn))
+    let q = lookup (is_at (nat_cmp n)) before in
+    let made = step-copied limits call q s s' m m' events before after reply told copy (record { turn = turn (plain-in h n q (lookup-get before n ∙ k.requests n)); requests = moved }) in
+    let kept = each-call-keeps limits start m m' s s' all h call told events k (subst (λ o. Turn limits call o s m told events s' m') (lookup-get before n) made.turn) in
+    let now : FinMap nat_cmp Held = after_call all call told events in
+    subst (λ (x : FinMap nat_cmp Held). IsSound limits start m' s' x (record { call = call; reply = told; events = events } ∷ h)) (sym (entries-after before after call told events made.requests))
+    (sound-more limits start m m' s s' all now h call told events k (bridges limits start h call told events kept.gives) kept.tracks kept.state kept.requests)
