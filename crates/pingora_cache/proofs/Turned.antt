@@ -12,18 +12,15 @@ use Rattle.pingora_cache.specs.declared.world.call.Call.{Call}
 use Rattle.pingora_cache.specs.declared.world.call.Reply.{Reply}
 use Rattle.pingora_cache.specs.declared.world.entry.Entry.{Entry}
 use Rattle.pingora_cache.specs.declared.world.entry.Event.{Event}
-use Rattle.pingora_cache.specs.Held.{Held, number_of, row, request_of}
-use Rattle.pingora_cache.specs.Log.{IsCopy}
-use Rattle.pingora_cache.specs.Moved.{IsPlainIn, set_to}
+use Rattle.pingora_cache.specs.Held.{Held, number_of, row}
+use Rattle.pingora_cache.specs.Rules.{IsCopy}
 use Rattle.pingora_cache.specs.Sound.{IsSound}
-use Rattle.pingora_cache.specs.Step.{IsMoved}
-use Rattle.pingora_cache.specs.Uniform.{Turn, after_call}
-use Rattle.pingora_cache.proofs.Bridge.{bridges}
-use Rattle.pingora_cache.proofs.Copied.{step-copied}
-use Rattle.pingora_cache.proofs.Plain.{plain}
-use Rattle.pingora_cache.proofs.SoundOf.{sound-more}
+use Rattle.pingora_cache.specs.Step.{Turn, IsOfWorldIn, IsMoved}
 use Rattle.pingora_cache.proofs.StateWrites.{get-set, get-unset}
-use Rattle.pingora_cache.proofs.Uniform.{each-call-keeps}
+use Rattle.pingora_cache.proofs.Copied.{row-copied}
+use Rattle.pingora_cache.proofs.Laws.{legal_world}
+use Rattle.pingora_cache.proofs.MovedState.{set_to}
+use Rattle.pingora_cache.proofs.Uniform.{after_call, each-call-keeps}
 
 -- the requests as entries, and as the map that the entries make
 find-lookup : (es : List (ℕ × Held)) (q : ℕ) → find nat_cmp q es ≡ lookup (is_at (nat_cmp q)) es
@@ -52,23 +49,17 @@ entries-after before after call reply events is =
     ∙ (λ i. cond (is_at (nat_cmp n) q) (row call reply events (lookup-get before n i)) (lookup-get before q i))
     ∙ sym (get-set_to all n (row call reply events (get all n)) q))
 
--- a request of a sound world uses the manager, and its entry has no number
-plain-in : (h : List Entry) (r : ℕ) (q : Option Held) → q ≡ request_of r h → IsPlainIn q
-plain-in h r None is = tt
-plain-in h r (Some x) is = let p = plain r h x (sym is) in (ap (λ u. u.eviction) p.1, p.0)
-
 -- one call of a sound world leaves it sound, with an entry more in its history; its reply is told as it is copied
 pub step_sound : (limits : Limits) (start m m' : Tracked) (s s' : Store) (before after : List (ℕ × Held)) (h : List Entry) (call : Call) (reply told : Reply) (events : List Event)
     → IsSound limits start m s (from_entries {R = nat_cmp} before) h
-    → (IsPlainIn (lookup (is_at (nat_cmp (number_of call))) before) → Turn limits call (lookup (is_at (nat_cmp (number_of call))) before) s m reply events s' m')
+    → (IsOfWorldIn (lookup (is_at (nat_cmp (number_of call))) before) → Turn limits call (lookup (is_at (nat_cmp (number_of call))) before) s m reply events s' m')
     → IsMoved call reply events before after → IsCopy reply told
     → IsSound limits start m' s' (from_entries {R = nat_cmp} after) (record { call = call; reply = told; events = events } ∷ h)
 step_sound limits start m m' s s' before after h call reply told events k turn moved copy =
     let n = number_of call in
     let all : FinMap nat_cmp Held = from_entries {R = nat_cmp} before in
     let q = lookup (is_at (nat_cmp n)) before in
-    let made = step-copied limits call q s s' m m' events before after reply told copy (record { turn = turn (plain-in h n q (lookup-get before n ∙ k.requests n)); requests = moved }) in
-    let kept = each-call-keeps limits start m m' s s' all h call told events k (subst (λ o. Turn limits call o s m told events s' m') (lookup-get before n) made.turn) in
-    let now : FinMap nat_cmp Held = after_call all call told events in
-    subst (λ (x : FinMap nat_cmp Held). IsSound limits start m' s' x (record { call = call; reply = told; events = events } ∷ h)) (sym (entries-after before after call told events made.requests))
-    (sound-more limits start m m' s s' all now h call told events k (bridges limits start h call told events kept.gives) kept.tracks kept.state kept.requests)
+    let made = turn (subst IsOfWorldIn (sym (lookup-get before n ∙ k.requests n)) (legal_world limits start h k.legal n)) in
+    let kept = each-call-keeps limits start m m' s s' all h call reply told events k (subst (λ o. Turn limits call o s m reply events s' m') (lookup-get before n) made) copy in
+    subst (λ (x : FinMap nat_cmp Held). IsSound limits start m' s' x (record { call = call; reply = told; events = events } ∷ h))
+    (sym (entries-after before after call reply events moved ∙ ap (set_to all n) (sym (row-copied call reply told events (get all n) copy)))) kept

@@ -14,10 +14,9 @@ use Rattle.pingora_cache.specs.declared.world.call.Reply.{Reply}
 use Rattle.pingora_cache.specs.declared.world.entry.Entry.{Entry}
 use Rattle.pingora_cache.specs.declared.world.entry.Event.{Event}
 use Rattle.pingora_cache.specs.Held.{Held, number_of}
-use Rattle.pingora_cache.specs.Log.{IsCopy, started}
-use Rattle.pingora_cache.specs.Moved.{IsPlainIn}
-use Rattle.pingora_cache.specs.Step.{IsMoved}
-use Rattle.pingora_cache.specs.Uniform.{Turn}
+use Rattle.pingora_cache.specs.Log.{started}
+use Rattle.pingora_cache.specs.Rules.{IsCopy}
+use Rattle.pingora_cache.specs.Step.{Turn, IsOfWorldIn, IsMoved}
 use Rattle.pingora_cache.specs.Sound.{IsSound, readers}
 use Rattle.pingora_cache.proofs.Counts.{readers-none}
 use Rattle.pingora_cache.proofs.Opened.{open-none}
@@ -53,7 +52,7 @@ not-both o none some = absurd (both_ways (is_some o) (ap is_some none) some)
 -- one call more, whose reply is told as it is copied
 pub sound-step : (limits limits' : Limits) (start start' m m' : Tracked) (s s' : Store) (before after : List (ℕ × Held)) (h h' : List Entry) (call : Call) (reply told : Reply) (events : List Event)
     → IsSound limits start m s (from_entries {R = nat_cmp} before) (reverse h)
-    → (IsPlainIn (lookup (is_at (nat_cmp (number_of call))) before) → Turn limits call (lookup (is_at (nat_cmp (number_of call))) before) s m reply events s' m')
+    → (IsOfWorldIn (lookup (is_at (nat_cmp (number_of call))) before) → Turn limits call (lookup (is_at (nat_cmp (number_of call))) before) s m reply events s' m')
     → IsMoved call reply events before after → IsCopy reply told
     → limits' ≡ limits → start' ≡ start → h' ≡ h ++ record { call = call; reply = told; events = events } ∷ []
     → IsSound limits' start' m' s' (from_entries {R = nat_cmp} after) (reverse h')
