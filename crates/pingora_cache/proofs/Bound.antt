@@ -1,5 +1,5 @@
 -- What is stored stays within the limits.
-use Rattle.std.proofs.Common.{◌≡◌, ◌≢◌, ℕ, ◌≤◌, Bool, true, false, ◌==◌, if◌then◌else◌, Option, None, Some, List, [], ◌∷◌, refl, ap, sym, subst, ◌∙◌, arith, length}
+use Rattle.std.proofs.Common.{◌≡◌, ◌≢◌, ℕ, ◌≤◌, Bool, true, false, ◌==◌, if◌then◌else◌, Option, None, Some, List, [], ◌∷◌, refl, ap, sym, subst, ◌∙◌, arith}
 use Rattle.std.specs.Prelude.{IfSome}
 use Rattle.std.specs.Option.{option_map, unwrap_or}
 use Rattle.std.specs.List.{AllByRecursion, IsDistinct, list_any, sum_by}
@@ -24,7 +24,7 @@ use Rattle.pingora_cache.specs.Events.{begun, begin_of, names_slot, is_removed, 
 use Rattle.pingora_cache.specs.Sound.{IsTidy, IsExact, IsBounded, standing_entry}
 use Rattle.pingora_cache.proofs.Steps.{complete-wrote, complete-begin, complete-purge, complete-finish, body_with}
 use Rattle.pingora_cache.proofs.Tidy.{tidy-finish}
-use Rattle.pingora_cache.proofs.Exact.{apart, standing-names, exact-admit}
+use Rattle.pingora_cache.proofs.Exact.{apart, standing-names}
 use Rattle.pingora_cache.proofs.Sums.{cmp_same}
 
 -- The keys of finished writes are each there once.
@@ -171,18 +171,7 @@ pub bound-purge : (limits : Limits) (es : List Event) (k : ℕ) → IsTidy es �
 bound-purge limits es k tidy b =
     bound-less limits es (Purge k ∷ es) (λ f. sum_by-le-sum_by (λ q. share f (complete q (Purge k ∷ es))) (λ q. share f (complete q es)) (finished_keys es) (λ q. less_share f (k == q) (complete q es) (complete q (Purge k ∷ es)) (complete-purge es k tidy q))) b
 
--- a finish that stores, and its admission
-pub bound-admit : (limits : Limits) (start : Tracked) (es : List Event) (w k : ℕ) (m : Meta) (e : CacheEntryKey) (out : List CacheEntryKey) → IsTidy es → in_flight w es ≡ true → begin_of w es ≡ Some (k, m) → is_removed w es ≡ false → names_slot k e ≡ true
-    → IsExact start es → IsWithin limits (tracked start (Admit e (length (body_of w es)) out ∷ Finish w true ∷ es)) → IsBounded limits (Admit e (length (body_of w es)) out ∷ Finish w true ∷ es)
-bound-admit limits start es w k m e out tidy fly is whole of ex within =
-    bound-within limits start (Admit e (length (body_of w es)) out ∷ Finish w true ∷ es) (exact-admit start es w k m e out tidy fly is whole of ex) within
-
-pub bound-admit_released : (limits : Limits) (start : Tracked) (es : List Event) (w k : ℕ) (m : Meta) (e : CacheEntryKey) (out : List CacheEntryKey) (permit : ℕ) → IsTidy es → in_flight w es ≡ true → begin_of w es ≡ Some (k, m) → is_removed w es ≡ false → names_slot k e ≡ true
-    → IsExact start es → IsWithin limits (tracked start (Admit e (length (body_of w es)) out ∷ Finish w true ∷ es)) → IsBounded limits (Admit e (length (body_of w es)) out ∷ Release permit ∷ Finish w true ∷ es)
-bound-admit_released limits start es w k m e out permit tidy fly is whole of ex within =
-    let b = bound-admit limits start es w k m e out tidy fly is whole of ex within in record { bytes = b.bytes; count = b.count }
-
--- a finish that stores, and whose admission is refused
+-- a finish that stores: but for its key, what stands is within the limits
 pub bound-undone : (limits : Limits) (es : List Event) (w k : ℕ) (m : Meta) → IsTidy es → in_flight w es ≡ true → begin_of w es ≡ Some (k, m) → is_removed w es ≡ false → IsBounded limits es → IsBounded limits (Purge k ∷ Finish w true ∷ es)
 bound-undone limits es w k m tidy fly is whole b =
     bound-less limits es (Purge k ∷ Finish w true ∷ es) (λ f.
@@ -204,6 +193,3 @@ bound-undone limits es w k m tidy fly is whole b =
               let none = ap (share f) (gone k ∙ ap (λ a. if a then None else complete k es) (eq-eqb k k refl)) in
               omega arith
         ]
-
-pub bound-undone_released : (limits : Limits) (es : List Event) (w k : ℕ) (m : Meta) (permit : ℕ) → IsTidy es → in_flight w es ≡ true → begin_of w es ≡ Some (k, m) → is_removed w es ≡ false → IsBounded limits es → IsBounded limits (Purge k ∷ Release permit ∷ Finish w true ∷ es)
-bound-undone_released limits es w k m permit tidy fly is whole b = let a = bound-undone limits es w k m tidy fly is whole b in record { bytes = a.bytes; count = a.count }

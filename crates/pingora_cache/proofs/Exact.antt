@@ -1,11 +1,12 @@
 -- Of each standing key, the entry that was admitted last stays tracked with the length of its body.
-use Rattle.std.proofs.Common.{◌≡◌, ◌≢◌, ℕ, Bool, true, false, cond, ◌==◌, if◌then◌else◌, Option, None, Some, is_some, List, [], ◌∷◌, refl, ap, sym, subst, ◌∙◌, length}
+use Rattle.std.proofs.Common.{◌≡◌, ◌≢◌, ℕ, Bool, true, false, cond, ◌==◌, if◌then◌else◌, Option, None, Some, is_some, List, [], ◌∷◌, refl, ap, sym, subst, ◌∙◌}
 use Rattle.std.specs.Ordering.{eq_by_cmp, is_eq}
 use Rattle.std.specs.declared.cmp.Ordering.{Ordering}
 use Rattle.std.specs.declared.cmp.Ordering.TheVariants.{Less, Equal, Greater}
 use Rattle.std.specs.Cmp.{tied_itself}
 use Rattle.std.specs.FinMap as map
-use Rattle.std.proofs.lemmas.Bool.{eqb-true, both_ways, or_parts}
+use Rattle.std.proofs.lemmas.Bool.{eqb-true, eq-eqb, both_ways, or_parts}
+use Rattle.pcache_base.specs.Key.{Key, slot}
 use Rattle.pcache_meta.specs.Meta.{Meta}
 use Rattle.pcache_evict.specs.declared.eviction.entry_key.CacheEntryKey.{CacheEntryKey}
 use Rattle.pcache_evict.specs.Entry.{entry_cmp, entries_total}
@@ -13,6 +14,7 @@ use Rattle.pcache_evict.specs.Tracked.{Tracked, without, added}
 use Rattle.pcache_evict.proofs.EntryOrder.{exact_entries}
 use Rattle.pcache_store.specs.Store.{Stored}
 use Rattle.pcache_request.specs.Finishing.{entry_slot}
+use Rattle.pcache_request.specs.Requests.{entry_of}
 use Rattle.pingora_cache.specs.declared.world.entry.Event.{Event}
 use Rattle.pingora_cache.specs.declared.world.entry.Event.TheVariants.{Look, Ask, Access, Begin, Wrote, Finish, Dropped, Release, LetGo, Admit, Purge, Untrack, Read}
 use Rattle.pingora_cache.specs.Events.{begun, begin_of, names_slot, names_key, option_any, is_removed, in_flight, body_of, complete, tracked, size_of}
@@ -29,6 +31,10 @@ names_only k e h q =
       | None ↦ λ t. absurd (cc)
       | Some y ↦ λ t. ap (λ z. z == q) (eqb-true y k t)
     ] h
+
+-- the entry of a key names its slot
+pub entry_names : (k : Key) → names_slot (slot k) (entry_of k None) ≡ true
+entry_names k = eq-eqb (slot k) (slot k) refl
 
 pub standing-names : (es : List Event) (k : ℕ) (e : CacheEntryKey) → standing_entry k es ≡ Some e → names_slot k e ≡ true
 standing-names [] k e h = absurd (cc)
@@ -94,12 +100,12 @@ kept false o x h = (refl, h)
 pub exact-purge : (start : Tracked) (es : List Event) (k : ℕ) → IsTidy es → IsExact start es → IsExact start (Purge k ∷ es)
 exact-purge start es k tidy ex = λ q b h. ex q b (kept (k == q) (complete q es) b (sym (complete-purge es k tidy q) ∙ h)).1
 
-pub exact-purge_untrack : (start : Tracked) (es : List Event) (k : ℕ) (e : CacheEntryKey) → names_slot k e ≡ true → IsTidy es → IsExact start es → IsExact start (Untrack e ∷ Purge k ∷ es)
-exact-purge_untrack start es k e of tidy ex = λ q b h.
-    let p = kept (k == q) (complete q es) b (sym (complete-purge es k tidy q) ∙ h) in
-    let old = ex q b p.1 in
+-- an entry of which no key stands
+pub exact-untrack : (start : Tracked) (es : List Event) (e : CacheEntryKey) → ((k : ℕ) → names_slot k e ≡ true → complete k es ≡ None) → IsExact start es → IsExact start (Untrack e ∷ es)
+exact-untrack start es e gone ex = λ q b h.
+    let old = ex q b h in
     let mine = standing-names es q old.0 old.1 in
-    (old.0, old.1, kept-remove (tracked start es) old.0 e (λ same. both_ways _ (names_only k e of q ∙ p.0) (subst (λ y. names_slot q y ≡ true) same mine)) ∙ old.2)
+    (old.0, old.1, kept-remove (tracked start es) old.0 e (λ same. both_ways _ (ap is_some (gone q (subst (λ y. names_slot q y ≡ true) same mine))) (ap is_some h)) ∙ old.2)
 
 pub exact-access : (start : Tracked) (es : List Event) (e : CacheEntryKey) (n : ℕ) → IsExact start es → IsExact start (Access e n ∷ es)
 exact-access start es e n ex = λ q b h. let old = ex q b h in (old.0, old.1, stays (tracked start es) old.0 (size_of b) old.2)
@@ -111,34 +117,27 @@ exact-access start es e n ex = λ q b h. let old = ex q b h in (old.0, old.1, st
           | false ↦ λ none. kept-insert m x e n (λ same. both_ways _ none (ap is_some (subst (λ y. map.get m y ≡ Some v) same is))) ∙ is
         ] refl
 
--- a finish that stores, and its admission
-pub exact-admit : (start : Tracked) (es : List Event) (w k : ℕ) (m : Meta) (e : CacheEntryKey) (out : List CacheEntryKey) → IsTidy es → in_flight w es ≡ true → begin_of w es ≡ Some (k, m) → is_removed w es ≡ false → names_slot k e ≡ true
-    → IsExact start es → IsExact start (Admit e (length (body_of w es)) out ∷ Finish w true ∷ es)
-exact-admit start es w k m e out tidy fly is whole of ex = λ q b h.
-    let n = length (body_of w es) in
-    let now = map.insert (tracked start es) e n in
-    let p = kept (names_key q out) (complete q (Finish w true ∷ es)) b (sym (complete-admit (Finish w true ∷ es) e n out (tidy-finish es w k m is whole fly tidy) q) ∙ h) in
-    elim (k == q) as (λ a. (k == q) ≡ a → (if a then Some (body_with m (body_of w es)) else complete q es) ≡ Some b → (x : CacheEntryKey) × ((if names_slot q e then Some e else standing_entry q es) ≡ Some x) × (map.get (without out now) x ≡ Some (size_of b))) [
-      | true ↦ λ t here.
+-- the admission of a key that stands, where all others are tracked
+pub exact-admit : (start : Tracked) (es : List Event) (k : ℕ) (b : Stored) (e : CacheEntryKey) (out : List CacheEntryKey) → IsTidy es → complete k es ≡ Some b → names_slot k e ≡ true
+    → IsExact start (Purge k ∷ es) → IsExact start (Admit e (size_of b) out ∷ es)
+exact-admit start es k b e out tidy is of ex = λ q c h.
+    let now = map.insert (tracked start es) e (size_of b) in
+    let p = kept (names_key q out) (complete q es) c (sym (complete-admit es e (size_of b) out tidy q) ∙ h) in
+    elim (k == q) as (λ a. (k == q) ≡ a → (x : CacheEntryKey) × ((if names_slot q e then Some e else standing_entry q es) ≡ Some x) × (map.get (without out now) x ≡ Some (size_of c))) [
+      | true ↦ λ t.
           let named : names_slot q e ≡ true = names_only k e of q ∙ t in
-          let same : body_with m (body_of w es) ≡ b = cc in
-          (e, ap (λ a. if a then Some e else standing_entry q es) named, kept-without out now e q named p.0 ∙ here-insert (tracked start es) e n ∙ ap (λ (y : Stored). Some (size_of y)) same)
-      | false ↦ λ f here.
+          let both : ◌≡◌ {A = Option Stored} (Some b) (Some c) = sym (subst (λ y. complete y es ≡ Some b) (eqb-true k q t) is) ∙ p.1 in
+          let same : b ≡ c = cc in
+          (e, ap (λ a. if a then Some e else standing_entry q es) named, kept-without out now e q named p.0 ∙ here-insert (tracked start es) e (size_of b) ∙ ap (λ (y : Stored). Some (size_of y)) same)
+      | false ↦ λ f.
           let other : names_slot q e ≡ false = names_only k e of q ∙ f in
-          let old = ex q b here in
+          let old = ex q c (complete-purge es k tidy q ∙ ap (λ a. if a then None else complete q es) f ∙ p.1) in
           let mine = standing-names es q old.0 old.1 in
-          (old.0, ap (λ a. if a then Some e else standing_entry q es) other ∙ old.1, kept-without out now old.0 q mine p.0 ∙ kept-insert (tracked start es) old.0 e n (λ same. both_ways _ other (subst (λ y. names_slot q y ≡ true) same mine)) ∙ old.2)
-    ] refl (sym (complete-finish es w k m is whole q) ∙ p.1)
+          (old.0, ap (λ a. if a then Some e else standing_entry q es) other ∙ old.1, kept-without out now old.0 q mine p.0 ∙ kept-insert (tracked start es) old.0 e (size_of b) (λ same. both_ways _ other (subst (λ y. names_slot q y ≡ true) same mine)) ∙ old.2)
+    ] refl
 
-pub exact-admit_released : (start : Tracked) (es : List Event) (w k : ℕ) (m : Meta) (e : CacheEntryKey) (out : List CacheEntryKey) (permit : ℕ) → IsTidy es → in_flight w es ≡ true → begin_of w es ≡ Some (k, m) → is_removed w es ≡ false → names_slot k e ≡ true
-    → IsExact start es → IsExact start (Admit e (length (body_of w es)) out ∷ Release permit ∷ Finish w true ∷ es)
-exact-admit_released start es w k m e out permit tidy fly is whole of ex = exact-admit start es w k m e out tidy fly is whole of ex
-
--- a finish that stores, and whose admission is refused
+-- a finish that stores: all keys but its own are tracked
 pub exact-undone : (start : Tracked) (es : List Event) (w k : ℕ) (m : Meta) → IsTidy es → in_flight w es ≡ true → begin_of w es ≡ Some (k, m) → is_removed w es ≡ false → IsExact start es → IsExact start (Purge k ∷ Finish w true ∷ es)
 exact-undone start es w k m tidy fly is whole ex = λ q b h.
     let p = kept (k == q) (complete q (Finish w true ∷ es)) b (sym (complete-purge (Finish w true ∷ es) k (tidy-finish es w k m is whole fly tidy) q) ∙ h) in
     ex q b (ap (λ a. if a then Some (body_with m (body_of w es)) else complete q es) (sym p.0) ∙ (sym (complete-finish es w k m is whole q) ∙ p.1))
-
-pub exact-undone_released : (start : Tracked) (es : List Event) (w k : ℕ) (m : Meta) (permit : ℕ) → IsTidy es → in_flight w es ≡ true → begin_of w es ≡ Some (k, m) → is_removed w es ≡ false → IsExact start es → IsExact start (Purge k ∷ Release permit ∷ Finish w true ∷ es)
-exact-undone_released start es w k m permit tidy fly is whole ex = exact-undone start es w k m tidy fly is whole ex

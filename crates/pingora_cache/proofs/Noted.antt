@@ -5,14 +5,14 @@ use Rattle.pcache_base.specs.Key.{Key, slot}
 use Rattle.pcache_meta.specs.Meta.{Meta}
 use Rattle.pcache_lock.specs.Locks.{Locks, given, holder, is_permit, number_of_lock}
 use Rattle.pcache_base.specs.declared.poll.Poll.{Poll}
-use Rattle.pcache_store.specs.Store.{Store, Reader, Part, find, followed, left, reader_weight, read_of, reader_after}
+use Rattle.pcache_store.specs.Store.{Store, Reader, Part, find, reader_weight, read_of, reader_after}
 use Rattle.pcache_request.specs.declared.phase.HitStatus.{HitStatus}
 use Rattle.pingora_cache.specs.declared.world.entry.Event.{Event}
 use Rattle.pingora_cache.specs.declared.world.entry.Event.TheVariants as E
 use Rattle.pcache_request.specs.Phases.{is_stale, is_fresh}
-use Rattle.pcache_request.specs.Requests.{Request, found_for, locked_found, found_row, placed, with_lock, counts_found, entry_of, left_by, reader_in, writing, begun_for, joined_for}
+use Rattle.pcache_request.specs.Requests.{Request, found_for, locked_found, found_row, placed, with_lock, counts_found, entry_of, reader_in, writing, begun_for, joined_for}
 use Rattle.pingora_cache.specs.Held.{Held, lock_of, asked, began, read_past}
-use Rattle.pingora_cache.specs.Legal.{each, accesses}
+use Rattle.pingora_cache.specs.Rules.{each, accesses}
 use Rattle.pingora_cache.specs.Step.{IsAnswered, asking}
 use Rattle.pingora_cache.proofs.StateAnswers.{found-answer, read-past}
 use Rattle.pingora_cache.proofs.StateCalls.{begun-joins}
@@ -41,13 +41,6 @@ answered-at s k p h = let a = found-answer s k in (a.0, a.1 ∙ h)
 pub found-answered : (s : Store) (o : Option Key) (p : Meta × Reader) → found_for s o ≡ Some p → IsAnswered p.0 p.1
 found-answered s None p h = absurd (cc)
 found-answered s (Some k) p h = answered-at s (slot k) p h
-
--- what was found is let go again
-pub found-left : (s : Store) (o : Option Key) (k : Key) (p : Meta × Reader) → o ≡ Some k → found_for s o ≡ Some p
-    → left (followed s (found_for s o)) p.1 ≡ left_by (reader_in (find s (slot k))) (followed s (find s (slot k)))
-found-left s o k p key some =
-    let e : find s (slot k) ≡ Some p = ap (found_for s) (sym key) ∙ some in
-    ap (λ q. left (followed s (found_for s q)) p.1) key ∙ ap (λ q. left_by (reader_in q) (followed s (find s (slot k)))) (sym e)
 
 -- what was found is taken
 

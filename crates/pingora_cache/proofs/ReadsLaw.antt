@@ -21,11 +21,15 @@ use Rattle.pingora_cache.specs.declared.world.entry.Answer.TheVariants as A
 use Rattle.pingora_cache.specs.declared.world.entry.Entry.{Entry}
 use Rattle.pingora_cache.specs.declared.world.entry.Event.{Event}
 use Rattle.pingora_cache.specs.declared.world.entry.Event.TheVariants as E
-use Rattle.pingora_cache.specs.Events.{begun, begin_of, is_removed, in_flight, body_of, is_told, tracked}
-use Rattle.pingora_cache.specs.Held.{Held, number_of, is_done, is_taken, is_refused, opened, with_given, asked, pair_of, looked_by, placed_by, taken_by, without_pair, began, ended, read_past, has_read, on_request, row, request_of}
-use Rattle.pingora_cache.specs.Legal.{events_of, release_of, Finds, HasAny, reads, IsIdle, Begins, Reads, Answers, IsLegal}
+use Rattle.pingora_cache.specs.Events.{begin_of, in_flight, body_of, is_told}
+use Rattle.pingora_cache.specs.Held.{Held, number_of, Outcome, outcome, is_wrong, is_done, is_taken, opened, with_given, asked, pair_of, looked_by, placed_by, taken_by, without_pair, began, ended, read_past, has_read, on_request, row_by, row, request_of}
+use Rattle.pingora_cache.specs.History.{events_of, reads}
+use Rattle.pingora_cache.specs.Facts.{Facts, Says, request_in}
+use Rattle.pingora_cache.specs.Legal.{IsLegal}
+use Rattle.pingora_cache.specs.Rules.{IsIdle, release_of, Begins, Reads, Answers}
 use Rattle.pingora_cache.specs.ReadSoFar.{given_in, read_on, read_by, HasRead}
 use Rattle.pingora_cache.specs.Headline.{ReadsABeginning}
+use Rattle.pingora_cache.proofs.Copied.{outcome-copied}
 
 -- a reader that has given nothing
 abbrev IsAtStart : Reader → Type 0
@@ -140,12 +144,12 @@ placed-follows es events s x None some h = cc
 placed-follows es events s x (Some p) some h =
     elim (is_treated_as_miss s) as (λ b. IfSome (cond b None (Some p.1)) (λ reader. HasRead es reader [])) [ true ↦ tt | false ↦ starts es p.1 h ]
 
-found-follows : (es events : List Event) (s : HitStatus) (x : Held) (got : List ℕ) (reply : Reply) → (is_taken reply ≡ true → IsSome x.pair) → FollowsIn es x got
-    → Follows es (cond (is_taken reply) (Some (taken_by s events x)) (cond (is_refused reply) (Some (without_pair x)) (Some x))) (cond (is_taken reply) [] got)
-found-follows es events s x got reply some h =
-    elim (is_taken reply) as (λ b. (b ≡ true → IsSome x.pair) → Follows es (cond b (Some (taken_by s events x)) (cond (is_refused reply) (Some (without_pair x)) (Some x))) (cond b [] got)) [
+found-follows : (es events : List Event) (s : HitStatus) (x : Held) (got : List ℕ) (o : Outcome) → (is_taken o ≡ true → IsSome x.pair) → FollowsIn es x got
+    → Follows es (cond (is_taken o) (Some (taken_by s events x)) (cond (is_wrong o) (Some x) (Some (without_pair x)))) (cond (is_taken o) [] got)
+found-follows es events s x got o some h =
+    elim (is_taken o) as (λ b. (b ≡ true → IsSome x.pair) → Follows es (cond b (Some (taken_by s events x)) (cond (is_wrong o) (Some x) (Some (without_pair x)))) (cond b [] got)) [
       | true ↦ λ k. (placed-follows es events s x.request x.pair (k refl) h.1, tt)
-      | false ↦ λ _. on-done es got (is_refused reply) (Some (without_pair x)) (Some x) (h.0, tt) h
+      | false ↦ λ _. on-done es got (is_wrong o) (Some x) (Some (without_pair x)) h (h.0, tt)
     ] some
 
 -- a reader follows its write from its first byte
@@ -160,18 +164,19 @@ ended-follows es (e ∷ events) got x h = h
 
 -- One call.
 
-begin-follows : (es : List Event) (next : ℕ) (x : Held) (got : List ℕ) (reply : Reply) (events : List Event) → FollowsIn (reverse events ++ es) x got → Begins next x.request reply events
-    → FollowsIn (reverse events ++ es) (on_request (began (is_done reply) events) x) (cond (is_done reply) [] got)
-begin-follows es next x got reply events h (inl (e, why, a)) =
-    subst (λ y. FollowsIn (reverse events ++ es) (on_request (began (is_done y) events) x) (cond (is_done y) [] got)) (sym a.0)
-    (subst (λ xs. FollowsIn (reverse events ++ es) (on_request (began false xs) x) got) (sym a.1) h)
-begin-follows es next x got reply events h (inr (k, m, key, meta, is, told)) =
-    subst (λ xs. FollowsIn (reverse events ++ es) (on_request (began (is_done reply) xs) x) (cond (is_done reply) [] got)) (sym is)
-    (began-follows (reverse events ++ es) (release_of x.request.held) x got next (slot k) m (is_done reply) h)
+begin-idle : (es events : List Event) (x : Held) (got : List ℕ) (reply told : Reply) → is_done (outcome told) ≡ false → FollowsIn es x got → IsIdle told reply events
+    → FollowsIn es (on_request (began (is_done (outcome reply)) events) x) (cond (is_done (outcome reply)) [] got)
+begin-idle es events x got reply told other h a =
+    subst (λ y. FollowsIn es (on_request (began (is_done (outcome y)) events) x) (cond (is_done (outcome y)) [] got)) (sym a.0)
+    (subst (λ xs. FollowsIn es (on_request (began (is_done (outcome told)) xs) x) (cond (is_done (outcome told)) [] got)) (sym a.1)
+    (subst (λ b. FollowsIn es x (cond b [] got)) (sym other) h))
 
-begin-idle : (es events : List Event) (x : Held) (got : List ℕ) (reply : Reply) → FollowsIn es x got → IsIdle R.WrongCall reply events → FollowsIn es (on_request (began (is_done reply) events) x) (cond (is_done reply) [] got)
-begin-idle es events x got reply h a =
-    subst (λ y. FollowsIn es (on_request (began (is_done y) events) x) (cond (is_done y) [] got)) (sym a.0) (subst (λ xs. FollowsIn es (on_request (began false xs) x) got) (sym a.1) h)
+begin-follows : (f : Facts) (es : List Event) (x : Held) (got : List ℕ) (reply : Reply) (events : List Event) → FollowsIn (reverse events ++ es) x got → Begins f x.request reply events
+    → FollowsIn (reverse events ++ es) (on_request (began (is_done (outcome reply)) events) x) (cond (is_done (outcome reply)) [] got)
+begin-follows f es x got reply events h (inl (e, why, a)) = begin-idle (reverse events ++ es) events x got reply (R.Refused e) refl h a
+begin-follows f es x got reply events h (inr (k, m, key, meta, is, told)) =
+    subst (λ xs. FollowsIn (reverse events ++ es) (on_request (began (is_done (outcome reply)) xs) x) (cond (is_done (outcome reply)) [] got)) (sym is)
+    (began-follows (reverse events ++ es) (release_of x.request.held) x got f.next (slot k) m (is_done (outcome reply)) h)
 
 -- a request after these events of a read
 abbrev FollowsRead : List Event → Held → List ℕ → List Event → Type 0
@@ -180,40 +185,41 @@ FollowsRead es x got events = FollowsIn (reverse events ++ es) (on_request (has_
 none-read : (es : List Event) (x : Held) (got : List ℕ) → FollowsIn es x got → FollowsRead es x got []
 none-read es x got h = subst (FollowsIn es x) (sym (append-nil got)) h
 
-read-follows : (es : List Event) (x : Held) (got : List ℕ) (reply : Reply) (events : List Event) → FollowsIn es x got → Reads (reads es) x.request reply events → FollowsRead es x got events
-read-follows es x got reply events h (inl a) = subst (FollowsRead es x got) (sym a.1) (none-read es x got h)
-read-follows es x got reply events h (inr (reader, is, done, told)) =
-    let a = reads es reader in
-    let had : HasRead es reader got = subst (λ o. IfSome o (λ y. HasRead es y got)) is h.0 in
-    subst (FollowsRead es x got) (sym done)
-    (subst (λ o. IfSome (option_map (read_past a) o) (λ y. HasRead (E.Read a ∷ es) y (got ++ given_in (E.Read a ∷ [])))) (sym is) (gave es reader got had), h.1)
+read-follows : (f : Facts) (es : List Event) (x : Held) (got : List ℕ) (reply : Reply) (events : List Event) → Says es x.request f → IsSome x.request.reader → FollowsIn es x got → Reads f reply events → FollowsRead es x got events
+read-follows f es x got reply events says some h (inl a) = subst (FollowsRead es x got) (sym a.1) (none-read es x got h)
+read-follows f es x got reply events says some h (inr (done, told)) = by x.request.reader refl some
+  where
+    by : (o : Option Reader) → x.request.reader ≡ o → IsSome o → FollowsRead es x got events
+    by None is none = absurd (cc)
+    by (Some reader) is _ =
+        let a = reads es reader in
+        let had : HasRead es reader got = subst (λ o. IfSome o (λ y. HasRead es y got)) is h.0 in
+        subst (FollowsRead es x got) (sym (done ∙ ap (λ g. E.Read g ∷ []) (says.given reader is)))
+        (subst (λ o. IfSome (option_map (read_past a) o) (λ y. HasRead (E.Read a ∷ es) y (got ++ given_in (E.Read a ∷ [])))) (sym is) (gave es reader got had), h.1)
 
-module _ (limits : Limits) (start : Tracked) (es : List Event) where
-  abbrev Answered : Call → Option Held → Reply → List Event → Type 0
-  Answered call q reply events = Answers (begun es) (Finds es) (reads es) (λ w. is_told w es) (λ w. not (is_removed w es)) (λ w. length (body_of w es)) (HasAny es) limits (tracked start es) call q reply events
-
-  follow : (call : Call) (q : Option Held) (reply : Reply) (events : List Event) (got : List ℕ) → Answered call q reply events → Follows es q got → Follows (reverse events ++ es) q got
-      → Follows (reverse events ++ es) (row call reply events q) (read_on call reply events got)
-  follow (C.Open r) q reply events got a old h =
-      elim (is_done reply) as (λ b. Follows (reverse events ++ es) (cond b (Some opened) q) (cond b [] got)) [ true ↦ (tt, tt) | false ↦ h ]
-  follow (C.Key r k) q reply events got a old h = on-done (reverse events ++ es) got (is_done reply) (option_map (on_request (with_key k)) q) q (on-each (reverse events ++ es) got (on_request (with_key k)) (λ x p. p) q h) h
-  follow (C.Look r t) q reply events got a old h = on-each (reverse events ++ es) got (looked_by events) (looked-follows (reverse events ++ es) events got) q h
-  follow (C.Found r s t) None reply events got a old h =
-      on-done (reverse events ++ es) (cond (is_taken reply) [] got) (is_taken reply) None (cond (is_refused reply) None None) tt (on-done (reverse events ++ es) (cond (is_taken reply) [] got) (is_refused reply) None None tt tt)
-  follow (C.Found r s t) (Some x) reply events got (inl a) old h = found-follows (reverse events ++ es) events s x got reply (λ _. a.0.1) h
-  follow (C.Found r s t) (Some x) reply events got (inr a) old h = found-follows (reverse events ++ es) events s x got reply (λ is. absurd (subst (λ y. is_taken y ≡ true → ⊥) (sym a.1.0) (λ e. cc) is)) h
-  follow (C.Miss r) q reply events got a old h = on-done (reverse events ++ es) got (is_done reply) (option_map (λ x. without_pair (on_request missed x)) q) q (on-each (reverse events ++ es) got (λ x. without_pair (on_request missed x)) (λ x p. (p.0, tt)) q h) h
-  follow (C.Meta r m) q reply events got a old h = on-done (reverse events ++ es) got (is_done reply) (option_map (on_request (with_meta m)) q) q (on-each (reverse events ++ es) got (on_request (with_meta m)) (λ x p. p) q h) h
-  follow (C.Begin r) None reply events got a old h = tt
-  follow (C.Begin r) (Some x) reply events got (inl a) old h = begin-follows es (begun es) x got reply events h a.1
-  follow (C.Begin r) (Some x) reply events got (inr a) old h = begin-idle (reverse events ++ es) events x got reply h a.1
-  follow (C.Write r bs eof) q reply events got a old h = h
-  follow (C.Finish r) q reply events got a old h = on-each (reverse events ++ es) got (on_request (ended events)) (ended-follows (reverse events ++ es) events got) q h
-  follow (C.Read r) None reply events got a old h = tt
-  follow (C.Read r) (Some x) reply events got (inl a) old h = read-follows es x got reply events old a.1
-  follow (C.Read r) (Some x) reply events got (inr a) old h = subst (FollowsRead es x got) (sym a.1.1) (none-read es x got old)
-  follow (C.Purge r) q reply events got a old h = h
-  follow (C.End r) q reply events got a old h = on-done (reverse events ++ es) got (is_done reply) None q tt h
+module _ (f : Facts) (es : List Event) where
+  follow : (call : Call) (q : Option Held) (reply : Reply) (events : List Event) (got : List ℕ) → Says es (request_in q) f → Answers f call q reply events → Follows es q got → Follows (reverse events ++ es) q got
+      → Follows (reverse events ++ es) (row call reply events q) (read_on call (outcome reply) events got)
+  follow (C.Open r) q reply events got k a old h =
+      elim (is_done (outcome reply)) as (λ b. Follows (reverse events ++ es) (cond b (Some opened) q) (cond b [] got)) [ true ↦ (tt, tt) | false ↦ h ]
+  follow (C.Key r key) q reply events got k a old h = on-done (reverse events ++ es) got (is_done (outcome reply)) (option_map (on_request (with_key key)) q) q (on-each (reverse events ++ es) got (on_request (with_key key)) (λ x p. p) q h) h
+  follow (C.Look r t) q reply events got k a old h = on-each (reverse events ++ es) got (looked_by events) (looked-follows (reverse events ++ es) events got) q h
+  follow (C.Found r s t) None reply events got k a old h =
+      on-done (reverse events ++ es) (cond (is_taken (outcome reply)) [] got) (is_taken (outcome reply)) None (cond (is_wrong (outcome reply)) None None) tt (on-done (reverse events ++ es) (cond (is_taken (outcome reply)) [] got) (is_wrong (outcome reply)) None None tt tt)
+  follow (C.Found r s t) (Some x) reply events got k (inl a) old h = found-follows (reverse events ++ es) events s x got (outcome reply) (λ _. a.0.1) h
+  follow (C.Found r s t) (Some x) reply events got k (inr a) old h = found-follows (reverse events ++ es) events s x got (outcome reply) (λ is. absurd (subst (λ y. is_taken (outcome y) ≡ true → ⊥) (sym a.1.0) (λ e. cc) is)) h
+  follow (C.Miss r) q reply events got k a old h = on-done (reverse events ++ es) got (is_done (outcome reply)) (option_map (λ x. without_pair (on_request missed x)) q) q (on-each (reverse events ++ es) got (λ x. without_pair (on_request missed x)) (λ x p. (p.0, tt)) q h) h
+  follow (C.Meta r m) q reply events got k a old h = on-done (reverse events ++ es) got (is_done (outcome reply)) (option_map (on_request (with_meta m)) q) q (on-each (reverse events ++ es) got (on_request (with_meta m)) (λ x p. p) q h) h
+  follow (C.Begin r) None reply events got k a old h = tt
+  follow (C.Begin r) (Some x) reply events got k (inl a) old h = begin-follows f es x got reply events h a.2
+  follow (C.Begin r) (Some x) reply events got k (inr a) old h = begin-idle (reverse events ++ es) events x got reply R.WrongCall refl h a.1
+  follow (C.Write r bs eof) q reply events got k a old h = h
+  follow (C.Finish r) q reply events got k a old h = on-each (reverse events ++ es) got (on_request (ended events)) (ended-follows (reverse events ++ es) events got) q h
+  follow (C.Read r) None reply events got k a old h = tt
+  follow (C.Read r) (Some x) reply events got k (inl a) old h = read-follows f es x got reply events k a.0 old a.2
+  follow (C.Read r) (Some x) reply events got k (inr a) old h = subst (FollowsRead es x got) (sym a.1.1) (none-read es x got old)
+  follow (C.Purge r) q reply events got k a old h = h
+  follow (C.End r) q reply events got k a old h = on-done (reverse events ++ es) got (is_done (outcome reply)) None q tt h
 
 -- Histories.
 
@@ -221,12 +227,15 @@ follows-at : (limits : Limits) (start : Tracked) (r : ℕ) (h : List Entry) → 
 follows-at limits start r [] l = tt
 follows-at limits start r (e ∷ h) l =
     let es = events_of h in
+    let g = l.0 in
     let old = follows-at limits start r h l.1 in
     let now = stays (reverse e.events) es (request_of r h) (read_by r h) old in
     elim (number_of e.call == r) as (λ b. (number_of e.call == r) ≡ b
-    → Follows (reverse e.events ++ es) (if b then row e.call e.reply e.events (request_of r h) else request_of r h) (if b then read_on e.call e.reply e.events (read_by r h) else read_by r h)) [
-      | true ↦ λ is. follow limits start es e.call (request_of r h) e.reply e.events (read_by r h)
-          (subst (λ n. Answered limits start es e.call (request_of n h) e.reply e.events) (eqb-true (number_of e.call) r is) l.0) old now
+    → Follows (reverse e.events ++ es) (if b then row e.call e.reply e.events (request_of r h) else request_of r h) (if b then read_on e.call (outcome e.reply) e.events (read_by r h) else read_by r h)) [
+      | true ↦ λ is.
+          let named : request_of (number_of e.call) h ≡ request_of r h = ap (λ n. request_of n h) (eqb-true (number_of e.call) r is) in
+          subst (λ o. Follows (reverse e.events ++ es) (row_by e.call o e.events (request_of r h)) (read_on e.call o e.events (read_by r h))) (sym (outcome-copied g.told e.reply g.copy))
+          (follow g.facts es e.call (request_of r h) g.told e.events (read_by r h) (subst (λ q. Says es (request_in q) g.facts) named g.says) (subst (λ q. Answers g.facts e.call q g.told e.events) named g.answers) old now)
       | false ↦ λ _. now
     ] refl
 

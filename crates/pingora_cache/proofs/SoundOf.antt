@@ -1,5 +1,5 @@
 -- A legal history, and parts that are as it says, are a sound world: the rest follows from these.
-use Rattle.std.proofs.Common.{◌≡◌, ℕ, ◌+◌, Bool, true, false, cond, ◌==◌, if◌then◌else◌, Option, None, Some, List, ◌∷◌, ◌++◌, refl, ap, sym, ◌∙◌, arith, reverse}
+use Rattle.std.proofs.Common.{◌≡◌, ℕ, ◌+◌, Bool, true, false, cond, ◌==◌, if◌then◌else◌, Option, None, Some, List, refl, ap, sym, ◌∙◌, arith}
 use Rattle.std.specs.Ordering.{nat_cmp, eq_by_cmp}
 use Rattle.std.specs.Cmp.{nat_cmp_total}
 use Rattle.std.specs.FinMap.{FinMap, get, remove, len, get-remove, nat_cmp-IsAntisymmetric}
@@ -8,18 +8,17 @@ use Rattle.pcache_base.specs.Totals.{total, share}
 use Rattle.pcache_base.proofs.Totals.{total-remove}
 use Rattle.pcache_evict.specs.Tracked.{Tracked, Limits}
 use Rattle.pcache_store.specs.Store.{Store}
-use Rattle.pingora_cache.specs.declared.world.call.Call.{Call}
-use Rattle.pingora_cache.specs.declared.world.call.Reply.{Reply}
 use Rattle.pingora_cache.specs.declared.world.entry.Entry.{Entry}
 use Rattle.pingora_cache.specs.declared.world.entry.Event.{Event}
 use Rattle.pingora_cache.specs.Events.{in_flight, tracked, option_any}
 use Rattle.pingora_cache.specs.Held.{Held, request_of}
-use Rattle.pingora_cache.specs.Legal.{events_of, IsLegal, Gives}
+use Rattle.pingora_cache.specs.History.{events_of}
+use Rattle.pingora_cache.specs.Due.{makes_of, slot_of}
+use Rattle.pingora_cache.specs.Legal.{IsLegal}
 use Rattle.pingora_cache.specs.Sound.{IsState, AreOpen, AreHeld, IsSound, readers, writers_in}
 use Rattle.pingora_cache.proofs.Counts.{writes-one}
 use Rattle.pingora_cache.proofs.Sums.{cmp_same, total-zero}
-use Rattle.pingora_cache.proofs.Moves.{Has}
-use Rattle.pingora_cache.proofs.Holds.{IsHeld, mine-flies}
+use Rattle.pingora_cache.proofs.Due.{AreMade}
 use Rattle.pingora_cache.proofs.Laws.{legal_kept}
 
 -- Who holds a write.
@@ -27,11 +26,11 @@ use Rattle.pingora_cache.proofs.Laws.{legal_kept}
 abbrev count : Bool → ℕ
 count b = if b then 1 else 0
 
-one-writer : (w : ℕ) (q : Option Held) → Has q w → share (writers_in w) q ≡ 1
-one-writer w None h = absurd h
+one-writer : (w : ℕ) (q : Option Held) → makes_of q ≡ Some w → share (writers_in w) q ≡ 1
+one-writer w None h = absurd (cc)
 one-writer w (Some x) h = writes-one x w h
 
-no-writer : (w : ℕ) (q : Option Held) → (Has q w → ⊥) → share (writers_in w) q ≡ 0
+no-writer : (w : ℕ) (q : Option Held) → (makes_of q ≡ Some w → ⊥) → share (writers_in w) q ≡ 0
 no-writer w None n = refl
 no-writer w (Some x) n =
     elim x.request.write as (λ o. x.request.write ≡ o → count (option_any (λ y. y == w) o) ≡ 0) [
@@ -39,37 +38,27 @@ no-writer w (Some x) n =
       | Some y ↦ λ is. ap count (ne_eqb y w (λ same. n (is ∙ ap Some same)))
     ] refl
 
-pub held_by_one : (es : List Event) (all : FinMap nat_cmp Held) (open_of : ℕ → Option Held) → ((r : ℕ) → get all r ≡ open_of r) → IsHeld es open_of → AreHeld es all
-held_by_one es all open_of is held w =
+held_by_one : (es : List Event) (all : FinMap nat_cmp Held) (open_of : ℕ → Option Held) (slots : ℕ → Option ℕ) → ((r : ℕ) → get all r ≡ open_of r) → AreMade (λ r. makes_of (open_of r)) slots es → AreHeld es all
+held_by_one es all open_of slots is made w =
     elim (in_flight w es) as (λ b. in_flight w es ≡ b → total (writers_in w) all ≡ count b) [
       | true ↦ λ fly.
-          let p = held.some w fly in
+          let p = made.some w fly in
           let one = ap (share (writers_in w)) (is p.0) ∙ one-writer w (open_of p.0) p.1 in
           let split : total (writers_in w) (remove all p.0) + share (writers_in w) (get all p.0) ≡ total (writers_in w) all = total-remove nat_cmp_total (writers_in w) nat_cmp-IsAntisymmetric all p.0 in
           let rest : total (writers_in w) (remove all p.0) ≡ 0 = total-zero (writers_in w) (len (remove all p.0)) (remove all p.0) refl (λ q. others p.0 p.1 q) in
           omega arith
-      | false ↦ λ none. total-zero (writers_in w) (len all) all refl (λ q. ap (share (writers_in w)) (is q) ∙ no-writer w (open_of q) (λ h. both_ways _ none (mine-flies es w (open_of q) (held.mine q w h))))
+      | false ↦ λ none. total-zero (writers_in w) (len all) all refl (λ q. ap (share (writers_in w)) (is q) ∙ no-writer w (open_of q) (λ h. both_ways _ none (made.flies q w h)))
     ] refl
   where
-    others : (r : ℕ) → Has (open_of r) w → (q : ℕ) → share (writers_in w) (get (remove all r) q) ≡ 0
+    others : (r : ℕ) → makes_of (open_of r) ≡ Some w → (q : ℕ) → share (writers_in w) (get (remove all r) q) ≡ 0
     others r has q =
         ap (share (writers_in w)) (get-remove nat_cmp_total all r q)
         ∙ elim (eq_by_cmp nat_cmp q r) as (λ b. eq_by_cmp nat_cmp q r ≡ b → share (writers_in w) (cond b None (get all q)) ≡ 0) [
           | true ↦ λ _. refl
-          | false ↦ λ f. ap (share (writers_in w)) (is q) ∙ no-writer w (open_of q) (λ h. both_ways _ f (cmp_same q r ∙ eq-eqb r q (sym (held.only q r w h has))))
+          | false ↦ λ f. ap (share (writers_in w)) (is q) ∙ no-writer w (open_of q) (λ h. both_ways _ f (cmp_same q r ∙ eq-eqb r q (sym (made.only q r w h has))))
         ] refl
-
--- one request holds each write that is in flight
-pub legal_writers : (limits : Limits) (start : Tracked) (h : List Entry) (all : FinMap nat_cmp Held) → IsLegal limits start h → AreOpen h all → AreHeld (events_of h) all
-legal_writers limits start h all l are = held_by_one (events_of h) all (λ r. request_of r h) are (legal_kept limits start h l).held
 
 pub sound-of : (limits : Limits) (start now : Tracked) (s : Store) (all : FinMap nat_cmp Held) (h : List Entry) → IsLegal limits start h → now ≡ tracked start (events_of h) → IsState (events_of h) (readers all) s → AreOpen h all → IsSound limits start now s all h
 sound-of limits start now s all h l is state are =
     let k = legal_kept limits start h l in
-    record { legal = l; tidy = k.tidy; state = state; tracks = is; exact = k.exact; bounded = k.bounded; requests = are; writes = legal_writers limits start h all l are }
-
--- one entry more
-pub sound-more : (limits : Limits) (start now now' : Tracked) (s s' : Store) (all all' : FinMap nat_cmp Held) (h : List Entry) (call : Call) (reply : Reply) (events : List Event) → IsSound limits start now s all h → Gives limits start h call reply events
-    → now' ≡ tracked start (reverse events ++ events_of h) → IsState (reverse events ++ events_of h) (readers all') s' → AreOpen (record { call = call; reply = reply; events = events } ∷ h) all'
-    → IsSound limits start now' s' all' (record { call = call; reply = reply; events = events } ∷ h)
-sound-more limits start now now' s s' all all' h call reply events k gives is state are = sound-of limits start now' s' all' (record { call = call; reply = reply; events = events } ∷ h) (gives, k.legal) is state are
+    record { legal = l; tidy = k.tidy; state = state; tracks = is; exact = k.exact; bounded = k.bounded; requests = are; writes = held_by_one (events_of h) all (λ r. request_of r h) (λ r. slot_of (request_of r h)) are k.made }

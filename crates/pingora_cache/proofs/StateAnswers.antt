@@ -20,7 +20,7 @@ use Rattle.pingora_cache.specs.declared.world.entry.Event.{Event}
 use Rattle.pingora_cache.specs.Events as ev
 use Rattle.pingora_cache.specs.Events.{begin_of, in_flight, is_of, is_open, is_removed, complete}
 use Rattle.pingora_cache.specs.Held.{pair_of, read_past}
-use Rattle.pingora_cache.specs.Legal.{Finds, HasAny, reads}
+use Rattle.pingora_cache.specs.History.{Finds, HasAny, reads}
 use Rattle.pingora_cache.specs.Sound.{follows, pair_reader, IsState}
 use Rattle.pingora_cache.proofs.Sums.{cmp_same, same-number}
 use Rattle.pingora_cache.proofs.StateWrites.{kept_as, begun-flying, record-flying, record-read, part_of, state-followed}

@@ -1,4 +1,4 @@
--- A call that is a turn owes nothing more, and a step of a sound world leaves it sound.
+-- A step of a sound world leaves it sound.
 use Rattle.std.proofs.Common.{◌≡◌, ℕ, ◌==◌, cond, Option, None, Some, List, [], ◌∷◌, ap, sym, subst, ◌∙◌, refl, arith}
 use Rattle.std.specs.BTreeMap.{is_at}
 use Rattle.std.specs.Cmp.{nat_cmp_total}
@@ -9,32 +9,18 @@ use Rattle.std.proofs.lemmas.Bool.Decides.{nat_tests}
 use Rattle.pcache_evict.specs.Tracked.{Tracked, Limits}
 use Rattle.pcache_store.specs.Store.{Store}
 use Rattle.pingora_cache.specs.declared.world.call.Call.{Call}
-use Rattle.pingora_cache.specs.declared.world.call.Call.TheVariants as C
 use Rattle.pingora_cache.specs.declared.world.call.Reply.{Reply}
 use Rattle.pingora_cache.specs.declared.world.entry.Entry.{Entry}
 use Rattle.pingora_cache.specs.declared.world.entry.Event.{Event}
 use Rattle.pingora_cache.specs.Held.{Held, number_of, row}
+use Rattle.pingora_cache.specs.Rules.{IsCopy}
 use Rattle.pingora_cache.specs.Sound.{IsSound}
-use Rattle.pingora_cache.specs.Step.{Turn, IsStep}
-use Rattle.pingora_cache.proofs.Owed.{set_to, after_call, Owes, sound-after}
+use Rattle.pingora_cache.specs.Step.{Turn, IsOfWorldIn, IsMoved}
 use Rattle.pingora_cache.proofs.StateWrites.{get-set, get-unset}
-use Rattle.pingora_cache.proofs.Turns.{turn-open, turn-key, turn-miss, turn-meta, turn-write, turn-read, turn-end}
-use Rattle.pingora_cache.proofs.TurnsOther.{turn-look, turn-found, turn-begin, turn-finish, turn-purge}
-
-pub turned : (limits : Limits) (start m m' : Tracked) (s s' : Store) (all : FinMap nat_cmp Held) (h : List Entry) (call : Call) (reply : Reply) (events : List Event)
-    → IsSound limits start m s all h → Turn limits call (get all (number_of call)) s m reply events s' m' → Owes limits start all h call reply events s' m'
-turned limits start m m' s s' all h (C.Open r) reply events k t = turn-open limits start m m' s s' all h r reply events k t
-turned limits start m m' s s' all h (C.Key r key) reply events k t = turn-key limits start m m' s s' all h r key reply events k t
-turned limits start m m' s s' all h (C.Look r now) reply events k t = turn-look limits start m m' s s' all h r now reply events k t
-turned limits start m m' s s' all h (C.Found r status now) reply events k t = turn-found limits start m m' s s' all h r status now reply events k t
-turned limits start m m' s s' all h (C.Miss r) reply events k t = turn-miss limits start m m' s s' all h r reply events k t
-turned limits start m m' s s' all h (C.Meta r meta) reply events k t = turn-meta limits start m m' s s' all h r meta reply events k t
-turned limits start m m' s s' all h (C.Begin r) reply events k t = turn-begin limits start m m' s s' all h r reply events k t
-turned limits start m m' s s' all h (C.Write r bytes eof) reply events k t = turn-write limits start m m' s s' all h r bytes eof reply events k t
-turned limits start m m' s s' all h (C.Finish r) reply events k t = turn-finish limits start m m' s s' all h r reply events k t
-turned limits start m m' s s' all h (C.Read r) reply events k t = turn-read limits start m m' s s' all h r reply events k t
-turned limits start m m' s s' all h (C.Purge r) reply events k t = turn-purge limits start m m' s s' all h r reply events k t
-turned limits start m m' s s' all h (C.End r) reply events k t = turn-end limits start m m' s s' all h r reply events k t
+use Rattle.pingora_cache.proofs.Copied.{row-copied}
+use Rattle.pingora_cache.proofs.Laws.{legal_world}
+use Rattle.pingora_cache.proofs.MovedState.{set_to}
+use Rattle.pingora_cache.proofs.Uniform.{after_call, each-call-keeps}
 
 -- the requests as entries, and as the map that the entries make
 find-lookup : (es : List (ℕ × Held)) (q : ℕ) → find nat_cmp q es ≡ lookup (is_at (nat_cmp q)) es
@@ -63,12 +49,17 @@ entries-after before after call reply events is =
     ∙ (λ i. cond (is_at (nat_cmp n) q) (row call reply events (lookup-get before n i)) (lookup-get before q i))
     ∙ sym (get-set_to all n (row call reply events (get all n)) q))
 
--- one call of a sound world leaves it sound, with an entry more in its history
-pub step_sound : (limits : Limits) (start m m' : Tracked) (s s' : Store) (before after : List (ℕ × Held)) (h : List Entry) (call : Call) (reply : Reply) (events : List Event)
-    → IsSound limits start m s (from_entries {R = nat_cmp} before) h → IsStep limits call before s m reply events after s' m'
-    → IsSound limits start m' s' (from_entries {R = nat_cmp} after) (record { call = call; reply = reply; events = events } ∷ h)
-step_sound limits start m m' s s' before after h call reply events k step =
+-- one call of a sound world leaves it sound, with an entry more in its history; its reply is told as it is copied
+pub step_sound : (limits : Limits) (start m m' : Tracked) (s s' : Store) (before after : List (ℕ × Held)) (h : List Entry) (call : Call) (reply told : Reply) (events : List Event)
+    → IsSound limits start m s (from_entries {R = nat_cmp} before) h
+    → (IsOfWorldIn (lookup (is_at (nat_cmp (number_of call))) before) → Turn limits call (lookup (is_at (nat_cmp (number_of call))) before) s m reply events s' m')
+    → IsMoved call reply events before after → IsCopy reply told
+    → IsSound limits start m' s' (from_entries {R = nat_cmp} after) (record { call = call; reply = told; events = events } ∷ h)
+step_sound limits start m m' s s' before after h call reply told events k turn moved copy =
+    let n = number_of call in
     let all : FinMap nat_cmp Held = from_entries {R = nat_cmp} before in
-    let turn : Turn limits call (get all (number_of call)) s m reply events s' m' = subst (λ q. Turn limits call q s m reply events s' m') (lookup-get before (number_of call)) step.turn in
-    subst (λ now. IsSound limits start m' s' now (record { call = call; reply = reply; events = events } ∷ h)) (sym (entries-after before after call reply events step.requests))
-    (sound-after limits start m m' s s' all h call reply events k (turned limits start m m' s s' all h call reply events k turn))
+    let q = lookup (is_at (nat_cmp n)) before in
+    let made = turn (subst IsOfWorldIn (sym (lookup-get before n ∙ k.requests n)) (legal_world limits start h k.legal n)) in
+    let kept = each-call-keeps limits start m m' s s' all h call reply told events k (subst (λ o. Turn limits call o s m reply events s' m') (lookup-get before n) made) copy in
+    subst (λ (x : FinMap nat_cmp Held). IsSound limits start m' s' x (record { call = call; reply = told; events = events } ∷ h))
+    (sym (entries-after before after call reply events moved ∙ ap (set_to all n) (sym (row-copied call reply told events (get all n) copy)))) kept

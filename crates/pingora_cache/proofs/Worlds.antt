@@ -2,6 +2,8 @@
 use Rattle.std.proofs.Common.{◌≡◌, ℕ, Option, None, Some, List, [], ◌∷◌, ◌++◌, refl, ap, sym, subst, ◌∙◌, reverse, false, is_some, IsSome, option_map}
 use Rattle.std.proofs.lemmas.Bool.{both_ways}
 use Rattle.std.proofs.lemmas.List.{reverse-append}
+use Rattle.std.specs.BTreeMap.{is_at}
+use Rattle.std.specs.Map.{lookup}
 use Rattle.std.specs.Ordering.{nat_cmp}
 use Rattle.std.specs.FinMap.{FinMap, empty, from_entries}
 use Rattle.pcache_evict.specs.Tracked.{Tracked, Limits}
@@ -11,11 +13,11 @@ use Rattle.pingora_cache.specs.declared.world.call.Call.{Call}
 use Rattle.pingora_cache.specs.declared.world.call.Reply.{Reply}
 use Rattle.pingora_cache.specs.declared.world.entry.Entry.{Entry}
 use Rattle.pingora_cache.specs.declared.world.entry.Event.{Event}
-use Rattle.pingora_cache.specs.Held.{Held}
-use Rattle.pingora_cache.specs.Log.{IsCopy, started}
-use Rattle.pingora_cache.specs.Step.{IsStep}
+use Rattle.pingora_cache.specs.Held.{Held, number_of}
+use Rattle.pingora_cache.specs.Log.{started}
+use Rattle.pingora_cache.specs.Rules.{IsCopy}
+use Rattle.pingora_cache.specs.Step.{Turn, IsOfWorldIn, IsMoved}
 use Rattle.pingora_cache.specs.Sound.{IsSound, readers}
-use Rattle.pingora_cache.proofs.Copied.{step-copied}
 use Rattle.pingora_cache.proofs.Counts.{readers-none}
 use Rattle.pingora_cache.proofs.Opened.{open-none}
 use Rattle.pingora_cache.proofs.SoundOf.{sound-of}
@@ -49,12 +51,14 @@ not-both o none some = absurd (both_ways (is_some o) (ap is_some none) some)
 
 -- one call more, whose reply is told as it is copied
 pub sound-step : (limits limits' : Limits) (start start' m m' : Tracked) (s s' : Store) (before after : List (ℕ × Held)) (h h' : List Entry) (call : Call) (reply told : Reply) (events : List Event)
-    → IsSound limits start m s (from_entries {R = nat_cmp} before) (reverse h) → IsStep limits call before s m reply events after s' m' → IsCopy reply told
+    → IsSound limits start m s (from_entries {R = nat_cmp} before) (reverse h)
+    → (IsOfWorldIn (lookup (is_at (nat_cmp (number_of call))) before) → Turn limits call (lookup (is_at (nat_cmp (number_of call))) before) s m reply events s' m')
+    → IsMoved call reply events before after → IsCopy reply told
     → limits' ≡ limits → start' ≡ start → h' ≡ h ++ record { call = call; reply = told; events = events } ∷ []
     → IsSound limits' start' m' s' (from_entries {R = nat_cmp} after) (reverse h')
-sound-step limits limits' start start' m m' s s' before after h h' call reply told events k st copy same first is =
+sound-step limits limits' start start' m m' s s' before after h h' call reply told events k turn moved copy same first is =
     let entry : Entry = record { call = call; reply = told; events = events } in
-    let more = step_sound limits start m m' s s' before after (reverse h) call told events k (step-copied limits call before after s s' m m' events reply told copy st) in
+    let more = step_sound limits start m m' s s' before after (reverse h) call reply told events k turn moved copy in
     let turned : reverse h' ≡ entry ∷ reverse h = ap reverse is ∙ reverse-append h (entry ∷ []) in
     subst (λ (l : Limits). IsSound l start' m' s' (from_entries {R = nat_cmp} after) (reverse h')) (sym same)
     (subst (λ (t : Tracked). IsSound limits t m' s' (from_entries {R = nat_cmp} after) (reverse h')) (sym first)

@@ -1,45 +1,26 @@
 -- What is promised of every legal history (own).
-use Rattle.std.specs.Prelude.{◌≡◌, ℕ, ◌≤◌, Bool, true, false, Option, Some, None, IsSome, IfSome, List, ◌∷◌, ◌⊎◌, ◌↔◌}
+use Rattle.std.specs.Prelude.{◌≡◌, ℕ, ◌≤◌, Bool, true, false, Option, Some, IfSome, List, ◌∷◌, ◌⊎◌, ◌↔◌}
 use Rattle.pcache_base.specs.declared.poll.Poll.{Poll}
 use Rattle.pcache_evict.specs.Tracked.{Tracked, Limits}
 use Rattle.pcache_store.specs.Store.{Reader}
-use Rattle.pingora_cache.specs.declared.world.call.Call.{Call}
-use Rattle.pingora_cache.specs.declared.world.call.Call.TheVariants as C
 use Rattle.pingora_cache.specs.declared.world.call.Reply.TheVariants.{WrongCall}
 use Rattle.pingora_cache.specs.declared.world.entry.Answer.{Answer}
 use Rattle.pingora_cache.specs.declared.world.entry.Answer.TheVariants as A
 use Rattle.pingora_cache.specs.declared.world.entry.Entry.{Entry}
 use Rattle.pingora_cache.specs.declared.world.entry.Event.{Event}
 use Rattle.pingora_cache.specs.declared.world.entry.Event.TheVariants.{Look, Finish, Read}
-use Rattle.pcache_request.specs.Phases.{MayTakeKey, MayLookUp, MayMiss, IsFilling, MayPurge}
-use Rattle.pcache_request.specs.Requests.{MayTakeMeta, MayWrite}
-use Rattle.pingora_cache.specs.Events.{is_told, is_of, in_flight, was_stored, is_removed, last_finished, body_of, stored, slots}
+use Rattle.pingora_cache.specs.Events.{is_of, in_flight, was_stored, is_removed, last_finished, body_of, stored, slots}
 use Rattle.pingora_cache.specs.Held.{Held, number_of, request_of}
-use Rattle.pingora_cache.specs.Legal.{events_of, MayFill, IsLegal, Finds, reads}
+use Rattle.pingora_cache.specs.Facts.{Facts, Says, request_in}
+use Rattle.pingora_cache.specs.History.{events_of, Finds, reads}
+use Rattle.pingora_cache.specs.Legal.{IsLegal}
+use Rattle.pingora_cache.specs.Rules.{MayBe}
 use Rattle.pingora_cache.specs.ReadSoFar.{read_by, HasRead}
 
--- the condition of a call: of the phase table, and of the world's own. A request is opened where its number is free; each
--- other call names an open one
-abbrev pub MayBe : (ℕ → Bool) → Call → Option Held → Type 0
-MayBe told (C.Open r) None = Unit {0}
-MayBe told (C.Open r) (Some x) = ⊥
-MayBe told call None = ⊥
-MayBe told (C.Key r k) (Some x) = MayTakeKey x.request.phase
-MayBe told (C.Look r t) (Some x) = MayLookUp x.request.phase
-MayBe told (C.Found r s t) (Some x) = MayLookUp x.request.phase × IsSome x.pair
-MayBe told (C.Miss r) (Some x) = MayMiss x.request.phase
-MayBe told (C.Meta r m) (Some x) = MayTakeMeta x.request
-MayBe told (C.Begin r) (Some x) = MayWrite x.request
-MayBe told (C.Write r bytes eof) (Some x) = MayFill told x.request
-MayBe told (C.Finish r) (Some x) = IsFilling x.request.phase
-MayBe told (C.Read r) (Some x) = IsSome x.request.reader
-MayBe told (C.Purge r) (Some x) = MayPurge x.request.phase
-MayBe told (C.End r) (Some x) = Unit {0}
-
--- a call is answered as a wrong one exactly where its condition fails
+-- a call is answered as a wrong one exactly where its condition fails, by the facts that the events before it say
 abbrev pub IsWrongExactly : Type 0
-IsWrongExactly = (limits : Limits) (start : Tracked) (before : List Entry) (entry : Entry) → IsLegal limits start (entry ∷ before)
-    → (entry.reply ≡ WrongCall) ↔ (MayBe (λ w. is_told w (events_of before)) entry.call (request_of (number_of entry.call) before) → ⊥)
+IsWrongExactly = (limits : Limits) (start : Tracked) (before : List Entry) (entry : Entry) (f : Facts) → IsLegal limits start (entry ∷ before) → Says (events_of before) (request_in (request_of (number_of entry.call) before)) f
+    → (entry.reply ≡ WrongCall) ↔ (MayBe f entry.call (request_of (number_of entry.call) before) → ⊥)
 
 -- a look-up answers what the events before it say of its key: the earliest begun write that is in flight and untouched, else
 -- the complete body, else nothing; with the meta that the write began with

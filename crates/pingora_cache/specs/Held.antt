@@ -41,17 +41,30 @@ number_of (C.Read r) = r
 number_of (C.Purge r) = r
 number_of (C.End r) = r
 
-abbrev pub is_done : Reply → Bool
-is_done R.Done = true
+-- what a request moves by of a reply
+pub data Outcome : Type 0 where
+  was_wrong : Outcome
+  was_done : Outcome
+  was_taken : Outcome
+  was_other : Outcome
+
+abbrev pub outcome : Reply → Outcome
+outcome R.WrongCall = was_wrong
+outcome R.Done = was_done
+outcome (R.Taken p l) = was_taken
+outcome _ = was_other
+
+abbrev pub is_wrong : Outcome → Bool
+is_wrong was_wrong = true
+is_wrong _ = false
+
+abbrev pub is_done : Outcome → Bool
+is_done was_done = true
 is_done _ = false
 
-abbrev pub is_taken : Reply → Bool
-is_taken (R.Taken p l) = true
+abbrev pub is_taken : Outcome → Bool
+is_taken was_taken = true
 is_taken _ = false
-
-abbrev pub is_refused : Reply → Bool
-is_refused (R.Refused e) = true
-is_refused _ = false
 
 -- a world's requests use the manager and the lock
 abbrev pub world_use : InUse
@@ -122,19 +135,22 @@ abbrev pub on_request : (Request → Request) → Held → Held
 on_request f x = record { request = f x.request; pair = x.pair }
 
 -- a call moves the request that it names by its row of the phase table
+abbrev pub row_by : Call → Outcome → List Event → Option Held → Option Held
+row_by (C.Open r) o events q = cond (is_done o) (Some opened) q
+row_by (C.Key r k) o events q = cond (is_done o) (option_map (on_request (with_key k)) q) q
+row_by (C.Look r t) o events q = option_map (looked_by events) q
+row_by (C.Found r s t) o events q = cond (is_taken o) (option_map (taken_by s events) q) (cond (is_wrong o) q (option_map without_pair q))
+row_by (C.Miss r) o events q = cond (is_done o) (option_map (λ x. without_pair (on_request missed x)) q) q
+row_by (C.Meta r m) o events q = cond (is_done o) (option_map (on_request (with_meta m)) q) q
+row_by (C.Begin r) o events q = option_map (on_request (began (is_done o) events)) q
+row_by (C.Write r bs eof) o events q = q
+row_by (C.Finish r) o events q = option_map (on_request (ended events)) q
+row_by (C.Read r) o events q = option_map (on_request (has_read events)) q
+row_by (C.Purge r) o events q = q
+row_by (C.End r) o events q = cond (is_done o) None q
+
 abbrev pub row : Call → Reply → List Event → Option Held → Option Held
-row (C.Open r) reply events q = cond (is_done reply) (Some opened) q
-row (C.Key r k) reply events q = cond (is_done reply) (option_map (on_request (with_key k)) q) q
-row (C.Look r t) reply events q = option_map (looked_by events) q
-row (C.Found r s t) reply events q = cond (is_taken reply) (option_map (taken_by s events) q) (cond (is_refused reply) (option_map without_pair q) q)
-row (C.Miss r) reply events q = cond (is_done reply) (option_map (λ x. without_pair (on_request missed x)) q) q
-row (C.Meta r m) reply events q = cond (is_done reply) (option_map (on_request (with_meta m)) q) q
-row (C.Begin r) reply events q = option_map (on_request (began (is_done reply) events)) q
-row (C.Write r bs eof) reply events q = q
-row (C.Finish r) reply events q = option_map (on_request (ended events)) q
-row (C.Read r) reply events q = option_map (on_request (has_read events)) q
-row (C.Purge r) reply events q = q
-row (C.End r) reply events q = cond (is_done reply) None q
+row call reply events q = row_by call (outcome reply) events q
 
 -- a request as the entries that name it leave it
 abbrev pub request_of : ℕ → List Entry → Option Held

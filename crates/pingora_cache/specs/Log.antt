@@ -1,15 +1,14 @@
 -- The history of a world, and what calls add to it (own).
-use Rattle.std.specs.Prelude.{◌≡◌, ◌⊎◌, ℕ, Option, None, Some, ◌++◌, ◌∷◌, [], List, take, reverse}
+use Rattle.std.specs.Prelude.{◌≡◌, ℕ, Option, None, Some, ◌++◌, ◌∷◌, [], List, take, reverse}
 use Rattle.std.specs.FinMap as map
-use Rattle.pcache_base.specs.declared.error.ErrorType.TheVariants.{OutOfMemory}
 use Rattle.pcache_evict.specs.Tracked.{Tracked, Limits, Evicted}
 use Rattle.pcache_evict.specs.declared.eviction.entry_key.CacheEntryKey.{CacheEntryKey}
 use Rattle.pingora_cache.specs.declared.world.call.Call.{Call}
 use Rattle.pingora_cache.specs.declared.world.call.Reply.{Reply}
-use Rattle.pingora_cache.specs.declared.world.call.Reply.TheVariants.{Data, Refused}
 use Rattle.pingora_cache.specs.declared.world.entry.Entry.{Entry}
 use Rattle.pingora_cache.specs.declared.world.entry.Event.{Event}
-use Rattle.pingora_cache.specs.Legal.{events_of, IsLegal}
+use Rattle.pingora_cache.specs.History.{events_of}
+use Rattle.pingora_cache.specs.Legal.{IsLegal}
 
 -- what contracts see of a world
 pub record Log : Type 0 where
@@ -51,7 +50,3 @@ AddsAll old (c ∷ cs) (r ∷ rs) new = (next : Log) × Adds old c r next × Add
 -- the entries of a beginning of the calls
 abbrev pub AddsSome : Log → List Call → Log → Type 0
 AddsSome old calls new = (n : ℕ) × ((replies : List Reply) × AddsAll old (take n calls) replies new)
-
--- a reply told twice: it is the same, or bytes that can't be copied are refused
-abbrev pub IsCopy : Reply → Reply → Type 0
-IsCopy reply told = (told ≡ reply) ⊎ ((told ≡ Refused OutOfMemory) × ((bytes : List ℕ) × (reply ≡ Data bytes)))

@@ -14,7 +14,8 @@ use Rattle.pingora_cache.specs.declared.world.entry.Event.TheVariants.{Admit}
 use Rattle.pingora_cache.specs.Events as ev
 use Rattle.pingora_cache.specs.Events.{begun, begin_of, is_removed, has_ended, was_stored, in_flight, is_told, is_of, last_finished, complete, is_open, tracked, stored, slots, names_slot, size_of}
 use Rattle.pingora_cache.specs.Held.{Held, request_of}
-use Rattle.pingora_cache.specs.Legal.{events_of, IsLegal}
+use Rattle.pingora_cache.specs.History.{events_of}
+use Rattle.pingora_cache.specs.Legal.{IsLegal}
 
 -- how many readers of a write there are: in one request, and in all
 abbrev pub follows : ℕ → Option Reader → ℕ

@@ -2,7 +2,8 @@
 ghost use Rattle.std.specs.Prelude.{◌≡◌, ◌+◌, ◌<◌, ◌≤◌, ◌⊎◌, ◌++◌, ◌∷◌, [], Some, None, IsSome, IfSome, option_map, IfOk, IfErr, OnOk, OnErr, min, ◌^◌, ◌-◌, vec_len};
 ghost use Rattle.pcache_base.specs.declared.error.ErrorType.TheVariants.{OutOfMemory};
 ghost use Rattle.std.specs.Vec.{vec_capacity};
-ghost use Rattle.pingora_cache.specs.Log.{IsCopy, started};
+ghost use Rattle.pingora_cache.specs.Log.{started};
+ghost use Rattle.pingora_cache.specs.Rules.{IsCopy};
 
 use crate::world::call::{Call, Reply};
 use crate::world::entry::{Entry, Event, Events};

@@ -1,7 +1,7 @@
 //! An open request, with what its last look-up gave.
 ghost use Rattle.std.specs.Prelude.{◌≡◌, None, option_map};
 ghost use Rattle.pcache_store.specs.Readers.{reader_of};
-ghost use Rattle.pingora_cache.specs.Legal.{permit_of};
+ghost use Rattle.pingora_cache.specs.Rules.{permit_of};
 ghost use Rattle.pcache_request.specs.Requests.{Request, left_by};
 ghost use Rattle.pingora_cache.specs.Sound.{pair_reader};
 ghost use Rattle.pingora_cache.specs.Step.{store_ended};
