@@ -58,10 +58,12 @@ def function_at(path, text, start, end):
     """The function that stands at a place of a file: its module, the type of its impl or None, and its name or None."""
     module = re.sub(r"^src/|\.rt$", "", path).replace("/", "::")
     module = re.sub(r"(^|::)(lib|main|mod)$", "", module)
-    inside = [it for it in re.finditer(r"\bfn (\w+)", text) if it.start() < end]
+    # a text that begins a function turns that one, also where the old function goes on under another name behind it
+    begun = [it for it in re.finditer(r"\bfn (\w+)", text) if start <= it.start() < end]
+    before = [it for it in re.finditer(r"\bfn (\w+)", text) if it.start() < start]
     name = None
-    if inside:
-        found = inside[-1]
+    if begun or before:
+        found = begun[0] if begun else before[-1]
         # a brace at the margin of the function ends it
         margin = re.search(r"(?m)^( *)[^\n]*\Z", text[: found.start()])[1]
         closed = re.search(rf"(?m)^{margin}\}}$", text[found.start() :])
@@ -93,15 +95,32 @@ def link(old, new):
         shutil.copy2(old, new)
 
 
+def lines_below(crate):
+    """The lines of crates.txt for a crate and for the crates of this repository that it uses, directly or not, by crate."""
+    lines = {}
+    with open(f"{TOP}/crates.txt", encoding="utf-8") as it:
+        for line in it:
+            head = line.split("#")[0].partition(":")[0].split()
+            if head:
+                lines[head[0]] = line
+    found, left = {}, [crate]
+    while left:
+        name = left.pop()
+        if name in lines and name not in found:
+            found[name] = lines[name]
+            left += lines[name].partition(":")[2].split()
+    return found
+
+
 def checked(crate, edits):
     """Checks a copy of the crate with these edits: whether it is proved, what was said of each function, and what each edit turned."""
     with tempfile.TemporaryDirectory(prefix="edits-seen-") as room:
-        for file in ("crates.txt", "HANDLES"):
-            shutil.copy(f"{TOP}/{file}", room)
-        os.makedirs(f"{room}/crates")
-        for name in os.listdir(f"{TOP}/crates"):
-            if name != crate:
-                shutil.copytree(f"{TOP}/crates/{name}", f"{room}/crates/{name}", copy_function=link)
+        shutil.copy(f"{TOP}/HANDLES", room)
+        lines = lines_below(crate)
+        with open(f"{room}/crates.txt", "w", encoding="utf-8") as it:
+            it.writelines(lines.values())
+        for name in lines.keys() - {crate}:
+            shutil.copytree(f"{TOP}/crates/{name}", f"{room}/crates/{name}", copy_function=link)
         shutil.copytree(f"{TOP}/crates/{crate}", f"{room}/crates/{crate}", symlinks=True)
         folder = f"{room}/crates/{crate}"
         turned = [it.apply(folder) for it in edits]
@@ -118,18 +137,31 @@ def checked(crate, edits):
     return any(it.startswith("logic=proved") for it in lines), said, turned
 
 
+def is_named(path, module, owner, name):
+    """Whether what the prover calls this path is the function: module::Type::name, with the trait's name after the type's where
+    it stands in a trait's impl, or a closure inside it, module::fn::Type::name::..."""
+    parts = path.split("::")
+    ours = [it for it in module.split("::") if it]
+    if parts[: len(ours)] != ours:
+        return False
+    rest = parts[len(ours) :]
+    is_closure = rest[:1] == ["fn"]
+    rest = rest[is_closure:]
+    if owner:
+        if not rest or not rest[0].startswith(owner):
+            return False
+        rest = rest[1:]
+    return rest[:1] == [name] and (is_closure or len(rest) == 1)
+
+
 def outcome(said, turned):
     """What was said of the functions that an edit turned: 'by itself', 'only below', 'proved', or None where there is no such function."""
     best = None
     for module, owner, name in turned:
         for path, words in said.items():
-            parts = path.split("::")
-            ours = [it for it in module.split("::") if it]
-            if name is None or parts[-1] != name or parts[: len(ours)] != ours:
+            if name is None or not is_named(path, module, owner, name):
                 continue
-            if owner and not (len(parts) >= 2 and parts[-2].startswith(owner)):
-                continue
-            if words.startswith("no proof: it calls") or words.startswith("not proved; it calls"):
+            if words.startswith(("no proof: it calls", "not proved; it calls")):
                 best = best or "only below"
             elif words.startswith("proved"):
                 best = best or "proved"

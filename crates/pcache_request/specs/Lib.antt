@@ -1,4 +1,5 @@
 pub mod Finishing
 pub mod Phases
+pub mod Reports
 pub mod Requests
 pub mod WriteEnds

@@ -4,6 +4,7 @@ use Rattle.std.specs.Prelude.{ℕ, ◌≡◌, ◌&&◌, Bool, true, false, not, 
 use Rattle.std.specs.FinMap.{remove}
 use Rattle.pcache_base.specs.Key.{Key, slot}
 use Rattle.pcache_base.specs.CompactKey.{compact_of}
+use Rattle.pcache_base.specs.declared.key.CompactCacheKey.{CompactCacheKey}
 use Rattle.pcache_meta.specs.Meta.{Meta}
 use Rattle.pcache_base.specs.declared.reason.NoCacheReason.TheVariants as reason
 use Rattle.pcache_evict.specs.declared.eviction.entry_key.CacheEntryKey.{CacheEntryKey}
@@ -201,10 +202,10 @@ store_writing streams n r s =
     let t = begun_for r.key r.meta s in
     cond streams (left_by r.reader (followed t (joined_for r.key n t))) t
 
--- what a purge leaves of the tracked entries: the entry that went is taken out
-abbrev pub tracked_gone : Bool → Key → PurgeOutcome → Tracked → Tracked
+-- what a removal leaves of the tracked entries: the entry that went is taken out
+abbrev pub tracked_gone : Bool → CompactCacheKey → PurgeOutcome → Tracked → Tracked
 tracked_gone uses k NotFound m = m
-tracked_gone uses k (Purged id) m = cond uses (remove m (entry_of k id)) m
+tracked_gone uses k (Purged id) m = cond uses (remove m (entry_with k id)) m
 tracked_gone uses k Expired m = m
 
 abbrev pub is_removed_by : PurgeOutcome → Bool
@@ -214,4 +215,4 @@ is_removed_by Expired = true
 
 abbrev pub tracked_gone_for : Bool → Option Key → PurgeOutcome → Tracked → Tracked
 tracked_gone_for uses None o m = m
-tracked_gone_for uses (Some k) o m = tracked_gone uses k o m
+tracked_gone_for uses (Some k) o m = tracked_gone uses (compact_of k) o m

@@ -1,14 +1,14 @@
 -- How the end of a request's write went, and what it leaves (own).
-use Rattle.std.specs.Prelude.{ℕ, ◌≡◌, Bool, Option, Some, None, Result, Ok, Err, ◌⊎◌}
+use Rattle.std.specs.Prelude.{ℕ, ◌≡◌, Bool, Option, Some, None, Result, Ok, Err, ◌⊎◌, cond}
 use Rattle.pcache_base.specs.Key.{Key}
 use Rattle.pcache_base.specs.declared.error.ErrorType.{ErrorType}
-use Rattle.pcache_evict.specs.Tracked.{Tracked, Limits}
+use Rattle.pcache_evict.specs.Tracked.{Tracked, Limits, Evicted, evicted_with}
 use Rattle.pcache_lock.specs.Locks.{Locks}
 use Rattle.pcache_store.specs.Store.{Store}
 use Rattle.pcache_store.specs.declared.storage.MissFinishType.{MissFinishType}
 use Rattle.pcache_store.specs.declared.storage.MissFinishType.TheVariants.{Created}
-use Rattle.pcache_request.specs.Requests.{Request}
-use Rattle.pcache_request.specs.Finishing.{Stores, Drops, Withdraws}
+use Rattle.pcache_request.specs.Requests.{Request, entry_of}
+use Rattle.pcache_request.specs.Finishing.{Stores, Drops, Withdraws, with_entry}
 use Rattle.pcache_request.specs.declared.cache.finish.FinishReport.{FinishReport}
 use Rattle.pcache_request.specs.declared.cache.finish.WriteEnd.{WriteEnd}
 use Rattle.pcache_request.specs.declared.cache.finish.WriteEnd.TheVariants as end
@@ -40,3 +40,14 @@ abbrev pub EndsAs : Result (Option FinishReport) ErrorType → (WriteEnd → Typ
 EndsAs (Ok None) P = P end.Nothing
 EndsAs (Ok (Some f)) P = P (end.Stored f)
 EndsAs (Err e) P = P (end.Dropped e) ⊎ P (end.Withdrawn e)
+
+-- the manager's totals once a write ended so: where a manager is in use, they grow by what was evicted for a stored body
+abbrev pub evicted_for : Request → Key → MissFinishType → Tracked → Evicted → WriteEnd → Evicted
+evicted_for r k kind m before end.Nothing = before
+evicted_for r k kind m before (end.Stored f) = cond r.uses.eviction (evicted_with before (with_entry kind (entry_of k r.entry) m) f.evicted.items) before
+evicted_for r k kind m before (end.Dropped e) = before
+evicted_for r k kind m before (end.Withdrawn e) = before
+
+abbrev pub evicted_after : Request → Option Key → MissFinishType → Tracked → Evicted → WriteEnd → Evicted
+evicted_after r None kind m before end = before
+evicted_after r (Some k) kind m before end = evicted_for r k kind m before end

@@ -3,7 +3,7 @@
 //! A request is lent what it works on: the storage, the eviction manager and the lock table. Parts
 //! that it does not use are left as they are. What it holds (a lock, a reader, a write) has to be
 //! given back, so a request is spent by `end`.
-ghost use Rattle.std.specs.Prelude.{◌≡◌, IfOk, IfErr, OnOk, OnErr, Option, Some, None, option_map, cond, not, ◌&&◌};
+ghost use Rattle.std.specs.Prelude.{◌≡◌, IfOk, IfErr, OnOk, OnErr, Option, Some, None, option_map, cond, not, ◌&&◌, IsTrue};
 ghost use Rattle.pcache_base.specs.Key.{slot};
 ghost use Rattle.pcache_base.specs.declared.error.ErrorType.TheVariants.{OutOfMemory};
 ghost use Rattle.std.specs.Option.{option_copied};
@@ -13,15 +13,17 @@ ghost use Rattle.pcache_store.specs.Store.{find_write, followed, counts_access, 
 ghost use Rattle.pcache_store.specs.Tag.{named_by};
 ghost use Rattle.pcache_evict.specs.Tracked.{added};
 ghost use Rattle.pcache_request.specs.Phases as phases;
-ghost use Rattle.pcache_request.specs.Requests.{settled, let_go_by, table_asked, left_by, entry_of, reader_in, phase_found};
+ghost use Rattle.pcache_request.specs.Requests.{settled, let_go_by, table_asked, left_by, entry_of, reader_in, phase_found, tracked_gone};
+ghost use Rattle.pcache_request.specs.Reports.{name_of, asked_with, untracked};
 
 mod finish;
+mod report;
 
 use crate::phase::{CachePhase, HitStatus, InUse};
 use bytes::Bytes;
 pub use finish::{FinishReport, WriteEnd};
 use pcache_base::error::Result;
-use pcache_base::key::CacheKey;
+use pcache_base::key::{CacheKey, CompactCacheKey};
 use pcache_base::moment::Moment;
 use pcache_base::poll::Poll;
 use pcache_base::reason::NoCacheReason;
@@ -29,6 +31,7 @@ use pcache_evict::eviction::{CacheEntryId, CacheEntryKey, EvictionManager};
 use pcache_lock::lock::{CacheKeyLock, LockStatus, Locked};
 use pcache_meta::meta::CacheMeta;
 use pcache_store::storage::{HandleHit, HandleMiss, PurgeOutcome, PurgeTarget, PurgeType, Storage};
+pub use report::{Access, AskedLock, LockName, LookUp, Removal, WriteBegin, WriteReport};
 use std::alloc::Global;
 use std::marker::Model;
 
@@ -74,6 +77,16 @@ fn put<T>(place: &mut Option<T>, value: T)
     let None = before else { unreachable!() };
 }
 
+// The name of a lock, where one is held.
+fn name_of(held: &Option<Locked>) -> Option<LockName>
+    ensures { result ≡ option_map name_of held.now }
+{
+    match held {
+        Some(lock) => Some(LockName::of(lock)),
+        None => None,
+    }
+}
+
 // Asks for a key's lock, and lets an older one go once the new one was given.
 fn take_lock<L: CacheKeyLock>(
     alloc: Global,
@@ -82,32 +95,63 @@ fn take_lock<L: CacheKeyLock>(
     key: &CacheKey,
     stale_writer: bool,
     now: Moment,
-) -> Result<()>
+) -> Result<AskedLock>
+    ensures asked { IfOk result (λ a. a ≡ asked_with stale_writer (L.table lock.old) key.now held.old) }
     ensures table { OnOk result (L.table lock.new ≡ table_asked stale_writer now (Some key.now) held.old (L.table lock.old)) }
     ensures held { OnOk result (held.new ≡ Some (given (L.table lock.old) stale_writer (holder (L.table lock.old) (slot key.now)))) }
     ensures same_table { OnErr result (L.table lock.new ≡ L.table lock.old) }
     ensures same_held { OnErr result (held.new ≡ held.old) }
     ensures kind { IfErr result (λ e. MayRefuseLock (L.table lock.old) e) }
 {
-    let given = lock.lock(alloc, key, stale_writer, now)?;
-    if let Some(older) = held.replace(given) {
+    let new = lock.lock(alloc, key, stale_writer, now)?;
+    let given = LockName::of(&new);
+    let replaced = name_of(held);
+    if let Some(older) = held.replace(new) {
         lock.drop_lock(older);
     }
-    Ok(())
+    Ok(AskedLock { given, replaced })
+}
+
+// Asks for a key's lock where what was found under it is not served as it is and a lock is in use.
+fn ask_for_found<L: CacheKeyLock>(
+    alloc: Global,
+    is_used: bool,
+    held: &mut Option<Locked>,
+    lock: &mut L,
+    key: &CacheKey,
+    status: HitStatus,
+    now: Moment,
+) -> Result<Option<AskedLock>>
+    ensures asked { IfOk result (λ a. a ≡ cond (is_used && not (phases.is_fresh status)) (Some (asked_with (phases.is_stale status) (L.table lock.old) key.now held.old)) None) }
+    ensures held { OnOk result (held.new ≡ cond (is_used && not (phases.is_fresh status)) (Some (given (L.table lock.old) (phases.is_stale status) (holder (L.table lock.old) (slot key.now)))) held.old) }
+    ensures table { OnOk result (L.table lock.new ≡ cond (is_used && not (phases.is_fresh status)) (table_asked (phases.is_stale status) now (Some key.now) held.old (L.table lock.old)) (L.table lock.old)) }
+    ensures same_table { OnErr result (L.table lock.new ≡ L.table lock.old) }
+    ensures same_held { OnErr result (held.new ≡ held.old) }
+    ensures kind { IfErr result (λ e. MayRefuseLock (L.table lock.old) e) }
+    ensures asks { OnErr result (IsTrue (is_used && not (phases.is_fresh status))) }
+{
+    if !is_used || status.is_fresh() {
+        return Ok(None);
+    }
+    let asked = take_lock(alloc, held, lock, key, status.is_stale(), now)?;
+    Ok(Some(asked))
 }
 
 // Releases what is held: a permit with a status, which needs no key of its own; a read lock is let go.
+// Answers what it was.
 fn settle<L: CacheKeyLock>(
     alloc: Global,
     key: &Option<CacheKey>,
     held: &mut Option<Locked>,
     lock: &mut L,
     status: LockStatus,
-)
+) -> Option<LockName>
     requires { IsReason status }
+    ensures released { result ≡ option_map name_of held.old }
     ensures held { held.new ≡ None }
     ensures table { L.table lock.new ≡ settled status held.old (L.table lock.old) }
 {
+    let released = name_of(held);
     match held.take() {
         Some(Locked::Write(permit)) => match key {
             Some(key) => lock.release(key, permit, status),
@@ -119,6 +163,7 @@ fn settle<L: CacheKeyLock>(
         Some(Locked::Read(read)) => lock.drop_lock(Locked::Read(read)),
         None => {}
     }
+    released
 }
 
 // The reader that follows a write, where the store has one by this tag.
@@ -147,14 +192,15 @@ fn entry_for(key: &CacheKey, id: Option<CacheEntryId>) -> Result<CacheEntryKey>
     Ok(CacheEntryKey::from_entry_id(key.to_compact()?, id))
 }
 
-// Notes the use of a body that counts and is not passed over.
+// Notes the use of a body that counts and is not passed over, and answers what was noted.
 fn note_access<S: Storage, E: EvictionManager>(
     eviction: &mut E,
     key: &CacheKey,
     meta: &CacheMeta,
     hit: &S::Hit,
     status: HitStatus,
-) -> Result<()>
+) -> Result<Option<Access>>
+    ensures access { IfOk result (λ a. a ≡ cond (counts_access (S.Hit.reader hit.now) && not (phases.is_treated_as_miss status)) (Some (record { entry = entry_of key.now (S.Hit.entry_number hit.now); weight = reader_weight (S.Hit.reader hit.now) })) None) }
     ensures tracked { OnOk result (E.tracked eviction.new ≡ cond (counts_access (S.Hit.reader hit.now) && not (phases.is_treated_as_miss status)) (added (E.tracked eviction.old) (entry_of key.now (S.Hit.entry_number hit.now)) (reader_weight (S.Hit.reader hit.now))) (E.tracked eviction.old)) }
     ensures err { OnErr result (E.tracked eviction.new ≡ E.tracked eviction.old) }
     ensures limits { E.limits eviction.new ≡ E.limits eviction.old }
@@ -162,11 +208,37 @@ fn note_access<S: Storage, E: EvictionManager>(
     ensures kind { IfErr result (λ e. e ≡ OutOfMemory) }
 {
     if !hit.should_count_access() || status.is_treated_as_miss() {
-        return Ok(());
+        return Ok(None);
     }
     let entry = entry_for(key, hit.entry_id())?;
-    eviction.access(&entry, hit.get_eviction_weight(), meta.fresh_until())?;
-    Ok(())
+    let weight = hit.get_eviction_weight();
+    eviction.access(&entry, weight, meta.fresh_until())?;
+    Ok(Some(Access { entry, weight }))
+}
+
+// Takes what a removal took out of the storage out of a manager in use too, and answers it.
+fn untrack<E: EvictionManager>(
+    eviction: &mut E,
+    is_used: bool,
+    key: CompactCacheKey,
+    outcome: &PurgeOutcome,
+) -> Option<CacheEntryKey>
+    ensures untracked { result ≡ untracked is_used key outcome.now }
+    ensures tracked { E.tracked eviction.new ≡ tracked_gone is_used key outcome.now (E.tracked eviction.old) }
+    ensures limits { E.limits eviction.new ≡ E.limits eviction.old }
+    ensures evicted { E.evicted eviction.new ≡ E.evicted eviction.old }
+{
+    if !is_used {
+        return None;
+    }
+    match outcome {
+        PurgeOutcome::Purged(id) => {
+            let entry = CacheEntryKey::from_entry_id(key, *id);
+            eviction.remove(&entry);
+            Some(entry)
+        }
+        PurgeOutcome::NotFound | PurgeOutcome::Expired => None,
+    }
 }
 
 // The phase that what was found brings.
@@ -196,7 +268,7 @@ impl<S: Storage> HttpCache<S> {
     ghost use Rattle.std.specs.Prelude.{◌≡◌, ◌≢◌, ◌↔◌, ◌⊎◌, ℕ, true, false, cond, IfOk, IfErr, IfSome, OnOk, OnErr, IsTrue, IsSome, Option, Some, None, option_map, is_some, ◌&&◌};
     ghost use Rattle.std.specs.Borrow.{Lends, LendsIf, sem};
     ghost use Rattle.pcache_base.specs.Key.{Key, slot};
-    ghost use Rattle.pcache_base.specs.declared.error.ErrorType.TheVariants.{OutOfMemory};
+    ghost use Rattle.pcache_base.specs.declared.error.ErrorType.TheVariants.{OutOfMemory, NumbersExhausted};
     ghost use Rattle.pcache_lock.specs.Locks.{MayRefuseLock};
     ghost use Rattle.pcache_lock.specs.declared.lock.status.LockStatus.TheVariants.{Done};
     ghost use Rattle.pcache_store.specs.Store.{followed, left, read_of, reader_after};
@@ -204,7 +276,8 @@ impl<S: Storage> HttpCache<S> {
     ghost use Rattle.pcache_store.specs.Purge.{purge_answer, purged_at};
     ghost use Rattle.pcache_store.specs.Refusals.{MayRefuseWrite};
     ghost use Rattle.pcache_request.specs.Phases.{IsDisabled, MayTakeKey, MayLookUp, MayMiss, IsFilling, IsReading, MayPurge, is_filling};
-    ghost use Rattle.pcache_request.specs.Requests.{Request, HasKey, new_request, fresh_request, with_key, found_for, looked, table_looked, found_row, store_found, table_found, tracked_found, missed, MayTakeMeta, with_meta, MayWrite, writing, store_writing, begun_for, settled, left_by, dropped_by, let_go_by, tracked_gone_for, is_removed_by};
+    ghost use Rattle.pcache_request.specs.Requests.{Request, HasKey, new_request, fresh_request, with_key, found_for, looked, asks_for_miss, table_looked, found_row, asks_for_hit, store_found, table_found, tracked_found, missed, MayTakeMeta, with_meta, MayWrite, writing, store_writing, begun_for, settled, left_by, dropped_by, let_go_by, tracked_gone_for, is_removed_by};
+    ghost use Rattle.pcache_request.specs.Reports.{name_of, asked_in_look_up, asked_by_found, access_by_found, untracked_for};
     ghost use Rattle.pcache_request.specs.contracts.cache.HttpCache.{the_row};
 
     /// A request for which caching was never turned on.
@@ -307,30 +380,63 @@ impl<S: Storage> HttpCache<S> {
         ensures same_store { OnErr result (S.state storage.new ≡ S.state storage.old) }
         ensures same_table { OnErr result (L.table lock.new ≡ L.table lock.old) }
         ensures kind { IfErr result (λ e. MayRefuseLock (L.table lock.old) e) }
+        ensures numbers { IfErr result (λ e. e ≡ NumbersExhausted → IsTrue (asks_for_miss (S.state storage.old) self.old)) }
     {
-        let Some(key) = &self.key else { unreachable!() };
-        let found = storage.lookup(self.alloc, key)?;
-        if found.is_none() && self.uses.lock {
-            if let Err(refused) = take_lock(self.alloc, &mut self.held, lock, key, false, now) {
-                if let Some((_meta, hit)) = found {
-                    hit.let_go(storage);
-                }
-                return Err(refused);
-            }
-        }
+        let LookUp { found, asked: _ } = self.look_up(storage, lock, now)?;
         Ok(found)
     }
 
+    /// What `cache_lookup` does, with the lock that was asked for.
+    pub fn look_up<L: CacheKeyLock>(
+        &mut self,
+        storage: &mut S,
+        lock: &mut L,
+        now: Moment,
+    ) -> Result<LookUp<S::Hit>>
+        requires { MayLookUp self.old.phase }
+        ensures found { IfOk result (λ r. option_map (λ p. (p.0, S.Hit.reader p.1)) r.found ≡ found_for (S.state storage.old) self.old.key) }
+        ensures asked { IfOk result (λ r. r.asked ≡ asked_in_look_up (S.state storage.old) (L.table lock.old) self.old) }
+        ensures request { OnOk result (self.new ≡ looked (S.state storage.old) (L.table lock.old) self.old) }
+        ensures store { OnOk result (S.state storage.new ≡ followed (S.state storage.old) (found_for (S.state storage.old) self.old.key)) }
+        ensures table { OnOk result (L.table lock.new ≡ table_looked (S.state storage.old) now self.old (L.table lock.old)) }
+        ensures same_request { OnErr result (self.new ≡ self.old) }
+        ensures same_store { OnErr result (S.state storage.new ≡ S.state storage.old) }
+        ensures same_table { OnErr result (L.table lock.new ≡ L.table lock.old) }
+        ensures kind { IfErr result (λ e. MayRefuseLock (L.table lock.old) e) }
+        ensures numbers { IfErr result (λ e. e ≡ NumbersExhausted → IsTrue (asks_for_miss (S.state storage.old) self.old)) }
+    {
+        let Some(key) = &self.key else { unreachable!() };
+        if let Some(pair) = storage.lookup(self.alloc, key)? {
+            return Ok(LookUp {
+                found: Some(pair),
+                asked: None,
+            });
+        }
+        if !self.uses.lock {
+            return Ok(LookUp {
+                found: None,
+                asked: None,
+            });
+        }
+        let asked = take_lock(self.alloc, &mut self.held, lock, key, false, now)?;
+        Ok(LookUp {
+            found: None,
+            asked: Some(asked),
+        })
+    }
+
     /// Notes the use of what a look-up found, where a manager is in use and the hit counts and is not
-    /// passed over. It is refused for want of memory alone, and changes nothing then.
+    /// passed over. Answers the entry whose use was noted. It is refused for want of memory alone, and
+    /// changes nothing then.
     pub fn note_found<E: EvictionManager>(
         &self,
         eviction: &mut E,
         meta: &CacheMeta,
         hit: &S::Hit,
         status: HitStatus,
-    ) -> Result<()>
+    ) -> Result<Option<Access>>
         requires { MayLookUp self.now.phase }
+        ensures access { IfOk result (λ a. a ≡ access_by_found status (S.Hit.reader hit.now) (S.Hit.entry_number hit.now) self.now) }
         ensures tracked { OnOk result (E.tracked eviction.new ≡ tracked_found status (S.Hit.reader hit.now) (S.Hit.entry_number hit.now) self.now (E.tracked eviction.old)) }
         ensures err { OnErr result (E.tracked eviction.new ≡ E.tracked eviction.old) }
         ensures limits { E.limits eviction.new ≡ E.limits eviction.old }
@@ -338,15 +444,15 @@ impl<S: Storage> HttpCache<S> {
         ensures kind { IfErr result (λ e. e ≡ OutOfMemory) }
     {
         let Some(key) = &self.key else { unreachable!() };
-        if self.uses.eviction {
-            note_access::<S, E>(eviction, key, meta, hit, status)?;
+        if !self.uses.eviction {
+            return Ok(None);
         }
-        Ok(())
+        note_access::<S, E>(eviction, key, meta, hit, status)
     }
 
     /// Takes what a look-up found, whose use was noted. A fresh hit is served; a stale one may be
     /// renewed, and one that is treated as a miss is let go: both ask for the lock where one is in use.
-    /// Refused, it lets the hit go.
+    /// Answers the lock that was asked for. Refused, it lets the hit go.
     pub fn take_found<L: CacheKeyLock>(
         &mut self,
         storage: &mut S,
@@ -355,8 +461,9 @@ impl<S: Storage> HttpCache<S> {
         hit: S::Hit,
         status: HitStatus,
         now: Moment,
-    ) -> Result<()>
+    ) -> Result<Option<AskedLock>>
         requires { MayLookUp self.old.phase }
+        ensures asked { IfOk result (λ a. a ≡ asked_by_found status (L.table lock.old) self.old) }
         ensures request { OnOk result (self.new ≡ found_row status meta (S.Hit.reader hit) (L.table lock.old) self.old) }
         ensures store { OnOk result (S.state storage.new ≡ store_found status (S.Hit.reader hit) self.old (S.state storage.old)) }
         ensures table { OnOk result (L.table lock.new ≡ table_found status now self.old (L.table lock.old)) }
@@ -364,21 +471,24 @@ impl<S: Storage> HttpCache<S> {
         ensures left_store { OnErr result (S.state storage.new ≡ left (S.state storage.old) (S.Hit.reader hit)) }
         ensures same_table { OnErr result (L.table lock.new ≡ L.table lock.old) }
         ensures kind { IfErr result (λ e. MayRefuseLock (L.table lock.old) e) }
+        ensures numbers { IfErr result (λ e. e ≡ NumbersExhausted → IsTrue (asks_for_hit status self.old)) }
     {
         let Some(key) = &self.key else { unreachable!() };
-        if self.uses.lock && !status.is_fresh() {
-            if let Err(refused) = take_lock(
-                self.alloc,
-                &mut self.held,
-                lock,
-                key,
-                status.is_stale(),
-                now,
-            ) {
+        let asked = match ask_for_found(
+            self.alloc,
+            self.uses.lock,
+            &mut self.held,
+            lock,
+            key,
+            status,
+            now,
+        ) {
+            Ok(asked) => asked,
+            Err(refused) => {
                 hit.let_go(storage);
                 return Err(refused);
             }
-        }
+        };
         self.phase = phase_found(status, self.phase);
         if status.is_treated_as_miss() {
             hit.let_go(storage);
@@ -388,7 +498,7 @@ impl<S: Storage> HttpCache<S> {
             self.meta = Some(meta);
             replace_reader(&mut self.reader, Some(hit), storage);
         }
-        Ok(())
+        Ok(asked)
     }
 
     /// Takes what a look-up found: what `note_found` does, and then what `take_found` does. Refused,
@@ -415,12 +525,14 @@ impl<S: Storage> HttpCache<S> {
         ensures limits { E.limits eviction.new ≡ E.limits eviction.old }
         ensures evicted { E.evicted eviction.new ≡ E.evicted eviction.old }
         ensures kind { IfErr result (λ e. MayRefuseLock (L.table lock.old) e) }
+        ensures numbers { IfErr result (λ e. e ≡ NumbersExhausted → IsTrue (asks_for_hit status self.old)) }
     {
         if let Err(refused) = self.note_found(eviction, &meta, &hit, status) {
             hit.let_go(storage);
             return Err(refused);
         }
-        self.take_found(storage, lock, meta, hit, status, now)
+        self.take_found(storage, lock, meta, hit, status, now)?;
+        Ok(())
     }
 
     /// Goes on as a miss.
@@ -512,6 +624,30 @@ impl<S: Storage> HttpCache<S> {
             ⊎ ((self.new ≡ record self.old { write = Some (S.state storage.old).next; entry = S.next_entry storage.old; held = None }) × (S.state storage.new ≡ begun_for self.old.key self.old.meta (S.state storage.old)) × (L.table lock.new ≡ settled Done self.old.held (L.table lock.old)) × (e ≡ OutOfMemory))) }
         ensures kind { IfErr result (λ e. (e ≡ OutOfMemory) ⊎ MayRefuseWrite (S.state storage.old) e) }
     {
+        self.begin_write(storage, lock)?.joined
+    }
+
+    /// What `set_miss_handler` does, told apart by how far it came: refused, it changes nothing; else
+    /// the write has begun, also where the reader could not join it.
+    pub fn begin_write<L: CacheKeyLock>(
+        &mut self,
+        storage: &mut S,
+        lock: &mut L,
+    ) -> Result<WriteBegin>
+        requires { MayWrite self.old }
+        ensures released { IfOk result (λ b. b.released ≡ cond (S.streams storage.old) (option_map name_of self.old.held) None) }
+        ensures request { IfOk result (λ b. OnOk b.joined (self.new ≡ writing (S.streams storage.old) (S.state storage.old).next (S.next_entry storage.old) (begun_for self.old.key self.old.meta (S.state storage.old)) self.old)) }
+        ensures store { IfOk result (λ b. OnOk b.joined (S.state storage.new ≡ store_writing (S.streams storage.old) (S.state storage.old).next self.old (S.state storage.old))) }
+        ensures table { OnOk result (L.table lock.new ≡ cond (S.streams storage.old) (settled Done self.old.held (L.table lock.old)) (L.table lock.old)) }
+        ensures unjoined_streams { IfOk result (λ b. OnErr b.joined (S.streams storage.old ≡ true)) }
+        ensures unjoined_request { IfOk result (λ b. OnErr b.joined (self.new ≡ record self.old { write = Some (S.state storage.old).next; entry = S.next_entry storage.old; held = None })) }
+        ensures unjoined_store { IfOk result (λ b. OnErr b.joined (S.state storage.new ≡ begun_for self.old.key self.old.meta (S.state storage.old))) }
+        ensures unjoined_kind { IfOk result (λ b. IfErr b.joined (λ e. e ≡ OutOfMemory)) }
+        ensures same_request { OnErr result (self.new ≡ self.old) }
+        ensures same_store { OnErr result (S.state storage.new ≡ S.state storage.old) }
+        ensures same_table { OnErr result (L.table lock.new ≡ L.table lock.old) }
+        ensures kind { IfErr result (λ e. MayRefuseWrite (S.state storage.old) e) }
+    {
         let Some(key) = &self.key else { unreachable!() };
         let Some(meta) = &self.meta else {
             unreachable!()
@@ -520,9 +656,12 @@ impl<S: Storage> HttpCache<S> {
         let writer = storage.get_miss_handler(self.alloc, key, meta)?;
         put(&mut self.writer, writer);
         if !streams {
-            return Ok(());
+            return Ok(WriteBegin {
+                released: None,
+                joined: Ok(()),
+            });
         }
-        settle(
+        let released = settle(
             self.alloc,
             &self.key,
             &mut self.held,
@@ -532,9 +671,14 @@ impl<S: Storage> HttpCache<S> {
         let Some(writer) = &self.writer else {
             unreachable!()
         };
-        let joined = join_write(self.alloc, storage, key, writer.streaming_write_tag())?;
-        replace_reader(&mut self.reader, joined, storage);
-        Ok(())
+        let joined = match join_write(self.alloc, storage, key, writer.streaming_write_tag()) {
+            Ok(reader) => {
+                replace_reader(&mut self.reader, reader, storage);
+                Ok(())
+            }
+            Err(refused) => Err(refused),
+        };
+        Ok(WriteBegin { released, joined })
     }
 
     /// The handler of the write, where there is one.
@@ -564,22 +708,38 @@ impl<S: Storage> HttpCache<S> {
         ensures evicted { E.evicted eviction.new ≡ E.evicted eviction.old }
         ensures kind { S.always_purges ≡ true → IfErr result (λ e. e ≡ OutOfMemory) }
     {
+        Ok(self.purge_key(storage, eviction)?.was_there())
+    }
+
+    /// What `purge` does, with what the storage found and the entry that was taken out.
+    pub fn purge_key<E: EvictionManager>(
+        &mut self,
+        storage: &mut S,
+        eviction: &mut E,
+    ) -> Result<Removal>
+        requires { MayPurge self.old.phase }
+        ensures same { self.new ≡ self.old }
+        ensures outcome { IfOk result (λ r. r.outcome ≡ purge_answer (S.state storage.old) (option_map slot self.old.key)) }
+        ensures untracked { IfOk result (λ r. r.untracked ≡ untracked_for self.old.uses.eviction self.old.key r.outcome) }
+        ensures store { OnOk result (S.state storage.new ≡ purged_at (S.state storage.old) (option_map slot self.old.key)) }
+        ensures tracked { OnOk result (E.tracked eviction.new ≡ tracked_gone_for self.old.uses.eviction self.old.key (purge_answer (S.state storage.old) (option_map slot self.old.key)) (E.tracked eviction.old)) }
+        ensures same_store { OnErr result (S.state storage.new ≡ S.state storage.old) }
+        ensures same_tracked { OnErr result (E.tracked eviction.new ≡ E.tracked eviction.old) }
+        ensures limits { E.limits eviction.new ≡ E.limits eviction.old }
+        ensures evicted { E.evicted eviction.new ≡ E.evicted eviction.old }
+        ensures kind { IfErr result (λ e. e ≡ OutOfMemory) }
+    {
         let Some(key) = &self.key else { unreachable!() };
         let compact = key.to_compact()?;
-        match storage.purge(PurgeTarget::Active(&compact), PurgeType::Invalidation)? {
-            PurgeOutcome::NotFound => Ok(false),
-            PurgeOutcome::Expired => Ok(true),
-            PurgeOutcome::Purged(id) => {
-                if self.uses.eviction {
-                    eviction.remove(&CacheEntryKey::from_entry_id(compact, id));
-                }
-                Ok(true)
-            }
-        }
+        let outcome = storage.purge(PurgeTarget::Active(&compact), PurgeType::Invalidation)?;
+        let untracked = untrack(eviction, self.uses.eviction, compact, &outcome);
+        Ok(Removal { outcome, untracked })
     }
 
     /// Gives back all that is held: the write is dropped, a permit dangles, the rest is let go.
-    pub fn end<L: CacheKeyLock>(self, storage: &mut S, lock: &mut L)
+    /// Answers the lock that was let go.
+    pub fn end<L: CacheKeyLock>(self, storage: &mut S, lock: &mut L) -> Option<LockName>
+        ensures let_go { result ≡ option_map name_of self.held }
         ensures store { S.state storage.new ≡ left_by self.reader (dropped_by self.write (S.state storage.old)) }
         ensures table { L.table lock.new ≡ let_go_by self.held (L.table lock.old) }
     {
@@ -596,12 +756,14 @@ impl<S: Storage> HttpCache<S> {
         if let Some(writer) = writer {
             writer.drop_write(storage);
         }
+        let let_go = name_of(&held);
         if let Some(held) = held {
             lock.drop_lock(held);
         }
         if let Some(reader) = reader {
             reader.let_go(storage);
         }
+        let_go
     }
 }
 

@@ -99,8 +99,66 @@ fn fill(
     );
     assert!(rt; cache.phase().is_filling());
     let again = cache.end_write(&mut parts.store, &mut parts.manager, &mut parts.lock);
-    assert!(rt; matches!(again, WriteEnd::Nothing));
+    assert!(rt; matches!(again.end, WriteEnd::Nothing) && again.released.is_none());
     Ok(())
+}
+
+// Looks the key up twice, and stores an empty body: each call tells of the locks and of the entry.
+fn fill_telling(
+    rt: &impl Abort,
+    parts: &mut Parts,
+    cache: &mut HttpCache<MemCache>,
+) -> std::result::Result<(), Fail> {
+    let first = ask(rt, parts, cache)?;
+    let Some(
+        AskedLock {
+            given: permit,
+            replaced: None,
+        },
+    ) = first
+    else {
+        panic!(rt; "nothing was held")
+    };
+    assert!(rt; permit.is_permit);
+    let again = ask(rt, parts, cache)?;
+    let wait = LockName {
+        number: permit.number,
+        is_permit: false,
+    };
+    assert_eq!(rt;
+        again,
+        Some(AskedLock {
+            given: wait,
+            replaced: Some(permit)
+        })
+    );
+    assert!(rt; cache.phase().may_miss());
+    cache.cache_miss();
+    assert!(rt; cache.may_take_meta());
+    cache.set_cache_meta(meta_until(parts.alloc, 60));
+    assert!(rt; cache.may_write());
+    let begun = cache.begin_write(&mut parts.store, &mut parts.lock)?;
+    assert!(rt; begun.joined.is_ok() && begun.released == Some(wait));
+    assert!(rt; cache.phase().is_filling());
+    let ended = cache.end_write(&mut parts.store, &mut parts.manager, &mut parts.lock);
+    assert!(rt; matches!(&ended.end, WriteEnd::Stored(report) if report.size == 0));
+    assert!(rt; ended.entry.is_some() && ended.released.is_none());
+    Ok(())
+}
+
+// Looks for the key, which is not there, and answers the lock that was asked for.
+fn ask(
+    rt: &impl Abort,
+    parts: &mut Parts,
+    cache: &mut HttpCache<MemCache>,
+) -> std::result::Result<Option<AskedLock>, Fail> {
+    assert!(rt; cache.phase().may_look_up());
+    let LookUp { found, asked } = cache.look_up(&mut parts.store, &mut parts.lock, Moment::EPOCH)?;
+    if let Some((_meta, hit)) = found {
+        hit.let_go(&mut parts.store);
+        panic!(rt; "nothing was stored");
+    }
+    Ok(asked)
 }
 
 // Looks the key up, and takes the hit with this status.
@@ -155,11 +213,11 @@ fn purge(
     parts: &mut Parts,
     cache: &mut HttpCache<MemCache>,
 ) -> std::result::Result<(), Fail> {
-    for wanted in [true, false] {
-        assert!(rt; cache.phase().may_purge());
-        let was_there = cache.purge(&mut parts.store, &mut parts.manager)?;
-        assert_eq!(rt; was_there, wanted);
-    }
+    assert!(rt; cache.phase().may_purge());
+    let removal = cache.purge_key(&mut parts.store, &mut parts.manager)?;
+    assert!(rt; removal.was_there() && removal.untracked.is_some());
+    assert!(rt; cache.phase().may_purge());
+    assert!(rt; !cache.purge(&mut parts.store, &mut parts.manager)?);
     Ok(())
 }
 
@@ -167,6 +225,7 @@ fn purge(
 #[derive(Clone, Copy)]
 enum Errand {
     Fill,
+    FillTelling,
     Serve,
     Purge,
 }
@@ -182,6 +241,7 @@ fn run(
     start(rt, &mut cache, key);
     let done = match errand {
         Errand::Fill => fill(rt, parts, &mut cache),
+        Errand::FillTelling => fill_telling(rt, parts, &mut cache),
         Errand::Serve => serve(rt, parts, &mut cache),
         Errand::Purge => purge(rt, parts, &mut cache),
     };
@@ -208,4 +268,13 @@ fn a_body_is_stored_read_and_purged(rt: HostRuntime) -> std::result::Result<(), 
         (0, 0)
     );
     Ok(())
+}
+
+#[test]
+fn calls_tell_what_they_did(rt: HostRuntime) -> std::result::Result<(), Fail> {
+    let alloc = rt.alloc();
+    let mut parts = Parts::new(alloc)?;
+    let key = key_of(alloc, "k")?;
+    run(&rt, &mut parts, key.copied()?, Errand::FillTelling)?;
+    run(&rt, &mut parts, key, Errand::Purge)
 }

@@ -1,0 +1,56 @@
+-- What calls tell of what they did (own).
+use Rattle.std.specs.Prelude.{ℕ, Bool, true, false, Option, Some, None, cond, option_map}
+use Rattle.pcache_base.specs.CompactKey.{compact_of}
+use Rattle.pcache_base.specs.Key.{Key, slot}
+use Rattle.pcache_base.specs.declared.key.CompactCacheKey.{CompactCacheKey}
+use Rattle.pcache_evict.specs.Entry.{entry_with}
+use Rattle.pcache_evict.specs.declared.eviction.entry_key.CacheEntryKey.{CacheEntryKey}
+use Rattle.pcache_lock.specs.Locks.{Locks, given, holder, is_permit, number_of_lock}
+use Rattle.pcache_lock.specs.declared.lock.permit.Locked.{Locked}
+use Rattle.pcache_store.specs.Store.{Store, Reader, reader_weight}
+use Rattle.pcache_store.specs.declared.storage.PurgeOutcome.{PurgeOutcome}
+use Rattle.pcache_store.specs.declared.storage.PurgeOutcome.TheVariants.{NotFound, Purged, Expired}
+use Rattle.pcache_request.specs.Phases.{is_stale}
+use Rattle.pcache_request.specs.Requests.{Request, entry_of, asks_for_miss, asks_for_hit, counts_found}
+use Rattle.pcache_request.specs.declared.phase.HitStatus.{HitStatus}
+use Rattle.pcache_request.specs.declared.cache.report.LockName.{LockName}
+use Rattle.pcache_request.specs.declared.cache.report.AskedLock.{AskedLock}
+use Rattle.pcache_request.specs.declared.cache.report.Access.{Access}
+use Rattle.pcache_request.specs.declared.cache.finish.WriteEnd.{WriteEnd}
+use Rattle.pcache_request.specs.declared.cache.finish.WriteEnd.TheVariants as end
+
+-- a lock by its number, and whether it is the permit
+abbrev pub name_of : Locked → LockName
+name_of l = record { number = number_of_lock l; is_permit = is_permit l }
+
+-- the lock of a key that is asked for while this one is held
+abbrev pub asked_with : Bool → Locks → Key → Option Locked → AskedLock
+asked_with stale t k h = record { given = name_of (given t stale (holder t (slot k))); replaced = option_map name_of h }
+
+-- the lock that a look-up asks for, and that which a found pair asks for
+abbrev pub asked_in_look_up : Store → Locks → Request → Option AskedLock
+asked_in_look_up s t r = cond (asks_for_miss s r) (option_map (λ k. asked_with false t k r.held) r.key) None
+
+abbrev pub asked_by_found : HitStatus → Locks → Request → Option AskedLock
+asked_by_found s t r = cond (asks_for_hit s r) (option_map (λ k. asked_with (is_stale s) t k r.held) r.key) None
+
+-- the access of a found hit that counts
+abbrev pub access_by_found : HitStatus → Reader → Option ℕ → Request → Option Access
+access_by_found s h id r = cond (counts_found s h r) (option_map (λ k. record { entry = entry_of k id; weight = reader_weight h }) r.key) None
+
+-- the entry of a body that was stored for good
+abbrev pub entry_stored : Option Key → Option ℕ → WriteEnd → Option CacheEntryKey
+entry_stored k id end.Nothing = None
+entry_stored k id (end.Stored f) = option_map (λ k. entry_of k id) k
+entry_stored k id (end.Dropped e) = None
+entry_stored k id (end.Withdrawn e) = None
+
+-- the entry that a removal takes out of a manager in use
+abbrev pub untracked : Bool → CompactCacheKey → PurgeOutcome → Option CacheEntryKey
+untracked uses k NotFound = None
+untracked uses k (Purged id) = cond uses (Some (entry_with k id)) None
+untracked uses k Expired = None
+
+abbrev pub untracked_for : Bool → Option Key → PurgeOutcome → Option CacheEntryKey
+untracked_for uses None o = None
+untracked_for uses (Some k) o = untracked uses (compact_of k) o

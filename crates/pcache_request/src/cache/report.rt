@@ -1,0 +1,98 @@
+//! What calls tell of what they did, for callers who keep a history.
+//!
+//! A report takes no memory of its own: an entry in it was made for the call itself.
+ghost use Rattle.std.specs.Prelude.{◌≡◌};
+ghost use Rattle.pcache_request.specs.Reports.{name_of};
+ghost use Rattle.pcache_request.specs.Requests.{is_removed_by};
+
+use super::finish::WriteEnd;
+use pcache_base::error::Error;
+use pcache_evict::eviction::CacheEntryKey;
+use pcache_lock::lock::Locked;
+use pcache_meta::meta::CacheMeta;
+use pcache_store::storage::PurgeOutcome;
+
+/// A lock, by its number.
+#[derive(Clone, Copy, Debug, PartialEq, Eq)]
+pub struct LockName {
+    /// The number that the lock table gave it.
+    pub number: u64,
+    /// Whether it is the permit, and not a wait for it.
+    pub is_permit: bool,
+}
+
+impl LockName {
+    /// The name of a lock.
+    pub fn of(lock: &Locked) -> LockName
+        ensures { result ≡ name_of lock.now }
+    {
+        LockName {
+            number: lock.number(),
+            is_permit: lock.is_write(),
+        }
+    }
+}
+
+/// A lock that was asked for.
+#[derive(Clone, Copy, Debug, PartialEq, Eq)]
+pub struct AskedLock {
+    /// What was given, which is held now.
+    pub given: LockName,
+    /// What was held before, which was let go.
+    pub replaced: Option<LockName>,
+}
+
+/// The use of an entry that a manager was told of.
+#[derive(Debug, Drop)]
+pub struct Access {
+    /// The entry.
+    pub entry: CacheEntryKey,
+    /// The weight that it came in with, where it was missing.
+    pub weight: usize,
+}
+
+/// What a look-up gave. What it found has to be taken or let go.
+pub struct LookUp<H> {
+    /// The meta and the reader of what stands under the key.
+    pub found: Option<(CacheMeta, H)>,
+    /// The lock, where it was asked for.
+    pub asked: Option<AskedLock>,
+}
+
+/// What the begin of a write gave.
+#[derive(Debug, Drop)]
+pub struct WriteBegin {
+    /// The lock that was released.
+    pub released: Option<LockName>,
+    /// Whether the reader follows the write, in a storage where it can, or why not.
+    pub joined: Result<(), Error>,
+}
+
+/// What the end of a write gave.
+#[derive(Debug, Drop)]
+pub struct WriteReport {
+    /// How it went.
+    pub end: WriteEnd,
+    /// The entry of the body, where one was stored for good.
+    pub entry: Option<CacheEntryKey>,
+    /// The lock that was released.
+    pub released: Option<LockName>,
+}
+
+/// What a removal gave.
+#[derive(Debug, Drop)]
+pub struct Removal {
+    /// What the storage found.
+    pub outcome: PurgeOutcome,
+    /// The entry that was taken out of the manager.
+    pub untracked: Option<CacheEntryKey>,
+}
+
+impl Removal {
+    /// Whether anything was there.
+    pub fn was_there(&self) -> bool
+        ensures { result ≡ is_removed_by self.now.outcome }
+    {
+        !matches!(self.outcome, PurgeOutcome::NotFound)
+    }
+}
