@@ -47,7 +47,7 @@ impl OpenRequest {
         let OpenRequest { cache, mut pair } = self;
         hold(&mut pair, None, store);
         let None = pair else { unreachable!() };
-        cache.end(store, lock);
+        let _ = cache.end(store, lock);
     }
 }
 
