@@ -30,6 +30,7 @@ pub fn write_reply<W: Write>(output: &mut W, reply: &Reply) -> io::Result<()> {
         Reply::Finished => writeln!(output, "end"),
         Reply::Purged => writeln!(output, "purged"),
         Reply::Absent => writeln!(output, "absent"),
+        Reply::Phase(phase) => writeln!(output, "{}", phase.as_str()),
     }
 }
 

@@ -111,6 +111,7 @@ fn read_call(
             status: status(words.word()?)?,
             now,
         }),
+        b"bypass" => Ok(Call::Bypass { request }),
         b"miss" => Ok(Call::Miss { request }),
         b"meta" => Ok(Call::Meta {
             request,
@@ -129,6 +130,7 @@ fn read_call(
         b"finish" => Ok(Call::Finish { request }),
         b"read" => Ok(Call::Read { request }),
         b"purge" => Ok(Call::Purge { request }),
+        b"phase" => Ok(Call::Phase { request }),
         b"end" => Ok(Call::End { request }),
         _ => Err(Unread::BadCall),
     }

@@ -522,3 +522,14 @@ fn escapes_and_the_last_bytes(rt: HostRuntime) -> Result<(), Fail> {
         read 4 -> end\n";
     check(&rt, rt.alloc(), &["9"], row, 0, "")
 }
+
+#[test]
+fn a_key_is_passed_by(rt: HostRuntime) -> Result<(), Fail> {
+    let row = "open 1 -> ok\n\
+        key 1 k 1 -> ok\n\
+        bypass 1 -> ok\n\
+        phase 1 -> bypass\n\
+        look 1 -> wrong call\n\
+        miss 1 -> ok\n";
+    check(&rt, rt.alloc(), &["9"], row, 0, "")
+}

@@ -208,6 +208,7 @@ module _ (f : Facts) (es : List Event) where
       on-done (reverse events ++ es) (cond (is_taken (outcome reply)) [] got) (is_taken (outcome reply)) None (cond (is_wrong (outcome reply)) None None) tt (on-done (reverse events ++ es) (cond (is_taken (outcome reply)) [] got) (is_wrong (outcome reply)) None None tt tt)
   follow (C.Found r s t) (Some x) reply events got k (inl a) old h = found-follows (reverse events ++ es) events s x got (outcome reply) (λ _. a.0.1) h
   follow (C.Found r s t) (Some x) reply events got k (inr a) old h = found-follows (reverse events ++ es) events s x got (outcome reply) (λ is. absurd (subst (λ y. is_taken (outcome y) ≡ true → ⊥) (sym a.1.0) (λ e. cc) is)) h
+  follow (C.Bypass r) q reply events got k a old h = on-done (reverse events ++ es) got (is_done (outcome reply)) (option_map (on_request bypassed) q) q (on-each (reverse events ++ es) got (on_request bypassed) (λ x p. p) q h) h
   follow (C.Miss r) q reply events got k a old h = on-done (reverse events ++ es) got (is_done (outcome reply)) (option_map (λ x. without_pair (on_request missed x)) q) q (on-each (reverse events ++ es) got (λ x. without_pair (on_request missed x)) (λ x p. (p.0, tt)) q h) h
   follow (C.Meta r m) q reply events got k a old h = on-done (reverse events ++ es) got (is_done (outcome reply)) (option_map (on_request (with_meta m)) q) q (on-each (reverse events ++ es) got (on_request (with_meta m)) (λ x p. p) q h) h
   follow (C.Begin r) None reply events got k a old h = tt
@@ -219,6 +220,7 @@ module _ (f : Facts) (es : List Event) where
   follow (C.Read r) (Some x) reply events got k (inl a) old h = read-follows f es x got reply events k a.0 old a.2
   follow (C.Read r) (Some x) reply events got k (inr a) old h = subst (FollowsRead es x got) (sym a.1.1) (none-read es x got old)
   follow (C.Purge r) q reply events got k a old h = h
+  follow (C.Phase r) q reply events got k a old h = h
   follow (C.End r) q reply events got k a old h = on-done (reverse events ++ es) got (is_done (outcome reply)) None q tt h
 
 -- Histories.

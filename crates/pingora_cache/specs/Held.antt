@@ -9,6 +9,7 @@ use Rattle.pcache_lock.specs.declared.lock.permit.Locked.{Locked}
 use Rattle.pcache_lock.specs.declared.lock.permit.Locked.TheVariants.{Write, Read}
 use Rattle.pcache_store.specs.Store.{Reader, Whole, Part}
 use Rattle.pcache_request.specs.Phases.{is_stale}
+use Rattle.pcache_request.specs.Releasing.{bypassed}
 use Rattle.pcache_request.specs.Requests.{Request, fresh_request, with_key, missed, with_meta, placed}
 use Rattle.pcache_request.specs.declared.phase.HitStatus.{HitStatus}
 use Rattle.pcache_request.specs.declared.phase.InUse.{InUse}
@@ -32,6 +33,7 @@ number_of (C.Open r) = r
 number_of (C.Key r k) = r
 number_of (C.Look r t) = r
 number_of (C.Found r s t) = r
+number_of (C.Bypass r) = r
 number_of (C.Miss r) = r
 number_of (C.Meta r m) = r
 number_of (C.Begin r) = r
@@ -39,6 +41,7 @@ number_of (C.Write r bs eof) = r
 number_of (C.Finish r) = r
 number_of (C.Read r) = r
 number_of (C.Purge r) = r
+number_of (C.Phase r) = r
 number_of (C.End r) = r
 
 -- what a request moves by of a reply
@@ -140,6 +143,7 @@ row_by (C.Open r) o events q = cond (is_done o) (Some opened) q
 row_by (C.Key r k) o events q = cond (is_done o) (option_map (on_request (with_key k)) q) q
 row_by (C.Look r t) o events q = option_map (looked_by events) q
 row_by (C.Found r s t) o events q = cond (is_taken o) (option_map (taken_by s events) q) (cond (is_wrong o) q (option_map without_pair q))
+row_by (C.Bypass r) o events q = cond (is_done o) (option_map (on_request bypassed) q) q
 row_by (C.Miss r) o events q = cond (is_done o) (option_map (λ x. without_pair (on_request missed x)) q) q
 row_by (C.Meta r m) o events q = cond (is_done o) (option_map (on_request (with_meta m)) q) q
 row_by (C.Begin r) o events q = option_map (on_request (began (is_done o) events)) q
@@ -147,6 +151,7 @@ row_by (C.Write r bs eof) o events q = q
 row_by (C.Finish r) o events q = option_map (on_request (ended events)) q
 row_by (C.Read r) o events q = option_map (on_request (has_read events)) q
 row_by (C.Purge r) o events q = q
+row_by (C.Phase r) o events q = q
 row_by (C.End r) o events q = cond (is_done o) None q
 
 abbrev pub row : Call → Reply → List Event → Option Held → Option Held

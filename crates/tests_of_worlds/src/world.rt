@@ -26,6 +26,8 @@ enum Step {
     Key(u64, &'static str),
     Look(u64),
     Found(u64, HitStatus),
+    Bypass(u64),
+    Phase(u64),
     Miss(u64),
     Meta(u64),
     Begin(u64),
@@ -61,6 +63,8 @@ fn call_of(alloc: Global, step: Step) -> Result<Call> {
             status,
             now,
         },
+        Bypass(request) => Call::Bypass { request },
+        Phase(request) => Call::Phase { request },
         Miss(request) => Call::Miss { request },
         Meta(request) => Call::Meta {
             request,
@@ -257,6 +261,28 @@ fn calls_behind_the_key(rt: HostRuntime) -> std::result::Result<(), Fail> {
         (Finish(1), WRONG),
         (Read(1), WRONG),
         (Purge(1), "Absent"),
+    ];
+    play(&rt, rt.alloc(), 9, &[], &rows)?;
+    Ok(())
+}
+
+// A key is passed by before anything was found under it, and its request goes on as a miss.
+#[test]
+fn a_key_is_passed_by(rt: HostRuntime) -> std::result::Result<(), Fail> {
+    let rows = [
+        (Phase(1), WRONG),
+        (Open(1), "Done"),
+        (Bypass(1), WRONG),
+        (Phase(1), "Phase(Uninit)"),
+        (Key(1, "k"), "Done"),
+        (Phase(1), "Phase(CacheKey)"),
+        (Bypass(1), "Done"),
+        (Phase(1), "Phase(Bypass)"),
+        (Bypass(1), WRONG),
+        (Look(1), WRONG),
+        (Miss(1), "Done"),
+        (Phase(1), "Phase(Miss)"),
+        (Bypass(1), WRONG),
     ];
     play(&rt, rt.alloc(), 9, &[], &rows)?;
     Ok(())

@@ -34,6 +34,10 @@ pub enum Call {
         status: HitStatus,
         now: Moment,
     },
+    /// Passes the cache by.
+    Bypass {
+        request: u64,
+    },
     /// Goes on as a miss.
     Miss {
         request: u64,
@@ -65,6 +69,10 @@ pub enum Call {
     Purge {
         request: u64,
     },
+    /// Tells the phase that the request is in.
+    Phase {
+        request: u64,
+    },
     /// Gives back all that the request holds. Its number is free then.
     End {
         request: u64,
@@ -85,6 +93,7 @@ impl Call {
                 status: _,
                 now: _,
             } => request,
+            Call::Bypass { request } => request,
             Call::Miss { request } => request,
             Call::Meta { request, meta: _ } => request,
             Call::Begin { request } => request,
@@ -96,6 +105,7 @@ impl Call {
             Call::Finish { request } => request,
             Call::Read { request } => request,
             Call::Purge { request } => request,
+            Call::Phase { request } => request,
             Call::End { request } => request,
         }
     }
@@ -141,6 +151,8 @@ pub enum Reply {
     Purged,
     /// Nothing stood under the key.
     Absent,
+    /// The phase of the request.
+    Phase(CachePhase),
 }
 
 impl Reply {
@@ -169,6 +181,7 @@ impl Reply {
             Reply::Finished => Reply::Finished,
             Reply::Purged => Reply::Purged,
             Reply::Absent => Reply::Absent,
+            Reply::Phase(phase) => Reply::Phase(*phase),
         })
     }
 }
