@@ -1,5 +1,5 @@
 -- How many readers a write has, once a request was set or taken out, and that a write which a request holds is in flight.
-use Rattle.std.proofs.Common.{◌≡◌, ℕ, ◌+◌, ◌≤◌, ◌==◌, if◌then◌else◌, true, false, None, Some, List, refl, ap, subst, ◌∙◌, arith}
+use Rattle.std.proofs.Common.{◌≡◌, ℕ, ◌+◌, ◌≤◌, ◌==◌, if◌then◌else◌, true, false, Some, List, refl, ap, subst, ◌∙◌, arith}
 use Rattle.std.specs.Ordering.{nat_cmp}
 use Rattle.std.specs.Cmp.{nat_cmp_total}
 use Rattle.std.specs.FinMap.{FinMap, empty, get, insert, remove, nat_cmp-IsAntisymmetric}
@@ -29,16 +29,8 @@ module _ (all : FinMap nat_cmp Held) (r : ℕ) where
   writers-remove : (w : ℕ) → writers (remove all r) w + share (writers_in w) (get all r) ≡ writers all w
   writers-remove w = total-remove nat_cmp_total (writers_in w) nat_cmp-IsAntisymmetric all r
 
-  -- a request that was not there
-  module _ (none : get all r ≡ None) where
-    pub readers-new : (x : Held) (w : ℕ) → readers (insert all r x) w ≡ readers all w + readers_in w x
-    readers-new x w = let e = readers-insert x w in let z : share (readers_in w) (get all r) ≡ 0 = ap (share (readers_in w)) none in omega arith
-
   -- a request that is there
   module _ (old : Held) (is : get all r ≡ Some old) where
-    pub readers-moved : (x : Held) (w : ℕ) → readers (insert all r x) w + readers_in w old ≡ readers all w + readers_in w x
-    readers-moved x w = subst (λ o. readers (insert all r x) w + share (readers_in w) o ≡ readers all w + readers_in w x) is (readers-insert x w)
-
     pub readers-gone : (w : ℕ) → readers (remove all r) w + readers_in w old ≡ readers all w
     readers-gone w = subst (λ o. readers (remove all r) w + share (readers_in w) o ≡ readers all w) is (readers-remove w)
 

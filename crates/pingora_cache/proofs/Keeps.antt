@@ -4,8 +4,8 @@ use Rattle.pcache_base.specs.Key.{Key}
 use Rattle.pcache_meta.specs.Meta.{Meta}
 use Rattle.pcache_lock.specs.Locks.{Locks}
 use Rattle.pcache_request.specs.Finishing.{after_finish}
-use Rattle.pcache_request.specs.Phases.{MayTakeKey, MayLookUp, IsFilling, is_stale}
-use Rattle.pcache_request.specs.Requests.{Request, MayWrite, with_key, missed, with_meta, looked, asks_for_miss, asks_for_hit, with_lock, found_row, writing}
+use Rattle.pcache_request.specs.Phases.{MayLookUp, IsFilling, is_stale}
+use Rattle.pcache_request.specs.Requests.{Request, MayWrite, asks_for_hit, with_lock, found_row, writing}
 use Rattle.pcache_request.specs.declared.phase.CachePhase.{CachePhase}
 use Rattle.pcache_request.specs.declared.phase.CachePhase.TheVariants as phase
 use Rattle.pcache_request.specs.declared.phase.HitStatus.{HitStatus}
@@ -13,11 +13,6 @@ use Rattle.pcache_store.specs.Store.{Store, Reader}
 use Rattle.pingora_cache.specs.Due.{IsOfWorld, KeepsIn}
 
 -- phases in which no write is made
-no-key : (p : CachePhase) → MayTakeKey p → IsFilling p → ⊥
-no-key phase.Uninit may f = f
-no-key phase.CacheKey may f = f
-no-key p may f = absurd may
-
 no-look : (p : CachePhase) → MayLookUp p → IsFilling p → ⊥
 no-look phase.CacheKey may f = f
 no-look phase.Stale may f = f
@@ -36,30 +31,11 @@ keeps-like x y uses entry write at key world =
       fills = λ some. subst IsFilling (sym at) (world.fills (subst (λ (o : Option ℕ). IsSome o) write some));
     }, λ _. key)
 
-pub keeps-key : (x y : Request) (k : Key) → MayTakeKey x.phase → y ≡ with_key k x → KeepsIn x y
-keeps-key x y k may is world =
-    subst (λ (z : Request). IsOfWorld z × (IsSome z.write → z.key ≡ x.key)) (sym is)
-    (record { eviction = world.eviction; unnumbered = world.unnumbered; fills = λ some. absurd (no-key x.phase may (world.fills some)) }, λ some. absurd (no-key x.phase may (world.fills some)))
-
-pub keeps-missed : (x y : Request) → y ≡ missed x → KeepsIn x y
-keeps-missed x y is world =
-    subst (λ (z : Request). IsOfWorld z × (IsSome z.write → z.key ≡ x.key)) (sym is)
-    (record { eviction = world.eviction; unnumbered = world.unnumbered; fills = λ some. tt }, λ some. refl)
-
-pub keeps-meta : (x y : Request) (m : Meta) → y ≡ with_meta m x → KeepsIn x y
-keeps-meta x y m is = subst (KeepsIn x) (sym is) (keeps-like x (with_meta m x) refl refl refl refl refl)
-
-pub keeps-reader : (x y : Request) (o : Option Reader) → y ≡ record x { reader = o } → KeepsIn x y
-keeps-reader x y o is = subst (KeepsIn x) (sym is) (keeps-like x (record x { reader = o }) refl refl refl refl refl)
-
 -- a lock that is held
 keeps-lock : (x : Request) (b stale : Bool) (t : Locks) (k : Option Key) → KeepsIn x (cond b (with_lock stale t k x) x)
 keeps-lock x true stale t None = keeps-like x x refl refl refl refl refl
 keeps-lock x true stale t (Some k) = keeps-like x (with_lock stale t (Some k) x) refl refl refl refl refl
 keeps-lock x false stale t k = keeps-like x x refl refl refl refl refl
-
-pub keeps-looked : (x y : Request) (s : Store) (t : Locks) → y ≡ looked s t x → KeepsIn x y
-keeps-looked x y s t is = subst (KeepsIn x) (sym is) (keeps-lock x (asks_for_miss s x) false t x.key)
 
 pub keeps-found : (x y : Request) (s : HitStatus) (m : Meta) (h : Reader) (t : Locks) → MayLookUp x.phase → y ≡ found_row s m h t x → KeepsIn x y
 keeps-found x y s m h t may is world =

@@ -25,6 +25,7 @@ pub mod States
 pub mod Steps
 pub mod Sums
 pub mod Tidy
+pub mod TrackedLaws
 pub mod TurnOf
 pub mod Turned
 pub mod Uniform

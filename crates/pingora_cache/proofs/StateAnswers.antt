@@ -21,9 +21,9 @@ use Rattle.pingora_cache.specs.Events as ev
 use Rattle.pingora_cache.specs.Events.{begin_of, in_flight, is_of, is_open, is_removed, complete}
 use Rattle.pingora_cache.specs.Held.{pair_of, read_past}
 use Rattle.pingora_cache.specs.History.{Finds, HasAny, reads}
-use Rattle.pingora_cache.specs.Sound.{follows, pair_reader, IsState}
+use Rattle.pingora_cache.specs.Sound.{follows, IsState}
 use Rattle.pingora_cache.proofs.Sums.{cmp_same, same-number}
-use Rattle.pingora_cache.proofs.StateWrites.{kept_as, begun-flying, record-flying, record-read, part_of, state-followed}
+use Rattle.pingora_cache.proofs.StateWrites.{kept_as, begun-flying, record-flying, record-read, part_of}
 
 -- ---- the least number
 
@@ -110,25 +110,6 @@ kept-in ws (Some x) v h = kept-first ws (least x.fresh) x.body v h
 
 pub found-kept : (s : Store) (k w : ℕ) → part_of (find s k) ≡ Some w → is_some (get s.writes w) ≡ true
 found-kept s k w h = kept-in s.writes (get s.slots k) w h
-
-kept-flying : (ws : FinMap nat_cmp Written) (k w v : ℕ) (o : Option Written) → get ws w ≡ o → part_of (found_flying k w o) ≡ Some v → is_some (get ws v) ≡ true
-kept-flying ws k w v None e h = absurd (cc)
-kept-flying ws k w v (Some r) e h =
-    elim (r.flying && (r.slot == k)) as (λ b. part_of (cond b (Some (r.meta, Part w 0)) None) ≡ Some v → is_some (get ws v) ≡ true) [
-      | true ↦ λ h. let same : w ≡ v = cc in ap (λ x. is_some (get ws x)) (sym same) ∙ ap is_some e
-      | false ↦ λ h. absurd (cc)
-    ] h
-
-pub written-kept : (s : Store) (k : ℕ) (o : Option ℕ) (w : ℕ) → part_of (find_write s k o) ≡ Some w → is_some (get s.writes w) ≡ true
-written-kept s k None w h = absurd (cc)
-written-kept s k (Some x) w h = kept-flying s.writes k x w (get s.writes x) refl h
-
--- the store once the reader that a look-up gave follows its write
-pub state-found : (es : List Event) (n m : ℕ → ℕ) (s : Store) (k : ℕ) → ((q : ℕ) → m q ≡ n q + follows q (pair_reader (find s k))) → IsState es n s → IsState es m (followed s (find s k))
-state-found es n m s k count st = state-followed es n m s (find s k) (found-kept s k) count st
-
-pub state-found-write : (es : List Event) (n m : ℕ → ℕ) (s : Store) (k : ℕ) (o : Option ℕ) → ((q : ℕ) → m q ≡ n q + follows q (pair_reader (find_write s k o))) → IsState es n s → IsState es m (followed s (find_write s k o))
-state-found-write es n m s k o count st = state-followed es n m s (find_write s k o) (written-kept s k o) count st
 
 -- ---- a look-up
 

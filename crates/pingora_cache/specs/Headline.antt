@@ -1,15 +1,17 @@
 -- What is promised of every legal history (own).
-use Rattle.std.specs.Prelude.{◌≡◌, ℕ, ◌≤◌, Bool, true, false, Option, Some, IfSome, List, ◌∷◌, ◌⊎◌, ◌↔◌}
+use Rattle.std.specs.Prelude.{◌≡◌, ℕ, ◌≤◌, Bool, true, false, Option, Some, IfSome, List, ◌∷◌, ◌⊎◌, ◌↔◌, [], ◌++◌, reverse}
+use Rattle.std.specs.FinMap as map
+use Rattle.pcache_evict.specs.declared.eviction.entry_key.CacheEntryKey.{CacheEntryKey}
 use Rattle.pcache_base.specs.declared.poll.Poll.{Poll}
-use Rattle.pcache_evict.specs.Tracked.{Tracked, Limits}
-use Rattle.pcache_store.specs.Store.{Reader}
+use Rattle.pcache_evict.specs.Tracked.{Tracked, Limits, IsWithin, IsFair}
+use Rattle.pcache_store.specs.Store.{Reader, Stored}
 use Rattle.pingora_cache.specs.declared.world.call.Reply.TheVariants.{WrongCall}
 use Rattle.pingora_cache.specs.declared.world.entry.Answer.{Answer}
 use Rattle.pingora_cache.specs.declared.world.entry.Answer.TheVariants as A
 use Rattle.pingora_cache.specs.declared.world.entry.Entry.{Entry}
 use Rattle.pingora_cache.specs.declared.world.entry.Event.{Event}
-use Rattle.pingora_cache.specs.declared.world.entry.Event.TheVariants.{Look, Finish, Read}
-use Rattle.pingora_cache.specs.Events.{is_of, in_flight, was_stored, is_removed, last_finished, body_of, stored, slots}
+use Rattle.pingora_cache.specs.declared.world.entry.Event.TheVariants.{Look, Finish, Admit, Read}
+use Rattle.pingora_cache.specs.Events.{is_of, in_flight, was_stored, is_removed, last_finished, body_of, complete, names_slot, size_of, tracked, stored, slots}
 use Rattle.pingora_cache.specs.Held.{Held, number_of, request_of}
 use Rattle.pingora_cache.specs.Facts.{Facts, Says, request_in}
 use Rattle.pingora_cache.specs.History.{events_of, Finds, reads}
@@ -67,3 +69,15 @@ IsWithinLimits = (limits : Limits) (start : Tracked) (before : List Entry) → I
 abbrev pub ReadsABeginning : Type 0
 ReadsABeginning = (limits : Limits) (start : Tracked) (before : List Entry) (r : ℕ) (x : Held) (reader : Reader) → IsLegal limits start before → request_of r before ≡ Some x → x.request.reader ≡ Some reader
     → HasRead (events_of before) reader (read_by r before)
+
+-- whatever an admission evicts is a fair eviction from what is tracked then, with the entry that is admitted: nothing goes
+-- where the limits hold, and no more than they want
+abbrev pub EvictsFairly : Type 0
+EvictsFairly = (limits : Limits) (start : Tracked) (before : List Entry) (entry : Entry) (earlier rest : List Event) (e : CacheEntryKey) (n : ℕ) (out : List CacheEntryKey) → IsLegal limits start (entry ∷ before)
+    → entry.events ≡ earlier ++ Admit e n out ∷ rest
+    → IsFair limits (map.insert (tracked start (reverse earlier ++ events_of before)) e n) out × (IsWithin limits (map.insert (tracked start (reverse earlier ++ events_of before)) e n) → out ≡ [])
+
+-- each standing key has an entry of its own, tracked with exactly the length of its body
+abbrev pub TracksExactly : Type 0
+TracksExactly = (limits : Limits) (start : Tracked) (before : List Entry) (k : ℕ) (b : Stored) → IsLegal limits start before → complete k (events_of before) ≡ Some b
+    → (e : CacheEntryKey) × (names_slot k e ≡ true) × (map.get (tracked start (events_of before)) e ≡ Some (size_of b)) × ((q : ℕ) → names_slot q e ≡ true → k ≡ q)

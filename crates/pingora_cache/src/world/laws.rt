@@ -1,5 +1,5 @@
 //! What is promised of every legal history, whatever calls it has.
-ghost use Rattle.pingora_cache.specs.Headline.{FindsExactly, FinishesExactly, IsWithinLimits, IsWrongExactly, LooksAreTrue, ReadsABeginning, ReadsAreTrue, ReadsTheLast};
+ghost use Rattle.pingora_cache.specs.Headline.{EvictsFairly, FindsExactly, FinishesExactly, IsWithinLimits, IsWrongExactly, LooksAreTrue, ReadsABeginning, ReadsAreTrue, ReadsTheLast, TracksExactly};
 
 /// A call is answered as a wrong one exactly where its condition fails.
 pub fn is_wrong_exactly()
@@ -42,4 +42,15 @@ pub fn stored_is_within_limits()
 /// body gives its range once.
 pub fn reads_a_beginning()
     ensures { ReadsABeginning }
+{}
+
+/// Whatever an admission evicts is fair: nothing goes where the limits hold, and no more than they
+/// want.
+pub fn evicts_fairly()
+    ensures { EvictsFairly }
+{}
+
+/// Each standing key has an entry of its own, tracked with exactly the length of its body.
+pub fn tracks_exactly()
+    ensures { TracksExactly }
 {}
