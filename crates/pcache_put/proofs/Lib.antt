@@ -1,5 +1,6 @@
 pub mod FieldLemmas
 pub mod HeadLemmas
+pub mod Ends
 pub mod Joins
 pub mod Lengths
 pub mod PartLemmas

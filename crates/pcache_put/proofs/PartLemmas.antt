@@ -12,8 +12,7 @@ use Rattle.pcache_put.specs.Parts.{Given, nothing, given, add_all, body_parts, l
 use Rattle.pcache_put.specs.Progress.{AtBody, TakenIn}
 use Rattle.pcache_put.specs.declared.response_parse.ParsePart.{ParsePart}
 use Rattle.pcache_put.specs.declared.response_parse.ParsePart.TheVariants as part
-use Rattle.pcache_put.specs.declared.head_end.Place.TheVariants.{Blank}
-use Rattle.pcache_put.proofs.Joins.{EndsAt-more}
+use Rattle.pcache_put.proofs.Ends.{ends_more, ends_within}
 
 le_yes : (a b : ℕ) → a ≤ b → nat_le a b ≡ true
 le_yes a b h = elim (nat_le a b) as (λ t. nat_le a b ≡ t → t ≡ true) [ true ↦ λ e. refl | false ↦ λ e. absurd (omega (arith, leb-false a b e)) ] refl
@@ -111,14 +110,14 @@ rest_is k xs = take_all (length xs - k) (drop k xs) (omega (arith, length-drop k
 pub response_more : (bytes more : List ℕ) (r : Response) → IsResponse bytes r → IsResponse (bytes ++ more) (record r { behind = r.behind ++ more })
 response_more bytes more r h = record {
   cut = h.cut;
-  ends = EndsAt-more Blank bytes more h.cut h.ends;
-  head = subst (λ xs. ReadsHeader xs r.head) (sym (take-append-le h.cut bytes more h.ends.within)) h.head;
+  ends = ends_more bytes more h.cut h.ends;
+  head = subst (λ xs. ReadsHeader xs r.head) (sym (take-append-le h.cut bytes more (ends_within bytes h.cut h.ends))) h.head;
   size = h.size;
-  behind = ap (λ xs. xs ++ more) h.behind ∙ sym (drop-append-le h.cut bytes more h.ends.within);
+  behind = ap (λ xs. xs ++ more) h.behind ∙ sym (drop-append-le h.cut bytes more (ends_within bytes h.cut h.ends));
 }
 
 -- a head that ends in a piece
-pub response_starts : (before piece head : List ℕ) (used : ℕ) (header : ResponseHeader) (size : Option ℕ) → EndsAt Blank (before ++ piece) (length before + used) → head ≡ before ++ take used piece → ReadsHeader head header → HasSize header size
+pub response_starts : (before piece head : List ℕ) (used : ℕ) (header : ResponseHeader) (size : Option ℕ) → EndsAt (before ++ piece) (length before + used) → head ≡ before ++ take used piece → ReadsHeader head header → HasSize header size
     → IsResponse (before ++ piece) (record { head = header; size = size; behind = drop used piece })
 response_starts before piece head used header size ends is reads sized = record {
   cut = length before + used;
@@ -129,7 +128,7 @@ response_starts before piece head used header size ends is reads sized = record 
 }
 
 -- one that can't be read
-pub unreadable_there : (before piece head : List ℕ) (used : ℕ) → EndsAt Blank (before ++ piece) (length before + used) → head ≡ before ++ take used piece → ((header : ResponseHeader) → ¬ (ReadsHeader head header)) → IsUnreadable (before ++ piece)
+pub unreadable_there : (before piece head : List ℕ) (used : ℕ) → EndsAt (before ++ piece) (length before + used) → head ≡ before ++ take used piece → ((header : ResponseHeader) → ¬ (ReadsHeader head header)) → IsUnreadable (before ++ piece)
 unreadable_there before piece head used ends is none = record {
   cut = length before + used;
   ends = ends;

@@ -10,9 +10,8 @@ use Rattle.pcache_put.specs.HeadEnd.{IsUnfinished}
 use Rattle.pcache_put.specs.Response.{Response, IsResponse, IsUnreadable, IsComplete, HasSize, HasSizeBy, may_end}
 use Rattle.pcache_put.specs.Parts.{Given, given, left_behind, is_missing}
 use Rattle.pcache_put.specs.Progress.{Parsed, AtHead, AtBody, AtEnd, HasFailed, TakenIn}
-use Rattle.pcache_put.specs.declared.head_end.Place.TheVariants.{Blank}
 use Rattle.pcache_put.proofs.HeadLemmas.{one_head}
-use Rattle.pcache_put.proofs.Joins.{EndsAt-unique, unfinished_has_no_end}
+use Rattle.pcache_put.proofs.Ends.{ends_unique}
 
 one_value : (P : Type 0) (v : ℕ) (a b : Option ℕ) → SomeIff a P v → SomeIff b P v → a ≡ b
 one_value P v None None h k = refl
@@ -34,7 +33,7 @@ response_is h g a b x y e f d = rw (e, f, d) refl
 -- bytes are one response at most
 pub one_response : (bytes : List ℕ) (r q : Response) → IsResponse bytes r → IsResponse bytes q → r ≡ q
 one_response bytes r q h k =
-    let cut = EndsAt-unique Blank bytes h.cut k.cut h.ends k.ends in
+    let cut = ends_unique bytes h.cut k.cut h.ends k.ends in
     let head : r.head ≡ q.head = one_header (take k.cut bytes) r.head q.head (subst (λ n. ReadsHeader (take n bytes) r.head) cut h.head) k.head in
     let size : r.size ≡ q.size = one_size_by _ _ r.size q.size (subst (λ (x : ResponseHeader). HasSize x r.size) head h.size) k.size in
     response_is r.head q.head r.size q.size r.behind q.behind head size (h.behind ∙ ap (λ n. drop n bytes) cut ∙ sym k.behind)
@@ -68,10 +67,10 @@ nothing_missing left bytes g none taken = (taken.0, taken.1, settled (may_end ta
 
 -- nor while the head has not ended
 pub unfinished_early : (bytes : List ℕ) → IsUnfinished bytes → IsComplete bytes → ⊥
-unfinished_early bytes unended complete = unfinished_has_no_end bytes complete.1.cut unended complete.1.ends
+unfinished_early bytes unended complete = unended complete.1.cut complete.1.ends
 
 one_head_or_body : (bytes : List ℕ) (r : Response) → IsUnfinished bytes → IsResponse bytes r → ⊥
-one_head_or_body bytes r unended h = unfinished_has_no_end bytes h.cut unended h.ends
+one_head_or_body bytes r unended h = unended h.cut h.ends
 
 -- whoever took in the same bytes stands at the same place and gave the same
 pub one_outcome : (p q : Parsed) (bytes : List ℕ) (g h : Given) → TakenIn p bytes g → TakenIn q bytes h → (p ≡ q) × (g ≡ h)
@@ -92,10 +91,10 @@ one_outcome (HasFailed e) q bytes g h x y = absurd x
 
 -- a head that can't be read is no response, and has ended
 pub unreadable_is_none : (p : Parsed) (bytes : List ℕ) (g : Given) → TakenIn p bytes g → IsUnreadable bytes → ⊥
-unreadable_is_none (AtHead a) bytes g x bad = unfinished_has_no_end bytes bad.cut x.1 bad.ends
+unreadable_is_none (AtHead a) bytes g x bad = x.1 bad.cut bad.ends
 unreadable_is_none (AtBody a) bytes g x bad =
     let is = x.1 in
-    let cut = EndsAt-unique Blank bytes is.cut bad.cut is.ends bad.ends in
+    let cut = ends_unique bytes is.cut bad.cut is.ends bad.ends in
     bad.no_head x.0.head (subst (λ n. ReadsHeader (take n bytes) x.0.head) cut is.head)
 unreadable_is_none AtEnd bytes g x bad = x
 unreadable_is_none (HasFailed e) bytes g x bad = x

@@ -1,28 +1,42 @@
 -- Where the head of a response ends (own): behind the first empty line that follows its first line. Empty lines
--- before the first line are skipped. A line ends by LF, or CR LF.
-use Rattle.std.specs.Prelude.{◌≡◌, ◌≢◌, ℕ, ◌<◌, ◌≤◌, List, length, take, fold, ◌==◌, if◌then◌else◌}
-use Rattle.pcache_put.specs.declared.head_end.Place.{Place}
-use Rattle.pcache_put.specs.declared.head_end.Place.TheVariants.{Blank, BlankReturn, Inside, Fresh, FreshReturn, Ended}
+-- before the first line are skipped.
+use Rattle.std.specs.Prelude.{◌≡◌, ◌≢◌, ℕ, ◌⊎◌, All, List, [], ◌∷◌, ◌++◌, length}
+use Rattle.std.specs.List.{flat_map}
 
--- where the next byte stands, behind b
-abbrev pub next : Place → ℕ → Place
-next Blank b = if b == 10 then Blank else if b == 13 then BlankReturn else Inside
-next BlankReturn b = if b == 10 then Blank else Inside
-next Inside b = if b == 10 then Fresh else Inside
-next Fresh b = if b == 10 then Ended else if b == 13 then FreshReturn else Inside
-next FreshReturn b = if b == 10 then Ended else Inside
-next Ended b = Ended
+-- a line: bytes that are no line feeds, and a line feed
+abbrev pub IsLine : List ℕ → Type 0
+IsLine l = (text : List ℕ) × All (λ b. b ≢ 0x0A) text × (l ≡ text ++ 0x0A ∷ [])
 
--- where the byte behind these stands
-abbrev pub place_after : Place → List ℕ → Place
-place_after p bytes = fold next p bytes
+-- an empty line ends by LF, or CR LF
+abbrev pub IsEmpty : List ℕ → Type 0
+IsEmpty l = (l ≡ 0x0A ∷ []) ⊎ (l ≡ 0x0D ∷ 0x0A ∷ [])
 
--- the head ends behind the first n bytes, and no sooner
-pub record EndsAt (p : Place) (bytes : List ℕ) (n : ℕ) : Type 0 where
-  pub within : n ≤ length bytes
-  pub ended : place_after p (take n bytes) ≡ Ended
-  pub no_sooner : (k : ℕ) → k < n → place_after p (take k bytes) ≢ Ended
+abbrev pub IsFull : List ℕ → Type 0
+IsFull l = IsLine l × ¬ (IsEmpty l)
+
+abbrev pub joined : List (List ℕ) → List ℕ
+joined lines = flat_map (λ l. l) lines
+
+-- a whole head: empty lines, a line that is not empty, further such lines, and an empty line
+pub record IsWhole (head : List ℕ) : Type 0 where
+  pub skipped : List (List ℕ)
+  pub first : List ℕ
+  pub lines : List (List ℕ)
+  pub last : List ℕ
+  pub empty : All IsEmpty skipped
+  pub begins : IsFull first
+  pub full : All IsFull lines
+  pub ends : IsEmpty last
+  pub whole : head ≡ joined skipped ++ (first ++ (joined lines ++ last))
+
+-- the head ends behind the first n bytes
+pub record EndsAt (bytes : List ℕ) (n : ℕ) : Type 0 where
+  pub head : List ℕ
+  pub behind : List ℕ
+  pub lines : IsWhole head
+  pub whole : bytes ≡ head ++ behind
+  pub size : n ≡ length head
 
 -- the head does not end within these bytes
 abbrev pub IsUnfinished : List ℕ → Type 0
-IsUnfinished bytes = (k : ℕ) → k ≤ length bytes → place_after Blank (take k bytes) ≢ Ended
+IsUnfinished bytes = (n : ℕ) → ¬ (EndsAt bytes n)

@@ -1,7 +1,6 @@
 -- A head with one piece more.
 use Rattle.std.specs.Prelude.{◌≡◌, ℕ, ◌+◌, ◌≤◌, List, ◌++◌, length, take}
 use Rattle.pcache_put.specs.HeadEnd.{EndsAt, IsUnfinished}
-use Rattle.pcache_put.specs.declared.head_end.Place.TheVariants.{Blank}
 use Rattle.pcache_put.specs.declared.head_end.HeadPiece.{HeadPiece}
 use Rattle.pcache_put.specs.declared.head_end.HeadPiece.TheVariants.{Open, Ended}
 
@@ -9,4 +8,4 @@ use Rattle.pcache_put.specs.declared.head_end.HeadPiece.TheVariants.{Open, Ended
 abbrev pub IsJoined : List ℕ → List ℕ → HeadPiece → Type 0
 IsJoined before piece (Open bytes) = (bytes ≡ before ++ piece) × IsUnfinished (before ++ piece)
 IsJoined before piece (Ended head used) =
-    (used ≤ length piece) × (head.items ≡ before ++ take used piece) × EndsAt Blank (before ++ piece) (length before + used)
+    (used ≤ length piece) × (head.items ≡ before ++ take used piece) × EndsAt (before ++ piece) (length before + used)

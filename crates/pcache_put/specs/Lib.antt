@@ -2,6 +2,7 @@ pub mod Fields
 pub mod Head
 pub mod HeadEnd
 pub mod HeadPiece
+pub mod Places
 pub mod Parts
 pub mod Progress
 pub mod Response

@@ -7,7 +7,6 @@ use Rattle.http_header.specs.HeaderMap.{get}
 use Rattle.pcache_meta.specs.declared.header.ResponseHeader.{ResponseHeader}
 use Rattle.pcache_put.specs.Head.{ReadsHeader}
 use Rattle.pcache_put.specs.HeadEnd.{EndsAt}
-use Rattle.pcache_put.specs.declared.head_end.Place.TheVariants.{Blank}
 
 -- the length that a value spells: an optional plus and digits, within 64 bits
 abbrev pub SpellsLength : List ℕ → Option ℕ → Type 0
@@ -36,7 +35,7 @@ pub record Response : Type 0 where
 -- the bytes so far are this response, as far as it has come
 pub record IsResponse (bytes : List ℕ) (r : Response) : Type 0 where
   pub cut : ℕ
-  pub ends : EndsAt Blank bytes cut
+  pub ends : EndsAt bytes cut
   pub head : ReadsHeader (take cut bytes) r.head
   pub size : HasSize r.head r.size
   pub behind : r.behind ≡ drop cut bytes
@@ -44,7 +43,7 @@ pub record IsResponse (bytes : List ℕ) (r : Response) : Type 0 where
 -- the head has ended, and it can't be read
 pub record IsUnreadable (bytes : List ℕ) : Type 0 where
   pub cut : ℕ
-  pub ends : EndsAt Blank bytes cut
+  pub ends : EndsAt bytes cut
   pub no_head : (head : ResponseHeader) → ¬ (ReadsHeader (take cut bytes) head)
 
 -- the body, as far as it has come; what lies behind it is none of it

@@ -1,6 +1,6 @@
 //! Where the head of a response ends, as its bytes come.
 ghost use Rattle.std.specs.Prelude.{◌≡◌, ◌≢◌, ℕ, ◌+◌, ◌≤◌, ◌<◌, ◌++◌, [], List, length, take, IfSome, IfNone, IfOk, IfErr};
-ghost use Rattle.pcache_put.specs.HeadEnd.{next, place_after, EndsAt, IsUnfinished};
+ghost use Rattle.pcache_put.specs.Places.{next, place_after, CutsAt};
 ghost use Rattle.pcache_base.specs.declared.error.ErrorType.TheVariants.{OutOfMemory};
 
 use pcache_base::error::Result;
@@ -40,7 +40,7 @@ fn next(place: Place, byte: u8) -> Place
 // How many of the next bytes still belong to the head, if it ends among them; else the place moves on.
 fn cut(place: &mut Place, piece: &[u8]) -> Option<usize>
     requires { place.old ≢ Place.Ended }
-    ensures found { IfSome result (λ n. EndsAt place.old piece.now n) }
+    ensures found { IfSome result (λ n. CutsAt place.old piece.now n) }
     ensures none { IfNone result ((k : ℕ) → k ≤ length piece.now → place_after place.old (take k piece.now) ≢ Place.Ended) }
     ensures moved { IfNone result (place.new ≡ place_after place.old piece.now) }
 {
@@ -62,14 +62,14 @@ pub(crate) struct HeadBytes {
 
 impl Model for HeadBytes {
     ghost use Rattle.std.specs.Prelude.{◌≡◌, ℕ, List};
-    ghost use Rattle.pcache_put.specs.HeadEnd.{place_after, IsUnfinished};
+    ghost use Rattle.pcache_put.specs.Places.{place_after, NeverCuts};
     ghost use Rattle.pcache_put.specs.declared.head_end.Place.TheVariants.{Blank};
 
     ghost Value = { List ℕ };
 
     ghost view = { λ h. h.bytes.items };
 
-    ghost invariant = { λ h. (h.place ≡ place_after Blank h.bytes.items) × IsUnfinished h.bytes.items };
+    ghost invariant = { λ h. (h.place ≡ place_after Blank h.bytes.items) × NeverCuts h.bytes.items };
 }
 
 // A head with one piece more.

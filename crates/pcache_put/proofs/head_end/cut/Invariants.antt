@@ -1,5 +1,5 @@
 use Rattle.std.proofs.Common.{◌≡◌, ◌≤◌, ℕ, take}
-use Rattle.pcache_put.specs.HeadEnd.{place_after}
+use Rattle.pcache_put.specs.Places.{place_after}
 use Rattle.pcache_put.specs.declared.head_end.Place.TheVariants.{Ended}
 use Rattle.pcache_put.proofs.head_end.cut.Given as goal
 

@@ -1,0 +1,27 @@
+-- How the code finds the end of a head, byte by byte (`HeadEnd` says where it is).
+use Rattle.std.specs.Prelude.{◌≡◌, ◌≢◌, ℕ, ◌<◌, ◌≤◌, List, length, take, fold, ◌==◌, if◌then◌else◌}
+use Rattle.pcache_put.specs.declared.head_end.Place.{Place}
+use Rattle.pcache_put.specs.declared.head_end.Place.TheVariants.{Blank, BlankReturn, Inside, Fresh, FreshReturn, Ended}
+
+-- where the next byte stands, behind b
+abbrev pub next : Place → ℕ → Place
+next Blank b = if b == 10 then Blank else if b == 13 then BlankReturn else Inside
+next BlankReturn b = if b == 10 then Blank else Inside
+next Inside b = if b == 10 then Fresh else Inside
+next Fresh b = if b == 10 then Ended else if b == 13 then FreshReturn else Inside
+next FreshReturn b = if b == 10 then Ended else Inside
+next Ended b = Ended
+
+-- where the byte behind these stands
+abbrev pub place_after : Place → List ℕ → Place
+place_after p bytes = fold next p bytes
+
+-- the head ends behind the first n bytes, and no sooner
+pub record CutsAt (p : Place) (bytes : List ℕ) (n : ℕ) : Type 0 where
+  pub within : n ≤ length bytes
+  pub ended : place_after p (take n bytes) ≡ Ended
+  pub no_sooner : (k : ℕ) → k < n → place_after p (take k bytes) ≢ Ended
+
+-- the head does not end within these bytes
+abbrev pub NeverCuts : List ℕ → Type 0
+NeverCuts bytes = (k : ℕ) → k ≤ length bytes → place_after Blank (take k bytes) ≢ Ended
