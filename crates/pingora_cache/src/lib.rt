@@ -23,7 +23,9 @@ pub use pcache_meta::meta::CacheMeta;
 pub use pcache_meta::{header, trace};
 pub use pcache_predict::{admission, predictor};
 pub use pcache_put::{max_file_size, response_parse};
-pub use pcache_request::{CachePhase, FinishReport, HitStatus, HttpCache, InUse, cache, phase};
+pub use pcache_request::{
+    CachePhase, FinishReport, HitStatus, HttpCache, HttpCacheDigest, InUse, cache, digest, phase,
+};
 pub use pcache_store::memory::MemCache;
 pub use pcache_store::storage::{
     HitHandler, MissHandler, PurgeAction, PurgeOutcome, PurgeTarget, PurgeType, Storage,

@@ -6,8 +6,8 @@
 pub mod root {
     pub use pingora_cache::{
         CacheEntryId, CacheEntryKey, CacheEntryKeyRef, CacheKey, CacheMeta, CacheMetaDefaults,
-        CachePhase, FinishReport, HitHandler, HitStatus, HttpCache, InUse, MemCache, MissHandler,
-        NoCacheReason, PurgeAction, PurgeOutcome, PurgeTarget, PurgeType, RespCacheable, Storage,
+        CachePhase, FinishReport, HitHandler, HitStatus, HttpCache, HttpCacheDigest, InUse, MemCache,
+        MissHandler, NoCacheReason, PurgeAction, PurgeOutcome, PurgeTarget, PurgeType, RespCacheable, Storage,
         VarianceBuilder, prelude,
     };
 }
