@@ -88,6 +88,10 @@ abbrev pub IsStale : CachePhase → Type 0
 IsStale phase.Stale = Unit {0}
 IsStale _ = ⊥
 
+abbrev pub is_stale_phase : CachePhase → Bool
+is_stale_phase phase.Stale = true
+is_stale_phase _ = false
+
 -- the key may be purged, and what stands under it be expired
 abbrev pub MayPurge : CachePhase → Type 0
 MayPurge phase.CacheKey = Unit {0}

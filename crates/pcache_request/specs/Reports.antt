@@ -10,8 +10,7 @@ use Rattle.pcache_lock.specs.declared.lock.permit.Locked.{Locked}
 use Rattle.pcache_store.specs.Store.{Store, Reader, reader_weight}
 use Rattle.pcache_store.specs.declared.storage.PurgeOutcome.{PurgeOutcome}
 use Rattle.pcache_store.specs.declared.storage.PurgeOutcome.TheVariants.{NotFound, Purged, Expired}
-use Rattle.pcache_request.specs.Phases.{is_stale}
-use Rattle.pcache_request.specs.Requests.{Request, entry_of, asks_for_miss, asks_for_hit, counts_found}
+use Rattle.pcache_request.specs.Requests.{Request, entry_of, asks_for_miss, asks_for_hit, asks_as_stale, counts_found}
 use Rattle.pcache_request.specs.declared.phase.HitStatus.{HitStatus}
 use Rattle.pcache_request.specs.declared.cache.report.LockName.{LockName}
 use Rattle.pcache_request.specs.declared.cache.report.AskedLock.{AskedLock}
@@ -32,7 +31,7 @@ abbrev pub asked_in_look_up : Store → Locks → Request → Option AskedLock
 asked_in_look_up s t r = cond (asks_for_miss s r) (option_map (λ k. asked_with false t k r.held) r.key) None
 
 abbrev pub asked_by_found : HitStatus → Locks → Request → Option AskedLock
-asked_by_found s t r = cond (asks_for_hit s r) (option_map (λ k. asked_with (is_stale s) t k r.held) r.key) None
+asked_by_found s t r = cond (asks_for_hit s r) (option_map (λ k. asked_with (asks_as_stale s r.phase) t k r.held) r.key) None
 
 -- the access of a found hit that counts
 abbrev pub access_by_found : HitStatus → Reader → Option ℕ → Request → Option Access

@@ -23,7 +23,7 @@ use Rattle.pcache_request.specs.declared.phase.HitStatus.{HitStatus}
 use Rattle.pcache_request.specs.declared.phase.HitStatus.TheVariants as status
 use Rattle.pcache_request.specs.declared.phase.InUse.{InUse}
 use Rattle.pcache_request.specs.Digest.{Digest, empty_digest, time_added}
-use Rattle.pcache_request.specs.Phases.{IsFilling, is_treated_as_miss, is_stale, is_fresh}
+use Rattle.pcache_request.specs.Phases.{IsFilling, is_treated_as_miss, is_stale_phase, is_fresh}
 
 -- a request, as its contracts see it
 pub record Request : Type 0 where
@@ -121,17 +121,7 @@ table_looked s now r t = cond (asks_for_miss s r) (table_asked false now r.key r
 abbrev pub entry_of : Key → Option ℕ → CacheEntryKey
 entry_of k id = entry_with (compact_of k) id
 
--- a found pair asks for the lock where it is not served as it is and one is in use
-abbrev pub asks_for_hit : HitStatus → Request → Bool
-asks_for_hit s r = r.uses.lock && not (is_fresh s)
-
-abbrev pub locked_found : HitStatus → Locks → Request → Request
-locked_found s t r = cond (asks_for_hit s r) (with_lock (is_stale s) t r.key r) r
-
-abbrev pub table_found : HitStatus → ℕ → Request → Locks → Locks
-table_found s now r t = cond (asks_for_hit s r) (table_asked (is_stale s) now r.key r.held t) t
-
--- the phase, meta and reader that a found pair brings
+-- the phase that a found pair brings
 abbrev pub phase_found : HitStatus → CachePhase → CachePhase
 phase_found status.Fresh p = phase.Hit
 phase_found status.ForceFresh p = phase.Hit
@@ -141,6 +131,21 @@ phase_found status.ForceExpiredServeStale p = phase.Stale
 phase_found status.ForceMiss p = p
 phase_found status.FailedHitFilter p = p
 
+-- a found pair asks for the lock where it is not served as it is and one is in use
+abbrev pub asks_for_hit : HitStatus → Request → Bool
+asks_for_hit s r = r.uses.lock && not (is_fresh s)
+
+-- it asks as one who replaces a stale body where the request is stale then
+abbrev pub asks_as_stale : HitStatus → CachePhase → Bool
+asks_as_stale s p = is_stale_phase (phase_found s p)
+
+abbrev pub locked_found : HitStatus → Locks → Request → Request
+locked_found s t r = cond (asks_for_hit s r) (with_lock (asks_as_stale s r.phase) t r.key r) r
+
+abbrev pub table_found : HitStatus → ℕ → Request → Locks → Locks
+table_found s now r t = cond (asks_for_hit s r) (table_asked (asks_as_stale s r.phase) now r.key r.held t) t
+
+-- the meta and reader that a found pair brings with it
 abbrev pub placed : HitStatus → Meta → Reader → Request → Request
 placed s m h r = record r {
   phase = phase_found s r.phase;

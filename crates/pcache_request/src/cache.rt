@@ -3,7 +3,7 @@
 //! A request is lent what it works on: the storage, the eviction manager and the lock table. Parts
 //! that it does not use are left as they are. What it holds (a lock, a reader, a write) has to be
 //! given back, so a request is spent by `end`.
-ghost use Rattle.std.specs.Prelude.{◌≡◌, IfOk, IfErr, OnOk, OnErr, Option, Some, None, option_map, cond, not, ◌&&◌, IsTrue};
+ghost use Rattle.std.specs.Prelude.{◌≡◌, IfOk, IfErr, OnOk, OnErr, Option, Some, None, option_map, cond, not, ◌&&◌, true};
 ghost use Rattle.pcache_base.specs.Key.{slot};
 ghost use Rattle.pcache_base.specs.declared.error.ErrorType.TheVariants.{OutOfMemory};
 ghost use Rattle.std.specs.Option.{option_copied};
@@ -119,28 +119,28 @@ fn take_lock<L: CacheKeyLock>(
     Ok(AskedLock { given, replaced })
 }
 
-// Asks for a key's lock where what was found under it is not served as it is and a lock is in use.
-fn ask_for_found<L: CacheKeyLock>(
+// Asks for a key's lock, where that is to be done.
+fn take_lock_if<L: CacheKeyLock>(
     alloc: Global,
-    is_used: bool,
+    asks: bool,
     held: &mut Option<Locked>,
     lock: &mut L,
     key: &CacheKey,
-    status: HitStatus,
+    stale_writer: bool,
     now: Moment,
 ) -> Result<Option<AskedLock>>
-    ensures asked { IfOk result (λ a. a ≡ cond (is_used && not (phases.is_fresh status)) (Some (asked_with (phases.is_stale status) (L.table lock.old) key.now held.old)) None) }
-    ensures held { OnOk result (held.new ≡ cond (is_used && not (phases.is_fresh status)) (Some (given (L.table lock.old) (phases.is_stale status) (holder (L.table lock.old) (slot key.now)))) held.old) }
-    ensures table { OnOk result (L.table lock.new ≡ cond (is_used && not (phases.is_fresh status)) (table_asked (phases.is_stale status) now (Some key.now) held.old (L.table lock.old)) (L.table lock.old)) }
+    ensures asked { IfOk result (λ a. a ≡ cond asks (Some (asked_with stale_writer (L.table lock.old) key.now held.old)) None) }
+    ensures held { OnOk result (held.new ≡ cond asks (Some (given (L.table lock.old) stale_writer (holder (L.table lock.old) (slot key.now)))) held.old) }
+    ensures table { OnOk result (L.table lock.new ≡ cond asks (table_asked stale_writer now (Some key.now) held.old (L.table lock.old)) (L.table lock.old)) }
     ensures same_table { OnErr result (L.table lock.new ≡ L.table lock.old) }
     ensures same_held { OnErr result (held.new ≡ held.old) }
     ensures kind { IfErr result (λ e. MayRefuseLock (L.table lock.old) e) }
-    ensures asks { OnErr result (IsTrue (is_used && not (phases.is_fresh status))) }
+    ensures asks { OnErr result (asks ≡ true) }
 {
-    if !is_used || status.is_fresh() {
+    if !asks {
         return Ok(None);
     }
-    let asked = take_lock(alloc, held, lock, key, status.is_stale(), now)?;
+    let asked = take_lock(alloc, held, lock, key, stale_writer, now)?;
     Ok(Some(asked))
 }
 
@@ -456,13 +456,14 @@ impl<S: Storage> HttpCache<S> {
         ensures numbers { IfErr result (λ e. e ≡ NumbersExhausted → IsTrue (asks_for_hit status self.old)) }
     {
         let Some(key) = &self.key else { unreachable!() };
-        let asked = match ask_for_found(
+        let phase = phase_found(status, self.phase);
+        let asked = match take_lock_if(
             self.alloc,
-            self.uses.lock,
+            self.uses.lock && !status.is_fresh(),
             &mut self.held,
             lock,
             key,
-            status,
+            phase.is_stale(),
             now,
         ) {
             Ok(asked) => asked,
@@ -471,7 +472,7 @@ impl<S: Storage> HttpCache<S> {
                 return Err(refused);
             }
         };
-        self.phase = phase_found(status, self.phase);
+        self.phase = phase;
         if status.is_treated_as_miss() {
             hit.let_go(storage);
             self.meta = None;

@@ -129,7 +129,8 @@ impl CachePhase {
 
     /// Whether a stale body was found.
     pub fn is_stale(self) -> bool
-        ensures { IsTrue result ↔ phases.IsStale self }
+        ensures is { IsTrue result ↔ phases.IsStale self }
+        ensures test { result ≡ phases.is_stale_phase self }
     {
         matches!(self, CachePhase::Stale)
     }

@@ -234,11 +234,7 @@ impl<S: Storage> HttpCache<S> {
     {
         let Some(key) = &self.key else { unreachable!() };
         let Some(writer) = self.writer.take() else {
-            return WriteReport {
-                end: WriteEnd::Nothing,
-                entry: None,
-                released: None,
-            };
+            return WriteReport::new(WriteEnd::Nothing, None, None);
         };
         let Some(meta) = &self.meta else {
             unreachable!()
@@ -249,11 +245,7 @@ impl<S: Storage> HttpCache<S> {
             Ok(made) => made,
             Err(refused) => {
                 let released = self.settle_held(lock, LockStatus::TransientError);
-                return WriteReport {
-                    end: WriteEnd::Dropped(refused),
-                    entry: None,
-                    released,
-                };
+                return WriteReport::new(WriteEnd::Dropped(refused), None, released);
             }
         };
         let released = self.settle_held(lock, LockStatus::Done);
@@ -267,18 +259,13 @@ impl<S: Storage> HttpCache<S> {
             kind,
             fresh_until,
         ) {
-            Ok(report) => WriteReport {
-                end: WriteEnd::Stored(report),
-                entry: Some(CacheEntryKey::from_entry_id(compact, id)),
-                released,
-            },
+            Ok(report) => {
+                let entry = CacheEntryKey::from_entry_id(compact, id);
+                WriteReport::new(WriteEnd::Stored(report), Some(entry), released)
+            }
             Err(refused) => {
                 let _ = storage.purge(PurgeTarget::Active(&compact), PurgeType::Invalidation);
-                WriteReport {
-                    end: WriteEnd::Withdrawn(refused),
-                    entry: None,
-                    released,
-                }
+                WriteReport::new(WriteEnd::Withdrawn(refused), None, released)
             }
         }
     }

@@ -88,6 +88,22 @@ pub struct Removal {
     pub untracked: Option<CacheEntryKey>,
 }
 
+impl WriteReport {
+    pub(super) fn new(
+        end: WriteEnd,
+        entry: Option<CacheEntryKey>,
+        released: Option<LockName>,
+    ) -> WriteReport
+        ensures { result ≡ record { end = end; entry = entry; released = released } }
+    {
+        WriteReport {
+            end,
+            entry,
+            released,
+        }
+    }
+}
+
 impl Removal {
     /// Whether anything was there.
     pub fn was_there(&self) -> bool
