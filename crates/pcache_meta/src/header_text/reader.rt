@@ -1,5 +1,6 @@
 //! Reading the text of a head.
 ghost use Rattle.std.specs.Prelude.{◌≡◌, [], IfOk, IfErr, IsErrOf, ◌⊎◌};
+ghost use Rattle.http_header.specs.HeaderMap.{RefusesAppend};
 ghost use Rattle.pcache_meta.specs.Header.{Header, shown, shown_fields};
 ghost use Rattle.pcache_meta.specs.HeaderReading.{append_at, field_at, fields_at, header_at, line_from, name_at, name_from, ordered_at, status_at, status_line_at, value_at, version_at};
 ghost use Rattle.pcache_meta.specs.HeaderText.{SpellsHeader};
@@ -141,9 +142,10 @@ fn behind_space(bytes: &[u8]) -> Result<&[u8]>
     }
 }
 
-// Adds a value to a map.
+// Adds a value to a map. A full one is unreadable, also where memory is short.
 fn append_field(headers: &mut HeaderMap, name: HeaderName, value: HeaderValue) -> Result<()>
-    ensures { GivesOrWants (λ _. shown_fields headers.new) result (append_at (shown_fields headers.old) (name, value.bytes)) }
+    ensures reads { GivesOrWants (λ _. shown_fields headers.new) result (append_at (shown_fields headers.old) (name, value.bytes)) }
+    ensures full { RefusesAppend headers.old name → IsErrOf result InternalError }
 {
     match headers.append(name, value) {
         Ok(_) => {

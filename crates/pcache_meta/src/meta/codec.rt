@@ -360,13 +360,15 @@ impl CacheMeta {
         Ok((internal, header))
     }
 
-    /// The meta that two byte strings spell, in any version.
+    /// The meta that two byte strings spell, in any version. It is refused for want of memory only where
+    /// the first of them can be read.
     pub fn deserialize(alloc: Global, internal: &[u8], header: &[u8]) -> Result<CacheMeta>
         ensures found { IfOk result (λ m. SpellsMeta internal.now header.now m) }
         ensures same { (m : Meta) → SpellsMeta internal.now header.now m
             → IfOk result (λ found. found ≡ m) }
         ensures refused { IsErrOf result InternalError
             → (m : Meta) → ¬ (SpellsMeta internal.now header.now m) }
+        ensures memory { IfErr result (λ e. e ≡ OutOfMemory → (i : Internal) × SpellsInternal internal.now i) }
         ensures kinds { IfErr result (λ e. (e ≡ OutOfMemory) ⊎ (e ≡ InternalError)) }
     {
         let internal = deserialize_internal(internal)?;

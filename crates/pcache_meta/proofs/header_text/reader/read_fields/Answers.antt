@@ -31,7 +31,7 @@ returns-in_err-append_field c =
     let p = err_from_is_err_and c.from_residual-in_err-append_field.result c.from_residual-in_err-append_field.ensures.1 in
     rw (p.1, p.2) (no_room c.in_err-append_field.field-0.0 (shown_fields c.lines.headers) c.lines.rest.now c.in_ok-line.line.now c.in_ok-line.behind.now
     (c.in_ok-name.name, c.in_ok-name.value.bytes) (fields_at [] c.args.bytes.now) c.in_ok-line.ensures (sym c.if-is_empty.ensures) c.in_ok-name.ensures
-    c.in_err-append_field.ensures c.lines.invariant)
+    c.in_err-append_field.ensures.reads c.lines.invariant)
 
 pub lines-smaller : goal.lines-smaller
 lines-smaller c = line_shorter [] c.lines.rest.now c.in_ok-line.line.now c.in_ok-line.behind.now c.in_ok-line.ensures
@@ -40,4 +40,4 @@ pub lines-preserved : goal.lines-preserved
 lines-preserved c =
     goes_on (shown_fields c.lines.headers) c.lines.rest.now c.in_ok-line.line.now c.in_ok-line.behind.now (c.in_ok-name.name, c.in_ok-name.value.bytes)
     (shown_fields c.append_field.new.headers) (fields_at [] c.args.bytes.now) c.in_ok-line.ensures (sym c.if-is_empty.ensures) c.in_ok-name.ensures
-    c.in_ok-append_field.ensures c.lines.invariant
+    c.in_ok-append_field.ensures.reads c.lines.invariant

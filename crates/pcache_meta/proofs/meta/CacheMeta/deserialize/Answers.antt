@@ -26,3 +26,8 @@ pub returns-clause-same : goal.returns-clause-same
 returns-clause-same c = λ m spelled.
     meta_made (says2 c.internal.inside) (shown c.in_ok-header.header) m (c.internal.view_is ∙ c.in_ok-internal.ensures.same (internal_of m) spelled.0)
     (c.in_ok-header.ensures.same m.header spelled.1)
+
+pub returns-in_err-header-clause-memory : goal.returns-in_err-header-clause-memory
+returns-in_err-header-clause-memory c =
+    let p = err_from_is_err_and c.from_residual-in_err-header.result c.from_residual-in_err-header.ensures.1 in
+    rw (p.1, p.2) (λ e. (c.in_ok-internal.internal, c.in_ok-internal.ensures.found))
