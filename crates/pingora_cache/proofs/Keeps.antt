@@ -4,8 +4,8 @@ use Rattle.pcache_base.specs.Key.{Key}
 use Rattle.pcache_meta.specs.Meta.{Meta}
 use Rattle.pcache_lock.specs.Locks.{Locks}
 use Rattle.pcache_request.specs.Finishing.{after_finish}
-use Rattle.pcache_request.specs.Phases.{MayLookUp, IsFilling, is_stale}
-use Rattle.pcache_request.specs.Requests.{Request, MayWrite, asks_for_hit, with_lock, found_row, writing}
+use Rattle.pcache_request.specs.Phases.{MayLookUp, IsFilling}
+use Rattle.pcache_request.specs.Requests.{Request, MayWrite, asks_as_stale, asks_for_hit, with_lock, found_row, writing}
 use Rattle.pcache_request.specs.declared.phase.CachePhase.{CachePhase}
 use Rattle.pcache_request.specs.declared.phase.CachePhase.TheVariants as phase
 use Rattle.pcache_request.specs.declared.phase.HitStatus.{HitStatus}
@@ -41,8 +41,8 @@ pub keeps-found : (x y : Request) (s : HitStatus) (m : Meta) (h : Reader) (t : L
 keeps-found x y s m h t may is world =
     subst (λ (z : Request). IsOfWorld z × (IsSome z.write → z.key ≡ x.key)) (sym is)
     (record {
-      eviction = (keeps-lock x (asks_for_hit s x) (is_stale s) t x.key world).0.eviction;
-      unnumbered = (keeps-lock x (asks_for_hit s x) (is_stale s) t x.key world).0.unnumbered;
+      eviction = (keeps-lock x (asks_for_hit s x) (asks_as_stale s x.phase) t x.key world).0.eviction;
+      unnumbered = (keeps-lock x (asks_for_hit s x) (asks_as_stale s x.phase) t x.key world).0.unnumbered;
       fills = λ some. absurd (none some);
     }, λ some. absurd (none some))
   where
@@ -52,7 +52,7 @@ keeps-found x y s m h t may is world =
     locked false stale k = refl
 
     none : IsSome (found_row s m h t x).write → ⊥
-    none some = no-look x.phase may (world.fills (subst (λ (o : Option ℕ). IsSome o) (locked (asks_for_hit s x) (is_stale s) x.key) some))
+    none some = no-look x.phase may (world.fills (subst (λ (o : Option ℕ). IsSome o) (locked (asks_for_hit s x) (asks_as_stale s x.phase) x.key) some))
 
 pub keeps-finished : (x y : Request) → y ≡ after_finish x → KeepsIn x y
 keeps-finished x y is = subst (KeepsIn x) (sym is) (elim (is_some x.write) as (λ b. KeepsIn x (cond b (record x { write = None; entry = None; held = None }) x)) [

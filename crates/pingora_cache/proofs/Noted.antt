@@ -9,8 +9,8 @@ use Rattle.pcache_store.specs.Store.{Store, Reader, Part, find, reader_weight, r
 use Rattle.pcache_request.specs.declared.phase.HitStatus.{HitStatus}
 use Rattle.pingora_cache.specs.declared.world.entry.Event.{Event}
 use Rattle.pingora_cache.specs.declared.world.entry.Event.TheVariants as E
-use Rattle.pcache_request.specs.Phases.{is_stale, is_fresh}
-use Rattle.pcache_request.specs.Requests.{Request, found_for, locked_found, found_row, placed, with_lock, counts_found, entry_of, reader_in, writing, begun_for, joined_for}
+use Rattle.pcache_request.specs.Phases.{is_fresh}
+use Rattle.pcache_request.specs.Requests.{Request, found_for, locked_found, found_row, asks_as_stale, placed, with_lock, counts_found, entry_of, reader_in, writing, begun_for, joined_for}
 use Rattle.pingora_cache.specs.Held.{Held, lock_of, asked, began, read_past}
 use Rattle.pingora_cache.specs.Rules.{each, accesses}
 use Rattle.pingora_cache.specs.Step.{IsAnswered, asking}
@@ -44,22 +44,22 @@ found-answered s (Some k) p h = answered-at s (slot k) p h
 
 -- what was found is taken
 
-locked-holding : (s : HitStatus) (t : Locks) (x : Request) (k : Key) → x.key ≡ Some k → locked_found s t x ≡ holding (x.uses.lock && not (is_fresh s)) t (is_stale s) (holder t (slot k)) x
-locked-holding s t x k key = ap (λ o. cond (x.uses.lock && not (is_fresh s)) (with_lock (is_stale s) t o x) x) key
+locked-holding : (s : HitStatus) (t : Locks) (x : Request) (k : Key) → x.key ≡ Some k → locked_found s t x ≡ holding (x.uses.lock && not (is_fresh s)) t (asks_as_stale s x.phase) (holder t (slot k)) x
+locked-holding s t x k key = ap (λ o. cond (x.uses.lock && not (is_fresh s)) (with_lock (asks_as_stale s x.phase) t o x) x) key
 
 -- an access gives no lock
 asked-accesses : (stale : Bool) (s : HitStatus) (k : Key) (h : Reader) (x : Request) (more : List Event) → asked stale (accesses s k h x ++ more) x ≡ asked stale more x
 asked-accesses stale s k h x more = elim (counts_found s h x) as (λ b. asked stale ((if b then E.Access (entry_of k None) (reader_weight h) ∷ [] else []) ++ more) x ≡ asked stale more x) [ true ↦ refl | false ↦ refl ]
 
 pub found-asked : (s : HitStatus) (m : Meta) (h : Reader) (t : Locks) (x : Request) (k : Key) (older : Option ℕ) → x.key ≡ Some k
-    → found_row s m h t x ≡ placed s m h (asked (is_stale s) (accesses s k h x ++ asking (x.uses.lock && not (is_fresh s)) (slot k) (found_row s m h t x).held older) x)
+    → found_row s m h t x ≡ placed s m h (asked (asks_as_stale s x.phase) (accesses s k h x ++ asking (x.uses.lock && not (is_fresh s)) (slot k) (found_row s m h t x).held older) x)
 found-asked s m h t x k older key =
     let b = x.uses.lock && not (is_fresh s) in
     let is = locked-holding s t x k key in
     ap (placed s m h) (
-    is ∙ asked-holding b t (is_stale s) (holder t (slot k)) (slot k) older x
-    ∙ ap (λ (y : Request). asked (is_stale s) (asking b (slot k) y.held older) x) (sym is)
-    ∙ sym (asked-accesses (is_stale s) s k h x (asking b (slot k) (locked_found s t x).held older)))
+    is ∙ asked-holding b t (asks_as_stale s x.phase) (holder t (slot k)) (slot k) older x
+    ∙ ap (λ (y : Request). asked (asks_as_stale s x.phase) (asking b (slot k) y.held older) x) (sym is)
+    ∙ sym (asked-accesses (asks_as_stale s x.phase) s k h x (asking b (slot k) (locked_found s t x).held older)))
 
 -- a reader that gave bytes is past them
 

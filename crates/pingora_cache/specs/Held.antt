@@ -8,9 +8,8 @@ use Rattle.pcache_base.specs.declared.poll.Poll.TheVariants.{Ready, Pending}
 use Rattle.pcache_lock.specs.declared.lock.permit.Locked.{Locked}
 use Rattle.pcache_lock.specs.declared.lock.permit.Locked.TheVariants.{Write, Read}
 use Rattle.pcache_store.specs.Store.{Reader, Whole, Part}
-use Rattle.pcache_request.specs.Phases.{is_stale}
 use Rattle.pcache_request.specs.Releasing.{bypassed}
-use Rattle.pcache_request.specs.Requests.{Request, fresh_request, with_key, missed, with_meta, placed}
+use Rattle.pcache_request.specs.Requests.{Request, fresh_request, with_key, missed, with_meta, placed, asks_as_stale}
 use Rattle.pcache_request.specs.declared.phase.HitStatus.{HitStatus}
 use Rattle.pcache_request.specs.declared.phase.InUse.{InUse}
 use Rattle.pingora_cache.specs.declared.world.call.Call.{Call}
@@ -103,7 +102,7 @@ looked_by (_ ∷ es) x = x
 -- what was found is taken, or let go where that is refused
 abbrev pub placed_by : HitStatus → List Event → Request → Option (Meta × Reader) → Request
 placed_by s events x None = x
-placed_by s events x (Some p) = placed s p.0 p.1 (asked (is_stale s) events x)
+placed_by s events x (Some p) = placed s p.0 p.1 (asked (asks_as_stale s x.phase) events x)
 
 abbrev pub taken_by : HitStatus → List Event → Held → Held
 taken_by s events x = record { request = placed_by s events x.request x.pair; pair = None }
