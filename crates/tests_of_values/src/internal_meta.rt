@@ -77,7 +77,7 @@ fn written(alloc: Global, meta: &InternalMetaV2) -> Result<Vec<u8>, Fail> {
 // Whether what is written of the meta reads back as it, and begins with this byte.
 fn reads_back(alloc: Global, meta: InternalMetaV2, first: u8) -> Result<bool, Fail> {
     let bytes = written(alloc, &meta)?;
-    Ok(bytes[0] == first && deserialize_internal(&bytes).ok() == Some(meta))
+    Ok(bytes.first() == Some(&first) && deserialize_internal(&bytes).ok() == Some(meta))
 }
 
 #[test]
