@@ -1,17 +1,17 @@
-use pcache_base::error::{ErrorType, Result};
-use pingora_cache::world::World;
-use pingora_cache::world::call::{Call, Reply};
-use std::alloc::Global;
-use std::time::Duration;
 use bytes::Bytes;
 use http::StatusCode;
+use pcache_base::error::{ErrorType, Result};
 use pcache_base::key::CacheKey;
 use pcache_base::moment::Moment;
 use pcache_evict::eviction::simple_lru::Manager;
 use pcache_meta::header::ResponseHeader;
 use pcache_meta::meta::CacheMeta;
+use pingora_cache::world::World;
+use pingora_cache::world::call::{Call, Reply};
+use std::alloc::Global;
 use std::sync::{Mutex, Wait};
 use std::test::Fail;
+use std::time::Duration;
 
 type Shared = Mutex<World<Manager>>;
 

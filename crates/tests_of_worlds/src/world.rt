@@ -3,8 +3,6 @@ mod plain;
 
 use Step::*;
 use bytes::Bytes;
-use pingora_cache::world::World;
-use pingora_cache::world::call::{Call, Reply};
 use http::StatusCode;
 use pcache_base::error::Result;
 use pcache_base::key::{CacheHashKey, CacheKey};
@@ -14,6 +12,8 @@ use pcache_evict::eviction::simple_lru::Manager;
 use pcache_meta::header::ResponseHeader;
 use pcache_meta::meta::CacheMeta;
 use pcache_request::phase::HitStatus;
+use pingora_cache::world::World;
+use pingora_cache::world::call::{Call, Reply};
 use std::alloc::Global;
 use std::process::Abort;
 use std::test::Fail;

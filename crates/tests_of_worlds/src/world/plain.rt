@@ -360,14 +360,21 @@ impl Past {
                 one.pair = None;
             }
             (Meta(_), Some(CachePhase::Miss)) => one.has_meta = true,
+            (Meta(_), Some(CachePhase::Stale)) if one.has_meta => {
+                one.phase = Some(CachePhase::Expired);
+            }
             (Look(_), Some(CachePhase::CacheKey | CachePhase::Stale)) => return self.look(one),
             (Found(_, status), Some(CachePhase::CacheKey | CachePhase::Stale)) => {
                 return self.found(one, status);
             }
-            (Begin(_), Some(CachePhase::Miss)) => return self.begin(one),
-            (Write(_, text), Some(CachePhase::Miss)) => return self.write(one, text, false),
-            (WriteLast(_, text), Some(CachePhase::Miss)) => return self.write(one, text, true),
-            (Finish(_), Some(CachePhase::Miss)) => return self.finish(one),
+            (Begin(_), Some(CachePhase::Miss | CachePhase::Expired)) => return self.begin(one),
+            (Write(_, text), Some(CachePhase::Miss | CachePhase::Expired)) => return self.write(
+                one, text, false,
+            ),
+            (WriteLast(_, text), Some(CachePhase::Miss | CachePhase::Expired)) => return self.write(
+                one, text, true,
+            ),
+            (Finish(_), Some(CachePhase::Miss | CachePhase::Expired)) => return self.finish(one),
             (Read(_), Some(_)) => return self.read(one),
             (Purge(_), Some(CachePhase::CacheKey)) => return self.purge(one),
             (End(_), Some(_)) => return self.end(one),
@@ -432,12 +439,14 @@ fn next(dice: &mut Dice, request: u64, one: &Asked) -> Step {
             &[look, look, look, look, miss, miss, miss, key, purge],
             look,
         ),
-        Some(CachePhase::Stale) => dice.pick(&[look, found, read, miss, end], miss),
-        Some(CachePhase::Miss) if one.write.is_some() => dice.pick(
+        Some(CachePhase::Stale) => dice.pick(&[look, found, read, miss, meta, end], miss),
+        Some(CachePhase::Miss | CachePhase::Expired) if one.write.is_some() => dice.pick(
             &[write, write, last, read, read, finish, finish, end],
             write,
         ),
-        Some(CachePhase::Miss) if one.has_meta => dice.pick(&[begin, begin, begin, read, end], end),
+        Some(CachePhase::Miss | CachePhase::Expired) if one.has_meta => {
+            dice.pick(&[begin, begin, begin, read, end], end)
+        }
         Some(CachePhase::Miss) => meta,
         Some(_) => dice.pick(&[read, read, end], read),
     }
