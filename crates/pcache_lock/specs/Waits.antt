@@ -26,9 +26,9 @@ pub data Call : Type 0 where
   LetGo : (locked : Locked) → Call
   Polled : (number : ℕ) (now : ℕ) → Call
   Published : (number : ℕ) (tokens : List ℕ) → Call
-  Made : (age_timeout : ℕ) (stale : Bool) (now : ℕ) → Call              -- a permit under no key
-  Joined : (number : ℕ) → Call                                          -- a read lock of a lock's number
-  Unlocked : (number : ℕ) (reason : LockStatus) → Call                  -- by a permit that is still held
+  Made : (age_timeout : ℕ) (stale : Bool) (now : ℕ) → Call  -- a permit under no key
+  Joined : (number : ℕ) → Call  -- a read lock of a lock's number
+  Unlocked : (number : ℕ) (reason : LockStatus) → Call  -- by a permit that is still held
 
 -- a call leads from one table to another; a refused one leaves it as it was
 abbrev pub Leads : Call → Locks → Locks → Type 0

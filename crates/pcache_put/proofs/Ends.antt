@@ -281,7 +281,7 @@ leads_more b w s = record {
       })
       (λ t.
       let on = s.inside (f ++ b ∷ []) (front_push f b (eqb-false b 0x0A t) k) (stops_step Inside Inside b w (rw t refl) stops) in
-      record { line = on.line; full = on.full; left = on.left; rest = on.rest; whole = sym (append_assoc f (b ∷ []) w) ∙ on.whole; });
+      record { line = on.line; full = on.full; left = on.left; rest = on.rest; whole = sym (append_assoc f (b ∷ []) w) ∙ on.whole });
   fresh = λ stops. by_byte b 0x0A
       (λ t. record {
         lines = [];

@@ -305,4 +305,3 @@ impl Storage for MemCache {
         true
     }
 }
-

@@ -333,4 +333,3 @@ pub type HitHandler<S> = <S as Storage>::Hit;
 
 /// The handler of a write that a store gives.
 pub type MissHandler<S> = <S as Storage>::Miss;
-

@@ -24,12 +24,14 @@ keeps-same x y is world = subst (λ (z : Request). IsOfWorld z × (IsSome z.writ
 
 -- what a write, the parts in use, the phase and the key do not know of
 keeps-like : (x y : Request) → y.uses ≡ x.uses → y.entry ≡ x.entry → y.write ≡ x.write → y.phase ≡ x.phase → y.key ≡ x.key → KeepsIn x y
-keeps-like x y uses entry write at key world =
-    (record {
-      eviction = ap (λ u. u.eviction) uses ∙ world.eviction;
-      unnumbered = entry ∙ world.unnumbered;
-      fills = λ some. subst IsFilling (sym at) (world.fills (subst (λ (o : Option ℕ). IsSome o) write some));
-    }, λ _. key)
+keeps-like x y uses entry write at key world = (
+  record {
+    eviction = ap (λ u. u.eviction) uses ∙ world.eviction;
+    unnumbered = entry ∙ world.unnumbered;
+    fills = λ some. subst IsFilling (sym at) (world.fills (subst (λ (o : Option ℕ). IsSome o) write some));
+  },
+  λ _. key,
+)
 
 -- a lock that is held
 keeps-lock : (x : Request) (b stale : Bool) (t : Locks) (k : Option Key) → KeepsIn x (cond b (with_lock stale t k x) x)
@@ -39,12 +41,14 @@ keeps-lock x false stale t k = keeps-like x x refl refl refl refl refl
 
 pub keeps-found : (x y : Request) (s : HitStatus) (m : Meta) (h : Reader) (t : Locks) → MayLookUp x.phase → y ≡ found_row s m h t x → KeepsIn x y
 keeps-found x y s m h t may is world =
-    subst (λ (z : Request). IsOfWorld z × (IsSome z.write → z.key ≡ x.key)) (sym is)
-    (record {
-      eviction = (keeps-lock x (asks_for_hit s x) (asks_as_stale s x.phase) t x.key world).0.eviction;
-      unnumbered = (keeps-lock x (asks_for_hit s x) (asks_as_stale s x.phase) t x.key world).0.unnumbered;
-      fills = λ some. absurd (none some);
-    }, λ some. absurd (none some))
+    subst (λ (z : Request). IsOfWorld z × (IsSome z.write → z.key ≡ x.key)) (sym is) (
+      record {
+        eviction = (keeps-lock x (asks_for_hit s x) (asks_as_stale s x.phase) t x.key world).0.eviction;
+        unnumbered = (keeps-lock x (asks_for_hit s x) (asks_as_stale s x.phase) t x.key world).0.unnumbered;
+        fills = λ some. absurd (none some);
+      },
+      λ some. absurd (none some),
+    )
   where
     locked : (b stale : Bool) (k : Option Key) → (cond b (with_lock stale t k x) x).write ≡ x.write
     locked true stale None = refl

@@ -84,7 +84,7 @@ legal_kept limits start (e ∷ h) l =
     } in
     let done = due-keeps limits start n f slots q refl e.events es (makes_of q) (makes_of now) None on l.0.due in
     let to : (r : ℕ) → with_one n (makes_of now) f r ≡ makes_of (request_of r (e ∷ h)) =
-        at_one (λ r o. o ≡ makes_of (request_of r (e ∷ h))) n (makes_of now) f (ap makes_of (sym (named e h n refl))) (λ r ne. ap makes_of (sym (unnamed e h r ne))) in
+    at_one (λ r o. o ≡ makes_of (request_of r (e ∷ h))) n (makes_of now) f (ap makes_of (sym (named e h n refl))) (λ r ne. ap makes_of (sym (unnamed e h r ne))) in
     let made = subst (λ (g : ℕ → Option ℕ). AreMade g slots (reverse e.events ++ es)) (λ i r. to r i) done.made in
     record {
       tidy = done.tidy;

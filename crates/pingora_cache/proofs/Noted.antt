@@ -1,19 +1,22 @@
 -- What a world notes of a look-up and of what it takes is what the request became.
-use Rattle.std.proofs.Common.{◌≡◌, ℕ, Bool, true, false, not, ◌&&◌, cond, if◌then◌else◌, Option, None, Some, is_some, List, [], ◌∷◌, ◌++◌, refl, ap, sym, ◌∙◌, IfSome, option_map}
+use Rattle.std.proofs.Common.{◌≡◌, ℕ, Bool, true, false, not, ◌&&◌, cond, if◌then◌else◌, Option, None, Some, inl, inr, is_some, List, [], ◌∷◌, ◌++◌, refl, ap, sym, subst, ◌∙◌, IfSome, option_map}
 use Rattle.std.proofs.lemmas.Bool.{both_ways}
 use Rattle.pcache_base.specs.Key.{Key, slot}
 use Rattle.pcache_meta.specs.Meta.{Meta}
 use Rattle.pcache_lock.specs.Locks.{Locks, given, holder, is_permit, number_of_lock}
 use Rattle.pcache_base.specs.declared.poll.Poll.{Poll}
 use Rattle.pcache_store.specs.Store.{Store, Reader, Part, find, reader_weight, read_of, reader_after}
+use Rattle.pcache_request.specs.declared.phase.CachePhase.{CachePhase}
 use Rattle.pcache_request.specs.declared.phase.HitStatus.{HitStatus}
+use Rattle.pingora_cache.specs.declared.world.call.LockKind.{LockKind}
+use Rattle.pingora_cache.specs.declared.world.call.Reply.TheVariants as R
 use Rattle.pingora_cache.specs.declared.world.entry.Event.{Event}
 use Rattle.pingora_cache.specs.declared.world.entry.Event.TheVariants as E
 use Rattle.pcache_request.specs.Phases.{is_fresh}
-use Rattle.pcache_request.specs.Requests.{Request, found_for, locked_found, found_row, asks_as_stale, placed, with_lock, counts_found, entry_of, reader_in, writing, begun_for, joined_for}
+use Rattle.pcache_request.specs.Requests.{Request, found_for, locked_found, found_row, asks_as_stale, asks_for_hit, phase_found, placed, with_lock, counts_found, entry_of, reader_in, writing, begun_for, joined_for}
 use Rattle.pingora_cache.specs.Held.{Held, lock_of, asked, began, read_past}
-use Rattle.pingora_cache.specs.Rules.{each, accesses}
-use Rattle.pingora_cache.specs.Step.{IsAnswered, asking}
+use Rattle.pingora_cache.specs.Rules.{AsksIf, Takes, each, accesses, permit_of}
+use Rattle.pingora_cache.specs.Step.{IsAnswered, asking, kind_asked}
 use Rattle.pingora_cache.proofs.StateAnswers.{found-answer, read-past}
 use Rattle.pingora_cache.proofs.StateCalls.{begun-joins}
 
@@ -60,6 +63,27 @@ found-asked s m h t x k older key =
     is ∙ asked-holding b t (asks_as_stale s x.phase) (holder t (slot k)) (slot k) older x
     ∙ ap (λ (y : Request). asked (asks_as_stale s x.phase) (asking b (slot k) y.held older) x) (sym is)
     ∙ sym (asked-accesses (asks_as_stale s x.phase) s k h x (asking b (slot k) (locked_found s t x).held older)))
+
+-- the lock that a taken pair asked for is what the clause of its call wants
+asks-held : (b stale : Bool) (t : Locks) (o : Option ℕ) (k : ℕ) (x : Request) → AsksIf b k x.held (asking b k (holding b t stale o x).held (permit_of x.held)) (kind_asked b (holding b t stale o x).held)
+asks-held true stale t o k x = (number_of_lock (given t stale o), is_permit (given t stale o), refl, refl)
+asks-held false stale t o k x = (refl, refl)
+
+locked-phase : (s : HitStatus) (t : Locks) (x : Request) → (locked_found s t x).phase ≡ x.phase
+locked-phase s t x = elim (asks_for_hit s x) as (λ b. (cond b (with_lock (asks_as_stale s x.phase) t x.key x) x).phase ≡ x.phase) [ true ↦ elim x.key as (λ k. (with_lock (asks_as_stale s x.phase) t k x).phase ≡ x.phase) [ None ↦ refl | Some k ↦ refl ] | false ↦ refl ]
+
+pub takes-asked : (s : HitStatus) (m : Meta) (h : Reader) (t : Locks) (x y : Request) (k : Key) (b : Bool) (j : ℕ) (older : Option ℕ) (l : Option LockKind) (phase : CachePhase) (events : List Event) → x.key ≡ Some k → b ≡ asks_for_hit s x → j ≡ slot k
+    → older ≡ permit_of x.held → y ≡ found_row s m h t x → l ≡ kind_asked b y.held → events ≡ accesses s k h x ++ asking b j y.held older → phase ≡ y.phase → Takes s x (Some (m, h)) (R.Taken phase l) events
+takes-asked s m h t x y k b j older l phase events key asks at permit is kind all now =
+    let c : Bool = x.uses.lock && not (is_fresh s) in
+    let after : Request = holding c t (asks_as_stale s x.phase) (holder t (slot k)) x in
+    let held : y.held ≡ after.held = ap (λ (z : Request). z.held) is ∙ ap (λ (z : Request). z.held) (locked-holding s t x k key) in
+    let more : asking b j y.held older ≡ asking c (slot k) after.held (permit_of x.held) = (λ i. asking (asks i) (at i) (held i) (permit i)) in
+    let told : l ≡ kind_asked c after.held = kind ∙ (λ i. kind_asked (asks i) (held i)) in
+    let asked : AsksIf c (slot k) x.held (asking b j y.held older) l =
+    subst (λ q. AsksIf c (slot k) x.held (asking b j y.held older) q) (sym told)
+    (subst (λ es. AsksIf c (slot k) x.held es (kind_asked c after.held)) (sym more) (asks-held c (asks_as_stale s x.phase) t (holder t (slot k)) (slot k) x)) in
+    (k, key, inr (asking b j y.held older, l, asked, all, ap (λ q. R.Taken q l) (now ∙ ap (λ (z : Request). z.phase) is ∙ ap (phase_found s) (locked-phase s t x))))
 
 -- a reader that gave bytes is past them
 

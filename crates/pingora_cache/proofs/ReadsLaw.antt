@@ -10,6 +10,7 @@ use Rattle.pcache_base.specs.declared.poll.Poll.TheVariants.{Ready, Pending}
 use Rattle.pcache_evict.specs.Tracked.{Tracked, Limits}
 use Rattle.pcache_store.specs.Store.{Written, Reader, Whole, Part, read_part}
 use Rattle.pcache_request.specs.Phases.{is_treated_as_miss}
+use Rattle.pcache_request.specs.Releasing.{bypassed}
 use Rattle.pcache_request.specs.Requests.{Request, with_key, missed, with_meta}
 use Rattle.pcache_request.specs.declared.phase.HitStatus.{HitStatus}
 use Rattle.pingora_cache.specs.declared.world.call.Call.{Call}

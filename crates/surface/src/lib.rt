@@ -6,9 +6,9 @@
 pub mod root {
     pub use pingora_cache::{
         CacheEntryId, CacheEntryKey, CacheEntryKeyRef, CacheKey, CacheMeta, CacheMetaDefaults,
-        CachePhase, FinishReport, HitHandler, HitStatus, HttpCache, HttpCacheDigest, InUse, MemCache,
-        MissHandler, NoCacheReason, PurgeAction, PurgeOutcome, PurgeTarget, PurgeType, RespCacheable, Storage,
-        VarianceBuilder, prelude,
+        CachePhase, FinishReport, HitHandler, HitStatus, HttpCache, HttpCacheDigest, InUse,
+        MemCache, MissHandler, NoCacheReason, PurgeAction, PurgeOutcome, PurgeTarget, PurgeType,
+        RespCacheable, Storage, VarianceBuilder, prelude,
     };
 }
 

@@ -360,4 +360,3 @@ impl<'a> From<&'a CacheEntryKey> for CacheEntryKeyRef<'a> {
         CacheEntryKeyRef::from_entry_id(entry.key(), entry.entry_id())
     }
 }
-

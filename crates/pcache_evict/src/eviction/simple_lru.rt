@@ -311,4 +311,3 @@ impl EvictionManager for Manager {
         Manager::peek(self, item)
     }
 }
-

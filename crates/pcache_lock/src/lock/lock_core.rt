@@ -76,7 +76,6 @@ pub struct LockCore {
 impl Model for LockCore {
     ghost use Rattle.std.specs.Duration.{as_nanos};
     ghost use Rattle.pcache_lock.specs.Permits.{Core};
-
     ghost use Rattle.std.specs.Vec.{vec_capacity};
     ghost use Rattle.pcache_lock.specs.Waiting.{HasRoom};
 
