@@ -3,20 +3,29 @@ use Rattle.std.proofs.Common.{◌≡◌, ℕ, Bool, true, false, not, ◌&&◌, 
 use Rattle.std.proofs.lemmas.Bool.{both_ways}
 use Rattle.pcache_base.specs.Key.{Key, slot}
 use Rattle.pcache_meta.specs.Meta.{Meta}
-use Rattle.pcache_lock.specs.Locks.{Locks, given, holder, is_permit, number_of_lock}
+use Rattle.pcache_base.specs.declared.error.ErrorType.{ErrorType}
+use Rattle.pcache_base.specs.declared.error.ErrorType.TheVariants.{OutOfMemory, NumbersExhausted}
+use Rattle.pcache_lock.specs.Locks.{Locks, MayRefuseLock, given, holder, is_permit, number_of_lock}
+use Rattle.pcache_lock.specs.declared.lock.permit.Locked.{Locked}
+use Rattle.pcache_lock.specs.declared.lock.permit.Locked.TheVariants.{Write, Read}
 use Rattle.pcache_base.specs.declared.poll.Poll.{Poll}
 use Rattle.pcache_store.specs.Store.{Store, Reader, Part, find, reader_weight, read_of, reader_after}
-use Rattle.pcache_request.specs.declared.phase.CachePhase.{CachePhase}
 use Rattle.pcache_request.specs.declared.phase.HitStatus.{HitStatus}
 use Rattle.pingora_cache.specs.declared.world.call.LockKind.{LockKind}
 use Rattle.pingora_cache.specs.declared.world.call.Reply.TheVariants as R
+use Rattle.pingora_cache.specs.declared.world.entry.Answer.TheVariants.{Nothing}
 use Rattle.pingora_cache.specs.declared.world.entry.Event.{Event}
 use Rattle.pingora_cache.specs.declared.world.entry.Event.TheVariants as E
-use Rattle.pcache_request.specs.Phases.{is_fresh}
-use Rattle.pcache_request.specs.Requests.{Request, found_for, locked_found, found_row, asks_as_stale, asks_for_hit, phase_found, placed, with_lock, counts_found, entry_of, reader_in, writing, begun_for, joined_for}
+use Rattle.pcache_request.specs.declared.phase.CachePhase.{CachePhase}
+use Rattle.pcache_request.specs.Reports.{name_of, asked_with, asked_in_look_up, asked_by_found, access_by_found}
+use Rattle.pcache_request.specs.declared.cache.report.AskedLock.{AskedLock}
+use Rattle.pcache_request.specs.declared.cache.report.LockName.{LockName}
+use Rattle.pcache_request.specs.Requests.{Request, found_for, found_row, locked_found, looked, phase_found, placed, with_lock, asks_for_miss, asks_for_hit, asks_as_stale, counts_found, entry_of, reader_in, writing, begun_for, joined_for}
+use Rattle.pingora_cache.specs.Facts.{facts_in}
+use Rattle.pingora_cache.specs.Rules.{Looks, Takes}
 use Rattle.pingora_cache.specs.Held.{Held, lock_of, asked, began, read_past}
-use Rattle.pingora_cache.specs.Rules.{AsksIf, Takes, each, accesses, permit_of}
-use Rattle.pingora_cache.specs.Step.{IsAnswered, asking, kind_asked}
+use Rattle.pingora_cache.specs.Rules.{AsksIf, IsLockRefusal, each, accesses, permit_of}
+use Rattle.pingora_cache.specs.Step.{IsAnswered, asking, kind_asked, noting, permit_in}
 use Rattle.pingora_cache.proofs.StateAnswers.{found-answer, read-past}
 use Rattle.pingora_cache.proofs.StateCalls.{begun-joins}
 
@@ -30,13 +39,67 @@ asked-each : (stale : Bool) (older : Option ℕ) (x : Request) → asked stale (
 asked-each stale None x = refl
 asked-each stale (Some n) x = refl
 
--- a request that holds the lock given to it, where it asked for one
-abbrev holding : Bool → Locks → Bool → Option ℕ → Request → Request
-holding b t stale o x = cond b (record x { held = Some (given t stale o) }) x
+-- the permit that a report names is the one that is held
+pub permit-named : (held : Option Locked) → permit_in (option_map name_of held) ≡ permit_of held
+permit-named None = refl
+permit-named (Some (Write p)) = refl
+permit-named (Some (Read r)) = refl
 
-asked-holding : (b : Bool) (t : Locks) (stale : Bool) (o : Option ℕ) (k : ℕ) (older : Option ℕ) (x : Request) → holding b t stale o x ≡ asked stale (asking b k (holding b t stale o x).held older) x
-asked-holding true t stale o k older x = ap (λ l. record x { held = Some l }) (sym (lock-given t stale o)) ∙ sym (asked-each stale older _)
-asked-holding false t stale o k older x = refl
+-- a lock that was asked for
+abbrev if_asked : Bool → Bool → Locks → Option Key → Option Locked → Option AskedLock
+if_asked b stale t o h = cond b (option_map (λ k. asked_with stale t k h) o) None
+
+-- it is what the clauses of calls want
+asks-with : (b stale : Bool) (t : Locks) (k : Key) (h : Option Locked) → AsksIf b (slot k) h (asking (slot k) (if_asked b stale t (Some k) h)) (kind_asked (if_asked b stale t (Some k) h))
+asks-with true stale t k h = let l = given t stale (holder t (slot k)) in (number_of_lock l, is_permit l, ap (λ o. E.Ask (slot k) (number_of_lock l) (is_permit l) ∷ each E.LetGo o) (permit-named h), refl)
+asks-with false stale t k h = (refl, refl)
+
+asks-if : (b stale : Bool) (t : Locks) (k : Key) (j : ℕ) (h : Option Locked) (o : Option Key) (a : Option AskedLock) (l : Option LockKind) → o ≡ Some k → j ≡ slot k → a ≡ if_asked b stale t o h → l ≡ kind_asked a → AsksIf b (slot k) h (asking j a) l
+asks-if b stale t k j h o a l key at is kind =
+    let same = is ∙ ap (λ q. if_asked b stale t q h) key in
+    subst (λ q. AsksIf b (slot k) h (asking j a) q) (sym (kind ∙ ap kind_asked same)) (subst (λ es. AsksIf b (slot k) h es (kind_asked (if_asked b stale t (Some k) h))) (sym (λ i. asking (at i) (same i))) (asks-with b stale t k h))
+
+-- where nothing was found, a lock is asked for where one is in use
+asks-for-nothing : (b : Bool) (o : Option (Meta × Reader)) → o ≡ None → b && not (is_some o) ≡ b
+asks-for-nothing b o none = ap (λ q. b && not (is_some q)) none ∙ elim b as (λ c. c && true ≡ c) [ true ↦ refl | false ↦ refl ]
+
+-- a request that holds the lock given to it, where it asked for one
+asked-given : (b stale : Bool) (t : Locks) (o : Option Key) (j : ℕ) (x : Request) → cond b (with_lock stale t o x) x ≡ asked stale (asking j (if_asked b stale t o x.held)) x
+asked-given true stale t None j x = refl
+asked-given true stale t (Some k) j x = ap (λ l. record x { held = Some l }) (sym (lock-given t stale (holder t (slot k)))) ∙ sym (asked-each stale (permit_in (option_map name_of x.held)) _)
+asked-given false stale t o j x = refl
+
+pub looked-asked : (s : Store) (t : Locks) (x : Request) (j : ℕ) → looked s t x ≡ asked false (asking j (asked_in_look_up s t x)) x
+looked-asked s t x j = asked-given (asks_for_miss s x) false t x.key j x
+
+-- what a look-up that found nothing answers
+pub looks-nothing : (s : Store) (t : Locks) (x : Request) (k : Key) (j : ℕ) (a : Option AskedLock) (l : Option LockKind) (old first events : List Event) → x.key ≡ Some k → j ≡ slot k → found_for s x.key ≡ None → a ≡ asked_in_look_up s t x → l ≡ kind_asked a
+    → old ≡ [] → first ≡ old ++ E.Look j Nothing ∷ [] → events ≡ first ++ asking j a → Looks (facts_in s x) x (R.NotFound l) events
+looks-nothing s t x k j a l old first events key at nothing is kind none one all =
+    let asks = subst (λ b. AsksIf b (slot k) x.held (asking j a) l) (asks-for-nothing x.uses.lock (found_for s x.key) nothing) (asks-if (asks_for_miss s x) false t k j x.held x.key a l key at is kind) in
+    inr (k, Nothing, asking j a, l, key, sym nothing, asks, all ∙ ap (λ es. es ++ asking j a) (one ∙ ap (λ es. es ++ E.Look j Nothing ∷ []) none) ∙ ap (λ q. E.Look q Nothing ∷ asking j a) at, refl)
+
+-- a lock is refused for want of memory or of numbers
+lock-refused : (t : Locks) (e : ErrorType) → MayRefuseLock t e → IsLockRefusal e
+lock-refused t OutOfMemory h = inl refl
+lock-refused t NumbersExhausted h = inr refl
+lock-refused t e h = absurd h
+
+-- what is answered where a pair can't be taken
+pub takes-refused : (s : HitStatus) (t : Locks) (x : Request) (p : Meta × Reader) (k : Key) (e kind : ErrorType) (events : List Event) → x.key ≡ Some k → MayRefuseLock t e → kind ≡ e → events ≡ accesses s k p.1 x → Takes s x (Some p) (R.Refused kind) events
+takes-refused s t x p k e kind events key why is all = (k, key, inl (e, lock-refused t e why, ap R.Refused is, inr all))
+
+locked-phase : (s : HitStatus) (t : Locks) (x : Request) → (locked_found s t x).phase ≡ x.phase
+locked-phase s t x = elim (asks_for_hit s x) as (λ b. (cond b (with_lock (asks_as_stale s x.phase) t x.key x) x).phase ≡ x.phase) [ true ↦ elim x.key as (λ k. (with_lock (asks_as_stale s x.phase) t k x).phase ≡ x.phase) [ None ↦ refl | Some k ↦ refl ] | false ↦ refl ]
+
+pub found-phase : (s : HitStatus) (m : Meta) (h : Reader) (t : Locks) (x : Request) → (found_row s m h t x).phase ≡ phase_found s x.phase
+found-phase s m h t x = ap (phase_found s) (locked-phase s t x)
+
+-- what is answered where a pair is taken
+pub takes-found : (s : HitStatus) (t : Locks) (x : Request) (p : Meta × Reader) (k : Key) (j : ℕ) (a : Option AskedLock) (l : Option LockKind) (phase : CachePhase) (events : List Event) → x.key ≡ Some k → j ≡ slot k → a ≡ asked_by_found s t x → l ≡ kind_asked a
+    → events ≡ accesses s k p.1 x ++ asking j a → phase ≡ phase_found s x.phase → Takes s x (Some p) (R.Taken phase l) events
+takes-found s t x p k j a l phase events key at is kind all now =
+    (k, key, inr (asking j a, l, asks-if (asks_for_hit s x) (asks_as_stale s x.phase) t k j x.held x.key a l key at is kind, all, ap (λ q. R.Taken q l) now))
 
 answered-at : (s : Store) (k : ℕ) (p : Meta × Reader) → find s k ≡ Some p → IsAnswered p.0 p.1
 answered-at s k p h = let a = found-answer s k in (a.0, a.1 ∙ h)
@@ -47,43 +110,18 @@ found-answered s (Some k) p h = answered-at s (slot k) p h
 
 -- what was found is taken
 
-locked-holding : (s : HitStatus) (t : Locks) (x : Request) (k : Key) → x.key ≡ Some k → locked_found s t x ≡ holding (x.uses.lock && not (is_fresh s)) t (asks_as_stale s x.phase) (holder t (slot k)) x
-locked-holding s t x k key = ap (λ o. cond (x.uses.lock && not (is_fresh s)) (with_lock (asks_as_stale s x.phase) t o x) x) key
-
 -- an access gives no lock
 asked-accesses : (stale : Bool) (s : HitStatus) (k : Key) (h : Reader) (x : Request) (more : List Event) → asked stale (accesses s k h x ++ more) x ≡ asked stale more x
 asked-accesses stale s k h x more = elim (counts_found s h x) as (λ b. asked stale ((if b then E.Access (entry_of k None) (reader_weight h) ∷ [] else []) ++ more) x ≡ asked stale more x) [ true ↦ refl | false ↦ refl ]
 
-pub found-asked : (s : HitStatus) (m : Meta) (h : Reader) (t : Locks) (x : Request) (k : Key) (older : Option ℕ) → x.key ≡ Some k
-    → found_row s m h t x ≡ placed s m h (asked (asks_as_stale s x.phase) (accesses s k h x ++ asking (x.uses.lock && not (is_fresh s)) (slot k) (found_row s m h t x).held older) x)
-found-asked s m h t x k older key =
-    let b = x.uses.lock && not (is_fresh s) in
-    let is = locked-holding s t x k key in
-    ap (placed s m h) (
-    is ∙ asked-holding b t (asks_as_stale s x.phase) (holder t (slot k)) (slot k) older x
-    ∙ ap (λ (y : Request). asked (asks_as_stale s x.phase) (asking b (slot k) y.held older) x) (sym is)
-    ∙ sym (asked-accesses (asks_as_stale s x.phase) s k h x (asking b (slot k) (locked_found s t x).held older)))
+pub found-asked : (s : HitStatus) (m : Meta) (h : Reader) (t : Locks) (x : Request) (k : Key) (j : ℕ) → found_row s m h t x ≡ placed s m h (asked (asks_as_stale s x.phase) (accesses s k h x ++ asking j (asked_by_found s t x)) x)
+found-asked s m h t x k j = ap (placed s m h) (asked-given (asks_for_hit s x) (asks_as_stale s x.phase) t x.key j x ∙ sym (asked-accesses (asks_as_stale s x.phase) s k h x (asking j (asked_by_found s t x))))
 
--- the lock that a taken pair asked for is what the clause of its call wants
-asks-held : (b stale : Bool) (t : Locks) (o : Option ℕ) (k : ℕ) (x : Request) → AsksIf b k x.held (asking b k (holding b t stale o x).held (permit_of x.held)) (kind_asked b (holding b t stale o x).held)
-asks-held true stale t o k x = (number_of_lock (given t stale o), is_permit (given t stale o), refl, refl)
-asks-held false stale t o k x = (refl, refl)
-
-locked-phase : (s : HitStatus) (t : Locks) (x : Request) → (locked_found s t x).phase ≡ x.phase
-locked-phase s t x = elim (asks_for_hit s x) as (λ b. (cond b (with_lock (asks_as_stale s x.phase) t x.key x) x).phase ≡ x.phase) [ true ↦ elim x.key as (λ k. (with_lock (asks_as_stale s x.phase) t k x).phase ≡ x.phase) [ None ↦ refl | Some k ↦ refl ] | false ↦ refl ]
-
-pub takes-asked : (s : HitStatus) (m : Meta) (h : Reader) (t : Locks) (x y : Request) (k : Key) (b : Bool) (j : ℕ) (older : Option ℕ) (l : Option LockKind) (phase : CachePhase) (events : List Event) → x.key ≡ Some k → b ≡ asks_for_hit s x → j ≡ slot k
-    → older ≡ permit_of x.held → y ≡ found_row s m h t x → l ≡ kind_asked b y.held → events ≡ accesses s k h x ++ asking b j y.held older → phase ≡ y.phase → Takes s x (Some (m, h)) (R.Taken phase l) events
-takes-asked s m h t x y k b j older l phase events key asks at permit is kind all now =
-    let c : Bool = x.uses.lock && not (is_fresh s) in
-    let after : Request = holding c t (asks_as_stale s x.phase) (holder t (slot k)) x in
-    let held : y.held ≡ after.held = ap (λ (z : Request). z.held) is ∙ ap (λ (z : Request). z.held) (locked-holding s t x k key) in
-    let more : asking b j y.held older ≡ asking c (slot k) after.held (permit_of x.held) = (λ i. asking (asks i) (at i) (held i) (permit i)) in
-    let told : l ≡ kind_asked c after.held = kind ∙ (λ i. kind_asked (asks i) (held i)) in
-    let asked : AsksIf c (slot k) x.held (asking b j y.held older) l =
-    subst (λ q. AsksIf c (slot k) x.held (asking b j y.held older) q) (sym told)
-    (subst (λ es. AsksIf c (slot k) x.held es (kind_asked c after.held)) (sym more) (asks-held c (asks_as_stale s x.phase) t (holder t (slot k)) (slot k) x)) in
-    (k, key, inr (asking b j y.held older, l, asked, all, ap (λ q. R.Taken q l) (now ∙ ap (λ (z : Request). z.phase) is ∙ ap (phase_found s) (locked-phase s t x))))
+-- what is noted of a use is what a hit that counts gives
+pub noted-access : (s : HitStatus) (k : Key) (h : Reader) (x : Request) → x.key ≡ Some k → noting (access_by_found s h None x) ≡ accesses s k h x
+noted-access s k h x key =
+    ap (λ o. noting (cond (counts_found s h x) (option_map (λ k. record { entry = entry_of k None; weight = reader_weight h }) o) None)) key
+    ∙ elim (counts_found s h x) as (λ b. noting (cond b (Some (record { entry = entry_of k None; weight = reader_weight h })) None) ≡ (if b then E.Access (entry_of k None) (reader_weight h) ∷ [] else [])) [ true ↦ refl | false ↦ refl ]
 
 -- a reader that gave bytes is past them
 
@@ -111,6 +149,10 @@ began-is s x y k m n w j events rest key meta is wrote done =
     let number : ◌≡◌ {A = Option ℕ} (Some s.next) (Some w) = sym (ap (λ (z : Request). z.write) follows) ∙ wrote in
     let same : s.next ≡ w = cc in
     follows ∙ ap (λ q. with_write q x) same ∙ ap (λ es. began true es x) (sym done)
+
+-- the permit that the end of a write released
+pub released-permit : (x : Request) (w : ℕ) (released : Option LockName) (o : Option ℕ) → x.write ≡ Some w → released ≡ cond (is_some x.write) (option_map name_of x.held) None → o ≡ permit_in released → o ≡ permit_of x.held
+released-permit x w released o has is permit = permit ∙ ap permit_in (is ∙ ap (λ q. cond (is_some q) (option_map name_of x.held) None) has) ∙ permit-named x.held
 
 pub not-begun : (o : Option ℕ) (n : ℕ) → o ≡ None → o ≡ Some n → ⊥
 not-begun o n none some = both_ways (is_some o) (ap is_some none) (ap is_some some)

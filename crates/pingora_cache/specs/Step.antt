@@ -7,8 +7,9 @@ use Rattle.pcache_meta.specs.Meta.{Meta}
 use Rattle.pcache_base.specs.declared.error.ErrorType.{ErrorType}
 use Rattle.pcache_base.specs.declared.error.ErrorType.TheVariants.{WriteRemoved}
 use Rattle.pcache_evict.specs.Tracked.{Tracked, Limits}
-use Rattle.pcache_lock.specs.Locks.{is_permit, number_of_lock}
-use Rattle.pcache_lock.specs.declared.lock.permit.Locked.{Locked}
+use Rattle.pcache_request.specs.declared.cache.report.Access.{Access}
+use Rattle.pcache_request.specs.declared.cache.report.AskedLock.{AskedLock}
+use Rattle.pcache_request.specs.declared.cache.report.LockName.{LockName}
 use Rattle.pcache_request.specs.Requests.{left_by, dropped_by}
 use Rattle.pcache_store.specs.Store.{Store, Reader}
 use Rattle.pingora_cache.specs.declared.world.call.Call.{Call}
@@ -29,17 +30,24 @@ use Rattle.pingora_cache.specs.Sound.{pair_reader}
 abbrev pub IsAnswered : Meta → Reader → Type 0
 IsAnswered m reader = (a : Answer) × (pair_of a ≡ Some (m, reader))
 
--- what is noted and answered of the lock that was asked for and is held now, where one is in use; a permit that was held
--- before was let go
-abbrev pub asking : Bool → ℕ → Option Locked → Option ℕ → List Event
-asking true k (Some l) older = E.Ask k (number_of_lock l) (is_permit l) ∷ each E.LetGo older
-asking true k None older = []
-asking false k held older = []
+-- the number of a lock, where it is a permit
+abbrev pub permit_in : Option LockName → Option ℕ
+permit_in None = None
+permit_in (Some l) = cond l.is_permit (Some l.number) None
 
-abbrev pub kind_asked : Bool → Option Locked → Option LockKind
-kind_asked true (Some l) = Some (kind_of (is_permit l))
-kind_asked true None = None
-kind_asked false held = None
+-- what is noted and answered of the lock that was asked for, if one was; a permit that it replaced was let go
+abbrev pub asking : ℕ → Option AskedLock → List Event
+asking k None = []
+asking k (Some a) = E.Ask k a.given.number a.given.is_permit ∷ each E.LetGo (permit_in a.replaced)
+
+abbrev pub kind_asked : Option AskedLock → Option LockKind
+kind_asked None = None
+kind_asked (Some a) = Some (kind_of a.given.is_permit)
+
+-- what is noted of the use of an entry, if one was
+abbrev pub noting : Option Access → List Event
+noting None = []
+noting (Some a) = E.Access a.entry a.weight ∷ []
 
 -- what is noted of a write whose end was refused: its key was removed since it began, or it was dropped
 abbrev pub refused_end : ℕ → ErrorType → Event

@@ -4,11 +4,11 @@ ghost use Rattle.pcache_store.specs.Readers.{reader_of};
 ghost use Rattle.pingora_cache.specs.Rules.{permit_of};
 ghost use Rattle.pcache_request.specs.Requests.{Request, left_by};
 ghost use Rattle.pingora_cache.specs.Sound.{pair_reader};
-ghost use Rattle.pingora_cache.specs.Step.{store_ended};
+ghost use Rattle.pingora_cache.specs.Step.{permit_in, store_ended};
 
 use pcache_lock::lock::{CacheLock, Locked};
 use pcache_meta::meta::CacheMeta;
-use pcache_request::cache::HttpCache;
+use pcache_request::cache::{HttpCache, LockName};
 use pcache_store::memory::{MemCache, MemHitHandler};
 use pcache_store::storage::HandleHit;
 use std::marker::Model;
@@ -78,5 +78,20 @@ pub(crate) fn hold(place: &mut Option<Pair>, pair: Option<Pair>, store: &mut Mem
 {
     if let Some((_meta, hit)) = std::mem::replace(place, pair) {
         hit.let_go(store);
+    }
+}
+
+/// The number of a lock, where it is a permit.
+pub(crate) fn permit_in(lock: Option<LockName>) -> Option<u64>
+    ensures { result ≡ permit_in lock }
+{
+    match lock {
+        Some(
+            LockName {
+                number,
+                is_permit: true,
+            },
+        ) => Some(number),
+        _ => None,
     }
 }
