@@ -5,7 +5,6 @@ use pcache_evict::eviction::{CacheEntryId, CacheEntryKey, CacheEntryKeyRef};
 use pcache_store::storage::PurgeTarget;
 use pcache_store::storage::streaming_write::{U32WriteId, U64WriteId};
 use std::alloc::Global;
-use std::process::Abort;
 use std::test::Fail;
 
 fn compact(alloc: Global) -> Result<CompactCacheKey> {
@@ -20,20 +19,17 @@ fn entry_42(alloc: Global) -> Result<CacheEntryKey> {
     Ok(CacheEntryKey::identified(compact(alloc)?, CacheEntryId::new(42)))
 }
 
-fn name_what_they_remove(rt: &impl Abort, entry: &CacheEntryKey, key: &CompactCacheKey) {
-    let id = CacheEntryId::new(42);
-    let (target, active) = (PurgeTarget::Exact(entry), PurgeTarget::Active(key));
-    assert!(rt; target.removed_entry(None) == CacheEntryKeyRef::from(entry));
-    assert!(rt; target.removed_entry(Some(id)) == CacheEntryKeyRef::from(entry));
-    assert!(rt; active.removed_entry(Some(id)) == CacheEntryKeyRef::from(entry));
-    assert!(rt; active.key() == target.key());
-    assert!(rt; active != target);
-}
-
 #[test]
 fn a_removed_entry_is_the_one_named(rt: HostRuntime) -> std::result::Result<(), Fail> {
-    let entry = entry_42(rt.alloc())?;
-    name_what_they_remove(&rt, &entry, &compact(rt.alloc())?);
+    let id = CacheEntryId::new(42);
+    let key = compact(rt.alloc())?;
+    let entry = CacheEntryKey::identified(compact(rt.alloc())?, id);
+    let (target, active) = (PurgeTarget::Exact(&entry), PurgeTarget::Active(&key));
+    assert!(rt; target.removed_entry(None) == CacheEntryKeyRef::from(&entry));
+    assert!(rt; target.removed_entry(Some(id)) == CacheEntryKeyRef::from(&entry));
+    assert!(rt; active.removed_entry(Some(id)) == CacheEntryKeyRef::from(&entry));
+    assert!(rt; active.key() == target.key());
+    assert!(rt; active != target);
     Ok(())
 }
 
