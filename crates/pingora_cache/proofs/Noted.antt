@@ -1,6 +1,7 @@
 -- What a world notes of a look-up and of what it takes is what the request became.
 use Rattle.std.proofs.Common.{◌≡◌, ℕ, Bool, true, false, not, ◌&&◌, cond, if◌then◌else◌, Option, None, Some, inl, inr, is_some, List, [], ◌∷◌, ◌++◌, refl, ap, sym, subst, ◌∙◌, IfSome, option_map}
-use Rattle.std.proofs.lemmas.Bool.{both_ways}
+use Rattle.std.specs.FinMap as map
+use Rattle.pcache_base.specs.CompactKey.{compact_of}
 use Rattle.pcache_base.specs.Key.{Key, slot}
 use Rattle.pcache_meta.specs.Meta.{Meta}
 use Rattle.pcache_base.specs.declared.error.ErrorType.{ErrorType}
@@ -9,7 +10,18 @@ use Rattle.pcache_lock.specs.Locks.{Locks, MayRefuseLock, given, holder, is_perm
 use Rattle.pcache_lock.specs.declared.lock.permit.Locked.{Locked}
 use Rattle.pcache_lock.specs.declared.lock.permit.Locked.TheVariants.{Write, Read}
 use Rattle.pcache_base.specs.declared.poll.Poll.{Poll}
-use Rattle.pcache_store.specs.Store.{Store, Reader, Part, find, reader_weight, read_of, reader_after}
+use Rattle.pcache_evict.specs.Tracked.{Tracked}
+use Rattle.pcache_base.specs.declared.key.CompactCacheKey.{CompactCacheKey}
+use Rattle.pcache_evict.specs.Entry.{key_of}
+use Rattle.pcache_evict.specs.declared.eviction.entry_key.CacheEntryKey.{CacheEntryKey}
+use Rattle.pcache_evict.specs.declared.eviction.entry_key.CacheEntryKey.TheVariants.{KeyOnly}
+use Rattle.pcache_request.specs.declared.cache.finish.FinishReport.{FinishReport}
+use Rattle.pcache_request.specs.declared.cache.finish.WriteEnd.{WriteEnd}
+use Rattle.pcache_request.specs.declared.cache.finish.WriteEnd.TheVariants.{Stored}
+use Rattle.pcache_store.specs.Purge.{purge_answer, purged_at}
+use Rattle.pcache_store.specs.Store.{Store, Reader, Part, find, reader_weight, read_of, reader_after, purged}
+use Rattle.pcache_store.specs.declared.storage.PurgeOutcome.{PurgeOutcome}
+use Rattle.pcache_store.specs.declared.storage.PurgeOutcome.TheVariants.{NotFound, Purged}
 use Rattle.pcache_request.specs.declared.phase.HitStatus.{HitStatus}
 use Rattle.pingora_cache.specs.declared.world.call.LockKind.{LockKind}
 use Rattle.pingora_cache.specs.declared.world.call.Reply.TheVariants as R
@@ -17,15 +29,15 @@ use Rattle.pingora_cache.specs.declared.world.entry.Answer.TheVariants.{Nothing}
 use Rattle.pingora_cache.specs.declared.world.entry.Event.{Event}
 use Rattle.pingora_cache.specs.declared.world.entry.Event.TheVariants as E
 use Rattle.pcache_request.specs.declared.phase.CachePhase.{CachePhase}
-use Rattle.pcache_request.specs.Reports.{name_of, asked_with, asked_in_look_up, asked_by_found, access_by_found}
+use Rattle.pcache_request.specs.Reports.{name_of, asked_with, asked_in_look_up, asked_by_found, access_by_found, entry_stored, untracked, untracked_for}
 use Rattle.pcache_request.specs.declared.cache.report.AskedLock.{AskedLock}
 use Rattle.pcache_request.specs.declared.cache.report.LockName.{LockName}
-use Rattle.pcache_request.specs.Requests.{Request, found_for, found_row, locked_found, looked, phase_found, placed, with_lock, asks_for_miss, asks_for_hit, asks_as_stale, counts_found, entry_of, reader_in, writing, begun_for, joined_for}
-use Rattle.pingora_cache.specs.Facts.{facts_in}
+use Rattle.pcache_request.specs.Requests.{Request, found_for, found_row, locked_found, looked, phase_found, placed, with_lock, asks_for_miss, asks_for_hit, asks_as_stale, counts_found, entry_of, reader_in, writing, begun_for, joined_for, is_removed_by, tracked_gone, tracked_gone_for}
+use Rattle.pingora_cache.specs.Facts.{facts_in, there_for}
 use Rattle.pingora_cache.specs.Rules.{Looks, Takes}
 use Rattle.pingora_cache.specs.Held.{Held, lock_of, asked, began, read_past}
-use Rattle.pingora_cache.specs.Rules.{AsksIf, IsLockRefusal, each, accesses, permit_of}
-use Rattle.pingora_cache.specs.Step.{IsAnswered, asking, kind_asked, noting, permit_in}
+use Rattle.pingora_cache.specs.Rules.{AsksIf, IsLockRefusal, each, accesses, permit_of, untrack_of}
+use Rattle.pingora_cache.specs.Step.{IsAnswered, asking, kind_asked, noting, permit_in, untracking}
 use Rattle.pingora_cache.proofs.StateAnswers.{found-answer, read-past}
 use Rattle.pingora_cache.proofs.StateCalls.{begun-joins}
 
@@ -154,5 +166,46 @@ began-is s x y k m n w j events rest key meta is wrote done =
 pub released-permit : (x : Request) (w : ℕ) (released : Option LockName) (o : Option ℕ) → x.write ≡ Some w → released ≡ cond (is_some x.write) (option_map name_of x.held) None → o ≡ permit_in released → o ≡ permit_of x.held
 released-permit x w released o has is permit = permit ∙ ap permit_in (is ∙ ap (λ q. cond (is_some q) (option_map name_of x.held) None) has) ∙ permit-named x.held
 
-pub not-begun : (o : Option ℕ) (n : ℕ) → o ≡ None → o ≡ Some n → ⊥
-not-begun o n none some = both_ways (is_some o) (ap is_some none) (ap is_some some)
+-- the entry of a body that was stored, without the number that a store may give it
+pub stored-entry : (o : Option Key) (id : Option ℕ) (k : Key) (how : WriteEnd) (f : FinishReport) (gave : Option CacheEntryKey) (e : CacheEntryKey) (c : CompactCacheKey) → o ≡ Some k → how ≡ Stored f → gave ≡ entry_stored o id how → gave ≡ Some e → c ≡ key_of e → KeyOnly c ≡ entry_of k None
+stored-entry o id k how f gave e c key stored is some own =
+    let whole : ◌≡◌ {A = Option CacheEntryKey} (Some e) (Some (entry_of k id)) = sym some ∙ is ∙ (λ i. entry_stored (key i) id (stored i)) in
+    let same : e ≡ entry_of k id = cc in
+    ap KeyOnly (own ∙ ap key_of same ∙ elim id as (λ n. key_of (entry_of k n) ≡ compact_of k) [ None ↦ refl | Some n ↦ refl ])
+
+-- ---- what is noted of a purge
+
+-- what stands under a request's key, and what a removal finds of it
+untracked-as : (there uses : Bool) (k : Key) → untracking (untracked uses (compact_of k) (cond there (Purged None) NotFound)) ≡ untrack_of (there && uses) k
+untracked-as false uses k = refl
+untracked-as true false k = refl
+untracked-as true true k = refl
+
+removed-as : (there : Bool) → is_removed_by (cond there (Purged None) NotFound) ≡ there
+removed-as true = refl
+removed-as false = refl
+
+gone-as : (there uses : Bool) (k : Key) (m : Tracked) → tracked_gone uses (compact_of k) (cond there (Purged None) NotFound) m ≡ cond (there && uses) (map.remove m (entry_of k None)) m
+gone-as false uses k m = refl
+gone-as true false k m = refl
+gone-as true true k m = refl
+
+module _ (s : Store) (uses : Bool) (o : Option Key) (k : Key) (key : o ≡ Some k) where
+  abbrev pub goes : Bool
+  goes = there_for s o && uses
+
+  pub purge-events : (j : ℕ) (outcome : PurgeOutcome) (gone : Option CacheEntryKey) (old events : List Event) → j ≡ slot k → outcome ≡ purge_answer s (option_map slot o) → gone ≡ untracked_for uses o outcome → old ≡ []
+      → events ≡ old ++ E.Purge j ∷ untracking gone → events ≡ E.Purge (slot k) ∷ untrack_of goes k
+  purge-events j outcome gone old events at found went none is =
+      is ∙ (λ i. none i ++ E.Purge (at i) ∷ untracking (went i)) ∙ ap (λ q. E.Purge (slot k) ∷ untracking (untracked_for uses o q)) found
+      ∙ subst (λ q. ◌≡◌ {A = List Event} (E.Purge (slot k) ∷ untracking (untracked_for uses q (purge_answer s (option_map slot q)))) (E.Purge (slot k) ∷ untrack_of (there_for s q && uses) k)) (sym key)
+      (ap (λ es. E.Purge (slot k) ∷ es) (untracked-as (is_some (map.get s.slots (slot k))) uses k))
+
+  pub purge-told : (outcome : PurgeOutcome) → outcome ≡ purge_answer s (option_map slot o) → is_removed_by outcome ≡ there_for s o
+  purge-told outcome found = ap is_removed_by found ∙ subst (λ q. is_removed_by (purge_answer s (option_map slot q)) ≡ there_for s q) (sym key) (removed-as (is_some (map.get s.slots (slot k))))
+
+  pub purge-untracks : (m m' : Tracked) → m' ≡ tracked_gone_for uses o (purge_answer s (option_map slot o)) m → m' ≡ cond goes (map.remove m (entry_of k None)) m
+  purge-untracks m m' is = is ∙ subst (λ q. tracked_gone_for uses q (purge_answer s (option_map slot q)) m ≡ cond (there_for s q && uses) (map.remove m (entry_of k None)) m) (sym key) (gone-as (is_some (map.get s.slots (slot k))) uses k m)
+
+  pub purge-store : (u : Store) → u ≡ purged_at s (option_map slot o) → u ≡ purged s (slot k)
+  purge-store u is = is ∙ ap (λ q. purged_at s (option_map slot q)) key

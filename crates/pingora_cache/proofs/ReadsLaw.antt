@@ -1,5 +1,5 @@
 -- What a reader has given, over every legal history: a beginning of its write's body, or its range once.
-use Rattle.std.proofs.Common.{◌≡◌, ℕ, ◌+◌, ◌≤◌, ◌==◌, Bool, true, false, not, ◌&&◌, nat_lt, cond, if◌then◌else◌, Option, None, Some, IsSome, IfSome, List, [], ◌∷◌, ◌++◌, refl, ap, sym, subst, ◌∙◌, length, length-append, length-drop, take, drop, take-append-drop, take_all, append-nil, reverse, slice_range, arith, inl, inr}
+use Rattle.std.proofs.Common.{◌≡◌, ℕ, ◌+◌, ◌≤◌, ◌==◌, Bool, true, false, not, ◌&&◌, nat_lt, cond, if◌then◌else◌, Option, None, Some, IsSome, IfSome, List, [], ◌∷◌, ◌++◌, refl, ap, sym, subst, ◌∙◌, length, length-append, length-drop, take, drop, take-append-drop, take_all, append-nil, reverse, slice_range, arith, inl, inr, ◌⊎◌}
 use Rattle.std.specs.Option.{option_map}
 use Rattle.std.proofs.lemmas.Bool.{eqb-true}
 use Rattle.std.proofs.lemmas.List.{take-append-le}
@@ -10,8 +10,7 @@ use Rattle.pcache_base.specs.declared.poll.Poll.TheVariants.{Ready, Pending}
 use Rattle.pcache_evict.specs.Tracked.{Tracked, Limits}
 use Rattle.pcache_store.specs.Store.{Written, Reader, Whole, Part, read_part}
 use Rattle.pcache_request.specs.Phases.{is_treated_as_miss}
-use Rattle.pcache_request.specs.Releasing.{bypassed}
-use Rattle.pcache_request.specs.Requests.{Request, with_key, missed, with_meta}
+use Rattle.pcache_request.specs.Requests.{Request}
 use Rattle.pcache_request.specs.declared.phase.HitStatus.{HitStatus}
 use Rattle.pingora_cache.specs.declared.world.call.Call.{Call}
 use Rattle.pingora_cache.specs.declared.world.call.Call.TheVariants as C
@@ -23,7 +22,7 @@ use Rattle.pingora_cache.specs.declared.world.entry.Entry.{Entry}
 use Rattle.pingora_cache.specs.declared.world.entry.Event.{Event}
 use Rattle.pingora_cache.specs.declared.world.entry.Event.TheVariants as E
 use Rattle.pingora_cache.specs.Events.{begin_of, in_flight, body_of, is_told}
-use Rattle.pingora_cache.specs.Held.{Held, number_of, Outcome, outcome, is_wrong, is_done, is_taken, opened, with_given, asked, pair_of, looked_by, placed_by, taken_by, without_pair, began, ended, read_past, has_read, on_request, row_by, row, request_of}
+use Rattle.pingora_cache.specs.Held.{Held, Change, opens, closes, stays, turns, looks, takes, begins, ends, reads_on, change_of, changed, turned_by, number_of, Outcome, outcome, is_wrong, is_done, is_taken, opened, with_given, asked, pair_of, looked_by, placed_by, taken_by, without_pair, began, ended, read_past, has_read, on_request, row_by, row, request_of}
 use Rattle.pingora_cache.specs.History.{events_of, reads}
 use Rattle.pingora_cache.specs.Facts.{Facts, Says, request_in}
 use Rattle.pingora_cache.specs.Legal.{IsLegal}
@@ -66,9 +65,9 @@ run-stays : (events es : List Event) (reader : Reader) (got : List ℕ) → HasR
 run-stays [] es reader got h = h
 run-stays (e ∷ events) es reader got h = reader-stays e (events ++ es) reader got (run-stays events es reader got h)
 
-stays : (events es : List Event) (q : Option Held) (got : List ℕ) → Follows es q got → Follows (events ++ es) q got
-stays events es None got h = tt
-stays events es (Some x) got h =
+still : (events es : List Event) (q : Option Held) (got : List ℕ) → Follows es q got → Follows (events ++ es) q got
+still events es None got h = tt
+still events es (Some x) got h =
     (elim x.request.reader as (λ o. IfSome o (λ reader. HasRead es reader got) → IfSome o (λ reader. HasRead (events ++ es) reader got)) [ None ↦ λ _. tt | Some reader ↦ λ k. run-stays events es reader got k ] h.0, h.1)
 
 -- A reader that came to be.
@@ -198,31 +197,64 @@ read-follows f es x got reply events says some h (inr (done, told)) = by x.reque
         subst (FollowsRead es x got) (sym (done ∙ ap (λ g. E.Read g ∷ []) (says.given reader is)))
         (subst (λ o. IfSome (option_map (read_past a) o) (λ y. HasRead (E.Read a ∷ es) y (got ++ given_in (E.Read a ∷ [])))) (sym is) (gave es reader got had), h.1)
 
-module _ (f : Facts) (es : List Event) where
-  follow : (call : Call) (q : Option Held) (reply : Reply) (events : List Event) (got : List ℕ) → Says es (request_in q) f → Answers f call q reply events → Follows es q got → Follows (reverse events ++ es) q got
-      → Follows (reverse events ++ es) (row call reply events q) (read_on call (outcome reply) events got)
-  follow (C.Open r) q reply events got k a old h =
-      elim (is_done (outcome reply)) as (λ b. Follows (reverse events ++ es) (cond b (Some opened) q) (cond b [] got)) [ true ↦ (tt, tt) | false ↦ h ]
-  follow (C.Key r key) q reply events got k a old h = on-done (reverse events ++ es) got (is_done (outcome reply)) (option_map (on_request (with_key key)) q) q (on-each (reverse events ++ es) got (on_request (with_key key)) (λ x p. p) q h) h
-  follow (C.Look r t) q reply events got k a old h = on-each (reverse events ++ es) got (looked_by events) (looked-follows (reverse events ++ es) events got) q h
-  follow (C.Found r s t) None reply events got k a old h =
-      on-done (reverse events ++ es) (cond (is_taken (outcome reply)) [] got) (is_taken (outcome reply)) None (cond (is_wrong (outcome reply)) None None) tt (on-done (reverse events ++ es) (cond (is_taken (outcome reply)) [] got) (is_wrong (outcome reply)) None None tt tt)
-  follow (C.Found r s t) (Some x) reply events got k (inl a) old h = found-follows (reverse events ++ es) events s x got (outcome reply) (λ _. a.0.1) h
-  follow (C.Found r s t) (Some x) reply events got k (inr a) old h = found-follows (reverse events ++ es) events s x got (outcome reply) (λ is. absurd (subst (λ y. is_taken (outcome y) ≡ true → ⊥) (sym a.1.0) (λ e. cc) is)) h
-  follow (C.Bypass r) q reply events got k a old h = on-done (reverse events ++ es) got (is_done (outcome reply)) (option_map (on_request bypassed) q) q (on-each (reverse events ++ es) got (on_request bypassed) (λ x p. p) q h) h
-  follow (C.Miss r) q reply events got k a old h = on-done (reverse events ++ es) got (is_done (outcome reply)) (option_map (λ x. without_pair (on_request missed x)) q) q (on-each (reverse events ++ es) got (λ x. without_pair (on_request missed x)) (λ x p. (p.0, tt)) q h) h
-  follow (C.Meta r m) q reply events got k a old h = on-done (reverse events ++ es) got (is_done (outcome reply)) (option_map (on_request (with_meta m)) q) q (on-each (reverse events ++ es) got (on_request (with_meta m)) (λ x p. p) q h) h
-  follow (C.Begin r) None reply events got k a old h = tt
-  follow (C.Begin r) (Some x) reply events got k (inl a) old h = begin-follows f es x got reply events h a.2
-  follow (C.Begin r) (Some x) reply events got k (inr a) old h = begin-idle (reverse events ++ es) events x got reply R.WrongCall refl h a.1
-  follow (C.Write r bs eof) q reply events got k a old h = h
-  follow (C.Finish r) q reply events got k a old h = on-each (reverse events ++ es) got (on_request (ended events)) (ended-follows (reverse events ++ es) events got) q h
-  follow (C.Read r) None reply events got k a old h = tt
-  follow (C.Read r) (Some x) reply events got k (inl a) old h = read-follows f es x got reply events k a.0 old a.2
-  follow (C.Read r) (Some x) reply events got k (inr a) old h = subst (FollowsRead es x got) (sym a.1.1) (none-read es x got old)
-  follow (C.Purge r) q reply events got k a old h = h
-  follow (C.Phase r) q reply events got k a old h = h
-  follow (C.End r) q reply events got k a old h = on-done (reverse events ++ es) got (is_done (outcome reply)) None q tt h
+-- What a clause promises of a change that is more than a turn of the request.
+
+abbrev Promises : Facts → Change → Held → Reply → List Event → Type 0
+Promises f (takes s) x reply events = is_taken (outcome reply) ≡ true → IsSome x.pair
+Promises f begins x reply events = IsIdle R.WrongCall reply events ⊎ Begins f x.request reply events
+Promises f reads_on x reply events = (events ≡ []) ⊎ (IsSome x.request.reader × Reads f reply events)
+Promises f _ x reply events = Unit {0}
+
+promised : (f : Facts) (call : Call) (x : Held) (reply : Reply) (events : List Event) → Answers f call (Some x) reply events → Promises f (change_of call) x reply events
+promised f (C.Found r s t) x reply events (inl a) = λ _. a.0.1
+promised f (C.Found r s t) x reply events (inr a) = λ is. absurd (subst (λ y. is_taken (outcome y) ≡ true → ⊥) (sym a.1.0) (λ e. cc) is)
+promised f (C.Begin r) x reply events (inl a) = inr a.2
+promised f (C.Begin r) x reply events (inr a) = inl a.1
+promised f (C.Read r) x reply events (inl a) = inr (a.0, a.2)
+promised f (C.Read r) x reply events (inr a) = inl a.1.1
+promised f call x reply events a = tt
+
+module _ (f : Facts) (es events : List Event) (reply : Reply) (got : List ℕ) where
+  abbrev after : List Event
+  after = reverse events ++ es
+
+  abbrev o : Outcome
+  o = outcome reply
+
+  abbrev FollowsTo : Change → Option Held → Type 0
+  FollowsTo change q = Follows after (changed change o events q) (read_on change o events got)
+
+  follow : (change : Change) (x : Held) → Says es x.request f → Promises f change x reply events → FollowsIn es x got → FollowsIn after x got → FollowsTo change (Some x)
+  follow opens x says a old h = elim (is_done o) as (λ b. Follows after (cond b (Some opened) (Some x)) (cond b [] got)) [ true ↦ (tt, tt) | false ↦ h ]
+  follow closes x says a old h = on-done after got (is_done o) None (Some x) tt h
+  follow stays x says a old h = h
+  follow (turns g leaves_pair) x says a old h =
+      on-done after got (is_done o) (Some (turned_by g leaves_pair x)) (Some x) (h.0, elim leaves_pair as (λ b. IfSome (cond b None x.pair) (λ p. IsAtStart p.1)) [ true ↦ tt | false ↦ h.1 ]) h
+  follow looks x says a old h = looked-follows after events got x h
+  follow (takes s) x says a old h = found-follows after events s x got o a h
+  follow begins x says (inl a) old h = begin-idle after events x got reply R.WrongCall refl h a
+  follow begins x says (inr a) old h = begin-follows f es x got reply events h a
+  follow ends x says a old h = ended-follows after events got x h
+  follow reads_on x says (inl a) old h = subst (FollowsRead es x got) (sym a) (none-read es x got old)
+  follow reads_on x says (inr a) old h = read-follows f es x got reply events says a.0 old a.1
+
+  -- where no request is open
+  follow-none : (change : Change) → FollowsTo change None
+  follow-none opens = elim (is_done o) as (λ b. Follows after (cond b (Some opened) None) (cond b [] got)) [ true ↦ (tt, tt) | false ↦ tt ]
+  follow-none closes = on-done after got (is_done o) None None tt tt
+  follow-none stays = tt
+  follow-none (turns g leaves_pair) = on-done after got (is_done o) None None tt tt
+  follow-none looks = tt
+  follow-none (takes s) = let got = cond (is_taken o) [] got in on-done after got (is_taken o) None (cond (is_wrong o) None None) tt (on-done after got (is_wrong o) None None tt tt)
+  follow-none begins = tt
+  follow-none ends = tt
+  follow-none reads_on = tt
+
+-- one call
+follow-call : (f : Facts) (es : List Event) (call : Call) (q : Option Held) (reply : Reply) (events : List Event) (got : List ℕ) → Says es (request_in q) f → Answers f call q reply events → Follows es q got → Follows (reverse events ++ es) q got
+    → Follows (reverse events ++ es) (row call reply events q) (read_on (change_of call) (outcome reply) events got)
+follow-call f es call None reply events got k a old h = follow-none f es events reply got (change_of call)
+follow-call f es call (Some x) reply events got k a old h = follow f es events reply got (change_of call) x k (promised f call x reply events a) old h
 
 -- Histories.
 
@@ -232,13 +264,13 @@ follows-at limits start r (e ∷ h) l =
     let es = events_of h in
     let g = l.0 in
     let old = follows-at limits start r h l.1 in
-    let now = stays (reverse e.events) es (request_of r h) (read_by r h) old in
+    let now = still (reverse e.events) es (request_of r h) (read_by r h) old in
     elim (number_of e.call == r) as (λ b. (number_of e.call == r) ≡ b
-    → Follows (reverse e.events ++ es) (if b then row e.call e.reply e.events (request_of r h) else request_of r h) (if b then read_on e.call (outcome e.reply) e.events (read_by r h) else read_by r h)) [
+    → Follows (reverse e.events ++ es) (if b then row e.call e.reply e.events (request_of r h) else request_of r h) (if b then read_on (change_of e.call) (outcome e.reply) e.events (read_by r h) else read_by r h)) [
       | true ↦ λ is.
           let named : request_of (number_of e.call) h ≡ request_of r h = ap (λ n. request_of n h) (eqb-true (number_of e.call) r is) in
-          subst (λ o. Follows (reverse e.events ++ es) (row_by e.call o e.events (request_of r h)) (read_on e.call o e.events (read_by r h))) (sym (outcome-copied g.told e.reply g.copy))
-          (follow g.facts es e.call (request_of r h) g.told e.events (read_by r h) (subst (λ q. Says es (request_in q) g.facts) named g.says) (subst (λ q. Answers g.facts e.call q g.told e.events) named g.answers) old now)
+          subst (λ o. Follows (reverse e.events ++ es) (row_by e.call o e.events (request_of r h)) (read_on (change_of e.call) o e.events (read_by r h))) (sym (outcome-copied g.told e.reply g.copy))
+          (follow-call g.facts es e.call (request_of r h) g.told e.events (read_by r h) (subst (λ q. Says es (request_in q) g.facts) named g.says) (subst (λ q. Answers g.facts e.call q g.told e.events) named g.answers) old now)
       | false ↦ λ _. now
     ] refl
 

@@ -39,5 +39,5 @@ end-of limits call n all s s' m reply events is answers moves keeps =
     (record { answers = end-answers no_facts (facts_in s (request_in (lookup (is_at (nat_cmp n)) all))) n (lookup (is_at (nat_cmp n)) all) reply events answers; moves = moves limits m; keeps = keeps })
 
 -- a call that notes nothing
-pub moves-quietly : (limits : Limits) (q q' : Option Held) (s s' : Store) (m : Tracked) (events : List Event) → events ≡ [] → MovesStore q s [] q' s' → Moves limits q s m events q' s' m
-moves-quietly limits q q' s s' m events none moves = subst (λ es. Moves limits q s m es q' s' m) (sym none) (moves limits m)
+pub moves_quietly : (limits : Limits) (q q' : Option Held) (s s' : Store) (m : Tracked) (events : List Event) → events ≡ [] → MovesStore q s [] q' s' → Moves limits q s m events q' s' m
+moves_quietly limits q q' s s' m events none moves = subst (λ es. Moves limits q s m es q' s' m) (sym none) (moves limits m)

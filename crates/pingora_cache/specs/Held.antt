@@ -136,22 +136,58 @@ has_read (_ ∷ es) x = x
 abbrev pub on_request : (Request → Request) → Held → Held
 on_request f x = record { request = f x.request; pair = x.pair }
 
--- a call moves the request that it names by its row of the phase table
+-- What a call makes of the request that it names, by the row of the phase table.
+pub data Change : Type 0 where
+  -- a request comes to be
+  opens : Change
+  -- it goes
+  closes : Change
+  -- it stays as it is
+  stays : Change
+  -- where the call is done, all of it changes but its reader; its pair goes, or stays
+  turns : (f : Request → Request) (leaves_pair : Bool) → Change
+  -- it looks up, and takes what was found
+  looks : Change
+  takes : (s : HitStatus) → Change
+  -- a write begins, and ends
+  begins : Change
+  ends : Change
+  -- its reader reads on
+  reads_on : Change
+
+abbrev pub change_of : Call → Change
+change_of (C.Open r) = opens
+change_of (C.Key r k) = turns (with_key k) false
+change_of (C.Look r t) = looks
+change_of (C.Found r s t) = takes s
+change_of (C.Bypass r) = turns bypassed false
+change_of (C.Miss r) = turns missed true
+change_of (C.Meta r m) = turns (with_meta m) false
+change_of (C.Begin r) = begins
+change_of (C.Write r bs eof) = stays
+change_of (C.Finish r) = ends
+change_of (C.Read r) = reads_on
+change_of (C.Purge r) = stays
+change_of (C.Phase r) = stays
+change_of (C.End r) = closes
+
+-- all but its reader
+abbrev pub turned_by : (Request → Request) → Bool → Held → Held
+turned_by f leaves_pair x = record { request = record (f x.request) { reader = x.request.reader }; pair = cond leaves_pair None x.pair }
+
+abbrev pub changed : Change → Outcome → List Event → Option Held → Option Held
+changed opens o events q = cond (is_done o) (Some opened) q
+changed closes o events q = cond (is_done o) None q
+changed stays o events q = q
+changed (turns f leaves_pair) o events q = cond (is_done o) (option_map (turned_by f leaves_pair) q) q
+changed looks o events q = option_map (looked_by events) q
+changed (takes s) o events q = cond (is_taken o) (option_map (taken_by s events) q) (cond (is_wrong o) q (option_map without_pair q))
+changed begins o events q = option_map (on_request (began (is_done o) events)) q
+changed ends o events q = option_map (on_request (ended events)) q
+changed reads_on o events q = option_map (on_request (has_read events)) q
+
 abbrev pub row_by : Call → Outcome → List Event → Option Held → Option Held
-row_by (C.Open r) o events q = cond (is_done o) (Some opened) q
-row_by (C.Key r k) o events q = cond (is_done o) (option_map (on_request (with_key k)) q) q
-row_by (C.Look r t) o events q = option_map (looked_by events) q
-row_by (C.Found r s t) o events q = cond (is_taken o) (option_map (taken_by s events) q) (cond (is_wrong o) q (option_map without_pair q))
-row_by (C.Bypass r) o events q = cond (is_done o) (option_map (on_request bypassed) q) q
-row_by (C.Miss r) o events q = cond (is_done o) (option_map (λ x. without_pair (on_request missed x)) q) q
-row_by (C.Meta r m) o events q = cond (is_done o) (option_map (on_request (with_meta m)) q) q
-row_by (C.Begin r) o events q = option_map (on_request (began (is_done o) events)) q
-row_by (C.Write r bs eof) o events q = q
-row_by (C.Finish r) o events q = option_map (on_request (ended events)) q
-row_by (C.Read r) o events q = option_map (on_request (has_read events)) q
-row_by (C.Purge r) o events q = q
-row_by (C.Phase r) o events q = q
-row_by (C.End r) o events q = cond (is_done o) None q
+row_by call o events q = changed (change_of call) o events q
 
 abbrev pub row : Call → Reply → List Event → Option Held → Option Held
 row call reply events q = row_by call (outcome reply) events q

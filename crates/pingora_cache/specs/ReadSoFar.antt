@@ -3,13 +3,11 @@
 use Rattle.std.specs.Prelude.{◌≡◌, ℕ, ◌≤◌, ◌==◌, cond, if◌then◌else◌, Some, List, [], ◌∷◌, ◌++◌, length, take, slice_range}
 use Rattle.pcache_base.specs.declared.poll.Poll.TheVariants.{Ready}
 use Rattle.pcache_store.specs.Store.{Reader, Whole, Part}
-use Rattle.pingora_cache.specs.declared.world.call.Call.{Call}
-use Rattle.pingora_cache.specs.declared.world.call.Call.TheVariants as C
 use Rattle.pingora_cache.specs.declared.world.entry.Entry.{Entry}
 use Rattle.pingora_cache.specs.declared.world.entry.Event.{Event}
 use Rattle.pingora_cache.specs.declared.world.entry.Event.TheVariants as E
 use Rattle.pingora_cache.specs.Events.{body_of}
-use Rattle.pingora_cache.specs.Held.{Outcome, number_of, outcome, is_done, is_taken}
+use Rattle.pingora_cache.specs.Held.{Outcome, Change, opens, takes, begins, reads_on, change_of, number_of, outcome, is_done, is_taken}
 
 -- the bytes that a read gave, if it gave some
 abbrev pub given_in : List Event → List ℕ
@@ -18,17 +16,17 @@ given_in _ = []
 
 -- what one call makes of the bytes that its request's reader has given: none once a request opened, a hit was taken or a
 -- write began with a reader; a read adds what it gave
-abbrev pub read_on : Call → Outcome → List Event → List ℕ → List ℕ
-read_on (C.Open r) o events before = cond (is_done o) [] before
-read_on (C.Found r s t) o events before = cond (is_taken o) [] before
-read_on (C.Begin r) o events before = cond (is_done o) [] before
-read_on (C.Read r) o events before = before ++ given_in events
+abbrev pub read_on : Change → Outcome → List Event → List ℕ → List ℕ
+read_on opens o events before = cond (is_done o) [] before
+read_on (takes s) o events before = cond (is_taken o) [] before
+read_on begins o events before = cond (is_done o) [] before
+read_on reads_on o events before = before ++ given_in events
 read_on _ o events before = before
 
 -- the bytes that a request's reader has given since it came to be
 abbrev pub read_by : ℕ → List Entry → List ℕ
 read_by r [] = []
-read_by r (e ∷ h) = if number_of e.call == r then read_on e.call (outcome e.reply) e.events (read_by r h) else read_by r h
+read_by r (e ∷ h) = if number_of e.call == r then read_on (change_of e.call) (outcome e.reply) e.events (read_by r h) else read_by r h
 
 -- a reader of a complete body has given its range once it is done, and nothing before; a reader of a write has given the
 -- beginning of the write's body up to its place

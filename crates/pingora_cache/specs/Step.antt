@@ -7,6 +7,7 @@ use Rattle.pcache_meta.specs.Meta.{Meta}
 use Rattle.pcache_base.specs.declared.error.ErrorType.{ErrorType}
 use Rattle.pcache_base.specs.declared.error.ErrorType.TheVariants.{WriteRemoved}
 use Rattle.pcache_evict.specs.Tracked.{Tracked, Limits}
+use Rattle.pcache_evict.specs.declared.eviction.entry_key.CacheEntryKey.{CacheEntryKey}
 use Rattle.pcache_request.specs.declared.cache.report.Access.{Access}
 use Rattle.pcache_request.specs.declared.cache.report.AskedLock.{AskedLock}
 use Rattle.pcache_request.specs.declared.cache.report.LockName.{LockName}
@@ -48,6 +49,11 @@ kind_asked (Some a) = Some (kind_of a.given.is_permit)
 abbrev pub noting : Option Access → List Event
 noting None = []
 noting (Some a) = E.Access a.entry a.weight ∷ []
+
+-- what is noted of the entry that went with a purge, if one did
+abbrev pub untracking : Option CacheEntryKey → List Event
+untracking None = []
+untracking (Some e) = E.Untrack e ∷ []
 
 -- what is noted of a write whose end was refused: its key was removed since it began, or it was dropped
 abbrev pub refused_end : ℕ → ErrorType → Event

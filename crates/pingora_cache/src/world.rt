@@ -7,6 +7,7 @@ mod fill;
 pub mod laws;
 mod look;
 mod machine;
+mod parts;
 mod request;
 mod turn;
 

@@ -7,6 +7,7 @@ ghost use Rattle.pingora_cache.specs.Rules.{IsCopy};
 
 use crate::world::call::{Call, Reply};
 use crate::world::entry::{Entry, Event, Events};
+use crate::world::parts::Parts;
 use crate::world::request::OpenRequest;
 use crate::world::turn::apply;
 use pcache_base::error::{ErrorType, Result};
@@ -36,9 +37,7 @@ pub struct Totals {
 /// The history is legal at all times: each entry is one that the entries before it give.
 pub struct World<M: EvictionManager> {
     alloc: Global,
-    store: MemCache,
-    manager: M,
-    lock: CacheLock,
+    parts: Parts<M>,
     requests: BTreeMap<u64, OpenRequest>,
     start: Option<Vec<(CacheEntryKey, usize)>>,
     history: Vec<Entry>,
@@ -56,9 +55,9 @@ impl<M: EvictionManager> Model for World<M> {
 
     ghost coded = { log_code };
 
-    ghost view = { λ w. record { history = w.history.items; start = started (option_map (λ v. v.items) w.start) (M.tracked w.manager); limits = M.limits w.manager; evicted = M.evicted w.manager } };
+    ghost view = { λ w. record { history = w.history.items; start = started (option_map (λ v. v.items) w.start) (M.tracked w.parts.manager); limits = M.limits w.parts.manager; evicted = M.evicted w.parts.manager } };
 
-    ghost invariant = { λ w. IsSound (M.limits w.manager) (started (option_map (λ v. v.items) w.start) (M.tracked w.manager)) (M.tracked w.manager) w.store (map.from_entries w.requests.entries) (reverse w.history.items) × (w.start ≡ None → w.history.items ≡ []) };
+    ghost invariant = { λ w. IsSound (M.limits w.parts.manager) (started (option_map (λ v. v.items) w.start) (M.tracked w.parts.manager)) (M.tracked w.parts.manager) w.parts.store (map.from_entries w.requests.entries) (reverse w.history.items) × (w.start ≡ None → w.history.items ≡ []) };
 }
 
 impl<M: EvictionManager> World<M> {
@@ -75,9 +74,11 @@ impl<M: EvictionManager> World<M> {
     {
         World {
             alloc,
-            store: MemCache::new(alloc),
-            manager,
-            lock: CacheLock::new(alloc, age_timeout),
+            parts: Parts {
+                store: MemCache::new(alloc),
+                manager,
+                lock: CacheLock::new(alloc, age_timeout),
+            },
             requests: BTreeMap::new(alloc),
             start: None,
             history: Vec::new(alloc),
@@ -107,7 +108,7 @@ impl<M: EvictionManager> World<M> {
         ensures value { result ≡ stored (events_in self.now) }
         ensures within { result ≤ self.now.limits.weight }
     {
-        self.store.stored_bytes()
+        self.parts.store.stored_bytes()
     }
 
     /// The number of complete bodies: at most the manager's watermark, where it has one.
@@ -115,7 +116,7 @@ impl<M: EvictionManager> World<M> {
         ensures value { result ≡ slots (events_in self.now) }
         ensures within { IfSome self.now.limits.watermark (λ most. result ≤ most) }
     {
-        self.store.slots()
+        self.parts.store.slots()
     }
 
     /// The manager's totals.
@@ -126,10 +127,10 @@ impl<M: EvictionManager> World<M> {
         ensures evicted_items { result.evicted_items ≡ self.now.evicted.count }
     {
         Totals {
-            weight: self.manager.total_size(),
-            items: self.manager.total_items(),
-            evicted_weight: self.manager.evicted_size(),
-            evicted_items: self.manager.evicted_items(),
+            weight: self.parts.manager.total_size(),
+            items: self.parts.manager.total_items(),
+            evicted_weight: self.parts.manager.evicted_size(),
+            evicted_items: self.parts.manager.evicted_items(),
         }
     }
 
@@ -142,13 +143,11 @@ impl<M: EvictionManager> World<M> {
         ensures kind { IfErr result (λ e. e ≡ OutOfMemory) }
     {
         let mut events = Vec::with_capacity(self.alloc, MOST_EVENTS)?;
-        make_ready(&mut self.history, &mut self.start, &self.manager)?;
+        make_ready(&mut self.history, &mut self.start, &self.parts.manager)?;
         let reply = apply(
             self.alloc,
             &mut self.requests,
-            &mut self.store,
-            &mut self.manager,
-            &mut self.lock,
+            &mut self.parts,
             &mut events,
             &call,
         );
@@ -179,15 +178,18 @@ impl<M: EvictionManager> Drop for World<M> {
     fn drop(self) {
         let World {
             alloc: _,
-            mut store,
-            manager,
-            mut lock,
+            parts,
             mut requests,
             start: _,
             history: _,
         } = self;
+        let Parts {
+            mut store,
+            manager,
+            mut lock,
+        } = parts;
         while let Some((_number, request)) = requests.pop_first() {
-            request.end(&mut store, &mut lock);
+            let _ = request.end(&mut store, &mut lock);
         }
         requests.destroy_empty();
         drop(manager);

@@ -6,7 +6,7 @@ ghost use Rattle.pcache_request.specs.Requests.{Request, left_by};
 ghost use Rattle.pingora_cache.specs.Sound.{pair_reader};
 ghost use Rattle.pingora_cache.specs.Step.{permit_in, store_ended};
 
-use pcache_lock::lock::{CacheLock, Locked};
+use pcache_lock::lock::CacheLock;
 use pcache_meta::meta::CacheMeta;
 use pcache_request::cache::{HttpCache, LockName};
 use pcache_store::memory::{MemCache, MemHitHandler};
@@ -40,24 +40,15 @@ impl OpenRequest {
         OpenRequest { cache, pair: None }
     }
 
-    /// Gives back all that is held.
-    pub(crate) fn end(self, store: &mut MemCache, lock: &mut CacheLock)
-        ensures { store.new ≡ store_ended self store.old }
+    /// Gives back all that is held, and answers the number of a permit that is let go.
+    pub(crate) fn end(self, store: &mut MemCache, lock: &mut CacheLock) -> Option<u64>
+        ensures let_go { result ≡ permit_of self.request.held }
+        ensures store { store.new ≡ store_ended self store.old }
     {
         let OpenRequest { cache, mut pair } = self;
         hold(&mut pair, None, store);
         let None = pair else { unreachable!() };
-        let _ = cache.end(store, lock);
-    }
-}
-
-/// The number of the permit that a request holds, if one is.
-pub(crate) fn permit(cache: &HttpCache<MemCache>) -> Option<u64>
-    ensures { result ≡ permit_of cache.now.held }
-{
-    match cache.held() {
-        Some(Locked::Write(permit)) => Some(permit.number()),
-        _ => None,
+        permit_in(cache.end(store, lock))
     }
 }
 

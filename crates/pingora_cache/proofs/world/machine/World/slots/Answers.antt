@@ -9,4 +9,4 @@ returns-clause-value g c = c.slots.ensures ∙ sym (slots-is _ _ _ c.self.invari
 
 pub returns-clause-within : goal.returns-clause-within
 returns-clause-within g c =
-    subst (λ (l : Log). IfSome l.limits.watermark (λ most. c.slots.result ≤ most)) c.self.view_is (subst (λ n. IfSome (g.M.EvictionManager.limits c.self.inside.manager).watermark (λ most. n ≤ most)) (slots-is _ _ _ c.self.invariant.0.state ∙ sym c.slots.ensures) c.self.invariant.0.bounded.count)
+    subst (λ (l : Log). IfSome l.limits.watermark (λ most. c.slots.result ≤ most)) c.self.view_is (subst (λ n. IfSome (g.M.EvictionManager.limits c.self.inside.parts.manager).watermark (λ most. n ≤ most)) (slots-is _ _ _ c.self.invariant.0.state ∙ sym c.slots.ensures) c.self.invariant.0.bounded.count)

@@ -9,4 +9,4 @@ returns-clause-value g c = c.stored_bytes.ensures ∙ sym (stored-is _ _ _ c.sel
 
 pub returns-clause-within : goal.returns-clause-within
 returns-clause-within g c =
-    subst (λ (l : Log). c.stored_bytes.result ≤ l.limits.weight) c.self.view_is (subst (λ n. n ≤ (g.M.EvictionManager.limits c.self.inside.manager).weight) (stored-is _ _ _ c.self.invariant.0.state ∙ sym c.stored_bytes.ensures) c.self.invariant.0.bounded.bytes)
+    subst (λ (l : Log). c.stored_bytes.result ≤ l.limits.weight) c.self.view_is (subst (λ n. n ≤ (g.M.EvictionManager.limits c.self.inside.parts.manager).weight) (stored-is _ _ _ c.self.invariant.0.state ∙ sym c.stored_bytes.ensures) c.self.invariant.0.bounded.bytes)
