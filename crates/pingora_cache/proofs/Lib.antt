@@ -29,5 +29,6 @@ pub mod TrackedLaws
 pub mod TurnOf
 pub mod Turned
 pub mod Uniform
+pub mod Waiting
 pub mod Worlds
 pub mod WrongLaw

@@ -1,5 +1,5 @@
 -- What a world notes of a look-up and of what it takes is what the request became.
-use Rattle.std.proofs.Common.{◌≡◌, ℕ, Bool, true, false, not, ◌&&◌, cond, if◌then◌else◌, Option, None, Some, inl, inr, is_some, List, [], ◌∷◌, ◌++◌, refl, ap, sym, subst, ◌∙◌, IfSome, option_map}
+use Rattle.std.proofs.Common.{◌≡◌, ℕ, Bool, true, false, not, ◌&&◌, cond, if◌then◌else◌, Option, None, Some, inl, inr, is_some, List, [], ◌∷◌, ◌++◌, refl, ap, sym, subst, ◌∙◌, IfSome, IsTrue, option_map}
 use Rattle.std.specs.FinMap as map
 use Rattle.pcache_base.specs.CompactKey.{compact_of}
 use Rattle.pcache_base.specs.Key.{Key, slot}
@@ -86,20 +86,21 @@ looked-asked s t x j = asked-given (asks_for_miss s x) false t x.key j x
 
 -- what a look-up that found nothing answers
 pub looks-nothing : (s : Store) (t : Locks) (x : Request) (k : Key) (j : ℕ) (a : Option AskedLock) (l : Option LockKind) (old first events : List Event) → x.key ≡ Some k → j ≡ slot k → found_for s x.key ≡ None → a ≡ asked_in_look_up s t x → l ≡ kind_asked a
-    → old ≡ [] → first ≡ old ++ E.Look j Nothing ∷ [] → events ≡ first ++ asking j a → Looks (facts_in s x) x (R.NotFound l) events
+    → old ≡ [] → first ≡ old ++ E.Look j Nothing ∷ [] → events ≡ first ++ asking j a → Looks (facts_in s t x) x (R.NotFound l) events
 looks-nothing s t x k j a l old first events key at nothing is kind none one all =
     let asks = subst (λ b. AsksIf b (slot k) x.held (asking j a) l) (asks-for-nothing x.uses.lock (found_for s x.key) nothing) (asks-if (asks_for_miss s x) false t k j x.held x.key a l key at is kind) in
     inr (k, Nothing, asking j a, l, key, sym nothing, asks, all ∙ ap (λ es. es ++ asking j a) (one ∙ ap (λ es. es ++ E.Look j Nothing ∷ []) none) ∙ ap (λ q. E.Look q Nothing ∷ asking j a) at, refl)
 
--- a lock is refused for want of memory or of numbers
-lock-refused : (t : Locks) (e : ErrorType) → MayRefuseLock t e → IsLockRefusal e
-lock-refused t OutOfMemory h = inl refl
-lock-refused t NumbersExhausted h = inr refl
-lock-refused t e h = absurd h
+-- a lock is refused for want of memory, or where it was asked for and all numbers were given
+pub lock-refused : (s : Store) (t : Locks) (x : Request) (asks : Bool) (e : ErrorType) → MayRefuseLock t e → (e ≡ NumbersExhausted → IsTrue asks) → IsLockRefusal (facts_in s t x) asks e
+lock-refused s t x asks OutOfMemory h why = inl refl
+lock-refused s t x asks NumbersExhausted h why = inr (refl, why refl, h)
+lock-refused s t x asks e h why = absurd h
 
 -- what is answered where a pair can't be taken
-pub takes-refused : (s : HitStatus) (t : Locks) (x : Request) (p : Meta × Reader) (k : Key) (e kind : ErrorType) (events : List Event) → x.key ≡ Some k → MayRefuseLock t e → kind ≡ e → events ≡ accesses s k p.1 x → Takes s x (Some p) (R.Refused kind) events
-takes-refused s t x p k e kind events key why is all = (k, key, inl (e, lock-refused t e why, ap R.Refused is, inr all))
+pub takes-refused : (st : Store) (s : HitStatus) (t : Locks) (x : Request) (p : Meta × Reader) (k : Key) (e kind : ErrorType) (events : List Event) → x.key ≡ Some k → MayRefuseLock t e → (e ≡ NumbersExhausted → IsTrue (asks_for_hit s x)) → kind ≡ e → events ≡ accesses s k p.1 x
+    → Takes (facts_in st t x) s x (Some p) (R.Refused kind) events
+takes-refused st s t x p k e kind events key why asked is all = inr (k, key, inl (e, lock-refused st t x (asks_for_hit s x) e why asked, ap R.Refused is, all))
 
 locked-phase : (s : HitStatus) (t : Locks) (x : Request) → (locked_found s t x).phase ≡ x.phase
 locked-phase s t x = elim (asks_for_hit s x) as (λ b. (cond b (with_lock (asks_as_stale s x.phase) t x.key x) x).phase ≡ x.phase) [ true ↦ elim x.key as (λ k. (with_lock (asks_as_stale s x.phase) t k x).phase ≡ x.phase) [ None ↦ refl | Some k ↦ refl ] | false ↦ refl ]
@@ -108,10 +109,10 @@ pub found-phase : (s : HitStatus) (m : Meta) (h : Reader) (t : Locks) (x : Reque
 found-phase s m h t x = ap (phase_found s) (locked-phase s t x)
 
 -- what is answered where a pair is taken
-pub takes-found : (s : HitStatus) (t : Locks) (x : Request) (p : Meta × Reader) (k : Key) (j : ℕ) (a : Option AskedLock) (l : Option LockKind) (phase : CachePhase) (events : List Event) → x.key ≡ Some k → j ≡ slot k → a ≡ asked_by_found s t x → l ≡ kind_asked a
-    → events ≡ accesses s k p.1 x ++ asking j a → phase ≡ phase_found s x.phase → Takes s x (Some p) (R.Taken phase l) events
-takes-found s t x p k j a l phase events key at is kind all now =
-    (k, key, inr (asking j a, l, asks-if (asks_for_hit s x) (asks_as_stale s x.phase) t k j x.held x.key a l key at is kind, all, ap (λ q. R.Taken q l) now))
+pub takes-found : (st : Store) (s : HitStatus) (t : Locks) (x : Request) (p : Meta × Reader) (k : Key) (j : ℕ) (a : Option AskedLock) (l : Option LockKind) (phase : CachePhase) (events : List Event) → x.key ≡ Some k → j ≡ slot k → a ≡ asked_by_found s t x → l ≡ kind_asked a
+    → events ≡ accesses s k p.1 x ++ asking j a → phase ≡ phase_found s x.phase → Takes (facts_in st t x) s x (Some p) (R.Taken phase l) events
+takes-found st s t x p k j a l phase events key at is kind all now =
+    inr (k, key, inr (asking j a, l, asks-if (asks_for_hit s x) (asks_as_stale s x.phase) t k j x.held x.key a l key at is kind, all, ap (λ q. R.Taken q l) now))
 
 answered-at : (s : Store) (k : ℕ) (p : Meta × Reader) → find s k ≡ Some p → IsAnswered p.0 p.1
 answered-at s k p h = let a = found-answer s k in (a.0, a.1 ∙ h)

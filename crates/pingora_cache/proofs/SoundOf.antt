@@ -7,6 +7,7 @@ use Rattle.std.proofs.lemmas.Bool.{eq-eqb, ne_eqb, both_ways}
 use Rattle.pcache_base.specs.Totals.{total, share}
 use Rattle.pcache_base.proofs.Totals.{total-remove}
 use Rattle.pcache_evict.specs.Tracked.{Tracked, Limits}
+use Rattle.pcache_lock.specs.Locks.{Locks}
 use Rattle.pcache_store.specs.Store.{Store}
 use Rattle.pingora_cache.specs.declared.world.entry.Entry.{Entry}
 use Rattle.pingora_cache.specs.declared.world.entry.Event.{Event}
@@ -16,6 +17,7 @@ use Rattle.pingora_cache.specs.History.{events_of}
 use Rattle.pingora_cache.specs.Due.{makes_of, slot_of}
 use Rattle.pingora_cache.specs.Legal.{IsLegal}
 use Rattle.pingora_cache.specs.Sound.{IsState, AreOpen, AreHeld, IsSound, readers, writers_in}
+use Rattle.pingora_cache.specs.Waiting.{IsLocked}
 use Rattle.pingora_cache.proofs.Counts.{writes-one}
 use Rattle.pingora_cache.proofs.Sums.{cmp_same, total-zero}
 use Rattle.pingora_cache.proofs.Due.{AreMade}
@@ -58,7 +60,7 @@ held_by_one es all open_of slots is made w =
           | false ↦ λ f. ap (share (writers_in w)) (is q) ∙ no-writer w (open_of q) (λ h. both_ways _ f (cmp_same q r ∙ eq-eqb r q (sym (made.only q r w h has))))
         ] refl
 
-pub sound-of : (limits : Limits) (start now : Tracked) (s : Store) (all : FinMap nat_cmp Held) (h : List Entry) → IsLegal limits start h → now ≡ tracked start (events_of h) → IsState (events_of h) (readers all) s → AreOpen h all → IsSound limits start now s all h
-sound-of limits start now s all h l is state are =
+pub sound-of : (limits : Limits) (start now : Tracked) (s : Store) (t : Locks) (all : FinMap nat_cmp Held) (h : List Entry) → IsLegal limits start h → now ≡ tracked start (events_of h) → IsState (events_of h) (readers all) s → AreOpen h all → IsLocked (events_of h) t → IsSound limits start now s t all h
+sound-of limits start now s t all h l is state are locks =
     let k = legal_kept limits start h l in
-    record { legal = l; tidy = k.tidy; state = state; tracks = is; exact = k.exact; bounded = k.bounded; requests = are; writes = held_by_one (events_of h) all (λ r. request_of r h) (λ r. slot_of (request_of r h)) are k.made }
+    record { legal = l; tidy = k.tidy; state = state; tracks = is; exact = k.exact; bounded = k.bounded; requests = are; writes = held_by_one (events_of h) all (λ r. request_of r h) (λ r. slot_of (request_of r h)) are k.made; locks = locks }

@@ -10,13 +10,14 @@ use Rattle.pingora_cache.specs.declared.world.entry.Answer.{Answer}
 use Rattle.pingora_cache.specs.declared.world.entry.Answer.TheVariants as A
 use Rattle.pingora_cache.specs.declared.world.entry.Entry.{Entry}
 use Rattle.pingora_cache.specs.declared.world.entry.Event.{Event}
-use Rattle.pingora_cache.specs.declared.world.entry.Event.TheVariants.{Look, Finish, Admit, Read}
+use Rattle.pingora_cache.specs.declared.world.entry.Event.TheVariants.{Look, Ask, Finish, Admit, Read}
 use Rattle.pingora_cache.specs.Events.{is_of, in_flight, was_stored, is_removed, last_finished, body_of, complete, names_slot, size_of, tracked, stored, slots}
 use Rattle.pingora_cache.specs.Held.{Held, number_of, request_of}
 use Rattle.pingora_cache.specs.Facts.{Facts, Says, request_in}
 use Rattle.pingora_cache.specs.History.{events_of, Finds, reads}
 use Rattle.pingora_cache.specs.Legal.{IsLegal}
 use Rattle.pingora_cache.specs.Rules.{MayBe}
+use Rattle.pingora_cache.specs.Waiting.{NoneWaits, waiting_in}
 use Rattle.pingora_cache.specs.ReadSoFar.{read_by, HasRead}
 
 -- a call is answered as a wrong one exactly where its condition fails, by the facts that the events before it say
@@ -81,3 +82,12 @@ EvictsFairly = (limits : Limits) (start : Tracked) (before : List Entry) (entry 
 abbrev pub TracksExactly : Type 0
 TracksExactly = (limits : Limits) (start : Tracked) (before : List Entry) (k : ℕ) (b : Stored) → IsLegal limits start before → complete k (events_of before) ≡ Some b
     → (e : CacheEntryKey) × (names_slot k e ≡ true) × (map.get (tracked start (events_of before)) e ≡ Some (size_of b)) × ((q : ℕ) → names_slot q e ≡ true → k ≡ q)
+
+-- a request for the lock of a key is given the permit exactly where its key has no permit waiting
+abbrev pub GivesThePermitExactly : Type 0
+GivesThePermitExactly = (limits : Limits) (start : Tracked) (before : List Entry) (entry : Entry) (earlier rest : List Event) (k n : ℕ) (is_permit : Bool) → IsLegal limits start (entry ∷ before) → entry.events ≡ earlier ++ Ask k n is_permit ∷ rest
+    → (is_permit ≡ true) ↔ NoneWaits (waiting_in (reverse earlier ++ events_of before)) k
+
+-- of the permits that were asked for under one key at most one waits
+abbrev pub OnePermitWaits : Type 0
+OnePermitWaits = (limits : Limits) (start : Tracked) (before : List Entry) (k l m : ℕ) → IsLegal limits start before → (waiting_in (events_of before)).under l ≡ Some k → (waiting_in (events_of before)).under m ≡ Some k → l ≡ m

@@ -10,9 +10,10 @@ use Rattle.pingora_cache.specs.Facts.{Facts, Says, request_in}
 use Rattle.pingora_cache.specs.Held.{Held, number_of, row, request_of}
 use Rattle.pingora_cache.specs.History.{events_of}
 use Rattle.pingora_cache.specs.Rules.{Answers, IsCopy}
+use Rattle.pingora_cache.specs.Waiting.{waiting_in, AreGiven}
 
 -- what a call answers and does after a history that leaves its request as q, for a manager with these limits that held these
--- entries at the start: its clause by what the history says, told as it may be copied, and events as they are due
+-- entries at the start: its clause by what the history says, told as it may be copied, events as they are due, and the locks that are given then
 pub record Gives (limits : Limits) (start : Tracked) (es : List Event) (q : Option Held) (call : Call) (reply : Reply) (events : List Event) : Type 0 where
   pub facts : Facts
   pub says : Says es (request_in q) facts
@@ -21,6 +22,7 @@ pub record Gives (limits : Limits) (start : Tracked) (es : List Event) (q : Opti
   pub copy : IsCopy told reply
   pub due : AreDue limits start es q (makes_of q) None events (makes_of (row call reply events q))
   pub keeps : KeepsKey q (row call reply events q)
+  pub given : AreGiven (waiting_in es) events
 
 -- a legal history: each entry is one that what stands before it gives
 abbrev pub IsLegal : Limits → Tracked → List Entry → Type 0

@@ -3,6 +3,7 @@ use Rattle.std.specs.Prelude.{◌≡◌, ℕ, ◌+◌, ◌<◌, ◌≤◌, ◌==
 use Rattle.std.specs.Option.{option_map}
 use Rattle.std.specs.Ordering.{nat_cmp}
 use Rattle.std.specs.FinMap as map
+use Rattle.pcache_lock.specs.Locks.{Locks}
 use Rattle.pcache_meta.specs.Meta.{Meta}
 use Rattle.pcache_base.specs.Totals.{total}
 use Rattle.pcache_evict.specs.declared.eviction.entry_key.CacheEntryKey.{CacheEntryKey}
@@ -15,6 +16,7 @@ use Rattle.pingora_cache.specs.Events as ev
 use Rattle.pingora_cache.specs.Events.{begun, begin_of, is_removed, has_ended, was_stored, in_flight, is_told, is_of, last_finished, complete, is_open, tracked, stored, slots, names_slot, size_of}
 use Rattle.pingora_cache.specs.Held.{Held, request_of}
 use Rattle.pingora_cache.specs.History.{events_of}
+use Rattle.pingora_cache.specs.Waiting.{IsLocked}
 use Rattle.pingora_cache.specs.Legal.{IsLegal}
 
 -- how many readers of a write there are: in one request, and in all
@@ -93,7 +95,7 @@ AreOpen h all = (r : ℕ) → map.get all r ≡ request_of r h
 abbrev pub AreHeld : List Event → map.FinMap nat_cmp Held → Type 0
 AreHeld es all = (w : ℕ) → writers all w ≡ (if in_flight w es then 1 else 0)
 
-pub record IsSound (limits : Limits) (start : Tracked) (now : Tracked) (s : Store) (all : map.FinMap nat_cmp Held) (h : List Entry) : Type 0 where
+pub record IsSound (limits : Limits) (start : Tracked) (now : Tracked) (s : Store) (t : Locks) (all : map.FinMap nat_cmp Held) (h : List Entry) : Type 0 where
   pub legal : IsLegal limits start h
   pub tidy : IsTidy (events_of h)
   pub state : IsState (events_of h) (readers all) s
@@ -102,3 +104,4 @@ pub record IsSound (limits : Limits) (start : Tracked) (now : Tracked) (s : Stor
   pub bounded : IsBounded limits (events_of h)
   pub requests : AreOpen h all
   pub writes : AreHeld (events_of h) all
+  pub locks : IsLocked (events_of h) t

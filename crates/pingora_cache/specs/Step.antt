@@ -8,6 +8,7 @@ use Rattle.pcache_base.specs.declared.error.ErrorType.{ErrorType}
 use Rattle.pcache_base.specs.declared.error.ErrorType.TheVariants.{WriteRemoved}
 use Rattle.pcache_evict.specs.Tracked.{Tracked, Limits}
 use Rattle.pcache_evict.specs.declared.eviction.entry_key.CacheEntryKey.{CacheEntryKey}
+use Rattle.pcache_lock.specs.Locks.{Locks}
 use Rattle.pcache_request.specs.declared.cache.report.Access.{Access}
 use Rattle.pcache_request.specs.declared.cache.report.AskedLock.{AskedLock}
 use Rattle.pcache_request.specs.declared.cache.report.LockName.{LockName}
@@ -26,6 +27,7 @@ use Rattle.pingora_cache.specs.Held.{Held, number_of, row, pair_of}
 use Rattle.pingora_cache.specs.Moved.{Moves}
 use Rattle.pingora_cache.specs.Rules.{Answers, each, kind_of}
 use Rattle.pingora_cache.specs.Sound.{pair_reader}
+use Rattle.pingora_cache.specs.Waiting.{MovesLocks}
 
 -- a pair that a look-up may answer
 abbrev pub IsAnswered : Meta → Reader → Type 0
@@ -65,10 +67,11 @@ abbrev pub store_ended : Held → Store → Store
 store_ended x s = left_by x.request.reader (dropped_by x.request.write (left_by (pair_reader x.pair) s))
 
 -- one call over the parts: what it answers and does is what the parts give, and they move by its events
-pub record Turn (limits : Limits) (call : Call) (q : Option Held) (s : Store) (m : Tracked) (reply : Reply) (events : List Event) (s' : Store) (m' : Tracked) : Type 0 where
-  pub answers : Answers (facts_in s (request_in q)) call q reply events
+pub record Turn (limits : Limits) (call : Call) (q : Option Held) (s : Store) (m : Tracked) (t : Locks) (reply : Reply) (events : List Event) (s' : Store) (m' : Tracked) (t' : Locks) : Type 0 where
+  pub answers : Answers (facts_in s t (request_in q)) call q reply events
   pub moves : Moves limits q s m events (row call reply events q) s' m'
   pub keeps : KeepsKey q (row call reply events q)
+  pub locks : MovesLocks t events t'
 
 -- a request of a world, or none
 abbrev pub IsOfWorldIn : Option Held → Type 0

@@ -1,5 +1,5 @@
 //! What is promised of every legal history, whatever calls it has.
-ghost use Rattle.pingora_cache.specs.Headline.{EvictsFairly, FindsExactly, FinishesExactly, IsWithinLimits, IsWrongExactly, LooksAreTrue, ReadsABeginning, ReadsAreTrue, ReadsTheLast, TracksExactly};
+ghost use Rattle.pingora_cache.specs.Headline.{EvictsFairly, FindsExactly, FinishesExactly, GivesThePermitExactly, IsWithinLimits, IsWrongExactly, LooksAreTrue, OnePermitWaits, ReadsABeginning, ReadsAreTrue, ReadsTheLast, TracksExactly};
 
 /// A call is answered as a wrong one exactly where its condition fails.
 pub fn is_wrong_exactly()
@@ -53,4 +53,14 @@ pub fn evicts_fairly()
 /// Each standing key has an entry of its own, tracked with exactly the length of its body.
 pub fn tracks_exactly()
     ensures { TracksExactly }
+{}
+
+/// A request for the lock of a key is given the permit exactly where no permit waits under its key.
+pub fn gives_the_permit_exactly()
+    ensures { GivesThePermitExactly }
+{}
+
+/// Of the permits that were asked for under one key at most one waits.
+pub fn one_permit_waits()
+    ensures { OnePermitWaits }
 {}

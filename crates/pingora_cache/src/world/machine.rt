@@ -57,7 +57,7 @@ impl<M: EvictionManager> Model for World<M> {
 
     ghost view = { λ w. record { history = w.history.items; start = started (option_map (λ v. v.items) w.start) (M.tracked w.parts.manager); limits = M.limits w.parts.manager; evicted = M.evicted w.parts.manager } };
 
-    ghost invariant = { λ w. IsSound (M.limits w.parts.manager) (started (option_map (λ v. v.items) w.start) (M.tracked w.parts.manager)) (M.tracked w.parts.manager) w.parts.store (map.from_entries w.requests.entries) (reverse w.history.items) × (w.start ≡ None → w.history.items ≡ []) };
+    ghost invariant = { λ w. IsSound (M.limits w.parts.manager) (started (option_map (λ v. v.items) w.start) (M.tracked w.parts.manager)) (M.tracked w.parts.manager) w.parts.store w.parts.lock (map.from_entries w.requests.entries) (reverse w.history.items) × (w.start ≡ None → w.history.items ≡ []) };
 }
 
 impl<M: EvictionManager> World<M> {

@@ -2,7 +2,7 @@
 ghost use Rattle.std.specs.Prelude.{◌≡◌, None, option_map};
 ghost use Rattle.pcache_store.specs.Readers.{reader_of};
 ghost use Rattle.pingora_cache.specs.Rules.{permit_of};
-ghost use Rattle.pcache_request.specs.Requests.{Request, left_by};
+ghost use Rattle.pcache_request.specs.Requests.{Request, left_by, let_go_by};
 ghost use Rattle.pingora_cache.specs.Sound.{pair_reader};
 ghost use Rattle.pingora_cache.specs.Step.{permit_in, store_ended};
 
@@ -44,6 +44,7 @@ impl OpenRequest {
     pub(crate) fn end(self, store: &mut MemCache, lock: &mut CacheLock) -> Option<u64>
         ensures let_go { result ≡ permit_of self.request.held }
         ensures store { store.new ≡ store_ended self store.old }
+        ensures table { lock.new ≡ let_go_by self.request.held lock.old }
     {
         let OpenRequest { cache, mut pair } = self;
         hold(&mut pair, None, store);

@@ -9,4 +9,4 @@ use Rattle.pingora_cache.proofs.world.turn.on_open.Goals as goal
 pub returns-clause-turn : goal.returns-clause-turn
 returns-clause-turn g c =
     let is : lookup (is_at (nat_cmp (number_of c.args.call.now))) c.args.requests.now.entries ≡ Some c.in-Some.request.now = search rules in
-    turn-of _ _ _ _ _ _ _ _ _ _ _ is c.turn.ensures.row c.turn.ensures.answers c.turn.ensures.moves c.turn.ensures.keeps
+    turn-of _ _ _ _ _ _ _ _ _ _ _ _ _ is c.turn.ensures.row c.turn.ensures.answers c.turn.ensures.moves c.turn.ensures.keeps c.turn.ensures.locks
