@@ -28,6 +28,10 @@ abbrev pub is_on : CachePhase → Bool
 is_on (phase.Disabled r) = false
 is_on _ = true
 
+abbrev pub IsOn : CachePhase → Type 0
+IsOn (phase.Disabled r) = ⊥
+IsOn _ = Unit {0}
+
 -- a key may be set
 abbrev pub MayTakeKey : CachePhase → Type 0
 MayTakeKey phase.Uninit = Unit {0}

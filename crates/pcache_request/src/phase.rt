@@ -58,6 +58,14 @@ impl CachePhase {
         matches!(self, CachePhase::Disabled(_))
     }
 
+    /// Whether caching is on.
+    pub fn is_on(self) -> bool
+        ensures may { IsTrue result ↔ phases.IsOn self }
+        ensures test { result ≡ phases.is_on self }
+    {
+        !matches!(self, CachePhase::Disabled(_))
+    }
+
     /// Whether the cache may be passed by.
     pub fn may_bypass(self) -> bool
         ensures { IsTrue result ↔ phases.MayBypass self }

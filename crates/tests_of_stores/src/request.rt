@@ -7,7 +7,7 @@ use pcache_base::moment::Moment;
 use pcache_base::poll::Poll;
 use pcache_base::reason::NoCacheReason;
 use pcache_evict::eviction::simple_lru::Manager;
-use pcache_lock::lock::CacheLock;
+use pcache_lock::lock::{CacheKeyLock, CacheLock, LockStatus, Locked};
 use pcache_meta::header::ResponseHeader;
 use pcache_meta::meta::CacheMeta;
 use pcache_request::cache::*;
@@ -20,6 +20,7 @@ use std::test::Fail;
 use std::time::Duration;
 
 mod phases;
+mod waits;
 
 const ALL_BUT_THE_PREDICTOR: InUse = InUse {
     eviction: true,
