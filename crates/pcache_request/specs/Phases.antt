@@ -101,6 +101,12 @@ abbrev pub MayPurge : CachePhase → Type 0
 MayPurge phase.CacheKey = Unit {0}
 MayPurge _ = ⊥
 
+-- the key may be purged beside what the request does
+abbrev pub MaySpawnPurge : CachePhase → Type 0
+MaySpawnPurge (phase.Disabled r) = ⊥
+MaySpawnPurge phase.Uninit = ⊥
+MaySpawnPurge _ = Unit {0}
+
 abbrev pub status_word : HitStatus → List ℕ
 status_word status.Expired = codes "expired"
 status_word status.ForceExpired = codes "force_expired"

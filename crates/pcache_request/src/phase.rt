@@ -149,6 +149,13 @@ impl CachePhase {
     {
         matches!(self, CachePhase::CacheKey)
     }
+
+    /// Whether the key may be purged beside what the request does: caching is on, and the key is set.
+    pub fn may_spawn_purge(self) -> bool
+        ensures { IsTrue result ↔ phases.MaySpawnPurge self }
+    {
+        !matches!(self, CachePhase::Disabled(_) | CachePhase::Uninit)
+    }
 }
 
 /// What a hit is worth.

@@ -444,13 +444,33 @@ fn requests_wait_for_one_another(rt: HostRuntime) -> std::result::Result<(), Fai
     run_lines(&rt, alloc, GIVEN_UP.as_slice())
 }
 
-// A reader that waited two seconds and was told tells so.
+const JOINED: [Line; 2] = [
+    (0, 3, Step::Start, Said::Done),
+    (0, 3, Step::Look, Said::Read),
+];
+
+// Asks once whether a wait is over, which it is not.
+fn waits_on(
+    rt: &impl Abort,
+    parts: &mut Parts,
+    cache: &mut HttpCache<MemCache>,
+) -> std::result::Result<(), Fail> {
+    assert!(rt; cache.phase().is_on());
+    assert!(rt; cache.is_cache_locked());
+    let answer = cache.cache_lock_wait(&mut parts.lock, Moment::EPOCH)?;
+    assert!(rt; matches!(answer, Poll::Pending));
+    Ok(())
+}
+
+// A reader that was told tells so.
 fn tells_of_its_wait(
     rt: &impl Abort,
     parts: &mut Parts,
     requests: &mut Requests,
 ) -> std::result::Result<(), Fail> {
     play_lines(rt, parts, requests, TOLD_BY_A_PUBLICATION.as_slice())?;
+    play_lines(rt, parts, requests, JOINED.as_slice())?;
+    waits_on(rt, parts, requests.at(3))?;
     let cache = requests.at(2);
     assert!(rt; cache.lock_duration() == Some(Duration::from_secs(0)));
     let told = LockAbandon {
