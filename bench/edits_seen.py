@@ -139,9 +139,15 @@ def checked(crate, edits):
 
 def is_named(path, module, owner, name):
     """Whether what the prover calls this path is the function: module::Type::name, with the trait's name after the type's where
-    it stands in a trait's impl, or a closure inside it, module::fn::Type::name::..."""
+    it stands in a trait's impl, or a closure inside it, module::fn::Type::name::... A method may stand in a module below that
+    of its type, by which the prover calls it."""
     parts = path.split("::")
     ours = [it for it in module.split("::") if it]
+    return any(is_named_in(parts, ours[:n], owner, name) for n in range(len(ours), -1 if owner else len(ours) - 1, -1))
+
+
+def is_named_in(parts, ours, owner, name):
+    """The same for the module of the function, or of its type."""
     if parts[: len(ours)] != ours:
         return False
     rest = parts[len(ours) :]

@@ -1,13 +1,18 @@
 -- What a request took (own, after pingora-cache).
 use Rattle.std.specs.Prelude.{ℕ, ◌+◌, Option, Some, None, min}
 use Rattle.std.specs.Duration.{max_nanos}
+use Rattle.pcache_request.specs.declared.digest.LockAbandon.{LockAbandon}
 
 pub record Digest : Type 0 where
   -- how many nanoseconds its look-ups took, where that was recorded
   pub look_ups : Option ℕ
+  -- how many nanoseconds it waited for locks, where a wait ended
+  pub waits : Option ℕ
+  -- the fill that its last wait was told of, where it was told
+  pub abandoned : Option LockAbandon
 
 abbrev pub empty_digest : Digest
-empty_digest = record { look_ups = None }
+empty_digest = record { look_ups = None; waits = None; abandoned = None }
 
 -- a time added to what was recorded: the longest duration stands for itself and all above it
 abbrev pub time_added : Option ℕ → ℕ → Option ℕ

@@ -1,5 +1,7 @@
 pub mod Digest
 pub mod Finishing
+pub mod LockUse
+pub mod LockWaits
 pub mod Phases
 pub mod Releasing
 pub mod Reports

@@ -28,6 +28,10 @@ abbrev pub is_on : CachePhase → Bool
 is_on (phase.Disabled r) = false
 is_on _ = true
 
+abbrev pub IsOn : CachePhase → Type 0
+IsOn (phase.Disabled r) = ⊥
+IsOn _ = Unit {0}
+
 -- a key may be set
 abbrev pub MayTakeKey : CachePhase → Type 0
 MayTakeKey phase.Uninit = Unit {0}
@@ -96,6 +100,12 @@ is_stale_phase _ = false
 abbrev pub MayPurge : CachePhase → Type 0
 MayPurge phase.CacheKey = Unit {0}
 MayPurge _ = ⊥
+
+-- the key may be purged beside what the request does
+abbrev pub MaySpawnPurge : CachePhase → Type 0
+MaySpawnPurge (phase.Disabled r) = ⊥
+MaySpawnPurge phase.Uninit = ⊥
+MaySpawnPurge _ = Unit {0}
 
 abbrev pub status_word : HitStatus → List ℕ
 status_word status.Expired = codes "expired"

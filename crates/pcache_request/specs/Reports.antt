@@ -7,6 +7,7 @@ use Rattle.pcache_evict.specs.Entry.{entry_with}
 use Rattle.pcache_evict.specs.declared.eviction.entry_key.CacheEntryKey.{CacheEntryKey}
 use Rattle.pcache_lock.specs.Locks.{Locks, given, holder, is_permit, number_of_lock}
 use Rattle.pcache_lock.specs.declared.lock.permit.Locked.{Locked}
+use Rattle.pcache_lock.specs.declared.lock.status.LockStatus.{LockStatus}
 use Rattle.pcache_store.specs.Store.{Store, Reader, reader_weight}
 use Rattle.pcache_store.specs.declared.storage.PurgeOutcome.{PurgeOutcome}
 use Rattle.pcache_store.specs.declared.storage.PurgeOutcome.TheVariants.{NotFound, Purged, Expired}
@@ -15,6 +16,7 @@ use Rattle.pcache_request.specs.declared.phase.HitStatus.{HitStatus}
 use Rattle.pcache_request.specs.declared.cache.report.LockName.{LockName}
 use Rattle.pcache_request.specs.declared.cache.report.AskedLock.{AskedLock}
 use Rattle.pcache_request.specs.declared.cache.report.Access.{Access}
+use Rattle.pcache_request.specs.declared.cache.report.ReleasedLock.{ReleasedLock}
 use Rattle.pcache_request.specs.declared.cache.finish.WriteEnd.{WriteEnd}
 use Rattle.pcache_request.specs.declared.cache.finish.WriteEnd.TheVariants as end
 
@@ -53,3 +55,7 @@ untracked uses k Expired = None
 abbrev pub untracked_for : Bool → Option Key → PurgeOutcome → Option CacheEntryKey
 untracked_for uses None o = None
 untracked_for uses (Some k) o = untracked uses (compact_of k) o
+
+-- a lock that was released with a status
+abbrev pub released_as : LockStatus → Locked → ReleasedLock
+released_as s l = record { lock = name_of l; status = s }

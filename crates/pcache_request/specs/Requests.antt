@@ -36,6 +36,11 @@ pub record Request : Type 0 where
   pub write : Option ℕ
   -- the number of the entry that the write fills, where entries have numbers
   pub entry : Option ℕ
+  -- for how many nanoseconds it waits in all, and how often it is to look again, where that is limited
+  pub wait_timeout : Option ℕ
+  pub max_retries : Option ℕ
+  -- the moment of the first poll of the read lock that it polled last
+  pub waits_since : Option ℕ
   pub digest : Digest
 
 -- which parts a request uses that was never enabled
@@ -44,11 +49,11 @@ nothing_used = record { eviction = false; predictor = false; lock = false }
 
 -- a request before caching is turned on
 abbrev pub new_request : Request
-new_request = record { phase = phase.Disabled reason.NeverEnabled; uses = nothing_used; key = None; meta = None; held = None; reader = None; write = None; entry = None; digest = empty_digest }
+new_request = record { phase = phase.Disabled reason.NeverEnabled; uses = nothing_used; key = None; meta = None; held = None; reader = None; write = None; entry = None; wait_timeout = None; max_retries = None; waits_since = None; digest = empty_digest }
 
 -- a request that was just enabled
 abbrev pub fresh_request : InUse → Request
-fresh_request uses = record { phase = phase.Uninit; uses = uses; key = None; meta = None; held = None; reader = None; write = None; entry = None; digest = empty_digest }
+fresh_request uses = record { phase = phase.Uninit; uses = uses; key = None; meta = None; held = None; reader = None; write = None; entry = None; wait_timeout = None; max_retries = None; waits_since = None; digest = empty_digest }
 
 -- a request that is enabled keeps its digest
 abbrev pub enabled_with : InUse → Request → Request
@@ -248,4 +253,4 @@ tracked_gone_for uses (Some k) o m = tracked_gone uses (compact_of k) o m
 
 -- a look-up took so many nanoseconds more
 abbrev pub with_look_up_time : ℕ → Request → Request
-with_look_up_time n r = record r { digest = record { look_ups = time_added r.digest.look_ups n } }
+with_look_up_time n r = let d : Digest = r.digest in record r { digest = record d { look_ups = time_added d.look_ups n } }

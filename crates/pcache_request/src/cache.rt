@@ -18,6 +18,8 @@ ghost use Rattle.pcache_request.specs.Reports.{name_of, asked_with};
 
 mod disable;
 mod finish;
+mod lock_use;
+mod lock_wait;
 mod purge;
 mod report;
 mod shown;
@@ -27,6 +29,7 @@ use crate::digest::HttpCacheDigest;
 use crate::phase::{CachePhase, HitStatus, InUse};
 use bytes::Bytes;
 pub use finish::{FinishReport, WriteEnd};
+pub use lock_use::{CacheOptionOverrides, LockCtx};
 use pcache_base::error::Result;
 use pcache_base::key::CacheKey;
 use pcache_base::moment::Moment;
@@ -36,7 +39,9 @@ use pcache_evict::eviction::{CacheEntryId, CacheEntryKey, EvictionManager};
 use pcache_lock::lock::{CacheKeyLock, LockStatus, Locked};
 use pcache_meta::meta::CacheMeta;
 use pcache_store::storage::{HandleHit, HandleMiss, Storage};
-pub use report::{Access, AskedLock, LockName, LookUp, Removal, WriteBegin, WriteReport};
+pub use report::{
+    Access, AskedLock, LockName, LookUp, ReleasedLock, Removal, WaitReport, WriteBegin, WriteReport,
+};
 use std::alloc::Global;
 use std::marker::Model;
 
@@ -50,11 +55,14 @@ pub struct HttpCache<S: Storage> {
     held: Option<Locked>,
     reader: Option<S::Hit>,
     writer: Option<S::Miss>,
+    lock_ctx: LockCtx,
+    waits_since: Option<Moment>,
     digest: HttpCacheDigest,
 }
 
 impl<S: Storage> Model for HttpCache<S> {
     ghost use Rattle.std.specs.Prelude.{option_map};
+    ghost use Rattle.std.specs.Duration.{as_nanos};
     ghost use Rattle.std.specs.Option.{option_and_then};
     ghost use Rattle.pcache_request.specs.Requests.{Request, HasKey, IsClear, IsWriting};
 
@@ -69,6 +77,9 @@ impl<S: Storage> Model for HttpCache<S> {
       reader = option_map S.Hit.reader a.reader;
       write = option_map S.Miss.write a.writer;
       entry = option_and_then S.Miss.entry_number a.writer;
+      wait_timeout = option_map as_nanos a.lock_ctx.wait_timeout;
+      max_retries = a.lock_ctx.max_retries;
+      waits_since = a.waits_since;
       digest = a.digest;
     } };
 
@@ -278,6 +289,8 @@ impl<S: Storage> HttpCache<S> {
             held: None,
             reader: None,
             writer: None,
+            lock_ctx: LockCtx::new(),
+            waits_since: None,
             digest: HttpCacheDigest::new(),
         }
     }
@@ -291,6 +304,8 @@ impl<S: Storage> HttpCache<S> {
         self.uses = uses;
         self.key = None;
         self.meta = None;
+        self.lock_ctx = LockCtx::new();
+        self.waits_since = None;
     }
 
     /// Where the request stands.
@@ -722,6 +737,8 @@ impl<S: Storage> HttpCache<S> {
             held,
             reader,
             writer,
+            lock_ctx: _,
+            waits_since: _,
             digest: _,
         } = self;
         if let Some(writer) = writer {

@@ -3,15 +3,30 @@ ghost use Rattle.std.specs.Prelude.{◌≡◌, Some, option_map};
 ghost use Rattle.std.specs.Duration.{as_nanos};
 ghost use Rattle.pcache_request.specs.Digest.{empty_digest, time_added};
 
+use pcache_base::reason::NoCacheReason;
 use std::marker::Model;
 use std::time::Duration;
+
+/// The fill that a request did not wait for any longer, since it cannot use it.
+#[derive(Clone, Copy, Debug, PartialEq, Eq)]
+pub struct LockAbandon {
+    /// Why it cannot use the fill.
+    pub reason: NoCacheReason,
+    /// What the fill's writer published.
+    pub token: u64,
+}
 
 /// What a request took, over all that it did.
 #[derive(Debug, Drop)]
 pub struct HttpCacheDigest {
+    /// The time that it waited for locks, over all its waits that ended; the longest duration where
+    /// it is more.
+    pub lock_duration: Option<Duration>,
     /// The time that its look-ups took, as its caller measured it; the longest duration where it is
     /// more.
     pub lookup_duration: Option<Duration>,
+    /// The fill that the last wait that was told of one was told of.
+    pub lock_abandon: Option<LockAbandon>,
 }
 
 impl Model for HttpCacheDigest {
@@ -21,7 +36,7 @@ impl Model for HttpCacheDigest {
 
     ghost Value = { Digest };
 
-    ghost view = { λ d. record { look_ups = option_map as_nanos d.lookup_duration } };
+    ghost view = { λ d. record { look_ups = option_map as_nanos d.lookup_duration; waits = option_map as_nanos d.lock_duration; abandoned = d.lock_abandon } };
 }
 
 impl HttpCacheDigest {
@@ -29,7 +44,9 @@ impl HttpCacheDigest {
         ensures { result ≡ empty_digest }
     {
         HttpCacheDigest {
+            lock_duration: None,
             lookup_duration: None,
+            lock_abandon: None,
         }
     }
 
@@ -38,6 +55,19 @@ impl HttpCacheDigest {
     {
         let before = self.lookup_duration;
         self.lookup_duration = Some(longer(before, extra));
+    }
+
+    pub(crate) fn add_lock_duration(&mut self, extra: Duration)
+        ensures { self.new ≡ record self.old { waits = time_added self.old.waits (as_nanos extra) } }
+    {
+        let before = self.lock_duration;
+        self.lock_duration = Some(longer(before, extra));
+    }
+
+    pub(crate) fn note_abandon(&mut self, abandon: LockAbandon)
+        ensures { self.new ≡ record self.old { abandoned = Some abandon } }
+    {
+        self.lock_abandon = Some(abandon);
     }
 }
 

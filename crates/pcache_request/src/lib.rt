@@ -9,6 +9,6 @@ pub mod cache;
 pub mod digest;
 pub mod phase;
 
-pub use cache::{FinishReport, HttpCache};
-pub use digest::HttpCacheDigest;
+pub use cache::{CacheOptionOverrides, FinishReport, HttpCache, LockCtx};
+pub use digest::{HttpCacheDigest, LockAbandon};
 pub use phase::{CachePhase, HitStatus, InUse};

@@ -58,6 +58,14 @@ impl CachePhase {
         matches!(self, CachePhase::Disabled(_))
     }
 
+    /// Whether caching is on.
+    pub fn is_on(self) -> bool
+        ensures may { IsTrue result ↔ phases.IsOn self }
+        ensures test { result ≡ phases.is_on self }
+    {
+        !matches!(self, CachePhase::Disabled(_))
+    }
+
     /// Whether the cache may be passed by.
     pub fn may_bypass(self) -> bool
         ensures { IsTrue result ↔ phases.MayBypass self }
@@ -140,6 +148,13 @@ impl CachePhase {
         ensures { IsTrue result ↔ phases.MayPurge self }
     {
         matches!(self, CachePhase::CacheKey)
+    }
+
+    /// Whether the key may be purged beside what the request does: caching is on, and the key is set.
+    pub fn may_spawn_purge(self) -> bool
+        ensures { IsTrue result ↔ phases.MaySpawnPurge self }
+    {
+        !matches!(self, CachePhase::Disabled(_) | CachePhase::Uninit)
     }
 }
 

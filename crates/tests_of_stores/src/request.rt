@@ -7,7 +7,7 @@ use pcache_base::moment::Moment;
 use pcache_base::poll::Poll;
 use pcache_base::reason::NoCacheReason;
 use pcache_evict::eviction::simple_lru::Manager;
-use pcache_lock::lock::CacheLock;
+use pcache_lock::lock::{CacheKeyLock, CacheLock, LockStatus, Locked};
 use pcache_meta::header::ResponseHeader;
 use pcache_meta::meta::CacheMeta;
 use pcache_request::cache::*;
@@ -20,6 +20,7 @@ use std::test::Fail;
 use std::time::Duration;
 
 mod phases;
+mod waits;
 
 const ALL_BUT_THE_PREDICTOR: InUse = InUse {
     eviction: true,
@@ -242,6 +243,20 @@ fn purge(
     Ok(())
 }
 
+// What was stored is there to be purged beside the request, once.
+fn purge_beside(
+    rt: &impl Abort,
+    parts: &mut Parts,
+    cache: &mut HttpCache<MemCache>,
+) -> std::result::Result<(), Fail> {
+    assert!(rt; cache.phase().may_spawn_purge());
+    assert!(rt; cache.spawn_async_purge(&mut parts.store, &mut parts.manager, "a test")?);
+    assert!(rt; cache.phase().may_spawn_purge());
+    let removal = cache.spawn_purge(&mut parts.store, &mut parts.manager)?;
+    assert!(rt; !removal.was_there());
+    Ok(())
+}
+
 // What a request is made for.
 #[derive(Clone, Copy)]
 enum Errand {
@@ -249,6 +264,7 @@ enum Errand {
     FillTelling,
     Serve,
     Purge,
+    PurgeBeside,
 }
 
 // Makes a request for the key and ends it, also where its errand failed.
@@ -265,6 +281,7 @@ fn run(
         Errand::FillTelling => fill_telling(rt, parts, &mut cache),
         Errand::Serve => serve(rt, parts, &mut cache),
         Errand::Purge => purge(rt, parts, &mut cache),
+        Errand::PurgeBeside => purge_beside(rt, parts, &mut cache),
     };
     let _let_go = cache.end(&mut parts.store, &mut parts.lock);
     done
@@ -297,5 +314,5 @@ fn calls_tell_what_they_did(rt: HostRuntime) -> std::result::Result<(), Fail> {
     let mut parts = Parts::new(alloc)?;
     let key = key_of(alloc, "k")?;
     run(&rt, &mut parts, key.copied()?, Errand::FillTelling)?;
-    run(&rt, &mut parts, key, Errand::Purge)
+    run(&rt, &mut parts, key, Errand::PurgeBeside)
 }

@@ -1,5 +1,5 @@
 //! The linear values that a table of locks gives: each has to be spent.
-ghost use Rattle.std.specs.Prelude.{◌≡◌, [], IfErr, IfOk, IsOk, IsSome, None, OnErr, OnOk, Some, option_copied, unwrap_or};
+ghost use Rattle.std.specs.Prelude.{◌≡◌, [], IfErr, IfOk, IsOk, IsSome, None, OnErr, OnOk, Some, is_some, option_copied, unwrap_or};
 ghost use Rattle.pcache_base.specs.declared.error.ErrorType.TheVariants.{OutOfMemory};
 ghost use Rattle.pcache_lock.specs.Locks.{is_permit, number_of_lock};
 ghost use Rattle.pcache_lock.specs.Waiting.{first_watch, looked, watch_at};
@@ -136,6 +136,13 @@ impl ReadLock {
         ensures { result ≡ self.now.number }
     {
         self.number
+    }
+
+    /// Whether a poll answered that it has to wait.
+    pub fn was_polled(&self) -> bool
+        ensures { result ≡ is_some self.now.watch }
+    {
+        self.watch.is_some()
     }
 
     // Looks, as a poll does, at what the writer published. The first time it takes down the fills

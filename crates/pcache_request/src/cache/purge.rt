@@ -1,11 +1,15 @@
 //! Removing and expiring what stands under a request's key.
-ghost use Rattle.std.specs.Prelude.{◌≡◌};
+ghost use Rattle.std.specs.Prelude.{◌≡◌, IfErr, IfOk, OnErr, OnOk, Some};
+ghost use Rattle.pcache_base.specs.CompactKey.{compact_of};
+ghost use Rattle.pcache_base.specs.Key.{slot};
+ghost use Rattle.pcache_base.specs.declared.error.ErrorType.TheVariants.{OutOfMemory};
+ghost use Rattle.pcache_store.specs.Purge.{purge_answer, purged_at};
 ghost use Rattle.pcache_request.specs.Reports.{untracked};
 ghost use Rattle.pcache_request.specs.Requests.{tracked_gone};
 
 use super::{HttpCache, Removal};
 use pcache_base::error::Result;
-use pcache_base::key::CompactCacheKey;
+use pcache_base::key::{CacheKey, CompactCacheKey};
 use pcache_base::moment::Moment;
 use pcache_evict::eviction::{CacheEntryKey, EvictionManager};
 use pcache_store::storage::{PurgeOutcome, PurgeTarget, PurgeType, Storage};
@@ -35,12 +39,35 @@ fn untrack<E: EvictionManager>(
     }
 }
 
+// Removes what stands under a key, and takes the entry that went out of a manager in use.
+fn remove_key<S: Storage, E: EvictionManager>(
+    storage: &mut S,
+    eviction: &mut E,
+    is_used: bool,
+    key: &CacheKey,
+) -> Result<Removal>
+    ensures outcome { IfOk result (λ r. r.outcome ≡ purge_answer (S.state storage.old) (Some (slot key.now))) }
+    ensures untracked { IfOk result (λ r. r.untracked ≡ untracked is_used (compact_of key.now) r.outcome) }
+    ensures store { OnOk result (S.state storage.new ≡ purged_at (S.state storage.old) (Some (slot key.now))) }
+    ensures tracked { OnOk result (E.tracked eviction.new ≡ tracked_gone is_used (compact_of key.now) (purge_answer (S.state storage.old) (Some (slot key.now))) (E.tracked eviction.old)) }
+    ensures same_store { OnErr result (S.state storage.new ≡ S.state storage.old) }
+    ensures same_tracked { OnErr result (E.tracked eviction.new ≡ E.tracked eviction.old) }
+    ensures limits { E.limits eviction.new ≡ E.limits eviction.old }
+    ensures evicted { E.evicted eviction.new ≡ E.evicted eviction.old }
+    ensures kind { IfErr result (λ e. e ≡ OutOfMemory) }
+{
+    let compact = key.to_compact()?;
+    let outcome = storage.purge(PurgeTarget::Active(&compact), PurgeType::Invalidation)?;
+    let untracked = untrack(eviction, is_used, compact, &outcome);
+    Ok(Removal { outcome, untracked })
+}
+
 impl<S: Storage> HttpCache<S> {
     ghost use Rattle.std.specs.Prelude.{◌≡◌, IfOk, IfErr, OnOk, OnErr, option_map};
     ghost use Rattle.pcache_base.specs.Key.{slot};
     ghost use Rattle.pcache_base.specs.declared.error.ErrorType.TheVariants.{OutOfMemory};
     ghost use Rattle.pcache_store.specs.Purge.{purge_answer, purged_at, expire_answer, expired_at};
-    ghost use Rattle.pcache_request.specs.Phases.{MayPurge};
+    ghost use Rattle.pcache_request.specs.Phases.{MayPurge, MaySpawnPurge};
     ghost use Rattle.pcache_request.specs.Reports.{untracked_for};
     ghost use Rattle.pcache_request.specs.Requests.{tracked_gone_for, is_removed_by};
 
@@ -80,10 +107,51 @@ impl<S: Storage> HttpCache<S> {
         ensures kind { IfErr result (λ e. e ≡ OutOfMemory) }
     {
         let Some(key) = &self.key else { unreachable!() };
-        let compact = key.to_compact()?;
-        let outcome = storage.purge(PurgeTarget::Active(&compact), PurgeType::Invalidation)?;
-        let untracked = untrack(eviction, self.uses.eviction, compact, &outcome);
-        Ok(Removal { outcome, untracked })
+        remove_key(storage, eviction, self.uses.eviction, key)
+    }
+
+    /// Removes what stands under the key, as `purge` does, in any phase in which there is one. It is
+    /// done at once, and the context, which the Rust notes where that fails, is not read.
+    pub fn spawn_async_purge<E: EvictionManager>(
+        &mut self,
+        storage: &mut S,
+        eviction: &mut E,
+        _context: &'static str,
+    ) -> Result<bool>
+        requires { MaySpawnPurge self.old.phase }
+        ensures same { self.new ≡ self.old }
+        ensures there { IfOk result (λ there. there ≡ is_removed_by (purge_answer (S.state storage.old) (option_map slot self.old.key))) }
+        ensures store { OnOk result (S.state storage.new ≡ purged_at (S.state storage.old) (option_map slot self.old.key)) }
+        ensures tracked { OnOk result (E.tracked eviction.new ≡ tracked_gone_for self.old.uses.eviction self.old.key (purge_answer (S.state storage.old) (option_map slot self.old.key)) (E.tracked eviction.old)) }
+        ensures same_store { OnErr result (S.state storage.new ≡ S.state storage.old) }
+        ensures same_tracked { OnErr result (E.tracked eviction.new ≡ E.tracked eviction.old) }
+        ensures limits { E.limits eviction.new ≡ E.limits eviction.old }
+        ensures evicted { E.evicted eviction.new ≡ E.evicted eviction.old }
+        ensures kind { IfErr result (λ e. e ≡ OutOfMemory) }
+    {
+        Ok(self.spawn_purge(storage, eviction)?.was_there())
+    }
+
+    /// What `spawn_async_purge` does, with what the storage found and the entry that was taken out.
+    pub fn spawn_purge<E: EvictionManager>(
+        &mut self,
+        storage: &mut S,
+        eviction: &mut E,
+    ) -> Result<Removal>
+        requires { MaySpawnPurge self.old.phase }
+        ensures same { self.new ≡ self.old }
+        ensures outcome { IfOk result (λ r. r.outcome ≡ purge_answer (S.state storage.old) (option_map slot self.old.key)) }
+        ensures untracked { IfOk result (λ r. r.untracked ≡ untracked_for self.old.uses.eviction self.old.key r.outcome) }
+        ensures store { OnOk result (S.state storage.new ≡ purged_at (S.state storage.old) (option_map slot self.old.key)) }
+        ensures tracked { OnOk result (E.tracked eviction.new ≡ tracked_gone_for self.old.uses.eviction self.old.key (purge_answer (S.state storage.old) (option_map slot self.old.key)) (E.tracked eviction.old)) }
+        ensures same_store { OnErr result (S.state storage.new ≡ S.state storage.old) }
+        ensures same_tracked { OnErr result (E.tracked eviction.new ≡ E.tracked eviction.old) }
+        ensures limits { E.limits eviction.new ≡ E.limits eviction.old }
+        ensures evicted { E.evicted eviction.new ≡ E.evicted eviction.old }
+        ensures kind { IfErr result (λ e. e ≡ OutOfMemory) }
+    {
+        let Some(key) = &self.key else { unreachable!() };
+        remove_key(storage, eviction, self.uses.eviction, key)
     }
 
     /// Ends the freshness of what stands under the key. Answers whether a body was there.

@@ -7,8 +7,9 @@ ghost use Rattle.pcache_request.specs.Requests.{is_removed_by};
 
 use super::finish::WriteEnd;
 use pcache_base::error::Error;
+use pcache_base::poll::Poll;
 use pcache_evict::eviction::CacheEntryKey;
-use pcache_lock::lock::Locked;
+use pcache_lock::lock::{LockStatus, LockWaitOutcome, Locked};
 use pcache_meta::meta::CacheMeta;
 use pcache_store::storage::PurgeOutcome;
 
@@ -40,6 +41,28 @@ pub struct AskedLock {
     pub given: LockName,
     /// What was held before, which was let go.
     pub replaced: Option<LockName>,
+}
+
+/// A lock that was released.
+#[derive(Clone, Copy, Debug, PartialEq, Eq)]
+pub struct ReleasedLock {
+    /// What was held, and is gone.
+    pub lock: LockName,
+    /// The status that the permit was released with. Its readers are told that, or that it was too
+    /// old where it was found so before. A read lock was let go, and told nobody.
+    pub status: LockStatus,
+}
+
+/// What a wait gave.
+#[derive(Clone, Copy, Debug, PartialEq, Eq)]
+pub struct WaitReport {
+    /// How it ended, and the read lock was let go; or that it goes on. The fills that count are those
+    /// of the key at the first poll.
+    pub answer: Poll<LockWaitOutcome>,
+    /// The lock that was waited on.
+    pub lock: LockName,
+    /// Whether its permit was found too old, which the lock's table keeps.
+    pub is_too_old: bool,
 }
 
 /// The use of an entry that a manager was told of.

@@ -1,0 +1,222 @@
+//! Whether a request uses a lock, and what becomes of a permit that it holds.
+ghost use Rattle.std.specs.Prelude.{◌≡◌, None, Some};
+
+use super::disable::status_for;
+use super::{HttpCache, LockName, ReleasedLock, name_of, settle};
+use crate::phase::{CachePhase, InUse};
+use pcache_base::error::Result;
+use pcache_base::reason::NoCacheReason;
+use pcache_lock::lock::{CacheKeyLock, Locked, WritePermit};
+use pcache_store::storage::Storage;
+use std::time::Duration;
+
+/// What a caller sets for the lock of a request.
+#[derive(Clone, Copy, Debug, Default, PartialEq, Eq)]
+pub struct CacheOptionOverrides {
+    /// For how long the request waits for locks, over all its waits, where that is limited.
+    pub wait_timeout: Option<Duration>,
+    /// How often it is to look again after a wait, where that is limited. Its caller counts.
+    pub max_lock_retries: Option<usize>,
+}
+
+/// How a request that uses a lock waits for it.
+#[derive(Clone, Copy, Debug, PartialEq, Eq)]
+pub struct LockCtx {
+    /// For how long it waits, over all its waits, where that is limited.
+    pub wait_timeout: Option<Duration>,
+    /// How often it is to look again after a wait, where that is limited. Its caller counts.
+    pub max_retries: Option<usize>,
+}
+
+impl LockCtx {
+    ghost use Rattle.std.specs.Prelude.{◌≡◌, None, cond, option_map};
+    ghost use Rattle.std.specs.Duration.{as_nanos};
+    ghost use Rattle.pcache_request.specs.LockUse.{timeout_in, retries_in};
+
+    // No limits.
+    pub(super) fn new() -> LockCtx
+        ensures { result ≡ record { wait_timeout = None; max_retries = None } }
+    {
+        LockCtx {
+            wait_timeout: None,
+            max_retries: None,
+        }
+    }
+
+    // The limits that are set for a lock, where it is in use.
+    fn of(is_used: bool, overrides: Option<CacheOptionOverrides>) -> LockCtx
+        ensures timeout { option_map as_nanos result.wait_timeout ≡ cond is_used (timeout_in overrides) None }
+        ensures retries { result.max_retries ≡ cond is_used (retries_in overrides) None }
+    {
+        match overrides {
+            Some(set) if is_used => LockCtx {
+                wait_timeout: set.wait_timeout,
+                max_retries: set.max_lock_retries,
+            },
+            _ => LockCtx::new(),
+        }
+    }
+}
+
+impl<S: Storage> HttpCache<S> {
+    ghost use Rattle.std.specs.Prelude.{◌≡◌, ◌↔◌, [], IfOk, IfErr, OnOk, OnErr, IsOk, IsSome, IsTrue, Some, None, cond, option_map};
+    ghost use Rattle.std.specs.Duration.{as_nanos};
+    ghost use Rattle.pcache_base.specs.declared.error.ErrorType.TheVariants.{OutOfMemory};
+    ghost use Rattle.pcache_lock.specs.declared.lock.permit.Locked.TheVariants.{Write};
+    ghost use Rattle.pcache_request.specs.LockUse.{MaySetLock, enabled_waiting, gone_for, handed, permit_in, published_by, read_in, table_handed, unheld, with_cache_lock};
+    ghost use Rattle.pcache_request.specs.Phases.{IsDisabled, IsOn};
+    ghost use Rattle.pcache_request.specs.Releasing.{MayRelease, status_for};
+    ghost use Rattle.pcache_request.specs.Reports.{name_of, released_as};
+    ghost use Rattle.pcache_request.specs.Requests.{settled};
+
+    /// Turns caching on, with these parts in use and these options of its lock, and all else fresh
+    /// but the digest.
+    pub fn enable_with(&mut self, uses: InUse, overrides: Option<CacheOptionOverrides>)
+        requires { IsDisabled self.old.phase }
+        ensures { self.new ≡ enabled_waiting uses overrides self.old }
+    {
+        self.enable(uses);
+        self.lock_ctx = LockCtx::of(uses.lock, overrides);
+    }
+
+    /// Whether `set_cache_lock` may be called: no lock is held, and the key was not missed yet.
+    pub fn may_set_cache_lock(&self) -> bool
+        ensures { IsTrue result ↔ MaySetLock self.now }
+    {
+        matches!(
+            self.phase,
+            CachePhase::CacheKey | CachePhase::Stale | CachePhase::Hit
+        ) && self.held.is_none()
+    }
+
+    /// Takes the lock into use with these options, or out of it.
+    pub fn set_cache_lock(&mut self, is_used: bool, overrides: Option<CacheOptionOverrides>)
+        requires { MaySetLock self.old }
+        ensures { self.new ≡ with_cache_lock is_used overrides self.old }
+    {
+        self.uses.lock = is_used;
+        self.lock_ctx = LockCtx::of(is_used, overrides);
+    }
+
+    /// How the request waits for its lock.
+    pub fn lock_ctx(&self) -> LockCtx
+        ensures timeout { option_map as_nanos result.wait_timeout ≡ self.now.wait_timeout }
+        ensures retries { result.max_retries ≡ self.now.max_retries }
+    {
+        self.lock_ctx
+    }
+
+    /// Whether a read lock is held, so that the request may wait.
+    pub fn is_cache_locked(&self) -> bool
+        requires { IsOn self.now.phase }
+        ensures { IsTrue result ↔ IsSome (read_in self.now.held) }
+    {
+        matches!(&self.held, Some(Locked::Read(_)))
+    }
+
+    /// Whether the permit is held.
+    pub fn is_cache_lock_writer(&self) -> bool
+        requires { IsOn self.now.phase }
+        ensures { IsTrue result ↔ IsSome (permit_in self.now.held) }
+    {
+        matches!(&self.held, Some(Locked::Write(_)))
+    }
+
+    /// How often the request is to look again after a wait, where that is limited.
+    pub fn cache_lock_max_retries(&self) -> Option<usize>
+        requires { IsOn self.now.phase }
+        ensures { result ≡ self.now.max_retries }
+    {
+        self.lock_ctx.max_retries
+    }
+
+    /// Takes the permit out, for another request to hold.
+    pub fn take_write_lock(&mut self) -> WritePermit
+        requires { IsSome (permit_in self.old.held) }
+        ensures permit { Some result ≡ permit_in self.old.held }
+        ensures request { self.new ≡ unheld self.old }
+    {
+        let Some(held) = self.held.take() else {
+            unreachable!()
+        };
+        let Locked::Write(permit) = held else {
+            unreachable!()
+        };
+        permit
+    }
+
+    /// Holds a permit that another request had; a lock that was held before is let go. Without a
+    /// lock in use the permit itself is let go. Answers the lock that was let go.
+    pub fn set_write_lock<L: CacheKeyLock>(
+        &mut self,
+        lock: &mut L,
+        permit: WritePermit,
+    ) -> Option<LockName>
+        requires { IsOn self.old.phase }
+        ensures request { self.new ≡ handed permit self.old }
+        ensures table { L.table lock.new ≡ table_handed permit self.old (L.table lock.old) }
+        ensures let_go { result ≡ option_map name_of (gone_for permit self.old) }
+    {
+        let new = Locked::Write(permit);
+        let gone = if self.uses.lock {
+            self.held.replace(new)
+        } else {
+            Some(new)
+        };
+        let name = name_of(&gone);
+        if let Some(gone) = gone {
+            lock.drop_lock(gone);
+        }
+        name
+    }
+
+    /// Releases the permit with what the reason tells the others; a read lock is let go, whatever
+    /// the reason. Answers what was released.
+    pub fn release_write_lock<L: CacheKeyLock>(
+        &mut self,
+        lock: &mut L,
+        reason: NoCacheReason,
+    ) -> Option<ReleasedLock>
+        requires { MayRelease reason self.old.held }
+        ensures request { self.new ≡ unheld self.old }
+        ensures table { L.table lock.new ≡ settled (status_for (L.custom_status lock.old) reason) self.old.held (L.table lock.old) }
+        ensures released { result ≡ option_map (released_as (status_for (L.custom_status lock.old) reason)) self.old.held }
+    {
+        let status = status_for(lock, reason);
+        let lock = settle(self.alloc, &self.key, &mut self.held, lock, status)?;
+        Some(ReleasedLock { lock, status })
+    }
+
+    /// Publishes what was found out about the fill, where the permit is held: readers that cannot
+    /// use such a fill need not wait for it. Answers the permit for which it was published. It is
+    /// refused for want of memory alone, and changes nothing then; no tokens are never refused.
+    pub fn lock_publish_fill_tokens<L: CacheKeyLock>(
+        &self,
+        lock: &mut L,
+        tokens: &[u64],
+    ) -> Result<Option<LockName>>
+        ensures published { IfOk result (λ p. p ≡ option_map (λ w. name_of (Write w)) (permit_in self.now.held)) }
+        ensures table { OnOk result (L.table lock.new ≡ published_by tokens.now self.now.held (L.table lock.old)) }
+        ensures same_table { OnErr result (L.table lock.new ≡ L.table lock.old) }
+        ensures kind { IfErr result (λ e. e ≡ OutOfMemory) }
+        ensures clears { tokens.now ≡ [] → IsOk result }
+        ensures none { permit_in self.now.held ≡ None → IsOk result }
+    {
+        let Some(Locked::Write(permit)) = &self.held else {
+            return Ok(None);
+        };
+        lock.publish(self.alloc, permit, tokens)?;
+        Ok(Some(LockName {
+            number: permit.number(),
+            is_permit: true,
+        }))
+    }
+
+    /// Tags the request as one of another. As all tags it has no effect.
+    pub fn tag_as_subrequest(&mut self)
+        requires { IsOn self.old.phase }
+        ensures { self.new ≡ self.old }
+    {
+        let _tagged = self.phase;
+    }
+}
