@@ -1,6 +1,10 @@
+pub mod Chains
 pub mod EntryOrder
 pub mod Evictions
 pub mod Maps
 pub mod Recency
+pub mod Reweighs
+pub mod ShardMaps
+pub mod Sharded
 pub mod TrackedMaps
 pub mod Walks

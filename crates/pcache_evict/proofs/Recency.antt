@@ -30,7 +30,7 @@ same_key a b h = exact_entries a b (level _ (sym (entry_ties a b) ∙ h))
 pub laws : IsEquivalence entry_eq
 laws = subst IsEquivalence (sym same_test) (eq_by_cmp_equiv entries_total)
 
-all_apart : (k j : CacheEntryKey) (l : Recency) → entry_eq k j ≡ true → AllByRecursion (λ y. entry_eq j y ≡ false) (keys_of l) → others k l ≡ l
+pub all_apart : (k j : CacheEntryKey) (l : Recency) → entry_eq k j ≡ true → AllByRecursion (λ y. entry_eq j y ≡ false) (keys_of l) → others k l ≡ l
 all_apart k j [] t a = refl
 all_apart k j (e ∷ l) t a =
     ap (λ b. cond (not b) (e ∷ others k l) (others k l)) (laws.congr k j e.0 t ∙ a.0) ∙ ap (λ xs. e ∷ xs) (all_apart k j l t a.1)
@@ -217,7 +217,7 @@ kept-others c d total k kept e =
       },
     )
 
-found-small : (k : CacheEntryKey) (l : Recency) (w : ℕ) → weight_of k l ≡ Some w → All (λ e. e.1 ≤ 2 ^ 64 - 1) l → w ≤ 2 ^ 64 - 1
+pub found-small : (k : CacheEntryKey) (l : Recency) (w : ℕ) → weight_of k l ≡ Some w → All (λ e. e.1 ≤ 2 ^ 64 - 1) l → w ≤ 2 ^ 64 - 1
 found-small k [] w h a = cc
 found-small k (e ∷ l) w h a =
     elim (entry_eq k e.0) as (λ b. cond b (Some e.1) (weight_of k l) ≡ Some w → w ≤ 2 ^ 64 - 1) [

@@ -1,5 +1,5 @@
 -- Walks over a recency list from its end: what goes, and how many at most.
-use Rattle.std.proofs.Common.{◌≡◌, ℕ, suc, ◌+◌, ◌<◌, ◌≤◌, not, List, [], ◌∷◌, ◌++◌, reverse, refl, ap, sym, subst, ◌∙◌, arith, length, take, inl, inr, append_assoc, length-append}
+use Rattle.std.proofs.Common.{◌≡◌, ℕ, suc, ◌+◌, ◌-◌, ◌<◌, ◌≤◌, not, List, [], ◌∷◌, ◌++◌, reverse, refl, ap, sym, subst, ◌∙◌, arith, length, take, inl, inr, append_assoc, length-append}
 use Rattle.std.specs.Map.{keys_of}
 use Rattle.std.proofs.lemmas.List.{take_at, reverse-append, append_cancel_left}
 use Rattle.std.proofs.lemmas.Bool.{cases_lt}
@@ -8,6 +8,7 @@ use Rattle.std.proofs.lemmas.List.Filters.{length-filter_both}
 use Rattle.std.proofs.lemmas.List.Sums.{sum_by-cons}
 use Rattle.pcache_evict.specs.declared.eviction.entry_key.CacheEntryKey.{CacheEntryKey}
 use Rattle.pcache_evict.specs.Entry.{entry_eq}
+use Rattle.pcache_evict.specs.declared.eviction.recency.Walk.{Walk}
 use Rattle.pcache_evict.specs.Tracked.{Limits}
 use Rattle.pcache_evict.specs.Recency.{Recency, weight, others, moved, IsInside, Evicts}
 use Rattle.pcache_evict.specs.Listed.{IsEnough}
@@ -121,3 +122,12 @@ evicts-unique limits l a b out gone v w =
             (front, v.order ∙ ap (λ (t : Recency). reverse (keys_of t)) tails ∙ sym w.order)
       ]
     ]
+
+-- a walk that began beside other lists: what stays beside this one, and what was passed before
+pub record Walking (k : CacheEntryKey) (l left : Recency) (start : Walk) (total items gone : ℕ) : Type 0 where
+  pub passed : Recency
+  pub split : l ≡ left ++ passed
+  pub sum : total ≡ (start.sum - weight (others k l)) + weight (others k left)
+  pub count : items ≡ (start.count - length (others k l)) + length (others k left)
+  pub room : gone ≡ start.room + length (others k passed)
+  pub fits : gone + items ≡ start.room + start.count

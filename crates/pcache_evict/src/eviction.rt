@@ -12,7 +12,9 @@ use pcache_base::error::Result;
 use pcache_base::moment::Moment;
 
 mod entry_key;
+pub mod lru;
 mod recency;
+mod shards;
 pub mod simple_lru;
 
 pub use entry_key::{CacheEntryId, CacheEntryKey, CacheEntryKeyRef};

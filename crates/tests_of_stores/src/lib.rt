@@ -9,6 +9,8 @@ mod hashtable;
 #[cfg(test)]
 mod lock;
 #[cfg(test)]
+mod lru;
+#[cfg(test)]
 mod memory;
 #[cfg(test)]
 mod random_locks;

@@ -1,12 +1,14 @@
 //! Entries with their weights in the order of their last use.
-ghost use Rattle.std.specs.Prelude.{◌≡◌, ◌∷◌, ◌++◌, ◌+◌, ◌-◌, ◌<◌, ◌^◌, [], true, false, None, is_some, length, OnOk, OnErr, IfOk, IfErr, IfSome, IfNone, IsSome, min};
+ghost use Rattle.std.specs.Prelude.{◌≡◌, ◌∷◌, ◌++◌, ◌+◌, ◌-◌, ◌<◌, ◌≤◌, ◌^◌, [], true, false, None, is_some, length, OnOk, OnErr, IfOk, IfErr, IfSome, IfNone, IsSome, min, option_copied};
 ghost use Rattle.std.specs.Vec.{vec_capacity};
 ghost use Rattle.pcache_base.specs.declared.error.ErrorType.TheVariants.{OutOfMemory};
 ghost use Rattle.lru.specs.LruCache.{lru_cache, put_entries};
 ghost use Rattle.pcache_evict.specs.Entry.{entry_eq};
-ghost use Rattle.pcache_evict.specs.Tracked.{limits_of};
+ghost use Rattle.pcache_evict.specs.Tracked.{limits_of, raised};
 ghost use Rattle.pcache_evict.specs.Recency.{Recency, weight, weight_of, others, moved, IsInside, Evicts};
 ghost use Rattle.pcache_evict.specs.Listed.{IsOnce, IsEnough};
+ghost use Rattle.pcache_evict.specs.Shards.{reweighed, last_key};
+ghost use Rattle.pcache_evict.specs.Chain.{AreSmall, Walks};
 
 use super::CacheEntryKey;
 use lru::LruCache;
@@ -110,6 +112,29 @@ impl RecencyList {
         self.weight = rest + size as u128;
     }
 
+    /// Sets the weight of an entry that is there, which stays where it is and takes no memory; it is
+    /// known what the other entries weigh.
+    pub(super) fn reweigh_in_place(&mut self, item: &CacheEntryKey, size: usize, rest: u128)
+        requires there { IsSome (weight_of item.now self.old) }
+        requires sum { rest ≡ weight (others item.now self.old) }
+        requires fits { rest + 2 ^ 64 < 2 ^ 128 }
+        ensures list { self.new ≡ reweighed item.now size self.old }
+    {
+        write_weight(&mut self.cache, item, size);
+        self.cache.len();
+        self.weight = rest + size as u128;
+    }
+
+    /// The key of the last entry.
+    pub(super) fn last(&self) -> Option<&CacheEntryKey>
+        ensures { option_copied result ≡ last_key self.now }
+    {
+        match self.cache.peek_lru() {
+            Some((key, _weight)) => Some(key),
+            None => None,
+        }
+    }
+
     /// Moves an entry to the front, if it is there.
     pub(super) fn promote(&mut self, item: &CacheEntryKey) -> bool
         ensures was { result ≡ is_some (weight_of item.now self.old) }
@@ -162,10 +187,19 @@ impl RecencyList {
         ensures once { IsOnce self.now }
     {
         let mut all = Vec::with_capacity(alloc, self.cache.len())?;
-        for (key, size) in self.cache.iter() {
-            push_copy(&mut all, key, *size)?;
-        }
+        self.copy_into(&mut all)?;
         Ok(all)
+    }
+
+    /// Adds copies of the entries with their weights, most recent first.
+    pub(super) fn copy_into(&self, all: &mut Vec<(CacheEntryKey, usize)>) -> Result<()>
+        ensures ok { OnOk result (all.new.items ≡ all.old.items ++ self.now) }
+        ensures kind { IfErr result (λ e. e ≡ OutOfMemory) }
+    {
+        for (key, size) in self.cache.iter() {
+            push_copy(all, key, *size)?;
+        }
+        Ok(())
     }
 
     /// Whether the limits hold once this entry is put; it is known what the other entries weigh and
@@ -221,6 +255,38 @@ impl RecencyList {
         room
     }
 
+    /// Walks over the list from its end as long as the limits do not hold for what it did not pass.
+    /// One entry is neither passed nor counted.
+    pub(super) fn walk(
+        &self,
+        item: &CacheEntryKey,
+        limit: usize,
+        watermark: Option<usize>,
+        start: Walk,
+    ) -> Walk
+        requires sum { weight (others item.now self.now) ≤ start.sum }
+        requires count { length (others item.now self.now) ≤ start.count }
+        requires fits { start.room + start.count ≤ 2 ^ 63 }
+        ensures { Walks (limits_of limit watermark) item.now self.now start result }
+    {
+        let mut sum = start.sum;
+        let mut count = start.count;
+        let mut room = start.room;
+        let mut left = self.cache.iter();
+        while exceeds(sum, count, limit, watermark) {
+            let Some((key, gone)) = left.next_back() else {
+                return Walk { sum, count, room };
+            };
+            let same = *item == *key;
+            if !same {
+                sum -= *gone as u128;
+                count -= 1;
+                room += 1;
+            }
+        }
+        Walk { sum, count, room }
+    }
+
     /// Takes the last entries out until the limits hold, adds them to `out`, and answers what they
     /// weighed (the largest `usize` where it is more).
     pub(super) fn evict(
@@ -258,6 +324,17 @@ impl RecencyList {
     }
 }
 
+/// Where a walk stands that makes room for what goes.
+#[derive(Clone, Copy, Debug)]
+pub(super) struct Walk {
+    /// What the entries weigh that it did not pass.
+    pub(super) sum: u128,
+    /// How many these are.
+    pub(super) count: usize,
+    /// How many it passed.
+    pub(super) room: usize,
+}
+
 /// Sets the weight of an entry that is there, and moves it to the front.
 fn set_weight(cache: &mut LruCache<CacheEntryKey, usize>, item: &CacheEntryKey, size: usize)
     requires { IsSome (weight_of item.now cache.old.entries) }
@@ -278,12 +355,25 @@ fn push_copy(all: &mut Vec<(CacheEntryKey, usize)>, key: &CacheEntryKey, size: u
     Ok(())
 }
 
+/// Sets the weight of an entry that is there, where it stands.
+fn write_weight(cache: &mut LruCache<CacheEntryKey, usize>, item: &CacheEntryKey, size: usize)
+    requires { IsSome (weight_of item.now cache.old.entries) }
+    ensures { cache.new ≡ lru_cache (reweighed item.now size cache.old.entries) cache.old.cap }
+{
+    let Some(weight) = cache.peek_mut(item) else {
+        unreachable!()
+    };
+    *weight = size;
+}
+
 /// Whether a weight or a number of entries is above the limits.
-fn exceeds(sum: u128, count: usize, limit: usize, watermark: Option<usize>) -> bool
+pub(super) fn exceeds(sum: u128, count: usize, limit: usize, watermark: Option<usize>) -> bool
     ensures over { result ≡ true → (l : Recency) → sum ≡ weight l → count ≡ length l
         → ¬ IsInside (limits_of limit watermark) l }
     ensures within { result ≡ false → (l : Recency) → sum ≡ weight l → count ≡ length l
         → IsInside (limits_of limit watermark) l }
+    ensures above { result ≡ true → ¬ AreSmall (limits_of limit watermark) sum count }
+    ensures small { result ≡ false → AreSmall (limits_of limit watermark) sum count }
 {
     if let Some(most) = watermark {
         if count > most {
@@ -291,4 +381,19 @@ fn exceeds(sum: u128, count: usize, limit: usize, watermark: Option<usize>) -> b
         }
     }
     sum > limit as u128
+}
+
+/// The weight after an increment.
+pub(super) fn raised_weight(
+    present: Option<usize>,
+    delta: usize,
+    max_weight: Option<usize>,
+) -> usize
+    ensures { result ≡ raised delta max_weight present }
+{
+    let most = max_weight.unwrap_or(usize::MAX);
+    match present {
+        Some(size) => size.saturating_add(delta).min(most).max(size),
+        None => delta.min(most).max(1),
+    }
 }

@@ -2,11 +2,10 @@
 ghost use Rattle.std.specs.Prelude.{◌≡◌, ◌-◌, ◌^◌, [], None, is_some, length, OnOk, OnErr, IfOk, IfErr, IsOk, IsSome, min};
 ghost use Rattle.std.specs.Vec.{vec_capacity};
 ghost use Rattle.pcache_base.specs.declared.error.ErrorType.TheVariants.{OutOfMemory};
-ghost use Rattle.pcache_evict.specs.Tracked.{raised};
 ghost use Rattle.pcache_evict.specs.Recency.{IsInside, weight, weight_of, others, moved, incremented, accessed, loaded};
 ghost use Rattle.pcache_evict.specs.Listed.{Listed, empty_list, Moves, IsEnough, IsOnce};
 
-use super::recency::RecencyList;
+use super::recency::{RecencyList, raised_weight};
 use super::{CacheEntryKey, EvictionManager};
 use pcache_base::error::Result;
 use pcache_base::moment::Moment;
@@ -234,17 +233,6 @@ impl Manager {
         self.evicted_size = self.evicted_size.saturating_add(gone);
         self.evicted_items = self.evicted_items.saturating_add(out.len());
         out
-    }
-}
-
-/// The weight after an increment.
-fn raised_weight(present: Option<usize>, delta: usize, max_weight: Option<usize>) -> usize
-    ensures { result ≡ raised delta max_weight present }
-{
-    let most = max_weight.unwrap_or(usize::MAX);
-    match present {
-        Some(size) => size.saturating_add(delta).min(most).max(size),
-        None => delta.min(most).max(1),
     }
 }
 
