@@ -10,7 +10,7 @@ use Rattle.pcache_base.specs.declared.poll.Poll.TheVariants.{Ready, Pending}
 use Rattle.pcache_evict.specs.Tracked.{Tracked, Limits}
 use Rattle.pcache_store.specs.Store.{Written, Reader, Whole, Part, read_part}
 use Rattle.pcache_request.specs.Phases.{is_treated_as_miss}
-use Rattle.pcache_request.specs.Requests.{Request}
+use Rattle.pcache_request.specs.Requests.{Request, without_reader}
 use Rattle.pcache_request.specs.declared.phase.HitStatus.{HitStatus}
 use Rattle.pingora_cache.specs.declared.world.call.Call.{Call}
 use Rattle.pingora_cache.specs.declared.world.call.Call.TheVariants as C
@@ -22,7 +22,7 @@ use Rattle.pingora_cache.specs.declared.world.entry.Entry.{Entry}
 use Rattle.pingora_cache.specs.declared.world.entry.Event.{Event}
 use Rattle.pingora_cache.specs.declared.world.entry.Event.TheVariants as E
 use Rattle.pingora_cache.specs.Events.{begin_of, in_flight, body_of, is_told}
-use Rattle.pingora_cache.specs.Held.{Held, Change, opens, closes, stays, turns, looks, takes, begins, ends, reads_on, change_of, changed, turned_by, number_of, Outcome, outcome, is_wrong, is_done, is_taken, opened, with_given, asked, pair_of, looked_by, placed_by, taken_by, without_pair, began, ended, read_past, has_read, on_request, row_by, row, request_of}
+use Rattle.pingora_cache.specs.Held.{Held, Change, opens, closes, stays, turns, looks, takes, begins, ends, reads_on, reads_no_more, change_of, changed, turned_by, number_of, Outcome, outcome, is_wrong, is_done, is_taken, opened, with_given, asked, pair_of, looked_by, placed_by, taken_by, without_pair, began, ended, read_past, has_read, on_request, row_by, row, request_of}
 use Rattle.pingora_cache.specs.History.{events_of, reads}
 use Rattle.pingora_cache.specs.Facts.{Facts, Says, request_in}
 use Rattle.pingora_cache.specs.Legal.{IsLegal}
@@ -237,6 +237,7 @@ module _ (f : Facts) (es events : List Event) (reply : Reply) (got : List ℕ) w
   follow ends x says a old h = ended-follows after events got x h
   follow reads_on x says (inl a) old h = subst (FollowsRead es x got) (sym a) (none-read es x got old)
   follow reads_on x says (inr a) old h = read-follows f es x got reply events says a.0 old a.1
+  follow reads_no_more x says a old h = on-done after got (is_wrong o) (Some x) (Some (on_request without_reader x)) h (tt, h.1)
 
   -- where no request is open
   follow-none : (change : Change) → FollowsTo change None
@@ -249,6 +250,7 @@ module _ (f : Facts) (es events : List Event) (reply : Reply) (got : List ℕ) w
   follow-none begins = tt
   follow-none ends = tt
   follow-none reads_on = tt
+  follow-none reads_no_more = on-done after got (is_wrong o) None None tt tt
 
 -- one call
 follow-call : (f : Facts) (es : List Event) (call : Call) (q : Option Held) (reply : Reply) (events : List Event) (got : List ℕ) → Says es (request_in q) f → Answers f call q reply events → Follows es q got → Follows (reverse events ++ es) q got

@@ -12,6 +12,7 @@ use Rattle.pcache_lock.specs.Locks.{Locks, no_locks, holder, given, after_reques
 use Rattle.pcache_lock.specs.Permits as permits
 use Rattle.pcache_lock.specs.Permits.{Core, Permit, is_named, spent, released_status, dropped_status, without_reader}
 use Rattle.pcache_lock.specs.Statuses.{IsReason, is_aged}
+use Rattle.pcache_lock.specs.Waiting.{published}
 use Rattle.pcache_lock.specs.Waits as table
 use Rattle.pcache_lock.specs.Waits.{Leads, LeadsAll, is_unlock, waiting_slot}
 use Rattle.pcache_lock.specs.declared.lock.permit.Locked.{Locked}
@@ -19,6 +20,7 @@ use Rattle.pcache_lock.specs.declared.lock.permit.Locked.TheVariants.{Write, Rea
 use Rattle.pcache_lock.specs.declared.lock.status.LockStatus.{LockStatus}
 use Rattle.pcache_lock.proofs.Calls.{finds_the_waiting}
 use Rattle.pcache_lock.proofs.Ends.{waits_until_its_end}
+use Rattle.pcache_request.specs.LockUse.{published_by}
 use Rattle.pcache_request.specs.Reports.{asked_with, asked_in_look_up, asked_by_found}
 use Rattle.pcache_request.specs.Requests.{Request, entry_of, found_for, let_go_by, settled, table_asked, table_looked, table_found, asks_for_miss, asks_for_hit, asks_as_stale, counts_found}
 use Rattle.pcache_request.specs.declared.phase.HitStatus.{HitStatus}
@@ -187,6 +189,13 @@ leaves t r reached = record {
   waiting = waiting-as (let_go t (Read r)) (waiting_of t) (λ q. waits_until_its_end.leaving t r q) (next-left-by t r.number (get t.cores r.number));
 }
 
+publishes : (t : Locks) (l : ℕ) (tokens : List ℕ) → MovesLocks t [] (published t l tokens)
+publishes t l tokens reached = record {
+  reached = reached-more t (published t l tokens) (table.Published l tokens) reached (inr refl) refl;
+  given = tt;
+  waiting = waiting-as (published t l tokens) (waiting_of t) (λ q. waits_until_its_end.publishing t l tokens q) refl;
+}
+
 -- ---- the rows of a request
 
 pub let-go-by : (t : Locks) (h : Option Locked) → MovesLocks t (each E.LetGo (permit_of h)) (let_go_by h t)
@@ -198,6 +207,19 @@ pub settles : (t : Locks) (s : LockStatus) (h : Option Locked) → IsReason s �
 settles t s None reason = quiet_locks t t [] tt refl
 settles t s (Some (Write p)) reason = releases t p.number s reason
 settles t s (Some (Read r)) reason = leaves t r
+
+published-by : (t : Locks) (tokens : List ℕ) (h : Option Locked) → MovesLocks t [] (published_by tokens h t)
+published-by t tokens None = quiet_locks t t [] tt refl
+published-by t tokens (Some (Write p)) = publishes t p.number tokens
+published-by t tokens (Some (Read r)) = quiet_locks t t [] tt refl
+
+pub publish-locks : (t u : Locks) (tokens : List ℕ) (h : Option Locked) (events : List Event) → events ≡ [] → u ≡ published_by tokens h t → MovesLocks t events u
+publish-locks t u tokens h events none is = subst (λ es. MovesLocks t es u) (sym none) (subst (MovesLocks t []) (sym is) (published-by t tokens h))
+
+-- what is held is released, and the permit noted
+pub settle-locks : (t u : Locks) (s : LockStatus) (h : Option Locked) (o : Option ℕ) (old events : List Event) → IsReason s → o ≡ permit_of h → old ≡ [] → events ≡ old ++ each E.Release o → u ≡ settled s h t → MovesLocks t events u
+settle-locks t u s h o old events reason permit none is to =
+    subst (λ es. MovesLocks t es u) (sym (is ∙ (λ i. none i ++ each E.Release (permit i)))) (subst (MovesLocks t (each E.Release (permit_of h))) (sym to) (settles t s h reason))
 
 asks-for : (t : Locks) (k : ℕ) (stale : Bool) (now : ℕ) (o : Option ℕ) → holder t k ≡ o → MovesLocks t (E.Ask k (number_of_lock (given t stale o)) (is_permit (given t stale o)) ∷ []) (after_request t k stale now o)
 asks-for t k stale now None is = gives-permit t k stale now is

@@ -8,8 +8,10 @@ use Rattle.pcache_base.specs.declared.poll.Poll.TheVariants.{Ready, Pending}
 use Rattle.pcache_lock.specs.declared.lock.permit.Locked.{Locked}
 use Rattle.pcache_lock.specs.declared.lock.permit.Locked.TheVariants.{Write, Read}
 use Rattle.pcache_store.specs.Store.{Reader, Whole, Part}
+use Rattle.pcache_request.specs.LockUse.{unheld, with_cache_lock}
 use Rattle.pcache_request.specs.Releasing.{bypassed}
-use Rattle.pcache_request.specs.Requests.{Request, fresh_request, with_key, missed, with_meta, placed, asks_as_stale}
+use Rattle.pcache_request.specs.Stale.{updating}
+use Rattle.pcache_request.specs.Requests.{Request, fresh_request, with_key, missed, with_meta, without_reader, placed, asks_as_stale}
 use Rattle.pcache_request.specs.declared.phase.HitStatus.{HitStatus}
 use Rattle.pcache_request.specs.declared.phase.InUse.{InUse}
 use Rattle.pingora_cache.specs.declared.world.call.Call.{Call}
@@ -39,7 +41,12 @@ number_of (C.Begin r) = r
 number_of (C.Write r bs eof) = r
 number_of (C.Finish r) = r
 number_of (C.Read r) = r
+number_of (C.Done r) = r
 number_of (C.Purge r) = r
+number_of (C.Lock r is_used) = r
+number_of (C.Publish r tokens) = r
+number_of (C.Release r why) = r
+number_of (C.Updating r) = r
 number_of (C.Phase r) = r
 number_of (C.End r) = r
 
@@ -152,8 +159,9 @@ pub data Change : Type 0 where
   -- a write begins, and ends
   begins : Change
   ends : Change
-  -- its reader reads on
+  -- its reader reads on, and goes
   reads_on : Change
+  reads_no_more : Change
 
 abbrev pub change_of : Call → Change
 change_of (C.Open r) = opens
@@ -167,7 +175,12 @@ change_of (C.Begin r) = begins
 change_of (C.Write r bs eof) = stays
 change_of (C.Finish r) = ends
 change_of (C.Read r) = reads_on
+change_of (C.Done r) = reads_no_more
 change_of (C.Purge r) = stays
+change_of (C.Lock r is_used) = turns (with_cache_lock is_used None) false
+change_of (C.Publish r tokens) = stays
+change_of (C.Release r why) = turns unheld false
+change_of (C.Updating r) = turns updating false
 change_of (C.Phase r) = stays
 change_of (C.End r) = closes
 
@@ -185,6 +198,7 @@ changed (takes s) o events q = cond (is_taken o) (option_map (taken_by s events)
 changed begins o events q = option_map (on_request (began (is_done o) events)) q
 changed ends o events q = option_map (on_request (ended events)) q
 changed reads_on o events q = option_map (on_request (has_read events)) q
+changed reads_no_more o events q = cond (is_wrong o) q (option_map (on_request without_reader) q)
 
 abbrev pub row_by : Call → Outcome → List Event → Option Held → Option Held
 row_by call o events q = changed (change_of call) o events q

@@ -5,6 +5,7 @@ pub mod call;
 pub mod entry;
 mod fill;
 pub mod laws;
+mod locks;
 mod look;
 mod machine;
 mod parts;

@@ -8,6 +8,7 @@ use bytes::Bytes;
 use pcache_base::error::{ErrorType, Result};
 use pcache_base::key::CacheKey;
 use pcache_base::moment::Moment;
+use pcache_base::reason::NoCacheReason;
 use pcache_meta::meta::CacheMeta;
 use pcache_request::phase::{CachePhase, HitStatus};
 
@@ -65,8 +66,31 @@ pub enum Call {
     Read {
         request: u64,
     },
+    /// Ends the reader.
+    Done {
+        request: u64,
+    },
     /// Removes what stands under the key.
     Purge {
+        request: u64,
+    },
+    /// Takes the lock into use, or out of it, before the key's lock is held.
+    Lock {
+        request: u64,
+        is_used: bool,
+    },
+    /// Publishes what was found out about the fill, where the permit is held.
+    Publish {
+        request: u64,
+        tokens: Vec<u64>,
+    },
+    /// Releases the permit for a reason; a read lock is let go.
+    Release {
+        request: u64,
+        reason: NoCacheReason,
+    },
+    /// Serves the stale body while another request renews it.
+    Updating {
         request: u64,
     },
     /// Tells the phase that the request is in.
@@ -104,7 +128,15 @@ impl Call {
             } => request,
             Call::Finish { request } => request,
             Call::Read { request } => request,
+            Call::Done { request } => request,
             Call::Purge { request } => request,
+            Call::Lock {
+                request,
+                is_used: _,
+            } => request,
+            Call::Publish { request, tokens: _ } => request,
+            Call::Release { request, reason: _ } => request,
+            Call::Updating { request } => request,
             Call::Phase { request } => request,
             Call::End { request } => request,
         }
