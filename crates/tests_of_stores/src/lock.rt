@@ -118,8 +118,9 @@ fn second_waits(
     read: &mut ReadLock,
 ) {
     assert!(rt; first.number() == 0 && other.number() == 1 && read.number() == 0);
-    assert!(rt; !first.stale_writer());
+    assert!(rt; !first.stale_writer() && !read.was_polled());
     assert!(rt; poll(rt, lock, alloc, read, None, at(3)) == Poll::Pending);
+    assert!(rt; read.was_polled());
     assert!(rt; lock.lock_status(read, at(3)) == LockStatus::Waiting);
 }
 
