@@ -5,6 +5,7 @@ use crate::script::{Line, Unread, read};
 use pingora_cache::eviction::simple_lru::Manager;
 use pingora_cache::moment::Moment;
 use pingora_cache::world::World;
+use pingora_cache::world::call::Reply;
 use std::alloc::Global;
 use std::io::{BufRead, BufReader, BufWriter, Read, Write};
 use std::time::Duration;
@@ -83,12 +84,13 @@ fn run_lines<R: BufRead, W: Write>(
     writer: &mut W,
 ) -> Result<(), Stop> {
     let mut line = Vec::new(alloc);
+    let mut now = Moment::EPOCH;
     for number in 1..u64::MAX {
         line.clear();
         if !read_line(reader, &mut line)? {
             return Ok(());
         }
-        run_line(alloc, world, line.as_slice(), number, writer)?;
+        run_line(alloc, world, line.as_slice(), number, &mut now, writer)?;
     }
     Ok(())
 }
@@ -98,15 +100,20 @@ fn run_line<W: Write>(
     world: &mut World<Manager>,
     line: &[u8],
     number: u64,
+    now: &mut Moment,
     writer: &mut W,
 ) -> Result<(), Stop> {
-    let read = match read(alloc, line, Moment::EPOCH) {
+    let read = match read(alloc, line, *now) {
         Ok(read) => read,
         Err(Unread::BadCall) => return Err(Stop::BadCall(number)),
         Err(Unread::OutOfMemory) => return Err(Stop::OutOfMemory),
     };
     let written = match read {
         Line::Skip => Ok(()),
+        Line::At(moment) => {
+            *now = moment;
+            write_reply(writer, &Reply::Done)
+        }
         Line::Stat => write_stat(writer, world.stored_bytes(), world.slots(), world.totals()),
         Line::Call(call) => match world.step(call) {
             Ok(reply) => write_reply(writer, &reply),

@@ -3,6 +3,7 @@ ghost use Rattle.std.specs.Prelude.{◌<◌, IfOk};
 
 use bytes::Bytes;
 use http::StatusCode;
+use pingora_cache::NoCacheReason;
 use pingora_cache::header::ResponseHeader;
 use pingora_cache::key::CacheKey;
 use pingora_cache::meta::CacheMeta;
@@ -18,6 +19,8 @@ pub enum Line {
     Skip,
     /// The numbers of the store and the manager.
     Stat,
+    /// The moment of the lines that follow.
+    At(Moment),
     /// A call of the world.
     Call(Call),
 }
@@ -75,7 +78,7 @@ impl<'a> Words<'a> {
     }
 }
 
-/// Reads a line, without its end. Every moment is `now`.
+/// Reads a line, without its end. The moment of its call is `now`.
 pub fn read(alloc: Global, line: &[u8], now: Moment) -> Result<Line, Unread> {
     if line.is_empty() || line.first() == Some(&b'#') {
         return Ok(Line::Skip);
@@ -85,6 +88,11 @@ pub fn read(alloc: Global, line: &[u8], now: Moment) -> Result<Line, Unread> {
     if word == b"stat".as_slice() {
         words.end()?;
         return Ok(Line::Stat);
+    }
+    if word == b"at".as_slice() {
+        let seconds = words.number()?;
+        words.end()?;
+        return Ok(Line::At(Moment::from_secs(seconds)));
     }
     let request = words.number()?;
     let call = read_call(alloc, word, request, &mut words, now)?;
@@ -115,7 +123,7 @@ fn read_call(
         b"miss" => Ok(Call::Miss { request }),
         b"meta" => Ok(Call::Meta {
             request,
-            meta: meta(alloc, words.number()?, now),
+            meta: meta(alloc, words, now)?,
         }),
         b"begin" => Ok(Call::Begin { request }),
         b"write" => {
@@ -129,9 +137,66 @@ fn read_call(
         }
         b"finish" => Ok(Call::Finish { request }),
         b"read" => Ok(Call::Read { request }),
+        b"done" => Ok(Call::Done { request }),
         b"purge" => Ok(Call::Purge { request }),
+        b"updating" => Ok(Call::Updating { request }),
         b"phase" => Ok(Call::Phase { request }),
         b"end" => Ok(Call::End { request }),
+        _ => read_lock_call(alloc, word, request, words),
+    }
+}
+
+// A line about the lock that a request holds.
+fn read_lock_call(
+    alloc: Global,
+    word: &[u8],
+    request: u64,
+    words: &mut Words<'_>,
+) -> Result<Call, Unread> {
+    match word {
+        b"lock" => Ok(Call::Lock {
+            request,
+            is_used: is_on(words.word()?)?,
+        }),
+        b"publish" => {
+            let mut tokens = Vec::new(alloc);
+            tokens.push(words.number()?)?;
+            while let Some(token) = words.next() {
+                tokens.push(number(token)?)?;
+            }
+            Ok(Call::Publish { request, tokens })
+        }
+        b"release" => Ok(Call::Release {
+            request,
+            reason: reason(words.word()?)?,
+        }),
+        _ => Err(Unread::BadCall),
+    }
+}
+
+fn is_on(word: &[u8]) -> Result<bool, Unread> {
+    match word {
+        b"on" => Ok(true),
+        b"off" => Ok(false),
+        _ => Err(Unread::BadCall),
+    }
+}
+
+// A reason by its word. A caller's own has none.
+fn reason(word: &[u8]) -> Result<NoCacheReason, Unread> {
+    match word {
+        b"NeverEnabled" => Ok(NoCacheReason::NeverEnabled),
+        b"OriginNotCache" => Ok(NoCacheReason::OriginNotCache),
+        b"ResponseTooLarge" => Ok(NoCacheReason::ResponseTooLarge),
+        b"PredictedResponseTooLarge" => Ok(NoCacheReason::PredictedResponseTooLarge),
+        b"StorageError" => Ok(NoCacheReason::StorageError),
+        b"InternalError" => Ok(NoCacheReason::InternalError),
+        b"Deferred" => Ok(NoCacheReason::Deferred),
+        b"DeclinedToUpstream" => Ok(NoCacheReason::DeclinedToUpstream),
+        b"UpstreamError" => Ok(NoCacheReason::UpstreamError),
+        b"CacheLockGiveUp" => Ok(NoCacheReason::CacheLockGiveUp),
+        b"CacheLockTimeout" => Ok(NoCacheReason::CacheLockTimeout),
+        b"CacheLockRetryLimit" => Ok(NoCacheReason::CacheLockRetryLimit),
         _ => Err(Unread::BadCall),
     }
 }
@@ -147,15 +212,33 @@ fn key(alloc: Global, words: &mut Words<'_>) -> Result<CacheKey, Unread> {
 
 fn status(word: &[u8]) -> Result<HitStatus, Unread> {
     match word {
+        b"expired" => Ok(HitStatus::Expired),
+        b"force_expired" => Ok(HitStatus::ForceExpired),
+        b"force_expired_serve_stale" => Ok(HitStatus::ForceExpiredServeStale),
+        b"force_miss" => Ok(HitStatus::ForceMiss),
+        b"failed_hit_filter" => Ok(HitStatus::FailedHitFilter),
         b"fresh" => Ok(HitStatus::Fresh),
+        b"force_fresh" => Ok(HitStatus::ForceFresh),
         _ => Err(Unread::BadCall),
     }
 }
 
-// A response of status 200 that is fresh until this second, and not served stale.
-fn meta(alloc: Global, fresh_until: u64, now: Moment) -> CacheMeta {
+// A response of status 200 that was made now and is fresh until the second that stands first. Two
+// windows may follow: for how many seconds it may be served stale while it is renewed, and where
+// that fails; without them it is not served stale.
+fn meta(alloc: Global, words: &mut Words<'_>, now: Moment) -> Result<CacheMeta, Unread> {
+    let fresh_until = Moment::from_secs(words.number()?);
+    let (while_revalidate, if_error) = match words.next() {
+        None => (0, 0),
+        Some(word) => (window(word)?, window(words.word()?)?),
+    };
     let header = ResponseHeader::build(alloc, StatusCode::OK);
-    CacheMeta::new(Moment::from_secs(fresh_until), now, 0, 0, header)
+    Ok(CacheMeta::new(fresh_until, now, while_revalidate, if_error, header))
+}
+
+// Seconds that fit 32 bits.
+fn window(word: &[u8]) -> Result<u32, Unread> {
+    u32::try_from(number(word)?).map_err(|_| Unread::BadCall)
 }
 
 fn ends_with_eof(words: &mut Words<'_>) -> Result<bool, Unread> {

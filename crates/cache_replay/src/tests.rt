@@ -472,7 +472,13 @@ fn lines(rt: HostRuntime) -> Result<(), Fail> {
         "key 1 a\\e 1",
         "write 1 a eo",
         "found 1 stale",
-        "at 1",
+        "at",
+        "at -1",
+        "meta 1 5 6",
+        "meta 1 5 6 4294967296",
+        "lock 1 maybe",
+        "publish 1",
+        "release 1 Custom",
     ] {
         let mut row = String::from_str(alloc, "open 1 -> ok\n")?;
         row.push_str(line)?;
@@ -531,5 +537,79 @@ fn a_key_is_passed_by(rt: HostRuntime) -> Result<(), Fail> {
         phase 1 -> bypass\n\
         look 1 -> wrong call\n\
         miss 1 -> ok\n";
+    check(&rt, rt.alloc(), &["9"], row, 0, "")
+}
+
+// The phase table's rows of these calls.
+#[test]
+fn a_permit_is_released_and_a_lock_taken_out_of_use(rt: HostRuntime) -> Result<(), Fail> {
+    let row = "open 1 -> ok\n\
+        key 1 k 1 -> ok\n\
+        look 1 -> none write\n\
+        open 2 -> ok\n\
+        key 2 k 1 -> ok\n\
+        look 2 -> none read\n\
+        publish 1 7 8 -> ok\n\
+        release 1 CacheLockTimeout -> wrong call\n\
+        release 1 InternalError -> ok\n\
+        release 1 CacheLockTimeout -> ok\n\
+        open 3 -> ok\n\
+        key 3 k 1 -> ok\n\
+        lock 3 off -> ok\n\
+        look 3 -> none\n\
+        lock 3 on -> ok\n\
+        look 3 -> none write\n\
+        lock 3 off -> wrong call\n\
+        at 10 -> ok\n\
+        look 2 -> none read\n\
+        release 2 Deferred -> ok\n\
+        look 2 -> none read\n";
+    check(&rt, rt.alloc(), &["9"], row, 0, "")
+}
+
+#[test]
+fn a_forced_miss(rt: HostRuntime) -> Result<(), Fail> {
+    let row = "open 1 -> ok\n\
+        key 1 k 1 -> ok\n\
+        look 1 -> none write\n\
+        miss 1 -> ok\n\
+        meta 1 60 -> ok\n\
+        begin 1 -> ok\n\
+        write 1 x -> ok\n\
+        finish 1 -> stored 1 evicted 0\n\
+        open 2 -> ok\n\
+        key 2 k 1 -> ok\n\
+        look 2 -> hit 1\n\
+        found 2 force_miss -> key write\n\
+        miss 2 -> ok\n";
+    check(&rt, rt.alloc(), &["9"], row, 0, "")
+}
+
+// A stale body is served while another request renews it, and its reader is ended.
+#[test]
+fn a_stale_body_is_served(rt: HostRuntime) -> Result<(), Fail> {
+    let row = "open 1 -> ok\n\
+        key 1 k 1 -> ok\n\
+        look 1 -> none write\n\
+        miss 1 -> ok\n\
+        at 3 -> ok\n\
+        meta 1 5 10 20 -> ok\n\
+        begin 1 -> ok\n\
+        write 1 x -> ok\n\
+        finish 1 -> stored 1 evicted 0\n\
+        at 6 -> ok\n\
+        open 2 -> ok\n\
+        updating 2 -> wrong call\n\
+        key 2 k 1 -> ok\n\
+        done 2 -> wrong call\n\
+        look 2 -> hit 1\n\
+        found 2 expired -> stale write\n\
+        updating 2 -> ok\n\
+        phase 2 -> stale-updating\n\
+        read 2 -> data x\n\
+        read 2 -> end\n\
+        done 2 -> ok\n\
+        read 2 -> wrong call\n\
+        done 2 -> ok\n";
     check(&rt, rt.alloc(), &["9"], row, 0, "")
 }

@@ -8,6 +8,7 @@ use Rattle.pcache_base.specs.declared.error.ErrorType.{ErrorType}
 use Rattle.pcache_base.specs.declared.error.ErrorType.TheVariants.{OutOfMemory, NumbersExhausted}
 use Rattle.pcache_lock.specs.Locks.{Locks, MayRefuseLock, given, holder, is_permit, number_of_lock}
 use Rattle.pcache_lock.specs.declared.lock.permit.Locked.{Locked}
+use Rattle.pcache_lock.specs.declared.lock.status.LockStatus.{LockStatus}
 use Rattle.pcache_lock.specs.declared.lock.permit.Locked.TheVariants.{Write, Read}
 use Rattle.pcache_base.specs.declared.poll.Poll.{Poll}
 use Rattle.pcache_evict.specs.Tracked.{Tracked}
@@ -29,7 +30,7 @@ use Rattle.pingora_cache.specs.declared.world.entry.Answer.TheVariants.{Nothing}
 use Rattle.pingora_cache.specs.declared.world.entry.Event.{Event}
 use Rattle.pingora_cache.specs.declared.world.entry.Event.TheVariants as E
 use Rattle.pcache_request.specs.declared.phase.CachePhase.{CachePhase}
-use Rattle.pcache_request.specs.Reports.{name_of, asked_with, asked_in_look_up, asked_by_found, access_by_found, entry_stored, untracked, untracked_for}
+use Rattle.pcache_request.specs.Reports.{name_of, released_as, asked_with, asked_in_look_up, asked_by_found, access_by_found, entry_stored, untracked, untracked_for}
 use Rattle.pcache_request.specs.declared.cache.report.AskedLock.{AskedLock}
 use Rattle.pcache_request.specs.declared.cache.report.LockName.{LockName}
 use Rattle.pcache_request.specs.Requests.{Request, found_for, found_row, locked_found, looked, phase_found, placed, with_lock, asks_for_miss, asks_for_hit, asks_as_stale, counts_found, entry_of, reader_in, writing, begun_for, joined_for, is_removed_by, tracked_gone, tracked_gone_for}
@@ -37,7 +38,7 @@ use Rattle.pingora_cache.specs.Facts.{facts_in, there_for}
 use Rattle.pingora_cache.specs.Rules.{Looks, Takes}
 use Rattle.pingora_cache.specs.Held.{Held, lock_of, asked, began, read_past}
 use Rattle.pingora_cache.specs.Rules.{AsksIf, IsLockRefusal, each, accesses, permit_of, untrack_of}
-use Rattle.pingora_cache.specs.Step.{IsAnswered, asking, kind_asked, noting, permit_in, untracking}
+use Rattle.pingora_cache.specs.Step.{IsAnswered, asking, kind_asked, noting, permit_in, permit_released, untracking}
 use Rattle.pingora_cache.proofs.StateAnswers.{found-answer, read-past}
 use Rattle.pingora_cache.proofs.StateCalls.{begun-joins}
 
@@ -56,6 +57,11 @@ pub permit-named : (held : Option Locked) → permit_in (option_map name_of held
 permit-named None = refl
 permit-named (Some (Write p)) = refl
 permit-named (Some (Read r)) = refl
+
+pub permit-released : (s : LockStatus) (held : Option Locked) → permit_released (option_map (released_as s) held) ≡ permit_of held
+permit-released s None = refl
+permit-released s (Some (Write p)) = refl
+permit-released s (Some (Read r)) = refl
 
 -- a lock that was asked for
 abbrev if_asked : Bool → Bool → Locks → Option Key → Option Locked → Option AskedLock

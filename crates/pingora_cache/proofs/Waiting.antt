@@ -18,9 +18,13 @@ use Rattle.pcache_lock.specs.Waits.{Leads, LeadsAll, is_unlock, waiting_slot}
 use Rattle.pcache_lock.specs.declared.lock.permit.Locked.{Locked}
 use Rattle.pcache_lock.specs.declared.lock.permit.Locked.TheVariants.{Write, Read}
 use Rattle.pcache_lock.specs.declared.lock.status.LockStatus.{LockStatus}
+use Rattle.pcache_lock.specs.declared.lock.status.LockStatus.TheVariants.{GiveUp}
+use Rattle.pcache_base.specs.declared.reason.NoCacheReason.{NoCacheReason}
+use Rattle.pcache_base.specs.declared.reason.NoCacheReason.TheVariants as reason
 use Rattle.pcache_lock.proofs.Calls.{finds_the_waiting}
 use Rattle.pcache_lock.proofs.Ends.{waits_until_its_end}
 use Rattle.pcache_request.specs.LockUse.{published_by}
+use Rattle.pcache_request.specs.Releasing.{status_for}
 use Rattle.pcache_request.specs.Reports.{asked_with, asked_in_look_up, asked_by_found}
 use Rattle.pcache_request.specs.Requests.{Request, entry_of, found_for, let_go_by, settled, table_asked, table_looked, table_found, asks_for_miss, asks_for_hit, asks_as_stale, counts_found}
 use Rattle.pcache_request.specs.declared.phase.HitStatus.{HitStatus}
@@ -215,6 +219,11 @@ published-by t tokens (Some (Read r)) = quiet_locks t t [] tt refl
 
 pub publish-locks : (t u : Locks) (tokens : List ℕ) (h : Option Locked) (events : List Event) → events ≡ [] → u ≡ published_by tokens h t → MovesLocks t events u
 publish-locks t u tokens h events none is = subst (λ es. MovesLocks t es u) (sym none) (subst (MovesLocks t []) (sym is) (published-by t tokens h))
+
+-- the status that a reason leaves is one that a permit may be released with
+pub status-reason : (why : NoCacheReason) → IsReason (status_for (λ text. GiveUp) why)
+status-reason (reason.Custom text) = tt
+status-reason why = tt
 
 -- what is held is released, and the permit noted
 pub settle-locks : (t u : Locks) (s : LockStatus) (h : Option Locked) (o : Option ℕ) (old events : List Event) → IsReason s → o ≡ permit_of h → old ≡ [] → events ≡ old ++ each E.Release o → u ≡ settled s h t → MovesLocks t events u

@@ -12,6 +12,7 @@ use Rattle.pcache_lock.specs.Locks.{Locks}
 use Rattle.pcache_request.specs.declared.cache.report.Access.{Access}
 use Rattle.pcache_request.specs.declared.cache.report.AskedLock.{AskedLock}
 use Rattle.pcache_request.specs.declared.cache.report.LockName.{LockName}
+use Rattle.pcache_request.specs.declared.cache.report.ReleasedLock.{ReleasedLock}
 use Rattle.pcache_request.specs.Requests.{left_by, dropped_by}
 use Rattle.pcache_store.specs.Store.{Store, Reader}
 use Rattle.pingora_cache.specs.declared.world.call.Call.{Call}
@@ -37,6 +38,11 @@ IsAnswered m reader = (a : Answer) × (pair_of a ≡ Some (m, reader))
 abbrev pub permit_in : Option LockName → Option ℕ
 permit_in None = None
 permit_in (Some l) = cond l.is_permit (Some l.number) None
+
+-- the number of a permit that was released
+abbrev pub permit_released : Option ReleasedLock → Option ℕ
+permit_released None = None
+permit_released (Some r) = permit_in (Some r.lock)
 
 -- what is noted and answered of the lock that was asked for, if one was; a permit that it replaced was let go
 abbrev pub asking : ℕ → Option AskedLock → List Event

@@ -12,7 +12,7 @@ ghost use Rattle.pcache_store.specs.Store.{Store};
 
 use crate::world::call::Reply;
 use crate::world::entry::Event;
-use crate::world::request::{OpenRequest, permit_in};
+use crate::world::request::{OpenRequest, permit_released};
 use pcache_base::reason::NoCacheReason;
 use pcache_lock::lock::CacheLock;
 
@@ -64,7 +64,7 @@ pub(crate) fn release(
         return Reply::WrongCall;
     }
     let released = request.cache.release_write_lock(lock, reason);
-    if let Some(lock) = permit_in(released.map(|released| released.lock)) {
+    if let Some(lock) = permit_released(released) {
         events.push_reserved(Event::Release { lock });
     }
     Reply::Done

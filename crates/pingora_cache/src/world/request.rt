@@ -1,14 +1,14 @@
 //! An open request, with what its last look-up gave.
-ghost use Rattle.std.specs.Prelude.{◌≡◌, None, option_map};
+ghost use Rattle.std.specs.Prelude.{◌≡◌, None, Some, option_map};
 ghost use Rattle.pcache_store.specs.Readers.{reader_of};
 ghost use Rattle.pingora_cache.specs.Rules.{permit_of};
 ghost use Rattle.pcache_request.specs.Requests.{Request, left_by, let_go_by};
 ghost use Rattle.pingora_cache.specs.Sound.{pair_reader};
-ghost use Rattle.pingora_cache.specs.Step.{permit_in, store_ended};
+ghost use Rattle.pingora_cache.specs.Step.{permit_in, permit_released, store_ended};
 
 use pcache_lock::lock::CacheLock;
 use pcache_meta::meta::CacheMeta;
-use pcache_request::cache::{HttpCache, LockName};
+use pcache_request::cache::{HttpCache, LockName, ReleasedLock};
 use pcache_store::memory::{MemCache, MemHitHandler};
 use pcache_store::storage::HandleHit;
 use std::marker::Model;
@@ -71,6 +71,13 @@ pub(crate) fn hold(place: &mut Option<Pair>, pair: Option<Pair>, store: &mut Mem
     if let Some((_meta, hit)) = std::mem::replace(place, pair) {
         hit.let_go(store);
     }
+}
+
+/// The number of a permit that was released.
+pub(crate) fn permit_released(released: Option<ReleasedLock>) -> Option<u64>
+    ensures { result ≡ permit_released released }
+{
+    permit_in(Some(released?.lock))
 }
 
 /// The number of a lock, where it is a permit.
