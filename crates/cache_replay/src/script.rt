@@ -158,20 +158,29 @@ fn read_lock_call(
             request,
             is_used: is_on(words.word()?)?,
         }),
-        b"publish" => {
-            let mut tokens = Vec::new(alloc);
-            tokens.push(words.number()?)?;
-            while let Some(token) = words.next() {
-                tokens.push(number(token)?)?;
-            }
-            Ok(Call::Publish { request, tokens })
-        }
+        b"publish" => Ok(Call::Publish {
+            request,
+            tokens: tokens(alloc, words)?,
+        }),
         b"release" => Ok(Call::Release {
             request,
             reason: reason(words.word()?)?,
         }),
         _ => Err(Unread::BadCall),
     }
+}
+
+// One number or more. A line has at most as many words as bytes.
+fn tokens(alloc: Global, words: &mut Words<'_>) -> Result<Vec<u64>, Unread> {
+    let mut tokens = Vec::new(alloc);
+    tokens.push(words.number()?)?;
+    for _ in 0..words.0.len() {
+        let Some(token) = words.next() else {
+            break;
+        };
+        tokens.push(number(token)?)?;
+    }
+    Ok(tokens)
 }
 
 fn is_on(word: &[u8]) -> Result<bool, Unread> {

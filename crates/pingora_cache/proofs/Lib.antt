@@ -11,6 +11,7 @@ pub mod MovedState
 pub mod MovesOf
 pub mod Noted
 pub mod Opened
+pub mod Promised
 pub mod ReadsLaw
 pub mod Runs
 pub mod SoundOf

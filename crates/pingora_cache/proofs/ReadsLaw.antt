@@ -99,7 +99,7 @@ gave-part es w place got more h =
       | false ↦ elim more as (λ b. HasReadPast es w place got (cond b Pending (Ready None))) [ true ↦ gave-none es (Part w place) got h | false ↦ gave-none es (Part w place) got h ]
     ]
 
-abbrev written_as : ℕ → List Event → ℕ × Meta → Written
+abbrev pub written_as : ℕ → List Event → ℕ × Meta → Written
 written_as w es b = record { slot = b.0; meta = b.1; bytes = body_of w es; told = is_told w es; flying = in_flight w es; readers = 0 }
 
 gave : (es : List Event) (reader : Reader) (got : List ℕ) → HasRead es reader got → HasRead (E.Read (reads es reader) ∷ es) (read_past (reads es reader) reader) (got ++ given_in (E.Read (reads es reader) ∷ []))

@@ -1,21 +1,27 @@
 -- What is promised of every legal history (own).
-use Rattle.std.specs.Prelude.{◌≡◌, ℕ, ◌≤◌, Bool, true, false, Option, Some, IfSome, List, ◌∷◌, ◌⊎◌, ◌↔◌, [], ◌++◌, reverse}
+use Rattle.std.specs.Prelude.{◌≡◌, ℕ, ◌≤◌, Bool, true, false, Option, Some, None, IsSome, IfSome, List, ◌∷◌, ◌⊎◌, ◌↔◌, [], ◌++◌, reverse}
 use Rattle.std.specs.FinMap as map
 use Rattle.pcache_evict.specs.declared.eviction.entry_key.CacheEntryKey.{CacheEntryKey}
+use Rattle.pcache_base.specs.Key.{Key, slot}
 use Rattle.pcache_base.specs.declared.poll.Poll.{Poll}
+use Rattle.pcache_base.specs.declared.poll.Poll.TheVariants.{Ready}
 use Rattle.pcache_evict.specs.Tracked.{Tracked, Limits, IsWithin, IsFair}
-use Rattle.pcache_store.specs.Store.{Reader, Stored}
+use Rattle.pcache_store.specs.Store.{Reader, Part, Stored}
+use Rattle.pingora_cache.specs.declared.world.call.Call.TheVariants as C
+use Rattle.pingora_cache.specs.declared.world.call.Reply.{Reply}
+use Rattle.pingora_cache.specs.declared.world.call.Reply.TheVariants as R
 use Rattle.pingora_cache.specs.declared.world.call.Reply.TheVariants.{WrongCall}
 use Rattle.pingora_cache.specs.declared.world.entry.Answer.{Answer}
 use Rattle.pingora_cache.specs.declared.world.entry.Answer.TheVariants as A
 use Rattle.pingora_cache.specs.declared.world.entry.Entry.{Entry}
 use Rattle.pingora_cache.specs.declared.world.entry.Event.{Event}
 use Rattle.pingora_cache.specs.declared.world.entry.Event.TheVariants.{Look, Ask, Finish, Admit, Read}
-use Rattle.pingora_cache.specs.Events.{is_of, in_flight, was_stored, is_removed, last_finished, body_of, complete, names_slot, size_of, tracked, stored, slots}
+use Rattle.pingora_cache.specs.Events.{is_of, begin_of, in_flight, was_stored, is_removed, last_finished, body_of, complete, names_slot, size_of, tracked, stored, slots}
 use Rattle.pingora_cache.specs.Held.{Held, number_of, request_of}
 use Rattle.pingora_cache.specs.Facts.{Facts, Says, request_in}
 use Rattle.pingora_cache.specs.History.{events_of, Finds, reads}
 use Rattle.pingora_cache.specs.Legal.{IsLegal}
+use Rattle.pingora_cache.specs.Log.{Log, events_in}
 use Rattle.pingora_cache.specs.Rules.{MayBe}
 use Rattle.pingora_cache.specs.Waiting.{NoneWaits, waiting_in}
 use Rattle.pingora_cache.specs.ReadSoFar.{read_by, HasRead}
@@ -91,3 +97,54 @@ GivesThePermitExactly = (limits : Limits) (start : Tracked) (before : List Entry
 -- of the permits that were asked for under one key at most one waits
 abbrev pub OnePermitWaits : Type 0
 OnePermitWaits = (limits : Limits) (start : Tracked) (before : List Entry) (k l m : ℕ) → IsLegal limits start before → (waiting_in (events_of before)).under l ≡ Some k → (waiting_in (events_of before)).under m ≡ Some k → l ≡ m
+
+-- whether a reply tells that something was found, where it is that of a look-up
+abbrev pub told_found : Reply → Option Bool
+told_found (R.Hit n) = Some true
+told_found R.Part = Some true
+told_found (R.NotFound l) = Some false
+told_found _ = None
+
+-- a reply to a look-up tells that something was found exactly where the key has an untouched write
+abbrev pub TellsExactly : Type 0
+TellsExactly = (limits : Limits) (start : Tracked) (before : List Entry) (entry : Entry) (r t : ℕ) (x : Held) (k : Key) (b : Bool) → IsLegal limits start (entry ∷ before) → entry.call ≡ C.Look r t → request_of r before ≡ Some x → x.request.key ≡ Some k → told_found entry.reply ≡ Some b
+    → (b ≡ true) ↔ HasUntouched (slot k) (events_of before)
+
+-- what a reader of a write has given when it tells the end is the whole body of the write
+abbrev pub ReadsTheWhole : Type 0
+ReadsTheWhole = (limits : Limits) (start : Tracked) (before : List Entry) (entry : Entry) (rest : List Event) (x : Held) (w place : ℕ) → IsLegal limits start (entry ∷ before) → entry.events ≡ Read (Ready None) ∷ rest → request_of (number_of entry.call) before ≡ Some x
+    → x.request.reader ≡ Some (Part w place) → IsSome (begin_of w (events_of before)) → read_by (number_of entry.call) before ≡ body_of w (events_of before)
+
+-- The same of what a world has: of each entry of its history with those before it, newest first.
+
+abbrev pub IsEntryOf : Log → Entry → List Entry → Type 0
+IsEntryOf log entry before = (later : List Entry) × (reverse log.history ≡ later ++ entry ∷ before)
+
+-- the store finds a key exactly when a write of it, in flight or finished, met no removal since it began
+abbrev pub FindsUntouched : Log → Type 0
+FindsUntouched log = (before : List Entry) (entry : Entry) (r t : ℕ) (x : Held) (k : Key) (b : Bool) → IsEntryOf log entry before → entry.call ≡ C.Look r t → request_of r before ≡ Some x → x.request.key ≡ Some k → told_found entry.reply ≡ Some b
+    → (b ≡ true) ↔ HasUntouched (slot k) (events_of before)
+
+-- a write's finish succeeds exactly when it met none
+abbrev pub FinishesUntouched : Log → Type 0
+FinishesUntouched log = (before : List Entry) (entry : Entry) (w : ℕ) (is_stored : Bool) (rest : List Event) → IsEntryOf log entry before → entry.events ≡ Finish w is_stored ∷ rest
+    → (is_stored ≡ true) ↔ (is_removed w (events_of before) ≡ false)
+
+-- complete hits read the last finished body
+abbrev pub HitsTheLast : Log → Type 0
+HitsTheLast log = (before : List Entry) (entry : Entry) (k : ℕ) (m : _) (body : List ℕ) (rest : List Event) → IsEntryOf log entry before → entry.events ≡ Look k (A.Complete m body) ∷ rest
+    → (w : ℕ) × (last_finished k (events_of before) ≡ Some w) × (is_removed w (events_of before) ≡ false) × (body ≡ body_of w (events_of before))
+
+-- complete bodies sum to at most the weight limit, and are at most as many as the watermark
+abbrev pub StaysWithin : Log → Type 0
+StaysWithin log = (stored (events_in log) ≤ log.limits.weight) × IfSome log.limits.watermark (λ most. slots (events_in log) ≤ most)
+
+-- nothing is evicted within the limits
+abbrev pub EvictsNothingWithin : Log → Type 0
+EvictsNothingWithin log = (before : List Entry) (entry : Entry) (earlier rest : List Event) (e : CacheEntryKey) (n : ℕ) (out : List CacheEntryKey) → IsEntryOf log entry before → entry.events ≡ earlier ++ Admit e n out ∷ rest
+    → IsWithin log.limits (map.insert (tracked log.start (reverse earlier ++ events_of before)) e n) → out ≡ []
+
+-- a lock request gives the permit exactly when its key has none waiting
+abbrev pub GivesWhereNoneWaits : Log → Type 0
+GivesWhereNoneWaits log = (before : List Entry) (entry : Entry) (earlier rest : List Event) (k n : ℕ) (is_permit : Bool) → IsEntryOf log entry before → entry.events ≡ earlier ++ Ask k n is_permit ∷ rest
+    → (is_permit ≡ true) ↔ NoneWaits (waiting_in (reverse earlier ++ events_of before)) k

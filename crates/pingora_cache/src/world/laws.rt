@@ -1,5 +1,5 @@
 //! What is promised of every legal history, whatever calls it has.
-ghost use Rattle.pingora_cache.specs.Headline.{EvictsFairly, FindsExactly, FinishesExactly, GivesThePermitExactly, IsWithinLimits, IsWrongExactly, LooksAreTrue, OnePermitWaits, ReadsABeginning, ReadsAreTrue, ReadsTheLast, TracksExactly};
+ghost use Rattle.pingora_cache.specs.Headline.{EvictsFairly, FindsExactly, FinishesExactly, GivesThePermitExactly, IsWithinLimits, IsWrongExactly, LooksAreTrue, OnePermitWaits, ReadsABeginning, ReadsAreTrue, ReadsTheLast, ReadsTheWhole, TellsExactly, TracksExactly};
 
 /// A call is answered as a wrong one exactly where its condition fails.
 pub fn is_wrong_exactly()
@@ -63,4 +63,15 @@ pub fn gives_the_permit_exactly()
 /// Of the permits that were asked for under one key at most one waits.
 pub fn one_permit_waits()
     ensures { OnePermitWaits }
+{}
+
+/// The reply to a look-up tells that something was found exactly where a write of the key, in
+/// flight or finished, met no removal since it began.
+pub fn tells_exactly()
+    ensures { TellsExactly }
+{}
+
+/// What a reader of a write has given when it tells the end is the whole body of the write.
+pub fn reads_the_whole()
+    ensures { ReadsTheWhole }
 {}

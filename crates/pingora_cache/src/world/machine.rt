@@ -66,6 +66,7 @@ impl<M: EvictionManager> World<M> {
     ghost use Rattle.pingora_cache.specs.Log.{Log, Adds, AddsAll, AddsSome, HasLegal, events_in};
     ghost use Rattle.pcache_base.specs.declared.error.ErrorType.TheVariants.{OutOfMemory};
     ghost use Rattle.pcache_evict.specs.Tracked.{weight};
+    ghost use Rattle.pingora_cache.specs.Headline.{EvictsNothingWithin, FindsUntouched, FinishesUntouched, GivesWhereNoneWaits, HitsTheLast, StaysWithin};
 
     /// A world with no requests, nothing stored and an empty history. Permits age out after
     /// `age_timeout`.
@@ -91,6 +92,24 @@ impl<M: EvictionManager> World<M> {
         ensures legal { HasLegal self.now }
     {
         self.history.as_slice()
+    }
+
+    /// What is promised of the history, whatever calls were made: a look-up finds a key exactly when
+    /// a write of it, in flight or finished, met no removal since it began; the finish of a write
+    /// succeeds exactly when it met none; a complete hit reads the body that was finished last; the
+    /// complete bodies sum to at most the limit; nothing is evicted within the limits; a request for
+    /// a lock is given the permit exactly when no permit waits under its key.
+    ///
+    /// It does nothing. Who calls it has these facts of the world at that moment, also behind a lock.
+    pub fn headline(&self)
+        ensures finds { FindsUntouched self.now }
+        ensures finishes { FinishesUntouched self.now }
+        ensures hits { HitsTheLast self.now }
+        ensures within { StaysWithin self.now }
+        ensures evicts { EvictsNothingWithin self.now }
+        ensures locks { GivesWhereNoneWaits self.now }
+    {
+        let _history = self.history();
     }
 
     /// What the manager held before the first call, in no order; nothing before that call.
