@@ -1,5 +1,5 @@
 -- Whether a request uses a lock and how it waits, and what becomes of the lock that it holds (the phase table).
-use Rattle.std.specs.Prelude.{ℕ, ◌≡◌, List, Bool, true, false, Option, Some, None, IsSome, cond, option_map}
+use Rattle.std.specs.Prelude.{ℕ, ◌≡◌, List, Bool, Option, Some, None, cond, option_map}
 use Rattle.std.specs.Duration.{as_nanos}
 use Rattle.pcache_lock.specs.Locks.{Locks, let_go}
 use Rattle.pcache_lock.specs.Permits.{Permit, Reader}

@@ -7,7 +7,7 @@ use Rattle.pcache_base.specs.declared.poll.Poll.{Poll}
 use Rattle.pcache_base.specs.declared.poll.Poll.TheVariants.{Ready, Pending}
 use Rattle.pcache_base.specs.declared.reason.NoCacheReason.TheVariants.{Custom}
 use Rattle.pcache_lock.specs.Locks.{Locks, reader_dropped}
-use Rattle.pcache_lock.specs.Permits.{Core, Reader, Watch}
+use Rattle.pcache_lock.specs.Permits.{Reader, Watch}
 use Rattle.pcache_lock.specs.Waiting.{after_poll, polled, reader_polled, status_seen}
 use Rattle.pcache_lock.specs.declared.lock.outcome.LockWaitOutcome.{LockWaitOutcome}
 use Rattle.pcache_lock.specs.declared.lock.outcome.LockWaitOutcome.TheVariants as outcome

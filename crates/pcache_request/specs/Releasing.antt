@@ -1,5 +1,5 @@
 -- Why a request gives up its lock, and what the others are told then; turning caching off (own, after pingora-cache).
-use Rattle.std.specs.Prelude.{ℕ, ◌≡◌, ◌≢◌, Bool, true, false, Option, Some, None, List, cond}
+use Rattle.std.specs.Prelude.{ℕ, false, Option, Some, None, List}
 use Rattle.pcache_base.specs.declared.reason.NoCacheReason.{NoCacheReason}
 use Rattle.pcache_base.specs.declared.reason.NoCacheReason.TheVariants as reason
 use Rattle.pcache_lock.specs.declared.lock.permit.Locked.{Locked}

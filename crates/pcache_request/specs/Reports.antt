@@ -1,5 +1,5 @@
 -- What calls tell of what they did (own).
-use Rattle.std.specs.Prelude.{ℕ, Bool, true, false, Option, Some, None, cond, option_map}
+use Rattle.std.specs.Prelude.{ℕ, Bool, false, Option, Some, None, cond, option_map}
 use Rattle.pcache_base.specs.CompactKey.{compact_of}
 use Rattle.pcache_base.specs.Key.{Key, slot}
 use Rattle.pcache_base.specs.declared.key.CompactCacheKey.{CompactCacheKey}

@@ -1,5 +1,5 @@
 -- What a request shows of itself, by its phase (the phase table).
-use Rattle.std.specs.Prelude.{ℕ, ◌≡◌, ◌⊎◌, Bool, true, false, Option, Some, None, IsSome, cond, is_some}
+use Rattle.std.specs.Prelude.{ℕ, Bool, true, false, Option, Some, None, cond, is_some}
 use Rattle.pcache_base.specs.Key.{Key}
 use Rattle.pcache_base.specs.declared.reason.NoCacheReason.TheVariants as reason
 use Rattle.pcache_meta.specs.Meta.{Meta, MayServeStale}

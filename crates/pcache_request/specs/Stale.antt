@@ -1,5 +1,5 @@
 -- What becomes of a stale body (the phase table).
-use Rattle.std.specs.Prelude.{ℕ, Option, Some, None, IsSome, option_map}
+use Rattle.std.specs.Prelude.{Option, None, IsSome, option_map}
 use Rattle.pcache_base.specs.declared.reason.NoCacheReason.{NoCacheReason}
 use Rattle.pcache_meta.specs.Header.{Header}
 use Rattle.pcache_meta.specs.Meta.{Meta}
