@@ -1,8 +1,8 @@
 -- A weight set where its entry stands.
-use Rattle.std.proofs.Common.{◌≡◌, ℕ, ◌+◌, ◌-◌, ◌<◌, ◌≤◌, ◌^◌, true, false, cond, not, Option, None, Some, is_some, unwrap_or, [], ◌∷◌, ◌++◌, refl, ap, sym, subst, ◌∙◌, arith, length, All}
+use Rattle.std.proofs.Common.{◌≡◌, ℕ, ◌+◌, ◌-◌, ◌≤◌, ◌^◌, true, false, cond, not, Some, [], ◌∷◌, refl, ap, sym, subst, ◌∙◌, arith, length, All}
 use Rattle.std.specs.Prelude.{IsSome}
-use Rattle.std.specs.List.{IsDistinct, AllByRecursion}
-use Rattle.std.specs.Map.{lookup, set_value, keys_of}
+use Rattle.std.specs.List.{IsDistinct}
+use Rattle.std.specs.Map.{keys_of}
 use Rattle.std.proofs.lemmas.List.Elements.{All-cons, All-head, All-tail}
 use Rattle.std.proofs.lemmas.List.Sums.{sum_by-cons}
 use Rattle.std.proofs.lemmas.Map.{keys-set_value, length-set_value}
@@ -13,7 +13,7 @@ use Rattle.pcache_evict.specs.Entry.{entry_eq}
 use Rattle.pcache_evict.specs.Recency.{Recency, weight, weight_of, others}
 use Rattle.pcache_evict.specs.Listed.{IsKept, IsOnce}
 use Rattle.pcache_evict.specs.Shards.{reweighed}
-use Rattle.pcache_evict.proofs.Recency.{laws, same_key, all_apart}
+use Rattle.pcache_evict.proofs.Recency.{all_apart}
 
 pub once-reweighed : (k : CacheEntryKey) (n : ℕ) (l : Recency) → IsOnce l → IsOnce (reweighed k n l)
 once-reweighed k n l d = subst (IsDistinct entry_eq) (sym (keys-set_value (entry_eq k) l n)) d

@@ -1,7 +1,7 @@
 -- Recency lists in shards seen as one finite map.
-use Rattle.std.proofs.Common.{◌≡◌, ℕ, ◌+◌, ◌-◌, ◌^◌, min, ◌≤◌, true, false, cond, not, Option, None, Some, is_some, IsTrue, List, [], ◌∷◌, ◌++◌, refl, ap, sym, subst, ◌∙◌, arith, length, append_assoc, unwrap_or}
+use Rattle.std.proofs.Common.{◌≡◌, ℕ, ◌+◌, ◌-◌, ◌^◌, min, true, false, cond, not, Option, None, Some, is_some, IsTrue, List, [], ◌∷◌, ◌++◌, refl, ap, sym, subst, ◌∙◌, arith, append_assoc, unwrap_or}
 use Rattle.std.specs.Prelude.{IsSome, slice_set}
-use Rattle.std.specs.List.{IsDistinct, AllByRecursion, sum_by}
+use Rattle.std.specs.List.{IsDistinct, AllByRecursion}
 use Rattle.std.specs.Map.{keys_of}
 use Rattle.std.specs.Ordering.{eq_by_cmp}
 use Rattle.std.specs.Cmp.{eq_by_cmp_equiv}
@@ -14,7 +14,7 @@ use Rattle.pcache_evict.specs.declared.eviction.entry_key.CacheEntryKey.{CacheEn
 use Rattle.pcache_evict.specs.Entry.{entry_eq, entry_cmp, entries_total, entry_ties}
 use Rattle.pcache_evict.specs.Tracked.{Tracked, Limits, IsWithin, IsFair, without, added, raised, weight_in, evicted_with}
 use Rattle.pcache_evict.specs.Tracked as tracked
-use Rattle.pcache_evict.specs.Recency.{Recency, weight, weight_of, others, moved, accessed, IsInside}
+use Rattle.pcache_evict.specs.Recency.{Recency, weight, weight_of, others, moved, accessed}
 use Rattle.pcache_evict.specs.Listed.{map_of, IsOnce}
 use Rattle.pcache_evict.specs.Shards.{ArePlaced, Sharded, Runs, RunsOut, all, list_at, shard_of, in_shard, reweighed, grown}
 use Rattle.pcache_evict.proofs.EntryOrder.{exact_entries}
@@ -22,7 +22,7 @@ use Rattle.pcache_evict.proofs.Recency.{laws, same_key, distinct-others}
 use Rattle.pcache_evict.proofs.Evictions.{left_there, gone_here}
 use Rattle.pcache_evict.proofs.Maps.{map-others, map-moved, map-accessed, get-map_of, within, inside}
 use Rattle.pcache_evict.proofs.TrackedMaps.{get-remove_apart}
-use Rattle.pcache_evict.proofs.Sharded.{E, Apart, Stands, at_home, found-all, others-all, once-all, placed-moved, placed-reweighed}
+use Rattle.pcache_evict.proofs.Sharded.{E, Apart, at_home, found-all, others-all, once-all, placed-moved, placed-reweighed}
 use Rattle.pcache_evict.proofs.Chains.{all-parts, set-there}
 
 -- ---- on the map: one eviction first

@@ -1,8 +1,8 @@
 -- Recency lists in shards: where an entry stands among all of them, and what one list's changes make of all.
-use Rattle.std.proofs.Common.{◌≡◌, ℕ, zero, suc, ◌+◌, ◌-◌, ◌<◌, ◌≤◌, ◌^◌, ◌%◌, Bool, true, false, cond, not, Option, None, Some, is_some, unwrap_or, List, [], ◌∷◌, ◌++◌, refl, ap, sym, subst, ◌∙◌, arith, length, All, append_assoc, length-append, inl, inr}
+use Rattle.std.proofs.Common.{◌≡◌, ℕ, zero, suc, ◌+◌, ◌-◌, ◌<◌, ◌≤◌, ◌^◌, Bool, true, false, cond, not, Option, None, Some, is_some, unwrap_or, List, [], ◌∷◌, ◌++◌, refl, ap, sym, subst, ◌∙◌, arith, length, All, append_assoc, length-append, inl, inr}
 use Rattle.std.specs.Prelude.{IsSome, IfSome, slice_set, slice_index_or}
 use Rattle.std.specs.List.{IsDistinct, AllByRecursion}
-use Rattle.std.specs.Map.{lookup, keys_of}
+use Rattle.std.specs.Map.{keys_of}
 use Rattle.std.proofs.lemmas.Bool.{cases_eq, cases_lt}
 use Rattle.std.proofs.lemmas.List.{get_or-set_same, get_or-set_other, length-set, length-replicate, get_or-replicate, get_or_past}
 use Rattle.std.proofs.lemmas.List.Elements.{All-append, All-nil, All-cons, All-filter, All-from_recursion, recursion_from_All, filter-append}
@@ -13,7 +13,7 @@ use Rattle.pcache_evict.specs.Entry.{entry_eq}
 use Rattle.pcache_evict.specs.Recency.{Recency, weight, weight_of, others, moved}
 use Rattle.pcache_evict.specs.Listed.{IsOnce}
 use Rattle.pcache_evict.specs.Shards.{IsShard, ArePlaced, AreKept, all, list_at, shard_of, in_shard, reweighed, no_entries}
-use Rattle.pcache_evict.proofs.Recency.{laws, same_key, distinct-others, distinct-moved, distinct-front, weight-others, length-others, weight-moved, weight_bound, found-small}
+use Rattle.pcache_evict.proofs.Recency.{same_key, distinct-others, distinct-moved, distinct-front, weight-others, length-others, weight-moved, weight_bound, found-small}
 use Rattle.pcache_evict.proofs.Reweighs.{once-reweighed, weight-reweighed, small-reweighed}
 use Rattle.std.proofs.lemmas.Map.{length-set_value}
 

@@ -1,12 +1,12 @@
 -- Recency lists in shards: each entry stands in the list of its key's shard (own).
-use Rattle.std.specs.Prelude.{◌≡◌, ℕ, ◌+◌, ◌-◌, ◌^◌, ◌<◌, ◌≤◌, ◌%◌, Option, None, Some, List, [], ◌∷◌, ◌++◌, length, min, All, is_some, if◌then◌else◌, slice_index_or, slice_get, slice_set, replicate, option_map}
+use Rattle.std.specs.Prelude.{◌≡◌, ℕ, ◌+◌, ◌-◌, ◌^◌, ◌<◌, ◌≤◌, ◌%◌, Option, None, List, [], ◌∷◌, ◌++◌, length, min, All, is_some, if◌then◌else◌, slice_index_or, slice_get, slice_set, replicate, option_map}
 use Rattle.std.specs.List.{AllByRecursion}
 use Rattle.std.specs.Map.{set_value}
 use Rattle.pcache_base.specs.CompactKey.{compact_slot}
 use Rattle.pcache_evict.specs.declared.eviction.entry_key.CacheEntryKey.{CacheEntryKey}
 use Rattle.pcache_evict.specs.Entry.{entry_eq, key_of}
 use Rattle.pcache_evict.specs.Tracked.{Limits, Evicted, raised, limits_of}
-use Rattle.pcache_evict.specs.Recency.{Recency, weight, weight_of, others, moved, accessed, IsInside}
+use Rattle.pcache_evict.specs.Recency.{Recency, weight, weight_of, moved, IsInside}
 use Rattle.pcache_evict.specs.Listed.{IsOnce}
 
 -- the shard of an entry: the combined hash of its key, as a number, modulo the number of shards

@@ -4,6 +4,7 @@ pub mod Finishes
 pub mod Purge
 pub mod Readers
 pub mod Refusals
+pub mod Shards
 pub mod Store
 pub mod StoreCode
 pub mod Tag

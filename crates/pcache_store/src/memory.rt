@@ -2,6 +2,7 @@
 ghost use Rattle.std.specs.Prelude.{◌≡◌, ◌<◌, ◌^◌, ℕ, Option, Some, None, IsOk, IsSome, IfOk, IfErr, OnOk, OnErr, option_map, option_copied, is_some, false, true};
 ghost use Rattle.std.specs.FinMap as map;
 ghost use Rattle.pcache_base.specs.declared.error.ErrorType.TheVariants.{OutOfMemory, WriteRemoved};
+ghost use Rattle.pcache_table.specs.Sharding.{part_of};
 ghost use Rattle.pcache_store.specs.Finishes.{created};
 ghost use Rattle.pcache_store.specs.Purge.{target_slot};
 ghost use Rattle.pcache_store.specs.Refusals.{MayRefuseFinish};
@@ -14,6 +15,7 @@ mod draft;
 mod drafts;
 mod hit;
 mod miss;
+mod slot_table;
 mod slots;
 
 use crate::storage::streaming_write::U64WriteId;
@@ -79,6 +81,16 @@ impl MemCache {
         ensures { result ≡ slots self.now }
     {
         self.slots.bodies()
+    }
+
+    /// The number of keys of a shard under which something stands: a complete body, or a write in
+    /// flight that met no removal. There are 16 shards, and the shard of a key is its combined hash
+    /// as a number, big end first, modulo 16.
+    pub fn shard_slots(&self, shard: usize) -> usize
+        requires { shard < 16 }
+        ensures { result ≡ map.len (part_of 16 shard self.now.slots) }
+    {
+        self.slots.shard_len(shard)
     }
 
     /// The number of writes that are kept: those that a handler or a reader names.

@@ -24,7 +24,8 @@ pub use pcache_meta::{header, trace};
 pub use pcache_predict::{admission, predictor};
 pub use pcache_put::{max_file_size, response_parse};
 pub use pcache_request::{
-    CachePhase, FinishReport, HitStatus, HttpCache, HttpCacheDigest, InUse, cache, digest, phase,
+    CacheOptionOverrides, CachePhase, FinishReport, HitStatus, HttpCache, HttpCacheDigest, InUse,
+    LockAbandon, LockCtx, cache, digest, phase,
 };
 pub use pcache_store::memory::MemCache;
 pub use pcache_store::storage::{

@@ -6,9 +6,10 @@
 pub mod root {
     pub use pingora_cache::{
         CacheEntryId, CacheEntryKey, CacheEntryKeyRef, CacheKey, CacheMeta, CacheMetaDefaults,
-        CachePhase, FinishReport, HitHandler, HitStatus, HttpCache, HttpCacheDigest, InUse,
-        MemCache, MissHandler, NoCacheReason, PurgeAction, PurgeOutcome, PurgeTarget, PurgeType,
-        RespCacheable, Storage, VarianceBuilder, prelude,
+        CacheOptionOverrides, CachePhase, FinishReport, HitHandler, HitStatus, HttpCache,
+        HttpCacheDigest, InUse, LockAbandon, LockCtx, MemCache, MissHandler, NoCacheReason,
+        PurgeAction, PurgeOutcome, PurgeTarget, PurgeType, RespCacheable, Storage, VarianceBuilder,
+        prelude,
     };
 }
 
@@ -27,6 +28,7 @@ pub mod cache_control {
 
 /// Eviction.
 pub mod eviction {
+    pub use pingora_cache::eviction::lru::Manager as ShardedManager;
     pub use pingora_cache::eviction::simple_lru::Manager;
     pub use pingora_cache::eviction::{
         CacheEntryId, CacheEntryKey, CacheEntryKeyRef, EvictionManager,

@@ -282,9 +282,11 @@ fn two_shards_keep_one_limit(rt: HostRuntime) -> std::result::Result<(), Fail> {
     let alloc = rt.alloc();
     let mut manager = Manager::<2>::with_capacity(alloc, 4, 4)?;
     four_entries(&rt, alloc, &mut manager)?;
-    let parts = manager.shard_weight(0) + manager.shard_weight(1);
+    let parts = manager
+        .shard_weight(0)
+        .saturating_add(manager.shard_weight(1));
     assert_eq!(rt; parts, manager.total_size());
-    let parts = manager.shard_len(0) + manager.shard_len(1);
+    let parts = manager.shard_len(0).saturating_add(manager.shard_len(1));
     assert_eq!(rt; parts, manager.total_items());
     Ok(())
 }

@@ -665,3 +665,55 @@ fn any_store_streams_by_its_traits(rt: HostRuntime) -> std::result::Result<(), F
     assert_eq!(rt; store.write_records(), 0);
     Ok(())
 }
+
+// The key `aa`, with this variance.
+fn aa(alloc: Global, variance: Option<[u8; 16]>) -> Result<CacheKey> {
+    let mut key = key_of(alloc, "aa")?;
+    if let Some(hash) = variance {
+        key.set_variance_key(hash);
+    }
+    Ok(key)
+}
+
+fn store_nothing(alloc: Global, store: &mut MemCache, key: &CacheKey) -> Result<()> {
+    let writer = store.get_miss_handler(alloc, key, &meta_until(alloc, 300))?;
+    writer.finish(store)?;
+    Ok(())
+}
+
+// Whether so many slots stand in shard 14, and none in another.
+fn shards_have(store: &MemCache, slots: usize) -> bool {
+    for shard in 0..16usize {
+        let wanted = if shard == 14 { slots } else { 0 };
+        if store.shard_slots(shard) != wanted {
+            return false;
+        }
+    }
+    true
+}
+
+fn two_in_a_shard(
+    rt: &impl Abort,
+    alloc: Global,
+    store: &mut MemCache,
+    plain: &CacheKey,
+    varied: &CacheKey,
+) -> Result<()> {
+    store_nothing(alloc, store, plain)?;
+    store_nothing(alloc, store, varied)?;
+    assert!(rt; shards_have(store, 2));
+    let entry = CacheEntryKey::key_only(plain.to_compact()?);
+    store.purge(PurgeTarget::Exact(&entry), PurgeType::Invalidation)?;
+    assert!(rt; shards_have(store, 1));
+    assert_eq!(rt; store.slots(), 1);
+    Ok(())
+}
+
+#[test]
+fn bodies_stand_in_the_shard_of_their_key(rt: HostRuntime) -> std::result::Result<(), Fail> {
+    let alloc = rt.alloc();
+    let mut store = MemCache::new(alloc);
+    let (plain, varied) = (aa(alloc, None)?, aa(alloc, Some([0; 16]))?);
+    two_in_a_shard(&rt, alloc, &mut store, &plain, &varied)?;
+    Ok(())
+}

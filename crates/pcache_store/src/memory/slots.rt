@@ -4,21 +4,22 @@ ghost use Rattle.std.specs.FinMap as map;
 ghost use Rattle.pcache_meta.specs.Meta as meta_of;
 ghost use Rattle.pcache_base.specs.Totals.{total, share};
 ghost use Rattle.pcache_base.specs.declared.error.ErrorType.TheVariants.{OutOfMemory};
+ghost use Rattle.pcache_table.specs.Sharding.{part_of};
 ghost use Rattle.pcache_store.specs.Store.{Stored, opened, shut_on, stored_on, body_of, meta_changed_on, is_fresh_in};
 ghost use Rattle.pcache_store.specs.Totals.{body_count, body_size, body_len, one};
 
 use crate::memory::body::{Body, KeySlot};
+use crate::memory::slot_table::SlotTable;
 use pcache_base::error::Result;
 use pcache_base::moment::Moment;
 use pcache_meta::meta::spelled::SpelledMeta;
-use pcache_table::hashtable::Table;
 use std::alloc::Global;
 use std::marker::Model;
 
 /// The slots by key, with how much stands complete in them.
 #[derive(Drop)]
 pub(crate) struct Slots {
-    slots: Table<KeySlot>,
+    slots: SlotTable,
     bodies: usize,
     stored: u128,
 }
@@ -45,10 +46,18 @@ impl Slots {
         ensures { result ≡ map.empty }
     {
         Slots {
-            slots: Table::new(alloc),
+            slots: SlotTable::new(alloc),
             bodies: 0,
             stored: 0,
         }
+    }
+
+    // The number of keys of a shard under which something stands.
+    pub(crate) fn shard_len(&self, shard: usize) -> usize
+        requires { shard < 16 }
+        ensures { result ≡ map.len (part_of 16 shard self.now) }
+    {
+        self.slots.shard_len(shard)
     }
 
     // The number of complete bodies.
@@ -97,14 +106,14 @@ impl Slots {
         ensures kind { IfErr result (λ e. e ≡ OutOfMemory) }
         ensures err { OnErr result (self.new ≡ self.old) }
     {
-        open_in(&mut self.slots, alloc, key, number)
+        self.slots.open(alloc, key, number)
     }
 
     // A write of the key ends, and nothing is stored.
     pub(crate) fn shut(&mut self, key: u128, number: u128)
         ensures { self.new ≡ shut_on self.old key number (map.get self.old key) }
     {
-        shut_in(&mut self.slots, key, number);
+        self.slots.shut(key, number);
     }
 
     // A write of the key ends, and its body stands in place of an older one.
@@ -114,7 +123,7 @@ impl Slots {
     {
         let size = body.len() as u128;
         let _count = self.slots.len();
-        let (fewer, less) = count(store_in(&mut self.slots, key, number, body));
+        let (fewer, less) = count(self.slots.store(key, number, body));
         self.bodies = self.bodies - fewer + 1;
         self.stored = self.stored - less + size;
     }
@@ -138,7 +147,7 @@ impl Slots {
         ensures there { result ≡ is_some (body_of (map.get self.old key)) }
         ensures slots { self.new ≡ meta_changed_on (λ _. meta) self.old key (map.get self.old key) }
     {
-        set_meta_in(&mut self.slots, key, meta)
+        self.slots.set_meta(key, meta)
     }
 
     // Ends the freshness of the complete body, and answers whether there is one.
@@ -149,7 +158,7 @@ impl Slots {
         ensures kind { IfErr result (λ e. e ≡ OutOfMemory) }
         ensures err { OnErr result (self.new ≡ self.old) }
     {
-        expire_in(&mut self.slots, alloc, key, now)
+        self.slots.expire(alloc, key, now)
     }
 }
 
@@ -162,65 +171,4 @@ fn count(body: Option<Body>) -> (usize, u128)
         Some(body) => (1, body.len() as u128),
         None => (0, 0),
     }
-}
-
-fn open_in(slots: &mut Table<KeySlot>, alloc: Global, key: u128, number: u128) -> Result<()>
-    ensures ok { OnOk result (slots.new ≡ opened slots.old key number) }
-    ensures kind { IfErr result (λ e. e ≡ OutOfMemory) }
-    ensures err { OnErr result (slots.new ≡ slots.old) }
-{
-    if let Some(slot) = slots.get_mut(key) {
-        return slot.open(number);
-    }
-    let mut slot = KeySlot::new(alloc);
-    slot.open(number)?;
-    slots.insert(key, slot)?;
-    Ok(())
-}
-
-fn shut_in(slots: &mut Table<KeySlot>, key: u128, number: u128)
-    ensures { slots.new ≡ shut_on slots.old key number (map.get slots.old key) }
-{
-    let Some(slot) = slots.get_mut(key) else {
-        return;
-    };
-    slot.shut(number);
-    if slot.is_idle() {
-        slots.remove(key);
-    }
-}
-
-// Answers the older body.
-fn store_in(slots: &mut Table<KeySlot>, key: u128, number: u128, body: Body) -> Option<Body>
-    requires { IsSome (map.get slots.old key) }
-    ensures older { result ≡ body_of (map.get slots.old key) }
-    ensures slots { slots.new ≡ stored_on slots.old key number body (map.get slots.old key) }
-{
-    let Some(slot) = slots.get_mut(key) else {
-        unreachable!()
-    };
-    slot.store(number, body)
-}
-
-fn set_meta_in(slots: &mut Table<KeySlot>, key: u128, meta: SpelledMeta) -> bool
-    ensures there { result ≡ is_some (body_of (map.get slots.old key)) }
-    ensures slots { slots.new ≡ meta_changed_on (λ _. meta) slots.old key (map.get slots.old key) }
-{
-    let Some(slot) = slots.get_mut(key) else {
-        return false;
-    };
-    slot.set_meta(meta)
-}
-
-fn expire_in(slots: &mut Table<KeySlot>, alloc: Global, key: u128, now: Moment) -> Result<bool>
-    ensures there { IfOk result (λ b. b ≡ is_some (body_of (map.get slots.old key))) }
-    ensures slots { OnOk result (slots.new ≡ meta_changed_on (meta_of.expired_at now) slots.old key (map.get slots.old key)) }
-    ensures something { OnErr result (is_some (body_of (map.get slots.old key)) ≡ true) }
-    ensures kind { IfErr result (λ e. e ≡ OutOfMemory) }
-    ensures err { OnErr result (slots.new ≡ slots.old) }
-{
-    let Some(slot) = slots.get_mut(key) else {
-        return Ok(false);
-    };
-    slot.expire(alloc, now)
 }

@@ -1,5 +1,4 @@
-use Rattle.std.proofs.Common.{◌∙◌, sym, subst, refl, arith, ◌++◌, [], ◌∷◌}
-use Rattle.pcache_evict.specs.Recency.{IsInside}
+use Rattle.std.proofs.Common.{◌∙◌, sym, subst, refl, arith}
 use Rattle.pcache_evict.specs.Shards.{all}
 use Rattle.pcache_evict.specs.Chain.{chain}
 use Rattle.pcache_evict.proofs.Walks.{Pops, pops-more, pops-room}

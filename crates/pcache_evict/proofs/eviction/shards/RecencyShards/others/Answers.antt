@@ -1,6 +1,6 @@
-use Rattle.std.proofs.Common.{◌≡◌, ℕ, ◌∙◌, ap, sym, arith, Some, None, unwrap_or, ◌+◌}
+use Rattle.std.proofs.Common.{◌≡◌, ℕ, ◌∙◌, ap, arith, Some, None, unwrap_or}
 use Rattle.pcache_evict.specs.Recency.{weight_of}
-use Rattle.pcache_evict.specs.Shards.{all, list_at}
+use Rattle.pcache_evict.specs.Shards.{list_at}
 use Rattle.pcache_evict.proofs.Sharded.{rest-kept}
 use Rattle.pcache_evict.proofs.eviction.shards.RecencyShards.others.Goals as goal
 

@@ -1,4 +1,3 @@
-use Rattle.std.proofs.Common.{◌≡◌, ◌∙◌, ap, sym, subst}
 use Rattle.pcache_evict.proofs.Sharded.{kept-promoted-either}
 use Rattle.pcache_evict.proofs.eviction.shards.RecencyShards.promote.Goals as goal
 

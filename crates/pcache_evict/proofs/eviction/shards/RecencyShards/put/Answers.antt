@@ -1,4 +1,4 @@
-use Rattle.std.proofs.Common.{arith, refl}
+use Rattle.std.proofs.Common.{arith}
 use Rattle.pcache_evict.proofs.Sharded.{kept-put-at}
 use Rattle.pcache_evict.proofs.eviction.shards.RecencyShards.put.Goals as goal
 

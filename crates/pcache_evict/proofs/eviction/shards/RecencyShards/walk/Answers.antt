@@ -1,4 +1,4 @@
-use Rattle.std.proofs.Common.{arith, sym, subst, length, ◌≤◌, ◌∙◌, ap}
+use Rattle.std.proofs.Common.{arith, sym, subst, length, ◌≤◌}
 use Rattle.pcache_evict.specs.Recency.{weight, others}
 use Rattle.pcache_evict.specs.Tracked.{limits_of}
 use Rattle.pcache_evict.specs.Chain.{Walks}

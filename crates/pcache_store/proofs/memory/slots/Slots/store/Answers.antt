@@ -5,7 +5,7 @@ use Rattle.pcache_store.proofs.Counts.{counted_stored, has_body, has_bytes, few_
 use Rattle.pcache_store.proofs.memory.slots.Slots.store.Goals as goal
 
 pub overflow_sub-self : goal.overflow_sub-self
-overflow_sub-self c = subst (λ n. n ≤ c.self.inside.bodies) (sym (c.count-fewer.ensures.bodies ∙ ap (share one) c.store_in.ensures.older)) (has_body c.self.inside.slots c.self.inside.bodies c.self.inside.stored c.self.invariant c.args.key)
+overflow_sub-self c = subst (λ n. n ≤ c.self.inside.bodies) (sym (c.count-fewer.ensures.bodies ∙ ap (share one) c.store.ensures.older)) (has_body c.self.inside.slots c.self.inside.bodies c.self.inside.stored c.self.invariant c.args.key)
 
 pub overflow_add-self : goal.overflow_add-self
 overflow_add-self c =
@@ -15,7 +15,7 @@ overflow_add-self c =
     omega arith
 
 pub overflow_sub-self-2 : goal.overflow_sub-self-2
-overflow_sub-self-2 c = subst (λ n. n ≤ c.self.inside.stored) (sym (c.count-fewer.ensures.bytes ∙ ap (share body_len) c.store_in.ensures.older)) (has_bytes c.self.inside.slots c.self.inside.bodies c.self.inside.stored c.self.invariant c.args.key)
+overflow_sub-self-2 c = subst (λ n. n ≤ c.self.inside.stored) (sym (c.count-fewer.ensures.bytes ∙ ap (share body_len) c.store.ensures.older)) (has_bytes c.self.inside.slots c.self.inside.bodies c.self.inside.stored c.self.invariant c.args.key)
 
 pub overflow_add-self-2 : goal.overflow_add-self-2
 overflow_add-self-2 c =
@@ -28,5 +28,5 @@ overflow_add-self-2 c =
 pub invariant_of-self : goal.invariant_of-self
 invariant_of-self c =
     let there = rw (sym c.self.view_is) at c.requires in
-    subst (λ m. IsCounted m (c.self.inside.bodies - c.count-fewer.result.0 + 1) (c.self.inside.stored - c.count-fewer.result.1 + c.len-size.result)) (sym c.store_in.ensures.slots)
-    (counted_stored c.self.inside.slots c.self.inside.bodies c.self.inside.stored c.self.invariant c.args.key c.args.number c.args.body _ _ _ there (c.count-fewer.ensures.bodies ∙ ap (share one) c.store_in.ensures.older) (c.count-fewer.ensures.bytes ∙ ap (share body_len) c.store_in.ensures.older) c.len-size.ensures.value c.len-size.ensures.small)
+    subst (λ m. IsCounted m (c.self.inside.bodies - c.count-fewer.result.0 + 1) (c.self.inside.stored - c.count-fewer.result.1 + c.len-size.result)) (sym c.store.ensures.slots)
+    (counted_stored c.self.inside.slots c.self.inside.bodies c.self.inside.stored c.self.invariant c.args.key c.args.number c.args.body _ _ _ there (c.count-fewer.ensures.bodies ∙ ap (share one) c.store.ensures.older) (c.count-fewer.ensures.bytes ∙ ap (share body_len) c.store.ensures.older) c.len-size.ensures.value c.len-size.ensures.small)

@@ -1,5 +1,5 @@
 use Rattle.pcache_store.proofs.Slots.{changed_there}
-use Rattle.pcache_store.proofs.memory.slots.set_meta_in.Goals as goal
+use Rattle.pcache_store.proofs.memory.slot_table.set_meta_in.Goals as goal
 
 pub returns-clause-slots : goal.returns-clause-slots
 returns-clause-slots c =

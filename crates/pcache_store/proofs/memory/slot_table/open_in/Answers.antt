@@ -1,6 +1,6 @@
 use Rattle.std.proofs.lemmas.Result.{on_ok_weaker, on_err_weaker}
 use Rattle.pcache_store.proofs.Slots.{opened_there, same_slot}
-use Rattle.pcache_store.proofs.memory.slots.open_in.Goals as goal
+use Rattle.pcache_store.proofs.memory.slot_table.open_in.Goals as goal
 
 pub returns-in-Some-clause-ok : goal.returns-in-Some-clause-ok
 returns-in-Some-clause-ok c =

@@ -1,6 +1,6 @@
 use Rattle.std.proofs.Common.{sym, ◌∙◌}
 use Rattle.pcache_store.proofs.Slots.{shut_there, shut_gone}
-use Rattle.pcache_store.proofs.memory.slots.shut_in.Goals as goal
+use Rattle.pcache_store.proofs.memory.slot_table.shut_in.Goals as goal
 
 pub returns-then-is_idle : goal.returns-then-is_idle
 returns-then-is_idle c =

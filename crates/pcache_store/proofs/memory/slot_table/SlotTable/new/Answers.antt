@@ -1,0 +1,9 @@
+use Rattle.std.proofs.Common.{refl}
+use Rattle.pcache_store.proofs.SlotShards.{new-empty, new-shards}
+use Rattle.pcache_store.proofs.memory.slot_table.SlotTable.new.Goals as goal
+
+pub invariant_of-result : goal.invariant_of-result
+invariant_of-result c = new-shards c.from_fn.result c.from_fn.ensures.items.long (λ i e lt. (c.from_fn.ensures.items.at i e lt).2.met.1)
+
+pub returns : goal.returns
+returns c = new-empty c.from_fn.result c.from_fn.ensures.items.long (λ i e lt. (c.from_fn.ensures.items.at i e lt).2.met.1)

@@ -1,0 +1,239 @@
+//! The slots by key, in shards.
+ghost use Rattle.std.specs.Prelude.{◌≡◌, ◌<◌, ◌^◌, ℕ, Option, Some, None, IsSome, IfOk, IfErr, OnOk, OnErr, option_copied, is_some, true, cond};
+ghost use Rattle.std.specs.FinMap as map;
+ghost use Rattle.pcache_meta.specs.Meta as meta_of;
+ghost use Rattle.pcache_base.specs.declared.error.ErrorType.TheVariants.{OutOfMemory};
+ghost use Rattle.pcache_table.specs.Sharding.{part_of};
+ghost use Rattle.pcache_store.specs.Store.{opened, shut_on, stored_on, body_of, meta_changed_on};
+
+use crate::memory::body::{Body, KeySlot};
+use pcache_base::error::{Error, ErrorType, Result};
+use pcache_base::moment::Moment;
+use pcache_meta::meta::spelled::SpelledMeta;
+use pcache_table::hashtable::Table;
+use std::alloc::Global;
+use std::marker::Model;
+
+/// How many shards there are. The shard of a key is the key modulo their number.
+const SHARDS: u128 = 16;
+
+/// The most keys that all shards may have together, as many as one table may have.
+const MOST_KEYS: usize = (1 << 63) - 1;
+
+/// The slots by key, in 16 shards. A contract sees one map.
+#[derive(Drop)]
+pub(crate) struct SlotTable {
+    shards: [Table<KeySlot>; 16],
+    count: usize,
+}
+
+impl Model for SlotTable {
+    ghost use Rattle.std.specs.FinMap as map;
+    ghost use Rattle.std.specs.Ordering.{nat_cmp};
+    ghost use Rattle.std.specs.Coded.{coded_ℕ};
+    ghost use Rattle.pcache_table.specs.Sharding.{joined};
+    ghost use Rattle.pcache_store.specs.Store.{Slot};
+    ghost use Rattle.pcache_store.specs.StoreCode.{slot_code};
+    ghost use Rattle.pcache_store.specs.Shards.{parts, AreShards};
+
+    ghost Value = { map.FinMap nat_cmp Slot };
+
+    ghost coded = { map.code coded_ℕ slot_code };
+
+    ghost view = { λ a. joined (parts 0 a.shards) };
+
+    ghost invariant = { λ a. AreShards a.shards a.count };
+}
+
+impl SlotTable {
+    pub(crate) fn new(alloc: Global) -> SlotTable
+        ensures { result ≡ map.empty }
+    {
+        SlotTable {
+            shards: std::array::from_fn(
+                |_place: usize| -> Table<KeySlot>
+                    ensures { result ≡ map.empty }
+                { Table::new(alloc) },
+            ),
+            count: 0,
+        }
+    }
+
+    // The number of keys.
+    pub(crate) fn len(&self) -> usize
+        ensures value { result ≡ map.len self.now }
+        ensures small { result < 2 ^ 63 }
+    {
+        self.count
+    }
+
+    // The number of keys of a shard.
+    pub(crate) fn shard_len(&self, shard: usize) -> usize
+        requires { shard < 16 }
+        ensures { result ≡ map.len (part_of 16 shard self.now) }
+    {
+        let shards = &self.shards;
+        let table = &shards[shard];
+        table.len()
+    }
+
+    pub(crate) fn get(&self, key: u128) -> Option<&KeySlot>
+        ensures { option_copied result ≡ map.get self.now key }
+    {
+        let shards = &self.shards;
+        let table = &shards[(key % SHARDS) as usize];
+        table.get(key)
+    }
+
+    // A write of the key begins.
+    pub(crate) fn open(&mut self, alloc: Global, key: u128, number: u128) -> Result<()>
+        ensures ok { OnOk result (self.new ≡ opened self.old key number) }
+        ensures kind { IfErr result (λ e. e ≡ OutOfMemory) }
+        ensures err { OnErr result (self.new ≡ self.old) }
+    {
+        if self.count >= MOST_KEYS {
+            return Err(Error::new(ErrorType::OutOfMemory));
+        }
+        let place = (key % SHARDS) as usize;
+        let table = &mut self.shards[place];
+        let was = held(table, key);
+        open_in(table, alloc, key, number)?;
+        self.count = self.count - was + 1;
+        Ok(())
+    }
+
+    // A write of the key ends, and nothing is stored.
+    pub(crate) fn shut(&mut self, key: u128, number: u128)
+        ensures { self.new ≡ shut_on self.old key number (map.get self.old key) }
+    {
+        let _ = &self.shards;
+        let place = (key % SHARDS) as usize;
+        let table = &mut self.shards[place];
+        let was = held(table, key);
+        shut_in(table, key, number);
+        let is = held(table, key);
+        self.count = self.count - was + is;
+    }
+
+    // A write of the key ends, and its body stands in place of an older one, which is answered.
+    pub(crate) fn store(&mut self, key: u128, number: u128, body: Body) -> Option<Body>
+        requires { IsSome (map.get self.old key) }
+        ensures older { result ≡ body_of (map.get self.old key) }
+        ensures slots { self.new ≡ stored_on self.old key number body (map.get self.old key) }
+    {
+        let _ = &self.shards;
+        let place = (key % SHARDS) as usize;
+        let table = &mut self.shards[place];
+        store_in(table, key, number, body)
+    }
+
+    // Takes a slot out.
+    pub(crate) fn remove(&mut self, key: u128) -> Option<KeySlot>
+        ensures before { result ≡ map.get self.old key }
+        ensures removed { self.new ≡ map.remove self.old key }
+    {
+        let _ = &self.shards;
+        let place = (key % SHARDS) as usize;
+        let table = &mut self.shards[place];
+        let was = held(table, key);
+        let slot = table.remove(key);
+        self.count -= was;
+        slot
+    }
+
+    // Sets the meta of the complete body, and answers whether there is one.
+    pub(crate) fn set_meta(&mut self, key: u128, meta: SpelledMeta) -> bool
+        ensures there { result ≡ is_some (body_of (map.get self.old key)) }
+        ensures slots { self.new ≡ meta_changed_on (λ _. meta) self.old key (map.get self.old key) }
+    {
+        let _ = &self.shards;
+        let place = (key % SHARDS) as usize;
+        let table = &mut self.shards[place];
+        set_meta_in(table, key, meta)
+    }
+
+    // Ends the freshness of the complete body, and answers whether there is one.
+    pub(crate) fn expire(&mut self, alloc: Global, key: u128, now: Moment) -> Result<bool>
+        ensures there { IfOk result (λ b. b ≡ is_some (body_of (map.get self.old key))) }
+        ensures slots { OnOk result (self.new ≡ meta_changed_on (meta_of.expired_at now) self.old key (map.get self.old key)) }
+        ensures something { OnErr result (is_some (body_of (map.get self.old key)) ≡ true) }
+        ensures kind { IfErr result (λ e. e ≡ OutOfMemory) }
+        ensures err { OnErr result (self.new ≡ self.old) }
+    {
+        let _ = &self.shards;
+        let place = (key % SHARDS) as usize;
+        let table = &mut self.shards[place];
+        expire_in(table, alloc, key, now)
+    }
+}
+
+// One where a key has a slot, else none.
+fn held(table: &Table<KeySlot>, key: u128) -> usize
+    ensures { result ≡ cond (is_some (map.get table.now key)) 1 0 }
+{
+    match table.get(key) {
+        Some(_slot) => 1,
+        None => 0,
+    }
+}
+
+fn open_in(slots: &mut Table<KeySlot>, alloc: Global, key: u128, number: u128) -> Result<()>
+    ensures ok { OnOk result (slots.new ≡ opened slots.old key number) }
+    ensures kind { IfErr result (λ e. e ≡ OutOfMemory) }
+    ensures err { OnErr result (slots.new ≡ slots.old) }
+{
+    if let Some(slot) = slots.get_mut(key) {
+        return slot.open(number);
+    }
+    let mut slot = KeySlot::new(alloc);
+    slot.open(number)?;
+    slots.insert(key, slot)?;
+    Ok(())
+}
+
+fn shut_in(slots: &mut Table<KeySlot>, key: u128, number: u128)
+    ensures { slots.new ≡ shut_on slots.old key number (map.get slots.old key) }
+{
+    let Some(slot) = slots.get_mut(key) else {
+        return;
+    };
+    slot.shut(number);
+    if slot.is_idle() {
+        slots.remove(key);
+    }
+}
+
+// Answers the older body.
+fn store_in(slots: &mut Table<KeySlot>, key: u128, number: u128, body: Body) -> Option<Body>
+    requires { IsSome (map.get slots.old key) }
+    ensures older { result ≡ body_of (map.get slots.old key) }
+    ensures slots { slots.new ≡ stored_on slots.old key number body (map.get slots.old key) }
+{
+    let Some(slot) = slots.get_mut(key) else {
+        unreachable!()
+    };
+    slot.store(number, body)
+}
+
+fn set_meta_in(slots: &mut Table<KeySlot>, key: u128, meta: SpelledMeta) -> bool
+    ensures there { result ≡ is_some (body_of (map.get slots.old key)) }
+    ensures slots { slots.new ≡ meta_changed_on (λ _. meta) slots.old key (map.get slots.old key) }
+{
+    let Some(slot) = slots.get_mut(key) else {
+        return false;
+    };
+    slot.set_meta(meta)
+}
+
+fn expire_in(slots: &mut Table<KeySlot>, alloc: Global, key: u128, now: Moment) -> Result<bool>
+    ensures there { IfOk result (λ b. b ≡ is_some (body_of (map.get slots.old key))) }
+    ensures slots { OnOk result (slots.new ≡ meta_changed_on (meta_of.expired_at now) slots.old key (map.get slots.old key)) }
+    ensures something { OnErr result (is_some (body_of (map.get slots.old key)) ≡ true) }
+    ensures kind { IfErr result (λ e. e ≡ OutOfMemory) }
+    ensures err { OnErr result (slots.new ≡ slots.old) }
+{
+    let Some(slot) = slots.get_mut(key) else {
+        return Ok(false);
+    };
+    slot.expire(alloc, now)
+}
