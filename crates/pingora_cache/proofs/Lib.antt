@@ -4,6 +4,7 @@ pub mod Copied
 pub mod Counts
 pub mod Due
 pub mod Exact
+pub mod Found
 pub mod History
 pub mod Keeps
 pub mod Laws

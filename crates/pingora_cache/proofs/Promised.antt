@@ -98,7 +98,7 @@ reads_the_whole limits start before entry rest x w place l is has reader begun =
 
 -- ---- a world's own history
 
-legal-part : (limits : Limits) (start : Tracked) (later : List Entry) (entry : Entry) (before : List Entry) → IsLegal limits start (later ++ entry ∷ before) → IsLegal limits start (entry ∷ before)
+pub legal-part : (limits : Limits) (start : Tracked) (later : List Entry) (entry : Entry) (before : List Entry) → IsLegal limits start (later ++ entry ∷ before) → IsLegal limits start (entry ∷ before)
 legal-part limits start [] entry before l = l
 legal-part limits start (e ∷ later) entry before l = legal-part limits start later entry before l.1
 

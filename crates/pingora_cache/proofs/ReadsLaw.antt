@@ -125,7 +125,7 @@ given-reader : (stale : Bool) (e : Event) (x : Request) → (with_given stale e 
 given-reader stale (E.Ask k n b) x = refl
 given-reader stale e x = refl
 
-asked-reader : (stale : Bool) (events : List Event) (x : Request) → (asked stale events x).reader ≡ x.reader
+pub asked-reader : (stale : Bool) (events : List Event) (x : Request) → (asked stale events x).reader ≡ x.reader
 asked-reader stale [] x = refl
 asked-reader stale (e ∷ events) x = asked-reader stale events (with_given stale e x) ∙ given-reader stale e x
 

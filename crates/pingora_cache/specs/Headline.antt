@@ -5,8 +5,9 @@ use Rattle.pcache_evict.specs.declared.eviction.entry_key.CacheEntryKey.{CacheEn
 use Rattle.pcache_base.specs.Key.{Key, slot}
 use Rattle.pcache_base.specs.declared.poll.Poll.{Poll}
 use Rattle.pcache_base.specs.declared.poll.Poll.TheVariants.{Ready}
+use Rattle.pcache_meta.specs.Meta.{Meta}
 use Rattle.pcache_evict.specs.Tracked.{Tracked, Limits, IsWithin, IsFair}
-use Rattle.pcache_store.specs.Store.{Reader, Part, Stored}
+use Rattle.pcache_store.specs.Store.{Reader, Whole, Part, Stored}
 use Rattle.pingora_cache.specs.declared.world.call.Call.TheVariants as C
 use Rattle.pingora_cache.specs.declared.world.call.Reply.{Reply}
 use Rattle.pingora_cache.specs.declared.world.call.Reply.TheVariants as R
@@ -114,6 +115,16 @@ TellsExactly = (limits : Limits) (start : Tracked) (before : List Entry) (entry 
 abbrev pub ReadsTheWhole : Type 0
 ReadsTheWhole = (limits : Limits) (start : Tracked) (before : List Entry) (entry : Entry) (rest : List Event) (x : Held) (w place : ℕ) → IsLegal limits start (entry ∷ before) → entry.events ≡ Read (Ready None) ∷ rest → request_of (number_of entry.call) before ≡ Some x
     → x.request.reader ≡ Some (Part w place) → IsSome (begin_of w (events_of before)) → read_by (number_of entry.call) before ≡ body_of w (events_of before)
+
+-- a look-up of the request found this complete body: the entry stands in the history, after these
+abbrev pub IsFoundBy : List Entry → ℕ → List ℕ → Type 0
+IsFoundBy h r body = (later : List Entry) × (entry : Entry) × (before : List Entry) × (k : ℕ) × (m : Meta) × (rest : List Event) × (h ≡ later ++ entry ∷ before) × (number_of entry.call ≡ r) × (entry.events ≡ Look k (A.Complete m body) ∷ rest)
+
+-- what a request reads through a hit is the body that a look-up of it found: that of the write of the key which had finished
+-- last then
+abbrev pub ReadsWhatWasFound : Type 0
+ReadsWhatWasFound = (limits : Limits) (start : Tracked) (h : List Entry) (r : ℕ) (x : Held) (body : List ℕ) (from to : ℕ) (done : Bool) → IsLegal limits start h → request_of r h ≡ Some x → x.request.reader ≡ Some (Whole body from to done)
+    → (f : IsFoundBy h r body) × (w : ℕ) × (last_finished f.3 (events_of f.2) ≡ Some w) × (is_removed w (events_of f.2) ≡ false) × (body ≡ body_of w (events_of f.2))
 
 -- The same of what a world has: of each entry of its history with those before it, newest first.
 

@@ -1,5 +1,6 @@
 -- What the reader of a request has given since it came to be, by the history (own). Bytes whose copy was refused went by
--- also: they are told by the event of the read, not by its reply.
+-- also: they are told by the event of the read, not by its reply. The event of a read does not name its reader: it is the one
+-- that the request of its entry holds then, so what a reader gave is told by the entries of its request alone.
 use Rattle.std.specs.Prelude.{◌≡◌, ℕ, ◌≤◌, ◌==◌, cond, if◌then◌else◌, Some, List, [], ◌∷◌, ◌++◌, length, take, slice_range}
 use Rattle.pcache_base.specs.declared.poll.Poll.TheVariants.{Ready}
 use Rattle.pcache_store.specs.Store.{Reader, Whole, Part}

@@ -55,6 +55,7 @@ fn nothing_is_left_of_ended_requests(rt: HostRuntime) -> std::result::Result<(),
         ask(&rt, &shared, Call::Open { request })?;
         set_key(&rt, alloc, &shared, request)?;
     }
+    shared.lock(&rt).headline();
     let reply = ask(&rt, &shared, Call::Look { request: 2, now })?;
     assert!(rt; matches!(reply, Reply::Part));
     let reply = ask(&rt, &shared, Call::Purge { request: 3 })?;

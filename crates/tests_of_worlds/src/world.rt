@@ -49,8 +49,7 @@ fn meta_of(alloc: Global) -> CacheMeta {
     CacheMeta::new(Moment::from_secs(60), Moment::EPOCH, 0, 0, header)
 }
 
-fn call_of(alloc: Global, step: Step) -> Result<Call> {
-    let now = Moment::EPOCH;
+fn call_of(alloc: Global, step: Step, now: Moment) -> Result<Call> {
     Ok(match step {
         Open(request) => Call::Open { request },
         Key(request, name) => Call::Key {
@@ -88,6 +87,12 @@ fn call_of(alloc: Global, step: Step) -> Result<Call> {
     })
 }
 
+// The moment of a call of a table: three seconds after the one before, so that a table goes past the
+// age of ten seconds at which a permit is too old.
+fn moment_at(place: usize) -> Moment {
+    Moment::from_secs((place as u64).saturating_mul(3))
+}
+
 fn world_of(alloc: Global, limit: usize) -> Result<World<Manager>> {
     let manager = Manager::new(alloc, limit)?;
     Ok(World::new(alloc, manager, Duration::from_secs(10)))
@@ -113,8 +118,8 @@ fn check(
     let before = world.history().len();
     let mut calls = Vec::new(alloc);
     let mut wanted = String::new(alloc);
-    for (step, reply) in rows {
-        calls.push(call_of(alloc, *step)?)?;
+    for (place, (step, reply)) in rows.iter().enumerate() {
+        calls.push(call_of(alloc, *step, moment_at(place))?)?;
         wanted.push_str(reply)?;
         wanted.push('\n')?;
     }
@@ -142,7 +147,7 @@ fn step_by_step(
 ) -> std::result::Result<(), Fail> {
     for (at, (step, wanted)) in rows.iter().enumerate() {
         let before = numbers(alloc, world)?;
-        let reply = world.step(call_of(alloc, *step)?)?;
+        let reply = world.step(call_of(alloc, *step, moment_at(at))?)?;
         let told = format!(in alloc; "{reply:?}")?;
         assert_eq!(rt; told.as_str(), *wanted, "at {at}");
         if matches!(reply, Reply::WrongCall) {

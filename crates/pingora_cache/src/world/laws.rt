@@ -1,5 +1,5 @@
 //! What is promised of every legal history, whatever calls it has.
-ghost use Rattle.pingora_cache.specs.Headline.{EvictsFairly, FindsExactly, FinishesExactly, GivesThePermitExactly, IsWithinLimits, IsWrongExactly, LooksAreTrue, OnePermitWaits, ReadsABeginning, ReadsAreTrue, ReadsTheLast, ReadsTheWhole, TellsExactly, TracksExactly};
+ghost use Rattle.pingora_cache.specs.Headline.{EvictsFairly, FindsExactly, FinishesExactly, GivesThePermitExactly, IsWithinLimits, IsWrongExactly, LooksAreTrue, OnePermitWaits, ReadsABeginning, ReadsAreTrue, ReadsTheLast, ReadsTheWhole, ReadsWhatWasFound, TellsExactly, TracksExactly};
 
 /// A call is answered as a wrong one exactly where its condition fails.
 pub fn is_wrong_exactly()
@@ -74,4 +74,10 @@ pub fn tells_exactly()
 /// What a reader of a write has given when it tells the end is the whole body of the write.
 pub fn reads_the_whole()
     ensures { ReadsTheWhole }
+{}
+
+/// What a request reads through a hit is the body that a look-up of it found: that of the write of
+/// the key which had finished last then.
+pub fn reads_what_was_found()
+    ensures { ReadsWhatWasFound }
 {}

@@ -1,6 +1,6 @@
 //! A long random script, against a plain slow reading of what its calls did.
 use super::Step::*;
-use super::{Step, call_of, world_of};
+use super::{Step, call_of, moment_at, world_of};
 use pcache_base::error::Result;
 use pcache_request::phase::{CachePhase, HitStatus};
 use std::alloc::Global;
@@ -463,7 +463,7 @@ fn a_random_script(rt: HostRuntime) -> std::result::Result<(), Fail> {
     };
     let mut asked = [NOT_OPEN; 5];
     let mut dice = Dice(20261122);
-    for at in 0..4000 {
+    for at in 0..4000usize {
         let place = dice.pick(&[0usize, 1, 2, 3, 4], 0);
         let Some(one) = asked.get_mut(place) else {
             continue;
@@ -471,7 +471,7 @@ fn a_random_script(rt: HostRuntime) -> std::result::Result<(), Fail> {
         let request = u64::try_from(place).unwrap_or(0);
         let step = next(&mut dice, request, one);
         let wanted = past.answer(one, step)?;
-        let reply = world.step(call_of(alloc, step)?)?;
+        let reply = world.step(call_of(alloc, step, moment_at(at))?)?;
         let told = format!(in alloc; "{reply:?}")?;
         assert_eq!(rt; told.as_str(), wanted.as_str(), "at {at}");
     }
