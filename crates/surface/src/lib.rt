@@ -28,7 +28,7 @@ pub mod cache_control {
 
 /// Eviction.
 pub mod eviction {
-    pub use pingora_cache::eviction::lru::Manager as ShardedManager;
+    pub use pingora_cache::eviction::sharded_lru::Manager as ShardedManager;
     pub use pingora_cache::eviction::simple_lru::Manager;
     pub use pingora_cache::eviction::{
         CacheEntryId, CacheEntryKey, CacheEntryKeyRef, EvictionManager,
