@@ -12,8 +12,8 @@ use pcache_base::error::Result;
 use pcache_base::moment::Moment;
 
 mod entry_key;
-pub mod lru;
 mod recency;
+pub mod sharded_lru;
 mod shards;
 pub mod simple_lru;
 

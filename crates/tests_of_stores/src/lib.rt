@@ -9,13 +9,13 @@ mod hashtable;
 #[cfg(test)]
 mod lock;
 #[cfg(test)]
-mod lru;
-#[cfg(test)]
 mod memory;
 #[cfg(test)]
 mod random_locks;
 #[cfg(test)]
 mod request;
+#[cfg(test)]
+mod sharded_lru;
 #[cfg(test)]
 mod simple_lru;
 #[cfg(test)]

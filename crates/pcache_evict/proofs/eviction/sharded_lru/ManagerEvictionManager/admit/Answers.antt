@@ -1,7 +1,7 @@
 use Rattle.std.proofs.Common.{◌∙◌, ap, subst}
 use Rattle.pcache_evict.specs.Tracked.{IsFair, without, evicted_with}
 use Rattle.pcache_evict.proofs.ShardMaps.{run-of, run-evicted, map-moved-in}
-use Rattle.pcache_evict.proofs.eviction.lru.ManagerEvictionManager.admit.Goals as goal
+use Rattle.pcache_evict.proofs.eviction.sharded_lru.ManagerEvictionManager.admit.Goals as goal
 
 pub returns-clause-fair : goal.returns-clause-fair
 returns-clause-fair g c =

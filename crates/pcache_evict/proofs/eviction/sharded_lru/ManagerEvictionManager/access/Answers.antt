@@ -2,7 +2,7 @@ use Rattle.std.proofs.Common.{◌∙◌, sym, ap, is_some}
 use Rattle.pcache_evict.specs.Listed.{map_of}
 use Rattle.pcache_evict.specs.Shards.{all}
 use Rattle.pcache_evict.proofs.ShardMaps.{map-accessed-in, found-map}
-use Rattle.pcache_evict.proofs.eviction.lru.ManagerEvictionManager.access.Goals as goal
+use Rattle.pcache_evict.proofs.eviction.sharded_lru.ManagerEvictionManager.access.Goals as goal
 
 pub returns-clause-was : goal.returns-clause-was
 returns-clause-was g c = c.in_ok-was.ensures.was ∙ ap is_some (sym (found-map g.row.N c.args.item.now c.args.self.now.shards c.in_ok-was.ensures.placed))

@@ -3,7 +3,7 @@ use Rattle.pcache_evict.specs.Recency.{IsInside}
 use Rattle.pcache_evict.specs.Shards.{ArePlaced, all}
 use Rattle.pcache_evict.proofs.Sharded.{placed-reweighed}
 use Rattle.pcache_evict.proofs.Chains.{enough-now}
-use Rattle.pcache_evict.proofs.eviction.lru.Manager.set_and_evict.Goals as goal
+use Rattle.pcache_evict.proofs.eviction.sharded_lru.Manager.set_and_evict.Goals as goal
 
 pub keep_limits-requires : goal.keep_limits-requires
 keep_limits-requires g c =

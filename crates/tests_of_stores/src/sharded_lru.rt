@@ -3,7 +3,7 @@ use pcache_base::error::Result;
 use pcache_base::key::{CacheKey, CompactCacheKey};
 use pcache_base::moment::Moment;
 use pcache_base::text::Text;
-use pcache_evict::eviction::lru::Manager;
+use pcache_evict::eviction::sharded_lru::Manager;
 use pcache_evict::eviction::{CacheEntryId, CacheEntryKey, EvictionManager, simple_lru};
 use std::alloc::Global;
 use std::fmt::Write;

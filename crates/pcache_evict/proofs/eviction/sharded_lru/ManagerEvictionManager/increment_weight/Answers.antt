@@ -3,7 +3,7 @@ use Rattle.pcache_evict.specs.Tracked.{IsFair, IsWithin, without, evicted_with}
 use Rattle.pcache_evict.specs.Shards.{all, in_shard, grown}
 use Rattle.pcache_evict.proofs.Maps.{inside}
 use Rattle.pcache_evict.proofs.ShardMaps.{run-of, run-evicted, map-grown-in, found-map, once-grown}
-use Rattle.pcache_evict.proofs.eviction.lru.ManagerEvictionManager.increment_weight.Goals as goal
+use Rattle.pcache_evict.proofs.eviction.sharded_lru.ManagerEvictionManager.increment_weight.Goals as goal
 
 pub returns-clause-fair : goal.returns-clause-fair
 returns-clause-fair g c =
