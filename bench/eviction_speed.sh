@@ -6,5 +6,5 @@ set -eu
 mkdir -p crates/eviction_speed/src
 cp bench/eviction_speed.rt.txt crates/eviction_speed/src/main.rt
 echo 'eviction_speed: pcache_base pcache_evict' >>crates.txt
-(cd crates/eviction_speed && rt run | grep -E '^(simple_lru|lru) ')
+(cd crates/eviction_speed && rt run | grep -E '^(simple_lru|sharded_lru) ')
 echo "cores=$(nproc) load=$(cut -d' ' -f1 /proc/loadavg)"

@@ -3,5 +3,6 @@
 //!
 //! - `eviction`: the keys of entries, and what an eviction manager is
 //! - `eviction::simple_lru`: the manager with one recency list
+//! - `eviction::sharded_lru`: the manager with a recency list for each shard
 
 pub mod eviction;
