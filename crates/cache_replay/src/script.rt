@@ -166,6 +166,11 @@ fn read_lock_call(
             request,
             reason: reason(words.word()?)?,
         }),
+        b"uncacheable" => Ok(Call::Uncacheable {
+            request,
+            header: ResponseHeader::build(alloc, StatusCode::OK),
+            reason: reason(words.word()?)?,
+        }),
         _ => Err(Unread::BadCall),
     }
 }

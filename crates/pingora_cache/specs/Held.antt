@@ -2,6 +2,7 @@
 -- do one thing move a request by their reply; calls that can be refused half way move it by their events.
 use Rattle.std.specs.Prelude.{ℕ, ◌+◌, ◌==◌, Bool, true, false, Option, Some, None, cond, if◌then◌else◌, List, [], ◌∷◌, length}
 use Rattle.std.specs.Option.{option_map}
+use Rattle.pcache_meta.specs.Header.{shown}
 use Rattle.pcache_meta.specs.Meta.{Meta}
 use Rattle.pcache_base.specs.declared.poll.Poll.{Poll}
 use Rattle.pcache_base.specs.declared.poll.Poll.TheVariants.{Ready, Pending}
@@ -10,7 +11,7 @@ use Rattle.pcache_lock.specs.declared.lock.permit.Locked.TheVariants.{Write, Rea
 use Rattle.pcache_store.specs.Store.{Reader, Whole, Part}
 use Rattle.pcache_request.specs.LockUse.{unheld, with_cache_lock}
 use Rattle.pcache_request.specs.Releasing.{bypassed}
-use Rattle.pcache_request.specs.Stale.{updating}
+use Rattle.pcache_request.specs.Stale.{updating, uncacheable}
 use Rattle.pcache_request.specs.Requests.{Request, fresh_request, with_key, missed, with_meta, without_reader, placed, asks_as_stale}
 use Rattle.pcache_request.specs.declared.phase.HitStatus.{HitStatus}
 use Rattle.pcache_request.specs.declared.phase.InUse.{InUse}
@@ -47,6 +48,7 @@ number_of (C.Lock r is_used) = r
 number_of (C.Publish r tokens) = r
 number_of (C.Release r why) = r
 number_of (C.Updating r) = r
+number_of (C.Uncacheable r h why) = r
 number_of (C.Phase r) = r
 number_of (C.End r) = r
 
@@ -181,6 +183,7 @@ change_of (C.Lock r is_used) = turns (with_cache_lock is_used None) false
 change_of (C.Publish r tokens) = stays
 change_of (C.Release r why) = turns unheld false
 change_of (C.Updating r) = turns updating false
+change_of (C.Uncacheable r h why) = turns (uncacheable (shown h) why) false
 change_of (C.Phase r) = stays
 change_of (C.End r) = closes
 

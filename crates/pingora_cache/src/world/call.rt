@@ -9,6 +9,7 @@ use pcache_base::error::{ErrorType, Result};
 use pcache_base::key::CacheKey;
 use pcache_base::moment::Moment;
 use pcache_base::reason::NoCacheReason;
+use pcache_meta::header::ResponseHeader;
 use pcache_meta::meta::CacheMeta;
 use pcache_request::phase::{CachePhase, HitStatus};
 
@@ -93,6 +94,13 @@ pub enum Call {
     Updating {
         request: u64,
     },
+    /// Serves the stale body, of which the origin said that it is good, with this header. The new
+    /// answer is not stored, for this reason.
+    Uncacheable {
+        request: u64,
+        header: ResponseHeader,
+        reason: NoCacheReason,
+    },
     /// Tells the phase that the request is in.
     Phase {
         request: u64,
@@ -137,6 +145,11 @@ impl Call {
             Call::Publish { request, tokens: _ } => request,
             Call::Release { request, reason: _ } => request,
             Call::Updating { request } => request,
+            Call::Uncacheable {
+                request,
+                header: _,
+                reason: _,
+            } => request,
             Call::Phase { request } => request,
             Call::End { request } => request,
         }

@@ -1,20 +1,22 @@
 //! Calls about the lock that a request holds.
-ghost use Rattle.std.specs.Prelude.{◌≡◌, ◌≤◌, [], Some};
+ghost use Rattle.std.specs.Prelude.{◌≡◌, ◌+◌, ◌≤◌, ◌++◌, [], Some, vec_len};
 ghost use Rattle.std.specs.Vec.{vec_capacity};
 ghost use Rattle.pingora_cache.specs.Due.{KeepsKey};
 ghost use Rattle.pingora_cache.specs.Facts.{no_facts};
 ghost use Rattle.pingora_cache.specs.Held.{row};
 ghost use Rattle.pingora_cache.specs.Moved.{MovesRequest, MovesStore};
-ghost use Rattle.pingora_cache.specs.Rules.{Answers};
+ghost use Rattle.pingora_cache.specs.Rules.{Answers, each};
+ghost use Rattle.pingora_cache.specs.declared.world.entry.Event.TheVariants.{Release};
 ghost use Rattle.pingora_cache.specs.Waiting.{MovesLocks};
 ghost use Rattle.pingora_cache.specs.declared.world.call.Call.TheVariants as calls;
 ghost use Rattle.pcache_store.specs.Store.{Store};
 
 use crate::world::call::Reply;
 use crate::world::entry::Event;
-use crate::world::request::{OpenRequest, permit_released};
+use crate::world::request::{OpenRequest, permit_in, permit_released};
 use pcache_base::reason::NoCacheReason;
 use pcache_lock::lock::CacheLock;
+use pcache_meta::header::ResponseHeader;
 
 /// Takes the lock into use, or out of it.
 pub(crate) fn set_lock(request: &mut OpenRequest, is_used: bool) -> Reply
@@ -64,8 +66,44 @@ pub(crate) fn release(
         return Reply::WrongCall;
     }
     let released = request.cache.release_write_lock(lock, reason);
-    if let Some(lock) = permit_released(released) {
+    note_release(permit_released(released), events);
+    Reply::Done
+}
+
+/// Serves the stale body with another header, and releases what is held.
+pub(crate) fn uncacheable(
+    request: &mut OpenRequest,
+    lock: &mut CacheLock,
+    events: &mut Vec<Event>,
+    header: &ResponseHeader,
+    reason: NoCacheReason,
+) -> Reply
+    requires none { events.old.items ≡ [] }
+    requires room { 3 ≤ vec_capacity events.old }
+    ensures answers { Answers no_facts (calls.Uncacheable 0 header.now reason) (Some request.old) result events.new.items }
+    ensures moves { (s : Store) → MovesStore (Some request.old) s events.new.items (Some request.new) s }
+    ensures keeps { KeepsKey (Some request.old) (Some request.new) }
+    ensures row { Some request.new ≡ row (calls.Uncacheable 0 header.now reason) result events.new.items (Some request.old) }
+    ensures locks { MovesLocks lock.old events.new.items lock.new }
+{
+    if !request.cache.may_revalidate() || !request.cache.may_release(reason) {
+        return Reply::WrongCall;
+    }
+    let copy = match header.copied() {
+        Ok(copy) => copy,
+        Err(refused) => return Reply::Refused(refused.etype()),
+    };
+    let released = request.cache.revalidate_uncacheable(lock, copy, reason);
+    note_release(permit_in(released), events);
+    Reply::Done
+}
+
+// Notes the release of a permit, if one was.
+fn note_release(permit: Option<u64>, events: &mut Vec<Event>)
+    requires { vec_len events.old + 1 ≤ vec_capacity events.old }
+    ensures { events.new.items ≡ events.old.items ++ each Release permit }
+{
+    if let Some(lock) = permit {
         events.push_reserved(Event::Release { lock });
     }
-    Reply::Done
 }

@@ -8,11 +8,10 @@ use Rattle.pingora_cache.specs.Moved.{MovesStore}
 use Rattle.pingora_cache.specs.Rules.{each, permit_of}
 use Rattle.pingora_cache.specs.Step.{permit_released}
 use Rattle.pingora_cache.specs.declared.world.entry.Event.TheVariants.{Release}
-use Rattle.pingora_cache.proofs.MovesOf.{turns-quietly, quiet-each, quiet-noted, push-some, push-none}
+use Rattle.pingora_cache.proofs.MovesOf.{turns-quietly, quiet-each, quiet-noted}
 use Rattle.pingora_cache.proofs.Noted.{held_with, permit-released}
 use Rattle.pingora_cache.proofs.Waiting.{settle-locks, status-reason}
 use Rattle.pingora_cache.proofs.world.locks.release.Goals as goal
-use Rattle.pingora_cache.proofs.world.locks.release.Goals.{in-Some, in_default}
 
 pub returns-clause-moves : goal.returns-clause-moves
 returns-clause-moves c s =
@@ -20,13 +19,9 @@ returns-clause-moves c s =
     let r : Request = c.request.inside.cache in
     let o = c.permit_released.result in
     let old = c.args.events.now.items in
-    let all = c.match-permit_released.events.items in
-    let is : all ≡ old ++ each Release o = elim c.match-permit_released.branch [
-      | in-Some w ↦ push-some Release o w.in-Some.lock old all w.in-Some.is (ap (λ v. v.items) w.events-is ∙ w.push_reserved.ensures.items)
-      | in_default w ↦ push-none Release o old all w.in_default.is (ap (λ v. v.items) w.events-is)
-    ] in
+    let all = c.note_release.new.events.items in
     subst (λ (x : Held). MovesStore (Some x) s all (Some (held_with pair c.release_write_lock-released.new.self)) s) c.request.view_is
-    (turns-quietly (held_with pair r) (held_with pair c.release_write_lock-released.new.self) s all (quiet-noted Release o old all (λ n. tt) c.requires.none is)
+    (turns-quietly (held_with pair r) (held_with pair c.release_write_lock-released.new.self) s all (quiet-noted Release o old all (λ n. tt) c.requires.none c.note_release.ensures)
     refl (ap (λ (y : Request). y.reader) c.release_write_lock-released.ensures.request) (ap (λ (y : Request). y.write) c.release_write_lock-released.ensures.request))
 
 pub returns-clause-locks : goal.returns-clause-locks
@@ -34,10 +29,6 @@ returns-clause-locks c =
     let r : Request = c.request.inside.cache in
     let o = c.permit_released.result in
     let old = c.args.events.now.items in
-    let all = c.match-permit_released.events.items in
-    let is : all ≡ old ++ each Release o = elim c.match-permit_released.branch [
-      | in-Some w ↦ push-some Release o w.in-Some.lock old all w.in-Some.is (ap (λ v. v.items) w.events-is ∙ w.push_reserved.ensures.items)
-      | in_default w ↦ push-none Release o old all w.in_default.is (ap (λ v. v.items) w.events-is)
-    ] in
+    let all = c.note_release.new.events.items in
     let permit : o ≡ permit_of r.held = c.permit_released.ensures ∙ ap permit_released c.release_write_lock-released.ensures.released ∙ permit-released _ r.held in
-    settle-locks c.args.lock.now c.release_write_lock-released.new.lock _ r.held o old all (status-reason c.args.reason) permit c.requires.none is c.release_write_lock-released.ensures.table
+    settle-locks c.args.lock.now c.release_write_lock-released.new.lock _ r.held o old all (status-reason c.args.reason) permit c.requires.none c.note_release.ensures c.release_write_lock-released.ensures.table

@@ -1,0 +1,34 @@
+use Rattle.std.proofs.Common.{◌≡◌, ◌++◌, Option, Some, refl, ap, sym, subst, ◌∙◌, option_map}
+use Rattle.pcache_meta.specs.Meta.{Meta}
+use Rattle.pcache_request.specs.Requests.{Request}
+use Rattle.pcache_store.specs.Readers.{reader_of}
+use Rattle.pcache_store.specs.Store.{Reader}
+use Rattle.pingora_cache.specs.Held.{Held}
+use Rattle.pingora_cache.specs.Moved.{MovesStore}
+use Rattle.pingora_cache.specs.Rules.{each, permit_of}
+use Rattle.pingora_cache.specs.Step.{permit_in}
+use Rattle.pingora_cache.specs.declared.world.entry.Event.TheVariants.{Release}
+use Rattle.pingora_cache.proofs.MovesOf.{turns-quietly, quiet-each, quiet-noted}
+use Rattle.pingora_cache.proofs.Noted.{held_with, permit-named}
+use Rattle.pingora_cache.proofs.Waiting.{settle-locks, status-reason}
+use Rattle.pingora_cache.proofs.world.locks.uncacheable.Goals as goal
+
+pub returns-clause-moves : goal.returns-clause-moves
+returns-clause-moves c s =
+    let pair : Option (Meta × Reader) = option_map (λ p. (p.0, reader_of p.1)) c.request.inside.pair in
+    let r : Request = c.request.inside.cache in
+    let o = c.permit_in.result in
+    let old = c.args.events.now.items in
+    let all = c.note_release.new.events.items in
+    subst (λ (x : Held). MovesStore (Some x) s all (Some (held_with pair c.revalidate_uncacheable-released.new.self)) s) c.request.view_is
+    (turns-quietly (held_with pair r) (held_with pair c.revalidate_uncacheable-released.new.self) s all (quiet-noted Release o old all (λ n. tt) c.requires.none c.note_release.ensures)
+    refl (ap (λ (y : Request). y.reader) c.revalidate_uncacheable-released.ensures.request) (ap (λ (y : Request). y.write) c.revalidate_uncacheable-released.ensures.request))
+
+pub returns-clause-locks : goal.returns-clause-locks
+returns-clause-locks c =
+    let r : Request = c.request.inside.cache in
+    let o = c.permit_in.result in
+    let old = c.args.events.now.items in
+    let all = c.note_release.new.events.items in
+    let permit : o ≡ permit_of r.held = c.permit_in.ensures ∙ ap permit_in c.revalidate_uncacheable-released.ensures.released ∙ permit-named r.held in
+    settle-locks c.args.lock.now c.revalidate_uncacheable-released.new.lock _ r.held o old all (status-reason c.args.reason) permit c.requires.none c.note_release.ensures c.revalidate_uncacheable-released.ensures.table
