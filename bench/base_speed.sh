@@ -1,12 +1,13 @@
 #!/bin/sh
-# Bytes a second of the hash, beside those of python's hashlib in the same run, and nanoseconds of writing and reading a meta.
+# Bytes a second of the hash, beside those of python's hashlib in the same run, and nanoseconds of writing and reading a meta,
+# and microseconds of reading and of telling the text of a head.
 # The program is proved and built in a copy of the repository.
 set -eu
 . "$(dirname "$0")/in_a_copy.sh"
 mkdir -p crates/base_speed/src
 cp bench/base_speed.rt.txt crates/base_speed/src/main.rt
 echo 'base_speed: pcache_base pcache_meta http http_header' >>crates.txt
-(cd crates/base_speed && rt run | grep -E '^(hash|meta) ')
+(cd crates/base_speed && rt run | grep -E '^(hash|meta|head) ')
 python3 - <<'SPEED'
 import hashlib, time
 for length, rounds in ((64, 300000), (65536, 2000)):

@@ -29,7 +29,12 @@ pub fn write_reply<W: Write>(output: &mut W, reply: &Reply) -> io::Result<()> {
         Reply::Pending => writeln!(output, "pending"),
         Reply::Finished => writeln!(output, "end"),
         Reply::Purged => writeln!(output, "purged"),
+        Reply::Expired => writeln!(output, "expired"),
         Reply::Absent => writeln!(output, "absent"),
+        Reply::Same => writeln!(output, "same"),
+        Reply::Other => writeln!(output, "other"),
+        Reply::Updated => writeln!(output, "updated"),
+        Reply::NotUpdated => writeln!(output, "not updated"),
         Reply::Phase(phase) => writeln!(output, "{}", phase.as_str()),
     }
 }

@@ -5,7 +5,8 @@ use bytes::Bytes;
 use http::StatusCode;
 use pingora_cache::NoCacheReason;
 use pingora_cache::header::ResponseHeader;
-use pingora_cache::key::CacheKey;
+use pingora_cache::key::{CacheKey, HashBinary, str2hex};
+use pingora_cache::lock::{UnusableFill, UnusableFills};
 use pingora_cache::meta::CacheMeta;
 use pingora_cache::moment::Moment;
 use pingora_cache::phase::HitStatus;
@@ -69,6 +70,17 @@ impl<'a> Words<'a> {
         number(self.word()?)
     }
 
+    // What stands behind this prefix, where the next word begins with it.
+    fn option(&mut self, prefix: &[u8]) -> Option<&'a [u8]> {
+        let before = self.0;
+        let word = self.next()?;
+        let value = word.strip_prefix(prefix);
+        if value.is_none() {
+            self.0 = before;
+        }
+        value
+    }
+
     // The line ends here.
     fn end(mut self) -> Result<(), Unread> {
         match self.next() {
@@ -109,11 +121,20 @@ fn read_call(
 ) -> Result<Call, Unread> {
     match word {
         b"open" => Ok(Call::Open { request }),
+        b"enable" => Ok(Call::Enable { request }),
+        b"disable" => Ok(Call::Disable {
+            request,
+            reason: reason(words.word()?)?,
+        }),
         b"key" => Ok(Call::Key {
             request,
             key: key(alloc, words)?,
         }),
-        b"look" => Ok(Call::Look { request, now }),
+        b"look" => Ok(Call::Look {
+            request,
+            now,
+            decision: None,
+        }),
         b"found" => Ok(Call::Found {
             request,
             status: status(words.word()?)?,
@@ -125,6 +146,29 @@ fn read_call(
             request,
             meta: meta(alloc, words, now)?,
         }),
+        b"purge" => Ok(Call::Purge { request }),
+        b"expire" => Ok(Call::Expire { request, now }),
+        b"updating" => Ok(Call::Updating { request }),
+        b"phase" => Ok(Call::Phase { request }),
+        b"end" => Ok(Call::End { request }),
+        b"begin" | b"write" | b"finish" | b"read" | b"seek" | b"done" => {
+            read_body_call(alloc, word, request, words)
+        }
+        b"vary" | b"variance" | b"revalidate" => {
+            read_variant_call(alloc, word, request, words, now)
+        }
+        _ => read_lock_call(alloc, word, request, words),
+    }
+}
+
+// A line about the body that a request writes or reads.
+fn read_body_call(
+    alloc: Global,
+    word: &[u8],
+    request: u64,
+    words: &mut Words<'_>,
+) -> Result<Call, Unread> {
+    match word {
         b"begin" => Ok(Call::Begin { request }),
         b"write" => {
             let bytes = text(alloc, words.word()?)?;
@@ -137,13 +181,57 @@ fn read_call(
         }
         b"finish" => Ok(Call::Finish { request }),
         b"read" => Ok(Call::Read { request }),
+        b"seek" => Ok(Call::Seek {
+            request,
+            start: place(words.word()?)?,
+            end: words.next().map(place).transpose()?,
+        }),
         b"done" => Ok(Call::Done { request }),
-        b"purge" => Ok(Call::Purge { request }),
-        b"updating" => Ok(Call::Updating { request }),
-        b"phase" => Ok(Call::Phase { request }),
-        b"end" => Ok(Call::End { request }),
-        _ => read_lock_call(alloc, word, request, words),
+        _ => Err(Unread::BadCall),
     }
+}
+
+// A line about the variants of a key, or the meta of a stale body that is good.
+fn read_variant_call(
+    alloc: Global,
+    word: &[u8],
+    request: u64,
+    words: &mut Words<'_>,
+    now: Moment,
+) -> Result<Call, Unread> {
+    match word {
+        b"vary" => Ok(Call::Vary {
+            request,
+            variance: hash(words.word()?)?,
+        }),
+        b"variance" => Ok(Call::Variance {
+            request,
+            variance: hash_or_none(words.word()?)?,
+        }),
+        b"revalidate" => Ok(Call::Revalidate {
+            request,
+            meta: fresh_until(alloc, words.number()?, now),
+        }),
+        _ => Err(Unread::BadCall),
+    }
+}
+
+fn hash_or_none(word: &[u8]) -> Result<Option<HashBinary>, Unread> {
+    match word {
+        b"none" => Ok(None),
+        _ => Ok(Some(hash(word)?)),
+    }
+}
+
+// A response of status 200 that was made now, is fresh until this second, and is not served stale.
+fn fresh_until(alloc: Global, seconds: u64, now: Moment) -> CacheMeta {
+    let header = ResponseHeader::build(alloc, StatusCode::OK);
+    CacheMeta::new(Moment::from_secs(seconds), now, 0, 0, header)
+}
+
+// A place in a body. Every number of 64 bits is one.
+fn place(word: &[u8]) -> Result<usize, Unread> {
+    usize::try_from(number(word)?).map_err(|_| Unread::BadCall)
 }
 
 // A line about the lock that a request holds.
@@ -215,13 +303,40 @@ fn reason(word: &[u8]) -> Result<NoCacheReason, Unread> {
     }
 }
 
+// A key, and behind it where they are given its variance and the fills that it cannot use.
 fn key(alloc: Global, words: &mut Words<'_>) -> Result<CacheKey, Unread> {
     let primary = text(alloc, words.word()?)?;
     let tag = text(alloc, words.word()?)?;
     let Ok(user_tag) = String::from_utf8(tag) else {
         return Err(Unread::BadCall);
     };
-    Ok(CacheKey::new(primary, user_tag))
+    let mut key = CacheKey::new(primary, user_tag);
+    if let Some(word) = words.option(b"v=") {
+        key.set_variance_key(hash(word)?);
+    }
+    if let Some(word) = words.option(b"u=") {
+        key.unusable = Some(unusable(alloc, word)?);
+    }
+    Ok(key)
+}
+
+fn hash(word: &[u8]) -> Result<HashBinary, Unread> {
+    let Ok(digits) = std::str::from_utf8(word) else {
+        return Err(Unread::BadCall);
+    };
+    str2hex(digits).ok_or(Unread::BadCall)
+}
+
+// Fills by the tokens that their writers publish, one or more, between commas.
+fn unusable(alloc: Global, word: &[u8]) -> Result<UnusableFills, Unread> {
+    let mut fills = Vec::new(alloc);
+    for token in word.split(|byte| *byte == b',') {
+        fills.push(UnusableFill {
+            token: number(token)?,
+            reason: "unusable",
+        })?;
+    }
+    Ok(UnusableFills::new(fills))
 }
 
 fn status(word: &[u8]) -> Result<HitStatus, Unread> {
@@ -265,6 +380,9 @@ fn ends_with_eof(words: &mut Words<'_>) -> Result<bool, Unread> {
 
 // A decimal number of 64 bits.
 fn number(word: &[u8]) -> Result<u64, Unread> {
+    if word.is_empty() {
+        return Err(Unread::BadCall);
+    }
     let mut value = 0u64;
     for byte in word {
         let digit = match byte {

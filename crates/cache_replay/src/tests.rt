@@ -470,6 +470,10 @@ fn lines(rt: HostRuntime) -> Result<(), Fail> {
         "key 1 a \\xff",
         "key 1 \\q 1",
         "key 1 a\\e 1",
+        "key 1 a 1 v=00",
+        "key 1 a 1 u=",
+        "key 1 a 1 u=7,",
+        "key 1 a 1 u=7 u=8",
         "write 1 a eo",
         "found 1 stale",
         "at",
@@ -479,6 +483,9 @@ fn lines(rt: HostRuntime) -> Result<(), Fail> {
         "lock 1 maybe",
         "publish 1",
         "release 1 Custom",
+        "vary 1 00",
+        "variance 1 nothing",
+        "revalidate 1",
     ] {
         let mut row = String::from_str(alloc, "open 1 -> ok\n")?;
         row.push_str(line)?;
@@ -615,6 +622,93 @@ fn a_stale_body_is_served(rt: HostRuntime) -> Result<(), Fail> {
 }
 
 #[test]
+fn seeks(rt: HostRuntime) -> Result<(), Fail> {
+    let row = "open 1 -> ok\n\
+        key 1 k 1 -> ok\n\
+        look 1 -> none write\n\
+        miss 1 -> ok\n\
+        meta 1 60 -> ok\n\
+        begin 1 -> ok\n\
+        write 1 test1test2 -> ok\n\
+        finish 1 -> stored 10 evicted 0\n\
+        end 1 -> ok\n\
+        open 2 -> ok\n\
+        key 2 k 1 -> ok\n\
+        look 2 -> hit 10\n\
+        found 2 fresh -> hit\n\
+        seek 2 10000 -> refused E2\n\
+        seek 2 5 -> ok\n\
+        read 2 -> data test2\n\
+        read 2 -> end\n\
+        seek 2 4 5 -> ok\n\
+        read 2 -> data 1\n\
+        seek 2 5 4 -> refused E2\n";
+    check(&rt, rt.alloc(), &["20"], row, 0, "")
+}
+
+#[test]
+fn an_expired_body_is_overwritten(rt: HostRuntime) -> Result<(), Fail> {
+    let row = "open 1 -> ok\n\
+        key 1 k 1 -> ok\n\
+        look 1 -> none write\n\
+        miss 1 -> ok\n\
+        meta 1 60 -> ok\n\
+        begin 1 -> ok\n\
+        write 1 x -> ok\n\
+        finish 1 -> stored 1 evicted 0\n\
+        end 1 -> ok\n\
+        open 2 -> ok\n\
+        key 2 k 1 -> ok\n\
+        expire 2 -> expired\n\
+        look 2 -> hit 1\n\
+        found 2 expired -> stale write\n\
+        meta 2 90 -> ok\n\
+        phase 2 -> expired\n\
+        begin 2 -> ok\n\
+        write 2 yy -> ok\n\
+        finish 2 -> stored 2 evicted 0\n\
+        open 3 -> ok\n\
+        key 3 k 1 -> ok\n\
+        look 3 -> hit 2\n";
+    check(&rt, rt.alloc(), &["9"], row, 0, "")
+}
+
+#[test]
+fn disabling(rt: HostRuntime) -> Result<(), Fail> {
+    let row = "open 1 -> ok\n\
+        key 1 k 1 -> ok\n\
+        look 1 -> none write\n\
+        disable 1 CacheLockTimeout -> wrong call\n\
+        disable 1 NeverEnabled -> wrong call\n\
+        disable 1 InternalError -> ok\n\
+        phase 1 -> disabled\n\
+        open 2 -> ok\n\
+        key 2 k 1 -> ok\n\
+        look 2 -> none write\n\
+        enable 1 -> ok\n\
+        phase 1 -> uninitialized\n";
+    check(&rt, rt.alloc(), &["9"], row, 0, "")
+}
+
+// A key with a variance stands in a slot of its own; the fills that a key cannot use are no part of it.
+#[test]
+fn keys_with_options(rt: HostRuntime) -> Result<(), Fail> {
+    let row = "open 1 -> ok\n\
+        key 1 aa 1 v=00000000000000000000000000000000 u=7,8 -> ok\n\
+        look 1 -> none write\n\
+        open 2 -> ok\n\
+        key 2 aa 1 -> ok\n\
+        look 2 -> none write\n\
+        open 3 -> ok\n\
+        key 3 aa 2 u=9 -> ok\n\
+        look 3 -> none read\n\
+        open 4 -> ok\n\
+        key 4 aa 1 v=00000000000000000000000000000000 -> ok\n\
+        look 4 -> none read\n";
+    check(&rt, rt.alloc(), &["9"], row, 0, "")
+}
+
+#[test]
 fn revalidated_as_uncacheable(rt: HostRuntime) -> Result<(), Fail> {
     let row = "open 1 -> ok\n\
         key 1 k 1 -> ok\n\
@@ -635,5 +729,188 @@ fn revalidated_as_uncacheable(rt: HostRuntime) -> Result<(), Fail> {
         open 3 -> ok\n\
         key 3 k 1 -> ok\n\
         look 3 -> hit 1\n";
+    check(&rt, rt.alloc(), &["9"], row, 0, "")
+}
+
+#[test]
+fn revalidated(rt: HostRuntime) -> Result<(), Fail> {
+    let row = "open 1 -> ok\n\
+        key 1 k 1 -> ok\n\
+        look 1 -> none write\n\
+        miss 1 -> ok\n\
+        meta 1 60 -> ok\n\
+        begin 1 -> ok\n\
+        write 1 x -> ok\n\
+        finish 1 -> stored 1 evicted 0\n\
+        end 1 -> ok\n\
+        open 2 -> ok\n\
+        key 2 k 1 -> ok\n\
+        look 2 -> hit 1\n\
+        found 2 expired -> stale write\n\
+        revalidate 2 90 -> updated\n\
+        phase 2 -> revalidated\n";
+    check(&rt, rt.alloc(), &["9"], row, 0, "")
+}
+
+#[test]
+fn purged_before_it_was_revalidated(rt: HostRuntime) -> Result<(), Fail> {
+    let row = "open 1 -> ok\n\
+        key 1 k 1 -> ok\n\
+        look 1 -> none write\n\
+        miss 1 -> ok\n\
+        meta 1 60 -> ok\n\
+        begin 1 -> ok\n\
+        write 1 x -> ok\n\
+        finish 1 -> stored 1 evicted 0\n\
+        end 1 -> ok\n\
+        open 2 -> ok\n\
+        key 2 k 1 -> ok\n\
+        look 2 -> hit 1\n\
+        found 2 expired -> stale write\n\
+        open 3 -> ok\n\
+        key 3 k 1 -> ok\n\
+        purge 3 -> purged\n\
+        revalidate 2 90 -> not updated\n";
+    check(&rt, rt.alloc(), &["9"], row, 0, "")
+}
+
+#[test]
+fn created_before_the_variants_is_hidden(rt: HostRuntime) -> Result<(), Fail> {
+    let row = "at 5 -> ok\n\
+        open 1 -> ok\n\
+        key 1 k 1 v=00000000000000000000000000000000 -> ok\n\
+        look 1 -> none write\n\
+        miss 1 -> ok\n\
+        meta 1 60 -> ok\n\
+        begin 1 -> ok\n\
+        write 1 xx -> ok\n\
+        finish 1 -> stored 2 evicted 0\n\
+        end 1 -> ok\n\
+        at 6 -> ok\n\
+        open 2 -> ok\n\
+        key 2 k 1 -> ok\n\
+        look 2 -> none write\n\
+        miss 2 -> ok\n\
+        meta 2 60 -> ok\n\
+        begin 2 -> ok\n\
+        write 2 y -> ok\n\
+        finish 2 -> stored 1 evicted 0\n\
+        end 2 -> ok\n\
+        open 3 -> ok\n\
+        key 3 k 1 -> ok\n\
+        look 3 -> hit 1\n\
+        vary 3 00000000000000000000000000000000 -> other\n\
+        look 3 -> none write\n";
+    check(&rt, rt.alloc(), &["9"], row, 0, "")
+}
+
+#[test]
+fn created_with_the_variants_is_found(rt: HostRuntime) -> Result<(), Fail> {
+    let row = "at 6 -> ok\n\
+        open 1 -> ok\n\
+        key 1 k 1 v=00000000000000000000000000000000 -> ok\n\
+        look 1 -> none write\n\
+        miss 1 -> ok\n\
+        meta 1 60 -> ok\n\
+        begin 1 -> ok\n\
+        write 1 xx -> ok\n\
+        finish 1 -> stored 2 evicted 0\n\
+        end 1 -> ok\n\
+        at 6 -> ok\n\
+        open 2 -> ok\n\
+        key 2 k 1 -> ok\n\
+        look 2 -> none write\n\
+        miss 2 -> ok\n\
+        meta 2 60 -> ok\n\
+        begin 2 -> ok\n\
+        write 2 y -> ok\n\
+        finish 2 -> stored 1 evicted 0\n\
+        end 2 -> ok\n\
+        open 3 -> ok\n\
+        key 3 k 1 -> ok\n\
+        look 3 -> hit 1\n\
+        vary 3 00000000000000000000000000000000 -> other\n\
+        look 3 -> hit 2\n";
+    check(&rt, rt.alloc(), &["9"], row, 0, "")
+}
+
+#[test]
+fn the_variance_is_removed(rt: HostRuntime) -> Result<(), Fail> {
+    let row = "open 1 -> ok\n\
+        key 1 k 1 v=00000000000000000000000000000000 -> ok\n\
+        look 1 -> none write\n\
+        miss 1 -> ok\n\
+        meta 1 60 -> ok\n\
+        variance 1 none -> ok\n\
+        begin 1 -> ok\n\
+        variance 1 none -> wrong call\n\
+        write 1 x -> ok\n\
+        finish 1 -> stored 1 evicted 0\n\
+        open 2 -> ok\n\
+        key 2 k 1 -> ok\n\
+        look 2 -> hit 1\n";
+    check(&rt, rt.alloc(), &["9"], row, 0, "")
+}
+
+#[test]
+fn two_keys_of_one_shard(rt: HostRuntime) -> Result<(), Fail> {
+    let row = "open 1 -> ok\n\
+        key 1 aa 1 -> ok\n\
+        look 1 -> none write\n\
+        miss 1 -> ok\n\
+        meta 1 60 -> ok\n\
+        begin 1 -> ok\n\
+        write 1 x -> ok\n\
+        finish 1 -> stored 1 evicted 0\n\
+        end 1 -> ok\n\
+        open 2 -> ok\n\
+        key 2 aa 1 v=00000000000000000000000000000000 -> ok\n\
+        look 2 -> none write\n\
+        miss 2 -> ok\n\
+        meta 2 60 -> ok\n\
+        begin 2 -> ok\n\
+        write 2 yy -> ok\n\
+        finish 2 -> stored 2 evicted 0\n\
+        end 2 -> ok\n\
+        open 3 -> ok\n\
+        key 3 aa 1 -> ok\n\
+        purge 3 -> purged\n\
+        open 4 -> ok\n\
+        key 4 aa 1 -> ok\n\
+        look 4 -> none write\n\
+        open 5 -> ok\n\
+        key 5 aa 1 v=00000000000000000000000000000000 -> ok\n\
+        look 5 -> hit 2\n";
+    check(&rt, rt.alloc(), &["9"], row, 0, "")
+}
+
+// The next look-up is for the variant only where what was found is another one.
+#[test]
+fn a_variant_is_looked_for(rt: HostRuntime) -> Result<(), Fail> {
+    let row = "open 1 -> ok\n\
+        vary 1 00000000000000000000000000000000 -> wrong call\n\
+        key 1 k 1 -> ok\n\
+        look 1 -> none write\n\
+        vary 1 00000000000000000000000000000000 -> wrong call\n\
+        variance 1 none -> wrong call\n\
+        miss 1 -> ok\n\
+        meta 1 60 -> ok\n\
+        variance 1 00000000000000000000000000000000 -> ok\n\
+        begin 1 -> ok\n\
+        write 1 x -> ok\n\
+        finish 1 -> stored 1 evicted 0\n\
+        open 2 -> ok\n\
+        key 2 k 1 -> ok\n\
+        look 2 -> hit 1\n\
+        vary 2 00000000000000000000000000000001 -> other\n\
+        look 2 -> none write\n\
+        open 3 -> ok\n\
+        key 3 k 1 -> ok\n\
+        look 3 -> hit 1\n\
+        vary 3 00000000000000000000000000000000 -> same\n\
+        found 3 expired -> stale write\n\
+        revalidate 3 90 -> updated\n\
+        revalidate 3 90 -> wrong call\n\
+        phase 3 -> revalidated\n";
     check(&rt, rt.alloc(), &["9"], row, 0, "")
 }

@@ -9,3 +9,4 @@ pub mod Lines
 pub mod AllLines
 pub mod Found
 pub mod Stored
+pub mod Room

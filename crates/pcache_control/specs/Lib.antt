@@ -9,3 +9,4 @@ pub mod Requests
 pub mod Responses
 pub mod Seconds
 pub mod Values
+pub mod NameHashes

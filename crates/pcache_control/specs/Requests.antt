@@ -1,8 +1,8 @@
 -- How a request goes to the origin, so that its answer can be stored.
-use Rattle.std.specs.Prelude.{◌≡◌, ℕ, ◌⊎◌, List, [], ◌∷◌, Option, Some, None, bytes_eq, codes, fold, slice_get, if◌then◌else◌}
+use Rattle.std.specs.Prelude.{◌≡◌, ℕ, ◌+◌, ◌^◌, ◌<◌, ◌≤◌, ◌⊎◌, length, List, [], ◌∷◌, Option, Some, None, bytes_eq, codes, fold, slice_get, if◌then◌else◌}
 use Rattle.std.specs.Option.{option_map}
 use Rattle.http_header.specs.FieldValue.{FieldValue}
-use Rattle.http_header.specs.HeaderMap.{Entries, insert, remove}
+use Rattle.http_header.specs.HeaderMap.{Entries, insert, remove, value_count}
 use Rattle.pcache_meta.specs.Header.{Fields}
 use Rattle.pcache_meta.specs.Meta.{Meta}
 
@@ -65,6 +65,18 @@ AsksInPart fields stored asking = (asking ≡ fields) ⊎ AsksSince fields store
 pub record HasNoValidator (stored : Fields) : Type 0 where
   pub date : first_in stored (codes "last-modified") ≡ None
   pub tag : first_in stored (codes "etag") ≡ None
+
+-- how many fields a stored response has to ask by: its Last-Modified and its ETag
+abbrev pub as_number : Option (List ℕ) → ℕ
+as_number None = 0
+as_number (Some value) = 1
+
+abbrev pub asked : Fields → ℕ
+asked stored = as_number (first_in stored (codes "last-modified")) + as_number (first_in stored (codes "etag"))
+
+-- a map of fields does not hold that many more
+abbrev pub LacksRoom : Entries FieldValue → Fields → Type 0
+LacksRoom fields stored = (24576 < length fields + asked stored) ⊎ (2 ^ 64 ≤ value_count fields + asked stored)
 
 -- without a stored response nothing is refused
 abbrev pub AsksInPartFor : Option Meta → Entries FieldValue → Entries FieldValue → Type 0

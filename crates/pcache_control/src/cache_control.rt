@@ -10,6 +10,7 @@ ghost use Rattle.pcache_control.specs.Names.{IsNamed, is_known, is_known_name, n
 ghost use Rattle.pcache_control.specs.Maps.{Adds, directives_at, AreNamed, AreRead, AreReadOnce, lines_of, value_of};
 ghost use Rattle.pcache_base.specs.declared.error.ErrorType.TheVariants.{OutOfMemory};
 
+use crate::hashing::NameHasher;
 pub use crate::interpret::InterpretCacheControl;
 pub use crate::key::DirectiveKey;
 use crate::key::known_key;
@@ -23,8 +24,9 @@ use pcache_meta::header::{ReqHeader, RespHeader};
 use std::alloc::Global;
 
 /// Directives by name, in the order of their first places, with their last values. A directive
-/// without a value has `None`.
-pub type DirectiveMap = IndexMap<DirectiveKey, Option<DirectiveValue>>;
+/// without a value has `None`. Its hasher's key is made of the lines that were read, since a sender
+/// chooses the names.
+pub type DirectiveMap = IndexMap<DirectiveKey, Option<DirectiveValue>, NameHasher>;
 
 // The key of the name that these bytes are in any case, where they are text.
 fn key_of(alloc: Global, name: &[u8]) -> Result<Option<DirectiveKey>>
@@ -118,12 +120,16 @@ pub struct CacheControl {
 }
 
 // The directives of a field's lines, in the lines' order.
-fn from_lines(alloc: Global, lines: GetAll<'_, HeaderValue>) -> Result<DirectiveMap>
+fn from_lines(
+    alloc: Global,
+    names: NameHasher,
+    lines: GetAll<'_, HeaderValue>,
+) -> Result<DirectiveMap>
     ensures read { IfOk result (λ directives. AreRead (lines_of lines.entry) directives.entries) }
     ensures only { IfOk result (λ directives. AreReadOnce (lines_of lines.entry) directives.entries) }
     ensures kind { IfErr result (λ e. e ≡ OutOfMemory) }
 {
-    let mut directives = IndexMap::new(alloc);
+    let mut directives = IndexMap::with_hasher(alloc, names);
     'lines: for line in lines {
         add_line(alloc, &mut directives, line.as_bytes())?;
     }
@@ -174,8 +180,9 @@ impl CacheControl {
         if !headers.contains_key(header_name) {
             return Ok(None);
         }
+        let names = NameHasher::keyed_by(headers.get_all(header_name));
         Ok(Some(CacheControl {
-            directives: from_lines(alloc, headers.get_all(header_name))?,
+            directives: from_lines(alloc, names, headers.get_all(header_name))?,
             allow_float_seconds: false,
         }))
     }

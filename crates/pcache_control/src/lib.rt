@@ -4,7 +4,8 @@
 //!
 //! - `cache_control`: the directives of a request's or a response's Cache-Control, and what they say.
 //!   Its parts: `scan` finds the directives of a line, `key` has their names and `value` their
-//!   values, `seconds` reads numbers of seconds, `interpret` says what a response may be used for.
+//!   values, `hashing` hashes names, `seconds` reads numbers of seconds, `interpret` says what a
+//!   response may be used for.
 //! - `defaults`: lifetimes and stale windows where a response says nothing.
 //! - `filters`: which requests and responses may be cached, until when a response is fresh, and how a
 //!   request goes to the origin.
@@ -13,6 +14,7 @@
 pub mod cache_control;
 pub mod defaults;
 pub mod filters;
+pub mod hashing;
 pub mod interpret;
 pub mod key;
 pub mod response;

@@ -1,4 +1,5 @@
 pub mod Chains
+pub mod Cuts
 pub mod EntryOrder
 pub mod Evictions
 pub mod Maps

@@ -168,7 +168,7 @@ others-all n shards k p =
 
 -- ---- one list changed
 
-each-put : (n : ℕ) (shards : List Recency) (i : ℕ) (x : Recency) (P : ℕ → Recency → Type 0) → i < length shards → P i x → ((j : ℕ) → P j (list_at shards j)) → (j : ℕ) → P j (list_at (slice_set shards i x) j)
+pub each-put : (n : ℕ) (shards : List Recency) (i : ℕ) (x : Recency) (P : ℕ → Recency → Type 0) → i < length shards → P i x → ((j : ℕ) → P j (list_at shards j)) → (j : ℕ) → P j (list_at (slice_set shards i x) j)
 each-put n shards i x P lt one rest j = elim (cases_eq j i) [
   | inl same ↦ subst (λ (m : ℕ). P m (list_at (slice_set shards i x) m)) (sym same) (subst (P i) (sym (get_or-set_same shards i x [] lt)) one)
   | inr off ↦ subst (P j) (sym (get_or-set_other shards i j x [] off)) (rest j)

@@ -36,6 +36,11 @@ accessed k n l = moved k (unwrap_or (weight_of k l) n) l
 abbrev pub loaded : CacheEntryKey → ℕ → Recency → Recency
 loaded k n l = if is_some (weight_of k l) then moved k n l else l ++ (k, n) ∷ []
 
+-- entries that are loaded one after the other
+abbrev pub loaded_all : Recency → Recency → Recency
+loaded_all [] l = l
+loaded_all (e ∷ entries) l = loaded_all entries (loaded e.0 e.1 l)
+
 -- the limits hold for a list
 pub record IsInside (limits : Limits) (l : Recency) : Type 0 where
   pub weight : weight l ≤ limits.weight

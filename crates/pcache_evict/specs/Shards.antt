@@ -1,5 +1,5 @@
 -- Recency lists in shards: each entry stands in the list of its key's shard (own).
-use Rattle.std.specs.Prelude.{◌≡◌, ℕ, ◌+◌, ◌-◌, ◌^◌, ◌<◌, ◌≤◌, ◌%◌, Option, None, List, [], ◌∷◌, ◌++◌, length, min, All, is_some, if◌then◌else◌, slice_index_or, slice_get, slice_set, replicate, option_map}
+use Rattle.std.specs.Prelude.{◌≡◌, ℕ, ◌+◌, ◌-◌, ◌^◌, ◌<◌, ◌≤◌, ◌%◌, Option, None, List, [], ◌∷◌, ◌++◌, length, min, All, is_some, if◌then◌else◌, slice_index, slice_index_or, slice_get, slice_set, replicate, option_map}
 use Rattle.std.specs.List.{AllByRecursion}
 use Rattle.std.specs.Map.{set_value}
 use Rattle.pcache_base.specs.CompactKey.{compact_slot}
@@ -52,6 +52,25 @@ last_key l = option_map (λ (e : CacheEntryKey × ℕ). e.0) (slice_get l (lengt
 -- an increment raises the weight of a present entry in its place; a missing one comes in at the front
 abbrev pub grown : CacheEntryKey → ℕ → Option ℕ → Recency → Recency
 grown k delta cap l = if is_some (weight_of k l) then reweighed k (raised delta cap (weight_of k l)) l else moved k (raised delta cap None) l
+
+-- a loaded entry goes to the back; one that is there is left alone
+abbrev pub joined : CacheEntryKey → ℕ → Recency → Recency
+joined k n l = if is_some (weight_of k l) then l else l ++ (k, n) ∷ []
+
+-- entries that are loaded one after the other, each into the list of its key's shard
+abbrev pub joined_all : ℕ → Recency → List Recency → List Recency
+joined_all n [] shards = shards
+joined_all n (e ∷ entries) shards = joined_all n entries (in_shard n e.0 (joined e.0 e.1) shards)
+
+-- how long the lists are
+pub record AreLengths (n : ℕ) (lens : List ℕ) (shards : List Recency) : Type 0 where
+  pub long : length lens ≡ n
+  pub each : (place : ℕ) → place < n → slice_index lens place ≡ length (list_at shards place)
+
+-- so many lists as before, each with entries added at its back
+pub record AreLonger (old new : List Recency) : Type 0 where
+  pub long : length new ≡ length old
+  pub each : (place : ℕ) → (tail : Recency) × (list_at new place ≡ list_at old place ++ tail)
 
 -- entries are popped, each from the end of a nonempty list, as long as the limits don't hold
 abbrev pub RunsOut : Limits → List Recency → List CacheEntryKey → List Recency → Type 0

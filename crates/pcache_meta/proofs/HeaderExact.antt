@@ -27,7 +27,7 @@ use Rattle.pcache_meta.proofs.HeaderMaps.{append_at-held, append_at-takes, IsHel
 use Rattle.pcache_meta.proofs.HeaderNames.{name_at-some, value_at-some, not_true, status_at-some, status_at-takes}
 
 -- what follows from a step that gave something
-after_one : {A B P : Type 0} (o : Option A) (f : A → Option B) (y : B) → (o >>= f) ≡ Some y → ((x : A) → o ≡ Some x → f x ≡ Some y → P) → P
+pub after_one : {A B P : Type 0} (o : Option A) (f : A → Option B) (y : B) → (o >>= f) ≡ Some y → ((x : A) → o ≡ Some x → f x ≡ Some y → P) → P
 after_one (Some x) f y e go = go x refl e
 after_one None f y e go = absurd cc
 
@@ -118,12 +118,12 @@ values_no_return [] all = tt
 values_no_return (b ∷ bytes) all =
     (value_no_return b (All-head (λ x. IsTrue (is_value_byte x)) b bytes all), values_no_return bytes (All-tail (λ x. IsTrue (is_value_byte x)) b bytes all))
 
-field_no_return : (f : Field) → IsField f → HasNoReturn (field_text f)
+pub field_no_return : (f : Field) → IsField f → HasNoReturn (field_text f)
 unfolding field_text
 field_no_return f is =
     no_return-append f.0 (0x3A ∷ 0x20 ∷ f.1) (name_no_return f.0 is.0.0.0.1) (refl, (refl, values_no_return f.1 is.1))
 
-line_takes : (front bytes text behind : List ℕ) → line_from front bytes ≡ Some (text, behind)
+pub line_takes : (front bytes text behind : List ℕ) → line_from front bytes ≡ Some (text, behind)
     → (k : List ℕ) × (text ≡ front ++ k) × (bytes ≡ k ++ (0x0D ∷ 0x0A ∷ behind))
 line_takes front [] text behind e = absurd cc
 line_takes front (a ∷ []) text behind e = absurd cc
@@ -142,7 +142,7 @@ line_takes front (a ∷ b ∷ bytes) text behind e = elim (chosen (eqb a 0x0D &&
   and_parts true y e = (refl, e)
   and_parts false y e = absurd cc
 
-line_again : (front k behind : List ℕ) → HasNoReturn k → line_from front (k ++ (0x0D ∷ 0x0A ∷ behind)) ≡ Some (front ++ k, behind)
+pub line_again : (front k behind : List ℕ) → HasNoReturn k → line_from front (k ++ (0x0D ∷ 0x0A ∷ behind)) ≡ Some (front ++ k, behind)
 line_again front [] behind none = ap (λ (x : List ℕ). Some (x, behind)) (sym (append-nil front))
 line_again front (a ∷ []) behind none =
     rw none.0 (line_again (front ++ a ∷ []) [] behind tt ∙ ap (λ (x : List ℕ). Some (x, behind)) (append_assoc front (a ∷ []) []))
@@ -151,7 +151,7 @@ line_again front (a ∷ b ∷ k) behind none =
 
 -- ---- the lines of the fields
 
-fields_cons : (f : Field) (lines : List Field) → fields_text (f ∷ lines) ≡ field_text f ++ (0x0D ∷ 0x0A ∷ fields_text lines)
+pub fields_cons : (f : Field) (lines : List Field) → fields_text (f ∷ lines) ≡ field_text f ++ (0x0D ∷ 0x0A ∷ fields_text lines)
 unfolding fields_text field_line
 fields_cons f lines =
     let rest : List ℕ = flat_map field_line lines in
@@ -270,7 +270,7 @@ version_again Http11 = refl
 version_again Http2 = refl
 version_again Http3 = refl
 
-status_line_takes : (text : List ℕ) (x : HttpVersion × ℕ) → status_line_at text ≡ Some x → (text ≡ status_text x.0 x.1) × IsStatusCode x.1
+pub status_line_takes : (text : List ℕ) (x : HttpVersion × ℕ) → status_line_at text ≡ Some x → (text ≡ status_text x.0 x.1) × IsStatusCode x.1
 unfolding status_line_at status_text
 status_line_takes text x e = after (bytes_at 9 text) _ x e (λ front rest cut go.
     let whole = bytes_takes 9 text front rest cut in
@@ -291,7 +291,7 @@ cut_again Http11 n = refl
 cut_again Http2 n = refl
 cut_again Http3 n = refl
 
-status_line_again : (v : HttpVersion) (n : ℕ) → IsStatusCode n → status_line_at (status_text v n) ≡ Some (v, n)
+pub status_line_again : (v : HttpVersion) (n : ℕ) → IsStatusCode n → status_line_at (status_text v n) ≡ Some (v, n)
 unfolding status_line_at
 status_line_again v n is = rw (cut_again v n, version_again v, status_at-some (code_digits n) n refl is) refl
 
@@ -302,18 +302,18 @@ version_no_return Http11 = (refl, (refl, (refl, (refl, (refl, (refl, (refl, (ref
 version_no_return Http2 = (refl, (refl, (refl, (refl, (refl, (refl, (refl, (refl, tt))))))))
 version_no_return Http3 = (refl, (refl, (refl, (refl, (refl, (refl, (refl, (refl, tt))))))))
 
-status_no_return : (v : HttpVersion) (n : ℕ) → HasNoReturn (status_text v n)
+pub status_no_return : (v : HttpVersion) (n : ℕ) → HasNoReturn (status_text v n)
 unfolding status_text
 status_no_return v n =
     no_return-append (version_text v) (0x20 ∷ code_digits n) (version_no_return v) (refl, (Prim.grind arith, (Prim.grind arith, (Prim.grind arith, tt))))
 
 -- ---- the whole text
 
-text_parts : (v : HttpVersion) (n : ℕ) (lines : List Field) → header_text v n lines ≡ status_text v n ++ (0x0D ∷ 0x0A ∷ fields_text lines)
+pub text_parts : (v : HttpVersion) (n : ℕ) (lines : List Field) → header_text v n lines ≡ status_text v n ++ (0x0D ∷ 0x0A ∷ fields_text lines)
 unfolding header_text
 text_parts v n lines = append_assoc (status_text v n) line_end (fields_text lines)
 
-joined : (bytes k text rest first fields : List ℕ) → bytes ≡ k ++ (0x0D ∷ 0x0A ∷ rest) → text ≡ k → text ≡ first → rest ≡ fields
+pub joined : (bytes k text rest first fields : List ℕ) → bytes ≡ k ++ (0x0D ∷ 0x0A ∷ rest) → text ≡ k → text ≡ first → rest ≡ fields
     → bytes ≡ first ++ (0x0D ∷ 0x0A ∷ fields)
 joined bytes k text rest first fields whole line is later = rw (whole, ← line, is, later) refl
 

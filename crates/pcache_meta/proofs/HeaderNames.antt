@@ -18,7 +18,7 @@ pub not_true : (b : Bool) → (b ≡ true → ⊥) → b ≡ false
 not_true true never = absurd (never refl)
 not_true false never = refl
 
-and_true : (a b : Bool) → a ≡ true → b ≡ true → (a && b) ≡ true
+pub and_true : (a b : Bool) → a ≡ true → b ≡ true → (a && b) ≡ true
 and_true a b p q = rw (p, q) refl
 
 test_of_all : (test : ℕ → Bool) (bs : List ℕ) → AllPass test bs → list_all test bs ≡ true
@@ -88,7 +88,7 @@ status_at-some bytes n digits is =
     let same : k ≡ n = omega (arith, is.0, is.1) in
     rw (← digits) (when_digits-some k n (code_digits n) same is refl)
 
-and_parts : (a b : Bool) → (a && b) ≡ true → (a ≡ true) × (b ≡ true)
+pub and_parts : (a b : Bool) → (a && b) ≡ true → (a ≡ true) × (b ≡ true)
 and_parts true b e = (refl, e)
 and_parts false b e = absurd cc
 

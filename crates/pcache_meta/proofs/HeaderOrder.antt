@@ -67,11 +67,11 @@ no_end bytes n v r1 r2 r3 r a b c never is = never r (append_cancel_left v r3 (0
 
 -- ---- as a loop goes through the fields; items are those that are still to be seen
 
-lines_cons : (f : Field) (fs : List Field) → fields_text (f ∷ fs) ≡ field_line f ++ fields_text fs
+pub lines_cons : (f : Field) (fs : List Field) → fields_text (f ∷ fs) ≡ field_line f ++ fields_text fs
 unfolding fields_text
 lines_cons f fs = ap (λ (x : List ℕ). x ++ line_end) (flat_map-cons field_line f fs) ∙ append_assoc (field_line f) (flat_map field_line fs) line_end
 
-same_answer : {P : Type 0} (r s : Bool) → (r ≡ true → P) × (P → r ≡ true) → (s ≡ true → P) × (P → s ≡ true) → r ≡ s
+pub same_answer : {P : Type 0} (r s : Bool) → (r ≡ true → P) × (P → r ≡ true) → (s ≡ true → P) × (P → s ≡ true) → r ≡ s
 same_answer true true a b = refl
 same_answer false false a b = refl
 same_answer true false a b = sym (b.1 (a.0 refl))

@@ -1,30 +1,24 @@
 -- What a reader of a head returned, as its callers see it.
-use Rattle.std.proofs.Common.{◌≡◌, ℕ, List, None, sym, subst, ◌∙◌}
-use Rattle.std.specs.Prelude.{Result, Ok, Err, IfOk, IsErrOf}
+use Rattle.std.proofs.Common.{◌≡◌, ℕ, List, Some, None, refl, sym, ◌∙◌}
 use Rattle.std.proofs.lemmas.Option.{same_Some}
-use Rattle.pcache_meta.specs.Header.{Header, shown}
+use Rattle.pcache_meta.specs.Header.{Header}
 use Rattle.pcache_meta.specs.HeaderText.{SpellsHeader}
+use Rattle.pcache_meta.specs.HeaderForm.{IsHeaderText}
 use Rattle.pcache_meta.specs.HeaderReading.{header_at}
-use Rattle.pcache_meta.specs.Reading.{GivesOrWants}
+use Rattle.pcache_meta.specs.Reading.{FailsOrWants}
 use Rattle.pcache_base.specs.declared.error.ErrorType.{ErrorType}
-use Rattle.pcache_base.specs.declared.error.ErrorType.TheVariants.{InternalError}
-use Rattle.pcache_meta.specs.declared.header.ResponseHeader.{ResponseHeader}
+use Rattle.pcache_base.specs.declared.error.ErrorType.TheVariants.{InternalError, OutOfMemory}
 use Rattle.pcache_meta.proofs.HeaderExact.{header_takes, header_again}
 
-pub header_found : (bytes : List ℕ) (r : Result ResponseHeader ErrorType) → GivesOrWants (λ h. shown h) r (header_at bytes)
-    → IfOk r (λ h. SpellsHeader bytes (shown h))
-header_found bytes (Ok h) gives = header_takes bytes (shown h) gives
-header_found bytes (Err e) gives = tt
+-- a head that was read is spelled, and is the one that is
+pub read_found : (bytes : List ℕ) (h : Header) → header_at bytes ≡ Some h → SpellsHeader bytes h
+read_found bytes h read = header_takes bytes h read
 
-pub header_same : (bytes : List ℕ) (r : Result ResponseHeader ErrorType) (h : Header) → GivesOrWants (λ h. shown h) r (header_at bytes) → SpellsHeader bytes h
-    → IfOk r (λ found. shown found ≡ h)
-header_same bytes (Ok found) h gives spelled = same_Some (shown found) h (sym gives ∙ header_again bytes h spelled)
-header_same bytes (Err e) h gives spelled = tt
+pub read_same : (bytes : List ℕ) (found h : Header) → header_at bytes ≡ Some found → SpellsHeader bytes h → found ≡ h
+read_same bytes found h read spelled = same_Some found h (sym read ∙ header_again bytes h spelled)
 
-pub header_refused : (bytes : List ℕ) (r : Result ResponseHeader ErrorType) (h : Header) → GivesOrWants (λ h. shown h) r (header_at bytes) → IsErrOf r InternalError
-    → SpellsHeader bytes h → ⊥
-header_refused bytes r h gives refused spelled =
-    let P : Result ResponseHeader ErrorType → Type 0 = λ x. GivesOrWants (λ y. shown y) x (header_at bytes) in
-    let none : header_at bytes ≡ None = subst P refused gives in
-    let some = header_again bytes h spelled in
-    cc (none, some)
+-- a refusal that was not for want of memory, or of bytes that are no head's text
+pub refused_for_form : (e : ErrorType) (bytes : List ℕ) (h : Header) → FailsOrWants e (header_at bytes) → (e ≡ OutOfMemory → IsHeaderText bytes → ⊥) → SpellsHeader bytes h → ⊥
+refused_for_form InternalError bytes h none never spelled = let some = header_again bytes h spelled in absurd (cc (none, some))
+refused_for_form OutOfMemory bytes h none never spelled = never refl (h, spelled)
+refused_for_form _ bytes h none never spelled = none

@@ -1,6 +1,8 @@
 pub mod Exact
 pub mod HashLoop
 pub mod HeaderExact
+pub mod HeaderForm
+pub mod HeaderGroups
 pub mod HeaderLines
 pub mod HeaderMaps
 pub mod HeaderNames

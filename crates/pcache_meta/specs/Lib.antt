@@ -1,4 +1,5 @@
 pub mod Header
+pub mod HeaderForm
 pub mod HeaderReading
 pub mod HeaderText
 pub mod Internal

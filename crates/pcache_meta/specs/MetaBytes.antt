@@ -8,3 +8,7 @@ use Rattle.pcache_meta.specs.HeaderText.{SpellsHeader}
 -- the first says all but the head, the second is the head's text
 abbrev pub SpellsMeta : List ℕ → List ℕ → Meta → Type 0
 SpellsMeta internal header m = SpellsInternal internal (internal_of m) × SpellsHeader header m.header
+
+-- the two are the bytes of a meta
+abbrev pub AreMetaBytes : List ℕ → List ℕ → Type 0
+AreMetaBytes internal header = (m : Meta) × SpellsMeta internal header m

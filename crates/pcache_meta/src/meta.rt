@@ -96,6 +96,13 @@ impl CacheMeta {
         self.created
     }
 
+    /// Sets when the response was first stored.
+    pub fn set_created(&mut self, created: Moment)
+        ensures { self.new ≡ record self.old { created = created } }
+    {
+        self.created = created;
+    }
+
     /// When the response was last revalidated.
     pub fn updated(&self) -> Moment
         ensures { result ≡ self.now.updated }

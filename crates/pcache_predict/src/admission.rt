@@ -49,3 +49,14 @@ pub trait AdmissionPolicy {
     fn observe(&mut self, key: &CacheKey) -> Decision
         ensures { decides self.old key.now result self.new };
 }
+
+/// A decision is the policy that always decides so.
+impl AdmissionPolicy for Decision {
+    ghost use Rattle.std.specs.Prelude.{◌≡◌};
+
+    ghost decides = { λ policy key decision after. (decision ≡ policy) × (after ≡ policy) };
+
+    fn observe(&mut self, _key: &CacheKey) -> Decision {
+        *self
+    }
+}

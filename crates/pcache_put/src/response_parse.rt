@@ -43,8 +43,8 @@ pub(crate) enum Progress {
     Failed(ErrorType),
 }
 
-// The length that a field's value spells.
-fn spelled_length(value: &[u8]) -> Option<usize>
+/// The length that the value of a Content-Length spells: digits, perhaps behind a plus, within a `usize`.
+pub fn spelled_length(value: &[u8]) -> Option<usize>
     ensures { SpellsLength value.now result }
 {
     let Ok(text) = std::str::from_utf8(value) else {

@@ -1,6 +1,7 @@
 -- What a request took (own, after pingora-cache).
 use Rattle.std.specs.Prelude.{ℕ, ◌+◌, Option, Some, None, min}
 use Rattle.std.specs.Duration.{max_nanos}
+use Rattle.pcache_predict.specs.declared.admission.Decision.{Decision}
 use Rattle.pcache_request.specs.declared.digest.LockAbandon.{LockAbandon}
 
 pub record Digest : Type 0 where
@@ -10,9 +11,11 @@ pub record Digest : Type 0 where
   pub waits : Option ℕ
   -- the fill that its last wait was told of, where it was told
   pub abandoned : Option LockAbandon
+  -- what its admission policy decided, where it was asked
+  pub admission : Option Decision
 
 abbrev pub empty_digest : Digest
-empty_digest = record { look_ups = None; waits = None; abandoned = None }
+empty_digest = record { look_ups = None; waits = None; abandoned = None; admission = None }
 
 -- a time added to what was recorded: the longest duration stands for itself and all above it
 abbrev pub time_added : Option ℕ → ℕ → Option ℕ

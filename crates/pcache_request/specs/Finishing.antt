@@ -1,4 +1,4 @@
--- What the end of a request's write leads to: the body is stored and admitted, and what is evicted for it is purged; or
+-- What the end of a write leads to: the body is stored and admitted, and what is evicted for it is purged; or
 -- it is refused (own).
 use Rattle.std.specs.Prelude.{ℕ, ◌+◌, ◌≡◌, ◌⊎◌, Bool, true, false, Option, None, List, [], ◌∷◌, is_some, cond}
 use Rattle.std.specs.FinMap.{insert, get}
@@ -9,14 +9,14 @@ use Rattle.pcache_base.specs.declared.error.ErrorType.TheVariants.{OutOfMemory}
 use Rattle.pcache_evict.specs.declared.eviction.entry_key.CacheEntryKey.{CacheEntryKey}
 use Rattle.pcache_evict.specs.Entry.{key_of, id_of}
 use Rattle.pcache_evict.specs.Tracked.{Tracked, Limits, IsFair, without, raised}
-use Rattle.pcache_lock.specs.Locks.{Locks}
+use Rattle.pcache_lock.specs.declared.lock.status.LockStatus.{LockStatus}
 use Rattle.pcache_lock.specs.declared.lock.status.LockStatus.TheVariants.{Done, TransientError}
 use Rattle.pcache_store.specs.Store.{Store, stands, finished, dropped, purged}
 use Rattle.pcache_store.specs.Refusals.{MayRefuseFinish}
 use Rattle.pcache_store.specs.declared.storage.MissFinishType.{MissFinishType}
 use Rattle.pcache_store.specs.declared.storage.MissFinishType.TheVariants.{Created, Appended}
 use Rattle.pcache_store.specs.Purge.{unless_numbered, purged_at}
-use Rattle.pcache_request.specs.Requests.{Request, settled, entry_of}
+use Rattle.pcache_request.specs.Requests.{Request, entry_of}
 
 -- the size that a report of the end tells
 abbrev pub size_told : MissFinishType → ℕ
@@ -46,26 +46,27 @@ abbrev pub Admits : Bool → Limits → MissFinishType → CacheEntryKey → Tra
 Admits true limits kind e m out m' = IsFair limits (with_entry kind e m) out × (m' ≡ without out (with_entry kind e m))
 Admits false limits kind e m out m' = (out ≡ []) × (m' ≡ m)
 
--- the write w of the key k is stored and admitted, and what is evicted is purged
-pub record Stores (always_purges : Bool) (r : Request) (k : Key) (w : ℕ) (kind : MissFinishType) (limits : Limits) (size failed : ℕ) (out : List CacheEntryKey) (s s' : Store) (m m' : Tracked) (t t' : Locks) : Type 0 where
+-- the write w of the key k, whose entry has the number id, is stored and admitted where a manager is used, and what is
+-- evicted is purged; `Lets` says what becomes of a lock that is held, by the status that a permit is released with
+pub record Stores (always_purges used : Bool) (id : Option ℕ) (Lets : LockStatus → Type 0) (k : Key) (w : ℕ) (kind : MissFinishType) (limits : Limits) (size failed : ℕ) (out : List CacheEntryKey) (s s' : Store) (m m' : Tracked) : Type 0 where
   pub untouched : stands s w ≡ true
   pub size_is : size ≡ size_told kind
-  pub admitted : Admits r.uses.eviction limits kind (entry_of k r.entry) m out m'
+  pub admitted : Admits used limits kind (entry_of k id) m out m'
   pub purges : PurgesAll (finished s w) out failed s'
   pub sure : always_purges ≡ true → failed ≡ 0
-  pub released : t' ≡ settled Done r.held t
+  pub released : Lets Done
 
 -- the write w is refused and dropped
-pub record Drops (r : Request) (w : ℕ) (e : ErrorType) (s s' : Store) (m m' : Tracked) (t t' : Locks) : Type 0 where
+pub record Drops (Lets : LockStatus → Type 0) (w : ℕ) (e : ErrorType) (s s' : Store) (m m' : Tracked) : Type 0 where
   pub why : (e ≡ OutOfMemory) ⊎ MayRefuseFinish s w e
   pub dropped : s' ≡ dropped s w
   pub tracked : m' ≡ m
-  pub released : t' ≡ settled TransientError r.held t
+  pub released : Lets TransientError
 
 -- the write w of the key k is stored, but its admission is refused, and its key is purged again
-pub record Withdraws (always_purges : Bool) (r : Request) (k : Key) (w : ℕ) (e : ErrorType) (s s' : Store) (m m' : Tracked) (t t' : Locks) : Type 0 where
+pub record Withdraws (always_purges : Bool) (Lets : LockStatus → Type 0) (k : Key) (w : ℕ) (e : ErrorType) (s s' : Store) (m m' : Tracked) : Type 0 where
   pub why : e ≡ OutOfMemory
   pub untouched : stands s w ≡ true
   pub purged : (s' ≡ purged (finished s w) (slot k)) ⊎ ((always_purges ≡ false) × (s' ≡ finished s w))
   pub tracked : m' ≡ m
-  pub released : t' ≡ settled Done r.held t
+  pub released : Lets Done

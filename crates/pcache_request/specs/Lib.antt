@@ -1,11 +1,16 @@
+pub mod Admissions
 pub mod Digest
 pub mod Finishing
 pub mod LockUse
 pub mod LockWaits
 pub mod Phases
+pub mod Predictions
 pub mod Releasing
+pub mod Renewals
 pub mod Reports
 pub mod Requests
 pub mod Shown
+pub mod Sizes
 pub mod Stale
+pub mod Variants
 pub mod WriteEnds

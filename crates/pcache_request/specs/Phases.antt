@@ -1,5 +1,6 @@
 -- The phases in which each call may be made, and their words (the phase table; words are those of pingora-cache).
 use Rattle.std.specs.Prelude.{ℕ, List, Bool, true, false, codes}
+use Rattle.pcache_base.specs.declared.reason.NoCacheReason.TheVariants as reason
 use Rattle.pcache_request.specs.declared.phase.CachePhase.{CachePhase}
 use Rattle.pcache_request.specs.declared.phase.CachePhase.TheVariants as phase
 use Rattle.pcache_request.specs.declared.phase.HitStatus.{HitStatus}
@@ -31,6 +32,16 @@ is_on _ = true
 abbrev pub IsOn : CachePhase → Type 0
 IsOn (phase.Disabled r) = ⊥
 IsOn _ = Unit {0}
+
+-- caching was turned on once
+abbrev pub WasEnabled : CachePhase → Type 0
+WasEnabled (phase.Disabled reason.NeverEnabled) = ⊥
+WasEnabled _ = Unit {0}
+
+-- the key is known, and nothing was looked up
+abbrev pub is_key_phase : CachePhase → Bool
+is_key_phase phase.CacheKey = true
+is_key_phase _ = false
 
 -- a key may be set
 abbrev pub MayTakeKey : CachePhase → Type 0
@@ -95,6 +106,11 @@ IsStale _ = ⊥
 abbrev pub is_stale_phase : CachePhase → Bool
 is_stale_phase phase.Stale = true
 is_stale_phase _ = false
+
+-- a new body is fetched in place of a stale one
+abbrev pub is_expired_phase : CachePhase → Bool
+is_expired_phase phase.Expired = true
+is_expired_phase _ = false
 
 -- the key may be purged, and what stands under it be expired
 abbrev pub MayPurge : CachePhase → Type 0

@@ -1,11 +1,12 @@
 -- What a request is, and the rows of its phase table: what each call makes of the request, the store, the lock table
 -- and the tracked entries (own, after the phases of pingora-cache).
-use Rattle.std.specs.Prelude.{ℕ, ◌≡◌, ◌&&◌, Bool, true, false, not, Option, Some, None, cond, IsSome, is_some, option_map}
+use Rattle.std.specs.Prelude.{ℕ, ◌≡◌, ◌&&◌, List, Bool, true, false, not, Option, Some, None, cond, IsSome, is_some, option_map}
 use Rattle.std.specs.FinMap.{remove}
 use Rattle.pcache_base.specs.Key.{Key, slot}
 use Rattle.pcache_base.specs.CompactKey.{compact_of}
 use Rattle.pcache_base.specs.declared.key.CompactCacheKey.{CompactCacheKey}
 use Rattle.pcache_meta.specs.Meta.{Meta, provenance_of}
+use Rattle.pcache_base.specs.declared.reason.NoCacheReason.{NoCacheReason}
 use Rattle.pcache_base.specs.declared.reason.NoCacheReason.TheVariants as reason
 use Rattle.pcache_evict.specs.declared.eviction.entry_key.CacheEntryKey.{CacheEntryKey}
 use Rattle.pcache_evict.specs.Entry.{entry_with}
@@ -14,6 +15,7 @@ use Rattle.pcache_lock.specs.Locks.{Locks, given, holder, after_request, let_go,
 use Rattle.pcache_lock.specs.declared.lock.permit.Locked.{Locked}
 use Rattle.pcache_lock.specs.declared.lock.permit.Locked.TheVariants.{Write, Read}
 use Rattle.pcache_lock.specs.declared.lock.status.LockStatus.{LockStatus}
+use Rattle.pcache_put.specs.Tracked.{Tracked as Counted}
 use Rattle.pcache_store.specs.Store.{Store, Reader, find, find_write, followed, left, begun, dropped, counts_access, reader_weight}
 use Rattle.pcache_store.specs.declared.storage.PurgeOutcome.{PurgeOutcome}
 use Rattle.pcache_store.specs.declared.storage.PurgeOutcome.TheVariants.{NotFound, Purged, Expired}
@@ -41,6 +43,16 @@ pub record Request : Type 0 where
   pub max_retries : Option ℕ
   -- the moment of the first poll of the read lock that it polled last
   pub waits_since : Option ℕ
+  -- what was created before this moment is no variant of its key
+  pub valid_after : Option ℕ
+  -- the variance of the stale meta that its meta stands in place of
+  pub stale_variance : Option (List ℕ)
+  -- the body's bytes that were counted, where their number is limited
+  pub size : Option Counted
+  -- why its response was predicted not to be cacheable, when it passed the cache by
+  pub predicted : Option NoCacheReason
+  -- an admission policy is in use
+  pub has_policy : Bool
   pub digest : Digest
 
 -- which parts a request uses that was never enabled
@@ -49,11 +61,11 @@ nothing_used = record { eviction = false; predictor = false; lock = false }
 
 -- a request before caching is turned on
 abbrev pub new_request : Request
-new_request = record { phase = phase.Disabled reason.NeverEnabled; uses = nothing_used; key = None; meta = None; held = None; reader = None; write = None; entry = None; wait_timeout = None; max_retries = None; waits_since = None; digest = empty_digest }
+new_request = record { phase = phase.Disabled reason.NeverEnabled; uses = nothing_used; key = None; meta = None; held = None; reader = None; write = None; entry = None; wait_timeout = None; max_retries = None; waits_since = None; valid_after = None; stale_variance = None; size = None; predicted = None; has_policy = false; digest = empty_digest }
 
 -- a request that was just enabled
 abbrev pub fresh_request : InUse → Request
-fresh_request uses = record { phase = phase.Uninit; uses = uses; key = None; meta = None; held = None; reader = None; write = None; entry = None; wait_timeout = None; max_retries = None; waits_since = None; digest = empty_digest }
+fresh_request uses = record { phase = phase.Uninit; uses = uses; key = None; meta = None; held = None; reader = None; write = None; entry = None; wait_timeout = None; max_retries = None; waits_since = None; valid_after = None; stale_variance = None; size = None; predicted = None; has_policy = false; digest = empty_digest }
 
 -- a request that is enabled keeps its digest
 abbrev pub enabled_with : InUse → Request → Request
@@ -69,6 +81,10 @@ HasKey _ k = IsSome k
 abbrev pub IsClear : {H R W : Type 0} → CachePhase → Option H → Option R → Option W → Type 0
 IsClear (phase.Disabled r) h d w = (h ≡ None) × (d ≡ None) × (w ≡ None)
 IsClear _ h d w = Unit {0}
+
+-- a request that holds nothing which has to be given back
+abbrev pub HoldsNothing : Request → Type 0
+HoldsNothing r = (r.held ≡ None) × (r.reader ≡ None) × (r.write ≡ None) × (r.entry ≡ None)
 
 -- a write is held only where a write may be made, beside the meta that it began with
 abbrev pub IsWriting : {M W : Type 0} → CachePhase → Option M → Option W → Type 0
@@ -182,7 +198,7 @@ without_reader r = record r { reader = None }
 
 -- the request goes on as a miss; a reader stays
 abbrev pub missed : Request → Request
-missed r = record r { phase = phase.Miss; meta = None }
+missed r = record r { phase = phase.Miss; meta = None; stale_variance = None }
 
 -- a meta may be set: of a response that is to be stored first, or in place of a stale one
 abbrev pub MayTakeMetaIn : CachePhase → Option Meta → Type 0
@@ -206,8 +222,17 @@ abbrev pub meta_taken : CachePhase → Option Meta → Meta → Meta
 meta_taken phase.Stale old m = with_provenance_of old m
 meta_taken _ old m = m
 
+-- the variance of the meta that was stale
+abbrev pub variance_in : Option Meta → Option (List ℕ)
+variance_in None = None
+variance_in (Some m) = m.variance
+
+abbrev pub variance_left : CachePhase → Option Meta → Option (List ℕ)
+variance_left phase.Stale old = variance_in old
+variance_left _ old = None
+
 abbrev pub with_meta : Meta → Request → Request
-with_meta m r = record r { phase = phase_with_meta r.phase; meta = Some (meta_taken r.phase r.meta m) }
+with_meta m r = record r { phase = phase_with_meta r.phase; meta = Some (meta_taken r.phase r.meta m); stale_variance = variance_left r.phase r.meta }
 
 -- a write may begin
 abbrev pub MayWrite : Request → Type 0

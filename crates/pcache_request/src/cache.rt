@@ -16,31 +16,41 @@ ghost use Rattle.pcache_request.specs.Phases as phases;
 ghost use Rattle.pcache_request.specs.Requests.{settled, let_go_by, table_asked, left_by, entry_of, reader_in, phase_found};
 ghost use Rattle.pcache_request.specs.Reports.{name_of, asked_with};
 
+mod admission;
 mod disable;
+pub mod ending;
 mod finish;
 mod lock_use;
 mod lock_wait;
+mod prediction;
 mod purge;
 mod report;
+mod revalidate;
+mod search;
 mod shown;
+mod size;
 mod stale;
+mod variance;
 
 use crate::digest::HttpCacheDigest;
 use crate::phase::{CachePhase, HitStatus, InUse};
+use crate::trace::CacheTraceCTX;
 use bytes::Bytes;
 pub use finish::{FinishReport, WriteEnd};
 pub use lock_use::{CacheOptionOverrides, LockCtx};
 use pcache_base::error::Result;
-use pcache_base::key::CacheKey;
+use pcache_base::key::{CacheKey, HashBinary};
 use pcache_base::moment::Moment;
 use pcache_base::poll::Poll;
 use pcache_base::reason::NoCacheReason;
 use pcache_evict::eviction::{CacheEntryId, CacheEntryKey, EvictionManager};
 use pcache_lock::lock::{CacheKeyLock, LockStatus, Locked};
 use pcache_meta::meta::CacheMeta;
+use pcache_put::max_file_size::MaxFileSizeTracker;
 use pcache_store::storage::{HandleHit, HandleMiss, Storage};
 pub use report::{
-    Access, AskedLock, LockName, LookUp, ReleasedLock, Removal, WaitReport, WriteBegin, WriteReport,
+    Access, AskedLock, LockName, LookUp, ReleasedLock, Removal, Renewal, WaitReport, WriteBegin,
+    WriteReport,
 };
 use std::alloc::Global;
 use std::marker::Model;
@@ -57,7 +67,13 @@ pub struct HttpCache<S: Storage> {
     writer: Option<S::Miss>,
     lock_ctx: LockCtx,
     waits_since: Option<Moment>,
+    valid_after: Option<Moment>,
+    stale_variance: Option<HashBinary>,
+    size: Option<MaxFileSizeTracker>,
+    predicted: Option<NoCacheReason>,
+    has_policy: bool,
     digest: HttpCacheDigest,
+    traces: CacheTraceCTX,
 }
 
 impl<S: Storage> Model for HttpCache<S> {
@@ -80,6 +96,11 @@ impl<S: Storage> Model for HttpCache<S> {
       wait_timeout = option_map as_nanos a.lock_ctx.wait_timeout;
       max_retries = a.lock_ctx.max_retries;
       waits_since = a.waits_since;
+      valid_after = a.valid_after;
+      stale_variance = a.stale_variance;
+      size = a.size;
+      predicted = a.predicted;
+      has_policy = a.has_policy;
       digest = a.digest;
     } };
 
@@ -261,14 +282,14 @@ impl<S: Storage> HttpCache<S> {
     ghost use Rattle.std.specs.Prelude.{◌≡◌, ◌≢◌, ◌↔◌, ◌⊎◌, ℕ, true, false, cond, IfOk, IfErr, IfSome, OnOk, OnErr, IsOk, IsTrue, IsSome, Option, Some, None, option_map, is_some, ◌&&◌};
     ghost use Rattle.std.specs.Borrow.{Lends, LendsIf, sem};
     ghost use Rattle.pcache_base.specs.Key.{Key, slot};
-    ghost use Rattle.pcache_base.specs.declared.error.ErrorType.TheVariants.{OutOfMemory, NumbersExhausted};
+    ghost use Rattle.pcache_base.specs.declared.error.ErrorType.TheVariants.{InternalError, OutOfMemory, NumbersExhausted};
     ghost use Rattle.pcache_lock.specs.Locks.{MayRefuseLock};
     ghost use Rattle.pcache_lock.specs.declared.lock.status.LockStatus.TheVariants.{Done};
-    ghost use Rattle.pcache_store.specs.Store.{followed, left, read_of, reader_after};
+    ghost use Rattle.pcache_store.specs.Store.{followed, left, read_of, reader_after, sought};
     ghost use Rattle.std.specs.Option.{option_copied, option_and_then};
     ghost use Rattle.pcache_store.specs.Refusals.{MayRefuseWrite};
     ghost use Rattle.pcache_request.specs.Phases.{IsDisabled, MayTakeKey, MayLookUp, MayMiss, IsFilling, IsReading, MayFinishHit, is_filling};
-    ghost use Rattle.pcache_request.specs.Requests.{Request, HasKey, new_request, enabled_with, with_key, found_for, looked, asks_for_miss, table_looked, found_row, asks_for_hit, store_found, table_found, tracked_found, missed, without_reader, MayTakeMeta, with_meta, MayWrite, writing, store_writing, begun_for, settled, left_by, dropped_by, let_go_by};
+    ghost use Rattle.pcache_request.specs.Requests.{HasKey, HoldsNothing, Request, new_request, enabled_with, with_key, found_for, looked, asks_for_miss, table_looked, found_row, asks_for_hit, store_found, table_found, tracked_found, missed, without_reader, MayTakeMeta, with_meta, MayWrite, writing, store_writing, begun_for, settled, left_by, dropped_by, let_go_by};
     ghost use Rattle.pcache_request.specs.Reports.{name_of, asked_in_look_up, asked_by_found, access_by_found};
     ghost use Rattle.pcache_request.specs.contracts.cache.HttpCache.{the_row};
 
@@ -291,14 +312,22 @@ impl<S: Storage> HttpCache<S> {
             writer: None,
             lock_ctx: LockCtx::new(),
             waits_since: None,
+            valid_after: None,
+            stale_variance: None,
+            size: None,
+            predicted: None,
+            has_policy: false,
             digest: HttpCacheDigest::new(),
+            traces: CacheTraceCTX::new(),
         }
     }
 
-    /// Turns caching on, with these parts in use and all else fresh but the digest.
+    /// Turns caching on, with these parts in use and all else fresh but the digest. A disabled
+    /// request holds nothing, so that nothing is lost.
     pub fn enable(&mut self, uses: InUse)
         requires { IsDisabled self.old.phase }
-        ensures { self.new ≡ enabled_with uses self.old }
+        ensures request { self.new ≡ enabled_with uses self.old }
+        ensures held { HoldsNothing self.old }
     {
         self.phase = CachePhase::Uninit;
         self.uses = uses;
@@ -306,6 +335,11 @@ impl<S: Storage> HttpCache<S> {
         self.meta = None;
         self.lock_ctx = LockCtx::new();
         self.waits_since = None;
+        self.valid_after = None;
+        self.stale_variance = None;
+        self.size = None;
+        self.predicted = None;
+        self.has_policy = false;
     }
 
     /// Where the request stands.
@@ -361,29 +395,7 @@ impl<S: Storage> HttpCache<S> {
     }
 
     /// Looks for the key in the store, and asks for its lock where nothing is there and a lock is in
-    /// use. Refused, it changes nothing.
-    pub fn cache_lookup<L: CacheKeyLock>(
-        &mut self,
-        storage: &mut S,
-        lock: &mut L,
-        now: Moment,
-    ) -> Result<Option<(CacheMeta, S::Hit)>>
-        requires { MayLookUp self.old.phase }
-        ensures found { IfOk result (λ r. option_map (λ p. (p.0, S.Hit.reader p.1)) r ≡ found_for (S.state storage.old) self.old.key) }
-        ensures request { OnOk result (self.new ≡ looked (S.state storage.old) (L.table lock.old) self.old) }
-        ensures store { OnOk result (S.state storage.new ≡ followed (S.state storage.old) (found_for (S.state storage.old) self.old.key)) }
-        ensures table { OnOk result (L.table lock.new ≡ table_looked (S.state storage.old) now self.old (L.table lock.old)) }
-        ensures same_request { OnErr result (self.new ≡ self.old) }
-        ensures same_store { OnErr result (S.state storage.new ≡ S.state storage.old) }
-        ensures same_table { OnErr result (L.table lock.new ≡ L.table lock.old) }
-        ensures kind { IfErr result (λ e. MayRefuseLock (L.table lock.old) e) }
-        ensures numbers { IfErr result (λ e. e ≡ NumbersExhausted → IsTrue (asks_for_miss (S.state storage.old) self.old)) }
-    {
-        let LookUp { found, asked: _ } = self.look_up(storage, lock, now)?;
-        Ok(found)
-    }
-
-    /// What `cache_lookup` does, with the lock that was asked for.
+    /// use. Nothing is hidden, and no policy is asked. Tells of the lock. Refused, it changes nothing.
     pub fn look_up<L: CacheKeyLock>(
         &mut self,
         storage: &mut S,
@@ -493,6 +505,8 @@ impl<S: Storage> HttpCache<S> {
             self.meta = None;
             replace_reader(&mut self.reader, None, storage);
         } else {
+            self.traces.start_hit_span(phase, status);
+            self.traces.log_meta_in_hit_span(&meta);
             self.meta = Some(meta);
             replace_reader(&mut self.reader, Some(hit), storage);
         }
@@ -540,6 +554,8 @@ impl<S: Storage> HttpCache<S> {
     {
         self.phase = CachePhase::Miss;
         self.meta = None;
+        self.stale_variance = None;
+        self.traces.start_miss_span();
     }
 
     /// Whether there is a reader.
@@ -564,6 +580,23 @@ impl<S: Storage> HttpCache<S> {
         reader.read_body(self.alloc, storage)
     }
 
+    /// Has the reader give the body from `start` on, and before `end` where one is given, anew. It is
+    /// refused as an internal error where the reader follows a write, the body has no byte at `start`
+    /// or `end` lies before it, and changes nothing then.
+    pub fn seek(&mut self, start: usize, end: Option<usize>) -> Result<()>
+        requires { IsSome self.old.reader }
+        ensures ok { OnOk result (self.new ≡ record self.old { reader = option_and_then (λ r. sought r start end) self.old.reader }) }
+        ensures there { OnOk result (IsSome self.new.reader) }
+        ensures refused { OnErr result (option_and_then (λ r. sought r start end) self.old.reader ≡ None) }
+        ensures same { OnErr result (self.new ≡ self.old) }
+        ensures kind { IfErr result (λ e. e ≡ InternalError) }
+    {
+        let Some(reader) = &mut self.reader else {
+            unreachable!()
+        };
+        reader.seek(start, end)
+    }
+
     /// The reader of what was found.
     pub fn hit_handler(&mut self) -> &mut S::Hit
         requires phase { IsReading self.old.phase }
@@ -585,6 +618,7 @@ impl<S: Storage> HttpCache<S> {
         let Some(reader) = self.reader.take() else {
             return Ok(());
         };
+        self.traces.finish_hit_span();
         reader.finish(storage)
     }
 
@@ -618,8 +652,10 @@ impl<S: Storage> HttpCache<S> {
         requires { MayTakeMeta self.old }
         ensures { self.new ≡ with_meta meta self.old }
     {
+        self.traces.log_meta_in_miss_span(&meta);
         if !self.phase.is_stale() {
             self.meta = Some(meta);
+            self.stale_variance = None;
             return;
         }
         let Some(stale) = &self.meta else {
@@ -627,6 +663,7 @@ impl<S: Storage> HttpCache<S> {
         };
         let mut meta = meta;
         meta.set_provenance(stale.provenance());
+        self.stale_variance = stale.variance();
         self.meta = Some(meta);
         self.phase = CachePhase::Expired;
     }
@@ -739,7 +776,13 @@ impl<S: Storage> HttpCache<S> {
             writer,
             lock_ctx: _,
             waits_since: _,
+            valid_after: _,
+            stale_variance: _,
+            size: _,
+            predicted: _,
+            has_policy: _,
             digest: _,
+            traces: _,
         } = self;
         if let Some(writer) = writer {
             writer.drop_write(storage);

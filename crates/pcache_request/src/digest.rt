@@ -4,6 +4,7 @@ ghost use Rattle.std.specs.Duration.{as_nanos};
 ghost use Rattle.pcache_request.specs.Digest.{empty_digest, time_added};
 
 use pcache_base::reason::NoCacheReason;
+use pcache_predict::admission::Decision;
 use std::marker::Model;
 use std::time::Duration;
 
@@ -27,6 +28,8 @@ pub struct HttpCacheDigest {
     pub lookup_duration: Option<Duration>,
     /// The fill that the last wait that was told of one was told of.
     pub lock_abandon: Option<LockAbandon>,
+    /// What the admission policy decided of the request, where it was asked.
+    pub admission: Option<Decision>,
 }
 
 impl Model for HttpCacheDigest {
@@ -36,7 +39,7 @@ impl Model for HttpCacheDigest {
 
     ghost Value = { Digest };
 
-    ghost view = { λ d. record { look_ups = option_map as_nanos d.lookup_duration; waits = option_map as_nanos d.lock_duration; abandoned = d.lock_abandon } };
+    ghost view = { λ d. record { look_ups = option_map as_nanos d.lookup_duration; waits = option_map as_nanos d.lock_duration; abandoned = d.lock_abandon; admission = d.admission } };
 }
 
 impl HttpCacheDigest {
@@ -47,6 +50,7 @@ impl HttpCacheDigest {
             lock_duration: None,
             lookup_duration: None,
             lock_abandon: None,
+            admission: None,
         }
     }
 
@@ -68,6 +72,12 @@ impl HttpCacheDigest {
         ensures { self.new ≡ record self.old { abandoned = Some abandon } }
     {
         self.lock_abandon = Some(abandon);
+    }
+
+    pub(crate) fn note_decision(&mut self, decision: Decision)
+        ensures { self.new ≡ record self.old { admission = Some decision } }
+    {
+        self.admission = Some(decision);
     }
 }
 

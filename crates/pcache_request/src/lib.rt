@@ -8,7 +8,8 @@
 pub mod cache;
 pub mod digest;
 pub mod phase;
+mod trace;
 
 pub use cache::{CacheOptionOverrides, FinishReport, HttpCache, LockCtx};
 pub use digest::{HttpCacheDigest, LockAbandon};
-pub use phase::{CachePhase, HitStatus, InUse};
+pub use phase::{CachePhase, ForcedFreshness, HitStatus, InUse};

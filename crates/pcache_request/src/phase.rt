@@ -2,6 +2,7 @@
 ghost use Rattle.std.specs.Prelude.{◌≡◌, ◌↔◌, IsTrue};
 ghost use Rattle.pcache_request.specs.Phases as phases;
 
+use pcache_base::moment::Moment;
 use pcache_base::reason::NoCacheReason;
 
 /// Where a request stands.
@@ -64,6 +65,13 @@ impl CachePhase {
         ensures test { result ≡ phases.is_on self }
     {
         !matches!(self, CachePhase::Disabled(_))
+    }
+
+    /// Whether caching was turned on once.
+    pub fn was_enabled(self) -> bool
+        ensures { IsTrue result ↔ phases.WasEnabled self }
+    {
+        !matches!(self, CachePhase::Disabled(NoCacheReason::NeverEnabled))
     }
 
     /// Whether the cache may be passed by.
@@ -156,6 +164,19 @@ impl CachePhase {
     {
         !matches!(self, CachePhase::Disabled(_) | CachePhase::Uninit)
     }
+}
+
+/// As what a filter has a hit be taken, whatever its meta says.
+#[derive(Clone, Copy, Debug, PartialEq, Eq)]
+pub enum ForcedFreshness {
+    /// As expired.
+    ForceExpired,
+    /// As expired at this moment, or at the one that the meta says, and it may be served stale.
+    ForceExpiredServeStale { expired_at: Option<Moment> },
+    /// As a miss.
+    ForceMiss,
+    /// As fresh.
+    ForceFresh,
 }
 
 /// What a hit is worth.

@@ -10,6 +10,7 @@ pub mod lru_shards;
 pub mod shard;
 pub mod shard_lock;
 pub mod table;
+pub mod write_guard;
 
 pub use concurrent::{ConcurrentHashTable, ConcurrentLruCache};
 pub use lru_lock::LruLock;
@@ -20,6 +21,7 @@ pub use shard_lock::ShardLock;
 use std::alloc::{AllocFailed, Global};
 use std::marker::{Model, PhantomData};
 pub use table::Table;
+pub use write_guard::WriteGuard;
 
 /// A table in `N` shards. A contract sees it as one map.
 #[derive(Drop)]

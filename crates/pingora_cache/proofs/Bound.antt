@@ -8,7 +8,7 @@ use Rattle.std.specs.FinMap as map
 use Rattle.std.proofs.lemmas.Bool.{eqb-true, eq-eqb, both_ways, or_parts}
 use Rattle.std.proofs.lemmas.List.Sums.{sum_by-cons, sum_by-le-sum_by}
 use Rattle.std.proofs.lemmas.Map.Keys.{IsDistinct-cons}
-use Rattle.pcache_meta.specs.Meta.{Meta}
+use Rattle.pcache_meta.specs.Meta.{Meta, expired_at}
 use Rattle.pcache_base.specs.Totals.{total, share}
 use Rattle.pcache_base.proofs.Totals.{sum-le-total, len-total}
 use Rattle.pcache_evict.specs.declared.eviction.entry_key.CacheEntryKey.{CacheEntryKey}
@@ -19,10 +19,10 @@ use Rattle.pcache_evict.proofs.EntryOrder.{exact_entries}
 use Rattle.pcache_base.specs.CompactKey.{compact_slot}
 use Rattle.pcache_store.specs.Store.{Stored}
 use Rattle.pingora_cache.specs.declared.world.entry.Event.{Event}
-use Rattle.pingora_cache.specs.declared.world.entry.Event.TheVariants.{Look, Ask, Access, Begin, Wrote, Finish, Dropped, Release, LetGo, Admit, Purge, Untrack, Read}
+use Rattle.pingora_cache.specs.declared.world.entry.Event.TheVariants.{Look, Ask, Access, Begin, Wrote, Finish, Dropped, Release, LetGo, Admit, Purge, Expire, Renew, Untrack, Read}
 use Rattle.pingora_cache.specs.Events.{begun, begin_of, names_slot, is_removed, in_flight, body_of, complete, tracked, with_key, finished_keys, size_of, stored, slots}
 use Rattle.pingora_cache.specs.Sound.{IsTidy, IsExact, IsBounded, standing_entry}
-use Rattle.pingora_cache.proofs.Steps.{complete-wrote, complete-begin, complete-purge, complete-finish, body_with}
+use Rattle.pingora_cache.proofs.Steps.{complete-wrote, complete-begin, complete-purge, complete-expire, complete-renew, complete-finish, body_with, altered_body}
 use Rattle.pingora_cache.proofs.Tidy.{tidy-finish}
 use Rattle.pingora_cache.proofs.Exact.{apart, standing-names}
 use Rattle.pingora_cache.proofs.Sums.{cmp_same}
@@ -59,6 +59,8 @@ keys_distinct (Release n ∷ es) = keys_distinct es
 keys_distinct (LetGo n ∷ es) = keys_distinct es
 keys_distinct (Admit e n out ∷ es) = keys_distinct es
 keys_distinct (Purge k ∷ es) = keys_distinct es
+keys_distinct (Expire k t ∷ es) = keys_distinct es
+keys_distinct (Renew k m ∷ es) = keys_distinct es
 keys_distinct (Untrack e ∷ es) = keys_distinct es
 keys_distinct (Read a ∷ es) = keys_distinct es
 
@@ -171,6 +173,33 @@ pub bound-purge : (limits : Limits) (es : List Event) (k : ℕ) → IsTidy es �
 bound-purge limits es k tidy b =
     bound-less limits es (Purge k ∷ es) (λ f. sum_by-le-sum_by (λ q. share f (complete q (Purge k ∷ es))) (λ q. share f (complete q es)) (finished_keys es) (λ q. less_share f (k == q) (complete q es) (complete q (Purge k ∷ es)) (complete-purge es k tidy q))) b
 
+same-share : (f : Stored → ℕ) (b : Bool) (g : Meta → Meta) (o : Option Stored) → ((x : Stored) → f (altered_body g x) ≡ f x) → share f (if b then option_map (altered_body g) o else o) ≡ share f o
+same-share f true g None same = refl
+same-share f true g (Some x) same = same x
+same-share f false g o same = refl
+
+pub bound-expire : (limits : Limits) (es : List Event) (k t : ℕ) → IsTidy es → IsBounded limits es → IsBounded limits (Expire k t ∷ es)
+bound-expire limits es k t tidy b =
+    record {
+      bytes = let a = less size_of (λ x. refl) in let c = b.bytes in omega arith;
+      count = if_some {P = λ most. slots es ≤ most} {Q = λ most. slots (Expire k t ∷ es) ≤ most} limits.watermark (λ most h. let a = less (λ _. 1) (λ x. refl) in omega arith) b.count;
+    }
+  where
+    less : (f : Stored → ℕ) → ((x : Stored) → f (altered_body (expired_at t) x) ≡ f x) → standing f (Expire k t ∷ es) ≤ standing f es
+    less f same = sum_by-le-sum_by (λ q. share f (complete q (Expire k t ∷ es))) (λ q. share f (complete q es)) (finished_keys es)
+        (λ q. let e = ap (share f) (complete-expire es k t tidy q) ∙ same-share f (k == q) (expired_at t) (complete q es) same in omega arith)
+
+pub bound-renew : (limits : Limits) (es : List Event) (k : ℕ) (m : Meta) → IsTidy es → IsBounded limits es → IsBounded limits (Renew k m ∷ es)
+bound-renew limits es k m tidy b =
+    record {
+      bytes = let a = less size_of (λ x. refl) in let c = b.bytes in omega arith;
+      count = if_some {P = λ most. slots es ≤ most} {Q = λ most. slots (Renew k m ∷ es) ≤ most} limits.watermark (λ most h. let a = less (λ _. 1) (λ x. refl) in omega arith) b.count;
+    }
+  where
+    less : (f : Stored → ℕ) → ((x : Stored) → f (altered_body (λ _. m) x) ≡ f x) → standing f (Renew k m ∷ es) ≤ standing f es
+    less f same = sum_by-le-sum_by (λ q. share f (complete q (Renew k m ∷ es))) (λ q. share f (complete q es)) (finished_keys es)
+        (λ q. let e = ap (share f) (complete-renew es k m tidy q) ∙ same-share f (k == q) (λ _. m) (complete q es) same in omega arith)
+
 -- a finish that stores: but for its key, what stands is within the limits
 pub bound-undone : (limits : Limits) (es : List Event) (w k : ℕ) (m : Meta) → IsTidy es → in_flight w es ≡ true → begin_of w es ≡ Some (k, m) → is_removed w es ≡ false → IsBounded limits es → IsBounded limits (Purge k ∷ Finish w true ∷ es)
 bound-undone limits es w k m tidy fly is whole b =
@@ -180,7 +209,7 @@ bound-undone limits es w k m tidy fly is whole b =
     gone : (q : ℕ) → complete q (Purge k ∷ Finish w true ∷ es) ≡ (if k == q then None else complete q es)
     gone q =
         complete-purge (Finish w true ∷ es) k (tidy-finish es w k m is whole fly tidy) q
-        ∙ ap (λ o. if k == q then None else o) (complete-finish es w k m is whole q)
+        ∙ ap (λ o. if k == q then None else o) (complete-finish es w k m tidy fly is whole q)
         ∙ elim (k == q) as (λ a. (if a then None else (if a then Some (body_with m (body_of w es)) else complete q es)) ≡ (if a then None else complete q es)) [ true ↦ refl | false ↦ refl ]
 
     with_one : (f : Stored → ℕ) (ks : List ℕ) → sum_by (λ q. share f (complete q (Purge k ∷ Finish w true ∷ es))) (with_key (Some k) ks) ≤ sum_by (λ q. share f (complete q es)) ks

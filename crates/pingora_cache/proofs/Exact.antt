@@ -5,9 +5,10 @@ use Rattle.std.specs.declared.cmp.Ordering.{Ordering}
 use Rattle.std.specs.declared.cmp.Ordering.TheVariants.{Less, Equal, Greater}
 use Rattle.std.specs.Cmp.{tied_itself}
 use Rattle.std.specs.FinMap as map
+use Rattle.std.specs.Option.{option_map}
 use Rattle.std.proofs.lemmas.Bool.{eqb-true, eq-eqb, both_ways, or_parts}
 use Rattle.pcache_base.specs.Key.{Key, slot}
-use Rattle.pcache_meta.specs.Meta.{Meta}
+use Rattle.pcache_meta.specs.Meta.{Meta, expired_at}
 use Rattle.pcache_evict.specs.declared.eviction.entry_key.CacheEntryKey.{CacheEntryKey}
 use Rattle.pcache_evict.specs.Entry.{entry_cmp, entries_total}
 use Rattle.pcache_evict.specs.Tracked.{Tracked, without, added}
@@ -16,10 +17,10 @@ use Rattle.pcache_store.specs.Store.{Stored}
 use Rattle.pcache_request.specs.Finishing.{entry_slot}
 use Rattle.pcache_request.specs.Requests.{entry_of}
 use Rattle.pingora_cache.specs.declared.world.entry.Event.{Event}
-use Rattle.pingora_cache.specs.declared.world.entry.Event.TheVariants.{Look, Ask, Access, Begin, Wrote, Finish, Dropped, Release, LetGo, Admit, Purge, Untrack, Read}
+use Rattle.pingora_cache.specs.declared.world.entry.Event.TheVariants.{Look, Ask, Access, Begin, Wrote, Finish, Dropped, Release, LetGo, Admit, Purge, Expire, Renew, Untrack, Read}
 use Rattle.pingora_cache.specs.Events.{begun, begin_of, names_slot, names_key, option_any, is_removed, in_flight, body_of, complete, tracked, size_of}
 use Rattle.pingora_cache.specs.Sound.{IsTidy, IsExact, standing_entry}
-use Rattle.pingora_cache.proofs.Steps.{complete-wrote, complete-begin, complete-purge, complete-admit, complete-finish, body_with}
+use Rattle.pingora_cache.proofs.Steps.{complete-wrote, complete-begin, complete-purge, complete-admit, complete-expire, complete-renew, complete-finish, body_with, altered_body}
 use Rattle.pingora_cache.proofs.Tidy.{tidy-finish}
 
 -- Entries and the slots that they name.
@@ -53,6 +54,8 @@ standing-names (Dropped w ∷ es) k e h = standing-names es k e h
 standing-names (Release n ∷ es) k e h = standing-names es k e h
 standing-names (LetGo n ∷ es) k e h = standing-names es k e h
 standing-names (Purge q ∷ es) k e h = standing-names es k e h
+standing-names (Expire q t ∷ es) k e h = standing-names es k e h
+standing-names (Renew q m ∷ es) k e h = standing-names es k e h
 standing-names (Untrack x ∷ es) k e h = standing-names es k e h
 standing-names (Read a ∷ es) k e h = standing-names es k e h
 
@@ -100,6 +103,24 @@ kept false o x h = (refl, h)
 pub exact-purge : (start : Tracked) (es : List Event) (k : ℕ) → IsTidy es → IsExact start es → IsExact start (Purge k ∷ es)
 exact-purge start es k tidy ex = λ q b h. ex q b (kept (k == q) (complete q es) b (sym (complete-purge es k tidy q) ∙ h)).1
 
+-- a body whose meta was altered is as long as the one before
+was-stored : (b : Bool) (g : Meta → Meta) (o : Option Stored) (x : Stored) → (if b then option_map (altered_body g) o else o) ≡ Some x → (y : Stored) × (o ≡ Some y) × (size_of y ≡ size_of x)
+was-stored true g None x h = absurd (cc)
+was-stored true g (Some y) x h = let e : altered_body g y ≡ x = cc in (y, refl, ap size_of e)
+was-stored false g o x h = (x, h, refl)
+
+pub exact-expire : (start : Tracked) (es : List Event) (k t : ℕ) → IsTidy es → IsExact start es → IsExact start (Expire k t ∷ es)
+exact-expire start es k t tidy ex = λ q b h.
+    let was = was-stored (k == q) (expired_at t) (complete q es) b (sym (complete-expire es k t tidy q) ∙ h) in
+    let old = ex q was.0 was.1 in
+    (old.0, old.1, old.2 ∙ ap Some was.2)
+
+pub exact-renew : (start : Tracked) (es : List Event) (k : ℕ) (m : Meta) → IsTidy es → IsExact start es → IsExact start (Renew k m ∷ es)
+exact-renew start es k m tidy ex = λ q b h.
+    let was = was-stored (k == q) (λ _. m) (complete q es) b (sym (complete-renew es k m tidy q) ∙ h) in
+    let old = ex q was.0 was.1 in
+    (old.0, old.1, old.2 ∙ ap Some was.2)
+
 -- an entry of which no key stands
 pub exact-untrack : (start : Tracked) (es : List Event) (e : CacheEntryKey) → ((k : ℕ) → names_slot k e ≡ true → complete k es ≡ None) → IsExact start es → IsExact start (Untrack e ∷ es)
 exact-untrack start es e gone ex = λ q b h.
@@ -140,4 +161,4 @@ exact-admit start es k b e out tidy is of ex = λ q c h.
 pub exact-undone : (start : Tracked) (es : List Event) (w k : ℕ) (m : Meta) → IsTidy es → in_flight w es ≡ true → begin_of w es ≡ Some (k, m) → is_removed w es ≡ false → IsExact start es → IsExact start (Purge k ∷ Finish w true ∷ es)
 exact-undone start es w k m tidy fly is whole ex = λ q b h.
     let p = kept (k == q) (complete q (Finish w true ∷ es)) b (sym (complete-purge (Finish w true ∷ es) k (tidy-finish es w k m is whole fly tidy) q) ∙ h) in
-    ex q b (ap (λ a. if a then Some (body_with m (body_of w es)) else complete q es) (sym p.0) ∙ (sym (complete-finish es w k m is whole q) ∙ p.1))
+    ex q b (ap (λ a. if a then Some (body_with m (body_of w es)) else complete q es) (sym p.0) ∙ (sym (complete-finish es w k m tidy fly is whole q) ∙ p.1))

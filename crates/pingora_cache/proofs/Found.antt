@@ -1,28 +1,38 @@
 -- What is read through a hit is the body that a look-up of its request found.
-use Rattle.std.proofs.Common.{◌≡◌, ℕ, ◌==◌, Bool, true, false, cond, if◌then◌else◌, Option, None, Some, List, [], ◌∷◌, ◌++◌, refl, ap, sym, subst, ◌∙◌}
+use Rattle.std.proofs.Common.{◌≡◌, ℕ, ◌==◌, ◌&&◌, nat_lt, length, Bool, true, false, cond, if◌then◌else◌, Option, None, Some, List, [], ◌∷◌, ◌++◌, refl, ap, sym, subst, ◌∙◌}
 use Rattle.std.specs.Option.{option_map}
 use Rattle.std.proofs.lemmas.Bool.{eqb-true}
 use Rattle.pcache_evict.specs.Tracked.{Tracked, Limits}
 use Rattle.pcache_meta.specs.Meta.{Meta}
 use Rattle.pcache_base.specs.declared.poll.Poll.{Poll}
 use Rattle.pcache_base.specs.declared.poll.Poll.TheVariants.{Ready, Pending}
+use Rattle.pcache_base.specs.declared.reason.NoCacheReason.TheVariants as reason
+use Rattle.pcache_base.specs.declared.reason.NoCacheReason.TheVariants.{Deferred}
+use Rattle.pcache_predict.specs.declared.admission.Decision.{Decision}
+use Rattle.pcache_request.specs.Admissions.{is_deferral, with_decision}
 use Rattle.pcache_request.specs.Phases.{is_treated_as_miss}
+use Rattle.pcache_request.specs.Releasing.{disabled_for, disabled_in}
+use Rattle.pcache_request.specs.Renewals.{renewed}
+use Rattle.pcache_request.specs.Variants.{is_hidden, visible}
+use Rattle.pcache_request.specs.declared.phase.CachePhase.{CachePhase}
+use Rattle.pcache_request.specs.declared.phase.CachePhase.TheVariants as phase
 use Rattle.pcache_request.specs.Requests.{Request, without_reader}
 use Rattle.pcache_request.specs.declared.phase.HitStatus.{HitStatus}
-use Rattle.pcache_store.specs.Store.{Reader, Whole, Part}
+use Rattle.pcache_store.specs.Store.{Reader, Whole, Part, end_or, is_forward}
+use Rattle.pingora_cache.specs.declared.world.entry.Answer.{Answer}
 use Rattle.pingora_cache.specs.declared.world.entry.Answer.TheVariants as A
 use Rattle.pingora_cache.specs.declared.world.entry.Entry.{Entry}
 use Rattle.pingora_cache.specs.declared.world.entry.Event.{Event}
 use Rattle.pingora_cache.specs.declared.world.entry.Event.TheVariants as E
 use Rattle.pingora_cache.specs.Headline.{IsFoundBy, ReadsWhatWasFound}
-use Rattle.pingora_cache.specs.Held.{Held, Change, opens, closes, stays, turns, looks, takes, begins, ends, reads_on, reads_no_more, change_of, changed, turned_by, number_of, Outcome, outcome, is_wrong, is_done, is_taken, opened, asked, looked_by, placed_by, taken_by, without_pair, began, ended, read_past, has_read, on_request, row, request_of}
+use Rattle.pingora_cache.specs.Held.{Held, Change, opens, closes, stays, turns, turns_by, shuts, looks, takes, begins, ends, reads_on, seeks, reads_no_more, renews, change_of, changed, turned_by, shut_by, sought_in, with_sought, number_of, Outcome, outcome, is_wrong, is_done, is_taken, opened, asked, carrying, decides, looked_by, looked_with, pair_of, placed_by, taken_by, without_pair, began, ended, read_past, has_read, on_request, row, request_of}
 use Rattle.pingora_cache.specs.History.{events_of}
 use Rattle.pingora_cache.specs.Legal.{IsLegal}
 use Rattle.pingora_cache.specs.Sound.{pair_reader}
 use Rattle.pingora_cache.proofs.AnswersLaw.{looks_are_true}
 use Rattle.pingora_cache.proofs.Laws.{reads_the_last}
 use Rattle.pingora_cache.proofs.Promised.{legal-part}
-use Rattle.pingora_cache.proofs.ReadsLaw.{asked-reader}
+use Rattle.pingora_cache.proofs.ReadsLaw.{asked-reader, decided-reader}
 
 -- a reader of a complete body has one of these
 abbrev IsOf : (List ℕ → Type 0) → Option Reader → Type 0
@@ -49,11 +59,31 @@ either P false p q h k = k
 
 -- one change, after which every body that a look-up of it found is one of these
 module _ (P : List ℕ → Type 0) (events : List Event) (found : (k : ℕ) (m : Meta) (body : List ℕ) (rest : List Event) → events ≡ E.Look k (A.Complete m body) ∷ rest → P body) (o : Outcome) where
+  -- what was found is one, and so is what is handed on of it
+  answered : (k : ℕ) (a : Answer) (es : List Event) → events ≡ E.Look k a ∷ es → IsOf P (pair_reader (pair_of a))
+  answered k A.Nothing es is = tt
+  answered k (A.Complete m body) es is = found k m body es is
+  answered k (A.Streaming m w) es is = tt
+
+  seen-of : (from : Option ℕ) (p : Option (Meta × Reader)) → IsOf P (pair_reader p) → IsOf P (pair_reader (visible from p))
+  seen-of from None h = tt
+  seen-of from (Some p) h = elim (is_hidden from p.0.created) as (λ b. IsOf P (pair_reader (cond b None (Some p)))) [ true ↦ tt | false ↦ h ]
+
+  off-of : (x : Request) (p : CachePhase) → IsOf P x.reader → IsOf P (disabled_in p Deferred x).reader
+  off-of x (phase.Disabled reason.NeverEnabled) h = h
+  off-of x p h = tt
+
+  looked-on : (d : Option Decision) (a : Answer) (es : List Event) (x : Held) → AreOf P (Some x) → IsOf P (pair_reader (pair_of a)) → AreOf P (Some (looked_with d a es x))
+  looked-on d a es x h k =
+      let old : IsOf P (with_decision d x.request).reader = subst (IsOf P) (sym (decided-reader d x.request)) h.0 in
+      elim (is_deferral d) as (λ b. AreOf P (Some (cond b (record { request = disabled_for Deferred (with_decision d x.request); pair = None; carried = None }) (record { request = asked false es (with_decision d x.request); pair = visible x.request.valid_after (pair_of a); carried = x.carried })))) [
+        | true ↦ (off-of (with_decision d x.request) (with_decision d x.request).phase old, tt)
+        | false ↦ (subst (IsOf P) (sym (asked-reader false es (with_decision d x.request))) old, seen-of x.request.valid_after (pair_of a) k)
+      ]
+
   looked : (x : Held) (es : List Event) → events ≡ es → AreOf P (Some x) → AreOf P (Some (looked_by es x))
   looked x [] is h = h
-  looked x (E.Look k A.Nothing ∷ es) is h = (subst (IsOf P) (sym (asked-reader false es x.request)) h.0, tt)
-  looked x (E.Look k (A.Complete m body) ∷ es) is h = (subst (IsOf P) (sym (asked-reader false es x.request)) h.0, found k m body es is)
-  looked x (E.Look k (A.Streaming m w) ∷ es) is h = (subst (IsOf P) (sym (asked-reader false es x.request)) h.0, tt)
+  looked x (E.Look k a ∷ es) is h = looked-on (decides a x) a es x h (answered k a es is)
   looked x (e ∷ es) is h = h
 
   placed-of : (s : HitStatus) (x : Request) (p : Option (Meta × Reader)) → IsOf P x.reader → IsOf P (pair_reader p) → IsOf P (placed_by s events x p).reader
@@ -82,6 +112,13 @@ module _ (P : List ℕ → Type 0) (events : List Event) (found : (k : ℕ) (m :
   read-of x (E.Read a ∷ es) h = past-of a x.reader h
   read-of x (e ∷ es) h = h
 
+  -- another range of the same body
+  sought-of : (start : ℕ) (end : Option ℕ) (r : Option Reader) → IsOf P r → IsOf P (sought_in start end r)
+  sought-of start end None h = tt
+  sought-of start end (Some (Part w place)) h = tt
+  sought-of start end (Some (Whole body from to done)) h =
+      elim (nat_lt start (length body) && is_forward start end) as (λ b. IsOf P (cond b (Some (Whole body start (end_or end (length body)) false)) None)) [ true ↦ h | false ↦ tt ]
+
   change-of : (change : Change) (q : Option Held) → AreOf P q → AreOf P (changed change o events q)
   change-of opens q h = either P (is_done o) (Some opened) q (tt, tt) h
   change-of closes q h = either P (is_done o) None q tt h
@@ -89,8 +126,12 @@ module _ (P : List ℕ → Type 0) (events : List Event) (found : (k : ℕ) (m :
   change-of (turns f leaves_pair) None h = either P (is_done o) None None tt tt
   change-of (turns f leaves_pair) (Some x) h =
       either P (is_done o) (Some (turned_by f leaves_pair x)) (Some x) (h.0, elim leaves_pair as (λ b. IsOf P (pair_reader (cond b None x.pair))) [ true ↦ tt | false ↦ h.1 ]) h
-  change-of looks None h = tt
-  change-of looks (Some x) h = looked x events refl h
+  change-of (turns_by f) None h = either P (is_done o) None None tt tt
+  change-of (turns_by f) (Some x) h = either P (is_done o) (Some (turned_by (f x.pair) false x)) (Some x) (h.0, h.1) h
+  change-of (shuts f) None h = either P (is_done o) None None tt tt
+  change-of (shuts f) (Some x) h = either P (is_done o) (Some (shut_by f x)) (Some x) (tt, tt) h
+  change-of (looks d) None h = either P (is_wrong o) None None tt tt
+  change-of (looks d) (Some x) h = either P (is_wrong o) (Some x) (Some (looked_by events (carrying d x))) h (looked (carrying d x) events refl h)
   change-of (takes s) None h = either P (is_taken o) None (cond (is_wrong o) None None) tt (either P (is_wrong o) None None tt tt)
   change-of (takes s) (Some x) h =
       either P (is_taken o) (Some (taken_by s events x)) (cond (is_wrong o) (Some x) (Some (without_pair x))) (placed-of s x.request x.pair h.0 h.1, tt) (either P (is_wrong o) (Some x) (Some (without_pair x)) h (h.0, tt))
@@ -100,8 +141,12 @@ module _ (P : List ℕ → Type 0) (events : List Event) (found : (k : ℕ) (m :
   change-of ends (Some x) h = (ended-of x.request events h.0, h.1)
   change-of reads_on None h = tt
   change-of reads_on (Some x) h = (read-of x.request events h.0, h.1)
+  change-of (seeks start end) None h = either P (is_done o) None None tt tt
+  change-of (seeks start end) (Some x) h = either P (is_done o) (Some (on_request (with_sought start end) x)) (Some x) (sought-of start end x.request.reader h.0, h.1) h
   change-of reads_no_more None h = either P (is_wrong o) None None tt tt
   change-of reads_no_more (Some x) h = either P (is_wrong o) (Some x) (Some (on_request without_reader x)) h (tt, h.1)
+  change-of (renews m) None h = either P (is_wrong o) None None tt tt
+  change-of (renews m) (Some x) h = either P (is_wrong o) (Some x) (Some (on_request (renewed m) x)) h (h.0, h.1)
 
 -- an older look-up stands in a longer history
 found-more : (e : Entry) (h : List Entry) (r : ℕ) (body : List ℕ) → IsFoundBy h r body → IsFoundBy (e ∷ h) r body

@@ -1,22 +1,42 @@
 -- What each change of a request keeps: it stays one of a world, and has its key while it makes a write.
-use Rattle.std.proofs.Common.{◌≡◌, ℕ, Bool, true, false, cond, Option, None, Some, is_some, IsSome, refl, ap, sym, subst, ◌∙◌}
+use Rattle.std.proofs.Common.{◌≡◌, ℕ, Bool, true, false, cond, Option, None, Some, is_some, IsSome, List, [], ◌∷◌, refl, ap, sym, subst, ◌∙◌}
 use Rattle.pcache_base.specs.Key.{Key}
 use Rattle.pcache_meta.specs.Meta.{Meta}
 use Rattle.pcache_lock.specs.Locks.{Locks}
 use Rattle.pcache_request.specs.Finishing.{after_finish}
-use Rattle.pcache_request.specs.Phases.{MayLookUp, IsFilling}
+use Rattle.pcache_predict.specs.declared.admission.Decision.{Decision}
+use Rattle.pcache_request.specs.Admissions.{decided, with_decision}
+use Rattle.pcache_request.specs.Phases.{MayLookUp, IsFilling, IsOn, IsDisabled}
 use Rattle.pcache_request.specs.Requests.{Request, MayWrite, asks_as_stale, asks_for_hit, with_lock, found_row, writing}
 use Rattle.pcache_request.specs.declared.phase.CachePhase.{CachePhase}
 use Rattle.pcache_request.specs.declared.phase.CachePhase.TheVariants as phase
 use Rattle.pcache_request.specs.declared.phase.HitStatus.{HitStatus}
 use Rattle.pcache_store.specs.Store.{Store, Reader}
 use Rattle.pingora_cache.specs.Due.{IsOfWorld, KeepsIn}
+use Rattle.pingora_cache.specs.declared.world.entry.Event.{Event}
+use Rattle.pingora_cache.specs.declared.world.entry.Event.TheVariants as E
+use Rattle.pingora_cache.specs.Held.{asked, with_given, with_sought}
 
 -- phases in which no write is made
 no-look : (p : CachePhase) → MayLookUp p → IsFilling p → ⊥
 no-look phase.CacheKey may f = f
 no-look phase.Stale may f = f
 no-look p may f = absurd may
+
+-- and in which caching is on
+look-on : (p : CachePhase) → MayLookUp p → IsOn p
+look-on phase.CacheKey may = tt
+look-on phase.Stale may = tt
+look-on p may = absurd may
+
+none-some : (o : Option ℕ) → o ≡ None → IsSome o → ⊥
+none-some None is some = cc
+none-some (Some n) is some = cc
+
+-- caching that is off is not on
+not-on : (p : CachePhase) → IsDisabled p → IsOn p → ⊥
+not-on (phase.Disabled r) off on = on
+not-on p off on = absurd off
 
 -- nothing changed
 pub keeps-same : (x y : Request) → y ≡ x → KeepsIn x y
@@ -26,7 +46,7 @@ keeps-same x y is world = subst (λ (z : Request). IsOfWorld z × (IsSome z.writ
 keeps-like : (x y : Request) → y.uses ≡ x.uses → y.entry ≡ x.entry → y.write ≡ x.write → y.phase ≡ x.phase → y.key ≡ x.key → KeepsIn x y
 keeps-like x y uses entry write at key world = (
   record {
-    eviction = ap (λ u. u.eviction) uses ∙ world.eviction;
+    eviction = λ on. ap (λ u. u.eviction) uses ∙ world.eviction (subst IsOn at on);
     unnumbered = entry ∙ world.unnumbered;
     fills = λ some. subst IsFilling (sym at) (world.fills (subst (λ (o : Option ℕ). IsSome o) write some));
   },
@@ -39,11 +59,62 @@ keeps-lock x true stale t None = keeps-like x x refl refl refl refl refl
 keeps-lock x true stale t (Some k) = keeps-like x (with_lock stale t (Some k) x) refl refl refl refl refl
 keeps-lock x false stale t k = keeps-like x x refl refl refl refl refl
 
+-- locks that were asked for
+keeps-then : (x y z : Request) → KeepsIn x y → (KeepsIn y z) → (IsSome z.write → IsSome y.write) → KeepsIn x z
+keeps-then x y z a b writes world = let p = a world in let q = b p.0 in (q.0, λ some. q.1 some ∙ p.1 (writes some))
+
+keeps-given : (stale : Bool) (e : Event) (x : Request) → KeepsIn x (with_given stale e x)
+keeps-given stale (E.Ask k n b) x = keeps-like x (with_given stale (E.Ask k n b) x) refl refl refl refl refl
+keeps-given stale e x = keeps-like x x refl refl refl refl refl
+
+given-write : (stale : Bool) (e : Event) (x : Request) → (with_given stale e x).write ≡ x.write
+given-write stale (E.Ask k n b) x = refl
+given-write stale e x = refl
+
+pub asked-write : (stale : Bool) (events : List Event) (x : Request) → (asked stale events x).write ≡ x.write
+asked-write stale [] x = refl
+asked-write stale (e ∷ events) x = asked-write stale events (with_given stale e x) ∙ given-write stale e x
+
+pub keeps-asked : (stale : Bool) (events : List Event) (x : Request) → KeepsIn x (asked stale events x)
+keeps-asked stale [] x = keeps-like x x refl refl refl refl refl
+keeps-asked stale (e ∷ events) x =
+    let y = with_given stale e x in
+    keeps-then x y (asked stale events y) (keeps-given stale e x) (keeps-asked stale events y) (λ some. subst (λ (o : Option ℕ). IsSome o) (asked-write stale events y) some)
+
+-- a decision that was taken, with them
+pub keeps-decided : (d : Option Decision) (events : List Event) (x : Request) → KeepsIn x (asked false events (with_decision d x))
+keeps-decided None events x = keeps-asked false events x
+keeps-decided (Some d) events x =
+    let y = decided d x in
+    keeps-then x y (asked false events y) (keeps-like x y refl refl refl refl refl) (keeps-asked false events y) (λ some. subst (λ (o : Option ℕ). IsSome o) (asked-write false events y) some)
+
+-- caching that is turned off
+pub keeps-off : (x y : Request) → IsDisabled y.phase → (y.write ≡ None) → (y.entry ≡ None) → KeepsIn x y
+keeps-off x y off none number world = (
+  record { eviction = λ on. absurd (not-on y.phase off on); unnumbered = number; fills = λ some. absurd (none-some y.write none some) },
+  λ some. absurd (none-some y.write none some),
+)
+
+-- a request that makes no write, and becomes one of the same phase and parts
+pub keeps-unmade : (x y : Request) → y.uses ≡ x.uses → y.entry ≡ x.entry → y.write ≡ x.write → (IsOn y.phase → IsOn x.phase) → (IsOfWorld x → IsSome x.write → ⊥) → KeepsIn x y
+keeps-unmade x y uses entry write on none world = (
+  record {
+    eviction = λ o. ap (λ u. u.eviction) uses ∙ world.eviction (on o);
+    unnumbered = entry ∙ world.unnumbered;
+    fills = λ some. absurd (none world (subst (λ (o : Option ℕ). IsSome o) write some));
+  },
+  λ some. absurd (none world (subst (λ (o : Option ℕ). IsSome o) write some)),
+)
+
+-- the key may change where none is made
+pub keeps-looking : (x y : Request) → MayLookUp x.phase → y.uses ≡ x.uses → y.entry ≡ x.entry → y.write ≡ x.write → y.phase ≡ x.phase → KeepsIn x y
+keeps-looking x y may uses entry write at = keeps-unmade x y uses entry write (subst IsOn at) (λ world some. no-look x.phase may (world.fills some))
+
 pub keeps-found : (x y : Request) (s : HitStatus) (m : Meta) (h : Reader) (t : Locks) → MayLookUp x.phase → y ≡ found_row s m h t x → KeepsIn x y
 keeps-found x y s m h t may is world =
     subst (λ (z : Request). IsOfWorld z × (IsSome z.write → z.key ≡ x.key)) (sym is) (
       record {
-        eviction = (keeps-lock x (asks_for_hit s x) (asks_as_stale s x.phase) t x.key world).0.eviction;
+        eviction = λ _. ap (λ u. u.eviction) (used (asks_for_hit s x) (asks_as_stale s x.phase) x.key) ∙ world.eviction (look-on x.phase may);
         unnumbered = (keeps-lock x (asks_for_hit s x) (asks_as_stale s x.phase) t x.key world).0.unnumbered;
         fills = λ some. absurd (none some);
       },
@@ -55,8 +126,18 @@ keeps-found x y s m h t may is world =
     locked true stale (Some k) = refl
     locked false stale k = refl
 
+    used : (b stale : Bool) (k : Option Key) → (cond b (with_lock stale t k x) x).uses ≡ x.uses
+    used true stale None = refl
+    used true stale (Some k) = refl
+    used false stale k = refl
+
     none : IsSome (found_row s m h t x).write → ⊥
     none some = no-look x.phase may (world.fills (subst (λ (o : Option ℕ). IsSome o) (locked (asks_for_hit s x) (asks_as_stale s x.phase) x.key) some))
+
+-- a reader that is sent to another range
+pub keeps-sought : (x y : Request) (b : Bool) (start : ℕ) (end : Option ℕ) → y ≡ cond b (with_sought start end x) x → KeepsIn x y
+keeps-sought x y true start end is = subst (KeepsIn x) (sym is) (keeps-like x (with_sought start end x) refl refl refl refl refl)
+keeps-sought x y false start end is = keeps-same x y is
 
 pub keeps-finished : (x y : Request) → y ≡ after_finish x → KeepsIn x y
 keeps-finished x y is = subst (KeepsIn x) (sym is) (elim (is_some x.write) as (λ b. KeepsIn x (cond b (record x { write = None; entry = None; held = None }) x)) [

@@ -10,7 +10,7 @@ use Rattle.pingora_cache.specs.declared.world.entry.Answer.TheVariants as A
 use Rattle.pingora_cache.specs.declared.world.entry.Entry.{Entry}
 use Rattle.pingora_cache.specs.declared.world.entry.Event.{Event}
 use Rattle.pingora_cache.specs.declared.world.entry.Event.TheVariants as E
-use Rattle.pingora_cache.specs.Events.{begin_of, is_removed, body_of, last_finished, complete, is_open}
+use Rattle.pingora_cache.specs.Events.{begin_of, is_removed, body_of, last_finished, meta_kept, complete, is_open}
 use Rattle.pingora_cache.specs.Held.{Held, number_of, row, request_of}
 use Rattle.pingora_cache.specs.History.{events_of}
 use Rattle.pingora_cache.specs.Due.{makes_of, slot_of, AreDue, KeepsKey}
@@ -129,17 +129,17 @@ opened k w es h =
     let q = and_parts _ _ p.1 in
     (w, p.0, inl q.0, not-true _ q.1)
 
-stands_as : (b : Bool) (o : Option (ℕ × Meta)) (body : List ℕ) (x : Stored) → unless_removed b o body ≡ Some x → (b ≡ false) × (x.bytes ≡ body)
-stands_as true o body x h = absurd (cc)
-stands_as false None body x h = absurd (cc)
-stands_as false (Some p) body x h = let e : body_with p.1 body ≡ x = cc in (refl, ap (λ (y : Stored). y.bytes) (sym e))
+stands_as : (b : Bool) (o : Option (ℕ × Meta)) (f : ℕ → Meta → Meta) (body : List ℕ) (x : Stored) → unless_removed b o f body ≡ Some x → (b ≡ false) × (x.bytes ≡ body)
+stands_as true o f body x h = absurd (cc)
+stands_as false None f body x h = absurd (cc)
+stands_as false (Some p) f body x h = let e : body_with (f p.0 p.1) body ≡ x = cc in (refl, ap (λ (y : Stored). y.bytes) (sym e))
 
 -- what stands is the body of the last finished write, which is untouched
 pub stands_last : (k : ℕ) (es : List Event) (x : Stored) → complete k es ≡ Some x → (w : ℕ) × (last_finished k es ≡ Some w) × (is_removed w es ≡ false) × (x.bytes ≡ body_of w es)
 stands_last k es x is =
-    elim (last_finished k es) as (λ o. last_finished k es ≡ o → option_and_then (λ w. unless_removed (is_removed w es) (begin_of w es) (body_of w es)) o ≡ Some x → (w : ℕ) × (last_finished k es ≡ Some w) × (is_removed w es ≡ false) × (x.bytes ≡ body_of w es)) [
+    elim (last_finished k es) as (λ o. last_finished k es ≡ o → option_and_then (λ w. unless_removed (is_removed w es) (begin_of w es) (meta_kept w es) (body_of w es)) o ≡ Some x → (w : ℕ) × (last_finished k es ≡ Some w) × (is_removed w es ≡ false) × (x.bytes ≡ body_of w es)) [
       | None ↦ λ _ h. absurd (cc)
-      | Some w ↦ λ last h. let p = stands_as (is_removed w es) (begin_of w es) (body_of w es) x h in (w, last, p.0, p.1)
+      | Some w ↦ λ last h. let p = stands_as (is_removed w es) (begin_of w es) (meta_kept w es) (body_of w es) x h in (w, last, p.0, p.1)
     ] refl is
 
 stands : (k : ℕ) (es : List Event) (x : Stored) → IsTidy es → complete k es ≡ Some x → HasUntouched k es

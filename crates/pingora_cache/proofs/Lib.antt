@@ -8,6 +8,7 @@ pub mod Found
 pub mod History
 pub mod Keeps
 pub mod Laws
+pub mod Looking
 pub mod MovedState
 pub mod MovesOf
 pub mod Noted
@@ -18,6 +19,7 @@ pub mod Runs
 pub mod SoundOf
 pub mod StateAnswers
 pub mod StateCalls
+pub mod StateExpires
 pub mod StatePurges
 pub mod StateSlots
 pub mod StateTotals

@@ -1,8 +1,9 @@
 -- What a world notes of a look-up and of what it takes is what the request became.
-use Rattle.std.proofs.Common.{◌≡◌, ℕ, Bool, true, false, not, ◌&&◌, cond, if◌then◌else◌, Option, None, Some, inl, inr, is_some, List, [], ◌∷◌, ◌++◌, refl, ap, sym, subst, ◌∙◌, IfSome, IsTrue, option_map}
+use Rattle.std.proofs.Common.{◌≡◌, ℕ, Bool, true, false, not, ◌&&◌, cond, if◌then◌else◌, Option, None, Some, inl, inr, is_some, List, [], ◌∷◌, ◌++◌, refl, ap, sym, subst, ◌∙◌, IfSome, IsTrue, option_map, Result, Ok, Err, IfOk, IfErr, OnErr}
 use Rattle.std.specs.FinMap as map
 use Rattle.pcache_base.specs.CompactKey.{compact_of}
 use Rattle.pcache_base.specs.Key.{Key, slot}
+use Rattle.pcache_meta.specs.Meta as metas
 use Rattle.pcache_meta.specs.Meta.{Meta}
 use Rattle.pcache_base.specs.declared.error.ErrorType.{ErrorType}
 use Rattle.pcache_base.specs.declared.error.ErrorType.TheVariants.{OutOfMemory, NumbersExhausted}
@@ -12,6 +13,7 @@ use Rattle.pcache_lock.specs.declared.lock.status.LockStatus.{LockStatus}
 use Rattle.pcache_lock.specs.declared.lock.permit.Locked.TheVariants.{Write, Read}
 use Rattle.pcache_base.specs.declared.poll.Poll.{Poll}
 use Rattle.pcache_evict.specs.Tracked.{Tracked}
+use Rattle.pcache_predict.specs.declared.admission.Decision.{Decision}
 use Rattle.pcache_base.specs.declared.key.CompactCacheKey.{CompactCacheKey}
 use Rattle.pcache_evict.specs.Entry.{key_of}
 use Rattle.pcache_evict.specs.declared.eviction.entry_key.CacheEntryKey.{CacheEntryKey}
@@ -19,26 +21,29 @@ use Rattle.pcache_evict.specs.declared.eviction.entry_key.CacheEntryKey.TheVaria
 use Rattle.pcache_request.specs.declared.cache.finish.FinishReport.{FinishReport}
 use Rattle.pcache_request.specs.declared.cache.finish.WriteEnd.{WriteEnd}
 use Rattle.pcache_request.specs.declared.cache.finish.WriteEnd.TheVariants.{Stored}
-use Rattle.pcache_store.specs.Purge.{purge_answer, purged_at}
-use Rattle.pcache_store.specs.Store.{Store, Reader, Part, find, reader_weight, read_of, reader_after, purged}
+use Rattle.pcache_store.specs.Purge.{purge_answer, purged_at, expire_answer, expired_at}
+use Rattle.pcache_store.specs.Store.{Store, Reader, Part, find, body_of, reader_weight, read_of, reader_after, purged, meta_changed}
 use Rattle.pcache_store.specs.declared.storage.PurgeOutcome.{PurgeOutcome}
-use Rattle.pcache_store.specs.declared.storage.PurgeOutcome.TheVariants.{NotFound, Purged}
+use Rattle.pcache_store.specs.declared.storage.PurgeOutcome.TheVariants.{NotFound, Purged, Expired}
 use Rattle.pcache_request.specs.declared.phase.HitStatus.{HitStatus}
 use Rattle.pingora_cache.specs.declared.world.call.LockKind.{LockKind}
+use Rattle.pingora_cache.specs.declared.world.call.Reply.{Reply}
 use Rattle.pingora_cache.specs.declared.world.call.Reply.TheVariants as R
-use Rattle.pingora_cache.specs.declared.world.entry.Answer.TheVariants.{Nothing}
+use Rattle.pingora_cache.specs.declared.world.entry.Answer.{Answer}
 use Rattle.pingora_cache.specs.declared.world.entry.Event.{Event}
 use Rattle.pingora_cache.specs.declared.world.entry.Event.TheVariants as E
 use Rattle.pcache_request.specs.declared.phase.CachePhase.{CachePhase}
-use Rattle.pcache_request.specs.Reports.{name_of, released_as, asked_with, asked_in_look_up, asked_by_found, access_by_found, entry_stored, untracked, untracked_for}
+use Rattle.pcache_request.specs.Reports.{name_of, released_as, asked_with, asked_by_found, access_by_found, entry_stored, untracked, untracked_for}
+use Rattle.pcache_request.specs.Variants.{asked_for_key, with_key_lock}
 use Rattle.pcache_request.specs.declared.cache.report.AskedLock.{AskedLock}
 use Rattle.pcache_request.specs.declared.cache.report.LockName.{LockName}
-use Rattle.pcache_request.specs.Requests.{Request, found_for, found_row, locked_found, looked, phase_found, placed, with_lock, asks_for_miss, asks_for_hit, asks_as_stale, counts_found, entry_of, reader_in, writing, begun_for, joined_for, is_removed_by, tracked_gone, tracked_gone_for}
-use Rattle.pingora_cache.specs.Facts.{facts_in, there_for}
-use Rattle.pingora_cache.specs.Rules.{Looks, Takes}
+use Rattle.pcache_request.specs.Requests.{Request, found_for, found_row, locked_found, phase_found, placed, with_lock, asks_for_hit, asks_as_stale, counts_found, entry_of, reader_in, writing, begun_for, joined_for, is_removed_by, tracked_gone, tracked_gone_for}
+use Rattle.pingora_cache.specs.Facts.{facts_in, there_for, complete_for}
+use Rattle.pcache_request.specs.Renewals.{has_body, renewed_by}
+use Rattle.pingora_cache.specs.Rules.{Renews, Takes, renew_of, update_reply}
 use Rattle.pingora_cache.specs.Held.{Held, lock_of, asked, began, read_past}
 use Rattle.pingora_cache.specs.Rules.{AsksIf, IsLockRefusal, each, accesses, permit_of, untrack_of}
-use Rattle.pingora_cache.specs.Step.{IsAnswered, asking, kind_asked, noting, permit_in, permit_released, untracking}
+use Rattle.pingora_cache.specs.Step.{IsAnswered, MissesKey, renewal_reply, renewing, asking, kind_asked, noting, permit_in, permit_released, untracking}
 use Rattle.pingora_cache.proofs.StateAnswers.{found-answer, read-past}
 use Rattle.pingora_cache.proofs.StateCalls.{begun-joins}
 
@@ -77,31 +82,32 @@ asks-if b stale t k j h o a l key at is kind =
     let same = is ∙ ap (λ q. if_asked b stale t q h) key in
     subst (λ q. AsksIf b (slot k) h (asking j a) q) (sym (kind ∙ ap kind_asked same)) (subst (λ es. AsksIf b (slot k) h es (kind_asked (if_asked b stale t (Some k) h))) (sym (λ i. asking (at i) (same i))) (asks-with b stale t k h))
 
--- where nothing was found, a lock is asked for where one is in use
-asks-for-nothing : (b : Bool) (o : Option (Meta × Reader)) → o ≡ None → b && not (is_some o) ≡ b
-asks-for-nothing b o none = ap (λ q. b && not (is_some q)) none ∙ elim b as (λ c. c && true ≡ c) [ true ↦ refl | false ↦ refl ]
-
 -- a request that holds the lock given to it, where it asked for one
 asked-given : (b stale : Bool) (t : Locks) (o : Option Key) (j : ℕ) (x : Request) → cond b (with_lock stale t o x) x ≡ asked stale (asking j (if_asked b stale t o x.held)) x
 asked-given true stale t None j x = refl
 asked-given true stale t (Some k) j x = ap (λ l. record x { held = Some l }) (sym (lock-given t stale (holder t (slot k)))) ∙ sym (asked-each stale (permit_in (option_map name_of x.held)) _)
 asked-given false stale t o j x = refl
 
-pub looked-asked : (s : Store) (t : Locks) (x : Request) (j : ℕ) → looked s t x ≡ asked false (asking j (asked_in_look_up s t x)) x
-looked-asked s t x j = asked-given (asks_for_miss s x) false t x.key j x
+-- where it asks for the key's
+pub key-asked : (t : Locks) (x : Request) (j : ℕ) → with_key_lock t x ≡ asked false (asking j (asked_for_key t x)) x
+key-asked t x j = asked-given x.uses.lock false t x.key j x
 
--- what a look-up that found nothing answers
-pub looks-nothing : (s : Store) (t : Locks) (x : Request) (k : Key) (j : ℕ) (a : Option AskedLock) (l : Option LockKind) (old first events : List Event) → x.key ≡ Some k → j ≡ slot k → found_for s x.key ≡ None → a ≡ asked_in_look_up s t x → l ≡ kind_asked a
-    → old ≡ [] → first ≡ old ++ E.Look j Nothing ∷ [] → events ≡ first ++ asking j a → Looks (facts_in s t x) x (R.NotFound l) events
-looks-nothing s t x k j a l old first events key at nothing is kind none one all =
-    let asks = subst (λ b. AsksIf b (slot k) x.held (asking j a) l) (asks-for-nothing x.uses.lock (found_for s x.key) nothing) (asks-if (asks_for_miss s x) false t k j x.held x.key a l key at is kind) in
-    inr (k, Nothing, asking j a, l, key, sym nothing, asks, all ∙ ap (λ es. es ++ asking j a) (one ∙ ap (λ es. es ++ E.Look j Nothing ∷ []) none) ∙ ap (λ q. E.Look q Nothing ∷ asking j a) at, refl)
+-- what a look-up that hands nothing on answers
+pub misses-asked : (s : Store) (t : Locks) (x : Request) (k : Key) (answer : Answer) (j : ℕ) (a : Option AskedLock) (l : Option LockKind) (old first events : List Event) → x.key ≡ Some k → j ≡ slot k → a ≡ asked_for_key t x → l ≡ kind_asked a
+    → old ≡ [] → first ≡ old ++ E.Look j answer ∷ [] → events ≡ first ++ asking j a → MissesKey (facts_in s t x) answer x (R.NotFound l) events
+misses-asked s t x k answer j a l old first events key at is kind none one all =
+    (k, key, inr (asking j a, l, asks-if x.uses.lock false t k j x.held x.key a l key at is kind, all ∙ ap (λ es. es ++ asking j a) (one ∙ ap (λ es. es ++ E.Look j answer ∷ []) none) ∙ ap (λ q. E.Look q answer ∷ asking j a) at, refl))
 
 -- a lock is refused for want of memory, or where it was asked for and all numbers were given
 pub lock-refused : (s : Store) (t : Locks) (x : Request) (asks : Bool) (e : ErrorType) → MayRefuseLock t e → (e ≡ NumbersExhausted → IsTrue asks) → IsLockRefusal (facts_in s t x) asks e
 lock-refused s t x asks OutOfMemory h why = inl refl
 lock-refused s t x asks NumbersExhausted h why = inr (refl, why refl, h)
 lock-refused s t x asks e h why = absurd h
+
+pub misses-refused : (s : Store) (t : Locks) (x : Request) (k : Key) (answer : Answer) (j : ℕ) (e kind : ErrorType) (old events : List Event) → x.key ≡ Some k → j ≡ slot k → IsTrue x.uses.lock → MayRefuseLock t e → kind ≡ e
+    → old ≡ [] → events ≡ old ++ E.Look j answer ∷ [] → MissesKey (facts_in s t x) answer x (R.Refused kind) events
+misses-refused s t x k answer j e kind old events key at used why is none all =
+    (k, key, inl (e, used, lock-refused s t x true e why (λ _. refl), all ∙ ap (λ es. es ++ E.Look j answer ∷ []) none ∙ ap (λ q. E.Look q answer ∷ []) at, ap R.Refused is))
 
 -- what is answered where a pair can't be taken
 pub takes-refused : (st : Store) (s : HitStatus) (t : Locks) (x : Request) (p : Meta × Reader) (k : Key) (e kind : ErrorType) (events : List Event) → x.key ≡ Some k → MayRefuseLock t e → (e ≡ NumbersExhausted → IsTrue (asks_for_hit s x)) → kind ≡ e → events ≡ accesses s k p.1 x
@@ -151,8 +157,8 @@ read-moved s x a h = ap (λ r. record x { reader = r }) (elim x.reader as (λ o.
 ] h)
 
 -- a request with this, and a pair
-abbrev pub held_with : Option (Meta × Reader) → Request → Held
-held_with p x = record { request = x; pair = p }
+abbrev pub held_with : Option Decision → Option (Meta × Reader) → Request → Held
+held_with d p x = record { request = x; pair = p; carried = d }
 
 -- a write that began is held, the permit is released, and the reader follows it
 
@@ -216,3 +222,41 @@ module _ (s : Store) (uses : Bool) (o : Option Key) (k : Key) (key : o ≡ Some 
 
   pub purge-store : (u : Store) → u ≡ purged_at s (option_map slot o) → u ≡ purged s (slot k)
   purge-store u is = is ∙ ap (λ q. purged_at s (option_map slot q)) key
+
+-- ---- what is noted of an expiry
+
+pub expire-store : (s u : Store) (o : Option Key) (k : Key) (now : ℕ) → o ≡ Some k → u ≡ expired_at now s (option_map slot o) → u ≡ meta_changed (metas.expired_at now) s (slot k)
+expire-store s u o k now key is = is ∙ ap (λ q. expired_at now s (option_map slot q)) key
+
+-- nothing is untracked with it
+pub expire-tracks : (s : Store) (uses : Bool) (o : Option Key) (m m' : Tracked) → m' ≡ tracked_gone_for uses o (expire_answer s (option_map slot o)) m → m' ≡ m
+expire-tracks s uses None m m' is = is
+expire-tracks s uses (Some k) m m' is = is ∙ elim (is_some (body_of (map.get s.slots (slot k)))) as (λ b. tracked_gone uses (compact_of k) (cond b Expired NotFound) m ≡ m) [ true ↦ refl | false ↦ refl ]
+
+-- whether a body was there
+pub expire-told : (s : Store) (o : Option Key) (b : Bool) → b ≡ is_removed_by (expire_answer s (option_map slot o)) → b ≡ complete_for s o
+expire-told s None b is = is
+expire-told s (Some k) b is = is ∙ elim (is_some (body_of (map.get s.slots (slot k)))) as (λ b. is_removed_by (cond b Expired NotFound) ≡ b) [ true ↦ refl | false ↦ refl ]
+
+-- ---- what is noted of a revalidation
+
+pub renewed-as : (x : Request) (m noted old mid new : Meta) (prov made : ℕ) → x.meta ≡ Some old → noted ≡ m → prov ≡ metas.provenance_of old → made ≡ old.created → mid ≡ record noted { provenance = Some prov } → new ≡ record mid { created = made } → new ≡ renewed_by m x.meta
+renewed-as x m noted old mid new prov made has same from when one two =
+    two ∙ ap (λ (z : Meta). record z { created = made }) one
+    ∙ (λ i. let z : Meta = same i in record z { created = when i; provenance = Some (from i) })
+    ∙ ap (renewed_by m) (sym has)
+
+same-body : (s : Store) (o : Option Key) → has_body s o ≡ complete_for s o
+same-body s None = refl
+same-body s (Some k) = refl
+
+pub renews-told : (s : Store) (t : Locks) (x : Request) (m n : Meta) (k : Key) (j : ℕ) (r : Result Bool ErrorType) (o : Option ℕ) (reply : Reply) (old mid events : List Event) → x.key ≡ Some k → j ≡ slot k → n ≡ renewed_by m x.meta → o ≡ permit_of x.held → reply ≡ renewal_reply r → old ≡ [] → mid ≡ old ++ renewing j n r → events ≡ mid ++ each E.Release o
+    → IfOk r (λ b. b ≡ has_body s x.key) → OnErr r (IsTrue (has_body s x.key)) → IfErr r (λ e. e ≡ OutOfMemory) → Renews (facts_in s t x) m x reply events
+renews-told s t x m n k j r o reply old mid events key at copy permit told none one is =
+    by r told (is ∙ ap (λ es. es ++ each E.Release o) (one ∙ ap (λ es. es ++ renewing j n r) none) ∙ (λ i. renewing (at i) (copy i) r ++ each E.Release (permit i)))
+  where
+    by : (r : Result Bool ErrorType) → reply ≡ renewal_reply r → events ≡ renewing (slot k) (renewed_by m x.meta) r ++ each E.Release (permit_of x.held) → IfOk r (λ b. b ≡ has_body s x.key) → OnErr r (IsTrue (has_body s x.key)) → IfErr r (λ e. e ≡ OutOfMemory) → Renews (facts_in s t x) m x reply events
+    by (Ok b) told all there something kind =
+        let whole : b ≡ complete_for s x.key = there ∙ same-body s x.key in
+        inl (k, key, told ∙ ap update_reply whole, all ∙ ap (λ c. renew_of c (slot k) (renewed_by m x.meta) ++ each E.Release (permit_of x.held)) whole)
+    by (Err e) told all there something kind = inr (sym (same-body s x.key) ∙ something, told ∙ ap R.Refused kind, all)

@@ -7,6 +7,10 @@ use Rattle.pcache_base.specs.declared.poll.Poll.{Poll}
 use Rattle.pcache_base.specs.declared.poll.Poll.TheVariants.{Ready, Pending}
 use Rattle.pcache_evict.specs.Tracked.{Tracked, Limits}
 use Rattle.pcache_meta.specs.Meta.{Meta}
+use Rattle.pcache_predict.specs.declared.admission.Decision.{Decision}
+use Rattle.pcache_request.specs.Admissions.{is_deferral}
+use Rattle.pcache_request.specs.Requests.{Request}
+use Rattle.pcache_request.specs.Variants.{hides_pair, is_hidden, is_unseen}
 use Rattle.pcache_store.specs.Store.{Reader, Part, read_part}
 use Rattle.pingora_cache.specs.declared.world.call.Call.{Call}
 use Rattle.pingora_cache.specs.declared.world.call.Call.TheVariants as C
@@ -20,13 +24,13 @@ use Rattle.pingora_cache.specs.declared.world.entry.Event.{Event}
 use Rattle.pingora_cache.specs.declared.world.entry.Event.TheVariants as E
 use Rattle.pingora_cache.specs.Events.{begin_of, in_flight, body_of, is_told}
 use Rattle.pingora_cache.specs.Facts.{Facts, Says}
-use Rattle.pingora_cache.specs.Headline.{is_found, HasUntouched, told_found, TellsExactly, ReadsTheWhole, IsEntryOf, FindsUntouched, FinishesUntouched, HitsTheLast, StaysWithin, EvictsNothingWithin, GivesWhereNoneWaits}
-use Rattle.pingora_cache.specs.Held.{Held, number_of, request_of}
+use Rattle.pingora_cache.specs.Headline.{is_found, HasUntouched, HandsOnExactly, HandsOnUnhidden, told_found, TellsExactly, ReadsTheWhole, IsEntryOf, FindsUntouched, FinishesUntouched, HitsTheLast, StaysWithin, EvictsNothingWithin, GivesWhereNoneWaits}
+use Rattle.pingora_cache.specs.Held.{Held, carrying, decides, number_of, pair_of, request_of}
 use Rattle.pingora_cache.specs.History.{events_of, reads, written_of}
 use Rattle.pingora_cache.specs.Legal.{IsLegal, Gives}
 use Rattle.pingora_cache.specs.Log.{Log, HasLegal}
 use Rattle.pingora_cache.specs.ReadSoFar.{read_by, HasRead}
-use Rattle.pingora_cache.specs.Rules.{Answers, Looks, look_reply, IsCopy}
+use Rattle.pingora_cache.specs.Rules.{Answers, HandsOn, Looks, LooksOn, Misses, drop_of, look_reply, release_of, IsCopy}
 use Rattle.pingora_cache.proofs.AnswersLaw.{looks_are_true, reads_are_true}
 use Rattle.pingora_cache.proofs.Laws.{finds_exactly, reads_the_last, is_within_limits, finishes_exactly}
 use Rattle.pingora_cache.proofs.ReadsLaw.{reads_a_beginning, written_as}
@@ -40,38 +44,91 @@ tells-found (A.Complete m body) l = refl
 tells-found (A.Streaming m w) l = refl
 
 -- a reply that tells nothing of what was found
-tells-none : {P : Type 0} (reply other : Reply) (b : Bool) → reply ≡ other → told_found other ≡ None → told_found reply ≡ Some b → P
-tells-none reply other b is none told = let no : ◌≡◌ {A = Option Bool} None (Some b) = sym none ∙ sym (ap told_found is) ∙ told in absurd (cc)
+tells-none : {P : Type 0} (reply silent : Reply) (b : Bool) → reply ≡ silent → told_found silent ≡ None → told_found reply ≡ Some b → P
+tells-none reply silent b is none told = let no : ◌≡◌ {A = Option Bool} None (Some b) = sym none ∙ sym (ap told_found is) ∙ told in absurd (cc)
 
-module _ (limits : Limits) (start : Tracked) (before : List Entry) (l : IsLegal limits start before) (x : Held) (k : Key) (b : Bool) (key : x.request.key ≡ Some k) where
-  by-looks : (f : Facts) (reply : Reply) (events : List Event) → Says (events_of before) x.request f → told_found reply ≡ Some b → Looks f x.request reply events → (b ≡ true) ↔ HasUntouched (slot k) (events_of before)
-  by-looks f reply events says told (inl (e, why, idle)) = tells-none reply (R.Refused e) b idle.0 refl told
-  by-looks f reply events says told (inr (j, a, more, lock, has, found, asks, all, is)) =
-      let same : ◌≡◌ {A = Option Key} (Some j) (Some k) = sym has ∙ key in
-      let at : j ≡ k = cc in
-      let law = finds_exactly limits start before (slot j) a l (says.found j a has found) in
-      let some : ◌≡◌ {A = Option Bool} (Some b) (Some (is_found a)) = sym told ∙ ap told_found is ∙ tells-found a lock in
-      let found-is : b ≡ is_found a = cc in
-      subst (λ q. (b ≡ true) ↔ HasUntouched (slot q) (events_of before)) at (subst (λ c. (c ≡ true) ↔ HasUntouched (slot j) (events_of before)) (sym found-is) law)
+none-hides : (o : Option (Meta × Reader)) → hides_pair None o ≡ false
+none-hides None = refl
+none-hides (Some p) = refl
 
-  by-answers : (f : Facts) (r t : ℕ) (reply : Reply) (events : List Event) → Says (events_of before) x.request f → told_found reply ≡ Some b → Answers f (C.Look r t) (Some x) reply events → (b ≡ true) ↔ HasUntouched (slot k) (events_of before)
-  by-answers f r t reply events says told (inl a) = by-looks f reply events says told a.2
-  by-answers f r t reply events says told (inr a) = tells-none reply R.WrongCall b a.1.0 refl told
+-- what is told and handed on of an answer
+abbrev IsHandedOn : Held → Answer → Type 0
+IsHandedOn x a = (is_found a ≡ true) × (hides_pair x.request.valid_after (pair_of a) ≡ false)
 
-  by-copy : (f : Facts) (r t : ℕ) (reply told : Reply) (events : List Event) → Says (events_of before) x.request f → told_found told ≡ Some b → IsCopy reply told → Answers f (C.Look r t) (Some x) reply events → (b ≡ true) ↔ HasUntouched (slot k) (events_of before)
-  by-copy f r t reply told events says is (inl same) a = by-answers f r t reply events says (ap told_found (sym same) ∙ is) a
-  by-copy f r t reply told events says is (inr other) a = tells-none told (R.Refused _) b other.0 refl is
+module _ (f : Facts) (k : ℕ) (x : Held) (reply : Reply) (events : List Event) (b : Bool) (told : told_found reply ≡ Some b) where
+  misses-tell : (a : Answer) → Misses f k a x.request reply events → b ≡ false
+  misses-tell a (inl (e, used, why, is, refused)) = tells-none reply (R.Refused e) b refused refl told
+  misses-tell a (inr (more, l, asks, is, nothing)) = let same : ◌≡◌ {A = Option Bool} (Some b) (Some false) = sym told ∙ ap told_found nothing in cc
+
+  hands-tell : (a : Answer) (hidden : Bool) → is_found a ≡ true → HandsOn hidden f k a x.request reply events → (b ≡ true) ↔ ((is_found a ≡ true) × (hidden ≡ false))
+  hands-tell a true some m = let none = misses-tell a m in (λ t. absurd (cc), λ p. absurd (let never = p.1 in cc))
+  hands-tell a false some m = let same : ◌≡◌ {A = Option Bool} (Some b) (Some (is_found a)) = sym told ∙ ap told_found m.1 ∙ tells-found a None in (λ _. (some, refl), λ _. cc)
+
+  looks-tell : (a : Answer) → LooksOn (is_deferral (decides a x)) f k a x.request reply events → (b ≡ true) ↔ IsHandedOn x a
+  looks-tell A.Nothing h =
+      let none : b ≡ false = elim (is_deferral (decides A.Nothing x)) as (λ c. LooksOn c f k A.Nothing x.request reply events → b ≡ false) [
+        | true ↦ λ g. let same : ◌≡◌ {A = Option Bool} (Some b) (Some false) = sym told ∙ ap told_found g.1 in cc
+        | false ↦ λ g. misses-tell A.Nothing g
+      ] h in
+      (λ t. absurd (cc), λ p. absurd (let never = p.0 in cc))
+  looks-tell (A.Complete m body) h = hands-tell (A.Complete m body) (is_hidden x.request.valid_after m.created) refl h
+  looks-tell (A.Streaming m w) h = hands-tell (A.Streaming m w) (is_hidden x.request.valid_after m.created) refl h
+
+-- its events begin with what was found
+misses-first : (f : Facts) (k : ℕ) (a : Answer) (x : Request) (reply : Reply) (events : List Event) → Misses f k a x reply events → (more : List Event) × (events ≡ E.Look k a ∷ more)
+misses-first f k a x reply events (inl (e, used, why, is, refused)) = ([], is)
+misses-first f k a x reply events (inr (more, l, asks, is, nothing)) = (more, is)
+
+looks-first : (c h : Bool) (f : Facts) (k : ℕ) (a : Answer) (x : Request) (reply : Reply) (events : List Event) → is_unseen x.valid_after (pair_of a) ≡ h → LooksOn c f k a x reply events → (more : List Event) × (events ≡ E.Look k a ∷ more)
+looks-first true h f k a x reply events seen on = (release_of x.held ++ drop_of x.write, on.0)
+looks-first false true f k a x reply events seen on = misses-first f k a x reply events (subst (λ c. HandsOn c f k a x reply events) seen on)
+looks-first false false f k a x reply events seen on = ([], (subst (λ c. HandsOn c f k a x reply events) seen on).0)
+
+-- what a look-up found, and what its reply tells of it
+module _ (b : Bool) (x : Held) where
+  abbrev Tells : List Event → Facts → List Event → Type 0
+  Tells es f events = (k : Key) × (a : Answer) × (more : List Event) × (x.request.key ≡ Some k) × (pair_of a ≡ f.found) × (events ≡ E.Look (slot k) a ∷ more) × ((b ≡ true) ↔ IsHandedOn x a)
+
+  by-looks : (es : List Event) (f : Facts) (d : Option Decision) (reply : Reply) (events : List Event) → told_found reply ≡ Some b → Looks f (carrying d x) reply events → Tells es f events
+  by-looks es f d reply events told (inl idle) = tells-none reply (R.Refused _) b idle.0 refl told
+  by-looks es f d reply events told (inr (k, a, key, found, on)) =
+      let y = carrying d x in
+      let first = looks-first (is_deferral (decides a y)) (is_unseen y.request.valid_after (pair_of a)) f (slot k) a y.request reply events refl on in
+      (k, a, first.0, key, found, first.1, looks-tell f (slot k) y reply events b told a on)
+
+  by-answers : (es : List Event) (f : Facts) (r t : ℕ) (d : Option Decision) (reply : Reply) (events : List Event) → told_found reply ≡ Some b → Answers f (C.Look r t d) (Some x) reply events → Tells es f events
+  by-answers es f r t d reply events told (inl a) = by-looks es f d reply events told a.2
+  by-answers es f r t d reply events told (inr a) = tells-none reply R.WrongCall b a.1.0 refl told
+
+  by-copy : (es : List Event) (f : Facts) (r t : ℕ) (d : Option Decision) (reply told : Reply) (events : List Event) → told_found told ≡ Some b → IsCopy reply told → Answers f (C.Look r t d) (Some x) reply events → Tells es f events
+  by-copy es f r t d reply told events is (inl same) a = by-answers es f r t d reply events (ap told_found (sym same) ∙ is) a
+  by-copy es f r t d reply told events is (inr other) a = tells-none told (R.Refused _) b other.0 refl is
+
+  by-entry : (limits : Limits) (start : Tracked) (before : List Entry) (entry : Entry) (r t : ℕ) (d : Option Decision) → IsLegal limits start (entry ∷ before) → entry.call ≡ C.Look r t d → request_of r before ≡ Some x → told_found entry.reply ≡ Some b
+      → (f : Facts) × Says (events_of before) x.request f × Tells (events_of before) f entry.events
+  by-entry limits start before entry r t d l call has told =
+      let opened-as : request_of (number_of entry.call) before ≡ Some x = ap (λ c. request_of (number_of c) before) call ∙ has in
+      let moved = subst (λ q. Gives limits start (events_of before) q entry.call entry.reply entry.events) opened-as l.0 in
+      let looked = subst (λ c. Gives limits start (events_of before) (Some x) c entry.reply entry.events) call moved in
+      (looked.facts, looked.says, by-copy (events_of before) looked.facts r t d looked.told entry.reply entry.events told looked.copy looked.answers)
 
 pub tells_exactly : TellsExactly
-tells_exactly limits start before entry r t x k b l call has key told =
-    by l.0 call
-  where
-    by : Gives limits start (events_of before) (request_of (number_of entry.call) before) entry.call entry.reply entry.events → entry.call ≡ C.Look r t → (b ≡ true) ↔ HasUntouched (slot k) (events_of before)
-    by g is =
-        let open-as : request_of (number_of entry.call) before ≡ Some x = ap (λ c. request_of (number_of c) before) is ∙ has in
-        let moved = subst (λ q. Gives limits start (events_of before) q entry.call entry.reply entry.events) open-as g in
-        let looked = subst (λ c. Gives limits start (events_of before) (Some x) c entry.reply entry.events) is moved in
-        by-copy limits start before l.1 x k b key looked.facts r t looked.told entry.reply entry.events looked.says told looked.copy looked.answers
+tells_exactly limits start before entry r t d x k b l call has key bare told =
+    let h = by-entry b x limits start before entry r t d l call has told in
+    let n = h.2 in
+    let same : ◌≡◌ {A = Option Key} (Some n.0) (Some k) = sym n.3 ∙ key in
+    let at : n.0 ≡ k = cc in
+    let law = finds_exactly limits start before (slot n.0) n.1 l.1 (h.1.found n.0 n.1 n.3 n.4) in
+    let unhidden : hides_pair x.request.valid_after (pair_of n.1) ≡ false = ap (λ o. hides_pair o (pair_of n.1)) bare ∙ none-hides (pair_of n.1) in
+    subst (λ q. (b ≡ true) ↔ HasUntouched (slot q) (events_of before)) at ((λ is. law.0 (n.6.0 is).0), (λ u. n.6.1 (law.1 u, unhidden)))
+
+pub hands_on_exactly : HandsOnExactly
+hands_on_exactly limits start before entry r t d x k answer rest b l call has is told =
+    let h = by-entry b x limits start before entry r t d l call has told in
+    let n = h.2 in
+    let all : ◌≡◌ {A = List Event} (E.Look (slot n.0) n.1 ∷ n.2) (E.Look k answer ∷ rest) = sym n.5 ∙ is in
+    let same : n.1 ≡ answer = cc in
+    subst (λ a. (b ≡ true) ↔ IsHandedOn x a) same n.6
 
 -- a reader of a write that tells the end has given all of it
 gave-all : (place : ℕ) (body : List ℕ) (more : Bool) (got : List ℕ) → ◌≡◌ {A = Poll (Option (List ℕ))} (Ready None) (cond (nat_lt place (length body)) (Ready (Some (drop place body))) (cond more Pending (Ready None))) → (got ≡ take place body) × (place ≤ length body) → got ≡ body
@@ -107,7 +164,12 @@ module _ (log : Log) (legal : HasLegal log) where
   at-entry entry before at = legal-part log.limits log.start at.0 entry before (subst (IsLegal log.limits log.start) at.1 legal)
 
   pub finds_untouched : FindsUntouched log
-  finds_untouched before entry r t x k b at = tells_exactly log.limits log.start before entry r t x k b (at-entry entry before at)
+  finds_untouched before entry k answer rest at is =
+      let l = at-entry entry before at in
+      finds_exactly log.limits log.start before k answer l.1 (looks_are_true log.limits log.start before entry k answer rest l is)
+
+  pub hands_on_unhidden : HandsOnUnhidden log
+  hands_on_unhidden before entry r t d x k answer rest b at = hands_on_exactly log.limits log.start before entry r t d x k answer rest b (at-entry entry before at)
 
   pub finishes_untouched : FinishesUntouched log
   finishes_untouched before entry w is_stored rest at = finishes_exactly log.limits log.start before entry w is_stored rest (at-entry entry before at)

@@ -8,8 +8,17 @@ use Rattle.pcache_meta.specs.Meta.{Meta}
 use Rattle.pcache_base.specs.declared.poll.Poll.{Poll}
 use Rattle.pcache_base.specs.declared.poll.Poll.TheVariants.{Ready, Pending}
 use Rattle.pcache_evict.specs.Tracked.{Tracked, Limits}
-use Rattle.pcache_store.specs.Store.{Written, Reader, Whole, Part, read_part}
+use Rattle.pcache_store.specs.Store.{Written, Reader, Whole, Part, read_part, end_or, is_forward}
+use Rattle.pcache_base.specs.declared.reason.NoCacheReason.TheVariants as reason
+use Rattle.pcache_base.specs.declared.reason.NoCacheReason.TheVariants.{Deferred}
+use Rattle.pcache_predict.specs.declared.admission.Decision.{Decision}
+use Rattle.pcache_request.specs.Admissions.{is_deferral, with_decision}
 use Rattle.pcache_request.specs.Phases.{is_treated_as_miss}
+use Rattle.pcache_request.specs.Releasing.{disabled_for, disabled_in}
+use Rattle.pcache_request.specs.Renewals.{renewed}
+use Rattle.pcache_request.specs.Variants.{is_hidden, visible}
+use Rattle.pcache_request.specs.declared.phase.CachePhase.{CachePhase}
+use Rattle.pcache_request.specs.declared.phase.CachePhase.TheVariants as phase
 use Rattle.pcache_request.specs.Requests.{Request, without_reader}
 use Rattle.pcache_request.specs.declared.phase.HitStatus.{HitStatus}
 use Rattle.pingora_cache.specs.declared.world.call.Call.{Call}
@@ -22,7 +31,7 @@ use Rattle.pingora_cache.specs.declared.world.entry.Entry.{Entry}
 use Rattle.pingora_cache.specs.declared.world.entry.Event.{Event}
 use Rattle.pingora_cache.specs.declared.world.entry.Event.TheVariants as E
 use Rattle.pingora_cache.specs.Events.{begin_of, in_flight, body_of, is_told}
-use Rattle.pingora_cache.specs.Held.{Held, Change, opens, closes, stays, turns, looks, takes, begins, ends, reads_on, reads_no_more, change_of, changed, turned_by, number_of, Outcome, outcome, is_wrong, is_done, is_taken, opened, with_given, asked, pair_of, looked_by, placed_by, taken_by, without_pair, began, ended, read_past, has_read, on_request, row_by, row, request_of}
+use Rattle.pingora_cache.specs.Held.{Held, Change, opens, closes, stays, turns, turns_by, shuts, looks, takes, begins, ends, reads_on, seeks, reads_no_more, renews, change_of, changed, turned_by, shut_by, sought_in, with_sought, number_of, Outcome, outcome, is_wrong, is_done, is_taken, opened, with_given, asked, pair_of, carrying, decides, looked_by, looked_with, placed_by, taken_by, without_pair, began, ended, read_past, has_read, on_request, row_by, row, request_of}
 use Rattle.pingora_cache.specs.History.{events_of, reads}
 use Rattle.pingora_cache.specs.Facts.{Facts, Says, request_in}
 use Rattle.pingora_cache.specs.Legal.{IsLegal}
@@ -75,6 +84,13 @@ still events es (Some x) got h =
 starts : (es : List Event) (reader : Reader) → IsAtStart reader → HasRead es reader []
 starts es (Whole body start stop done) h = ap (λ b. cond b (slice_range body start stop) []) (sym h)
 starts es (Part w place) h = subst (λ p. HasRead es (Part w p) []) (sym h) (refl, omega arith)
+
+-- a reader that was sent to another range has given nothing of it
+sought-follows : (es : List Event) (start : ℕ) (end : Option ℕ) (o : Option Reader) → IfSome (sought_in start end o) (λ reader. HasRead es reader [])
+sought-follows es start end None = tt
+sought-follows es start end (Some (Part w place)) = tt
+sought-follows es start end (Some (Whole body from to done)) =
+    elim (nat_lt start (length body) && is_forward start end) as (λ b. IfSome (cond b (Some (Whole body start (end_or end (length body)) false)) None) (λ reader. HasRead es reader [])) [ true ↦ refl | false ↦ tt ]
 
 -- A read.
 
@@ -134,9 +150,31 @@ pair-starts A.Nothing = tt
 pair-starts (A.Complete m body) = refl
 pair-starts (A.Streaming m w) = refl
 
+-- what is handed on has given nothing
+seen-starts : (from : Option ℕ) (o : Option (Meta × Reader)) → IfSome o (λ p. IsAtStart p.1) → IfSome (visible from o) (λ p. IsAtStart p.1)
+seen-starts from None h = tt
+seen-starts from (Some p) h = elim (is_hidden from p.0.created) as (λ b. IfSome (cond b None (Some p)) (λ q. IsAtStart q.1)) [ true ↦ tt | false ↦ h ]
+
+pub decided-reader : (d : Option Decision) (x : Request) → (with_decision d x).reader ≡ x.reader
+decided-reader None x = refl
+decided-reader (Some d) x = refl
+
+-- caching that is turned off leaves no reader, or where it was never on all as it was
+off-follows : (es : List Event) (got : List ℕ) (x : Request) (p : CachePhase) → IfSome x.reader (λ reader. HasRead es reader got) → IfSome (disabled_in p Deferred x).reader (λ reader. HasRead es reader got)
+off-follows es got x (phase.Disabled reason.NeverEnabled) h = h
+off-follows es got x p h = tt
+
+looked-on : (es : List Event) (d : Option Decision) (a : Answer) (events : List Event) (got : List ℕ) (x : Held) → FollowsIn es x got → FollowsIn es (looked_with d a events x) got
+looked-on es d a events got x h =
+    let old : IfSome (with_decision d x.request).reader (λ reader. HasRead es reader got) = subst (λ o. IfSome o (λ reader. HasRead es reader got)) (sym (decided-reader d x.request)) h.0 in
+    elim (is_deferral d) as (λ b. FollowsIn es (cond b (record { request = disabled_for Deferred (with_decision d x.request); pair = None; carried = None }) (record { request = asked false events (with_decision d x.request); pair = visible x.request.valid_after (pair_of a); carried = x.carried })) got) [
+      | true ↦ (off-follows es got (with_decision d x.request) (with_decision d x.request).phase old, tt)
+      | false ↦ (subst (λ o. IfSome o (λ reader. HasRead es reader got)) (sym (asked-reader false events (with_decision d x.request))) old, seen-starts x.request.valid_after (pair_of a) (pair-starts a))
+    ]
+
 looked-follows : (es events : List Event) (got : List ℕ) (x : Held) → FollowsIn es x got → FollowsIn es (looked_by events x) got
 looked-follows es [] got x h = h
-looked-follows es (E.Look k a ∷ events) got x h = (subst (λ o. IfSome o (λ reader. HasRead es reader got)) (sym (asked-reader false events x.request)) h.0, pair-starts a)
+looked-follows es (E.Look k a ∷ events) got x h = looked-on es (decides a x) a events got x h
 looked-follows es (e ∷ events) got x h = h
 
 placed-follows : (es events : List Event) (s : HitStatus) (x : Request) (p : Option (Meta × Reader)) → IsSome p → IfSome p (λ q. IsAtStart q.1) → IfSome (placed_by s events x p).reader (λ reader. HasRead es reader [])
@@ -230,14 +268,19 @@ module _ (f : Facts) (es events : List Event) (reply : Reply) (got : List ℕ) w
   follow stays x says a old h = h
   follow (turns g leaves_pair) x says a old h =
       on-done after got (is_done o) (Some (turned_by g leaves_pair x)) (Some x) (h.0, elim leaves_pair as (λ b. IfSome (cond b None x.pair) (λ p. IsAtStart p.1)) [ true ↦ tt | false ↦ h.1 ]) h
-  follow looks x says a old h = looked-follows after events got x h
+  follow (turns_by g) x says a old h = on-done after got (is_done o) (Some (turned_by (g x.pair) false x)) (Some x) (h.0, h.1) h
+  follow (shuts g) x says a old h = on-done after got (is_done o) (Some (shut_by g x)) (Some x) (tt, tt) h
+  follow (looks d) x says a old h = on-done after got (is_wrong o) (Some x) (Some (looked_by events (carrying d x))) h (looked-follows after events got (carrying d x) h)
   follow (takes s) x says a old h = found-follows after events s x got o a h
   follow begins x says (inl a) old h = begin-idle after events x got reply R.WrongCall refl h a
   follow begins x says (inr a) old h = begin-follows f es x got reply events h a
   follow ends x says a old h = ended-follows after events got x h
   follow reads_on x says (inl a) old h = subst (FollowsRead es x got) (sym a) (none-read es x got old)
   follow reads_on x says (inr a) old h = read-follows f es x got reply events says a.0 old a.1
+  follow (seeks start end) x says a old h =
+      elim (is_done o) as (λ b. Follows after (cond b (Some (on_request (with_sought start end) x)) (Some x)) (cond b [] got)) [ true ↦ (sought-follows after start end x.request.reader, h.1) | false ↦ h ]
   follow reads_no_more x says a old h = on-done after got (is_wrong o) (Some x) (Some (on_request without_reader x)) h (tt, h.1)
+  follow (renews m) x says a old h = on-done after got (is_wrong o) (Some x) (Some (on_request (renewed m) x)) h (h.0, h.1)
 
   -- where no request is open
   follow-none : (change : Change) → FollowsTo change None
@@ -245,12 +288,16 @@ module _ (f : Facts) (es events : List Event) (reply : Reply) (got : List ℕ) w
   follow-none closes = on-done after got (is_done o) None None tt tt
   follow-none stays = tt
   follow-none (turns g leaves_pair) = on-done after got (is_done o) None None tt tt
-  follow-none looks = tt
+  follow-none (turns_by g) = on-done after got (is_done o) None None tt tt
+  follow-none (shuts g) = on-done after got (is_done o) None None tt tt
+  follow-none (looks d) = on-done after got (is_wrong o) None None tt tt
   follow-none (takes s) = let got = cond (is_taken o) [] got in on-done after got (is_taken o) None (cond (is_wrong o) None None) tt (on-done after got (is_wrong o) None None tt tt)
   follow-none begins = tt
   follow-none ends = tt
   follow-none reads_on = tt
+  follow-none (seeks start end) = elim (is_done o) as (λ b. Follows after (cond b None None) (cond b [] got)) [ true ↦ tt | false ↦ tt ]
   follow-none reads_no_more = on-done after got (is_wrong o) None None tt tt
+  follow-none (renews m) = on-done after got (is_wrong o) None None tt tt
 
 -- one call
 follow-call : (f : Facts) (es : List Event) (call : Call) (q : Option Held) (reply : Reply) (events : List Event) (got : List ℕ) → Says es (request_in q) f → Answers f call q reply events → Follows es q got → Follows (reverse events ++ es) q got

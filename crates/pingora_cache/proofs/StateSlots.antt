@@ -85,7 +85,7 @@ cut-filled w (Some x) z e = tidied-filled (cut w x) z e
 
 -- ---- one slot changed
 
-filled-at : (xs ys : FinMap nat_cmp Slot) (at : ℕ) (o : Option Slot) → ((k : ℕ) → get ys k ≡ cond (at == k) o (get xs k)) → ((z : Slot) → o ≡ Some z → is_idle z ≡ false)
+pub filled-at : (xs ys : FinMap nat_cmp Slot) (at : ℕ) (o : Option Slot) → ((k : ℕ) → get ys k ≡ cond (at == k) o (get xs k)) → ((z : Slot) → o ≡ Some z → is_idle z ≡ false)
     → ((k : ℕ) (z : Slot) → get xs k ≡ Some z → is_idle z ≡ false) → (k : ℕ) (z : Slot) → get ys k ≡ Some z → is_idle z ≡ false
 filled-at xs ys at o set new old k z h =
     elim (at == k) as (λ b. get ys k ≡ cond b o (get xs k) → is_idle z ≡ false) [ true ↦ λ e. new z (sym e ∙ h) | false ↦ λ e. old k z (sym e ∙ h) ] (set k)
@@ -162,8 +162,8 @@ standing-slot (Some x) w h = (x, refl)
 pub open-standing : (es : List Event) (w : ℕ) (b : ℕ × Meta) → begin_of w es ≡ Some b → in_flight w es ≡ true → is_removed w es ≡ false → is_open b.0 w es ≡ true
 open-standing es w b is fly kept = (λ i. option_any (λ (c : ℕ × Meta). c.0 == b.0) (is i) && (fly i && not (kept i))) ∙ ap (λ t. t && true) (same-number b.0)
 
-pub state-finished : (es : List Event) (n : ℕ → ℕ) (s : Store) (w : ℕ) → in_flight w es ≡ true → is_removed w es ≡ false → IsState es n s → IsState (Finish w true ∷ es) n (finished s w)
-state-finished es n s w fly kept st =
+pub state-finished : (es : List Event) (n : ℕ → ℕ) (s : Store) (w : ℕ) → IsTidy es → in_flight w es ≡ true → is_removed w es ≡ false → IsState es n s → IsState (Finish w true ∷ es) n (finished s w)
+state-finished es n s w tidy fly kept st =
     let f = begun-flying w es fly in
     let b = f.0 in
     let c : Stored = record { meta = b.1; bytes = ev.body_of w es } in
@@ -179,7 +179,7 @@ state-finished es n s w fly kept st =
       fresh = ended-fresh es n s st w b f.1 ys (Some y) set (λ q. gone-key x.fresh w q ∙ ap (λ o. cond (w == q) false (is_fresh_in q o)) (sym g.1));
       bodies = λ k. ap body_of (set k)
           ∙ elim (b.0 == k) as (λ t. body_of (cond t (Some y) (get s.slots k)) ≡ (if t then Some c else body_of (get s.slots k))) [ true ↦ refl | false ↦ refl ]
-          ∙ ap (λ o. if b.0 == k then Some c else o) (st.bodies k) ∙ sym (complete-finish es w b.0 b.1 f.1 kept k);
+          ∙ ap (λ o. if b.0 == k then Some c else o) (st.bodies k) ∙ sym (complete-finish es w b.0 b.1 tidy fly f.1 kept k);
       filled = filled-at s.slots ys b.0 (Some y) set (λ z e. let same : y ≡ z = cc in ap is_idle (sym same)) st.filled;
       known = st.known;
     }))

@@ -1,15 +1,17 @@
 -- A history stays tidy.
 use Rattle.std.proofs.Common.{◌≡◌, ◌≢◌, ℕ, ◌<◌, ◌≤◌, Bool, true, false, ◌||◌, ◌==◌, if◌then◌else◌, Option, None, Some, is_some, List, [], ◌∷◌, ◌++◌, refl, ap, sym, subst, ◌∙◌, arith}
 use Rattle.std.specs.List.{list_any}
+use Rattle.std.specs.Option.{option_map}
 use Rattle.std.proofs.lemmas.Bool.{eqb-true, eq-eqb, ne_eqb, both_ways, or_left, or_right, or_parts}
-use Rattle.pcache_meta.specs.Meta.{Meta}
+use Rattle.pcache_meta.specs.Meta.{Meta, expired_at}
 use Rattle.pcache_evict.specs.declared.eviction.entry_key.CacheEntryKey.{CacheEntryKey}
+use Rattle.pcache_store.specs.Store.{Stored}
 use Rattle.pingora_cache.specs.declared.world.entry.Answer.{Answer}
 use Rattle.pingora_cache.specs.declared.world.entry.Event.{Event}
-use Rattle.pingora_cache.specs.declared.world.entry.Event.TheVariants.{Look, Ask, Access, Begin, Wrote, Finish, Dropped, Release, LetGo, Admit, Purge, Untrack, Read}
+use Rattle.pingora_cache.specs.declared.world.entry.Event.TheVariants.{Look, Ask, Access, Begin, Wrote, Finish, Dropped, Release, LetGo, Admit, Purge, Expire, Renew, Untrack, Read}
 use Rattle.pingora_cache.specs.Events.{begun, begin_of, since, removes, names_key, option_any, is_removed, has_ended, in_flight, body_of, is_told, is_of, was_stored, last_finished, complete}
 use Rattle.pingora_cache.specs.Sound.{IsTidy}
-use Rattle.pingora_cache.proofs.Steps.{flies, below, begun_of, body_with, complete-wrote, complete-begin, complete-purge, complete-admit, complete-finish}
+use Rattle.pingora_cache.proofs.Steps.{flies, below, begun_of, body_with, complete-wrote, complete-begin, complete-purge, complete-expire, complete-renew, complete-admit, complete-finish, altered_body}
 
 -- a write of a key that met no removal met none of this event
 unremoved : (p : ℕ → Bool) (k : ℕ) (o : Option (ℕ × Meta)) (rest : List Event) → option_any (λ (b : ℕ × Meta). b.0 == k) o ≡ true → option_any (λ (b : ℕ × Meta). p b.0 || list_any (removes b.0) rest) o ≡ false
@@ -67,6 +69,34 @@ tidy-admit es e n out t = record {
   survives = λ q w st of kept.
       let p = unremoved (λ y. names_key y out) q (begin_of w es) (since w es) of kept in
       ap is_some (complete-admit es e n out t q ∙ ap (λ b. if b then None else complete q es) p.0) ∙ t.survives q w st of p.1;
+}
+
+-- an expiry and a revalidation leave what stands standing
+still-some : (b : Bool) (g : Meta → Meta) (o : Option Stored) → is_some (if b then option_map (altered_body g) o else o) ≡ is_some o
+still-some true g None = refl
+still-some true g (Some x) = refl
+still-some false g o = refl
+
+pub tidy-expire : (es : List Event) (k now : ℕ) → IsTidy es → IsTidy (Expire k now ∷ es)
+tidy-expire es k now t = record {
+  fresh = t.fresh;
+  not_ended = t.not_ended;
+  no_body = t.no_body;
+  not_told = t.not_told;
+  not_stored = t.not_stored;
+  finished = t.finished;
+  survives = λ q w st of kept. ap is_some (complete-expire es k now t q) ∙ still-some (k == q) (expired_at now) (complete q es) ∙ t.survives q w st of kept;
+}
+
+pub tidy-renew : (es : List Event) (k : ℕ) (m : Meta) → IsTidy es → IsTidy (Renew k m ∷ es)
+tidy-renew es k m t = record {
+  fresh = t.fresh;
+  not_ended = t.not_ended;
+  no_body = t.no_body;
+  not_told = t.not_told;
+  not_stored = t.not_stored;
+  finished = t.finished;
+  survives = λ q w st of kept. ap is_some (complete-renew es k m t q) ∙ still-some (k == q) (λ _. m) (complete q es) ∙ t.survives q w st of kept;
 }
 
 -- writes
@@ -144,7 +174,7 @@ tidy-finish es w k m is whole fly t =
             | false ↦ λ _ here. let old = t.finished x q here in (or_right _ _ old.0, old.1, or_right _ _ old.2)
           ] refl last;
       survives = λ x q st of kept.
-          ap is_some (complete-finish es w k m is whole x)
+          ap is_some (complete-finish es w k m t fly is whole x)
           ∙ elim (k == x) as (λ b. (k == x) ≡ b → is_some (if b then Some (body_with m (body_of w es)) else complete x es) ≡ true) [
             | true ↦ λ _. refl
             | false ↦ λ no.

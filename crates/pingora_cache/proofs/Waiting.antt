@@ -1,5 +1,5 @@
 -- What calls make of the lock table is what their events say of it, and which locks a legal history gives.
-use Rattle.std.proofs.Common.{◌≡◌, ℕ, ◌==◌, Bool, true, false, not, ◌&&◌, ◌||◌, cond, if◌then◌else◌, Option, None, Some, is_some, List, [], ◌∷◌, ◌++◌, refl, ap, sym, subst, ◌∙◌, arith, inr, option_map, reverse, ◌↔◌}
+use Rattle.std.proofs.Common.{◌≡◌, ℕ, ◌==◌, Bool, true, false, not, ◌&&◌, ◌||◌, cond, if◌then◌else◌, Option, None, Some, is_some, List, [], ◌∷◌, ◌++◌, refl, ap, sym, subst, ◌∙◌, arith, inr, option_map, reverse, ◌↔◌, Result, Ok, Err}
 use Rattle.std.specs.List.{list_any}
 use Rattle.std.specs.FinMap.{get, insert, remove, get-empty}
 use Rattle.std.specs.Ordering.{nat_cmp}
@@ -18,15 +18,16 @@ use Rattle.pcache_lock.specs.Waits.{Leads, LeadsAll, is_unlock, waiting_slot}
 use Rattle.pcache_lock.specs.declared.lock.permit.Locked.{Locked}
 use Rattle.pcache_lock.specs.declared.lock.permit.Locked.TheVariants.{Write, Read}
 use Rattle.pcache_lock.specs.declared.lock.status.LockStatus.{LockStatus}
-use Rattle.pcache_lock.specs.declared.lock.status.LockStatus.TheVariants.{GiveUp}
+use Rattle.pcache_lock.specs.declared.lock.status.LockStatus.TheVariants.{Done, GiveUp}
 use Rattle.pcache_base.specs.declared.reason.NoCacheReason.{NoCacheReason}
 use Rattle.pcache_base.specs.declared.reason.NoCacheReason.TheVariants as reason
 use Rattle.pcache_lock.proofs.Calls.{finds_the_waiting}
 use Rattle.pcache_lock.proofs.Ends.{waits_until_its_end}
 use Rattle.pcache_request.specs.LockUse.{published_by}
 use Rattle.pcache_request.specs.Releasing.{status_for}
-use Rattle.pcache_request.specs.Reports.{asked_with, asked_in_look_up, asked_by_found}
-use Rattle.pcache_request.specs.Requests.{Request, entry_of, found_for, let_go_by, settled, table_asked, table_looked, table_found, asks_for_miss, asks_for_hit, asks_as_stale, counts_found}
+use Rattle.pcache_request.specs.Reports.{asked_with, asked_by_found, name_of}
+use Rattle.pcache_request.specs.Variants.{asked_for_key, table_key_locked}
+use Rattle.pcache_request.specs.Requests.{Request, entry_of, let_go_by, settled, table_asked, table_found, asks_for_hit, asks_as_stale, counts_found}
 use Rattle.pcache_request.specs.declared.phase.HitStatus.{HitStatus}
 use Rattle.pcache_store.specs.Store.{Store, Reader, reader_weight}
 use Rattle.pcache_meta.specs.Meta.{Meta}
@@ -40,8 +41,9 @@ use Rattle.pingora_cache.specs.Headline.{GivesThePermitExactly, OnePermitWaits}
 use Rattle.pingora_cache.specs.History.{events_of}
 use Rattle.pingora_cache.specs.Legal.{IsLegal}
 use Rattle.pingora_cache.specs.Rules.{each, permit_of, accesses, drop_of}
+use Rattle.pingora_cache.specs.declared.world.entry.Answer.{Answer}
 use Rattle.pingora_cache.specs.declared.world.entry.Answer.TheVariants.{Nothing}
-use Rattle.pingora_cache.specs.Step.{asking, refused_end, untracking}
+use Rattle.pingora_cache.specs.Step.{asking, permit_in, refused_end, renewing, untracking}
 use Rattle.pingora_cache.specs.Waiting.{Waiting, none_waiting, waits_at, then_waiting, waiting_after, waiting_in, NoneWaits, Gets, IsGiven, AreGiven, IsOfNoLock, AreOfNoLock, waiting_of, IsReached, IsLocked, LocksMoved, MovesLocks}
 use Rattle.pingora_cache.proofs.Noted.{permit-named}
 use Rattle.pingora_cache.proofs.Runs.{turned}
@@ -230,6 +232,14 @@ pub settle-locks : (t u : Locks) (s : LockStatus) (h : Option Locked) (o : Optio
 settle-locks t u s h o old events reason permit none is to =
     subst (λ es. MovesLocks t es u) (sym (is ∙ (λ i. none i ++ each E.Release (permit i)))) (subst (MovesLocks t (each E.Release (permit_of h))) (sym to) (settles t s h reason))
 
+-- what is held is released, and a write is dropped
+pub settle-then : (t u : Locks) (s : LockStatus) (h : Option Locked) (o write : Option ℕ) (old events : List Event) → IsReason s → o ≡ permit_of h → old ≡ [] → events ≡ old ++ each E.Release o ++ drop_of write → u ≡ settled s h t → MovesLocks t events u
+settle-then t u s h o write old events reason permit none is to =
+    subst (λ es. MovesLocks t es u) (sym (is ∙ (λ i. none i ++ each E.Release (permit i) ++ drop_of write)))
+    (subst (λ v. MovesLocks t (each E.Release (permit_of h) ++ drop_of write) v) (sym to)
+    (both-locks t (settled s h t) (settled s h t) (each E.Release (permit_of h)) (drop_of write) (settles t s h reason)
+    (quiet_locks (settled s h t) (settled s h t) (drop_of write) (elim write as (λ o. AreOfNoLock (drop_of o)) [ None ↦ tt | Some w ↦ (tt, tt) ]) refl)))
+
 asks-for : (t : Locks) (k : ℕ) (stale : Bool) (now : ℕ) (o : Option ℕ) → holder t k ≡ o → MovesLocks t (E.Ask k (number_of_lock (given t stale o)) (is_permit (given t stale o)) ∷ []) (after_request t k stale now o)
 asks-for t k stale now None is = gives-permit t k stale now is
 asks-for t k stale now (Some l) is = gives-read t k stale now l is
@@ -259,16 +269,38 @@ asks-locks t u b stale now j o k h a key at is to =
 quiet-accesses : (s : HitStatus) (k : Key) (h : Reader) (x : Request) → AreOfNoLock (accesses s k h x)
 quiet-accesses s k h x = elim (counts_found s h x) as (λ b. AreOfNoLock (if b then E.Access (entry_of k None) (reader_weight h) ∷ [] else [])) [ true ↦ (tt, tt) | false ↦ tt ]
 
--- a look-up that found nothing, and one that found something
-pub looked-locks : (s : Store) (t u : Locks) (x : Request) (k : Key) (j now : ℕ) (a : Option AskedLock) (old first events : List Event) → x.key ≡ Some k → j ≡ slot k → a ≡ asked_in_look_up s t x → u ≡ table_looked s now x t
-    → old ≡ [] → first ≡ old ++ E.Look j Nothing ∷ [] → events ≡ first ++ asking j a → MovesLocks t events u
-looked-locks s t u x k j now a old first events key at is to none one all =
-    subst (λ es. MovesLocks t es u) (sym (all ∙ ap (λ es. es ++ asking j a) (one ∙ ap (λ es. es ++ E.Look j Nothing ∷ []) none)))
-    (both-locks t t u (E.Look j Nothing ∷ []) (asking j a) (quiet_locks t t (E.Look j Nothing ∷ []) (tt, tt) refl) (asks-locks t u (asks_for_miss s x) false now j x.key k x.held a key at is to))
+-- a look-up that hands nothing on
+pub missed-locks : (t u : Locks) (x : Request) (k : Key) (answer : Answer) (j now : ℕ) (a : Option AskedLock) (old first events : List Event) → x.key ≡ Some k → j ≡ slot k → a ≡ asked_for_key t x → u ≡ table_key_locked now x t
+    → old ≡ [] → first ≡ old ++ E.Look j answer ∷ [] → events ≡ first ++ asking j a → MovesLocks t events u
+missed-locks t u x k answer j now a old first events key at is to none one all =
+    subst (λ es. MovesLocks t es u) (sym (all ∙ ap (λ es. es ++ asking j a) (one ∙ ap (λ es. es ++ E.Look j answer ∷ []) none)))
+    (both-locks t t u (E.Look j answer ∷ []) (asking j a) (quiet_locks t t (E.Look j answer ∷ []) (tt, tt) refl) (asks-locks t u x.uses.lock false now j x.key k x.held a key at is to))
 
-pub found-asks-none : (s : Store) (t u : Locks) (x : Request) (now : ℕ) (p : Meta × Reader) → found_for s x.key ≡ Some p → u ≡ table_looked s now x t → u ≡ t
-found-asks-none s t u x now p found to =
-    to ∙ ap (λ o. cond (x.uses.lock && not (is_some o)) (table_asked false now x.key x.held t) t) found ∙ elim x.uses.lock as (λ b. cond (b && false) (table_asked false now x.key x.held t) t ≡ t) [ true ↦ refl | false ↦ refl ]
+-- one that turns caching off
+pub deferred-locks : (t u : Locks) (s : LockStatus) (h : Option Locked) (o write : Option ℕ) (j : ℕ) (old first events : List Event) → IsReason s → o ≡ permit_of h → old ≡ [] → first ≡ old ++ E.Look j Nothing ∷ [] → events ≡ first ++ each E.Release o ++ drop_of write → u ≡ settled s h t → MovesLocks t events u
+deferred-locks t u s h o write j old first events reason permit none one all to =
+    subst (λ es. MovesLocks t es u) (sym (all ∙ ap (λ es. es ++ each E.Release o ++ drop_of write) (one ∙ ap (λ es. es ++ E.Look j Nothing ∷ []) none)))
+    (both-locks t t u (E.Look j Nothing ∷ []) (each E.Release o ++ drop_of write) (quiet_locks t t (E.Look j Nothing ∷ []) (tt, tt) refl) (settle-then t u s h o write [] (each E.Release o ++ drop_of write) reason permit refl refl to))
+
+-- a permit is released where the key gives its variance up, and is noted
+pub varied-locks : (t u : Locks) (b : Bool) (h : Option Locked) (o : Option ℕ) (old events : List Event) → o ≡ permit_in (cond b (option_map name_of h) None) → old ≡ [] → events ≡ old ++ each E.Release o → u ≡ cond b (settled Done h t) t → MovesLocks t events u
+varied-locks t u b h o old events permit none is to =
+    subst (λ es. MovesLocks t es u) (sym (is ∙ (λ i. none i ++ each E.Release (permit i)))) (subst (MovesLocks t (each E.Release (permit_in (cond b (option_map name_of h) None)))) (sym to) (by b))
+  where
+    by : (b : Bool) → MovesLocks t (each E.Release (permit_in (cond b (option_map name_of h) None))) (cond b (settled Done h t) t)
+    by true = subst (λ p. MovesLocks t (each E.Release p) (settled Done h t)) (sym (permit-named h)) (settles t Done h tt)
+    by false = quiet_locks t t [] tt refl
+
+-- a stale body is found good, and what is held is released
+pub renewed-locks : (t u : Locks) (h : Option Locked) (o : Option ℕ) (j : ℕ) (m : Meta) (r : Result Bool ErrorType) (old mid events : List Event) → o ≡ permit_of h → old ≡ [] → mid ≡ old ++ renewing j m r → events ≡ mid ++ each E.Release o → u ≡ settled Done h t → MovesLocks t events u
+renewed-locks t u h o j m r old mid events permit none one is to =
+    subst (λ es. MovesLocks t es u) (sym (is ∙ ap (λ es. es ++ each E.Release o) (one ∙ ap (λ es. es ++ renewing j m r) none) ∙ ap (λ p. renewing j m r ++ each E.Release p) permit))
+    (both-locks t t u (renewing j m r) (each E.Release (permit_of h)) (quiet_locks t t (renewing j m r) (quiet r) refl) (subst (MovesLocks t (each E.Release (permit_of h))) (sym to) (settles t Done h tt)))
+  where
+    quiet : (r : Result Bool ErrorType) → AreOfNoLock (renewing j m r)
+    quiet (Ok true) = (tt, tt)
+    quiet (Ok false) = tt
+    quiet (Err e) = tt
 
 -- what was found is taken
 pub taken-locks : (s : HitStatus) (t u : Locks) (x : Request) (k : Key) (h : Reader) (j now : ℕ) (a : Option AskedLock) (events : List Event) → x.key ≡ Some k → j ≡ slot k → a ≡ asked_by_found s t x → u ≡ table_found s now x t

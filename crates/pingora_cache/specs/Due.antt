@@ -4,7 +4,7 @@ use Rattle.std.specs.Option.{option_map, option_and_then}
 use Rattle.std.specs.FinMap as map
 use Rattle.pcache_base.specs.Key.{slot}
 use Rattle.pcache_evict.specs.Tracked.{Tracked, Limits, IsFair}
-use Rattle.pcache_request.specs.Phases.{IsFilling}
+use Rattle.pcache_request.specs.Phases.{IsFilling, IsOn}
 use Rattle.pcache_request.specs.Requests.{Request}
 use Rattle.pcache_store.specs.Store.{Reader}
 use Rattle.pingora_cache.specs.declared.world.entry.Event.{Event}
@@ -71,9 +71,10 @@ AreDue limits start es q o owed [] o' = (o' ≡ o) × (owed ≡ None)
 AreDue limits start es q o owed (e ∷ events) o' =
     IsNext limits (tracked start es) es q o owed e × AreDue limits start (e ∷ es) q (makes e o) (owes es e owed) events o'
 
--- a request of a world: it uses the manager, its entries have no numbers, and where it makes a write it fills
+-- a request of a world: it uses the manager while caching is on, its entries have no numbers, and where it makes a write it
+-- fills
 pub record IsOfWorld (x : Request) : Type 0 where
-  pub eviction : x.uses.eviction ≡ true
+  pub eviction : IsOn x.phase → x.uses.eviction ≡ true
   pub unnumbered : x.entry ≡ None
   pub fills : IsSome x.write → IsFilling x.phase
 

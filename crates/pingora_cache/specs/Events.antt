@@ -4,14 +4,14 @@ use Rattle.std.specs.Prelude.{ℕ, ◌+◌, Bool, true, false, not, ◌&&◌, �
 use Rattle.std.specs.Option.{option_map, option_and_then}
 use Rattle.std.specs.List.{list_any}
 use Rattle.std.specs.FinMap as map
-use Rattle.pcache_meta.specs.Meta.{Meta}
+use Rattle.pcache_meta.specs.Meta.{Meta, expired_at}
 use Rattle.pcache_base.specs.Totals.{share}
 use Rattle.pcache_evict.specs.declared.eviction.entry_key.CacheEntryKey.{CacheEntryKey}
 use Rattle.pcache_evict.specs.Tracked.{Tracked, without, added}
 use Rattle.pcache_store.specs.Store.{Stored}
 use Rattle.pcache_request.specs.Finishing.{entry_slot}
 use Rattle.pingora_cache.specs.declared.world.entry.Event.{Event}
-use Rattle.pingora_cache.specs.declared.world.entry.Event.TheVariants.{Begin, Wrote, Finish, Dropped, Admit, Access, Purge, Untrack}
+use Rattle.pingora_cache.specs.declared.world.entry.Event.TheVariants.{Begin, Wrote, Finish, Dropped, Admit, Access, Purge, Untrack, Expire, Renew}
 
 abbrev pub option_any : {A : Type 0} → (A → Bool) → Option A → Bool
 option_any p None = false
@@ -74,6 +74,12 @@ removes k (Purge q) = q == k
 removes k (Admit e n out) = names_key k out
 removes k _ = false
 
+-- what it makes of the meta of the complete body of a key: an expiry ends its freshness, a revalidation sets another
+abbrev pub alters : ℕ → Event → Meta → Meta
+alters k (Expire q now) m = if q == k then expired_at now m else m
+alters k (Renew q new) m = if q == k then new else m
+alters k _ m = m
+
 -- what it leaves tracked
 abbrev pub track : Event → Tracked → Tracked
 track (Admit e n out) m = without out (map.insert m e n)
@@ -131,9 +137,18 @@ abbrev pub last_finished : ℕ → List Event → Option ℕ
 last_finished k [] = None
 last_finished k (e ∷ es) = if option_any (λ w. is_of k w es) (finishes e) then finishes e else last_finished k es
 
--- a finished write's body, with the meta that it began with
+-- the meta of a key's body after these events
+abbrev pub altered_by : ℕ → List Event → Meta → Meta
+altered_by k [] m = m
+altered_by k (e ∷ es) m = alters k e (altered_by k es m)
+
+-- the meta of a finished write's body: the one that it began with, altered by what came after its finish
+abbrev pub meta_kept : ℕ → List Event → ℕ → Meta → Meta
+meta_kept w es k m = altered_by k (until (stores w) es) m
+
+-- a finished write's body
 abbrev pub body_stored : ℕ → List Event → Option Stored
-body_stored w es = option_map (λ b. record { meta = b.1; bytes = body_of w es }) (begin_of w es)
+body_stored w es = option_map (λ b. record { meta = meta_kept w es b.0 b.1; bytes = body_of w es }) (begin_of w es)
 
 -- the body of the last finished write of the key, where that is untouched: the key stands
 abbrev pub complete : ℕ → List Event → Option Stored

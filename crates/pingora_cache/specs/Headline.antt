@@ -7,6 +7,8 @@ use Rattle.pcache_base.specs.declared.poll.Poll.{Poll}
 use Rattle.pcache_base.specs.declared.poll.Poll.TheVariants.{Ready}
 use Rattle.pcache_meta.specs.Meta.{Meta}
 use Rattle.pcache_evict.specs.Tracked.{Tracked, Limits, IsWithin, IsFair}
+use Rattle.pcache_predict.specs.declared.admission.Decision.{Decision}
+use Rattle.pcache_request.specs.Variants.{hides_pair}
 use Rattle.pcache_store.specs.Store.{Reader, Whole, Part, Stored}
 use Rattle.pingora_cache.specs.declared.world.call.Call.TheVariants as C
 use Rattle.pingora_cache.specs.declared.world.call.Reply.{Reply}
@@ -18,7 +20,7 @@ use Rattle.pingora_cache.specs.declared.world.entry.Entry.{Entry}
 use Rattle.pingora_cache.specs.declared.world.entry.Event.{Event}
 use Rattle.pingora_cache.specs.declared.world.entry.Event.TheVariants.{Look, Ask, Finish, Admit, Read}
 use Rattle.pingora_cache.specs.Events.{is_of, begin_of, in_flight, was_stored, is_removed, last_finished, body_of, complete, names_slot, size_of, tracked, stored, slots}
-use Rattle.pingora_cache.specs.Held.{Held, number_of, request_of}
+use Rattle.pingora_cache.specs.Held.{Held, number_of, pair_of, request_of}
 use Rattle.pingora_cache.specs.Facts.{Facts, Says, request_in}
 use Rattle.pingora_cache.specs.History.{events_of, Finds, reads}
 use Rattle.pingora_cache.specs.Legal.{IsLegal}
@@ -33,7 +35,8 @@ IsWrongExactly = (limits : Limits) (start : Tracked) (before : List Entry) (entr
     → (entry.reply ≡ WrongCall) ↔ (MayBe f entry.call (request_of (number_of entry.call) before) → ⊥)
 
 -- a look-up answers what the events before it say of its key: the earliest begun write that is in flight and untouched, else
--- the complete body, else nothing; with the meta that the write began with
+-- the complete body, else nothing; with the meta that the write began with, which of a complete body is altered by each expiry
+-- and each revalidation of the key since the write was finished
 abbrev pub LooksAreTrue : Type 0
 LooksAreTrue = (limits : Limits) (start : Tracked) (before : List Entry) (entry : Entry) (k : ℕ) (answer : Answer) (rest : List Event) → IsLegal limits start (entry ∷ before) → entry.events ≡ Look k answer ∷ rest
     → Finds (events_of before) k answer
@@ -106,10 +109,17 @@ told_found R.Part = Some true
 told_found (R.NotFound l) = Some false
 told_found _ = None
 
--- a reply to a look-up tells that something was found exactly where the key has an untouched write
+-- a reply to a look-up tells that something was found exactly where the key has an untouched write, of a request that hides
+-- nothing since it looked for no variant
 abbrev pub TellsExactly : Type 0
-TellsExactly = (limits : Limits) (start : Tracked) (before : List Entry) (entry : Entry) (r t : ℕ) (x : Held) (k : Key) (b : Bool) → IsLegal limits start (entry ∷ before) → entry.call ≡ C.Look r t → request_of r before ≡ Some x → x.request.key ≡ Some k → told_found entry.reply ≡ Some b
+TellsExactly = (limits : Limits) (start : Tracked) (before : List Entry) (entry : Entry) (r t : ℕ) (d : Option Decision) (x : Held) (k : Key) (b : Bool) → IsLegal limits start (entry ∷ before) → entry.call ≡ C.Look r t d → request_of r before ≡ Some x → x.request.key ≡ Some k → x.request.valid_after ≡ None → told_found entry.reply ≡ Some b
     → (b ≡ true) ↔ HasUntouched (slot k) (events_of before)
+
+-- what the store finds is handed on by the reply to a look-up, unless it was created before the moment from which variants of
+-- the key count
+abbrev pub HandsOnExactly : Type 0
+HandsOnExactly = (limits : Limits) (start : Tracked) (before : List Entry) (entry : Entry) (r t : ℕ) (d : Option Decision) (x : Held) (k : ℕ) (answer : Answer) (rest : List Event) (b : Bool) → IsLegal limits start (entry ∷ before) → entry.call ≡ C.Look r t d → request_of r before ≡ Some x → entry.events ≡ Look k answer ∷ rest → told_found entry.reply ≡ Some b
+    → (b ≡ true) ↔ ((is_found answer ≡ true) × (hides_pair x.request.valid_after (pair_of answer) ≡ false))
 
 -- what a reader of a write has given when it tells the end is the whole body of the write
 abbrev pub ReadsTheWhole : Type 0
@@ -133,8 +143,13 @@ IsEntryOf log entry before = (later : List Entry) × (reverse log.history ≡ la
 
 -- the store finds a key exactly when a write of it, in flight or finished, met no removal since it began
 abbrev pub FindsUntouched : Log → Type 0
-FindsUntouched log = (before : List Entry) (entry : Entry) (r t : ℕ) (x : Held) (k : Key) (b : Bool) → IsEntryOf log entry before → entry.call ≡ C.Look r t → request_of r before ≡ Some x → x.request.key ≡ Some k → told_found entry.reply ≡ Some b
-    → (b ≡ true) ↔ HasUntouched (slot k) (events_of before)
+FindsUntouched log = (before : List Entry) (entry : Entry) (k : ℕ) (answer : Answer) (rest : List Event) → IsEntryOf log entry before → entry.events ≡ Look k answer ∷ rest
+    → (is_found answer ≡ true) ↔ HasUntouched k (events_of before)
+
+-- a look-up hands on exactly what the store finds and is not hidden
+abbrev pub HandsOnUnhidden : Log → Type 0
+HandsOnUnhidden log = (before : List Entry) (entry : Entry) (r t : ℕ) (d : Option Decision) (x : Held) (k : ℕ) (answer : Answer) (rest : List Event) (b : Bool) → IsEntryOf log entry before → entry.call ≡ C.Look r t d → request_of r before ≡ Some x → entry.events ≡ Look k answer ∷ rest → told_found entry.reply ≡ Some b
+    → (b ≡ true) ↔ ((is_found answer ≡ true) × (hides_pair x.request.valid_after (pair_of answer) ≡ false))
 
 -- a write's finish succeeds exactly when it met none
 abbrev pub FinishesUntouched : Log → Type 0

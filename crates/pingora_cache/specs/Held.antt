@@ -1,18 +1,24 @@
 -- An open request with the pair that its last look-up gave, and what the entries of a history leave of it (own). Calls that
 -- do one thing move a request by their reply; calls that can be refused half way move it by their events.
-use Rattle.std.specs.Prelude.{ℕ, ◌+◌, ◌==◌, Bool, true, false, Option, Some, None, cond, if◌then◌else◌, List, [], ◌∷◌, length}
-use Rattle.std.specs.Option.{option_map}
+use Rattle.std.specs.Prelude.{ℕ, ◌+◌, ◌==◌, ◌&&◌, ◌||◌, Bool, true, false, is_none, is_some, Option, Some, None, cond, if◌then◌else◌, List, [], ◌∷◌, length}
+use Rattle.std.specs.Option.{option_map, option_and_then}
 use Rattle.pcache_meta.specs.Header.{shown}
 use Rattle.pcache_meta.specs.Meta.{Meta}
 use Rattle.pcache_base.specs.declared.poll.Poll.{Poll}
 use Rattle.pcache_base.specs.declared.poll.Poll.TheVariants.{Ready, Pending}
 use Rattle.pcache_lock.specs.declared.lock.permit.Locked.{Locked}
 use Rattle.pcache_lock.specs.declared.lock.permit.Locked.TheVariants.{Write, Read}
-use Rattle.pcache_store.specs.Store.{Reader, Whole, Part}
+use Rattle.pcache_store.specs.Store.{Reader, Whole, Part, sought}
+use Rattle.pcache_base.specs.declared.reason.NoCacheReason.TheVariants.{Deferred}
+use Rattle.pcache_predict.specs.declared.admission.Decision.{Decision}
+use Rattle.pcache_request.specs.Admissions.{is_deferral, kept_if, observes, with_decision}
 use Rattle.pcache_request.specs.LockUse.{unheld, with_cache_lock}
-use Rattle.pcache_request.specs.Releasing.{bypassed}
+use Rattle.pcache_request.specs.Phases.{is_key_phase}
+use Rattle.pcache_request.specs.Renewals.{renewed}
+use Rattle.pcache_request.specs.Releasing.{bypassed, disabled_for}
 use Rattle.pcache_request.specs.Stale.{updating, uncacheable}
-use Rattle.pcache_request.specs.Requests.{Request, fresh_request, with_key, missed, with_meta, without_reader, placed, asks_as_stale}
+use Rattle.pcache_request.specs.Variants.{looks_for_variance, varied, visible}
+use Rattle.pcache_request.specs.Requests.{Request, fresh_request, enabled_with, with_key, missed, with_meta, without_reader, placed, asks_as_stale}
 use Rattle.pcache_request.specs.declared.phase.HitStatus.{HitStatus}
 use Rattle.pcache_request.specs.declared.phase.InUse.{InUse}
 use Rattle.pingora_cache.specs.declared.world.call.Call.{Call}
@@ -28,12 +34,17 @@ use Rattle.pingora_cache.specs.declared.world.entry.Event.TheVariants as E
 pub record Held : Type 0 where
   pub request : Request
   pub pair : Option (Meta × Reader)
+  -- the decision that a look-up carried last, which the policy in use answers
+  pub carried : Option Decision
 
 -- the request that a call names
 abbrev pub number_of : Call → ℕ
 number_of (C.Open r) = r
+number_of (C.Enable r) = r
+number_of (C.Disable r why) = r
 number_of (C.Key r k) = r
-number_of (C.Look r t) = r
+number_of (C.Look r t d) = r
+number_of (C.Vary r v) = r
 number_of (C.Found r s t) = r
 number_of (C.Bypass r) = r
 number_of (C.Miss r) = r
@@ -42,13 +53,17 @@ number_of (C.Begin r) = r
 number_of (C.Write r bs eof) = r
 number_of (C.Finish r) = r
 number_of (C.Read r) = r
+number_of (C.Seek r start end) = r
 number_of (C.Done r) = r
 number_of (C.Purge r) = r
+number_of (C.Expire r t) = r
 number_of (C.Lock r is_used) = r
 number_of (C.Publish r tokens) = r
 number_of (C.Release r why) = r
 number_of (C.Updating r) = r
 number_of (C.Uncacheable r h why) = r
+number_of (C.Variance r v) = r
+number_of (C.Revalidate r m) = r
 number_of (C.Phase r) = r
 number_of (C.End r) = r
 
@@ -62,6 +77,8 @@ pub data Outcome : Type 0 where
 abbrev pub outcome : Reply → Outcome
 outcome R.WrongCall = was_wrong
 outcome R.Done = was_done
+outcome R.Same = was_done
+outcome R.Other = was_done
 outcome (R.Taken p l) = was_taken
 outcome _ = was_other
 
@@ -82,7 +99,7 @@ abbrev pub world_use : InUse
 world_use = record { eviction = true; predictor = false; lock = true }
 
 abbrev pub opened : Held
-opened = record { request = fresh_request world_use; pair = None }
+opened = record { request = fresh_request world_use; pair = None; carried = None }
 
 -- the pair of a look-up's answer
 abbrev pub pair_of : Answer → Option (Meta × Reader)
@@ -103,10 +120,33 @@ abbrev pub asked : Bool → List Event → Request → Request
 asked stale [] x = x
 asked stale (e ∷ es) x = asked stale es (with_given stale e x)
 
+-- a decision that a look-up carries, where the request looks its key up first, puts a policy in use that answers it
+abbrev pub carries : Option Decision → Held → Bool
+carries d x = is_some d && is_key_phase x.request.phase
+
+abbrev pub carrying : Option Decision → Held → Held
+carrying d x = let r : Request = x.request in record { request = record r { has_policy = carries d x || r.has_policy }; pair = x.pair; carried = cond (carries d x) d x.carried }
+
+-- what the policy in use decides where this was found, if it is asked
+abbrev pub decides : Answer → Held → Option Decision
+decides a x = kept_if (is_none (pair_of a) && observes x.request) x.carried
+
+-- the request with a decision: where it defers, caching is turned off; else the lock that was asked for is held, and what was
+-- found, unless it is hidden
+abbrev pub looked_with : Option Decision → Answer → List Event → Held → Held
+looked_with d a es x = cond (is_deferral d)
+    (record { request = disabled_for Deferred (with_decision d x.request); pair = None; carried = None })
+    (record { request = asked false es (with_decision d x.request); pair = visible x.request.valid_after (pair_of a); carried = x.carried })
+
 abbrev pub looked_by : List Event → Held → Held
 looked_by [] x = x
-looked_by (E.Look k a ∷ es) x = record { request = asked false es x.request; pair = pair_of a }
+looked_by (E.Look k a ∷ es) x = looked_with (decides a x) a es x
 looked_by (_ ∷ es) x = x
+
+-- a look-up for a variance, by the meta of what was found
+abbrev pub looks_for : List ℕ → Option (Meta × Reader) → Request → Request
+looks_for v None r = r
+looks_for v (Some p) r = looks_for_variance v p.0 r
 
 -- what was found is taken, or let go where that is refused
 abbrev pub placed_by : HitStatus → List Event → Request → Option (Meta × Reader) → Request
@@ -114,10 +154,10 @@ placed_by s events x None = x
 placed_by s events x (Some p) = placed s p.0 p.1 (asked (asks_as_stale s x.phase) events x)
 
 abbrev pub taken_by : HitStatus → List Event → Held → Held
-taken_by s events x = record { request = placed_by s events x.request x.pair; pair = None }
+taken_by s events x = record { request = placed_by s events x.request x.pair; pair = None; carried = x.carried }
 
 abbrev pub without_pair : Held → Held
-without_pair x = record { request = x.request; pair = None }
+without_pair x = record { request = x.request; pair = None; carried = x.carried }
 
 -- a write that began is held, and the permit released; where the call was not refused, the reader follows it
 abbrev pub began : Bool → List Event → Request → Request
@@ -142,8 +182,15 @@ has_read [] x = x
 has_read (E.Read a ∷ es) x = record x { reader = option_map (read_past a) x.reader }
 has_read (_ ∷ es) x = x
 
+-- a reader that is sent to another range
+abbrev pub sought_in : ℕ → Option ℕ → Option Reader → Option Reader
+sought_in start end r = option_and_then (λ x. sought x start end) r
+
+abbrev pub with_sought : ℕ → Option ℕ → Request → Request
+with_sought start end x = record x { reader = sought_in start end x.reader }
+
 abbrev pub on_request : (Request → Request) → Held → Held
-on_request f x = record { request = f x.request; pair = x.pair }
+on_request f x = record { request = f x.request; pair = x.pair; carried = x.carried }
 
 -- What a call makes of the request that it names, by the row of the phase table.
 pub data Change : Type 0 where
@@ -155,20 +202,30 @@ pub data Change : Type 0 where
   stays : Change
   -- where the call is done, all of it changes but its reader; its pair goes, or stays
   turns : (f : Request → Request) (leaves_pair : Bool) → Change
-  -- it looks up, and takes what was found
-  looks : Change
+  -- the same, by the pair that it holds, which stays
+  turns_by : (f : Option (Meta × Reader) → Request → Request) → Change
+  -- where the call is done, all of it changes, and its reader and its pair go
+  shuts : (f : Request → Request) → Change
+  -- it looks up, with a decision that is carried, and takes what was found
+  looks : (d : Option Decision) → Change
   takes : (s : HitStatus) → Change
   -- a write begins, and ends
   begins : Change
   ends : Change
-  -- its reader reads on, and goes
+  -- its reader reads on, is sent to another range, and goes
   reads_on : Change
+  seeks : (start : ℕ) (end : Option ℕ) → Change
   reads_no_more : Change
+  -- its stale meta is renewed, also where the store refuses it
+  renews : (m : Meta) → Change
 
 abbrev pub change_of : Call → Change
 change_of (C.Open r) = opens
+change_of (C.Enable r) = turns (enabled_with world_use) false
+change_of (C.Disable r why) = shuts (disabled_for why)
 change_of (C.Key r k) = turns (with_key k) false
-change_of (C.Look r t) = looks
+change_of (C.Look r t d) = looks d
+change_of (C.Vary r v) = turns_by (looks_for v)
 change_of (C.Found r s t) = takes s
 change_of (C.Bypass r) = turns bypassed false
 change_of (C.Miss r) = turns missed true
@@ -177,31 +234,43 @@ change_of (C.Begin r) = begins
 change_of (C.Write r bs eof) = stays
 change_of (C.Finish r) = ends
 change_of (C.Read r) = reads_on
+change_of (C.Seek r start end) = seeks start end
 change_of (C.Done r) = reads_no_more
 change_of (C.Purge r) = stays
+change_of (C.Expire r t) = stays
 change_of (C.Lock r is_used) = turns (with_cache_lock is_used None) false
 change_of (C.Publish r tokens) = stays
 change_of (C.Release r why) = turns unheld false
 change_of (C.Updating r) = turns updating false
 change_of (C.Uncacheable r h why) = turns (uncacheable (shown h) why) false
+change_of (C.Variance r v) = turns (varied v) false
+change_of (C.Revalidate r m) = renews m
 change_of (C.Phase r) = stays
 change_of (C.End r) = closes
 
 -- all but its reader
 abbrev pub turned_by : (Request → Request) → Bool → Held → Held
-turned_by f leaves_pair x = record { request = record (f x.request) { reader = x.request.reader }; pair = cond leaves_pair None x.pair }
+turned_by f leaves_pair x = record { request = record (f x.request) { reader = x.request.reader }; pair = cond leaves_pair None x.pair; carried = x.carried }
+
+-- all of it, and nothing is read any more; a policy goes out of use
+abbrev pub shut_by : (Request → Request) → Held → Held
+shut_by f x = record { request = record (f x.request) { reader = None }; pair = None; carried = None }
 
 abbrev pub changed : Change → Outcome → List Event → Option Held → Option Held
 changed opens o events q = cond (is_done o) (Some opened) q
 changed closes o events q = cond (is_done o) None q
 changed stays o events q = q
 changed (turns f leaves_pair) o events q = cond (is_done o) (option_map (turned_by f leaves_pair) q) q
-changed looks o events q = option_map (looked_by events) q
+changed (shuts f) o events q = cond (is_done o) (option_map (shut_by f) q) q
+changed (turns_by f) o events q = cond (is_done o) (option_map (λ x. turned_by (f x.pair) false x) q) q
+changed (looks d) o events q = cond (is_wrong o) q (option_map (λ x. looked_by events (carrying d x)) q)
 changed (takes s) o events q = cond (is_taken o) (option_map (taken_by s events) q) (cond (is_wrong o) q (option_map without_pair q))
 changed begins o events q = option_map (on_request (began (is_done o) events)) q
 changed ends o events q = option_map (on_request (ended events)) q
 changed reads_on o events q = option_map (on_request (has_read events)) q
+changed (seeks start end) o events q = cond (is_done o) (option_map (on_request (with_sought start end)) q) q
 changed reads_no_more o events q = cond (is_wrong o) q (option_map (on_request without_reader) q)
+changed (renews m) o events q = cond (is_wrong o) q (option_map (on_request (renewed m)) q)
 
 abbrev pub row_by : Call → Outcome → List Event → Option Held → Option Held
 row_by call o events q = changed (change_of call) o events q

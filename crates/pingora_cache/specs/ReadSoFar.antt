@@ -8,7 +8,7 @@ use Rattle.pingora_cache.specs.declared.world.entry.Entry.{Entry}
 use Rattle.pingora_cache.specs.declared.world.entry.Event.{Event}
 use Rattle.pingora_cache.specs.declared.world.entry.Event.TheVariants as E
 use Rattle.pingora_cache.specs.Events.{body_of}
-use Rattle.pingora_cache.specs.Held.{Outcome, Change, opens, takes, begins, reads_on, change_of, number_of, outcome, is_done, is_taken}
+use Rattle.pingora_cache.specs.Held.{Outcome, Change, opens, takes, begins, reads_on, seeks, change_of, number_of, outcome, is_done, is_taken}
 
 -- the bytes that a read gave, if it gave some
 abbrev pub given_in : List Event → List ℕ
@@ -16,12 +16,13 @@ given_in (E.Read (Ready (Some bytes)) ∷ es) = bytes
 given_in _ = []
 
 -- what one call makes of the bytes that its request's reader has given: none once a request opened, a hit was taken or a
--- write began with a reader; a read adds what it gave
+-- write began with a reader, or it was sent to another range; a read adds what it gave
 abbrev pub read_on : Change → Outcome → List Event → List ℕ → List ℕ
 read_on opens o events before = cond (is_done o) [] before
 read_on (takes s) o events before = cond (is_taken o) [] before
 read_on begins o events before = cond (is_done o) [] before
 read_on reads_on o events before = before ++ given_in events
+read_on (seeks start end) o events before = cond (is_done o) [] before
 read_on _ o events before = before
 
 -- the bytes that a request's reader has given since it came to be

@@ -1,9 +1,10 @@
 -- One call over the parts of a world, as the code makes it (own).
-use Rattle.std.specs.Prelude.{◌≡◌, ℕ, Bool, true, false, cond, Option, Some, None, List, [], ◌∷◌}
+use Rattle.std.specs.Prelude.{◌≡◌, ℕ, ◌++◌, Bool, true, false, cond, Option, Some, None, List, [], ◌∷◌, Result, Ok, Err}
 use Rattle.std.specs.Ordering.{nat_cmp}
 use Rattle.std.specs.Map.{lookup}
 use Rattle.std.specs.BTreeMap.{is_at}
 use Rattle.pcache_meta.specs.Meta.{Meta}
+use Rattle.pcache_base.specs.Key.{Key, slot}
 use Rattle.pcache_base.specs.declared.error.ErrorType.{ErrorType}
 use Rattle.pcache_base.specs.declared.error.ErrorType.TheVariants.{WriteRemoved}
 use Rattle.pcache_evict.specs.Tracked.{Tracked, Limits}
@@ -13,20 +14,23 @@ use Rattle.pcache_request.specs.declared.cache.report.Access.{Access}
 use Rattle.pcache_request.specs.declared.cache.report.AskedLock.{AskedLock}
 use Rattle.pcache_request.specs.declared.cache.report.LockName.{LockName}
 use Rattle.pcache_request.specs.declared.cache.report.ReleasedLock.{ReleasedLock}
-use Rattle.pcache_request.specs.Requests.{left_by, dropped_by}
+use Rattle.pcache_request.specs.Admissions.{with_decision}
+use Rattle.pcache_request.specs.Requests.{Request, left_by, dropped_by}
 use Rattle.pcache_store.specs.Store.{Store, Reader}
 use Rattle.pingora_cache.specs.declared.world.call.Call.{Call}
 use Rattle.pingora_cache.specs.declared.world.call.Call.TheVariants as C
 use Rattle.pingora_cache.specs.declared.world.call.LockKind.{LockKind}
 use Rattle.pingora_cache.specs.declared.world.call.Reply.{Reply}
+use Rattle.pingora_cache.specs.declared.world.call.Reply.TheVariants as R
 use Rattle.pingora_cache.specs.declared.world.entry.Answer.{Answer}
+use Rattle.pingora_cache.specs.declared.world.entry.Answer.TheVariants.{Nothing}
 use Rattle.pingora_cache.specs.declared.world.entry.Event.{Event}
 use Rattle.pingora_cache.specs.declared.world.entry.Event.TheVariants as E
 use Rattle.pingora_cache.specs.Due.{IsOfWorld, KeepsKey}
-use Rattle.pingora_cache.specs.Facts.{facts_in, request_in}
-use Rattle.pingora_cache.specs.Held.{Held, number_of, row, pair_of}
+use Rattle.pingora_cache.specs.Facts.{Facts, facts_in, request_in}
+use Rattle.pingora_cache.specs.Held.{Held, decides, number_of, row, pair_of}
 use Rattle.pingora_cache.specs.Moved.{Moves}
-use Rattle.pingora_cache.specs.Rules.{Answers, each, kind_of}
+use Rattle.pingora_cache.specs.Rules.{Answers, Misses, drop_of, each, kind_of, release_of, renew_of, update_reply}
 use Rattle.pingora_cache.specs.Sound.{pair_reader}
 use Rattle.pingora_cache.specs.Waiting.{MovesLocks}
 
@@ -87,6 +91,31 @@ IsOfWorldIn (Some x) = IsOfWorld x.request
 -- only the request that the call names moves, by its row
 abbrev pub IsMoved : Call → Reply → List Event → List (ℕ × Held) → List (ℕ × Held) → Type 0
 IsMoved call reply events all all' = (q : ℕ) → lookup (is_at (nat_cmp q)) all' ≡ cond (is_at (nat_cmp (number_of call)) q) (row call reply events (lookup (is_at (nat_cmp (number_of call))) all)) (lookup (is_at (nat_cmp q)) all)
+
+-- a look-up of the request's key that hands nothing on, and one that turns caching off
+abbrev pub MissesKey : Facts → Answer → Request → Reply → List Event → Type 0
+MissesKey f a x reply events = (k : Key) × (x.key ≡ Some k) × Misses f (slot k) a x reply events
+
+abbrev pub DefersKey : Request → List Event → Type 0
+DefersKey x events = (k : Key) × (x.key ≡ Some k) × (events ≡ E.Look (slot k) Nothing ∷ (release_of x.held ++ drop_of x.write))
+
+-- a request that found nothing, with what its policy decides then
+abbrev pub with_own_decision : Held → Held
+with_own_decision x = record { request = with_decision (decides Nothing x) x.request; pair = x.pair; carried = x.carried }
+
+-- what is noted and answered of a stale body that was found good: its new meta, where the store set it
+abbrev pub renewing : ℕ → Meta → Result Bool ErrorType → List Event
+renewing k m (Ok there) = renew_of there k m
+renewing k m (Err e) = []
+
+abbrev pub renewal_reply : Result Bool ErrorType → Reply
+renewal_reply (Ok there) = update_reply there
+renewal_reply (Err e) = R.Refused e
+
+-- the copies that a call needs of what it brings
+abbrev pub spare_of : Call → Option (Meta × Meta)
+spare_of (C.Revalidate r m) = Some (m, m)
+spare_of _ = None
 
 -- a call of a request that is open already, and stays so
 abbrev pub IsOfOpen : Call → Type 0

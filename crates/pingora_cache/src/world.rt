@@ -8,8 +8,13 @@ pub mod laws;
 mod locks;
 mod look;
 mod machine;
+mod notes;
 mod parts;
+mod reads;
+mod remove;
 mod request;
+mod switch;
 mod turn;
+mod vary;
 
 pub use machine::{Totals, World};

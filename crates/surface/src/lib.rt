@@ -6,10 +6,10 @@
 pub mod root {
     pub use pingora_cache::{
         CacheEntryId, CacheEntryKey, CacheEntryKeyRef, CacheKey, CacheMeta, CacheMetaDefaults,
-        CacheOptionOverrides, CachePhase, FinishReport, HitHandler, HitStatus, HttpCache,
-        HttpCacheDigest, InUse, LockAbandon, LockCtx, MemCache, MissHandler, NoCacheReason,
-        PurgeAction, PurgeOutcome, PurgeTarget, PurgeType, RespCacheable, Storage, VarianceBuilder,
-        prelude,
+        CacheOptionOverrides, CachePhase, FinishReport, ForcedFreshness, HitHandler, HitStatus,
+        HttpCache, HttpCacheDigest, InUse, LockAbandon, LockCtx, MemCache, MissHandler,
+        NoCacheReason, PurgeAction, PurgeOutcome, PurgeTarget, PurgeType, RespCacheable, Storage,
+        VarianceBuilder, prelude,
     };
 }
 
@@ -28,10 +28,14 @@ pub mod cache_control {
 
 /// Eviction.
 pub mod eviction {
+    pub use pingora_cache::eviction::files::device::Counted;
+    pub use pingora_cache::eviction::files::sharded_lru::{deserialize_shard, serialize_shard};
+    pub use pingora_cache::eviction::files::simple_lru::{load_from, save_to};
     pub use pingora_cache::eviction::sharded_lru::Manager as ShardedManager;
     pub use pingora_cache::eviction::simple_lru::Manager;
     pub use pingora_cache::eviction::{
-        CacheEntryId, CacheEntryKey, CacheEntryKeyRef, EvictionManager,
+        CacheEntryId, CacheEntryKey, CacheEntryKeyRef, CountedRead, CountedWrite, EvictionManager,
+        SavedManager,
     };
 }
 
@@ -48,7 +52,7 @@ pub mod filters {
 pub mod hashtable {
     pub use pingora_cache::hashtable::{
         ConcurrentHashTable, ConcurrentLruCache, LruLock, LruShard, LruShards, Shard, ShardLock,
-        Shards, Table,
+        Shards, Table, WriteGuard,
     };
 }
 
@@ -95,7 +99,10 @@ pub mod predictor {
 
 /// Responses that are pushed in.
 pub mod put {
-    pub use pingora_cache::put::{INCOMPLETE_BODY, ParsePart, ResponseParse, same_however_cut};
+    pub use pingora_cache::put::{
+        ByDefaults, CachePut, CachePutCtx, INCOMPLETE_BODY, ParsePart, PutOutcome, ResponseParse,
+        default_cacheable, same_however_cut, same_put_however_cut,
+    };
 }
 
 /// What every storage does.
@@ -116,7 +123,7 @@ pub mod trace {
 
 /// What stands at upstream's root or in other crates of its framework, or is this crate's own.
 pub mod own {
-    pub use pingora_cache::cache::WriteEnd;
+    pub use pingora_cache::cache::{Renewal, WriteEnd};
     pub use pingora_cache::error::{Error, ErrorType, Result};
     pub use pingora_cache::header::{
         HttpVersion, ReqHeader, RequestHeader, RespHeader, ResponseHeader,
@@ -131,8 +138,8 @@ pub mod world {
     pub use pingora_cache::world::call::{Call, LockKind, Reply};
     pub use pingora_cache::world::entry::{Answer, Entries, Entry, Event, Events};
     pub use pingora_cache::world::laws::{
-        finds_exactly, finishes_exactly, hits_read_the_last, is_wrong_exactly, looks_are_true,
-        reads_a_beginning, reads_are_true, stored_is_within_limits,
+        finds_exactly, finishes_exactly, hands_on_exactly, hits_read_the_last, is_wrong_exactly,
+        looks_are_true, reads_a_beginning, reads_are_true, stored_is_within_limits,
     };
     pub use pingora_cache::world::{Totals, World};
 }

@@ -1,7 +1,4 @@
-use pcache_table::hashtable::{
-    ConcurrentHashTable, ConcurrentLruCache, LruShard, LruShards, Shard, Shards, Table,
-};
-use std::marker::PhantomData;
+use pcache_table::hashtable::{ConcurrentHashTable, ConcurrentLruCache, LruShards, Shards, Table};
 use std::process::Abort;
 use std::sync::Wait;
 use std::test::Fail;
@@ -43,22 +40,6 @@ fn more_than_32_shards(rt: HostRuntime) -> Result<(), Fail> {
     in_many_shards(&rt, &mut shards)
 }
 
-fn in_a_shard(rt: &impl Abort, shard: &mut Shard<u8, 4>) -> Result<(), Fail> {
-    assert!(rt; shard.belongs(5) && !shard.belongs(6));
-    if shard.belongs(5) {
-        shard.insert(5, 50)?;
-    }
-    assert!(rt; shard.remove(5) == Some(50));
-    assert!(rt; shard.get(5).copied() == None);
-    Ok(())
-}
-
-#[test]
-fn one_shard(rt: HostRuntime) -> Result<(), Fail> {
-    let mut shard = Shard::<u8, 4>::at(rt.alloc(), 1, PhantomData);
-    in_a_shard(&rt, &mut shard)
-}
-
 fn forgetting(rt: &impl Abort, shards: &mut LruShards<u64, 2>) -> Result<(), Fail> {
     shards.put(0, 10)?;
     shards.put(2, 12)?;
@@ -82,20 +63,21 @@ fn shards_that_forget(rt: HostRuntime) -> Result<(), Fail> {
     forgetting(&rt, &mut shards)
 }
 
-fn of_one(rt: &impl Abort, shard: &mut LruShard<u8, 1>) -> Result<(), Fail> {
-    if shard.belongs(7) {
-        shard.put(7, 70)?;
-    }
-    assert!(rt; shard.place() == 0);
-    assert!(rt; shard.peek(7).copied() == Some(70));
-    assert!(rt; shard.pop(7) == Some(70));
+fn of_one(rt: &impl Abort, shards: &mut LruShards<u8, 1>) -> Result<(), Fail> {
+    shards.put(7, 70)?;
+    assert!(rt; shards.get(7).place() == 0);
+    assert!(rt; shards.get(7).capacity() == 1);
+    assert!(rt; shards.get(7).belongs(8));
+    shards.put(8, 80)?;
+    assert!(rt; shards.peek(7).copied() == None);
+    assert!(rt; shards.pop(8) == Some(80));
     Ok(())
 }
 
 #[test]
 fn a_capacity_of_0_counts_as_1(rt: HostRuntime) -> Result<(), Fail> {
-    let mut shard = LruShard::<u8, 1>::at(rt.alloc(), 0, 0)?;
-    of_one(&rt, &mut shard)
+    let mut shards = LruShards::<u8, 1>::new(rt.alloc(), 0)?;
+    of_one(&rt, &mut shards)
 }
 
 fn insert<R: Wait>(
@@ -112,6 +94,26 @@ fn insert<R: Wait>(
 
 fn read<R: Wait>(rt: &R, table: &ConcurrentHashTable<u64, 4>, key: u128) -> Option<u64> {
     table.read(rt, key).get(key).copied()
+}
+
+// What one writer sees of a shard: the calls of a shard that reads, and those that change it.
+fn one_writer<R: Abort + Wait>(rt: &R, table: &ConcurrentHashTable<u64, 4>) -> Result<(), Fail> {
+    let mut shard = table.write(rt, 5);
+    assert!(rt; shard.place() == 1);
+    assert!(rt; shard.belongs(5) && !shard.belongs(6));
+    assert!(rt; shard.insert(5, 50)? == None);
+    assert!(rt; shard.insert(5, 51)? == Some(50));
+    assert!(rt; shard.get(5).copied() == Some(51));
+    assert!(rt; shard.iter().count() == 1);
+    assert!(rt; shard.remove(5) == Some(51));
+    assert!(rt; shard.get(5).copied() == None);
+    Ok(())
+}
+
+#[test]
+fn a_writer_has_the_calls_of_a_shard(rt: HostRuntime) -> Result<(), Fail> {
+    let table = ConcurrentHashTable::<u64, 4>::new(rt.alloc());
+    one_writer(&rt, &table)
 }
 
 fn behind_locks<R: Abort + Wait>(rt: &R, table: &ConcurrentHashTable<u64, 4>) -> Result<(), Fail> {

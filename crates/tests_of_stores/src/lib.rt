@@ -11,6 +11,8 @@ mod lock;
 #[cfg(test)]
 mod memory;
 #[cfg(test)]
+mod puts;
+#[cfg(test)]
 mod random_locks;
 #[cfg(test)]
 mod request;

@@ -19,7 +19,9 @@ use std::process::Abort;
 use std::test::Fail;
 use std::time::Duration;
 
+mod choices;
 mod phases;
+mod variants;
 mod waits;
 
 const ALL_BUT_THE_PREDICTOR: InUse = InUse {

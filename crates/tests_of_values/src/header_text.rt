@@ -4,15 +4,17 @@ use http::StatusCode;
 use http_header::{HeaderName, HeaderValue};
 use pcache_base::error::ErrorType;
 use pcache_meta::header::{HttpVersion, ResponseHeader};
+use pcache_meta::header_text::form::is_header_text;
 use pcache_meta::header_text::reader::header_deserialize;
 use pcache_meta::header_text::writer::header_serialize;
 use std::alloc::Global;
 use std::process::Abort;
 use std::test::Fail;
 
+// Whether the bytes are refused as no head's text, and are told to be none.
 fn refused(alloc: Global, bytes: &[u8]) -> bool {
     let refusal = header_deserialize(alloc, bytes).err();
-    refusal.map(|e| e.etype()) == Some(ErrorType::InternalError)
+    refusal.map(|e| e.etype()) == Some(ErrorType::InternalError) && !is_header_text(bytes)
 }
 
 // Adds a field, and says whether it was taken.
@@ -116,4 +118,57 @@ fn what_is_no_head(rt: HostRuntime) {
     assert!(rt; refused(alloc, b""));
     // A name that comes again behind another.
     assert!(rt; refused(alloc, b"HTTP/1.1 200\r\na: 1\r\nb: 2\r\na: 3\r\n\r\n"));
+}
+
+#[test]
+fn heads_are_told(rt: HostRuntime) {
+    let rows = [
+        (b"HTTP/1.1 200\r\n\r\n".as_slice(), true),
+        (b"HTTP/3.0 404\r\na: 1\r\na:  3\r\nb: \r\n\r\n", true),
+        (b"HTTP/1.1 200\r\na: 1\r\nb: 2\r\nc: 3\r\n\r\n", true),
+        (b"HTTP/1.1 200\r\na: 1\r\nA: 2\r\n\r\n", false),
+        (
+            b"HTTP/1.1 200\r\na: 1\r\nb: 2\r\nb: 3\r\na: 4\r\n\r\n",
+            false,
+        ),
+        (b"HTTP/1.1 200\r\na: 1\x7f\r\n\r\n", false),
+        (b"HTTP/1.1 200\r\na: \t\xff\r\n\r\n", true),
+    ];
+    for (bytes, is_one) in rows {
+        assert!(rt; is_header_text(bytes) == is_one);
+    }
+}
+
+// The text of a head with so many names, and one line more.
+fn many_names(alloc: Global, names: u32, line: &str) -> Result<String, Fail> {
+    let mut text = String::from_str(alloc, "HTTP/1.1 200\r\n")?;
+    for number in 0..names {
+        let line = format!(in alloc; "x{number}: 1\r\n")?;
+        text.push_str(line.as_str())?;
+    }
+    text.push_str(line)?;
+    text.push_str("\r\n")?;
+    Ok(text)
+}
+
+// Whether such a text is told to be a head's.
+fn are_told(alloc: Global, names: u32, line: &str) -> Result<bool, Fail> {
+    Ok(is_header_text(many_names(alloc, names, line)?.as_bytes()))
+}
+
+// Names are looked for 64 at once.
+#[test]
+fn a_name_that_comes_again_is_told_behind_any_number_of_names(rt: HostRuntime) -> Result<(), Fail> {
+    let rows = [
+        (64, "x63: 2\r\n", true),
+        (64, "x0: 2\r\n", false),
+        (65, "x0: 2\r\n", false),
+        (65, "x64: 2\r\n", true),
+        (200, "x130: 2\r\n", false),
+        (200, "y: 2\r\n", true),
+    ];
+    for (names, line, is_one) in rows {
+        assert!(rt; are_told(rt.alloc(), names, line)? == is_one);
+    }
+    Ok(())
 }

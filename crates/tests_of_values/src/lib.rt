@@ -12,6 +12,8 @@ mod cache_control;
 #[cfg(test)]
 mod freshness;
 #[cfg(test)]
+mod full_maps;
+#[cfg(test)]
 mod header;
 #[cfg(test)]
 mod header_text;

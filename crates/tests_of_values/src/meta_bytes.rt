@@ -162,3 +162,23 @@ fn old_versions_read(rt: HostRuntime) -> Result<(), Fail> {
     assert!(rt; times(rt.alloc(), &bytes)? == wanted);
     Ok(())
 }
+
+// Whichever of the two strings is none of a meta's, memory is not what is wanting.
+#[test]
+fn what_is_no_meta(rt: HostRuntime) {
+    let head = b"HTTP/1.1 200\r\n\r\n".as_slice();
+    let rows = [
+        (WRITTEN.as_slice(), b"HTTP/1.1 200\r\na: 1\r\n".as_slice()),
+        (&WRITTEN, b"HTTP/1.1 200\r\nx-name: 1\r\nX-name: 2\r\n\r\n"),
+        (
+            &WRITTEN,
+            b"HTTP/1.1 200\r\nx-name: 1\r\ny-name: 2\r\nx-name: 3\r\n\r\n",
+        ),
+        (&WRITTEN[..19], head),
+        (b"", head),
+        (head, &WRITTEN),
+    ];
+    for (internal, header) in rows {
+        assert!(rt; refused(rt.alloc(), internal, header));
+    }
+}

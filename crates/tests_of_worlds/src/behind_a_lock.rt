@@ -30,7 +30,15 @@ fn begin(rt: &impl Wait, alloc: Global, shared: &Shared, request: u64) -> Result
     let now = Moment::EPOCH;
     ask(rt, shared, Call::Open { request })?;
     set_key(rt, alloc, shared, request)?;
-    ask(rt, shared, Call::Look { request, now })?;
+    ask(
+        rt,
+        shared,
+        Call::Look {
+            request,
+            now,
+            decision: None,
+        },
+    )?;
     ask(rt, shared, Call::Miss { request })?;
     let header = ResponseHeader::build(alloc, StatusCode::OK);
     let meta = CacheMeta::new(Moment::from_secs(60), now, 0, 0, header);
@@ -56,7 +64,15 @@ fn nothing_is_left_of_ended_requests(rt: HostRuntime) -> std::result::Result<(),
         set_key(&rt, alloc, &shared, request)?;
     }
     shared.lock(&rt).headline();
-    let reply = ask(&rt, &shared, Call::Look { request: 2, now })?;
+    let reply = ask(
+        &rt,
+        &shared,
+        Call::Look {
+            request: 2,
+            now,
+            decision: None,
+        },
+    )?;
     assert!(rt; matches!(reply, Reply::Part));
     let reply = ask(&rt, &shared, Call::Purge { request: 3 })?;
     assert!(rt; matches!(reply, Reply::Purged));

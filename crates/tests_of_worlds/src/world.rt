@@ -1,17 +1,19 @@
 //! Calls of a world, each with the reply that is wanted.
+mod phases;
 mod plain;
 
 use Step::*;
 use bytes::Bytes;
 use http::StatusCode;
 use pcache_base::error::Result;
-use pcache_base::key::{CacheHashKey, CacheKey};
+use pcache_base::key::{CacheHashKey, CacheKey, HashBinary};
 use pcache_base::moment::Moment;
 use pcache_evict::eviction::CacheEntryKey;
 use pcache_evict::eviction::simple_lru::Manager;
 use pcache_meta::header::ResponseHeader;
 use pcache_meta::meta::CacheMeta;
 use pcache_request::phase::HitStatus;
+use pingora_cache::admission::Decision;
 use pingora_cache::world::World;
 use pingora_cache::world::call::{Call, Reply};
 use std::alloc::Global;
@@ -19,17 +21,25 @@ use std::process::Abort;
 use std::test::Fail;
 use std::time::Duration;
 
+const VARIANCE: HashBinary = [0; 16];
+
 // A call of a request, by its number. A key is named by its primary part.
 #[derive(Clone, Copy)]
 enum Step {
     Open(u64),
     Key(u64, &'static str),
+    KeyVaried(u64, &'static str),
     Look(u64),
+    LookDeferred(u64),
+    LookReady(u64),
+    Vary(u64),
     Found(u64, HitStatus),
     Bypass(u64),
     Phase(u64),
     Miss(u64),
     Meta(u64),
+    MetaAt(u64, u64),
+    Enable(u64),
     Begin(u64),
     Write(u64, &'static str),
     WriteLast(u64, &'static str),
@@ -44,9 +54,35 @@ fn key_of(alloc: Global, name: &str) -> Result<CacheKey> {
     Ok(CacheKey::new(primary, String::from_str(alloc, "1")?))
 }
 
+// The same key, with a variance.
+fn varied_key_of(alloc: Global, name: &str) -> Result<CacheKey> {
+    let mut key = key_of(alloc, name)?;
+    key.set_variance_key(VARIANCE);
+    Ok(key)
+}
+
 fn meta_of(alloc: Global) -> CacheMeta {
+    meta_at(alloc, 0)
+}
+
+// A meta that was made at this second.
+fn meta_at(alloc: Global, seconds: u64) -> CacheMeta {
     let header = ResponseHeader::build(alloc, StatusCode::OK);
-    CacheMeta::new(Moment::from_secs(60), Moment::EPOCH, 0, 0, header)
+    CacheMeta::new(
+        Moment::from_secs(60),
+        Moment::from_secs(seconds),
+        0,
+        0,
+        header,
+    )
+}
+
+fn look_of(request: u64, now: Moment, decision: Option<Decision>) -> Call {
+    Call::Look {
+        request,
+        now,
+        decision,
+    }
 }
 
 fn call_of(alloc: Global, step: Step, now: Moment) -> Result<Call> {
@@ -56,11 +92,21 @@ fn call_of(alloc: Global, step: Step, now: Moment) -> Result<Call> {
             request,
             key: key_of(alloc, name)?,
         },
-        Look(request) => Call::Look { request, now },
+        Look(request) => look_of(request, now, None),
+        LookDeferred(request) => look_of(request, now, Some(Decision::Defer { observed: 1 })),
+        LookReady(request) => look_of(request, now, Some(Decision::Ready { observed: 2 })),
+        Vary(request) => Call::Vary {
+            request,
+            variance: VARIANCE,
+        },
         Found(request, status) => Call::Found {
             request,
             status,
             now,
+        },
+        KeyVaried(request, name) => Call::Key {
+            request,
+            key: varied_key_of(alloc, name)?,
         },
         Bypass(request) => Call::Bypass { request },
         Phase(request) => Call::Phase { request },
@@ -69,6 +115,11 @@ fn call_of(alloc: Global, step: Step, now: Moment) -> Result<Call> {
             request,
             meta: meta_of(alloc),
         },
+        MetaAt(request, seconds) => Call::Meta {
+            request,
+            meta: meta_at(alloc, seconds),
+        },
+        Enable(request) => Call::Enable { request },
         Begin(request) => Call::Begin { request },
         Write(request, text) => Call::Write {
             request,
@@ -290,6 +341,81 @@ fn a_key_is_passed_by(rt: HostRuntime) -> std::result::Result<(), Fail> {
         (Bypass(1), WRONG),
     ];
     play(&rt, rt.alloc(), 9, &[], &rows)?;
+    Ok(())
+}
+
+// A deferred look-up asks for no lock, and its request caches no more; the next one gets the permit.
+#[test]
+fn a_look_up_is_deferred(rt: HostRuntime) -> std::result::Result<(), Fail> {
+    let rows = [
+        (Open(1), "Done"),
+        (Key(1, "k"), "Done"),
+        (LookDeferred(1), "NotFound(None)"),
+        (Phase(1), "Phase(Disabled(Deferred))"),
+        (LookReady(1), WRONG),
+        (Open(2), "Done"),
+        (Key(2, "k"), "Done"),
+        (Look(2), "NotFound(Some(Write))"),
+        (Enable(1), "Done"),
+        (Key(1, "k"), "Done"),
+        (Look(1), "NotFound(Some(Read))"),
+        (LookDeferred(1), "NotFound(Some(Read))"),
+    ];
+    play(&rt, rt.alloc(), 9, &[], &rows)?;
+    Ok(())
+}
+
+// One that is ready asks for it. A request is decided of once.
+#[test]
+fn a_look_up_is_ready(rt: HostRuntime) -> std::result::Result<(), Fail> {
+    let rows = [
+        (Open(1), "Done"),
+        (Key(1, "k"), "Done"),
+        (LookReady(1), "NotFound(Some(Write))"),
+        (LookDeferred(1), "NotFound(Some(Read))"),
+        (Phase(1), "Phase(CacheKey)"),
+    ];
+    play(&rt, rt.alloc(), 9, &[], &rows)?;
+    Ok(())
+}
+
+// A decision is kept where something was found, and counts once nothing is; a hidden body asks no
+// policy.
+#[test]
+fn decisions_beside_variants(rt: HostRuntime) -> std::result::Result<(), Fail> {
+    let stored = [
+        (Open(1), "Done"),
+        (KeyVaried(1, "k"), "Done"),
+        (Look(1), "NotFound(Some(Write))"),
+        (Miss(1), "Done"),
+        (MetaAt(1, 5), "Done"),
+        (Begin(1), "Done"),
+        (Write(1, "xx"), "Done"),
+        (Finish(1), "Stored { size: 2, evicted: 0 }"),
+        (End(1), "Done"),
+        (Open(2), "Done"),
+        (Key(2, "k"), "Done"),
+        (Look(2), "NotFound(Some(Write))"),
+        (Miss(2), "Done"),
+        (MetaAt(2, 6), "Done"),
+        (Begin(2), "Done"),
+        (Write(2, "y"), "Done"),
+        (Finish(2), "Stored { size: 1, evicted: 0 }"),
+        (End(2), "Done"),
+    ];
+    let rows = [
+        (Open(3), "Done"),
+        (Key(3, "k"), "Done"),
+        (LookDeferred(3), "Hit(1)"),
+        (Vary(3), "Other"),
+        (LookDeferred(3), "NotFound(Some(Write))"),
+        (Vary(3), WRONG),
+        (Phase(3), "Phase(CacheKey)"),
+        (KeyVaried(3, "l"), "Done"),
+        (Look(3), "NotFound(None)"),
+        (Phase(3), "Phase(Disabled(Deferred))"),
+    ];
+    play(&rt, rt.alloc(), 9, &stored, &rows)?;
     Ok(())
 }
 

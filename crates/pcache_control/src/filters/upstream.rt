@@ -1,31 +1,61 @@
 //! Requests as they go to the origin.
 
-ghost use Rattle.std.specs.Prelude.{◌≡◌, ◌⊎◌, IsOk, IfErr, IfSome, MatchOption, OnErr, OnOk, None, codes};
+ghost use Rattle.std.specs.Prelude.{◌≡◌, ◌≢◌, ◌↔◌, ◌⊎◌, ℕ, List, [], IsOk, IsErr, IsTrue, IfErr, IfSome, MatchOption, OnErr, OnOk, None, codes};
 ghost use Rattle.std.specs.Option.{option_copied};
-ghost use Rattle.http_header.specs.HeaderMap.{get, IsFullOfNames};
+ghost use Rattle.http_header.specs.HeaderMap.{get, get_all, remove, IsFullOfNames, IsHeaderMap};
 ghost use Rattle.pcache_base.specs.declared.error.ErrorType.TheVariants.{InternalError, OutOfMemory};
-ghost use Rattle.pcache_control.specs.Requests.{sent_method, without_conditions, with_field, first_in, HasNoValidator, AsksSince, AsksUnlike, Asks, AsksInPart, AsksFor, AsksInPartFor};
+ghost use Rattle.pcache_control.specs.Requests.{sent_method, without_conditions, with_field, first_in, HasNoValidator, AsksSince, AsksUnlike, Asks, AsksInPart, AsksFor, AsksInPartFor, LacksRoom};
 
 use http::Method;
 use http_header::{
     ETAG, HeaderMap, HeaderMapError, HeaderName, IF_MATCH, IF_MODIFIED_SINCE, IF_NONE_MATCH,
-    IF_RANGE, IF_UNMODIFIED_SINCE, LAST_MODIFIED, RANGE,
+    IF_RANGE, IF_UNMODIFIED_SINCE, LAST_MODIFIED, MAX_KEYS, RANGE,
 };
 use pcache_base::error::{Error, ErrorType, Result};
 use pcache_meta::header::RequestHeader;
 use pcache_meta::meta::CacheMeta;
 
+// An answer to HEAD has no body to store.
+fn send_as_get(method: &mut Method)
+    ensures { method.new ≡ sent_method method.old }
+{
+    if *method == Method::HEAD {
+        *method = Method::GET;
+    }
+}
+
+// Takes a field out.
+fn take_out(headers: &mut HeaderMap, name: &HeaderName)
+    ensures out { headers.new ≡ remove headers.old name.now }
+    ensures gone { get_all headers.new name.now ≡ [] }
+    ensures others { (other : List ℕ) → name.now ≢ other → get_all headers.new other ≡ get_all headers.old other }
+{
+    // What is true of each map.
+    let _names = headers.keys_len();
+    let _removed = headers.remove(name);
+}
+
 // Preconditions and ranges of the client's are removed.
 #[tactic(auto, unfolding(crate::specs::Requests::without_conditions))]
 fn remove_conditions(headers: &mut HeaderMap)
-    ensures { headers.new ≡ without_conditions headers.old }
+    ensures all { headers.new ≡ without_conditions headers.old }
+    ensures since { get_all headers.new (codes "if-modified-since") ≡ [] }
+    ensures unlike { get_all headers.new (codes "if-none-match") ≡ [] }
 {
-    let _removed = headers.remove(IF_MATCH);
-    let _removed = headers.remove(IF_NONE_MATCH);
-    let _removed = headers.remove(IF_MODIFIED_SINCE);
-    let _removed = headers.remove(IF_UNMODIFIED_SINCE);
-    let _removed = headers.remove(IF_RANGE);
-    let _removed = headers.remove(RANGE);
+    take_out(headers, &IF_MATCH);
+    take_out(headers, &IF_NONE_MATCH);
+    take_out(headers, &IF_MODIFIED_SINCE);
+    take_out(headers, &IF_UNMODIFIED_SINCE);
+    take_out(headers, &IF_RANGE);
+    take_out(headers, &RANGE);
+}
+
+// Whether no further name fits.
+fn is_full(headers: &HeaderMap) -> bool
+    ensures full { IsTrue result ↔ IsFullOfNames headers.now }
+    ensures map { IsHeaderMap headers.now }
+{
+    headers.keys_len() >= MAX_KEYS || headers.len() == usize::MAX
 }
 
 fn refusal(error: HeaderMapError) -> Error
@@ -38,7 +68,8 @@ fn refusal(error: HeaderMapError) -> Error
     }
 }
 
-// The first value under one name of the stored fields is put under another, where there is one.
+// The first value under one name of the stored fields is put under another, which is absent, where
+// there is one. A map that is full is found out before anything grows.
 fn copy_field(
     stored: &HeaderMap,
     from: &HeaderName,
@@ -49,25 +80,37 @@ fn copy_field(
     ensures err { OnErr result (headers.new ≡ headers.old) }
     ensures kind { IfErr result (λ e. (e ≡ OutOfMemory) ⊎ (e ≡ InternalError)) }
     ensures full { IfErr result (λ e. e ≡ InternalError → IsFullOfNames headers.old) }
+    ensures memory { IfErr result (λ e. e ≡ OutOfMemory → ¬ (IsFullOfNames headers.old)) }
     ensures nothing { get stored.now from.now ≡ None → IsOk result }
+    ensures map { OnOk result (IsHeaderMap headers.new) }
 {
     let Some(value) = stored.get(from) else {
+        // What is true of each map.
+        let _names = headers.keys_len();
         return Ok(());
     };
+    if is_full(headers) {
+        return Err(Error::new(ErrorType::InternalError));
+    }
     let value = value.clone()?;
     match headers.insert(to, value) {
-        Ok(_) => Ok(()),
+        Ok(_) => {
+            // What is true of each map.
+            let _names = headers.keys_len();
+            Ok(())
+        }
         Err(error) => Err(refusal(error)),
     }
 }
-
 // If-Modified-Since is the stored Last-Modified, where there is one.
 fn ask_since(headers: &mut HeaderMap, meta: &CacheMeta) -> Result<()>
     ensures asks { OnOk result (AsksSince headers.old meta.now.header.fields headers.new) }
     ensures err { OnErr result (headers.new ≡ headers.old) }
     ensures kind { IfErr result (λ e. (e ≡ OutOfMemory) ⊎ (e ≡ InternalError)) }
     ensures full { IfErr result (λ e. e ≡ InternalError → IsFullOfNames headers.old) }
+    ensures memory { IfErr result (λ e. e ≡ OutOfMemory → ¬ (IsFullOfNames headers.old)) }
     ensures nothing { first_in meta.now.header.fields (codes "last-modified") ≡ None → IsOk result }
+    ensures map { OnOk result (IsHeaderMap headers.new) }
 {
     copy_field(meta.headers(), &LAST_MODIFIED, headers, IF_MODIFIED_SINCE)
 }
@@ -78,19 +121,28 @@ fn ask_unlike(headers: &mut HeaderMap, meta: &CacheMeta) -> Result<()>
     ensures err { OnErr result (headers.new ≡ headers.old) }
     ensures kind { IfErr result (λ e. (e ≡ OutOfMemory) ⊎ (e ≡ InternalError)) }
     ensures full { IfErr result (λ e. e ≡ InternalError → IsFullOfNames headers.old) }
+    ensures memory { IfErr result (λ e. e ≡ OutOfMemory → ¬ (IsFullOfNames headers.old)) }
     ensures nothing { first_in meta.now.header.fields (codes "etag") ≡ None → IsOk result }
+    ensures map { OnOk result (IsHeaderMap headers.new) }
 {
     copy_field(meta.headers(), &ETAG, headers, IF_NONE_MATCH)
 }
 
-// The request asks for the response only if the stored one is no longer current.
+// The request, in which neither field stands, asks for the response only if the stored one is no
+// longer current.
 fn ask(headers: &mut HeaderMap, meta: &CacheMeta) -> Result<()>
+    requires since { get_all headers.old (codes "if-modified-since") ≡ [] }
+    requires unlike { get_all headers.old (codes "if-none-match") ≡ [] }
     ensures asks { OnOk result (Asks headers.old meta.now.header.fields headers.new) }
     ensures in_part { OnErr result (AsksInPart headers.old meta.now.header.fields headers.new) }
     ensures kind { IfErr result (λ e. (e ≡ OutOfMemory) ⊎ (e ≡ InternalError)) }
     ensures full { IfErr result (λ e. e ≡ InternalError → IsFullOfNames headers.new) }
+    ensures memory { IfErr result (λ e. e ≡ OutOfMemory → ¬ (IsFullOfNames headers.new)) }
+    ensures no_room { LacksRoom headers.old meta.now.header.fields → IsErr result }
     ensures nothing { HasNoValidator meta.now.header.fields → IsOk result }
 {
+    // What is true of each map.
+    let _names = headers.keys_len();
     ask_since(headers, meta)?;
     ask_unlike(headers, meta)
 }
@@ -99,9 +151,9 @@ fn ask(headers: &mut HeaderMap, meta: &CacheMeta) -> Result<()>
 /// ranges are removed. With the meta of a stored response it asks for the response only if that
 /// changed: If-Modified-Since is the stored Last-Modified, and If-None-Match the stored ETag.
 ///
-/// It is refused as `OutOfMemory`, or as `InternalError` where the request has no room for another
-/// field. The method is then changed and the removals are done, and of the two fields those that
-/// were still to be set are absent.
+/// It is refused as `InternalError` where the request has no room for another field, and as
+/// `OutOfMemory` only where it has. The method is then changed and the removals are done, and of the
+/// two fields those that were still to be set are absent.
 pub fn request_filter(req: &mut RequestHeader, meta: Option<&CacheMeta>) -> Result<()>
     ensures method { req.new.method ≡ sent_method req.old.method }
     ensures target { req.new.target ≡ req.old.target }
@@ -111,12 +163,13 @@ pub fn request_filter(req: &mut RequestHeader, meta: Option<&CacheMeta>) -> Resu
         (AsksInPartFor (option_copied meta.entry) (without_conditions req.old.headers) req.new.headers) }
     ensures kind { IfErr result (λ e. (e ≡ OutOfMemory) ⊎ (e ≡ InternalError)) }
     ensures full { IfErr result (λ e. e ≡ InternalError → IsFullOfNames req.new.headers) }
+    ensures memory { IfErr result (λ e. e ≡ OutOfMemory → ¬ (IsFullOfNames req.new.headers)) }
+    ensures no_room { IfSome (option_copied meta.entry)
+        (λ m. LacksRoom (without_conditions req.old.headers) m.header.fields → IsErr result) }
     ensures nothing { MatchOption (option_copied meta.entry) (IsOk result)
         (λ m. HasNoValidator m.header.fields → IsOk result) }
 {
-    if req.method == Method::HEAD {
-        req.method = Method::GET;
-    }
+    send_as_get(&mut req.method);
     remove_conditions(&mut req.headers);
     match meta {
         Some(meta) => ask(&mut req.headers, meta),

@@ -5,13 +5,13 @@ ghost use Rattle.pcache_base.specs.declared.error.ErrorType.TheVariants.{OutOfMe
 ghost use Rattle.lru.specs.LruCache.{lru_cache, put_entries};
 ghost use Rattle.pcache_evict.specs.Entry.{entry_eq};
 ghost use Rattle.pcache_evict.specs.Tracked.{limits_of, raised};
-ghost use Rattle.pcache_evict.specs.Recency.{Recency, weight, weight_of, others, moved, IsInside, Evicts};
+ghost use Rattle.pcache_evict.specs.Recency.{Recency, weight, weight_of, others, moved, loaded, loaded_all, IsInside, Evicts};
 ghost use Rattle.pcache_evict.specs.Listed.{IsOnce, IsEnough};
 ghost use Rattle.pcache_evict.specs.Shards.{reweighed, last_key};
 ghost use Rattle.pcache_evict.specs.Chain.{AreSmall, Walks};
 
 use super::CacheEntryKey;
-use lru::LruCache;
+use lru::{Iter, LruCache};
 use pcache_base::error::Result;
 use std::alloc::Global;
 use std::marker::Model;
@@ -178,6 +178,53 @@ impl RecencyList {
         self.cache.demote(&copy);
         self.cache.len();
         Ok(())
+    }
+
+    /// Puts in an entry that was read from a file: a new one at the back, one that is there at the
+    /// front with the new weight.
+    pub(super) fn load(&mut self, item: CacheEntryKey, size: usize) -> Result<()>
+        ensures ok { OnOk result (self.new ≡ loaded item size self.old) }
+        ensures kind { IfErr result (λ e. e ≡ OutOfMemory) }
+        ensures err { OnErr result (self.new ≡ self.old) }
+    {
+        if self.weight_of(&item).is_some() {
+            return self.put(item, size);
+        }
+        self.push_last(item, size)
+    }
+
+    /// Puts in entries that were read from a file, one after the other. Where it is refused, some of
+    /// them are in.
+    pub(super) fn load_all(&mut self, entries: Vec<(CacheEntryKey, usize)>) -> Result<()>
+        ensures ok { OnOk result (self.new ≡ loaded_all entries.items self.old) }
+        ensures kind { IfErr result (λ e. e ≡ OutOfMemory) }
+    {
+        for (item, size) in entries {
+            self.load(item, size)?;
+        }
+        Ok(())
+    }
+
+    /// A second list, equal to this one.
+    pub(super) fn copied(&self, alloc: Global) -> Result<RecencyList>
+        ensures ok { IfOk result (λ copy. copy ≡ self.now) }
+        ensures kind { IfErr result (λ e. e ≡ OutOfMemory) }
+    {
+        let mut copy = RecencyList::new(alloc)?;
+        let mut left = self.iter();
+        while let Some((key, size)) = left.next_back() {
+            copy.put(key.copied()?, *size)?;
+        }
+        Ok(copy)
+    }
+
+    /// The entries with their weights, most recent first, which takes no memory.
+    pub(super) fn iter(&self) -> Iter<'_, CacheEntryKey, usize>
+        ensures rest { result ≡ self.now }
+        ensures once { IsOnce self.now }
+    {
+        self.cache.len();
+        self.cache.iter()
     }
 
     /// The entries with their weights, most recent first.

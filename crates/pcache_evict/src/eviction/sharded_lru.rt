@@ -6,12 +6,13 @@ ghost use Rattle.pcache_base.specs.declared.error.ErrorType.TheVariants.{OutOfMe
 ghost use Rattle.pcache_evict.specs.Tracked.{raised, limits_of};
 ghost use Rattle.pcache_evict.specs.Recency.{IsInside, weight, weight_of, others, moved, accessed};
 ghost use Rattle.pcache_evict.specs.Listed.{IsEnough};
-ghost use Rattle.pcache_evict.specs.Shards.{ArePlaced, Sharded, Runs, all, list_at, shard_of, in_shard, reweighed, grown, last_key, empty_shards};
+ghost use Rattle.pcache_evict.specs.Shards.{ArePlaced, Sharded, Runs, all, list_at, shard_of, in_shard, reweighed, joined_all, grown, last_key, empty_shards};
 ghost use Rattle.pcache_evict.specs.Chain.{chain};
 
 use super::recency::raised_weight;
 use super::shards::RecencyShards;
 use super::{CacheEntryKey, EvictionManager};
+use lru::Iter;
 use pcache_base::error::Result;
 use pcache_base::moment::Moment;
 use std::alloc::Global;
@@ -273,6 +274,29 @@ impl<const N: usize> Manager<N> {
         let copy = item.copied()?;
         self.shards.put(copy, size)?;
         Ok(false)
+    }
+
+    /// Puts in entries that were read from a file, one after the other: a new one at the back of its
+    /// list, and one that is there is left alone. Nothing is evicted, and a refusal changes nothing
+    /// (own).
+    pub fn load_entries(&mut self, entries: Vec<(CacheEntryKey, usize)>) -> Result<()>
+        ensures ok { OnOk result (self.new
+            ≡ record self.old { shards = joined_all N entries.items self.old.shards }) }
+        ensures kind { IfErr result (λ e. e ≡ OutOfMemory) }
+        ensures err { OnErr result (self.new ≡ self.old) }
+    {
+        self.shards.join_all(self.alloc, entries)
+    }
+
+    /// The entries of a shard with their weights, most recent first, which takes no memory (own).
+    pub fn iter_shard(&self, shard: usize) -> Iter<'_, CacheEntryKey, usize>
+        requires { shard < N }
+        ensures rest { result ≡ list_at self.now.shards shard }
+        ensures placed { ArePlaced N self.now.shards }
+    {
+        self.shards.len();
+        let list = self.shards.list(shard);
+        list.iter()
     }
 
     // The room for what goes is made first, so that a refusal leaves all as it was.

@@ -1,11 +1,11 @@
 //! Recency lists in shards.
-ghost use Rattle.std.specs.Prelude.{◌≡◌, ◌∷◌, ◌++◌, ◌+◌, ◌-◌, ◌<◌, ◌≤◌, ◌^◌, ℕ, [], true, false, None, is_some, length, OnOk, OnErr, IfOk, IfErr, IfSome, IfNone, IsSome, min, unwrap_or};
+ghost use Rattle.std.specs.Prelude.{◌≡◌, ◌∷◌, ◌++◌, ◌+◌, ◌-◌, ◌<◌, ◌≤◌, ◌^◌, ℕ, [], true, false, None, is_some, length, OnOk, OnErr, IfOk, IfErr, IfSome, IfNone, IsSome, List, min, slice_set, take, unwrap_or};
 ghost use Rattle.std.specs.Vec.{vec_capacity};
 ghost use Rattle.pcache_base.specs.declared.error.ErrorType.TheVariants.{OutOfMemory};
 ghost use Rattle.pcache_evict.specs.Tracked.{limits_of};
-ghost use Rattle.pcache_evict.specs.Recency.{weight, weight_of, others, moved, IsInside};
+ghost use Rattle.pcache_evict.specs.Recency.{Recency, weight, weight_of, others, moved, IsInside};
 ghost use Rattle.pcache_evict.specs.Listed.{IsEnough};
-ghost use Rattle.pcache_evict.specs.Shards.{ArePlaced, all, shard_of, list_at, no_entries, in_shard, reweighed, RunsOut};
+ghost use Rattle.pcache_evict.specs.Shards.{ArePlaced, all, shard_of, list_at, no_entries, in_shard, reweighed, joined, joined_all, AreLengths, AreLonger, RunsOut};
 ghost use Rattle.pcache_evict.specs.Chain.{span, chain, Pops, Walks, RoomFor, IsFirst, IsFirstFrom};
 
 use super::CacheEntryKey;
@@ -165,6 +165,122 @@ impl<const N: usize> RecencyShards<N> {
         list.remove(item);
         self.weight = rest.0;
         self.items = rest.1;
+    }
+
+    /// Puts in entries that were read from a file, one after the other, each at the back of its list;
+    /// one that is there is left alone. A refusal changes nothing: what was added at the back of the
+    /// lists is taken off again, which takes no memory.
+    pub(super) fn join_all(
+        &mut self,
+        alloc: Global,
+        entries: Vec<(CacheEntryKey, usize)>,
+    ) -> Result<()>
+        ensures ok { OnOk result (self.new ≡ joined_all N entries.items self.old) }
+        ensures kind { IfErr result (λ e. e ≡ OutOfMemory) }
+        ensures err { OnErr result (self.new ≡ self.old) }
+    {
+        let lens = self.lens(alloc)?;
+        if let Err(refused) = self.join_each(entries) {
+            self.cut(&lens);
+            return Err(refused);
+        }
+        Ok(())
+    }
+
+    /// The numbers of entries of the lists.
+    fn lens(&self, alloc: Global) -> Result<Vec<usize>>
+        ensures ok { IfOk result (λ v. AreLengths N v.items self.now) }
+        ensures kind { IfErr result (λ e. e ≡ OutOfMemory) }
+    {
+        let mut lens = Vec::new(alloc);
+        for list in &self.lists {
+            lens.push(list.len())?;
+        }
+        Ok(lens)
+    }
+
+    /// Puts in entries until one is refused.
+    fn join_each(&mut self, entries: Vec<(CacheEntryKey, usize)>) -> Result<()>
+        ensures ok { OnOk result (self.new ≡ joined_all N entries.items self.old) }
+        ensures kind { IfErr result (λ e. e ≡ OutOfMemory) }
+        ensures longer { AreLonger self.old self.new }
+    {
+        for (item, size) in entries {
+            self.join(item, size)?;
+        }
+        Ok(())
+    }
+
+    /// Puts in an entry at the back of its list, or leaves it alone where it is there.
+    fn join(&mut self, item: CacheEntryKey, size: usize) -> Result<()>
+        ensures ok { OnOk result (self.new ≡ in_shard N item (joined item size) self.old) }
+        ensures kind { IfErr result (λ e. e ≡ OutOfMemory) }
+        ensures err { OnErr result (self.new ≡ self.old) }
+        ensures placed { ArePlaced N self.old }
+    {
+        self.len();
+        let list = self.list(self.place_of(&item));
+        if list.weight_of(&item).is_some() {
+            return Ok(());
+        }
+        self.push_last(item, size)
+    }
+
+    /// Adds a new entry at the back of its list.
+    fn push_last(&mut self, item: CacheEntryKey, size: usize) -> Result<()>
+        requires { weight_of item (list_at self.old (shard_of N item)) ≡ None }
+        ensures ok { OnOk result (self.new ≡ in_shard N item (λ l. l ++ (item, size) ∷ []) self.old) }
+        ensures kind { IfErr result (λ e. e ≡ OutOfMemory) }
+        ensures err { OnErr result (self.new ≡ self.old) }
+    {
+        if self.items >= MOST_ENTRIES {
+            return Err(Error::new(ErrorType::OutOfMemory));
+        }
+        let shard = self.place_of(&item);
+        let list = &mut self.lists[shard];
+        list.push_last(item, size)?;
+        self.weight += size as u128;
+        self.items += 1;
+        Ok(())
+    }
+
+    /// Takes entries off the back of the lists until they have so many.
+    fn cut(&mut self, lens: &[usize])
+        requires { length lens.now ≡ N }
+        ensures { (shards : List Recency) → AreLengths N lens.now shards → AreLonger shards self.old
+            → self.new ≡ shards }
+    {
+        for place in 0..N {
+            self.len();
+            self.truncate(place, lens[place]);
+        }
+        self.len();
+    }
+
+    /// Takes entries off the back of a list until it has at most so many.
+    fn truncate(&mut self, place: usize, len: usize)
+        requires { place < N }
+        ensures { self.new ≡ slice_set self.old place (take len (list_at self.old place)) }
+    {
+        while self.list(place).len() > len {
+            self.len();
+            self.pop(place);
+        }
+        self.len();
+    }
+
+    /// Takes out the last entry of a list.
+    fn pop(&mut self, place: usize)
+        requires within { place < N }
+        requires some { 0 < length (list_at self.old place) }
+        ensures { self.new ≡ slice_set self.old place (take (length (list_at self.old place) - 1) (list_at self.old place)) }
+    {
+        let list = &mut self.lists[place];
+        let Some((_key, size)) = list.pop_last() else {
+            unreachable!()
+        };
+        self.weight -= size as u128;
+        self.items -= 1;
     }
 
     /// The entries with their weights: shard by shard, and in a shard most recent first.

@@ -2,11 +2,12 @@
 ghost use Rattle.std.specs.Prelude.{◌≡◌, ◌-◌, ◌^◌, [], None, is_some, length, OnOk, OnErr, IfOk, IfErr, IsOk, IsSome, min};
 ghost use Rattle.std.specs.Vec.{vec_capacity};
 ghost use Rattle.pcache_base.specs.declared.error.ErrorType.TheVariants.{OutOfMemory};
-ghost use Rattle.pcache_evict.specs.Recency.{IsInside, weight, weight_of, others, moved, incremented, accessed, loaded};
+ghost use Rattle.pcache_evict.specs.Recency.{IsInside, weight, weight_of, others, moved, incremented, accessed, loaded, loaded_all};
 ghost use Rattle.pcache_evict.specs.Listed.{Listed, empty_list, Moves, IsEnough, IsOnce};
 
 use super::recency::{RecencyList, raised_weight};
 use super::{CacheEntryKey, EvictionManager};
+use lru::Iter;
 use pcache_base::error::Result;
 use pcache_base::moment::Moment;
 use std::alloc::Global;
@@ -204,6 +205,29 @@ impl Manager {
             return self.list.put(item, size);
         }
         self.list.push_last(item, size)
+    }
+
+    /// Puts in entries that were read from a file, one after the other, each as `load_entry` does.
+    /// They go into a list beside this one, which then takes its place: a refusal changes nothing
+    /// (own).
+    pub fn load_entries(&mut self, entries: Vec<(CacheEntryKey, usize)>) -> Result<()>
+        ensures ok { OnOk result (self.new
+            ≡ record self.old { entries = loaded_all entries.items self.old.entries }) }
+        ensures kind { IfErr result (λ e. e ≡ OutOfMemory) }
+        ensures err { OnErr result (self.new ≡ self.old) }
+    {
+        let mut list = self.list.copied(self.alloc)?;
+        list.load_all(entries)?;
+        self.list = list;
+        Ok(())
+    }
+
+    /// The entries with their weights, most recent first, which takes no memory (own).
+    pub fn iter(&self) -> Iter<'_, CacheEntryKey, usize>
+        ensures rest { result ≡ self.now.entries }
+        ensures once { IsOnce self.now.entries }
+    {
+        self.list.iter()
     }
 
     // The room for what goes is made first, so that a refusal leaves all as it was.

@@ -2,12 +2,14 @@
 ghost use Rattle.std.specs.Prelude.{◌≡◌, [], IfOk, IfErr, IsErrOf, ◌⊎◌};
 ghost use Rattle.http_header.specs.HeaderMap.{RefusesAppend};
 ghost use Rattle.pcache_meta.specs.Header.{Header, shown, shown_fields};
+ghost use Rattle.pcache_meta.specs.HeaderForm.{IsHeaderText};
 ghost use Rattle.pcache_meta.specs.HeaderReading.{append_at, field_at, fields_at, header_at, line_from, name_at, name_from, ordered_at, status_at, status_line_at, value_at, version_at};
 ghost use Rattle.pcache_meta.specs.HeaderText.{SpellsHeader};
 ghost use Rattle.pcache_meta.specs.Reading.{Gives, GivesOrWants, mark_at};
 ghost use Rattle.pcache_base.specs.declared.error.ErrorType.TheVariants.{InternalError, OutOfMemory};
 
 use crate::header::{HttpVersion, ResponseHeader};
+use crate::header_text::form::is_header_text;
 use crate::header_text::order::are_lines_of;
 use crate::msgpack::reader::unreadable;
 use http::StatusCode;
@@ -18,7 +20,7 @@ use pcache_base::error::{Error, ErrorType, Result};
 use std::alloc::Global;
 
 // The bytes before the first CR LF, and those behind it.
-fn split_line(bytes: &[u8]) -> Result<(&[u8], &[u8])>
+pub(super) fn split_line(bytes: &[u8]) -> Result<(&[u8], &[u8])>
     ensures { Gives (λ x. (x.0.now, x.1.now)) result (line_from [] bytes.now) }
 {
     let mut i = 0;
@@ -32,7 +34,7 @@ fn split_line(bytes: &[u8]) -> Result<(&[u8], &[u8])>
 }
 
 // The bytes before the first colon, and those behind it.
-fn split_name(bytes: &[u8]) -> Result<(&[u8], &[u8])>
+pub(super) fn split_name(bytes: &[u8]) -> Result<(&[u8], &[u8])>
     ensures { Gives (λ x. (x.0.now, x.1.now)) result (name_from [] bytes.now) }
 {
     'bytes: for i in 0..bytes.len() {
@@ -79,7 +81,7 @@ fn status_of(text: &[u8]) -> Result<StatusCode>
 
 // The version and the status that a line is.
 #[tactic(auto, unfolding(crate::specs::HeaderReading::status_line_at, crate::specs::Reading::bytes_at))]
-fn status_line(text: &[u8]) -> Result<(HttpVersion, StatusCode)>
+pub(super) fn status_line(text: &[u8]) -> Result<(HttpVersion, StatusCode)>
     ensures { Gives (λ x. x) result (status_line_at text.now) }
 {
     if text.len() < 9 {
@@ -133,7 +135,7 @@ fn field_of(alloc: Global, line: &[u8]) -> Result<(HeaderName, HeaderValue)>
 
 // The bytes behind a space.
 #[tactic(auto, unfolding(crate::specs::Reading::mark_at))]
-fn behind_space(bytes: &[u8]) -> Result<&[u8]>
+pub(super) fn behind_space(bytes: &[u8]) -> Result<&[u8]>
     ensures { Gives (λ x. x.now) result (mark_at 0x20 bytes.now) }
 {
     match bytes {
@@ -208,12 +210,22 @@ fn read_header(alloc: Global, bytes: &[u8]) -> Result<ResponseHeader>
 }
 
 /// The head that all of the bytes are the text of: its lines stand by name, in the order in which the
-/// names first come.
+/// names first come. It is refused for want of memory only where they are: what was read when memory
+/// was refused says nothing of the rest, so the bytes are then looked through without memory.
 pub fn header_deserialize(alloc: Global, bytes: &[u8]) -> Result<ResponseHeader>
     ensures found { IfOk result (λ h. SpellsHeader bytes.now (shown h)) }
     ensures same { (h : Header) → SpellsHeader bytes.now h → IfOk result (λ found. shown found ≡ h) }
     ensures refused { IsErrOf result InternalError → (h : Header) → ¬ (SpellsHeader bytes.now h) }
     ensures kinds { IfErr result (λ e. (e ≡ OutOfMemory) ⊎ (e ≡ InternalError)) }
+    ensures memory { IfErr result (λ e. e ≡ OutOfMemory → IsHeaderText bytes.now) }
 {
-    read_header(alloc, bytes)
+    let refused = match read_header(alloc, bytes) {
+        Ok(header) => return Ok(header),
+        Err(refused) => refused,
+    };
+    if refused.etype() == ErrorType::OutOfMemory && is_header_text(bytes) {
+        Err(refused)
+    } else {
+        Err(unreadable())
+    }
 }

@@ -3,7 +3,7 @@ ghost use Rattle.std.specs.Prelude.{◌≡◌, ◌≤◌, ◌<◌, ◌++◌, [],
 ghost use Rattle.pcache_meta.specs.HeaderText.{header_written};
 ghost use Rattle.pcache_meta.specs.Internal.{Internal, internal_of, upgraded};
 ghost use Rattle.pcache_meta.specs.Meta.{Meta};
-ghost use Rattle.pcache_meta.specs.MetaBytes.{SpellsMeta};
+ghost use Rattle.pcache_meta.specs.MetaBytes.{AreMetaBytes, SpellsMeta};
 ghost use Rattle.pcache_meta.specs.MetaReading.{internal_at, item_at, moment_at, new_internal_at, old_internal_at, upgraded_at, versioned_at};
 ghost use Rattle.pcache_meta.specs.MetaSpelling.{InternalThen, SpellsInternal};
 ghost use Rattle.pcache_meta.specs.MetaWriting.{IsInternal, IsOldInternal, internal_written, last_written, moment_written, old_written, version0_written, version1_written};
@@ -361,14 +361,14 @@ impl CacheMeta {
     }
 
     /// The meta that two byte strings spell, in any version. It is refused for want of memory only where
-    /// the first of them can be read.
+    /// they spell one, and else as bytes that can't be read.
     pub fn deserialize(alloc: Global, internal: &[u8], header: &[u8]) -> Result<CacheMeta>
         ensures found { IfOk result (λ m. SpellsMeta internal.now header.now m) }
         ensures same { (m : Meta) → SpellsMeta internal.now header.now m
             → IfOk result (λ found. found ≡ m) }
         ensures refused { IsErrOf result InternalError
             → (m : Meta) → ¬ (SpellsMeta internal.now header.now m) }
-        ensures memory { IfErr result (λ e. e ≡ OutOfMemory → (i : Internal) × SpellsInternal internal.now i) }
+        ensures memory { IfErr result (λ e. e ≡ OutOfMemory → AreMetaBytes internal.now header.now) }
         ensures kinds { IfErr result (λ e. (e ≡ OutOfMemory) ⊎ (e ≡ InternalError)) }
     {
         let internal = deserialize_internal(internal)?;

@@ -53,10 +53,10 @@ pub(super) fn status_for<L: CacheKeyLock>(lock: &L, reason: NoCacheReason) -> Lo
 
 impl<S: Storage> HttpCache<S> {
     ghost use Rattle.std.specs.Prelude.{◌≡◌, ◌↔◌, IsTrue, option_map};
-    ghost use Rattle.pcache_request.specs.Phases.{MayBypass};
+    ghost use Rattle.pcache_request.specs.Phases.{IsDisabled, MayBypass};
     ghost use Rattle.pcache_request.specs.Releasing.{MayRelease, MayDisable, status_for, disabled_for, bypassed};
     ghost use Rattle.pcache_request.specs.Reports.{name_of};
-    ghost use Rattle.pcache_request.specs.Requests.{settled, left_by, dropped_by};
+    ghost use Rattle.pcache_request.specs.Requests.{HoldsNothing, settled, left_by, dropped_by};
 
     /// Passes the cache by. The key is kept, and what is held.
     pub fn bypass(&mut self)
@@ -95,6 +95,8 @@ impl<S: Storage> HttpCache<S> {
     ) -> Option<LockName>
         requires { MayDisable reason self.old }
         ensures request { self.new ≡ disabled_for reason self.old }
+        ensures off { IsDisabled self.new.phase }
+        ensures held { HoldsNothing self.new }
         ensures store { S.state storage.new ≡ left_by self.old.reader (dropped_by self.old.write (S.state storage.old)) }
         ensures table { L.table lock.new ≡ settled (status_for (L.custom_status lock.old) reason) self.old.held (L.table lock.old) }
         ensures released { result ≡ option_map name_of self.old.held }

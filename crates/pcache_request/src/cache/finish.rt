@@ -1,23 +1,15 @@
 //! The end of a request's write.
-ghost use Rattle.std.specs.Prelude.{◌≡◌, true, false, IfOk, IfErr, ◌⊎◌, OnErr, OnOk, IfSome, cond, option_map};
-ghost use Rattle.pcache_base.specs.declared.error.ErrorType.TheVariants.{OutOfMemory};
-ghost use Rattle.pcache_base.specs.CompactKey.{compact_of};
-ghost use Rattle.pcache_evict.specs.Tracked.{evicted_with};
-ghost use Rattle.pcache_store.specs.Purge.{purged_at};
-ghost use Rattle.pcache_store.specs.Refusals.{MayRefuseFinish};
-ghost use Rattle.pcache_store.specs.Store.{dropped, finished, stands};
-ghost use Rattle.pcache_request.specs.Finishing.{PurgesAll, Admits, entry_slot, size_told, with_entry};
-ghost use Rattle.pcache_request.specs.Requests.{entry_of};
+ghost use Rattle.std.specs.Prelude.{◌≡◌};
+ghost use Rattle.pcache_lock.specs.Statuses.{IsReason};
+ghost use Rattle.pcache_request.specs.WriteEnds.{status_after};
 
+use super::ending::{EndedWrite, end_writer};
 use super::report::{LockName, WriteReport};
-use super::{HttpCache, entry_for, settle};
+use super::{HttpCache, settle};
 use pcache_base::error::{Error, Result};
-use pcache_base::key::{CacheKey, CompactCacheKey};
-use pcache_base::moment::Moment;
-use pcache_evict::eviction::{CacheEntryId, CacheEntryKey, EvictionManager};
+use pcache_evict::eviction::{CacheEntryKey, EvictionManager};
 use pcache_lock::lock::{CacheKeyLock, LockStatus};
-use pcache_store::storage::{HandleMiss, MissFinishType, PurgeTarget, PurgeType, Storage};
-use std::alloc::Global;
+use pcache_store::storage::Storage;
 
 /// What the end of a write gave.
 #[derive(Debug, Drop)]
@@ -43,130 +35,14 @@ pub enum WriteEnd {
     Withdrawn(Error),
 }
 
-// Purges an entry, and tells whether that was refused.
-fn is_purge_refused<S: Storage>(storage: &mut S, entry: &CacheEntryKey) -> bool
-    ensures refused { result ≡ true → S.state storage.new ≡ S.state storage.old }
-    ensures purged { result ≡ false → S.state storage.new ≡ purged_at (S.state storage.old) (entry_slot entry.now) }
-    ensures sure { S.always_purges ≡ true → result ≡ false }
+// The status that a permit is released with when its write ended.
+fn status_after(end: &WriteEnd) -> LockStatus
+    ensures status { result ≡ status_after end.now }
+    ensures reason { IsReason result }
 {
-    storage
-        .purge(PurgeTarget::Exact(entry), PurgeType::Eviction)
-        .is_err()
-}
-
-// Purges each entry in order, and counts those that were refused.
-fn purge_all<S: Storage>(storage: &mut S, entries: &[CacheEntryKey]) -> usize
-    ensures purges { PurgesAll (S.state storage.old) entries.now result (S.state storage.new) }
-    ensures sure { S.always_purges ≡ true → result ≡ 0 }
-{
-    let mut failed = 0usize;
-    for entry in entries {
-        if is_purge_refused(storage, entry) {
-            failed += 1;
-        }
-    }
-    failed
-}
-
-// Admits the entry of a write that ended so, where a manager is in use.
-fn admit<E: EvictionManager>(
-    alloc: Global,
-    is_used: bool,
-    eviction: &mut E,
-    entry: CacheEntryKey,
-    kind: MissFinishType,
-    fresh_until: Moment,
-) -> Result<Vec<CacheEntryKey>>
-    ensures admits { IfOk result (λ out. Admits is_used (E.limits eviction.old) kind entry (E.tracked eviction.old) out.items (E.tracked eviction.new)) }
-    ensures evicted { IfOk result (λ out. E.evicted eviction.new ≡ cond is_used (evicted_with (E.evicted eviction.old) (with_entry kind entry (E.tracked eviction.old)) out.items) (E.evicted eviction.old)) }
-    ensures err { OnErr result (E.tracked eviction.new ≡ E.tracked eviction.old) }
-    ensures err_evicted { OnErr result (E.evicted eviction.new ≡ E.evicted eviction.old) }
-    ensures limits { E.limits eviction.new ≡ E.limits eviction.old }
-    ensures kind { IfErr result (λ e. e ≡ OutOfMemory) }
-{
-    if !is_used {
-        return Ok(Vec::new(alloc));
-    }
-    match kind {
-        MissFinishType::Created(size) => eviction.admit(entry, size, fresh_until),
-        MissFinishType::Appended(size, most) => eviction.increment_weight(&entry, size, most),
-    }
-}
-
-// Admits the entry of a body that was just stored, and purges what is evicted for it, in order.
-fn admit_and_purge<S: Storage, E: EvictionManager>(
-    alloc: Global,
-    is_used: bool,
-    storage: &mut S,
-    eviction: &mut E,
-    entry: CacheEntryKey,
-    kind: MissFinishType,
-    fresh_until: Moment,
-) -> Result<FinishReport>
-    ensures size { IfOk result (λ f. f.size ≡ size_told kind) }
-    ensures admits { IfOk result (λ f. Admits is_used (E.limits eviction.old) kind entry (E.tracked eviction.old) f.evicted.items (E.tracked eviction.new)) }
-    ensures purges { IfOk result (λ f. PurgesAll (S.state storage.old) f.evicted.items f.failed_purges (S.state storage.new)) }
-    ensures sure { IfOk result (λ f. S.always_purges ≡ true → f.failed_purges ≡ 0) }
-    ensures evicted { IfOk result (λ f. E.evicted eviction.new ≡ cond is_used (evicted_with (E.evicted eviction.old) (with_entry kind entry (E.tracked eviction.old)) f.evicted.items) (E.evicted eviction.old)) }
-    ensures same_store { OnErr result (S.state storage.new ≡ S.state storage.old) }
-    ensures same_tracked { OnErr result (E.tracked eviction.new ≡ E.tracked eviction.old) }
-    ensures same_evicted { OnErr result (E.evicted eviction.new ≡ E.evicted eviction.old) }
-    ensures limits { E.limits eviction.new ≡ E.limits eviction.old }
-    ensures kind { IfErr result (λ e. e ≡ OutOfMemory) }
-{
-    let evicted = admit(alloc, is_used, eviction, entry, kind, fresh_until)?;
-    let failed_purges = purge_all(storage, evicted.as_slice());
-    Ok(FinishReport {
-        size: told_size(kind),
-        evicted,
-        failed_purges,
-    })
-}
-
-// The entry of a key, and the key itself to purge it by.
-fn entry_and_key(
-    key: &CacheKey,
-    id: Option<CacheEntryId>,
-) -> Result<(CacheEntryKey, CompactCacheKey)>
-    ensures ok { IfOk result (λ p. (p.0 ≡ entry_of key.now id) × (p.1 ≡ compact_of key.now)) }
-    ensures kind { IfErr result (λ e. e ≡ OutOfMemory) }
-{
-    let entry = entry_for(key, id)?;
-    let compact = key.to_compact()?;
-    Ok((entry, compact))
-}
-
-// Makes the entry and the key of a write, and then finishes it. Refused, the write is dropped.
-fn finish_writer<S: Storage>(
-    storage: &mut S,
-    key: &CacheKey,
-    writer: S::Miss,
-) -> Result<(CacheEntryKey, CompactCacheKey, MissFinishType)>
-    ensures entry { IfOk result (λ p. p.0 ≡ entry_of key.now (S.Miss.entry_number writer)) }
-    ensures compact { IfOk result (λ p. p.1 ≡ compact_of key.now) }
-    ensures answer { IfOk result (λ p. p.2 ≡ S.finishes storage.old (S.Miss.write writer)) }
-    ensures ok { OnOk result (S.state storage.new ≡ finished (S.state storage.old) (S.Miss.write writer)) }
-    ensures untouched { OnOk result (stands (S.state storage.old) (S.Miss.write writer) ≡ true) }
-    ensures err { OnErr result (S.state storage.new ≡ dropped (S.state storage.old) (S.Miss.write writer)) }
-    ensures kind { IfErr result (λ e. (e ≡ OutOfMemory) ⊎ MayRefuseFinish (S.state storage.old) (S.Miss.write writer) e) }
-{
-    let (entry, compact) = match entry_and_key(key, writer.entry_id()) {
-        Ok(made) => made,
-        Err(refused) => {
-            writer.drop_write(storage);
-            return Err(refused);
-        }
-    };
-    let kind = writer.finish(storage)?;
-    Ok((entry, compact, kind))
-}
-
-fn told_size(kind: MissFinishType) -> usize
-    ensures { result ≡ size_told kind }
-{
-    match kind {
-        MissFinishType::Created(size) => size,
-        MissFinishType::Appended(size, _) => size,
+    match end {
+        WriteEnd::Dropped(_) => LockStatus::TransientError,
+        WriteEnd::Nothing | WriteEnd::Stored(_) | WriteEnd::Withdrawn(_) => LockStatus::Done,
     }
 }
 
@@ -236,37 +112,20 @@ impl<S: Storage> HttpCache<S> {
         let Some(writer) = self.writer.take() else {
             return WriteReport::new(WriteEnd::Nothing, None, None);
         };
+        self.traces.finish_miss_span();
         let Some(meta) = &self.meta else {
             unreachable!()
         };
-        let fresh_until = meta.fresh_until();
-        let id = writer.entry_id();
-        let (entry, compact, kind) = match finish_writer(storage, key, writer) {
-            Ok(made) => made,
-            Err(refused) => {
-                let released = self.settle_held(lock, LockStatus::TransientError);
-                return WriteReport::new(WriteEnd::Dropped(refused), None, released);
-            }
-        };
-        let released = self.settle_held(lock, LockStatus::Done);
-        let is_used = self.uses.eviction;
-        match admit_and_purge(
+        let EndedWrite { end, entry } = end_writer(
             self.alloc,
-            is_used,
+            self.uses.eviction,
             storage,
             eviction,
-            entry,
-            kind,
-            fresh_until,
-        ) {
-            Ok(report) => {
-                let entry = CacheEntryKey::from_entry_id(compact, id);
-                WriteReport::new(WriteEnd::Stored(report), Some(entry), released)
-            }
-            Err(refused) => {
-                let _ = storage.purge(PurgeTarget::Active(&compact), PurgeType::Invalidation);
-                WriteReport::new(WriteEnd::Withdrawn(refused), None, released)
-            }
-        }
+            key,
+            writer,
+            meta.fresh_until(),
+        );
+        let released = self.settle_held(lock, status_after(&end));
+        WriteReport::new(end, entry, released)
     }
 }

@@ -67,13 +67,14 @@ impl<S: Storage> HttpCache<S> {
     ghost use Rattle.pcache_request.specs.Phases.{IsDisabled, IsOn};
     ghost use Rattle.pcache_request.specs.Releasing.{MayRelease, status_for};
     ghost use Rattle.pcache_request.specs.Reports.{name_of, released_as};
-    ghost use Rattle.pcache_request.specs.Requests.{settled};
+    ghost use Rattle.pcache_request.specs.Requests.{HoldsNothing, settled};
 
     /// Turns caching on, with these parts in use and these options of its lock, and all else fresh
-    /// but the digest.
+    /// but the digest. A disabled request holds nothing, so that nothing is lost.
     pub fn enable_with(&mut self, uses: InUse, overrides: Option<CacheOptionOverrides>)
         requires { IsDisabled self.old.phase }
-        ensures { self.new ≡ enabled_waiting uses overrides self.old }
+        ensures request { self.new ≡ enabled_waiting uses overrides self.old }
+        ensures held { HoldsNothing self.old }
     {
         self.enable(uses);
         self.lock_ctx = LockCtx::of(uses.lock, overrides);

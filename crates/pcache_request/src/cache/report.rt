@@ -91,6 +91,15 @@ pub struct WriteBegin {
     pub joined: Result<(), Error>,
 }
 
+/// What a revalidation gave.
+#[derive(Debug, Drop)]
+pub struct Renewal {
+    /// Whether a complete body stood under the key, whose meta was set, or why it was not set.
+    pub updated: Result<bool, Error>,
+    /// The lock that was released.
+    pub released: Option<LockName>,
+}
+
 /// What the end of a write gave.
 #[derive(Debug, Drop)]
 pub struct WriteReport {

@@ -5,11 +5,12 @@ use pcache_base::key::CacheKey;
 use pcache_base::moment::Moment;
 use pcache_base::reason::NoCacheReason;
 use pcache_meta::meta::CacheMeta;
+use pcache_meta::trace::{Span, SpanHandle};
 use pcache_store::storage::Storage;
 use std::time::Duration;
 
 impl<S: Storage> HttpCache<S> {
-    ghost use Rattle.std.specs.Prelude.{◌≡◌, ◌↔◌, IsTrue, IsSome, Some, None, option_copied, option_map, cond};
+    ghost use Rattle.std.specs.Prelude.{◌≡◌, ◌↔◌, IsTrue, IsSome, Some, None, is_some, option_copied, option_map, cond};
     ghost use Rattle.std.specs.Duration.{as_nanos};
     ghost use Rattle.pcache_request.specs.Requests.{with_look_up_time};
     ghost use Rattle.pcache_request.specs.Shown.{is_enabled, is_bypassing, has_used_upstream, shown_key, shown_meta, read_meta, stale_meta, ServesAfterError, ServesWhileUpdating};
@@ -137,6 +138,45 @@ impl<S: Storage> HttpCache<S> {
             return false;
         };
         meta.serve_stale_while_revalidate(now)
+    }
+
+    /// Takes this span for all of the request's calls, where caching is on.
+    pub fn enable_tracing(&mut self, cache_span: Span)
+        ensures { self.new ≡ self.old }
+    {
+        if self.phase.is_on() {
+            self.traces.enable(cache_span);
+        }
+    }
+
+    /// The handle of the span of all the request's calls, where caching is on.
+    pub fn get_cache_span(&self) -> Option<SpanHandle>
+        ensures { is_some result ≡ is_on self.now.phase }
+    {
+        if !self.phase.is_on() {
+            return None;
+        }
+        Some(self.traces.get_cache_span())
+    }
+
+    /// The handle of the span of what the request stores, where caching is on.
+    pub fn get_miss_span(&self) -> Option<SpanHandle>
+        ensures { is_some result ≡ is_on self.now.phase }
+    {
+        if !self.phase.is_on() {
+            return None;
+        }
+        Some(self.traces.get_miss_span())
+    }
+
+    /// The handle of the span of what the request found, where caching is on.
+    pub fn get_hit_span(&self) -> Option<SpanHandle>
+        ensures { is_some result ≡ is_on self.now.phase }
+    {
+        if !self.phase.is_on() {
+            return None;
+        }
+        Some(self.traces.get_hit_span())
     }
 
     /// Adds what a look-up took, as the caller measured it.

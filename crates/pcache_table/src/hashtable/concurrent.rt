@@ -1,7 +1,7 @@
 //! Tables in shards, each behind a lock of its own.
 ghost use Rattle.std.specs.Prelude.{◌≡◌, ◌↔◌, ◌<◌, ◌%◌, IfErr, IfOk, IfSome, IsSome, max};
 ghost use Rattle.std.specs.List.{range_with_len};
-ghost use Rattle.std.specs.Sync.RwLock.{read_guard_value, write_guard_value};
+ghost use Rattle.std.specs.Sync.RwLock.{read_guard_value};
 ghost use Rattle.pcache_table.specs.Sharding.{Visits, VisitsEach};
 ghost use Rattle.pcache_base.specs.declared.error.ErrorType.TheVariants.{OutOfMemory};
 
@@ -9,10 +9,11 @@ use crate::hashtable::lru_lock::LruLock;
 use crate::hashtable::lru_shard::LruShard;
 use crate::hashtable::shard::Shard;
 use crate::hashtable::shard_lock::ShardLock;
+use crate::hashtable::write_guard::WriteGuard;
 use pcache_base::error::Result;
 use std::alloc::Global;
 use std::marker::{Model, PhantomData};
-use std::sync::{RwLockReadGuard, RwLockWriteGuard, Wait};
+use std::sync::{RwLockReadGuard, Wait};
 
 /// A table in `N` shards, which threads read and write side by side. A contract sees the places of
 /// its locks; the type of a shard keeps that it has no keys but its own.
@@ -78,8 +79,8 @@ impl<V, const N: usize> ConcurrentHashTable<V, N> {
     }
 
     /// The shard of a key, to be written. It may wait.
-    pub fn write<R: Wait>(&self, rt: &R, key: u128) -> RwLockWriteGuard<'_, Shard<V, N>>
-        ensures { (write_guard_value result).place ≡ key % N }
+    pub fn write<R: Wait>(&self, rt: &R, key: u128) -> WriteGuard<'_, Shard<V, N>>
+        ensures { result.place ≡ key % N }
     {
         self.get(key).write(rt)
     }
@@ -165,9 +166,9 @@ impl<V: Drop, const N: usize> ConcurrentLruCache<V, N> {
     }
 
     /// The shard of a key, to be written. It may wait.
-    pub fn write<R: Wait>(&self, rt: &R, key: u128) -> RwLockWriteGuard<'_, LruShard<V, N>>
-        ensures place { (write_guard_value result).place ≡ key % N }
-        ensures capacity { (write_guard_value result).cap ≡ self.now }
+    pub fn write<R: Wait>(&self, rt: &R, key: u128) -> WriteGuard<'_, LruShard<V, N>>
+        ensures place { result.place ≡ key % N }
+        ensures capacity { result.cap ≡ self.now }
     {
         let lock = self.get(key);
         lock.write(rt)

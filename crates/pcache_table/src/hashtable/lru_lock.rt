@@ -1,18 +1,21 @@
 //! One shard that forgets, behind a lock.
 ghost use Rattle.std.specs.Prelude.{◌≡◌, ◌<◌, IfErr, IfOk, max};
-ghost use Rattle.std.specs.Sync.RwLock.{read_guard_value, write_guard_value};
+ghost use Rattle.std.specs.Sync.RwLock.{read_guard_value};
 ghost use Rattle.pcache_base.specs.declared.error.ErrorType.TheVariants.{OutOfMemory};
 
 use crate::hashtable::lru_shard::LruShard;
+use crate::hashtable::write_guard::WriteGuard;
 use pcache_base::error::Result;
 use std::alloc::Global;
 use std::marker::Model;
-use std::sync::{RwLock, RwLockReadGuard, RwLockWriteGuard, Wait};
+use std::sync::{RwLock, RwLockReadGuard, Wait};
 
 /// The lock of one of `N` shards. A contract sees the place and the capacity of its shard.
 ///
 /// Of what a lock lends nothing is known but its type. So both stand beside the lock as well, and
-/// a shard is lent only where it says the same itself.
+/// a shard is lent only where it says the same itself. It does so at the first try: `at` puts one
+/// that does under the lock, and nobody can put another there, since `write` lends the calls of a
+/// shard and never the shard to be changed.
 #[derive(Drop)]
 pub struct LruLock<V, const N: usize> {
     place: usize,
@@ -32,10 +35,10 @@ impl<V, const N: usize> Model for LruLock<V, N> {
 }
 
 impl<V: Drop, const N: usize> LruLock<V, N> {
-    /// The lock of an empty shard at a place. A capacity of 0 counts as 1.
-    ///
-    /// It is refused for want of memory alone.
-    pub fn at(alloc: Global, place: usize, capacity: usize) -> Result<LruLock<V, N>>
+    // The lock of an empty shard at a place. A capacity of 0 counts as 1.
+    //
+    // It is refused for want of memory alone.
+    pub(crate) fn at(alloc: Global, place: usize, capacity: usize) -> Result<LruLock<V, N>>
         requires { place < N }
         ensures made { IfOk result (λ l. l ≡ record { place = place; cap = max capacity 1 }) }
         ensures kind { IfErr result (λ e. e ≡ OutOfMemory) }
@@ -63,11 +66,12 @@ impl<V: Drop, const N: usize> LruLock<V, N> {
         self.capacity
     }
 
-    /// Its shard, to be read. It may wait.
+    /// Its shard, to be read. It may wait for one who writes.
     pub fn read<R: Wait>(&self, rt: &R) -> RwLockReadGuard<'_, LruShard<V, N>>
         ensures place { (read_guard_value result).place ≡ self.now.place }
         ensures capacity { (read_guard_value result).cap ≡ self.now.cap }
     {
+        // The first round returns (see the type); the test gives its contract.
         for _ in rt.forever() {
             let shard = self.shard.read(rt);
             if shard.place() == self.place && shard.capacity() == self.capacity {
@@ -77,13 +81,14 @@ impl<V: Drop, const N: usize> LruLock<V, N> {
         unreachable!()
     }
 
-    /// Its shard, to be written. It may wait.
-    pub fn write<R: Wait>(&self, rt: &R) -> RwLockWriteGuard<'_, LruShard<V, N>>
-        ensures place { (write_guard_value result).place ≡ self.now.place }
-        ensures capacity { (write_guard_value result).cap ≡ self.now.cap }
+    /// Its shard, to be read and written. It may wait for those who read or write.
+    pub fn write<R: Wait>(&self, rt: &R) -> WriteGuard<'_, LruShard<V, N>>
+        ensures place { result.place ≡ self.now.place }
+        ensures capacity { result.cap ≡ self.now.cap }
     {
+        // The first round returns (see the type); the test gives its contract.
         for _ in rt.forever() {
-            let shard = self.shard.write(rt);
+            let shard = WriteGuard::over(self.shard.write(rt));
             if shard.place() == self.place && shard.capacity() == self.capacity {
                 return shard;
             }

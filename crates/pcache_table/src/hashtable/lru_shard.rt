@@ -12,6 +12,8 @@ use std::num::NonZeroUsize;
 
 /// One of `N` shards, which has no keys but its own, and as many as its capacity.
 /// A contract sees its place, its capacity and its entries, the one used last first.
+///
+/// It is made and changed by its table alone (`LruShards`), or through the guard that its lock lends.
 #[derive(Drop)]
 pub struct LruShard<V, const N: usize> {
     place: usize,
@@ -32,10 +34,11 @@ impl<V, const N: usize> Model for LruShard<V, N> {
 }
 
 impl<V: Drop, const N: usize> LruShard<V, N> {
-    /// An empty shard at a place. A capacity of 0 counts as 1.
-    ///
-    /// It is refused for want of memory alone.
-    pub fn at(alloc: Global, place: usize, capacity: usize) -> Result<LruShard<V, N>>
+    // An empty shard at a place. A capacity of 0 counts as 1. Nobody outside makes one, so none comes
+    // under the lock of another.
+    //
+    // It is refused for want of memory alone.
+    pub(crate) fn at(alloc: Global, place: usize, capacity: usize) -> Result<LruShard<V, N>>
         requires { place < N }
         ensures made { IfOk result (λ s. s ≡ record { place = place; cap = max capacity 1; entries = [] }) }
         ensures kind { IfErr result (λ e. e ≡ OutOfMemory) }
@@ -94,9 +97,9 @@ impl<V: Drop, const N: usize> LruShard<V, N> {
         self.cache.contains(&key)
     }
 
-    /// Sets the value at a key of its own and puts it in front; of a full shard the last key goes.
-    /// It answers the value before.
-    pub fn put(
+    // Sets the value at a key of its own and puts it in front; of a full shard the last key goes.
+    // It answers the value before.
+    pub(crate) fn put(
         &mut self,
         key: u128,
         value: V,
@@ -110,8 +113,8 @@ impl<V: Drop, const N: usize> LruShard<V, N> {
         self.cache.put(key, value)
     }
 
-    /// Takes a key out, and answers its value.
-    pub fn pop(&mut self, key: u128) -> Option<V>
+    // Takes a key out, and answers its value.
+    pub(crate) fn pop(&mut self, key: u128) -> Option<V>
         ensures before { result ≡ lookup (nat_eq key) self.old.entries }
         ensures gone { self.new ≡ part_without key self.old }
     {

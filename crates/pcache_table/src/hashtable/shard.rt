@@ -9,6 +9,8 @@ use std::collections::btree_map::Iter;
 use std::marker::{Model, PhantomData};
 
 /// One of `N` shards of a table, which has no keys but its own. A contract sees its place and its map.
+///
+/// It is made and changed by its table alone (`Shards`), or through the guard that its lock lends.
 #[derive(Drop)]
 pub struct Shard<V, const N: usize> {
     place: usize,
@@ -29,8 +31,8 @@ impl<V, const N: usize> Model for Shard<V, N> {
 }
 
 impl<V, const N: usize> Shard<V, N> {
-    /// An empty shard at a place.
-    pub fn at(alloc: Global, place: usize, _like: PhantomData<Shard<V, N>>) -> Shard<V, N>
+    // An empty shard at a place. Nobody outside makes one, so none comes under the lock of another.
+    pub(crate) fn at(alloc: Global, place: usize, _like: PhantomData<Shard<V, N>>) -> Shard<V, N>
         requires { place < N }
         ensures { result ≡ record { place = place; map = map.empty } }
     {
@@ -71,8 +73,12 @@ impl<V, const N: usize> Shard<V, N> {
         self.table.iter()
     }
 
-    /// Sets the value at a key of its own, and answers the one before.
-    pub fn insert(&mut self, key: u128, value: V) -> Result<Option<V>, AllocFailed<(u128, V)>>
+    // Sets the value at a key of its own, and answers the one before.
+    pub(crate) fn insert(
+        &mut self,
+        key: u128,
+        value: V,
+    ) -> Result<Option<V>, AllocFailed<(u128, V)>>
         requires { key % N ≡ self.old.place }
         ensures before { IfOk result (λ old. old ≡ map.get self.old.map key) }
         ensures ok { OnOk result (self.new ≡ record self.old { map = map.insert self.old.map key value }) }
@@ -83,8 +89,8 @@ impl<V, const N: usize> Shard<V, N> {
         self.table.insert(key, value)
     }
 
-    /// Takes a key out, and answers its value.
-    pub fn remove(&mut self, key: u128) -> Option<V>
+    // Takes a key out, and answers its value.
+    pub(crate) fn remove(&mut self, key: u128) -> Option<V>
         ensures before { result ≡ map.get self.old.map key }
         ensures removed { self.new ≡ record self.old { map = map.remove self.old.map key } }
     {

@@ -1,16 +1,19 @@
 //! One shard of a table behind a lock.
 ghost use Rattle.std.specs.Prelude.{◌≡◌, ◌<◌};
-ghost use Rattle.std.specs.Sync.RwLock.{read_guard_value, write_guard_value};
+ghost use Rattle.std.specs.Sync.RwLock.{read_guard_value};
 
 use crate::hashtable::shard::Shard;
+use crate::hashtable::write_guard::WriteGuard;
 use std::alloc::Global;
 use std::marker::{Model, PhantomData};
-use std::sync::{RwLock, RwLockReadGuard, RwLockWriteGuard, Wait};
+use std::sync::{RwLock, RwLockReadGuard, Wait};
 
 /// The lock of one of `N` shards. A contract sees the place of its shard.
 ///
 /// Of what a lock lends nothing is known but its type. So the place stands beside the lock as well,
-/// and a shard is lent only where it says that place itself.
+/// and a shard is lent only where it says that place itself. It does so at the first try: `at` puts
+/// one that does under the lock, and nobody can put another there, since `write` lends the calls of
+/// a shard and never the shard to be changed.
 #[derive(Drop)]
 pub struct ShardLock<V, const N: usize> {
     place: usize,
@@ -28,8 +31,8 @@ impl<V, const N: usize> Model for ShardLock<V, N> {
 }
 
 impl<V, const N: usize> ShardLock<V, N> {
-    /// The lock of an empty shard at a place.
-    pub fn at(alloc: Global, place: usize, like: PhantomData<Shard<V, N>>) -> ShardLock<V, N>
+    // The lock of an empty shard at a place.
+    pub(crate) fn at(alloc: Global, place: usize, like: PhantomData<Shard<V, N>>) -> ShardLock<V, N>
         requires { place < N }
         ensures { result ≡ place }
     {
@@ -47,10 +50,11 @@ impl<V, const N: usize> ShardLock<V, N> {
         self.place
     }
 
-    /// Its shard, to be read. It may wait.
+    /// Its shard, to be read. It may wait for one who writes.
     pub fn read<R: Wait>(&self, rt: &R) -> RwLockReadGuard<'_, Shard<V, N>>
         ensures { (read_guard_value result).place ≡ self.now }
     {
+        // The first round returns (see the type); the test gives its contract.
         for _ in rt.forever() {
             let shard = self.shard.read(rt);
             if shard.place() == self.place {
@@ -60,12 +64,13 @@ impl<V, const N: usize> ShardLock<V, N> {
         unreachable!()
     }
 
-    /// Its shard, to be written. It may wait.
-    pub fn write<R: Wait>(&self, rt: &R) -> RwLockWriteGuard<'_, Shard<V, N>>
-        ensures { (write_guard_value result).place ≡ self.now }
+    /// Its shard, to be read and written. It may wait for those who read or write.
+    pub fn write<R: Wait>(&self, rt: &R) -> WriteGuard<'_, Shard<V, N>>
+        ensures { result.place ≡ self.now }
     {
+        // The first round returns (see the type); the test gives its contract.
         for _ in rt.forever() {
-            let shard = self.shard.write(rt);
+            let shard = WriteGuard::over(self.shard.write(rt));
             if shard.place() == self.place {
                 return shard;
             }

@@ -6,11 +6,12 @@ ghost use Rattle.pingora_cache.specs.declared.world.call.Reply.TheVariants.{Data
 
 use bytes::Bytes;
 use pcache_base::error::{ErrorType, Result};
-use pcache_base::key::CacheKey;
+use pcache_base::key::{CacheKey, HashBinary};
 use pcache_base::moment::Moment;
 use pcache_base::reason::NoCacheReason;
 use pcache_meta::header::ResponseHeader;
 use pcache_meta::meta::CacheMeta;
+use pcache_predict::admission::Decision;
 use pcache_request::phase::{CachePhase, HitStatus};
 
 /// A call of a request. Requests are named by numbers.
@@ -20,15 +21,31 @@ pub enum Call {
     Open {
         request: u64,
     },
+    /// Turns caching on again, with the manager and the lock in use.
+    Enable {
+        request: u64,
+    },
+    /// Turns caching off for a reason, and gives back what is held.
+    Disable {
+        request: u64,
+        reason: NoCacheReason,
+    },
     /// Sets the key.
     Key {
         request: u64,
         key: CacheKey,
     },
-    /// Looks the key up.
+    /// Looks the key up. A decision that it carries, where the request looks its key up first, is that
+    /// of an admission policy, which is in use from then on and decides so until another is carried.
     Look {
         request: u64,
         now: Moment,
+        decision: Option<Decision>,
+    },
+    /// Has the next look-up look for this variance of the key, by the meta of what the last one found.
+    Vary {
+        request: u64,
+        variance: HashBinary,
     },
     /// Takes what the look-up found.
     Found {
@@ -67,6 +84,12 @@ pub enum Call {
     Read {
         request: u64,
     },
+    /// Has the reader give the body from `start` on, and before `end` where one is given, anew.
+    Seek {
+        request: u64,
+        start: usize,
+        end: Option<usize>,
+    },
     /// Ends the reader.
     Done {
         request: u64,
@@ -74,6 +97,11 @@ pub enum Call {
     /// Removes what stands under the key.
     Purge {
         request: u64,
+    },
+    /// Ends the freshness of what stands under the key.
+    Expire {
+        request: u64,
+        now: Moment,
     },
     /// Takes the lock into use, or out of it, before the key's lock is held.
     Lock {
@@ -101,6 +129,16 @@ pub enum Call {
         header: ResponseHeader,
         reason: NoCacheReason,
     },
+    /// Sets what the response varies on, before its write begins.
+    Variance {
+        request: u64,
+        variance: Option<HashBinary>,
+    },
+    /// Takes the meta of an answer that says that the stale body is good, also for the stored body.
+    Revalidate {
+        request: u64,
+        meta: CacheMeta,
+    },
     /// Tells the phase that the request is in.
     Phase {
         request: u64,
@@ -118,8 +156,18 @@ impl Call {
     {
         *match self {
             Call::Open { request } => request,
+            Call::Enable { request } => request,
+            Call::Disable { request, reason: _ } => request,
             Call::Key { request, key: _ } => request,
-            Call::Look { request, now: _ } => request,
+            Call::Look {
+                request,
+                now: _,
+                decision: _,
+            } => request,
+            Call::Vary {
+                request,
+                variance: _,
+            } => request,
             Call::Found {
                 request,
                 status: _,
@@ -136,8 +184,14 @@ impl Call {
             } => request,
             Call::Finish { request } => request,
             Call::Read { request } => request,
+            Call::Seek {
+                request,
+                start: _,
+                end: _,
+            } => request,
             Call::Done { request } => request,
             Call::Purge { request } => request,
+            Call::Expire { request, now: _ } => request,
             Call::Lock {
                 request,
                 is_used: _,
@@ -150,6 +204,11 @@ impl Call {
                 header: _,
                 reason: _,
             } => request,
+            Call::Variance {
+                request,
+                variance: _,
+            } => request,
+            Call::Revalidate { request, meta: _ } => request,
             Call::Phase { request } => request,
             Call::End { request } => request,
         }
@@ -194,8 +253,18 @@ pub enum Reply {
     Finished,
     /// What stood under the key is removed.
     Purged,
+    /// The freshness of the body under the key has ended.
+    Expired,
     /// Nothing stood under the key.
     Absent,
+    /// What was found is of the variance.
+    Same,
+    /// What was found is of another variance.
+    Other,
+    /// The stored body has the new meta.
+    Updated,
+    /// No complete body stood under the key.
+    NotUpdated,
     /// The phase of the request.
     Phase(CachePhase),
 }
@@ -225,7 +294,12 @@ impl Reply {
             Reply::Pending => Reply::Pending,
             Reply::Finished => Reply::Finished,
             Reply::Purged => Reply::Purged,
+            Reply::Expired => Reply::Expired,
             Reply::Absent => Reply::Absent,
+            Reply::Same => Reply::Same,
+            Reply::Other => Reply::Other,
+            Reply::Updated => Reply::Updated,
+            Reply::NotUpdated => Reply::NotUpdated,
             Reply::Phase(phase) => Reply::Phase(*phase),
         })
     }

@@ -4,6 +4,7 @@ ghost use Rattle.std.specs.Prelude.{◌≡◌};
 use crate::world::call::{Call, Reply};
 use bytes::Bytes;
 use pcache_base::key::CompactCacheKey;
+use pcache_base::moment::Moment;
 use pcache_base::poll::Poll;
 use pcache_evict::eviction::CacheEntryKey;
 use pcache_meta::meta::CacheMeta;
@@ -77,6 +78,16 @@ pub enum Event {
     /// What stood under a key was removed.
     Purge {
         slot: u128,
+    },
+    /// The freshness of the complete body under a key, where there is one, ended at this moment.
+    Expire {
+        slot: u128,
+        now: Moment,
+    },
+    /// The complete body under a key has this meta from then on: the stale body was found good.
+    Renew {
+        slot: u128,
+        meta: CacheMeta,
     },
     /// An entry was taken out of the manager.
     Untrack {

@@ -1,5 +1,5 @@
 //! What is promised of every legal history, whatever calls it has.
-ghost use Rattle.pingora_cache.specs.Headline.{EvictsFairly, FindsExactly, FinishesExactly, GivesThePermitExactly, IsWithinLimits, IsWrongExactly, LooksAreTrue, OnePermitWaits, ReadsABeginning, ReadsAreTrue, ReadsTheLast, ReadsTheWhole, ReadsWhatWasFound, TellsExactly, TracksExactly};
+ghost use Rattle.pingora_cache.specs.Headline.{EvictsFairly, FindsExactly, FinishesExactly, GivesThePermitExactly, HandsOnExactly, IsWithinLimits, IsWrongExactly, LooksAreTrue, OnePermitWaits, ReadsABeginning, ReadsAreTrue, ReadsTheLast, ReadsTheWhole, ReadsWhatWasFound, TellsExactly, TracksExactly};
 
 /// A call is answered as a wrong one exactly where its condition fails.
 pub fn is_wrong_exactly()
@@ -66,9 +66,15 @@ pub fn one_permit_waits()
 {}
 
 /// The reply to a look-up tells that something was found exactly where a write of the key, in
-/// flight or finished, met no removal since it began.
+/// flight or finished, met no removal since it began: of a request that looked for no variant.
 pub fn tells_exactly()
     ensures { TellsExactly }
+{}
+
+/// A look-up hands on what the store finds, except exactly what was created before the moment from
+/// which variants of the key count.
+pub fn hands_on_exactly()
+    ensures { HandsOnExactly }
 {}
 
 /// What a reader of a write has given when it tells the end is the whole body of the write.

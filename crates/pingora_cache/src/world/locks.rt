@@ -13,6 +13,7 @@ ghost use Rattle.pcache_store.specs.Store.{Store};
 
 use crate::world::call::Reply;
 use crate::world::entry::Event;
+use crate::world::notes::note_release;
 use crate::world::request::{OpenRequest, permit_in, permit_released};
 use pcache_base::reason::NoCacheReason;
 use pcache_lock::lock::CacheLock;
@@ -96,14 +97,4 @@ pub(crate) fn uncacheable(
     let released = request.cache.revalidate_uncacheable(lock, copy, reason);
     note_release(permit_in(released), events);
     Reply::Done
-}
-
-// Notes the release of a permit, if one was.
-fn note_release(permit: Option<u64>, events: &mut Vec<Event>)
-    requires { vec_len events.old + 1 ≤ vec_capacity events.old }
-    ensures { events.new.items ≡ events.old.items ++ each Release permit }
-{
-    if let Some(lock) = permit {
-        events.push_reserved(Event::Release { lock });
-    }
 }

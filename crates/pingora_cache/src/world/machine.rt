@@ -10,6 +10,7 @@ use crate::world::entry::{Entry, Event, Events};
 use crate::world::parts::Parts;
 use crate::world::request::OpenRequest;
 use crate::world::turn::apply;
+use crate::world::vary::spare_of;
 use pcache_base::error::{ErrorType, Result};
 use pcache_evict::eviction::{CacheEntryKey, EvictionManager};
 use pcache_lock::lock::CacheLock;
@@ -66,7 +67,7 @@ impl<M: EvictionManager> World<M> {
     ghost use Rattle.pingora_cache.specs.Log.{Log, Adds, AddsAll, AddsSome, HasLegal, events_in};
     ghost use Rattle.pcache_base.specs.declared.error.ErrorType.TheVariants.{OutOfMemory};
     ghost use Rattle.pcache_evict.specs.Tracked.{weight};
-    ghost use Rattle.pingora_cache.specs.Headline.{EvictsNothingWithin, FindsUntouched, FinishesUntouched, GivesWhereNoneWaits, HitsTheLast, StaysWithin};
+    ghost use Rattle.pingora_cache.specs.Headline.{EvictsNothingWithin, FindsUntouched, FinishesUntouched, GivesWhereNoneWaits, HandsOnUnhidden, HitsTheLast, StaysWithin};
 
     /// A world with no requests, nothing stored and an empty history. Permits age out after
     /// `age_timeout`.
@@ -95,7 +96,8 @@ impl<M: EvictionManager> World<M> {
     }
 
     /// What is promised of the history, whatever calls were made: a look-up finds a key exactly when
-    /// a write of it, in flight or finished, met no removal since it began; the finish of a write
+    /// a write of it, in flight or finished, met no removal since it began, and hands on what it finds
+    /// unless a variant hides it; the finish of a write
     /// succeeds exactly when it met none; a complete hit reads the body that was finished last; the
     /// complete bodies sum to at most the limit; nothing is evicted within the limits; a request for
     /// a lock is given the permit exactly when no permit waits under its key.
@@ -103,6 +105,7 @@ impl<M: EvictionManager> World<M> {
     /// It does nothing. Who calls it has these facts of the world at that moment, also behind a lock.
     pub fn headline(&self)
         ensures finds { FindsUntouched self.now }
+        ensures hands_on { HandsOnUnhidden self.now }
         ensures finishes { FinishesUntouched self.now }
         ensures hits { HitsTheLast self.now }
         ensures within { StaysWithin self.now }
@@ -162,6 +165,7 @@ impl<M: EvictionManager> World<M> {
         ensures kind { IfErr result (λ e. e ≡ OutOfMemory) }
     {
         let mut events = Vec::with_capacity(self.alloc, MOST_EVENTS)?;
+        let mut spare = spare_of(&call)?;
         make_ready(&mut self.history, &mut self.start, &self.parts.manager)?;
         let reply = apply(
             self.alloc,
@@ -169,6 +173,7 @@ impl<M: EvictionManager> World<M> {
             &mut self.parts,
             &mut events,
             &call,
+            &mut spare,
         );
         let (noted, answered) = doubled(reply);
         note(&mut self.history, call, noted, events);
@@ -249,11 +254,12 @@ fn doubled(reply: Reply) -> (Reply, Reply)
     }
 }
 
-// Adds an entry to a history that has room for it.
-fn note(history: &mut Vec<Entry>, call: Call, reply: Reply, events: Vec<Event>)
+// Adds an entry to a history that has room for it. Its events keep no more room than they take.
+fn note(history: &mut Vec<Entry>, call: Call, reply: Reply, mut events: Vec<Event>)
     requires { vec_len history.old < vec_capacity history.old }
     ensures { history.new.items ≡ history.old.items ++ record { call = call; reply = reply; events = events.items } ∷ [] }
 {
+    events.shrink_to_fit();
     history.push_reserved(Entry {
         call,
         reply,

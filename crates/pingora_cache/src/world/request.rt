@@ -1,6 +1,7 @@
 //! An open request, with what its last look-up gave.
 ghost use Rattle.std.specs.Prelude.{◌≡◌, None, Some, option_map};
 ghost use Rattle.pcache_store.specs.Readers.{reader_of};
+ghost use Rattle.pingora_cache.specs.Held.{world_use};
 ghost use Rattle.pingora_cache.specs.Rules.{permit_of};
 ghost use Rattle.pcache_request.specs.Requests.{Request, left_by, let_go_by};
 ghost use Rattle.pingora_cache.specs.Sound.{pair_reader};
@@ -8,7 +9,9 @@ ghost use Rattle.pingora_cache.specs.Step.{permit_in, permit_released, store_end
 
 use pcache_lock::lock::CacheLock;
 use pcache_meta::meta::CacheMeta;
+use pcache_predict::admission::Decision;
 use pcache_request::cache::{HttpCache, LockName, ReleasedLock};
+use pcache_request::phase::InUse;
 use pcache_store::memory::{MemCache, MemHitHandler};
 use pcache_store::storage::HandleHit;
 use std::marker::Model;
@@ -17,10 +20,12 @@ use std::marker::Model;
 pub(crate) type Pair = (CacheMeta, MemHitHandler);
 
 /// An open request. The pair that its last look-up gave is held until it is taken, or the request
-/// looks up again, goes on as a miss or ends.
+/// looks up again, goes on as a miss or ends. The decision that a look-up carried last is that of the
+/// policy in use.
 pub struct OpenRequest {
     pub(crate) cache: HttpCache<MemCache>,
     pub(crate) pair: Option<Pair>,
+    pub(crate) carried: Option<Decision>,
 }
 
 impl Model for OpenRequest {
@@ -30,14 +35,18 @@ impl Model for OpenRequest {
 
     ghost Value = { Held };
 
-    ghost view = { λ a. record { request = a.cache; pair = option_map (λ p. (p.0, reader_of p.1)) a.pair } };
+    ghost view = { λ a. record { request = a.cache; pair = option_map (λ p. (p.0, reader_of p.1)) a.pair; carried = a.carried } };
 }
 
 impl OpenRequest {
     pub(crate) fn new(cache: HttpCache<MemCache>) -> OpenRequest
-        ensures { result ≡ record { request = cache; pair = None } }
+        ensures { result ≡ record { request = cache; pair = None; carried = None } }
     {
-        OpenRequest { cache, pair: None }
+        OpenRequest {
+            cache,
+            pair: None,
+            carried: None,
+        }
     }
 
     /// Gives back all that is held, and answers the number of a permit that is let go.
@@ -46,10 +55,25 @@ impl OpenRequest {
         ensures store { store.new ≡ store_ended self store.old }
         ensures table { lock.new ≡ let_go_by self.request.held lock.old }
     {
-        let OpenRequest { cache, mut pair } = self;
+        let OpenRequest {
+            cache,
+            mut pair,
+            carried: _,
+        } = self;
         hold(&mut pair, None, store);
         let None = pair else { unreachable!() };
         permit_in(cache.end(store, lock))
+    }
+}
+
+/// Which parts the requests of a world use while caching is on: the manager and the lock.
+pub(crate) fn world_use() -> InUse
+    ensures { result ≡ world_use }
+{
+    InUse {
+        eviction: true,
+        predictor: false,
+        lock: true,
     }
 }
 

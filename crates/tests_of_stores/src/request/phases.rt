@@ -1,5 +1,6 @@
 //! Requests of one key, step by step: which phase each call leads to, and where it may not be made.
 use super::*;
+use pcache_meta::trace::Span;
 
 // One call, or a look-up with what is made of it.
 #[derive(Clone, Copy)]
@@ -300,6 +301,60 @@ fn a_request_shows_a_stale_body(rt: HostRuntime) -> std::result::Result<(), Fail
     run_steps(&rt, &mut parts, FILL.as_slice())?;
     let mut cache = HttpCache::new(parts.alloc);
     let done = shows_a_stale_body(&rt, &mut parts, &mut cache);
+    let _let_go = cache.end(&mut parts.store, &mut parts.lock);
+    done
+}
+
+// The spans that a request has, before caching is on and after.
+fn has_spans(cache: &HttpCache<MemCache>) -> [bool; 3] {
+    [
+        cache.get_cache_span().is_some(),
+        cache.get_miss_span().is_some(),
+        cache.get_hit_span().is_some(),
+    ]
+}
+
+// Sends the reader of a stale body to its second byte, and past its end.
+fn seeks(
+    rt: &impl Abort,
+    parts: &mut Parts,
+    cache: &mut HttpCache<MemCache>,
+) -> std::result::Result<(), Fail> {
+    cache.enable_tracing(Span::inactive());
+    assert_eq!(rt; has_spans(cache), [false; 3]);
+    play(rt, parts, cache, SOUGHT.as_slice())?;
+    cache.enable_tracing(Span::inactive());
+    assert_eq!(rt; has_spans(cache), [true; 3]);
+    if !cache.has_body_reader() {
+        panic!(rt; "a body was found");
+    }
+    assert!(rt; cache.seek(2, None).is_err());
+    cache.seek(1, None)?;
+    Ok(())
+}
+
+const SOUGHT: [(Step, bool, CachePhase); 3] = [
+    (Step::Enable, true, CachePhase::Uninit),
+    (Step::Key, true, CachePhase::CacheKey),
+    (Step::Found(HitStatus::Fresh), true, CachePhase::Hit),
+];
+
+// Stores `ab` under the key.
+fn store(rt: &impl Abort, parts: &mut Parts) -> std::result::Result<(), Fail> {
+    let key = key_of(parts.alloc, "k")?;
+    let mut cache = HttpCache::new(parts.alloc);
+    start(rt, &mut cache, key);
+    let done = fill(rt, parts, &mut cache);
+    let _let_go = cache.end(&mut parts.store, &mut parts.lock);
+    done
+}
+
+#[test]
+fn a_reader_is_sent_to_another_byte(rt: HostRuntime) -> std::result::Result<(), Fail> {
+    let mut parts = Parts::new(rt.alloc())?;
+    store(&rt, &mut parts)?;
+    let mut cache = HttpCache::new(parts.alloc);
+    let done = seeks(&rt, &mut parts, &mut cache);
     let _let_go = cache.end(&mut parts.store, &mut parts.lock);
     done
 }

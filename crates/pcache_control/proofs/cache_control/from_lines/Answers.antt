@@ -2,7 +2,7 @@ use Rattle.pcache_control.proofs.AllLines.{begins, goes_on, ends, once}
 use Rattle.pcache_control.proofs.cache_control.from_lines.Goals as goal
 
 pub lines-init : goal.lines-init
-lines-init c = rw (c.into_iter-line-iterator.ensures.into_iter_gives, c.new-directives.ensures.empty) (begins c.args.lines)
+lines-init c = rw (c.into_iter-line-iterator.ensures.into_iter_gives, c.with_hasher-directives.ensures.empty) (begins c.args.lines)
 
 pub lines-preserved : goal.lines-preserved
 lines-preserved c =

@@ -1,11 +1,18 @@
-use Rattle.pcache_meta.proofs.HeaderResults.{header_found, header_same, header_refused}
+use Rattle.std.proofs.Common.{◌∙◌}
+use Rattle.pcache_meta.specs.Header.{shown}
+use Rattle.pcache_meta.proofs.HeaderResults.{read_found, read_same, refused_for_form}
 use Rattle.pcache_meta.proofs.header_text.reader.header_deserialize.Goals as goal
+use Rattle.pcache_meta.proofs.header_text.reader.header_deserialize.Goals.{else-eq-via-then-eq+else-is_header_text, else-eq-via-else-eq}
 
-pub returns-clause-found : goal.returns-clause-found
-returns-clause-found c = header_found c.args.bytes.now c.read_header.result c.read_header.ensures
+pub returns-in-Ok-clause-found : goal.returns-in-Ok-clause-found
+returns-in-Ok-clause-found c = read_found c.args.bytes.now (shown c.in-Ok.header) c.in-Ok.ensures
 
-pub returns-clause-same : goal.returns-clause-same
-returns-clause-same c = λ h spelled. header_same c.args.bytes.now c.read_header.result h c.read_header.ensures spelled
+pub returns-in-Ok-clause-same : goal.returns-in-Ok-clause-same
+returns-in-Ok-clause-same c = λ h spelled. read_same c.args.bytes.now (shown c.in-Ok.header) h c.in-Ok.ensures spelled
 
-pub returns-clause-refused : goal.returns-clause-refused
-returns-clause-refused c = λ refused h spelled. header_refused c.args.bytes.now c.read_header.result h c.read_header.ensures refused spelled
+pub returns-else-eq-clause-refused : goal.returns-else-eq-clause-refused
+returns-else-eq-clause-refused c = λ refused h spelled.
+    refused_for_form c.in-Err.refused c.args.bytes.now h c.in-Err.ensures (elim c.else-eq.branch [
+      | else-eq-via-then-eq+else-is_header_text w ↦ λ is told. absurd (cc (w.if-is_header_text.ensures.1 told))
+      | else-eq-via-else-eq w ↦ λ is told. let differs = rw (c.etype.ensures ∙ is) at w.if-eq.ensures in absurd (cc differs)
+    ]) spelled

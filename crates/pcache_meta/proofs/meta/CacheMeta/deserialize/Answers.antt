@@ -1,7 +1,7 @@
 use Rattle.std.proofs.Common.{◌∙◌, sym, subst}
 use Rattle.std.proofs.lemmas.Result.{err_from_is_err_and}
 use Rattle.pcache_meta.specs.Header.{shown}
-use Rattle.pcache_meta.specs.Internal.{Internal, internal_of}
+use Rattle.pcache_meta.specs.Internal.{Internal, internal_of, with_header}
 use Rattle.pcache_meta.specs.InternalParts.{says2}
 use Rattle.pcache_meta.specs.MetaSpelling.{SpellsInternal}
 use Rattle.pcache_base.specs.declared.error.ErrorType.TheVariants.{InternalError}
@@ -30,4 +30,4 @@ returns-clause-same c = λ m spelled.
 pub returns-in_err-header-clause-memory : goal.returns-in_err-header-clause-memory
 returns-in_err-header-clause-memory c =
     let p = err_from_is_err_and c.from_residual-in_err-header.result c.from_residual-in_err-header.ensures.1 in
-    rw (p.1, p.2) (λ e. (c.in_ok-internal.internal, c.in_ok-internal.ensures.found))
+    rw (p.1, p.2) (λ e. let told = c.in_err-header.ensures.memory e in (with_header c.in_ok-internal.internal told.0, (c.in_ok-internal.ensures.found, told.1)))

@@ -20,8 +20,8 @@ returns-clause-moves c s =
     let o = c.permit_in.result in
     let old = c.args.events.now.items in
     let all = c.note_release.new.events.items in
-    subst (λ (x : Held). MovesStore (Some x) s all (Some (held_with pair c.revalidate_uncacheable-released.new.self)) s) c.request.view_is
-    (turns-quietly (held_with pair r) (held_with pair c.revalidate_uncacheable-released.new.self) s all (quiet-noted Release o old all (λ n. tt) c.requires.none c.note_release.ensures)
+    subst (λ (x : Held). MovesStore (Some x) s all (Some (held_with c.request.inside.carried pair c.revalidate_uncacheable-released.new.self)) s) c.request.view_is
+    (turns-quietly (held_with c.request.inside.carried pair r) (held_with c.request.inside.carried pair c.revalidate_uncacheable-released.new.self) s all (quiet-noted Release o old all (λ n. tt) c.requires.none c.note_release.ensures.events)
     refl (ap (λ (y : Request). y.reader) c.revalidate_uncacheable-released.ensures.request) (ap (λ (y : Request). y.write) c.revalidate_uncacheable-released.ensures.request))
 
 pub returns-clause-locks : goal.returns-clause-locks
@@ -31,4 +31,4 @@ returns-clause-locks c =
     let old = c.args.events.now.items in
     let all = c.note_release.new.events.items in
     let permit : o ≡ permit_of r.held = c.permit_in.ensures ∙ ap permit_in c.revalidate_uncacheable-released.ensures.released ∙ permit-named r.held in
-    settle-locks c.args.lock.now c.revalidate_uncacheable-released.new.lock _ r.held o old all (status-reason c.args.reason) permit c.requires.none c.note_release.ensures c.revalidate_uncacheable-released.ensures.table
+    settle-locks c.args.lock.now c.revalidate_uncacheable-released.new.lock _ r.held o old all (status-reason c.args.reason) permit c.requires.none c.note_release.ensures.events c.revalidate_uncacheable-released.ensures.table

@@ -1,4 +1,7 @@
-use Rattle.std.proofs.Common.{rules, refl, ap, sym, subst, ◌∙◌, inl, IsSome, option_map}
+use Rattle.std.proofs.Common.{◌≡◌, rules, refl, ap, sym, subst, ◌∙◌, inl, IsSome, Option, Some, option_map}
+use Rattle.pcache_meta.specs.Meta.{Meta}
+use Rattle.pcache_store.specs.Store.{Reader}
+use Rattle.pingora_cache.specs.Moved.{Moves}
 use Rattle.pcache_store.specs.Readers.{reader_of}
 use Rattle.pcache_request.specs.Phases.{MayLookUp}
 use Rattle.pingora_cache.specs.Facts.{facts_in}
@@ -10,7 +13,23 @@ use Rattle.pingora_cache.proofs.world.look.found.Goals as goal
 pub returns-clause-answers : goal.returns-clause-answers
 returns-clause-answers g c =
     let had = sym c.take.ensures.value ∙ c.in-Some.is in
-    let is = ap (λ o. held_with (option_map (λ p. (p.0, reader_of p.1)) o) c.request.inside.cache) (sym had) ∙ c.request.view_is in
+    let is = ap (λ o. held_with c.request.inside.carried (option_map (λ p. (p.0, reader_of p.1)) o) c.request.inside.cache) (sym had) ∙ c.request.view_is in
     let may : MayLookUp c.request.inside.cache.phase = search rules in
     inl (subst (λ (x : Held). (MayLookUp x.request.phase × IsSome x.pair) × IsOther c.take-2.result × Takes (facts_in c.args.parts.now.store c.args.parts.now.lock x.request) c.args.status x.request x.pair c.take-2.result c.take-2.new.events.items) is
     ((may, refl), c.take-2.ensures.other, c.take-2.ensures.answers))
+
+pub returns-clause-moves : goal.returns-clause-moves
+returns-clause-moves g c =
+    let d = c.request.inside.carried in
+    let p : Option (Meta × Reader) = Some (c.in-Some.pair.0, reader_of c.in-Some.pair.1) in
+    let had = sym c.take.ensures.value ∙ c.in-Some.is in
+    let is = ap (λ o. held_with d (option_map (λ p. (p.0, reader_of p.1)) o) c.request.inside.cache) (sym had) ∙ c.request.view_is in
+    let tracked = g.M.EvictionManager.tracked in
+    let limits = g.M.EvictionManager.limits c.args.parts.now.manager in
+    let s = c.args.parts.now.store in
+    let m = tracked c.args.parts.now.manager in
+    let events = c.take-2.new.events.items in
+    let u = c.take-2.new.parts.store in
+    let n = tracked c.take-2.new.parts.manager in
+    subst (λ (x : Held). Moves limits (Some x) s m events (Some (held_with d (option_map (λ p. (p.0, reader_of p.1)) c.take.new.self) c.take-2.new.cache)) u n) is
+    (subst (λ o. Moves limits (Some (held_with d p c.request.inside.cache)) s m events (Some (held_with d (option_map (λ p. (p.0, reader_of p.1)) o) c.take-2.new.cache)) u n) (sym c.take.ensures.after) (c.take-2.ensures.moves d))

@@ -1,0 +1,6 @@
+pub mod Devices
+pub mod FileExact
+pub mod FileShortest
+pub mod Loading
+pub mod NodeLoop
+pub mod Written

@@ -1,0 +1,5 @@
+pub mod Device
+pub mod FileLaws
+pub mod FileReading
+pub mod FileSpelling
+pub mod FileWriting

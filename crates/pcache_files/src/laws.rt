@@ -1,0 +1,18 @@
+//! What is promised of every file.
+ghost use Rattle.pcache_files.specs.FileLaws.{FilesAreShortest, FilesSpellOneList, SavedIsLoaded};
+
+/// No bytes spell two lists.
+pub fn files_spell_one_list()
+    ensures { FilesSpellOneList }
+{}
+
+/// No spelling of a list is shorter than the one that is written.
+pub fn files_are_shortest()
+    ensures { FilesAreShortest }
+{}
+
+/// The file that is written of a list spells it, and a list without an entry twice is the same list
+/// once it is loaded into an empty one.
+pub fn saved_is_loaded()
+    ensures { SavedIsLoaded }
+{}

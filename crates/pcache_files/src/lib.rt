@@ -1,0 +1,17 @@
+#![tactic(auto)]
+//! Eviction managers as files: what they hold is written down, and put back in after a restart.
+//!
+//! - `device`: readers and writers that count the calls that failed
+//! - `codec`: the bytes of a file, read and written
+//! - `folder`: files that are opened, and files that take the place of older ones
+//! - `simple_lru`, `sharded_lru`: the files of the two managers
+//! - `saved`: managers that are saved in a folder and loaded from it
+//! - `laws`: what is promised of every file
+
+pub mod codec;
+pub mod device;
+mod folder;
+pub mod laws;
+pub mod saved;
+pub mod sharded_lru;
+pub mod simple_lru;

@@ -1,0 +1,159 @@
+//! The files of the manager in shards, one for each shard.
+ghost use Rattle.std.specs.Prelude.{◌≡◌, ◌<◌, ◌≤◌, ◌⊎◌, ℕ, IfErr, IfOk, IsErrOf, OnErr, OnOk};
+ghost use Rattle.pcache_base.specs.declared.error.ErrorType.TheVariants.{InternalError, Io, OutOfMemory};
+ghost use Rattle.pcache_evict.specs.Recency.{Recency};
+ghost use Rattle.pcache_evict.specs.Shards.{ArePlaced, joined_all, list_at};
+ghost use Rattle.pcache_files.specs.FileSpelling.{SpellsFile};
+ghost use Rattle.pcache_files.specs.FileWriting.{file_written, IsTooLong};
+
+use crate::codec::{read_file, write_file};
+use crate::device::read_whole;
+use crate::folder::{open_file, replace_file};
+use pcache_base::error::{Error, ErrorType, Result};
+use pcache_evict::eviction::CacheEntryKey;
+use pcache_evict::eviction::sharded_lru::Manager;
+use std::alloc::Global;
+use std::fs::Files;
+
+/// The bytes of a shard's file: its list as it stands.
+pub fn serialize_shard<const N: usize>(
+    alloc: Global,
+    manager: &Manager<N>,
+    shard: usize,
+) -> Result<Vec<u8>>
+    requires { shard < N }
+    ensures written { IfOk result (λ v. v.items ≡ file_written (list_at manager.now.shards shard)) }
+    ensures spelled { IfOk result (λ v. SpellsFile v.items (list_at manager.now.shards shard)) }
+    ensures placed { ArePlaced N manager.now.shards }
+    ensures too_long { IsErrOf result InternalError → IsTooLong (list_at manager.now.shards shard) }
+    ensures kinds { IfErr result (λ e. (e ≡ OutOfMemory) ⊎ (e ≡ InternalError)) }
+{
+    write_file(alloc, manager.shard_len(shard), manager.iter_shard(shard))
+}
+
+/// Puts in the list that the bytes of a shard's file spell, each entry at the back of the list of its
+/// key's shard, whichever that is now. One that is there is left alone, and nothing is evicted. A
+/// refusal changes nothing.
+pub fn deserialize_shard<const N: usize>(
+    alloc: Global,
+    manager: &mut Manager<N>,
+    bytes: &[u8],
+) -> Result<()>
+    ensures ok { OnOk result ((l : Recency) × SpellsFile bytes.now l
+        × (manager.new ≡ record manager.old { shards = joined_all N l manager.old.shards })) }
+    ensures refused { IsErrOf result InternalError → (l : Recency) → ¬ (SpellsFile bytes.now l) }
+    ensures kinds { IfErr result (λ e. (e ≡ OutOfMemory) ⊎ (e ≡ InternalError)) }
+    ensures err { OnErr result (manager.new ≡ manager.old) }
+{
+    let entries = read_file(alloc, bytes)?;
+    manager.load_entries(entries)
+}
+
+/// Saves each shard as `lru.data.` and its number in a folder, which is made with its parents where
+/// it is missing, each written under a name that ends in the suffix in eight hexadecimal digits and
+/// `.tmp`, and then renamed. Where a shard is refused, those before it are saved.
+pub fn save<R: Files, const N: usize>(
+    alloc: Global,
+    manager: &Manager<N>,
+    files: &R,
+    dir: &str,
+    suffix: u32,
+) -> Result<()>
+    ensures too_long { IsErrOf result InternalError
+        → (shard : ℕ) × IsTooLong (list_at manager.now.shards shard) }
+    ensures kinds { IfErr result (λ e. (e ≡ OutOfMemory) ⊎ (e ≡ InternalError) ⊎ (e ≡ Io)) }
+{
+    for shard in 0..N {
+        save_shard(alloc, manager, files, dir, suffix, shard)?;
+    }
+    Ok(())
+}
+
+// Saves a shard.
+fn save_shard<R: Files, const N: usize>(
+    alloc: Global,
+    manager: &Manager<N>,
+    files: &R,
+    dir: &str,
+    suffix: u32,
+    shard: usize,
+) -> Result<()>
+    requires { shard < N }
+    ensures too_long { IsErrOf result InternalError → IsTooLong (list_at manager.now.shards shard) }
+    ensures kinds { IfErr result (λ e. (e ≡ OutOfMemory) ⊎ (e ≡ InternalError) ⊎ (e ≡ Io)) }
+{
+    let bytes = serialize_shard(alloc, manager, shard)?;
+    let name = file_name(alloc, shard)?;
+    replace_file(alloc, files, dir, name.as_str(), suffix, &bytes)
+}
+
+/// Puts in what the files of a folder hold, shard after shard, each entry as `deserialize_shard` does,
+/// and answers how many files were skipped, since they could not be read or spell no list. All are
+/// read before anything is put in, and a refusal, for want of memory alone, changes nothing.
+pub fn load<R: Files, const N: usize>(
+    alloc: Global,
+    manager: &mut Manager<N>,
+    files: &R,
+    dir: &str,
+) -> Result<usize>
+    ensures ok { OnOk result ((l : Recency)
+        × (manager.new ≡ record manager.old { shards = joined_all N l manager.old.shards })) }
+    ensures skipped { IfOk result (λ n. n ≤ N) }
+    ensures kind { IfErr result (λ e. e ≡ OutOfMemory) }
+    ensures err { OnErr result (manager.new ≡ manager.old) }
+{
+    let mut entries = Vec::new(alloc);
+    let mut skipped = 0;
+    for shard in 0..N {
+        let read = read_shard(alloc, files, dir, shard, &mut entries)?;
+        if !read {
+            skipped += 1;
+        }
+    }
+    manager.load_entries(entries)?;
+    Ok(skipped)
+}
+
+// Adds what the file of a shard holds, and answers whether it could be read.
+fn read_shard<R: Files>(
+    alloc: Global,
+    files: &R,
+    dir: &str,
+    shard: usize,
+    entries: &mut Vec<(CacheEntryKey, usize)>,
+) -> Result<bool>
+    ensures { IfErr result (λ e. e ≡ OutOfMemory) }
+{
+    let name = file_name(alloc, shard)?;
+    match read_entries(alloc, files, dir, name.as_str()) {
+        Ok(read) => {
+            for entry in read {
+                entries.push(entry)?;
+            }
+            Ok(true)
+        }
+        Err(refused) => match refused.etype() {
+            ErrorType::OutOfMemory => Err(Error::new(ErrorType::OutOfMemory)),
+            _ => Ok(false),
+        },
+    }
+}
+
+// The list that a file holds.
+fn read_entries<R: Files>(
+    alloc: Global,
+    files: &R,
+    dir: &str,
+    name: &str,
+) -> Result<Vec<(CacheEntryKey, usize)>> {
+    let mut file = open_file(alloc, files, dir, name)?;
+    let bytes = read_whole(alloc, &mut file)?;
+    read_file(alloc, &bytes)
+}
+
+// The name of a shard's file.
+fn file_name(alloc: Global, shard: usize) -> Result<String>
+    ensures { IfErr result (λ e. e ≡ OutOfMemory) }
+{
+    Ok(format!(in alloc; "lru.data.{shard}")?)
+}

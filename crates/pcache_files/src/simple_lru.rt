@@ -1,0 +1,107 @@
+//! The file of the manager with one recency list.
+ghost use Rattle.std.specs.Prelude.{◌≡◌, ◌≢◌, ◌⊎◌, ℕ, List, IfErr, IfOk, IsErrOf, OnErr, OnOk};
+ghost use Rattle.std.specs.Io.KnownBytes.{Appends, Keeps};
+ghost use Rattle.pcache_base.specs.declared.error.ErrorType.TheVariants.{InternalError, Io, OutOfMemory};
+ghost use Rattle.pcache_evict.specs.Listed.{IsOnce};
+ghost use Rattle.pcache_evict.specs.Recency.{Recency, loaded_all};
+ghost use Rattle.pcache_files.specs.Device.{Counts, Gave, TookBeginning};
+ghost use Rattle.pcache_files.specs.FileSpelling.{SpellsFile};
+ghost use Rattle.pcache_files.specs.FileWriting.{file_written, IsTooLong};
+
+use crate::codec::{read_file, write_file};
+use crate::device::{CountedRead, CountedWrite, read_whole, write_whole};
+use crate::folder::{open_file, replace_file};
+use pcache_base::error::Result;
+use pcache_evict::eviction::simple_lru::Manager;
+use std::alloc::Global;
+use std::fs::Files;
+
+/// The file's name in its folder.
+const FILE_NAME: &str = "simple_lru.data";
+
+/// The bytes of the manager's file: its list as it stands.
+pub fn serialize(alloc: Global, manager: &Manager) -> Result<Vec<u8>>
+    ensures written { IfOk result (λ v. v.items ≡ file_written manager.now.entries) }
+    ensures spelled { IfOk result (λ v. SpellsFile v.items manager.now.entries) }
+    ensures once { IsOnce manager.now.entries }
+    ensures too_long { IsErrOf result InternalError → IsTooLong manager.now.entries }
+    ensures kinds { IfErr result (λ e. (e ≡ OutOfMemory) ⊎ (e ≡ InternalError)) }
+{
+    write_file(alloc, manager.total_items(), manager.iter())
+}
+
+/// Puts in the list that the bytes of a file spell: an entry that is new goes to the back, one that
+/// is there moves to the front with the new weight, and nothing is evicted. A refusal changes
+/// nothing.
+pub fn deserialize(alloc: Global, manager: &mut Manager, bytes: &[u8]) -> Result<()>
+    ensures ok { OnOk result ((l : Recency) × SpellsFile bytes.now l
+        × (manager.new ≡ record manager.old { entries = loaded_all l manager.old.entries })) }
+    ensures refused { IsErrOf result InternalError → (l : Recency) → ¬ (SpellsFile bytes.now l) }
+    ensures kinds { IfErr result (λ e. (e ≡ OutOfMemory) ⊎ (e ≡ InternalError)) }
+    ensures err { OnErr result (manager.new ≡ manager.old) }
+{
+    let entries = read_file(alloc, bytes)?;
+    manager.load_entries(entries)
+}
+
+/// Writes the manager's file, and flushes. Where the writer fails, it has taken a beginning of the
+/// file; where there was no memory, or the list has no file, nothing.
+pub fn save_to<W: CountedWrite>(alloc: Global, manager: &Manager, to: &mut W) -> Result<()>
+    ensures ok { OnOk result (Appends (W.contents to.old) (W.contents to.new) (file_written manager.now.entries)) }
+    ensures spelled { OnOk result (SpellsFile (file_written manager.now.entries) manager.now.entries) }
+    ensures flushed { OnOk result (W.is_flushed to.new) }
+    ensures torn { OnErr result (TookBeginning (W.contents to.old) (W.contents to.new) (file_written manager.now.entries)) }
+    ensures unwritten { IfErr result (λ e. e ≢ Io → Keeps (W.contents to.old) (W.contents to.new)) }
+    ensures counted { Counts (W.failed to.old) (W.failed to.new) result }
+    ensures too_long { IsErrOf result InternalError → IsTooLong manager.now.entries }
+    ensures kinds { IfErr result (λ e. (e ≡ OutOfMemory) ⊎ (e ≡ InternalError) ⊎ (e ≡ Io)) }
+{
+    let bytes = serialize(alloc, manager)?;
+    write_whole(to, &bytes)
+}
+
+/// Puts in the list of the file that a reader gives up to its end, as `deserialize` does. The file
+/// is read whole before anything is put in, and a refusal leaves the manager as it was.
+pub fn load_from<D: CountedRead>(alloc: Global, manager: &mut Manager, from: &mut D) -> Result<()>
+    ensures ok { OnOk result ((bytes : List ℕ) × (l : Recency)
+        × Gave (D.remaining from.old) (D.remaining from.new) bytes × SpellsFile bytes l
+        × (manager.new ≡ record manager.old { entries = loaded_all l manager.old.entries })) }
+    ensures refused { IsErrOf result InternalError → (bytes : List ℕ)
+        × Gave (D.remaining from.old) (D.remaining from.new) bytes
+        × ((l : Recency) → ¬ (SpellsFile bytes l)) }
+    ensures counted { Counts (D.failed from.old) (D.failed from.new) result }
+    ensures kinds { IfErr result (λ e. (e ≡ OutOfMemory) ⊎ (e ≡ InternalError) ⊎ (e ≡ Io)) }
+    ensures err { OnErr result (manager.new ≡ manager.old) }
+{
+    let bytes = read_whole(alloc, from)?;
+    deserialize(alloc, manager, &bytes)
+}
+
+/// Saves the manager as `simple_lru.data` in a folder, which is made with its parents where it is
+/// missing. It is written as `simple_lru.data.XXXXXXXX.tmp`, with the suffix in eight hexadecimal
+/// digits, and then renamed.
+pub fn save<R: Files>(
+    alloc: Global,
+    manager: &Manager,
+    files: &R,
+    dir: &str,
+    suffix: u32,
+) -> Result<()>
+    ensures too_long { IsErrOf result InternalError → IsTooLong manager.now.entries }
+    ensures kinds { IfErr result (λ e. (e ≡ OutOfMemory) ⊎ (e ≡ InternalError) ⊎ (e ≡ Io)) }
+{
+    let bytes = serialize(alloc, manager)?;
+    replace_file(alloc, files, dir, FILE_NAME, suffix, &bytes)
+}
+
+/// Puts in the list of the file `simple_lru.data` of a folder, as `load_from` does. A file that can't
+/// be opened is an `Io` error.
+pub fn load<R: Files>(alloc: Global, manager: &mut Manager, files: &R, dir: &str) -> Result<()>
+    ensures ok { OnOk result ((l : Recency)
+        × (manager.new ≡ record manager.old { entries = loaded_all l manager.old.entries })) }
+    ensures kinds { IfErr result (λ e. (e ≡ OutOfMemory) ⊎ (e ≡ InternalError) ⊎ (e ≡ Io)) }
+    ensures err { OnErr result (manager.new ≡ manager.old) }
+{
+    let mut file = open_file(alloc, files, dir, FILE_NAME)?;
+    load_from(alloc, manager, &mut file)
+}

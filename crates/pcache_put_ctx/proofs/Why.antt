@@ -1,0 +1,58 @@
+-- Why a put is refused.
+use Rattle.std.proofs.Common.{◌≡◌, ℕ, ◌⊎◌, inl, inr, true, false, cond, Option, Some, List, refl, ap, sym, subst, ◌∙◌, arith}
+use Rattle.std.proofs.lemmas.Bool.Decides.{nat_tests}
+use Rattle.std.specs.Cmp.{nat_cmp_total}
+use Rattle.std.specs.FinMap.{FinMap, get, insert, get-insert}
+use Rattle.std.specs.Ordering.{nat_cmp, eq_by_cmp}
+use Rattle.pcache_base.specs.declared.error.ErrorType.{ErrorType}
+use Rattle.pcache_base.specs.declared.error.ErrorType.TheVariants.{OutOfMemory, InternalError, InvalidHttpHeader, ResponseTooLarge, IncompleteHttpBody, WriteRemoved, NumbersExhausted, Io}
+use Rattle.pcache_meta.specs.Meta.{Meta}
+use Rattle.pcache_put.specs.Progress.{Parsed, AtBody, HasFailed}
+use Rattle.pcache_put_ctx.specs.Puts.{Piece, Says}
+use Rattle.pcache_put_ctx.specs.State.{IsWhyOver, Overrun, InHead}
+use Rattle.pcache_put_ctx.specs.Steps.{IfRefused, MayRefuseFill, MayRefusePiece}
+use Rattle.pcache_put_ctx.specs.declared.report.PieceEnd.{PieceEnd}
+use Rattle.pcache_put_ctx.specs.declared.report.PieceEnd.TheVariants as piece
+use Rattle.pcache_store.specs.Store.{Store, Written, begun, is_told, new_write}
+
+-- bytes of a write were refused
+pub why_filling : (says : Says) (limit : Option ℕ) (s : Store) (w : ℕ) (e : ErrorType) (pieces : List Piece) → MayRefuseFill s w e → (e ≡ ResponseTooLarge → Overrun says limit pieces) → IsWhyOver says limit e pieces
+why_filling says limit s w OutOfMemory pieces may over = tt
+why_filling says limit s w ResponseTooLarge pieces may over = over refl
+why_filling says limit s w InternalError pieces may over = tt
+why_filling says limit s w InvalidHttpHeader pieces may over = absurd may
+why_filling says limit s w IncompleteHttpBody pieces may over = absurd may
+why_filling says limit s w WriteRemoved pieces may over = absurd may
+why_filling says limit s w NumbersExhausted pieces may over = absurd may
+why_filling says limit s w Io pieces may over = absurd may
+
+-- a piece of a body was refused
+pub why_body : (says : Says) (limit : Option ℕ) (parser : Parsed) (left : Option ℕ) (e : ErrorType) (pieces : List Piece) → (e ≡ InvalidHttpHeader) ⊎ (e ≡ OutOfMemory) ⊎ (parser ≡ HasFailed e) → ¬ (e ≡ InvalidHttpHeader) → parser ≡ AtBody left → IsWhyOver says limit e pieces
+why_body says limit parser left e pieces (inl is) never at = absurd (never is)
+why_body says limit parser left e pieces (inr (inl is)) never at = subst (λ (x : ErrorType). IsWhyOver says limit x pieces) (sym is) tt
+why_body says limit parser left e pieces (inr (inr is)) never at = absurd (cc (is, at))
+
+-- what holds of every kind holds of that of a refusal
+pub refused_as : {M : Type 0} (end : PieceEnd M) (P Q : ErrorType → Type 0) → IfRefused end P → ((e : ErrorType) → P e → Q e) → IfRefused end Q
+refused_as piece.GoesOn P Q h f = tt
+refused_as (piece.NotCached reason) P Q h f = tt
+refused_as (piece.Refused e w) P Q h f = f e h
+
+same_key : (n : ℕ) → eq_by_cmp nat_cmp n n ≡ true
+same_key n = grind (arith, nat_tests)
+
+-- bytes of a write that just began were refused
+told_new : (m : FinMap nat_cmp Written) (n : ℕ) (w : Written) → is_told (get (insert m n w) n) ≡ w.told
+told_new m n w = ap is_told (get-insert nat_cmp_total m n w n ∙ ap (λ b. cond b (Some w) (get m n)) (same_key n))
+
+pub why_begun : (s t : Store) (k w : ℕ) (meta : Meta) (e : ErrorType) → t ≡ begun s k meta → w ≡ s.next → MayRefuseFill t w e → MayRefusePiece InHead s e
+why_begun s t k w meta OutOfMemory is at may = tt
+why_begun s t k w meta ResponseTooLarge is at may = tt
+why_begun s t k w meta InternalError is at may =
+    let told : is_told (get t.writes w) ≡ false = ap (λ (x : Store). is_told (get x.writes w)) is ∙ ap (λ (n : ℕ). is_told (get (begun s k meta).writes n)) at ∙ told_new s.writes s.next (new_write k meta) in
+    absurd (cc (may, told))
+why_begun s t k w meta InvalidHttpHeader is at may = absurd may
+why_begun s t k w meta IncompleteHttpBody is at may = absurd may
+why_begun s t k w meta WriteRemoved is at may = absurd may
+why_begun s t k w meta NumbersExhausted is at may = absurd may
+why_begun s t k w meta Io is at may = absurd may

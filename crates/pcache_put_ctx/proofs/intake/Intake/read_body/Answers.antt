@@ -1,0 +1,13 @@
+use Rattle.std.proofs.lemmas.Result.{err_from_is_err_and}
+use Rattle.pcache_put_ctx.proofs.Bodies.{next_due, no_head}
+use Rattle.pcache_put_ctx.specs.State.{limit_of}
+use Rattle.pcache_put_ctx.proofs.intake.Intake.read_body.Goals as goal
+
+pub returns-in_err-parts-clause-invalid : goal.returns-in_err-parts-clause-invalid
+returns-in_err-parts-clause-invalid g c =
+    let p = err_from_is_err_and c.from_residual.result c.from_residual.ensures.1 in
+    rw (p.1, p.2) (λ e pieces meta body h. no_head (g.C.CachePut.says c.args.self.now.policy) (limit_of c.args.self.now.size) c.args.self.now.parser meta pieces body c.args.piece.now (c.in_err-parts.ensures.invalid e) h)
+
+pub returns-clause-due : goal.returns-clause-due
+returns-clause-due g c = rw c.from_parts-brought.ensures (λ pieces now meta body h.
+    next_due (g.C.CachePut.says c.args.self.now.policy) (limit_of c.args.self.now.size) c.args.self.now.parser c.inject_data.new.self meta pieces body (record { bytes = c.args.piece.now; now = now }) c.in_ok-parts.parts.items c.in_ok-parts.ensures.joined c.in_ok-parts.ensures.gives h)

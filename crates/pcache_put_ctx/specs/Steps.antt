@@ -1,0 +1,257 @@
+-- What the calls of a put do (own).
+use Rattle.std.specs.Prelude.{◌≡◌, ℕ, ◌+◌, ◌-◌, ◌≤◌, ◌^◌, ◌⊎◌, Bool, true, false, ◌==◌, List, [], ◌∷◌, ◌++◌, length, min, Option, Some, None, Result, Ok, Err, IfSome, option_map}
+use Rattle.std.specs.FinMap.{get}
+use Rattle.pcache_base.specs.Key.{Key, slot}
+use Rattle.pcache_base.specs.declared.error.ErrorType.{ErrorType}
+use Rattle.pcache_base.specs.declared.error.ErrorType.TheVariants.{OutOfMemory, InternalError, InvalidHttpHeader, ResponseTooLarge, IncompleteHttpBody, NumbersExhausted, WriteRemoved, Io}
+use Rattle.pcache_base.specs.declared.reason.NoCacheReason.{NoCacheReason}
+use Rattle.pcache_evict.specs.Tracked.{Tracked as Entries, Limits, Evicted}
+use Rattle.pcache_evict.specs.declared.eviction.entry_key.CacheEntryKey.{CacheEntryKey}
+use Rattle.pcache_meta.specs.Meta.{Meta}
+use Rattle.pcache_put.specs.Progress.{Parsed, AtHead, AtBody, AtEnd, HasFailed}
+use Rattle.pcache_put.specs.Tracked.{Tracked as Counted}
+use Rattle.pcache_request.specs.Reports.{entry_stored}
+use Rattle.pcache_request.specs.Requests.{dropped_by}
+use Rattle.pcache_request.specs.WriteEnds.{EndsBody, HoldsNoLock, evicted_by}
+use Rattle.pcache_request.specs.declared.cache.finish.WriteEnd.{WriteEnd}
+use Rattle.pcache_request.specs.declared.cache.finish.WriteEnd.TheVariants as writes
+use Rattle.pcache_store.specs.Store.{Store, begun, wrote, dropped, is_told}
+use Rattle.pcache_store.specs.declared.storage.MissFinishType.{MissFinishType}
+use Rattle.pcache_put_ctx.specs.Puts.{Piece, Says, Outcome, Stores, Declines, Refuses}
+use Rattle.pcache_put_ctx.specs.State.{Stage, InHead, InBody, HasDeclined, IsOver, Put, Filled, HasTaken, write_in, limit_of}
+use Rattle.pcache_put_ctx.specs.declared.brought.BodyPart.{BodyPart}
+use Rattle.pcache_put_ctx.specs.declared.report.Written.{Written}
+use Rattle.pcache_put_ctx.specs.declared.report.PieceEnd.{PieceEnd}
+use Rattle.pcache_put_ctx.specs.declared.report.PieceEnd.TheVariants as piece
+use Rattle.pcache_put_ctx.specs.declared.report.PutEnd.{PutEnd}
+use Rattle.pcache_put_ctx.specs.declared.report.PutEnd.TheVariants as end
+use Rattle.pcache_put_ctx.specs.declared.report.PutOutcome.{PutOutcome}
+use Rattle.pcache_put_ctx.specs.declared.report.PutOutcome.TheVariants as answer
+
+-- ---- counting
+
+-- so many bytes more
+abbrev pub counted_on : Option Counted → ℕ → Option Counted
+counted_on None n = None
+counted_on (Some c) n = Some (record c { bytes = min (c.bytes + n) (2 ^ 64 - 1) })
+
+-- what was counted is within the limit
+abbrev pub IsAllowed : Option Counted → Type 0
+IsAllowed None = Unit {0}
+IsAllowed (Some c) = c.bytes ≤ c.limit
+
+-- the bytes of a part, if there is one
+abbrev pub part_bytes : Option BodyPart → List ℕ
+part_bytes None = []
+part_bytes (Some b) = b.bytes
+
+abbrev pub counted_part : Option Counted → Option BodyPart → Option Counted
+counted_part size None = size
+counted_part size (Some b) = counted_on size (length b.bytes)
+
+-- ---- a piece
+
+-- what a part is once it was written
+abbrev pub written : BodyPart → Written
+written b = record { bytes = b.bytes; eof = b.is_last }
+
+-- the store once a write of a key began, if one did
+abbrev pub store_begun : ℕ → Option Meta → Store → Store
+store_begun k None s = s
+store_begun k (Some m) s = begun s k m
+
+-- the store once bytes came for the write, if any did
+abbrev pub store_wrote : Option ℕ → Option Written → Store → Store
+store_wrote None b s = s
+store_wrote (Some w) None s = s
+store_wrote (Some w) (Some b) s = wrote s w b.bytes b.eof
+
+-- where the put stands once a write began, if one did: of the next number, for the next entry
+abbrev pub stage_begun : Stage → Option Meta → ℕ → Option ℕ → Stage
+stage_begun stage None next entry = stage
+stage_begun stage (Some m) next entry = InBody next entry m.fresh_until
+
+-- the store behind a piece
+abbrev pub store_after : Key → Stage → Option Meta → Option Written → Option ℕ → Store → Store
+store_after k stage began b entry s = store_wrote (write_in (stage_begun stage began s.next entry)) b (store_begun (slot k) began s)
+
+-- the put stands as a piece ended: it goes on where it stood, or with the write that began; nothing is stored, and there
+-- was no write; or every call is refused, and the write is handed out
+abbrev pub EndsPiece : {M : Type 0} → (M → ℕ) → PieceEnd M → Stage → Stage → Type 0
+EndsPiece write piece.GoesOn stage now = now ≡ stage
+EndsPiece write (piece.NotCached reason) stage now = (now ≡ HasDeclined reason) × (write_in stage ≡ None)
+EndsPiece write (piece.Refused e w) stage now = (now ≡ IsOver e) × (option_map write w ≡ write_in stage)
+
+-- a piece that comes once nothing is stored, or once a call was refused, is answered that again
+abbrev pub AnswersAgain : {M : Type 0} → Stage → PieceEnd M → Type 0
+AnswersAgain InHead end = Unit {0}
+AnswersAgain (InBody w id fresh_until) end = Unit {0}
+AnswersAgain (HasDeclined reason) end = end ≡ piece.NotCached reason
+AnswersAgain (IsOver kind) end = end ≡ piece.Refused kind None
+
+-- what the put's write was given, behind a piece
+abbrev pub filled_begun : Option Meta → Option Filled → Option Filled
+filled_begun None f = f
+filled_begun (Some m) f = Some (record { meta = m; body = [] })
+
+abbrev pub filled_wrote : Option Written → Option Filled → Option Filled
+filled_wrote None f = f
+filled_wrote (Some b) None = None
+filled_wrote (Some b) (Some f) = Some (record f { body = f.body ++ b.bytes })
+
+abbrev pub filled_on : Option Meta → Option Written → Option Filled → Option Filled
+filled_on began b f = filled_wrote b (filled_begun began f)
+
+-- the body is whole
+abbrev pub is_done : Parsed → Bool
+is_done (AtHead kept) = false
+is_done (AtBody None) = false
+is_done (AtBody (Some n)) = n == 0
+is_done AtEnd = false
+is_done (HasFailed e) = false
+
+-- what holds of the kind of a refusal, where there was one
+abbrev pub IfRefused : {M : Type 0} → PieceEnd M → (ErrorType → Type 0) → Type 0
+IfRefused piece.GoesOn P = Unit {0}
+IfRefused (piece.NotCached reason) P = Unit {0}
+IfRefused (piece.Refused e w) P = P e
+
+-- why bytes of a write may be refused
+abbrev pub MayRefuseFill : Store → ℕ → ErrorType → Type 0
+MayRefuseFill s w OutOfMemory = Unit {0}
+MayRefuseFill s w ResponseTooLarge = Unit {0}
+MayRefuseFill s w InternalError = is_told (get s.writes w) ≡ true
+MayRefuseFill s w _ = ⊥
+
+-- why a piece may be refused: want of memory; a head that can't be read; a body that is too long; all numbers of writes
+-- used; a write that was told its end, in a storage that is not the put's own; or as every call is
+abbrev pub MayRefusePiece : Stage → Store → ErrorType → Type 0
+MayRefusePiece (IsOver kind) s e = e ≡ kind
+MayRefusePiece (HasDeclined reason) s e = ⊥
+MayRefusePiece InHead s OutOfMemory = Unit {0}
+MayRefusePiece InHead s InvalidHttpHeader = Unit {0}
+MayRefusePiece InHead s ResponseTooLarge = Unit {0}
+MayRefusePiece InHead s NumbersExhausted = 2 ^ 64 ≤ s.next
+MayRefusePiece InHead s _ = ⊥
+MayRefusePiece (InBody w id fresh_until) s OutOfMemory = Unit {0}
+MayRefusePiece (InBody w id fresh_until) s ResponseTooLarge = Unit {0}
+MayRefusePiece (InBody w id fresh_until) s InvalidHttpHeader = Unit {0}
+MayRefusePiece (InBody w id fresh_until) s InternalError = is_told (get s.writes w) ≡ true
+MayRefusePiece (InBody w id fresh_until) s _ = ⊥
+
+-- what a piece did: the meta of the write that began, if one did, and the bytes that were written, if any were
+pub record Done : Type 0 where
+  pub began : Option Meta
+  pub wrote : Option Written
+
+-- a piece was taken in: policy, key and limit stay, and the put has taken in that much more; the end is said of the bytes
+-- that complete a body, and of no others
+pub record TakesPiece {C : Type 0} (says : Says) (old new : Put C) (p : Piece) (d : Done) : Type 0 where
+  pub policy : new.policy ≡ old.policy
+  pub key : new.key ≡ old.key
+  pub limit : limit_of new.size ≡ limit_of old.size
+  pub taken : (pieces : List Piece) (f : Option Filled) → HasTaken says old pieces f → HasTaken says new (pieces ++ p ∷ []) (filled_on d.began d.wrote f)
+  pub last : (pieces : List Piece) (f : Option Filled) → HasTaken says old pieces f → IfSome d.wrote (λ (w : Written). w.eof ≡ is_done new.parser)
+
+-- the head has not ended, or the body is written
+abbrev pub GoesOn : Stage → Type 0
+GoesOn InHead = Unit {0}
+GoesOn (InBody w id fresh_until) = Unit {0}
+GoesOn (HasDeclined reason) = ⊥
+GoesOn (IsOver kind) = ⊥
+
+-- where the put stands as it answered: it goes on, nothing is stored, or every call is refused
+abbrev pub StandsAnswered : Result (Option NoCacheReason) ErrorType → Stage → Type 0
+StandsAnswered (Ok None) stage = GoesOn stage
+StandsAnswered (Ok (Some reason)) stage = stage ≡ HasDeclined reason
+StandsAnswered (Err e) stage = stage ≡ IsOver e
+
+-- a piece that comes once nothing is stored, or once a call was refused, is answered that again
+abbrev pub RepeatsAnswer : Stage → Result (Option NoCacheReason) ErrorType → Type 0
+RepeatsAnswer InHead answered = Unit {0}
+RepeatsAnswer (InBody w id fresh_until) answered = Unit {0}
+RepeatsAnswer (HasDeclined reason) answered = answered ≡ Ok (Some reason)
+RepeatsAnswer (IsOver kind) answered = answered ≡ Err kind
+
+-- the store once the write was dropped, where the piece was refused
+abbrev pub store_left : Result (Option NoCacheReason) ErrorType → Stage → Store → Store
+store_left (Ok answered) stage s = s
+store_left (Err e) stage s = dropped_by (write_in stage) s
+
+-- ---- the end
+
+-- the end of a put's write, as that of any write
+abbrev pub write_end : PutEnd → WriteEnd
+write_end (end.NotCached reason) = writes.Nothing
+write_end (end.Refused e) = writes.Nothing
+write_end (end.Dropped e) = writes.Dropped e
+write_end (end.Stored f) = writes.Stored f
+write_end (end.Withdrawn e) = writes.Withdrawn e
+
+-- nothing changed
+abbrev pub IsStill : Store → Store → Entries → Entries → Type 0
+IsStill s s' m m' = (s' ≡ s) × (m' ≡ m)
+
+-- the response ended before its body did, and the write was dropped
+abbrev pub EndsEarly : Parsed → ℕ → PutEnd → Store → Store → Entries → Entries → Type 0
+EndsEarly parser w how s s' m m' = (e : ErrorType) × ((e ≡ IncompleteHttpBody) ⊎ (parser ≡ HasFailed e)) × (how ≡ end.Dropped e) × (s' ≡ dropped s w) × (m' ≡ m)
+
+-- a put ends as it stands: refused where its head has not ended; for its reason, or as every call is refused; else its
+-- write ends, too early or as any write does, with a manager in use
+abbrev pub EndsPut : Bool → Key → Parsed → (ℕ → MissFinishType) → Limits → Stage → PutEnd → Store → Store → Entries → Entries → Type 0
+EndsPut sure k parser kinds limits InHead how s s' m m' = (how ≡ end.Refused IncompleteHttpBody) × IsStill s s' m m'
+EndsPut sure k parser kinds limits (HasDeclined reason) how s s' m m' = (how ≡ end.NotCached reason) × IsStill s s' m m'
+EndsPut sure k parser kinds limits (IsOver kind) how s s' m m' = (how ≡ end.Refused kind) × IsStill s s' m m'
+EndsPut sure k parser kinds limits (InBody w id fresh_until) how s s' m m' =
+    EndsEarly parser w how s s' m m' ⊎ EndsBody sure true id HoldsNoLock k w (kinds w) limits (write_end how) s s' m m'
+
+-- how the put stands at its end: whoever goes on after a body was stored is mistaken
+abbrev pub stage_ended : PutEnd → Stage
+stage_ended (end.NotCached reason) = HasDeclined reason
+stage_ended (end.Refused e) = IsOver e
+stage_ended (end.Dropped e) = IsOver e
+stage_ended (end.Stored f) = IsOver InternalError
+stage_ended (end.Withdrawn e) = IsOver e
+
+-- the entry of a body that was stored for good
+abbrev pub entry_told : Key → Stage → PutEnd → Option CacheEntryKey
+entry_told k InHead how = None
+entry_told k (HasDeclined reason) how = None
+entry_told k (IsOver kind) how = None
+entry_told k (InBody w id fresh_until) how = entry_stored (Some k) id (write_end how)
+
+-- the manager's totals
+abbrev pub evicted_ended : Key → (ℕ → MissFinishType) → Stage → Entries → Evicted → PutEnd → Evicted
+evicted_ended k kinds InHead m before how = before
+evicted_ended k kinds (HasDeclined reason) m before how = before
+evicted_ended k kinds (IsOver kind) m before how = before
+evicted_ended k kinds (InBody w id fresh_until) m before how = evicted_by true id k (kinds w) m before (write_end how)
+
+-- what is answered at the end is what comes of the pieces, but for want of memory, a removed write, used numbers and
+-- mistakes of the caller; a stored body is the one that the write was given
+abbrev pub IsRefusal : (Outcome → Type 0) → ErrorType → Type 0
+IsRefusal comes OutOfMemory = Unit {0}
+IsRefusal comes NumbersExhausted = Unit {0}
+IsRefusal comes WriteRemoved = Unit {0}
+IsRefusal comes InternalError = Unit {0}
+IsRefusal comes Io = Unit {0}
+IsRefusal comes InvalidHttpHeader = comes (Refuses InvalidHttpHeader)
+IsRefusal comes ResponseTooLarge = comes (Refuses ResponseTooLarge)
+IsRefusal comes IncompleteHttpBody = comes (Refuses IncompleteHttpBody)
+
+abbrev pub StoresFilled : (Outcome → Type 0) → Option Filled → Type 0
+StoresFilled comes None = ⊥
+StoresFilled comes (Some f) = comes (Stores f.meta f.body)
+
+abbrev pub TellsResult : (Outcome → Type 0) → Option Filled → PutEnd → Type 0
+TellsResult comes f (end.NotCached reason) = comes (Declines reason)
+TellsResult comes f (end.Refused e) = IsRefusal comes e
+TellsResult comes f (end.Dropped e) = IsRefusal comes e
+TellsResult comes f (end.Stored report) = StoresFilled comes f
+TellsResult comes f (end.Withdrawn e) = StoresFilled comes f
+
+-- the same as it is answered: a refusal does not tell how far it came
+abbrev pub EndsAs : Result PutOutcome ErrorType → (PutEnd → Type 0) → Type 0
+EndsAs (Ok (answer.NotCached reason)) P = P (end.NotCached reason)
+EndsAs (Ok (answer.Stored report)) P = P (end.Stored report)
+EndsAs (Err e) P = P (end.Refused e) ⊎ P (end.Dropped e) ⊎ P (end.Withdrawn e)

@@ -1,0 +1,53 @@
+//! What a piece brings of a response.
+ghost use Rattle.std.specs.Prelude.{◌≡◌};
+ghost use Rattle.pcache_put_ctx.specs.Brought.{brought, with_part};
+
+use bytes::Bytes;
+use pcache_meta::header::ResponseHeader;
+use pcache_put::response_parse::ParsePart;
+
+// Bytes of a body, and whether the body is whole with them.
+#[derive(Drop)]
+pub(crate) struct BodyPart {
+    pub(crate) bytes: Bytes,
+    pub(crate) is_last: bool,
+}
+
+// At most one head and one part of the body.
+#[derive(Drop)]
+pub(crate) struct Brought {
+    pub(crate) head: Option<ResponseHeader>,
+    pub(crate) body: Option<BodyPart>,
+}
+
+impl Brought {
+    // With one part more.
+    fn with_part(self, part: ParsePart) -> Brought
+        ensures { result ≡ with_part self part }
+    {
+        match part {
+            ParsePart::Head(header, _) => Brought {
+                head: Some(header),
+                body: self.body,
+            },
+            ParsePart::Body(bytes, is_last) => Brought {
+                head: self.head,
+                body: Some(BodyPart { bytes, is_last }),
+            },
+        }
+    }
+
+    // What these parts are: a piece brings one head at most, and one part of the body.
+    pub(crate) fn from_parts(parts: Vec<ParsePart>) -> Brought
+        ensures { result ≡ brought parts.items }
+    {
+        let mut all = Brought {
+            head: None,
+            body: None,
+        };
+        'parts: for part in parts {
+            all = all.with_part(part);
+        }
+        all
+    }
+}

@@ -1,0 +1,267 @@
+//! A put: a response that is pushed into the cache, in pieces.
+//!
+//! A put is lent the storage and the eviction manager by each call. It may hold a write, so it is spent by `end`.
+ghost use Rattle.std.specs.Prelude.{◌≡◌, option_map};
+ghost use Rattle.pcache_request.specs.Requests.{dropped_by};
+ghost use Rattle.pcache_base.specs.declared.error.ErrorType.TheVariants.{InternalError};
+ghost use Rattle.pcache_put_ctx.specs.Endings.{stage_left};
+
+use crate::intake::Intake;
+use crate::policy::CachePut;
+use crate::report::{PieceEnd, PieceReport, PutEnd, PutOutcome, PutReport};
+use crate::stage::{Filling, Stage, Taken, declines, put_stage, refuses, stage_after, take_stage};
+use pcache_base::error::{Error, Result};
+use pcache_base::key::CacheKey;
+use pcache_base::moment::Moment;
+use pcache_base::reason::NoCacheReason;
+use pcache_evict::eviction::{CacheEntryKey, EvictionManager};
+use pcache_put::max_file_size::MaxFileSizeTracker;
+use pcache_put::response_parse::{INCOMPLETE_BODY, ResponseParse};
+use pcache_store::storage::{HandleMiss, Storage};
+use std::alloc::Global;
+use std::marker::Model;
+
+/// A response that is pushed into the cache under a key, in pieces.
+///
+/// The head decides, at the moment of the piece that ends it: the policy says whether the response is stored, and with
+/// what meta. What follows is written as it comes. Only the piece that completes a body of known length says that it is
+/// the last. Once nothing is to be stored, later pieces are ignored, and each is answered the reason. After a refusal every
+/// later call is refused for the same kind; so is every call after the end that stored the body, as a mistake of the caller.
+pub struct CachePutCtx<C: CachePut, S: Storage> {
+    intake: Intake<C>,
+    stage: Stage<S::Miss>,
+}
+
+impl<C: CachePut, S: Storage> Model for CachePutCtx<C, S> {
+    ghost use Rattle.pcache_put_ctx.specs.State.{Put};
+
+    ghost Value = { Put C };
+
+    ghost use Rattle.pcache_put_ctx.specs.Stages.{stage_of};
+
+    ghost view = { λ p. record {
+      policy = p.intake.policy;
+      key = p.intake.key;
+      size = p.intake.size;
+      parser = p.intake.parser;
+      stage = stage_of S.Miss.write S.Miss.entry_number p.stage;
+    } };
+}
+
+// Puts back where a put stands, and tells of the piece.
+fn stand<M>(place: &mut Stage<M>, taken: Taken<M>) -> PieceReport<M>
+    requires { place.old ≡ Stage.Over InternalError }
+    ensures place { place.new ≡ taken.stage }
+    ensures report { result ≡ taken.report }
+{
+    let Taken { stage, report } = taken;
+    put_stage(place, stage);
+    report
+}
+
+// Drops a write, where there is one.
+fn drop_writer<S: Storage>(storage: &mut S, writer: Option<S::Miss>)
+    ensures { S.state storage.new ≡ dropped_by (option_map S.Miss.write writer) (S.state storage.old) }
+{
+    if let Some(writer) = writer {
+        writer.drop_write(storage);
+    }
+}
+
+// Ends a put: nothing more is taken.
+fn leave<M>(place: &mut Stage<M>, end: PutEnd, entry: Option<CacheEntryKey>) -> PutReport
+    requires { place.old ≡ Stage.Over InternalError }
+    ensures place { place.new ≡ stage_left end }
+    ensures report { result ≡ record { end = end; entry = entry } }
+{
+    put_stage(place, stage_after(&end));
+    PutReport { end, entry }
+}
+
+impl<C: CachePut, S: Storage> CachePutCtx<C, S> {
+    ghost use Rattle.std.specs.Prelude.{◌≡◌, ◌⊎◌, ◌++◌, ◌∷◌, [], List, true, IfSome, OnOk, IfErr, Option, Some, None, option_map};
+    ghost use Rattle.pcache_base.specs.declared.error.ErrorType.TheVariants.{InternalError};
+    ghost use Rattle.pcache_meta.specs.Meta.{Meta};
+    ghost use Rattle.pcache_put.specs.Progress.{AtHead, HasFailed};
+    ghost use Rattle.pcache_request.specs.Requests.{dropped_by};
+    ghost use Rattle.pcache_put_ctx.specs.Puts.{Piece, IsResult};
+    ghost use Rattle.pcache_put_ctx.specs.State.{InHead, Filled, HasTaken, limit_of, write_in};
+    ghost use Rattle.pcache_put_ctx.specs.Steps.{Done, store_after, store_left, stage_begun, filled_on, EndsPiece, TakesPiece, StandsAnswered, RepeatsAnswer, AnswersAgain, IfRefused, MayRefusePiece, is_done, EndsPut, EndsAs, stage_ended, entry_told, evicted_ended, TellsResult};
+
+    /// A put of a key, with no limit on its body.
+    pub fn new(alloc: Global, policy: C, key: CacheKey) -> CachePutCtx<C, S>
+        ensures put { result ≡ record { policy = policy; key = key; size = None; parser = AtHead []; stage = InHead } }
+        ensures taken { HasTaken (C.says policy) result [] None }
+    {
+        CachePutCtx {
+            intake: Intake {
+                alloc,
+                policy,
+                key,
+                size: None,
+                parser: ResponseParse::new(alloc),
+            },
+            stage: Stage::Head,
+        }
+    }
+
+    /// The body may have at most so many bytes, none of which was counted yet: to be set before the body begins.
+    pub fn set_max_file_size_bytes(&mut self, max_file_size_bytes: usize)
+        ensures put { self.new ≡ record self.old { size = Some (record { bytes = 0; limit = max_file_size_bytes }) } }
+        ensures taken { (pieces : List Piece) → self.old.stage ≡ InHead → HasTaken (C.says self.old.policy) self.old pieces None → HasTaken (C.says self.old.policy) self.new pieces None }
+    {
+        self.intake.size = Some(MaxFileSizeTracker::new(max_file_size_bytes));
+    }
+
+    /// The key.
+    pub fn key(&self) -> &CacheKey
+        ensures { result.now ≡ self.now.key }
+    {
+        &self.intake.key
+    }
+
+    /// The handler of the write, where one is in flight.
+    pub fn writer(&self) -> Option<&S::Miss>
+        ensures { option_map (λ w. S.Miss.write w.now) result ≡ write_in self.now.stage }
+    {
+        match &self.stage {
+            Stage::Body(filling) => Some(&filling.writer),
+            Stage::Head | Stage::Declined(_) | Stage::Over(_) => None,
+        }
+    }
+
+    /// Takes in the next piece of the response, at a moment. Answers why nothing is stored, once that is so.
+    ///
+    /// It is refused for want of memory, where all numbers of writes are used, where the head can't be read, and where the
+    /// body is longer than it may be. The write is dropped then.
+    pub fn cache_put(
+        &mut self,
+        piece: &[u8],
+        storage: &mut S,
+        now: Moment,
+    ) -> Result<Option<NoCacheReason>>
+        ensures step { (d : Done) × TakesPiece (C.says self.old.policy) self.old self.new (record { bytes = piece.now; now = now }) d
+            × (S.state storage.new ≡ store_left result (stage_begun self.old.stage d.began (S.state storage.old).next (S.next_entry storage.old)) (store_after self.old.key self.old.stage d.began d.wrote (S.next_entry storage.old) (S.state storage.old))) }
+        ensures stands { StandsAnswered result self.new.stage }
+        ensures again { RepeatsAnswer self.old.stage result }
+        ensures kind { IfErr result (λ e. MayRefusePiece self.old.stage (S.state storage.old) e ⊎ (self.old.parser ≡ HasFailed e)) }
+    {
+        let PieceReport {
+            began: _,
+            wrote: _,
+            end,
+        } = self.take_piece(piece, storage, now);
+        match end {
+            PieceEnd::GoesOn => Ok(None),
+            PieceEnd::NotCached(reason) => Ok(Some(reason)),
+            PieceEnd::Refused(refused, writer) => {
+                drop_writer(storage, writer);
+                Err(refused)
+            }
+        }
+    }
+
+    /// What `cache_put` does, told apart; a write that it would drop is handed out, to be dropped.
+    pub fn take_piece(&mut self, piece: &[u8], storage: &mut S, now: Moment) -> PieceReport<S::Miss>
+        ensures policy { self.new.policy ≡ self.old.policy }
+        ensures key { self.new.key ≡ self.old.key }
+        ensures limit { limit_of self.new.size ≡ limit_of self.old.size }
+
+        // What the piece did: a write began, and bytes were written.
+        ensures store { S.state storage.new ≡ store_after self.old.key self.old.stage result.began result.wrote (S.next_entry storage.old) (S.state storage.old) }
+        ensures ends { EndsPiece S.Miss.write result.end (stage_begun self.old.stage result.began (S.state storage.old).next (S.next_entry storage.old)) self.new.stage }
+
+        // What the put has taken in, with this piece; and the end is said of the bytes that complete a body.
+        ensures taken { (pieces : List Piece) (f : Option Filled) → HasTaken (C.says self.old.policy) self.old pieces f
+            → HasTaken (C.says self.old.policy) self.new (pieces ++ record { bytes = piece.now; now = now } ∷ []) (filled_on result.began result.wrote f) }
+        ensures last { (pieces : List Piece) (f : Option Filled) → HasTaken (C.says self.old.policy) self.old pieces f → IfSome result.wrote (λ w. w.eof ≡ is_done self.new.parser) }
+
+        // A reason is answered again, and so is a refusal.
+        ensures again { AnswersAgain self.old.stage result.end }
+        ensures kind { IfRefused result.end (λ e. MayRefusePiece self.old.stage (S.state storage.old) e ⊎ (self.old.parser ≡ HasFailed e)) }
+    {
+        match take_stage(&mut self.stage) {
+            Stage::Head => {
+                let taken = self.intake.take_head(piece, storage, now);
+                stand(&mut self.stage, taken)
+            }
+            Stage::Body(filling) => {
+                let taken = self.intake.take_body(piece, storage, filling, now);
+                stand(&mut self.stage, taken)
+            }
+            Stage::Declined(reason) => stand(&mut self.stage, declines(reason)),
+            Stage::Over(kind) => stand(&mut self.stage, refuses(Error::new(kind), None, None)),
+        }
+    }
+
+    /// Ends the put where all pieces have come: the body is stored and its entry admitted, and what is evicted for it is
+    /// purged, in order. A put that ends too early, or whose write is refused, stores nothing, and its write is dropped;
+    /// a body whose admission is refused is purged again.
+    pub fn finish<E: EvictionManager>(
+        &mut self,
+        storage: &mut S,
+        eviction: &mut E,
+    ) -> Result<PutOutcome>
+        ensures ends { EndsAs result (λ end. EndsPut S.always_purges self.old.key self.old.parser (S.finishes storage.old) (E.limits eviction.old) self.old.stage end (S.state storage.old) (S.state storage.new) (E.tracked eviction.old) (E.tracked eviction.new)) }
+        ensures evicted { EndsAs result (λ end. E.evicted eviction.new ≡ evicted_ended self.old.key (S.finishes storage.old) self.old.stage (E.tracked eviction.old) (E.evicted eviction.old) end) }
+        ensures limits { E.limits eviction.new ≡ E.limits eviction.old }
+        ensures stage { EndsAs result (λ end. self.new.stage ≡ stage_ended end) }
+
+        // What comes of the put is what comes of its bytes, all pieces together.
+        ensures tells { (pieces : List Piece) (f : Option Filled) → HasTaken (C.says self.old.policy) self.old pieces f → EndsAs result (TellsResult (IsResult (C.says self.old.policy) (limit_of self.old.size) pieces) f) }
+    {
+        let PutReport { end, entry: _ } = self.end_put(storage, eviction);
+        match end {
+            PutEnd::NotCached(reason) => Ok(PutOutcome::NotCached(reason)),
+            PutEnd::Stored(report) => Ok(PutOutcome::Stored(report)),
+            PutEnd::Refused(refused) => Err(refused),
+            PutEnd::Dropped(refused) => Err(refused),
+            PutEnd::Withdrawn(refused) => Err(refused),
+        }
+    }
+
+    /// What `finish` does, told apart by how far it came.
+    pub fn end_put<E: EvictionManager>(&mut self, storage: &mut S, eviction: &mut E) -> PutReport
+        ensures policy { self.new.policy ≡ self.old.policy }
+        ensures key { self.new.key ≡ self.old.key }
+        ensures ends { EndsPut S.always_purges self.old.key self.old.parser (S.finishes storage.old) (E.limits eviction.old) self.old.stage result.end (S.state storage.old) (S.state storage.new) (E.tracked eviction.old) (E.tracked eviction.new) }
+        ensures entry { result.entry ≡ entry_told self.old.key self.old.stage result.end }
+        ensures evicted { E.evicted eviction.new ≡ evicted_ended self.old.key (S.finishes storage.old) self.old.stage (E.tracked eviction.old) (E.evicted eviction.old) result.end }
+        ensures limits { E.limits eviction.new ≡ E.limits eviction.old }
+        ensures stage { self.new.stage ≡ stage_ended result.end }
+
+        // What comes of the put is what comes of its bytes, all pieces together.
+        ensures tells { (pieces : List Piece) (f : Option Filled) → HasTaken (C.says self.old.policy) self.old pieces f → TellsResult (IsResult (C.says self.old.policy) (limit_of self.old.size) pieces) f result.end }
+    {
+        match take_stage(&mut self.stage) {
+            Stage::Head => leave(
+                &mut self.stage,
+                PutEnd::Refused(Error::new(INCOMPLETE_BODY)),
+                None,
+            ),
+            Stage::Body(filling) => {
+                let (end, entry) = self.intake.end_body(storage, eviction, filling);
+                leave(&mut self.stage, end, entry)
+            }
+            Stage::Declined(reason) => leave(&mut self.stage, PutEnd::NotCached(reason), None),
+            Stage::Over(kind) => leave(&mut self.stage, PutEnd::Refused(Error::new(kind)), None),
+        }
+    }
+
+    /// Ends the put, and drops a write that is still in flight.
+    pub fn end(self, storage: &mut S)
+        ensures { S.state storage.new ≡ dropped_by (write_in self.stage) (S.state storage.old) }
+    {
+        let CachePutCtx { intake: _, stage } = self;
+        match stage {
+            Stage::Body(filling) => {
+                let Filling {
+                    writer,
+                    fresh_until: _,
+                } = filling;
+                drop_writer(storage, Some(writer));
+            }
+            Stage::Head | Stage::Declined(_) | Stage::Over(_) => {}
+        }
+    }
+}

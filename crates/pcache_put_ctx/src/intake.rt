@@ -1,0 +1,302 @@
+//! How a put takes in its pieces.
+ghost use Rattle.std.specs.Prelude.{◌≡◌, ◌⊎◌, ◌↔◌, ◌++◌, ◌∷◌, [], List, ℕ, true, false, IsTrue, IfOk, IfErr, IfSome, OnOk, OnErr, Option, Some, None, option_map};
+ghost use Rattle.std.specs.FinMap as map;
+ghost use Rattle.pcache_base.specs.Key.{slot};
+ghost use Rattle.pcache_base.specs.declared.error.ErrorType.TheVariants.{OutOfMemory, InternalError, InvalidHttpHeader, ResponseTooLarge};
+ghost use Rattle.pcache_meta.specs.Meta.{Meta};
+ghost use Rattle.pcache_put.specs.Progress.{HasFailed};
+ghost use Rattle.pcache_put.specs.Response.{IsUnreadable};
+ghost use Rattle.pcache_store.specs.Refusals.{MayRefuseWrite};
+ghost use Rattle.pcache_store.specs.Store.{is_told};
+ghost use Rattle.pcache_put_ctx.specs.Openings.{IsVerdict, IsBegun, IsNext, store_opened, IsDue, HasOpened};
+ghost use Rattle.pcache_put_ctx.specs.Puts.{Piece, IsResult, joined};
+ghost use Rattle.pcache_put_ctx.specs.Stages.{stage_of};
+ghost use Rattle.pcache_put_ctx.specs.State.{InHead, InBody, Filled, HeadTaken, BodyRead, BodyTaken, Counts, limit_of, TakenBy};
+ghost use Rattle.pcache_put_ctx.specs.Steps.{counted_part, IsAllowed, IfRefused, MayRefuseFill, written, store_wrote, store_after, stage_begun, filled_on, filled_wrote, EndsPiece, EndsPut, TellsResult, entry_told, evicted_ended, MayRefusePiece, is_done};
+
+use crate::brought::{BodyPart, Brought};
+use crate::policy::{CachePut, judge};
+use crate::report::{PutEnd, Written};
+use crate::stage::{Filling, SPENT, Stage, Taken, declines, goes_on, refuses};
+use pcache_base::error::{Error, Result};
+use pcache_base::key::CacheKey;
+use pcache_base::moment::Moment;
+use pcache_base::reason::NoCacheReason;
+use pcache_control::RespCacheable;
+use pcache_evict::eviction::{CacheEntryKey, EvictionManager};
+use pcache_meta::header::ResponseHeader;
+use pcache_meta::meta::CacheMeta;
+use pcache_put::max_file_size::{ERR_RESPONSE_TOO_LARGE, MaxFileSizeTracker};
+use pcache_put::response_parse::ResponseParse;
+use pcache_request::cache::WriteEnd;
+use pcache_request::cache::ending::{EndedWrite, end_writer};
+use pcache_store::storage::{HandleMiss, Storage};
+use std::alloc::Global;
+
+// All of a put but where it stands.
+#[derive(Drop)]
+pub(crate) struct Intake<C> {
+    pub(crate) alloc: Global,
+    pub(crate) policy: C,
+    pub(crate) key: CacheKey,
+    pub(crate) size: Option<MaxFileSizeTracker>,
+    pub(crate) parser: ResponseParse,
+}
+
+// What became of a head.
+pub(crate) enum Opened<M> {
+    // It has not ended.
+    Unfinished,
+    // Nothing is stored, for this reason.
+    Declined(NoCacheReason),
+    // A write began, with this meta; and the piece has this of the body.
+    Begun(Filling<M>, CacheMeta, Option<BodyPart>),
+}
+
+// Counts the bytes of a part, where they are limited, and tells whether they are still allowed.
+fn allows(size: &mut Option<MaxFileSizeTracker>, part: &BodyPart) -> bool
+    ensures size { size.new ≡ counted_part size.old (Some part.now) }
+    ensures allowed { IsTrue result ↔ IsAllowed size.new }
+{
+    match size {
+        Some(size) => size.add_body_bytes(part.bytes.len()),
+        None => true,
+    }
+}
+
+// Writes a part of the body, where the limit allows it.
+fn write_part<S: Storage>(
+    size: &mut Option<MaxFileSizeTracker>,
+    storage: &mut S,
+    writer: &mut S::Miss,
+    part: Option<BodyPart>,
+) -> Result<Option<Written>>
+    ensures wrote { IfOk result (λ w. w ≡ option_map written part) }
+    ensures ok { IfOk result (λ w. S.state storage.new ≡ store_wrote (Some (S.Miss.write writer.old)) w (S.state storage.old)) }
+    ensures size { size.new ≡ counted_part size.old part }
+    ensures allowed { OnOk result (IfSome part (λ _. IsAllowed size.new)) }
+    ensures over { IfErr result (λ e. e ≡ ResponseTooLarge → ¬ (IsAllowed size.new)) }
+    ensures kind { IfErr result (λ e. MayRefuseFill (S.state storage.old) (S.Miss.write writer.old) e) }
+    ensures err { OnErr result (S.state storage.new ≡ S.state storage.old) }
+    ensures same { S.Miss.write writer.new ≡ S.Miss.write writer.old }
+    ensures entry { S.Miss.entry_number writer.new ≡ S.Miss.entry_number writer.old }
+{
+    let Some(part) = part else {
+        return Ok(None);
+    };
+    if !allows(size, &part) {
+        return Err(Error::new(ERR_RESPONSE_TOO_LARGE));
+    }
+    // a write that goes on was told its end: it is not the put's own storage that was lent
+    if writer.at_eof(storage) {
+        return Err(Error::new(SPENT));
+    }
+    let BodyPart { bytes, is_last } = part;
+    let copy = bytes.clone()?;
+    writer.write_body(storage, bytes, is_last)?;
+    Ok(Some(Written {
+        bytes: copy,
+        eof: is_last,
+    }))
+}
+
+impl<C: CachePut> Intake<C> {
+    // How many bytes the body may have, where that is limited.
+    fn limit(&self) -> Option<usize>
+        ensures { result ≡ limit_of self.now.size }
+    {
+        match &self.size {
+            Some(size) => Some(size.max_file_size_bytes()),
+            None => None,
+        }
+    }
+
+    // Begins the write of a response that is to be stored.
+    fn begin<S: Storage>(
+        &self,
+        header: ResponseHeader,
+        body: Option<BodyPart>,
+        storage: &mut S,
+        now: Moment,
+    ) -> Result<Opened<S::Miss>>
+        ensures begun { IfOk result (IsBegun (IsVerdict (C.says self.now.policy) (limit_of self.now.size) header now) body) }
+        ensures next { IfOk result (IsNext S.Miss.write S.Miss.entry_number (S.state storage.old).next (S.next_entry storage.old)) }
+        ensures store { IfOk result (λ o. S.state storage.new ≡ store_opened (slot self.now.key) o (S.state storage.old)) }
+        ensures err { OnErr result (S.state storage.new ≡ S.state storage.old) }
+        ensures kind { IfErr result (λ e. (e ≡ OutOfMemory) ⊎ MayRefuseWrite (S.state storage.old) e) }
+    {
+        let meta = match judge(self.alloc, &self.policy, self.limit(), header, now)? {
+            RespCacheable::Cacheable(meta) => meta,
+            RespCacheable::Uncacheable(reason) => return Ok(Opened::Declined(reason)),
+        };
+        let writer = storage.get_miss_handler(self.alloc, &self.key, &meta)?;
+        let fresh_until = meta.fresh_until();
+        let filling = Filling {
+            writer,
+            fresh_until,
+        };
+        Ok(Opened::Begun(filling, meta, body))
+    }
+
+    // Takes in a piece of the head, and begins the write of a response that is to be stored.
+    fn open<S: Storage>(
+        &mut self,
+        piece: &[u8],
+        storage: &mut S,
+        now: Moment,
+    ) -> Result<Opened<S::Miss>>
+        ensures same { self.new ≡ record self.old { parser = self.new.parser } }
+        ensures opened { IfOk result (λ o. (pieces : List Piece) → HeadTaken self.old.size self.old.parser pieces → HasOpened (C.says self.old.policy) self.old.size self.new.parser (pieces ++ record { bytes = piece.now; now = now } ∷ []) o) }
+        ensures next { IfOk result (IsNext S.Miss.write S.Miss.entry_number (S.state storage.old).next (S.next_entry storage.old)) }
+        ensures store { IfOk result (λ o. S.state storage.new ≡ store_opened (slot self.old.key) o (S.state storage.old)) }
+        ensures invalid { IfErr result (λ e. e ≡ InvalidHttpHeader → (pieces : List Piece) → HeadTaken self.old.size self.old.parser pieces → IsUnreadable (joined (pieces ++ record { bytes = piece.now; now = now } ∷ []))) }
+        ensures err { OnErr result (S.state storage.new ≡ S.state storage.old) }
+        ensures kind { IfErr result (λ e. (e ≡ InvalidHttpHeader) ⊎ (e ≡ OutOfMemory) ⊎ MayRefuseWrite (S.state storage.old) e ⊎ (self.old.parser ≡ HasFailed e)) }
+    {
+        let parts = self.parser.inject_data(piece)?;
+        let Brought { head, body } = Brought::from_parts(parts);
+        match head {
+            Some(header) => self.begin(header, body, storage, now),
+            None => Ok(Opened::Unfinished),
+        }
+    }
+
+    // Takes in a piece of the body, and answers what is to be written of it.
+    fn read_body(&mut self, piece: &[u8]) -> Result<Option<BodyPart>>
+        ensures same { self.new ≡ record self.old { parser = self.new.parser } }
+        ensures due { IfOk result (λ part. (pieces : List Piece) (now : ℕ) (meta : Meta) (body : List ℕ) → BodyRead (C.says self.old.policy) (limit_of self.old.size) self.old.parser meta pieces body → IsDue (C.says self.old.policy) (limit_of self.old.size) self.new.parser meta (pieces ++ record { bytes = piece.now; now = now } ∷ []) body part) }
+        ensures invalid { IfErr result (λ e. e ≡ InvalidHttpHeader → (pieces : List Piece) (meta : Meta) (body : List ℕ) → ¬ (BodyRead (C.says self.old.policy) (limit_of self.old.size) self.old.parser meta pieces body)) }
+        ensures kind { IfErr result (λ e. (e ≡ InvalidHttpHeader) ⊎ (e ≡ OutOfMemory) ⊎ (self.old.parser ≡ HasFailed e)) }
+    {
+        let parts = self.parser.inject_data(piece)?;
+        let brought = Brought::from_parts(parts);
+        Ok(brought.body)
+    }
+
+    // Writes what there is to be written.
+    fn fill<S: Storage>(
+        &mut self,
+        filling: Filling<S::Miss>,
+        began: Option<CacheMeta>,
+        part: Option<BodyPart>,
+        storage: &mut S,
+    ) -> Taken<S::Miss>
+        ensures same { self.new ≡ record self.old { size = self.new.size } }
+        ensures limit { limit_of self.new.size ≡ limit_of self.old.size }
+        ensures began { result.report.began ≡ began }
+        ensures store { S.state storage.new ≡ store_wrote (Some (S.Miss.write filling.writer)) result.report.wrote (S.state storage.old) }
+        ensures ends { EndsPiece S.Miss.write result.report.end (InBody (S.Miss.write filling.writer) (S.Miss.entry_number filling.writer) filling.fresh_until) (stage_of S.Miss.write S.Miss.entry_number result.stage) }
+        ensures last { IfSome result.report.wrote (λ w. (b : BodyPart) × (part ≡ Some b) × (w.eof ≡ b.is_last)) }
+        ensures taken { (pieces : List Piece) (meta : Meta) (body : List ℕ) → filling.fresh_until ≡ meta.fresh_until → IsDue (C.says self.old.policy) (limit_of self.old.size) self.old.parser meta pieces body part → Counts self.old.size body
+            → TakenBy (C.says self.old.policy) self.new.size self.new.parser (stage_of S.Miss.write S.Miss.entry_number result.stage) pieces (filled_wrote result.report.wrote (Some (record { meta = meta; body = body }))) }
+        ensures kind { IfRefused result.report.end (MayRefuseFill (S.state storage.old) (S.Miss.write filling.writer)) }
+    {
+        let Filling {
+            mut writer,
+            fresh_until,
+        } = filling;
+        match write_part(&mut self.size, storage, &mut writer, part) {
+            Ok(wrote) => {
+                let filling = Filling {
+                    writer,
+                    fresh_until,
+                };
+                goes_on(Stage::Body(filling), began, wrote)
+            }
+            Err(refused) => refuses(refused, began, Some(writer)),
+        }
+    }
+
+    // Takes in a piece while the head has not ended.
+    pub(crate) fn take_head<S: Storage>(
+        &mut self,
+        piece: &[u8],
+        storage: &mut S,
+        now: Moment,
+    ) -> Taken<S::Miss>
+        ensures same { self.new ≡ record self.old { size = self.new.size; parser = self.new.parser } }
+        ensures limit { limit_of self.new.size ≡ limit_of self.old.size }
+        ensures store { S.state storage.new ≡ store_after self.old.key InHead result.report.began result.report.wrote (S.next_entry storage.old) (S.state storage.old) }
+        ensures ends { EndsPiece S.Miss.write result.report.end (stage_begun InHead result.report.began (S.state storage.old).next (S.next_entry storage.old)) (stage_of S.Miss.write S.Miss.entry_number result.stage) }
+        ensures last { (pieces : List Piece) (f : Option Filled) → TakenBy (C.says self.old.policy) self.old.size self.old.parser InHead pieces f → IfSome result.report.wrote (λ w. w.eof ≡ is_done self.new.parser) }
+        ensures taken { (pieces : List Piece) (f : Option Filled) → TakenBy (C.says self.old.policy) self.old.size self.old.parser InHead pieces f
+            → TakenBy (C.says self.old.policy) self.new.size self.new.parser (stage_of S.Miss.write S.Miss.entry_number result.stage) (pieces ++ record { bytes = piece.now; now = now } ∷ []) (filled_on result.report.began result.report.wrote f) }
+        ensures kind { IfRefused result.report.end (λ e. MayRefusePiece InHead (S.state storage.old) e ⊎ (self.old.parser ≡ HasFailed e)) }
+    {
+        match self.open(piece, storage, now) {
+            Ok(Opened::Begun(filling, meta, part)) => self.fill(filling, Some(meta), part, storage),
+            Ok(Opened::Unfinished) => goes_on(Stage::Head, None, None),
+            Ok(Opened::Declined(reason)) => declines(reason),
+            Err(refused) => refuses(refused, None, None),
+        }
+    }
+
+    // Takes in a piece while the body is written.
+    pub(crate) fn take_body<S: Storage>(
+        &mut self,
+        piece: &[u8],
+        storage: &mut S,
+        filling: Filling<S::Miss>,
+        now: Moment,
+    ) -> Taken<S::Miss>
+        ensures same { self.new ≡ record self.old { size = self.new.size; parser = self.new.parser } }
+        ensures limit { limit_of self.new.size ≡ limit_of self.old.size }
+        ensures store { S.state storage.new ≡ store_after self.old.key (InBody (S.Miss.write filling.writer) (S.Miss.entry_number filling.writer) filling.fresh_until) result.report.began result.report.wrote (S.next_entry storage.old) (S.state storage.old) }
+        ensures ends { EndsPiece S.Miss.write result.report.end (stage_begun (InBody (S.Miss.write filling.writer) (S.Miss.entry_number filling.writer) filling.fresh_until) result.report.began (S.state storage.old).next (S.next_entry storage.old)) (stage_of S.Miss.write S.Miss.entry_number result.stage) }
+        ensures last { (pieces : List Piece) (f : Option Filled) → TakenBy (C.says self.old.policy) self.old.size self.old.parser (InBody (S.Miss.write filling.writer) (S.Miss.entry_number filling.writer) filling.fresh_until) pieces f → IfSome result.report.wrote (λ w. w.eof ≡ is_done self.new.parser) }
+        ensures taken { (pieces : List Piece) (f : Option Filled) → TakenBy (C.says self.old.policy) self.old.size self.old.parser (InBody (S.Miss.write filling.writer) (S.Miss.entry_number filling.writer) filling.fresh_until) pieces f
+            → TakenBy (C.says self.old.policy) self.new.size self.new.parser (stage_of S.Miss.write S.Miss.entry_number result.stage) (pieces ++ record { bytes = piece.now; now = now } ∷ []) (filled_on result.report.began result.report.wrote f) }
+        ensures kind { IfRefused result.report.end (λ e. MayRefusePiece (InBody (S.Miss.write filling.writer) (S.Miss.entry_number filling.writer) filling.fresh_until) (S.state storage.old) e ⊎ (self.old.parser ≡ HasFailed e)) }
+    {
+        let _ = now;
+        match self.read_body(piece) {
+            Ok(part) => self.fill(filling, None, part, storage),
+            Err(refused) => {
+                let Filling {
+                    writer,
+                    fresh_until: _,
+                } = filling;
+                refuses(refused, None, Some(writer))
+            }
+        }
+    }
+
+    // Ends the write: too early, where the response ended before its body did, else as any write ends.
+    pub(crate) fn end_body<S: Storage, E: EvictionManager>(
+        &mut self,
+        storage: &mut S,
+        eviction: &mut E,
+        filling: Filling<S::Miss>,
+    ) -> (PutEnd, Option<CacheEntryKey>)
+        ensures same { self.new ≡ record self.old { parser = self.new.parser } }
+        ensures ends { EndsPut S.always_purges self.old.key self.old.parser (S.finishes storage.old) (E.limits eviction.old) (InBody (S.Miss.write filling.writer) (S.Miss.entry_number filling.writer) filling.fresh_until) result.0 (S.state storage.old) (S.state storage.new) (E.tracked eviction.old) (E.tracked eviction.new) }
+        ensures entry { result.1 ≡ entry_told self.old.key (InBody (S.Miss.write filling.writer) (S.Miss.entry_number filling.writer) filling.fresh_until) result.0 }
+        ensures evicted { E.evicted eviction.new ≡ evicted_ended self.old.key (S.finishes storage.old) (InBody (S.Miss.write filling.writer) (S.Miss.entry_number filling.writer) filling.fresh_until) (E.tracked eviction.old) (E.evicted eviction.old) result.0 }
+        ensures limits { E.limits eviction.new ≡ E.limits eviction.old }
+        ensures tells { (pieces : List Piece) (f : Option Filled) → BodyTaken (C.says self.old.policy) self.old.size self.old.parser filling.fresh_until pieces f → TellsResult (IsResult (C.says self.old.policy) (limit_of self.old.size) pieces) f result.0 }
+    {
+        let Filling {
+            writer,
+            fresh_until,
+        } = filling;
+        if let Err(early) = self.parser.finish() {
+            writer.drop_write(storage);
+            return (PutEnd::Dropped(early), None);
+        }
+        let EndedWrite { end, entry } = end_writer(
+            self.alloc,
+            true,
+            storage,
+            eviction,
+            &self.key,
+            writer,
+            fresh_until,
+        );
+        match end {
+            WriteEnd::Stored(report) => (PutEnd::Stored(report), entry),
+            WriteEnd::Dropped(refused) => (PutEnd::Dropped(refused), entry),
+            WriteEnd::Withdrawn(refused) => (PutEnd::Withdrawn(refused), entry),
+            WriteEnd::Nothing => unreachable!(),
+        }
+    }
+}

@@ -1,0 +1,116 @@
+//! Where a put stands.
+ghost use Rattle.std.specs.Prelude.{◌≡◌, None, Some};
+ghost use Rattle.pcache_base.specs.declared.error.ErrorType.TheVariants.{InternalError};
+ghost use Rattle.pcache_put_ctx.specs.Endings.{stage_left};
+
+use crate::report::{PieceEnd, PieceReport, PutEnd, Written};
+use pcache_base::error::{Error, ErrorType};
+use pcache_base::moment::Moment;
+use pcache_base::reason::NoCacheReason;
+use pcache_meta::meta::CacheMeta;
+use std::mem;
+
+// A write in flight.
+pub(crate) struct Filling<M> {
+    pub(crate) writer: M,
+    pub(crate) fresh_until: Moment,
+}
+
+// What a put does next.
+pub(crate) enum Stage<M> {
+    // The head has not ended.
+    Head,
+    // The body is written.
+    Body(Filling<M>),
+    // Nothing is stored, for this reason.
+    Declined(NoCacheReason),
+    // Every call is refused for this kind.
+    Over(ErrorType),
+}
+
+// What stands in for the stage while a call works with it, and once a body was stored: whoever goes on is mistaken.
+pub(crate) const SPENT: ErrorType = ErrorType::InternalError;
+
+// Takes the stage out.
+pub(crate) fn take_stage<M>(place: &mut Stage<M>) -> Stage<M>
+    ensures taken { result ≡ place.old }
+    ensures place { place.new ≡ Stage.Over InternalError }
+{
+    mem::replace(place, Stage::Over(SPENT))
+}
+
+// Puts a stage where the one before was taken out.
+pub(crate) fn put_stage<M>(place: &mut Stage<M>, stage: Stage<M>)
+    requires { place.old ≡ Stage.Over InternalError }
+    ensures { place.new ≡ stage }
+{
+    let before = mem::replace(place, stage);
+    let Stage::Over(_) = before else {
+        unreachable!()
+    };
+}
+
+// Where a put stands behind a piece, and what is told of the piece.
+pub(crate) struct Taken<M> {
+    pub(crate) stage: Stage<M>,
+    pub(crate) report: PieceReport<M>,
+}
+
+// The put goes on.
+pub(crate) fn goes_on<M>(
+    stage: Stage<M>,
+    began: Option<CacheMeta>,
+    wrote: Option<Written>,
+) -> Taken<M>
+    ensures { result ≡ record { stage = stage; report = record { began = began; wrote = wrote; end = PieceEnd.GoesOn } } }
+{
+    Taken {
+        stage,
+        report: PieceReport {
+            began,
+            wrote,
+            end: PieceEnd::GoesOn,
+        },
+    }
+}
+
+// Nothing is stored.
+pub(crate) fn declines<M>(reason: NoCacheReason) -> Taken<M>
+    ensures { result ≡ record { stage = Stage.Declined reason; report = record { began = None; wrote = None; end = PieceEnd.NotCached reason } } }
+{
+    Taken {
+        stage: Stage::Declined(reason),
+        report: PieceReport {
+            began: None,
+            wrote: None,
+            end: PieceEnd::NotCached(reason),
+        },
+    }
+}
+
+// Every later call is refused as this one is.
+pub(crate) fn refuses<M>(refused: Error, began: Option<CacheMeta>, writer: Option<M>) -> Taken<M>
+    ensures { result ≡ record { stage = Stage.Over refused; report = record { began = began; wrote = None; end = PieceEnd.Refused refused writer } } }
+{
+    Taken {
+        stage: Stage::Over(refused.etype()),
+        report: PieceReport {
+            began,
+            wrote: None,
+            end: PieceEnd::Refused(refused, writer),
+        },
+    }
+}
+
+// Where a put stands once it ended so. After a body was stored, whoever goes on is mistaken.
+pub(crate) fn stage_after<M>(end: &PutEnd) -> Stage<M>
+    ensures { result ≡ stage_left end.now }
+{
+    match end {
+        PutEnd::NotCached(reason) => Stage::Declined(*reason),
+        PutEnd::Stored(_) => Stage::Over(SPENT),
+        PutEnd::Refused(refused) => Stage::Over(refused.etype()),
+        PutEnd::Dropped(refused) => Stage::Over(refused.etype()),
+        PutEnd::Withdrawn(refused) => Stage::Over(refused.etype()),
+    }
+}

@@ -1,0 +1,56 @@
+-- A stale response of which the origin said that it is good (the phase table; RFC 9111 section 4.3.4).
+use Rattle.std.specs.Prelude.{ℕ, Bool, List, [], ◌∷◌, Option, Some, None, codes, false, fold, is_some, map}
+use Rattle.std.specs.FinMap.{get}
+use Rattle.http_header.specs.FieldValue.{FieldValue}
+use Rattle.http_header.specs.HeaderMap.{append, get_all, update}
+use Rattle.pcache_base.specs.Key.{Key, slot}
+use Rattle.pcache_meta.specs.Header.{Fields, Header}
+use Rattle.pcache_meta.specs.Meta.{Meta, provenance_of}
+use Rattle.pcache_store.specs.Store.{Store, body_of, meta_changed}
+use Rattle.pcache_request.specs.declared.phase.CachePhase.TheVariants as phase
+use Rattle.pcache_request.specs.Requests.{Request}
+
+-- the new meta of the old body: it was created, and its body came, when that of the old one was
+abbrev pub renewed_by : Meta → Option Meta → Meta
+renewed_by m None = m
+renewed_by m (Some old) = record m { created = old.created; provenance = Some (provenance_of old) }
+
+abbrev pub renewed : Meta → Request → Request
+renewed m r = record r { phase = phase.Revalidated; meta = Some (renewed_by m r.meta); held = None }
+
+-- a complete body stands under the key
+abbrev pub has_body : Store → Option Key → Bool
+has_body s None = false
+has_body s (Some k) = is_some (body_of (get s.slots (slot k)))
+
+-- the store with this meta for the key's complete body
+abbrev pub with_meta_of : Meta → Option Key → Store → Store
+with_meta_of m None s = s
+with_meta_of m (Some k) s = meta_changed (λ _. m) s (slot k)
+
+-- the fields that a new answer renews
+abbrev pub renewed_names : List (List ℕ)
+renewed_names = codes "cache-control" ∷ codes "expires" ∷ codes "cache-tag" ∷ codes "cdn-cache-control" ∷ codes "etag" ∷ []
+
+-- the values that an answer has under a name, in place of those that were there; where it has none, those stay
+abbrev pub in_place : List (List ℕ) → Fields → List ℕ → Fields
+in_place [] fields name = fields
+in_place (v ∷ vs) fields name = update fields name (λ _. v ∷ vs)
+
+abbrev pub field_renewed : Fields → Fields → List ℕ → Fields
+field_renewed answer fields name = in_place (get_all answer name) fields name
+
+-- the values as a meta shows them
+abbrev pub shown_values : List FieldValue → List (List ℕ)
+shown_values values = map (λ (v : FieldValue). v.bytes) values
+
+-- further values behind those under a name, one by one
+abbrev pub added_all : Fields → List ℕ → List (List ℕ) → Fields
+added_all fields name [] = fields
+added_all fields name (v ∷ vs) = added_all (append fields name v) name vs
+
+abbrev pub fields_renewed : Fields → Fields → Fields
+fields_renewed answer fields = fold (field_renewed answer) fields renewed_names
+
+abbrev pub header_renewed : Fields → Header → Header
+header_renewed answer h = record h { fields = fields_renewed answer h.fields }

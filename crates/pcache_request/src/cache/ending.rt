@@ -1,0 +1,200 @@
+//! The end of a write, in any call that has one: its entry and key are made, the storage stores the body, the manager
+//! takes the entry in, and what is evicted for it is purged.
+ghost use Rattle.std.specs.Prelude.{◌≡◌, true, false, IfOk, IfErr, ◌⊎◌, OnErr, OnOk, Some, cond};
+ghost use Rattle.pcache_base.specs.declared.error.ErrorType.TheVariants.{OutOfMemory};
+ghost use Rattle.pcache_base.specs.CompactKey.{compact_of};
+ghost use Rattle.pcache_evict.specs.Tracked.{evicted_with};
+ghost use Rattle.pcache_store.specs.Purge.{purged_at};
+ghost use Rattle.pcache_store.specs.Refusals.{MayRefuseFinish};
+ghost use Rattle.pcache_store.specs.Store.{dropped, finished, stands};
+ghost use Rattle.pcache_request.specs.Finishing.{PurgesAll, Admits, entry_slot, size_told, with_entry};
+ghost use Rattle.pcache_request.specs.Reports.{entry_stored};
+ghost use Rattle.pcache_request.specs.Requests.{entry_of};
+ghost use Rattle.pcache_request.specs.WriteEnds.{EndsBody, HoldsNoLock, evicted_by};
+
+use super::entry_for;
+use super::finish::{FinishReport, WriteEnd};
+use pcache_base::error::Result;
+use pcache_base::key::{CacheKey, CompactCacheKey};
+use pcache_base::moment::Moment;
+use pcache_evict::eviction::{CacheEntryId, CacheEntryKey, EvictionManager};
+use pcache_store::storage::{HandleMiss, MissFinishType, PurgeTarget, PurgeType, Storage};
+use std::alloc::Global;
+
+/// How a write ended.
+#[derive(Debug, Drop)]
+pub struct EndedWrite {
+    /// What became of it.
+    pub end: WriteEnd,
+    /// The entry of the body, where one was stored for good.
+    pub entry: Option<CacheEntryKey>,
+}
+
+// Purges an entry, and tells whether that was refused.
+fn is_purge_refused<S: Storage>(storage: &mut S, entry: &CacheEntryKey) -> bool
+    ensures refused { result ≡ true → S.state storage.new ≡ S.state storage.old }
+    ensures purged { result ≡ false → S.state storage.new ≡ purged_at (S.state storage.old) (entry_slot entry.now) }
+    ensures sure { S.always_purges ≡ true → result ≡ false }
+{
+    storage
+        .purge(PurgeTarget::Exact(entry), PurgeType::Eviction)
+        .is_err()
+}
+
+// Purges each entry in order, and counts those that were refused.
+fn purge_all<S: Storage>(storage: &mut S, entries: &[CacheEntryKey]) -> usize
+    ensures purges { PurgesAll (S.state storage.old) entries.now result (S.state storage.new) }
+    ensures sure { S.always_purges ≡ true → result ≡ 0 }
+{
+    let mut failed = 0usize;
+    for entry in entries {
+        if is_purge_refused(storage, entry) {
+            failed += 1;
+        }
+    }
+    failed
+}
+
+// Admits the entry of a write that ended so, where a manager is in use.
+fn admit<E: EvictionManager>(
+    alloc: Global,
+    is_used: bool,
+    eviction: &mut E,
+    entry: CacheEntryKey,
+    kind: MissFinishType,
+    fresh_until: Moment,
+) -> Result<Vec<CacheEntryKey>>
+    ensures admits { IfOk result (λ out. Admits is_used (E.limits eviction.old) kind entry (E.tracked eviction.old) out.items (E.tracked eviction.new)) }
+    ensures evicted { IfOk result (λ out. E.evicted eviction.new ≡ cond is_used (evicted_with (E.evicted eviction.old) (with_entry kind entry (E.tracked eviction.old)) out.items) (E.evicted eviction.old)) }
+    ensures err { OnErr result (E.tracked eviction.new ≡ E.tracked eviction.old) }
+    ensures err_evicted { OnErr result (E.evicted eviction.new ≡ E.evicted eviction.old) }
+    ensures limits { E.limits eviction.new ≡ E.limits eviction.old }
+    ensures kind { IfErr result (λ e. e ≡ OutOfMemory) }
+{
+    if !is_used {
+        return Ok(Vec::new(alloc));
+    }
+    match kind {
+        MissFinishType::Created(size) => eviction.admit(entry, size, fresh_until),
+        MissFinishType::Appended(size, most) => eviction.increment_weight(&entry, size, most),
+    }
+}
+
+// Admits the entry of a body that was just stored, and purges what is evicted for it, in order.
+fn admit_and_purge<S: Storage, E: EvictionManager>(
+    alloc: Global,
+    is_used: bool,
+    storage: &mut S,
+    eviction: &mut E,
+    entry: CacheEntryKey,
+    kind: MissFinishType,
+    fresh_until: Moment,
+) -> Result<FinishReport>
+    ensures size { IfOk result (λ f. f.size ≡ size_told kind) }
+    ensures admits { IfOk result (λ f. Admits is_used (E.limits eviction.old) kind entry (E.tracked eviction.old) f.evicted.items (E.tracked eviction.new)) }
+    ensures purges { IfOk result (λ f. PurgesAll (S.state storage.old) f.evicted.items f.failed_purges (S.state storage.new)) }
+    ensures sure { IfOk result (λ f. S.always_purges ≡ true → f.failed_purges ≡ 0) }
+    ensures evicted { IfOk result (λ f. E.evicted eviction.new ≡ cond is_used (evicted_with (E.evicted eviction.old) (with_entry kind entry (E.tracked eviction.old)) f.evicted.items) (E.evicted eviction.old)) }
+    ensures same_store { OnErr result (S.state storage.new ≡ S.state storage.old) }
+    ensures same_tracked { OnErr result (E.tracked eviction.new ≡ E.tracked eviction.old) }
+    ensures same_evicted { OnErr result (E.evicted eviction.new ≡ E.evicted eviction.old) }
+    ensures limits { E.limits eviction.new ≡ E.limits eviction.old }
+    ensures kind { IfErr result (λ e. e ≡ OutOfMemory) }
+{
+    let evicted = admit(alloc, is_used, eviction, entry, kind, fresh_until)?;
+    let failed_purges = purge_all(storage, evicted.as_slice());
+    Ok(FinishReport {
+        size: told_size(kind),
+        evicted,
+        failed_purges,
+    })
+}
+
+// The entry of a key, and the key itself to purge it by.
+fn entry_and_key(
+    key: &CacheKey,
+    id: Option<CacheEntryId>,
+) -> Result<(CacheEntryKey, CompactCacheKey)>
+    ensures ok { IfOk result (λ p. (p.0 ≡ entry_of key.now id) × (p.1 ≡ compact_of key.now)) }
+    ensures kind { IfErr result (λ e. e ≡ OutOfMemory) }
+{
+    let entry = entry_for(key, id)?;
+    let compact = key.to_compact()?;
+    Ok((entry, compact))
+}
+
+// Makes the entry and the key of a write, and then finishes it. Refused, the write is dropped.
+fn finish_writer<S: Storage>(
+    storage: &mut S,
+    key: &CacheKey,
+    writer: S::Miss,
+) -> Result<(CacheEntryKey, CompactCacheKey, MissFinishType)>
+    ensures entry { IfOk result (λ p. p.0 ≡ entry_of key.now (S.Miss.entry_number writer)) }
+    ensures compact { IfOk result (λ p. p.1 ≡ compact_of key.now) }
+    ensures answer { IfOk result (λ p. p.2 ≡ S.finishes storage.old (S.Miss.write writer)) }
+    ensures ok { OnOk result (S.state storage.new ≡ finished (S.state storage.old) (S.Miss.write writer)) }
+    ensures untouched { OnOk result (stands (S.state storage.old) (S.Miss.write writer) ≡ true) }
+    ensures err { OnErr result (S.state storage.new ≡ dropped (S.state storage.old) (S.Miss.write writer)) }
+    ensures kind { IfErr result (λ e. (e ≡ OutOfMemory) ⊎ MayRefuseFinish (S.state storage.old) (S.Miss.write writer) e) }
+{
+    let (entry, compact) = match entry_and_key(key, writer.entry_id()) {
+        Ok(made) => made,
+        Err(refused) => {
+            writer.drop_write(storage);
+            return Err(refused);
+        }
+    };
+    let kind = writer.finish(storage)?;
+    Ok((entry, compact, kind))
+}
+
+fn told_size(kind: MissFinishType) -> usize
+    ensures { result ≡ size_told kind }
+{
+    match kind {
+        MissFinishType::Created(size) => size,
+        MissFinishType::Appended(size, _) => size,
+    }
+}
+
+/// Ends the write of a key and stores its body. Its entry is admitted where a manager is in use, and what is evicted for
+/// it is purged, in order. A write that is refused is dropped, and a body whose admission is refused is purged again.
+/// The entry and the key are made first, so that want of memory for them drops the write.
+pub fn end_writer<S: Storage, E: EvictionManager>(
+    alloc: Global,
+    is_used: bool,
+    storage: &mut S,
+    eviction: &mut E,
+    key: &CacheKey,
+    writer: S::Miss,
+    fresh_until: Moment,
+) -> EndedWrite
+    ensures end { EndsBody S.always_purges is_used (S.Miss.entry_number writer) HoldsNoLock key.now (S.Miss.write writer) (S.finishes storage.old (S.Miss.write writer)) (E.limits eviction.old) result.end (S.state storage.old) (S.state storage.new) (E.tracked eviction.old) (E.tracked eviction.new) }
+    ensures entry { result.entry ≡ entry_stored (Some key.now) (S.Miss.entry_number writer) result.end }
+    ensures evicted { E.evicted eviction.new ≡ evicted_by is_used (S.Miss.entry_number writer) key.now (S.finishes storage.old (S.Miss.write writer)) (E.tracked eviction.old) (E.evicted eviction.old) result.end }
+    ensures limits { E.limits eviction.new ≡ E.limits eviction.old }
+{
+    let id = writer.entry_id();
+    let (entry, compact, kind) = match finish_writer(storage, key, writer) {
+        Ok(made) => made,
+        Err(refused) => {
+            return EndedWrite {
+                end: WriteEnd::Dropped(refused),
+                entry: None,
+            };
+        }
+    };
+    match admit_and_purge(alloc, is_used, storage, eviction, entry, kind, fresh_until) {
+        Ok(report) => EndedWrite {
+            end: WriteEnd::Stored(report),
+            entry: Some(CacheEntryKey::from_entry_id(compact, id)),
+        },
+        Err(refused) => {
+            let _ = storage.purge(PurgeTarget::Active(&compact), PurgeType::Invalidation);
+            EndedWrite {
+                end: WriteEnd::Withdrawn(refused),
+                entry: None,
+            }
+        }
+    }
+}

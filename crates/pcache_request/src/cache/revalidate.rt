@@ -1,0 +1,190 @@
+//! A stale response of which the origin said that it is good.
+ghost use Rattle.std.specs.Prelude.{◌≡◌, ◌⊎◌, IsTrue, IfErr, OnOk, Some};
+ghost use Rattle.http_header.specs.FieldName.{is_field_name};
+ghost use Rattle.http_header.specs.HeaderMap.{append, insert};
+ghost use Rattle.http_header.specs.Token.{lowercase};
+ghost use Rattle.pcache_base.specs.declared.error.ErrorType.TheVariants.{OutOfMemory, InternalError};
+ghost use Rattle.pcache_meta.specs.Header.{shown_fields};
+ghost use Rattle.pcache_request.specs.Renewals.{added_all, field_renewed, fields_renewed, renewed_by, shown_values};
+
+use super::{HttpCache, Renewal, settle};
+use crate::phase::CachePhase;
+use http_header::{HeaderMap, HeaderMapError, HeaderValue, ValueIter};
+use pcache_base::error::{Error, ErrorType, Result};
+use pcache_lock::lock::{CacheKeyLock, LockStatus};
+use pcache_meta::header::{RespHeader, ResponseHeader};
+use pcache_meta::meta::CacheMeta;
+use pcache_store::storage::Storage;
+
+// The new meta of an old body: it was created, and its body came, when that of the old one was.
+fn renew(meta: &mut CacheMeta, old: &CacheMeta)
+    ensures { meta.new ≡ renewed_by meta.old (Some old.now) }
+{
+    meta.set_provenance(old.provenance());
+    meta.set_created(old.created());
+}
+
+fn refusal(error: HeaderMapError) -> Error
+    ensures { (result ≡ OutOfMemory) ⊎ (result ≡ InternalError) }
+{
+    match error {
+        HeaderMapError::MaxSizeReached => Error::new(ErrorType::InternalError),
+        HeaderMapError::OutOfMemory => Error::new(ErrorType::OutOfMemory),
+    }
+}
+
+// Puts a value in place of all those under a name.
+fn set_field(headers: &mut HeaderMap, name: &'static str, value: &HeaderValue) -> Result<()>
+    requires { IsTrue (is_field_name name.now) }
+    ensures ok { OnOk result (headers.new ≡ insert headers.old (lowercase name.now) value.now) }
+    ensures kind { IfErr result (λ e. (e ≡ OutOfMemory) ⊎ (e ≡ InternalError)) }
+{
+    match headers.insert(name, value.clone()?) {
+        Ok(_) => Ok(()),
+        Err(error) => Err(refusal(error)),
+    }
+}
+
+// Adds a value behind those under a name.
+fn add_field(headers: &mut HeaderMap, name: &'static str, value: &HeaderValue) -> Result<()>
+    requires { IsTrue (is_field_name name.now) }
+    ensures ok { OnOk result (headers.new ≡ append headers.old (lowercase name.now) value.now) }
+    ensures kind { IfErr result (λ e. (e ≡ OutOfMemory) ⊎ (e ≡ InternalError)) }
+{
+    match headers.append(name, value.clone()?) {
+        Ok(_) => Ok(()),
+        Err(error) => Err(refusal(error)),
+    }
+}
+
+// Adds all values behind those under a name, in order.
+#[tactic(auto, using(crate::proofs::Fields::shown_append))]
+fn add_fields(
+    headers: &mut HeaderMap,
+    name: &'static str,
+    values: ValueIter<'_, HeaderValue>,
+) -> Result<()>
+    requires { IsTrue (is_field_name name.now) }
+    ensures ok { OnOk result (shown_fields headers.new ≡ added_all (shown_fields headers.old) (lowercase name.now) (shown_values values.entry)) }
+    ensures kind { IfErr result (λ e. (e ≡ OutOfMemory) ⊎ (e ≡ InternalError)) }
+{
+    'values: for value in values {
+        add_field(headers, name, value)?;
+    }
+    Ok(())
+}
+
+// Puts the values that an answer has under a name in place of those that were there.
+#[tactic(auto, using(crate::proofs::Fields::renewed_none, crate::proofs::Fields::renewed_some))]
+fn renew_field(headers: &mut HeaderMap, answer: &HeaderMap, name: &'static str) -> Result<()>
+    requires { IsTrue (is_field_name name.now) }
+    ensures ok { OnOk result (shown_fields headers.new ≡ field_renewed (shown_fields answer.now) (shown_fields headers.old) (lowercase name.now)) }
+    ensures kind { IfErr result (λ e. (e ≡ OutOfMemory) ⊎ (e ≡ InternalError)) }
+{
+    let mut values = answer.get_all(name).iter();
+    let Some(first) = values.next() else {
+        return Ok(());
+    };
+    set_field(headers, name, first)?;
+    add_fields(headers, name, values)
+}
+
+// The same for each field that an answer renews.
+fn renew_fields(headers: &mut HeaderMap, answer: &HeaderMap) -> Result<()>
+    ensures ok { OnOk result (shown_fields headers.new ≡ fields_renewed (shown_fields answer.now) (shown_fields headers.old)) }
+    ensures kind { IfErr result (λ e. (e ≡ OutOfMemory) ⊎ (e ≡ InternalError)) }
+{
+    renew_field(headers, answer, "cache-control")?;
+    renew_field(headers, answer, "expires")?;
+    renew_field(headers, answer, "cache-tag")?;
+    renew_field(headers, answer, "cdn-cache-control")?;
+    renew_field(headers, answer, "etag")
+}
+
+impl<S: Storage> HttpCache<S> {
+    ghost use Rattle.std.specs.Prelude.{◌≡◌, ◌⊎◌, IfOk, IfErr, OnOk, OnErr, IsTrue, IfSome, option_map};
+    ghost use Rattle.pcache_base.specs.declared.error.ErrorType.TheVariants.{OutOfMemory, InternalError};
+    ghost use Rattle.pcache_lock.specs.declared.lock.status.LockStatus.TheVariants.{Done};
+    ghost use Rattle.pcache_meta.specs.Header.{shown, shown_fields};
+    ghost use Rattle.pcache_request.specs.Renewals.{renewed, renewed_by, has_body, with_meta_of, header_renewed};
+    ghost use Rattle.pcache_request.specs.Reports.{name_of};
+    ghost use Rattle.pcache_request.specs.Requests.{settled};
+    ghost use Rattle.pcache_request.specs.Stale.{MayRevalidate};
+
+    /// Takes the meta of an answer that says that the stale body is good. It was created, and its body
+    /// came, when that of the old meta was. The store sets it for the complete body under the key, and
+    /// the permit is released as done. Answers whether there was such a body. The request goes on as
+    /// revalidated, with the new meta, also where the store refuses to set it, for want of memory.
+    pub fn revalidate_cache_meta<L: CacheKeyLock>(
+        &mut self,
+        storage: &mut S,
+        lock: &mut L,
+        meta: CacheMeta,
+    ) -> Result<bool>
+        requires { MayRevalidate self.old }
+        ensures request { self.new ≡ renewed meta self.old }
+        ensures there { IfOk result (λ b. b ≡ has_body (S.state storage.old) self.old.key) }
+        ensures store { OnOk result (S.state storage.new ≡ with_meta_of (renewed_by meta self.old.meta) self.old.key (S.state storage.old)) }
+        ensures same_store { OnErr result (S.state storage.new ≡ S.state storage.old) }
+        ensures something { OnErr result (IsTrue (has_body (S.state storage.old) self.old.key)) }
+        ensures kind { IfErr result (λ e. e ≡ OutOfMemory) }
+        ensures table { L.table lock.new ≡ settled Done self.old.held (L.table lock.old) }
+    {
+        let Renewal {
+            updated,
+            released: _,
+        } = self.renew_meta(storage, lock, meta);
+        updated
+    }
+
+    /// What `revalidate_cache_meta` does, with the lock that was released.
+    pub fn renew_meta<L: CacheKeyLock>(
+        &mut self,
+        storage: &mut S,
+        lock: &mut L,
+        meta: CacheMeta,
+    ) -> Renewal
+        requires { MayRevalidate self.old }
+        ensures request { self.new ≡ renewed meta self.old }
+        ensures there { IfOk result.updated (λ b. b ≡ has_body (S.state storage.old) self.old.key) }
+        ensures store { OnOk result.updated (S.state storage.new ≡ with_meta_of (renewed_by meta self.old.meta) self.old.key (S.state storage.old)) }
+        ensures same_store { OnErr result.updated (S.state storage.new ≡ S.state storage.old) }
+        ensures something { OnErr result.updated (IsTrue (has_body (S.state storage.old) self.old.key)) }
+        ensures kind { IfErr result.updated (λ e. e ≡ OutOfMemory) }
+        ensures table { L.table lock.new ≡ settled Done self.old.held (L.table lock.old) }
+        ensures released { result.released ≡ option_map name_of self.old.held }
+    {
+        let Some(key) = &self.key else { unreachable!() };
+        let Some(old) = &self.meta else {
+            unreachable!()
+        };
+        let mut meta = meta;
+        renew(&mut meta, old);
+        let updated = storage.update_meta(self.alloc, key, &meta);
+        self.meta = Some(meta);
+        let released = settle(
+            self.alloc,
+            &self.key,
+            &mut self.held,
+            lock,
+            LockStatus::Done,
+        );
+        self.phase = CachePhase::Revalidated;
+        Renewal { updated, released }
+    }
+    /// The head of the stale response with the fields that an answer renews: Cache-Control, Expires,
+    /// Cache-Tag, CDN-Cache-Control and ETag, each with the answer's values where it has any. It is
+    /// refused for want of memory, or as `InternalError` where the head has no room for another field.
+    pub fn revalidate_merge_header(&self, resp: &RespHeader) -> Result<ResponseHeader>
+        requires { MayRevalidate self.now }
+        ensures ok { IfOk result (λ h. IfSome self.now.meta (λ m. shown h ≡ header_renewed (shown_fields resp.now.headers) m.header)) }
+        ensures kind { IfErr result (λ e. (e ≡ OutOfMemory) ⊎ (e ≡ InternalError)) }
+    {
+        let Some(meta) = &self.meta else {
+            unreachable!()
+        };
+        let mut header = meta.response_header_copy()?;
+        renew_fields(&mut header.headers, &resp.headers)?;
+        Ok(header)
+    }
+}

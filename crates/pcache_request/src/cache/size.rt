@@ -1,0 +1,52 @@
+//! The limit on a body's size.
+use super::HttpCache;
+use pcache_put::max_file_size::MaxFileSizeTracker;
+use pcache_store::storage::Storage;
+
+impl<S: Storage> HttpCache<S> {
+    ghost use Rattle.std.specs.Prelude.{◌≡◌, not, option_map};
+    ghost use Rattle.pcache_request.specs.Phases.{IsOn, WasEnabled};
+    ghost use Rattle.pcache_request.specs.Sizes.{with_limit, limit_of, with_bytes, is_within};
+
+    /// Limits the number of the body's bytes, none of which was counted yet.
+    pub fn set_max_file_size_bytes(&mut self, max_file_size_bytes: usize)
+        requires { IsOn self.old.phase }
+        ensures { self.new ≡ with_limit max_file_size_bytes self.old }
+    {
+        self.size = Some(MaxFileSizeTracker::new(max_file_size_bytes));
+    }
+
+    /// The limit, where there is one.
+    pub fn max_file_size_bytes(&self) -> Option<usize>
+        requires { WasEnabled self.now.phase }
+        ensures { result ≡ option_map limit_of self.now.size }
+    {
+        let size = self.size.as_ref()?;
+        Some(size.max_file_size_bytes())
+    }
+
+    /// Counts so many bytes of the body, up to the largest number there is, and answers whether all
+    /// that were counted are within the limit. Without a limit it counts nothing, and they are. It may
+    /// also be called once caching was turned off.
+    pub fn track_body_bytes_for_max_file_size(&mut self, bytes_len: usize) -> bool
+        requires { WasEnabled self.old.phase }
+        ensures request { self.new ≡ with_bytes bytes_len self.old }
+        ensures within { result ≡ is_within self.new.size }
+    {
+        match &mut self.size {
+            Some(size) => size.add_body_bytes(bytes_len),
+            None => true,
+        }
+    }
+
+    /// Whether the bytes that were counted are more than the limit.
+    pub fn exceeded_max_file_size(&self) -> bool
+        requires { WasEnabled self.now.phase }
+        ensures { result ≡ not (is_within self.now.size) }
+    {
+        match &self.size {
+            Some(size) => !size.allow_caching(),
+            None => false,
+        }
+    }
+}

@@ -1,0 +1,118 @@
+//! Variants of a key: which of them is looked for, and which one is filled.
+ghost use Rattle.std.specs.Prelude.{◌≡◌};
+ghost use Rattle.pcache_request.specs.Variants.{same_variance, meta_varied, key_for_variance, first_variance};
+
+use super::{HttpCache, LockName, settle};
+use crate::phase::CachePhase;
+use pcache_base::key::{CacheKey, HashBinary};
+use pcache_lock::lock::{CacheKeyLock, LockStatus};
+use pcache_meta::meta::CacheMeta;
+use pcache_store::storage::Storage;
+
+// Whether two variances are the same.
+fn is_same(variance: Option<HashBinary>, other: Option<HashBinary>) -> bool
+    ensures { result ≡ same_variance variance other }
+{
+    match (variance, other) {
+        (Some(variance), Some(other)) => variance == other,
+        (None, None) => true,
+        _ => false,
+    }
+}
+
+// The variance of the key, else that of the stale meta.
+fn first_of(variance: Option<HashBinary>, stale: Option<HashBinary>) -> Option<HashBinary>
+    ensures { result ≡ first_variance variance stale }
+{
+    match variance {
+        Some(variance) => Some(variance),
+        None => stale,
+    }
+}
+
+// The key takes the variance, unless it names none and the body that was found is its own.
+fn look_for(key: &mut CacheKey, variance: HashBinary, is_same: bool)
+    ensures { key.new ≡ key_for_variance variance is_same key.old }
+{
+    if !is_same || key.get_variance_key().is_some() {
+        key.set_variance_key(variance);
+    }
+}
+
+// The meta takes the variance; the first of new variants came when it was created.
+fn vary(meta: &mut CacheMeta, variance: Option<HashBinary>, begins_variants: bool)
+    ensures { meta.new ≡ meta_varied variance begins_variants meta.old }
+{
+    match variance {
+        Some(variance) => meta.set_variance(variance),
+        None => meta.remove_variance(),
+    }
+    if begins_variants {
+        meta.reset_provenance_to_created();
+    }
+}
+
+impl<S: Storage> HttpCache<S> {
+    ghost use Rattle.std.specs.Prelude.{◌≡◌, ◌↔◌, IsTrue, Some};
+    ghost use Rattle.pcache_request.specs.Phases.{MayLookUp};
+    ghost use Rattle.pcache_request.specs.Requests.{MayWrite};
+    ghost use Rattle.pcache_request.specs.Variants.{same_variance, looks_for_variance, varied, table_varied, released_by_variance};
+
+    /// Sets the variance that the next look-up looks for, by the meta that was found under the key.
+    /// That look-up hides what was created before the meta's body came. Answers whether the meta is of
+    /// this variance: then, where the key named none, the body is the key's own, and the key names none
+    /// on.
+    pub fn cache_vary_lookup(&mut self, variance: HashBinary, meta: &CacheMeta) -> bool
+        requires { MayLookUp self.old.phase }
+        ensures matches { result ≡ same_variance meta.now.variance (Some variance) }
+        ensures request { self.new ≡ looks_for_variance variance meta.now self.old }
+    {
+        let Some(key) = &mut self.key else {
+            unreachable!()
+        };
+        let matches = is_same(meta.variance(), Some(variance));
+        look_for(key, variance, matches);
+        self.valid_after = Some(meta.provenance());
+        matches
+    }
+
+    /// Sets what the response varies on, before its write begins. A response that is fetched anew with
+    /// another variance than before is the first of its variants, and its body came when it was
+    /// created. A key that names another variance gives it up: the permit is released as done, since it
+    /// was asked for under that variance, and the response will stand under the key itself. Answers the
+    /// lock that was released.
+    pub fn update_variance<L: CacheKeyLock>(
+        &mut self,
+        lock: &mut L,
+        variance: Option<HashBinary>,
+    ) -> Option<LockName>
+        requires { MayWrite self.old }
+        ensures request { self.new ≡ varied variance self.old }
+        ensures table { L.table lock.new ≡ table_varied variance self.old (L.table lock.old) }
+        ensures released { result ≡ released_by_variance variance self.old }
+    {
+        let Some(key) = &self.key else { unreachable!() };
+        let of_key = key.get_variance_key().copied();
+        let is_expired = matches!(self.phase, CachePhase::Expired);
+        let Some(meta) = &mut self.meta else {
+            unreachable!()
+        };
+        let former = first_of(of_key, self.stale_variance);
+        vary(meta, variance, is_expired && !is_same(former, variance));
+        if of_key.is_none() || is_same(of_key, variance) {
+            return None;
+        }
+        let released = settle(
+            self.alloc,
+            &self.key,
+            &mut self.held,
+            lock,
+            LockStatus::Done,
+        );
+        let Some(key) = &mut self.key else {
+            unreachable!()
+        };
+        key.remove_variance_key();
+        released
+    }
+}

@@ -1,0 +1,97 @@
+-- The store after an expiry, and after a revalidation.
+use Rattle.std.proofs.Common.{◌≡◌, ℕ, ◌==◌, Bool, true, false, cond, if◌then◌else◌, Option, None, Some, is_some, List, ◌∷◌, refl, ap, sym, ◌∙◌}
+use Rattle.std.specs.Option.{option_map}
+use Rattle.std.specs.Ordering.{nat_cmp}
+use Rattle.std.specs.FinMap.{FinMap, get, contains_key}
+use Rattle.std.proofs.lemmas.Bool.{eqb-true}
+use Rattle.pcache_meta.specs.Meta.{Meta, expired_at}
+use Rattle.pcache_store.specs.Store.{Store, Slot, Stored, is_fresh_in, is_idle, body_of, with_meta, meta_changed_in, meta_changed_on, meta_changed}
+use Rattle.pingora_cache.specs.declared.world.entry.Event.{Event}
+use Rattle.pingora_cache.specs.declared.world.entry.Event.TheVariants.{Expire, Renew}
+use Rattle.pingora_cache.specs.Events.{complete, is_open}
+use Rattle.pingora_cache.specs.Sound.{IsTidy, IsState}
+use Rattle.pingora_cache.proofs.Steps.{complete-expire, complete-renew, altered_body}
+use Rattle.pingora_cache.proofs.StateSlots.{filled-at}
+use Rattle.pingora_cache.proofs.StateWrites.{get-set}
+
+-- a slot whose body has another meta
+abbrev changed_slot : (Meta → Meta) → Option Slot → Option Slot
+changed_slot f o = option_map (λ x. with_meta f x x.body) o
+
+here-is : (xs : FinMap nat_cmp Slot) (k q : ℕ) (o : Option Slot) → get xs k ≡ o → get xs q ≡ cond (k == q) o (get xs q)
+here-is xs k q o e = elim (k == q) as (λ b. (k == q) ≡ b → get xs q ≡ cond b o (get xs q)) [ true ↦ λ t. ap (get xs) (sym (eqb-true k q t)) ∙ e | false ↦ λ _. refl ] refl
+
+get-changed-in : (f : Meta → Meta) (xs : FinMap nat_cmp Slot) (k q : ℕ) (x : Slot) (b : Option Stored) → get xs k ≡ Some x → get (meta_changed_in f xs k x b) q ≡ cond (k == q) (Some (with_meta f x b)) (get xs q)
+get-changed-in f xs k q x None e = here-is xs k q (Some x) e
+get-changed-in f xs k q x (Some b) e = get-set xs k (with_meta f x (Some b)) q
+
+get-changed-on : (f : Meta → Meta) (xs : FinMap nat_cmp Slot) (k q : ℕ) (o : Option Slot) → get xs k ≡ o → get (meta_changed_on f xs k o) q ≡ cond (k == q) (changed_slot f o) (get xs q)
+get-changed-on f xs k q None e = here-is xs k q None e
+get-changed-on f xs k q (Some x) e = get-changed-in f xs k q x x.body e
+
+get-changed : (f : Meta → Meta) (xs : FinMap nat_cmp Slot) (k q : ℕ) → get (meta_changed_on f xs k (get xs k)) q ≡ cond (k == q) (changed_slot f (get xs k)) (get xs q)
+get-changed f xs k q = get-changed-on f xs k q (get xs k) refl
+
+same-fresh : (f : Meta → Meta) (q : ℕ) (o : Option Slot) → is_fresh_in q (changed_slot f o) ≡ is_fresh_in q o
+same-fresh f q None = refl
+same-fresh f q (Some x) = elim x.body as (λ b. contains_key (with_meta f x b).fresh q ≡ contains_key x.fresh q) [ None ↦ refl | Some b ↦ refl ]
+
+altered-slot : (f : Meta → Meta) (o : Option Slot) → body_of (changed_slot f o) ≡ option_map (altered_body f) (body_of o)
+altered-slot f None = refl
+altered-slot f (Some x) = elim x.body as (λ b. x.body ≡ b → (with_meta f x b).body ≡ option_map (altered_body f) b) [ None ↦ λ e. e | Some b ↦ λ _. refl ] refl
+
+-- a slot that holds something still does
+changed-filled : (f : Meta → Meta) (o : Option Slot) (z : Slot) → ((x : Slot) → o ≡ Some x → is_idle x ≡ false) → changed_slot f o ≡ Some z → is_idle z ≡ false
+changed-filled f None z filled h = cc
+changed-filled f (Some x) z filled h =
+    elim x.body as (λ b. x.body ≡ b → Some (with_meta f x b) ≡ Some z → is_idle z ≡ false) [
+      | None ↦ λ _ e. let same : x ≡ z = cc in ap is_idle (sym same) ∙ filled x refl
+      | Some b ↦ λ _ e. let same : with_meta f x (Some b) ≡ z = cc in ap is_idle (sym same)
+    ] refl h
+
+module _ (es : List Event) (n : ℕ → ℕ) (s : Store) (k : ℕ) (f : Meta → Meta) (st : IsState es n s) where
+  abbrev ys : FinMap nat_cmp Slot
+  ys = meta_changed_on f s.slots k (get s.slots k)
+
+  set : (q : ℕ) → get ys q ≡ cond (k == q) (changed_slot f (get s.slots k)) (get s.slots q)
+  set q = get-changed f s.slots k q
+
+  changed-fresh : (q w : ℕ) → is_fresh_in w (get ys q) ≡ is_open q w es
+  changed-fresh q w =
+      ap (is_fresh_in w) (set q)
+      ∙ elim (k == q) as (λ b. (k == q) ≡ b → is_fresh_in w (cond b (changed_slot f (get s.slots k)) (get s.slots q)) ≡ is_fresh_in w (get s.slots q)) [
+        | true ↦ λ is. same-fresh f w (get s.slots k) ∙ ap (λ j. is_fresh_in w (get s.slots j)) (eqb-true k q is)
+        | false ↦ λ _. refl
+      ] refl
+      ∙ st.fresh q w
+
+  changed-bodies : (q : ℕ) → body_of (get ys q) ≡ (if k == q then option_map (altered_body f) (complete q es) else complete q es)
+  changed-bodies q =
+      ap body_of (set q)
+      ∙ elim (k == q) as (λ b. (k == q) ≡ b → body_of (cond b (changed_slot f (get s.slots k)) (get s.slots q)) ≡ (if b then option_map (altered_body f) (complete q es) else complete q es)) [
+        | true ↦ λ is. altered-slot f (get s.slots k) ∙ ap (option_map (altered_body f)) (ap (λ j. body_of (get s.slots j)) (eqb-true k q is) ∙ st.bodies q)
+        | false ↦ λ _. st.bodies q
+      ] refl
+
+  still-filled : (q : ℕ) (x : Slot) → get ys q ≡ Some x → is_idle x ≡ false
+  still-filled = filled-at s.slots ys k (changed_slot f (get s.slots k)) set (λ z e. changed-filled f (get s.slots k) z (st.filled k) e) st.filled
+
+pub state-expire : (es : List Event) (n : ℕ → ℕ) (s : Store) (k t : ℕ) → IsTidy es → IsState es n s → IsState (Expire k t ∷ es) n (meta_changed (expired_at t) s k)
+state-expire es n s k t tidy st = record {
+  next = st.next;
+  writes = st.writes;
+  fresh = changed-fresh es n s k (expired_at t) st;
+  bodies = λ q. changed-bodies es n s k (expired_at t) st q ∙ sym (complete-expire es k t tidy q);
+  filled = still-filled es n s k (expired_at t) st;
+  known = st.known;
+}
+
+pub state-renew : (es : List Event) (n : ℕ → ℕ) (s : Store) (k : ℕ) (m : Meta) → IsTidy es → IsState es n s → IsState (Renew k m ∷ es) n (meta_changed (λ _. m) s k)
+state-renew es n s k m tidy st = record {
+  next = st.next;
+  writes = st.writes;
+  fresh = changed-fresh es n s k (λ _. m) st;
+  bodies = λ q. changed-bodies es n s k (λ _. m) st q ∙ sym (complete-renew es k m tidy q);
+  filled = still-filled es n s k (λ _. m) st;
+  known = st.known;
+}

@@ -1,0 +1,36 @@
+use Rattle.std.proofs.Common.{Option, Some, refl, sym, ap, subst, ◌∙◌, option_map}
+use Rattle.pcache_meta.specs.Meta.{Meta}
+use Rattle.pcache_request.specs.Requests.{Request}
+use Rattle.pcache_store.specs.Readers.{reader_of}
+use Rattle.pcache_store.specs.Store.{Reader}
+use Rattle.pcache_base.specs.Key.{slot}
+use Rattle.pingora_cache.specs.Held.{Held}
+use Rattle.pingora_cache.specs.Moved.{Moves}
+use Rattle.pingora_cache.proofs.MovesOf.{expires, idle}
+use Rattle.pingora_cache.proofs.Noted.{held_with, expire-store, expire-tracks}
+use Rattle.pingora_cache.proofs.world.remove.expire.Goals as goal
+use Rattle.pingora_cache.proofs.world.remove.expire.Goals.{in-Ok, in-Err}
+
+pub returns-clause-moves : goal.returns-clause-moves
+returns-clause-moves g c =
+    let tracked = g.M.EvictionManager.tracked in
+    let limits = g.M.EvictionManager.limits c.args.parts.now.manager in
+    let s = c.args.parts.now.store in
+    let u = c.expire.new.storage in
+    let m = tracked c.args.parts.now.manager in
+    let n = tracked c.expire.new.eviction in
+    let r : Request = c.request.inside.cache in
+    let pair : Option (Meta × Reader) = option_map (λ p. (p.0, reader_of p.1)) c.request.inside.pair in
+    let events = c.match-expire.events.items in
+    let key = sym c.in-Some.ensures.value in
+    let k = c.in-Some.key.now in
+    subst (λ (x : Held). Moves limits (Some x) s m events (Some (held_with c.request.inside.carried pair c.expire.new.self)) u n) c.request.view_is
+    (subst (λ (y : Request). Moves limits (Some (held_with c.request.inside.carried pair r)) s m events (Some (held_with c.request.inside.carried pair y)) u n) (sym c.expire.ensures.same)
+    (elim c.match-expire.branch [
+      | in-Ok w ↦
+          subst (λ t. Moves limits (Some (held_with c.request.inside.carried pair r)) s m events (Some (held_with c.request.inside.carried pair r)) u t) (sym (expire-tracks s r.uses.eviction r.key m n w.in-Ok.ensures.tracked))
+          (expires (held_with c.request.inside.carried pair r) s u c.slot-slot.result (slot k) c.args.now c.args.events.now.items events c.slot-slot.ensures c.requires.none (ap (λ v. v.items) w.events-is ∙ w.push_reserved.ensures.items) (expire-store s u r.key k c.args.now key w.in-Ok.ensures.store) limits m)
+      | in-Err w ↦
+          subst (λ t. Moves limits (Some (held_with c.request.inside.carried pair r)) s m events (Some (held_with c.request.inside.carried pair r)) u t) (sym w.in-Err.ensures.same_tracked)
+          (idle (Some (held_with c.request.inside.carried pair r)) (Some (held_with c.request.inside.carried pair r)) s u events (ap (λ v. v.items) w.events-is ∙ c.requires.none) refl w.in-Err.ensures.same_store limits m)
+    ]))

@@ -1,0 +1,45 @@
+use Rattle.std.proofs.Common.{Option, Some, refl, sym, ap, subst, ◌∙◌, option_map}
+use Rattle.pcache_meta.specs.Meta.{Meta}
+use Rattle.pcache_request.specs.Requests.{Request}
+use Rattle.pcache_store.specs.Readers.{reader_of}
+use Rattle.pcache_store.specs.Store.{Reader}
+use Rattle.pingora_cache.specs.Held.{Held}
+use Rattle.pingora_cache.specs.Moved.{Moves}
+use Rattle.pingora_cache.proofs.MovesOf.{purges, idle}
+use Rattle.pingora_cache.proofs.Noted.{held_with, goes, purge-events, purge-untracks, purge-store}
+use Rattle.pingora_cache.proofs.Waiting.{purge-locks, no_locks_move}
+use Rattle.pingora_cache.proofs.world.remove.purge.Goals as goal
+use Rattle.pingora_cache.proofs.world.remove.purge.Goals.{in-Ok, in-Err}
+
+pub returns-clause-moves : goal.returns-clause-moves
+returns-clause-moves g c world =
+    let tracked = g.M.EvictionManager.tracked in
+    let limits = g.M.EvictionManager.limits c.args.parts.now.manager in
+    let s = c.args.parts.now.store in
+    let u = c.purge_key.new.storage in
+    let m = tracked c.args.parts.now.manager in
+    let n = tracked c.purge_key.new.eviction in
+    let r : Request = c.request.inside.cache in
+    let pair : Option (Meta × Reader) = option_map (λ p. (p.0, reader_of p.1)) c.request.inside.pair in
+    let events = c.match-purge_key.events.items in
+    let key = sym c.in-Some.ensures.value in
+    let k = c.in-Some.key.now in
+    subst (λ (x : Held). Moves limits (Some x) s m events (Some (held_with c.request.inside.carried pair c.purge_key.new.self)) u n) c.request.view_is
+    (subst (λ (y : Request). Moves limits (Some (held_with c.request.inside.carried pair r)) s m events (Some (held_with c.request.inside.carried pair y)) u n) (sym c.purge_key.ensures.same)
+    (elim c.match-purge_key.branch [
+      | in-Ok w ↦
+          let is = purge-events s r.uses.eviction r.key k key c.slot-slot.result w.in-Ok.removal.outcome w.in-Ok.removal.untracked c.args.events.now.items events c.slot-slot.ensures w.in-Ok.ensures.outcome w.in-Ok.ensures.untracked c.requires.none
+          (ap (λ v. v.items) w.events-is ∙ w.note_removal.ensures.events) in
+          purges (held_with c.request.inside.carried pair r) s u m n limits k (goes s r.uses.eviction r.key k key) events is (purge-store s r.uses.eviction r.key k key u w.in-Ok.ensures.store) (purge-untracks s r.uses.eviction r.key k key m n w.in-Ok.ensures.tracked)
+      | in-Err w ↦
+          subst (λ t. Moves limits (Some (held_with c.request.inside.carried pair r)) s m events (Some (held_with c.request.inside.carried pair r)) u t) (sym w.in-Err.ensures.same_tracked)
+          (idle (Some (held_with c.request.inside.carried pair r)) (Some (held_with c.request.inside.carried pair r)) s u events (ap (λ v. v.items) w.events-is ∙ c.requires.none) refl w.in-Err.ensures.same_store limits m)
+    ]))
+
+pub returns-clause-locks : goal.returns-clause-locks
+returns-clause-locks g c =
+    let events = c.match-purge_key.events.items in
+    elim c.match-purge_key.branch [
+      | in-Ok w ↦ purge-locks c.args.parts.now.lock c.slot-slot.result w.in-Ok.removal.untracked c.args.events.now.items events c.requires.none (ap (λ v. v.items) w.events-is ∙ w.note_removal.ensures.events)
+      | in-Err w ↦ no_locks_move c.args.parts.now.lock c.args.parts.now.lock events (ap (λ v. v.items) w.events-is ∙ c.requires.none) refl
+    ]

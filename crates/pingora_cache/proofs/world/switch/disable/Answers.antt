@@ -1,0 +1,45 @@
+use Rattle.std.proofs.Common.{rules, inl, ◌≡◌, ◌++◌, None, Option, Some, refl, ap, sym, subst, ◌∙◌, option_map}
+use Rattle.pcache_meta.specs.Meta.{Meta}
+use Rattle.pcache_request.specs.Releasing.{MayDisable}
+use Rattle.pcache_request.specs.Requests.{Request, dropped_by, left_by}
+use Rattle.pcache_store.specs.Readers.{reader_of}
+use Rattle.pcache_store.specs.Store.{Reader}
+use Rattle.pingora_cache.specs.Held.{Held}
+use Rattle.pingora_cache.specs.Moved.{MovesStore}
+use Rattle.pingora_cache.specs.Facts.{no_facts}
+use Rattle.pingora_cache.specs.Rules.{Answers, drop_of, each, permit_of, release_of}
+use Rattle.pingora_cache.specs.declared.world.call.Call.TheVariants as calls
+use Rattle.pingora_cache.specs.declared.world.call.Reply.TheVariants as replies
+use Rattle.pingora_cache.specs.declared.world.entry.Event.TheVariants as E
+use Rattle.pingora_cache.specs.Step.{permit_in}
+use Rattle.pingora_cache.proofs.MovesOf.{switches-off}
+use Rattle.pingora_cache.proofs.Noted.{held_with, permit-named}
+use Rattle.pingora_cache.proofs.Waiting.{settle-then, status-reason}
+use Rattle.pingora_cache.proofs.world.switch.disable.Goals as goal
+
+pub returns-clause-moves : goal.returns-clause-moves
+returns-clause-moves c =
+    let pair : Option (Meta × Reader) = option_map (λ p. (p.0, reader_of p.1)) c.request.inside.pair in
+    let now : Option (Meta × Reader) = option_map (λ p. (p.0, reader_of p.1)) c.hold.new.place in
+    let r : Request = c.request.inside.cache in
+    let new : Request = c.disable-released.new.self in
+    let events = c.note_shut.new.events.items in
+    subst (λ (x : Held). MovesStore (Some x) c.args.store.now events (Some (held_with None now new)) c.disable-released.new.storage) c.request.view_is
+    (switches-off (held_with c.request.inside.carried pair r) (held_with None now new) c.args.store.now c.disable-released.new.storage c.write_number-dropped.result c.permit_in.result c.args.events.now.items events
+    c.write_number-dropped.ensures c.requires.none c.note_shut.ensures (ap (option_map (λ p. (p.0, reader_of p.1))) c.hold.ensures.place)
+    c.disable-released.ensures.held.1 c.disable-released.ensures.held.2 (c.disable-released.ensures.store ∙ ap (λ s. left_by r.reader (dropped_by r.write s)) c.hold.ensures.store))
+
+pub returns-clause-answers : goal.returns-clause-answers
+returns-clause-answers c =
+    let r : Request = c.request.inside.cache in
+    let events = c.note_shut.new.events.items in
+    let may : MayDisable c.args.reason r = search rules in
+    let permit : c.permit_in.result ≡ permit_of r.held = c.permit_in.ensures ∙ ap permit_in c.disable-released.ensures.released ∙ permit-named r.held in
+    let is : events ≡ release_of r.held ++ drop_of r.write = c.note_shut.ensures ∙ (λ i. c.requires.none i ++ each E.Release (permit i) ++ drop_of (c.write_number-dropped.ensures i)) in
+    subst (λ (x : Held). Answers no_facts (calls.Disable 0 c.args.reason) (Some x) replies.Done events) c.request.view_is (inl (may, tt, (refl, is)))
+
+pub returns-clause-locks : goal.returns-clause-locks
+returns-clause-locks c =
+    let r : Request = c.request.inside.cache in
+    let permit : c.permit_in.result ≡ permit_of r.held = c.permit_in.ensures ∙ ap permit_in c.disable-released.ensures.released ∙ permit-named r.held in
+    settle-then c.args.lock.now c.disable-released.new.lock _ r.held c.permit_in.result c.write_number-dropped.result c.args.events.now.items c.note_shut.new.events.items (status-reason c.args.reason) permit c.requires.none c.note_shut.ensures c.disable-released.ensures.table

@@ -1,0 +1,8 @@
+//! Eviction managers, and what becomes of them in files.
+
+pub use pcache_evict::eviction::{
+    CacheEntryId, CacheEntryKey, CacheEntryKeyRef, EvictionManager, sharded_lru, simple_lru,
+};
+pub use pcache_files as files;
+pub use pcache_files::device::{CountedRead, CountedWrite};
+pub use pcache_files::saved::SavedManager;

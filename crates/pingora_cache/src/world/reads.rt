@@ -1,0 +1,104 @@
+//! Calls of a request's reader.
+ghost use Rattle.std.specs.Prelude.{◌≡◌, ◌≤◌, ◌⊎◌, IsSome, Some, cond, is_some, []};
+ghost use Rattle.std.specs.Vec.{vec_capacity};
+ghost use Rattle.pcache_base.specs.declared.error.ErrorType.TheVariants.{OutOfMemory};
+ghost use Rattle.pcache_lock.specs.Locks.{no_locks};
+ghost use Rattle.pingora_cache.specs.Due.{KeepsKey};
+ghost use Rattle.pingora_cache.specs.Facts.{facts_in, no_facts};
+ghost use Rattle.pingora_cache.specs.Held.{has_read, on_request, row, sought_in, with_sought};
+ghost use Rattle.pingora_cache.specs.Moved.{MovesRequest, MovesStore};
+ghost use Rattle.pingora_cache.specs.Rules.{Answers, IsOther, read_reply, seek_reply};
+ghost use Rattle.pingora_cache.specs.Waiting.{AreOfNoLock};
+ghost use Rattle.pingora_cache.specs.declared.world.call.Call.TheVariants as calls;
+ghost use Rattle.pingora_cache.specs.declared.world.call.Reply.TheVariants as replies;
+
+use crate::world::call::Reply;
+use crate::world::entry::Event;
+use crate::world::request::OpenRequest;
+use bytes::Bytes;
+use pcache_base::error::ErrorType;
+use pcache_base::poll::Poll;
+use pcache_request::cache::HttpCache;
+use pcache_store::memory::MemCache;
+
+/// Reads on.
+pub(crate) fn read(
+    request: &mut OpenRequest,
+    store: &mut MemCache,
+    events: &mut Vec<Event>,
+) -> Reply
+    requires none { events.old.items ≡ [] }
+    requires room { 3 ≤ vec_capacity events.old }
+    ensures answers { Answers (facts_in store.old (no_locks 0) request.old.request) (calls.Read 0) (Some request.old) result events.new.items }
+    ensures moves { MovesStore (Some request.old) store.old events.new.items (Some request.new) store.new }
+    ensures keeps { KeepsKey (Some request.old) (Some request.new) }
+    ensures row { request.new ≡ on_request (has_read events.new.items) request.old }
+    ensures same { store.new ≡ store.old }
+    ensures quiet { AreOfNoLock events.new.items }
+{
+    if !request.cache.has_body_reader() {
+        return Reply::WrongCall;
+    }
+    let answer = match request.cache.read_body(store) {
+        Ok(answer) => answer,
+        Err(refused) => return Reply::Refused(refused.etype()),
+    };
+    let reply = reply_of(&answer);
+    events.push_reserved(Event::Read { answer });
+    reply
+}
+
+// What a read answers. The bytes went by also where their copy is refused.
+fn reply_of(answer: &Poll<Option<Bytes>>) -> Reply
+    ensures reply { (result ≡ read_reply answer.now) ⊎ (result ≡ replies.Refused OutOfMemory) }
+    ensures other { IsOther result }
+{
+    match answer {
+        Poll::Pending => Reply::Pending,
+        Poll::Ready(None) => Reply::Finished,
+        Poll::Ready(Some(bytes)) => match bytes.clone() {
+            Ok(copy) => Reply::Data(copy),
+            Err(_) => Reply::Refused(ErrorType::OutOfMemory),
+        },
+    }
+}
+
+/// Sends the reader to another range.
+pub(crate) fn seek(request: &mut OpenRequest, start: usize, end: Option<usize>) -> Reply
+    ensures answers { Answers no_facts (calls.Seek 0 start end) (Some request.old) result [] }
+    ensures moves { MovesRequest (Some request.old) (Some request.new) }
+    ensures keeps { KeepsKey (Some request.old) (Some request.new) }
+    ensures row { Some request.new ≡ row (calls.Seek 0 start end) result [] (Some request.old) }
+{
+    if !request.cache.has_body_reader() {
+        return Reply::WrongCall;
+    }
+    seek_in(&mut request.cache, start, end)
+}
+
+fn seek_in(cache: &mut HttpCache<MemCache>, start: usize, end: Option<usize>) -> Reply
+    requires { IsSome cache.old.reader }
+    ensures reply { result ≡ seek_reply (sought_in start end cache.old.reader) }
+    ensures request { cache.new ≡ cond (is_some (sought_in start end cache.old.reader)) (with_sought start end cache.old) cache.old }
+{
+    if let Err(refused) = cache.seek(start, end) {
+        return Reply::Refused(refused.etype());
+    }
+    Reply::Done
+}
+
+/// Ends the reader, also where that is refused.
+pub(crate) fn done(request: &mut OpenRequest, store: &mut MemCache) -> Reply
+    ensures answers { Answers no_facts (calls.Done 0) (Some request.old) result [] }
+    ensures moves { MovesStore (Some request.old) store.old [] (Some request.new) store.new }
+    ensures keeps { KeepsKey (Some request.old) (Some request.new) }
+    ensures row { Some request.new ≡ row (calls.Done 0) result [] (Some request.old) }
+{
+    if !request.cache.phase().may_finish_hit() {
+        return Reply::WrongCall;
+    }
+    match request.cache.finish_hit_handler(store) {
+        Ok(()) => Reply::Done,
+        Err(refused) => Reply::Refused(refused.etype()),
+    }
+}

@@ -1,0 +1,116 @@
+//! Calls that remove or expire what stands under a request's key.
+ghost use Rattle.std.specs.Prelude.{◌≡◌, ◌+◌, ◌≤◌, ◌∷◌, ◌++◌, Some, [], vec_len};
+ghost use Rattle.std.specs.Vec.{vec_capacity};
+ghost use Rattle.pcache_request.specs.Requests.{is_removed_by};
+ghost use Rattle.pingora_cache.specs.Due.{IsOfWorld, KeepsKey};
+ghost use Rattle.pingora_cache.specs.Facts.{facts_in};
+ghost use Rattle.pingora_cache.specs.Moved.{Moves};
+ghost use Rattle.pingora_cache.specs.Rules.{Answers, expire_reply, purge_reply};
+ghost use Rattle.pingora_cache.specs.Step.{untracking};
+ghost use Rattle.pingora_cache.specs.Waiting.{MovesLocks};
+ghost use Rattle.pingora_cache.specs.declared.world.call.Call.TheVariants as calls;
+ghost use Rattle.pingora_cache.specs.declared.world.entry.Event.TheVariants.{Purge};
+
+use crate::world::call::Reply;
+use crate::world::entry::Event;
+use crate::world::parts::Parts;
+use crate::world::request::OpenRequest;
+use pcache_base::key::CacheHashKey;
+use pcache_base::moment::Moment;
+use pcache_evict::eviction::EvictionManager;
+use pcache_request::cache::Removal;
+
+/// Removes what stands under the request's key.
+pub(crate) fn purge<M: EvictionManager>(
+    request: &mut OpenRequest,
+    parts: &mut Parts<M>,
+    events: &mut Vec<Event>,
+) -> Reply
+    requires none { events.old.items ≡ [] }
+    requires room { 3 ≤ vec_capacity events.old }
+    ensures answers { Answers (facts_in parts.old.store parts.old.lock request.old.request) (calls.Purge 0) (Some request.old) result events.new.items }
+    ensures moves { IsOfWorld request.old.request → Moves (M.limits parts.old.manager) (Some request.old) parts.old.store (M.tracked parts.old.manager) events.new.items (Some request.new) parts.new.store (M.tracked parts.new.manager) }
+    ensures keeps { KeepsKey (Some request.old) (Some request.new) }
+    ensures same { request.new ≡ request.old }
+    ensures locks { MovesLocks parts.old.lock events.new.items parts.new.lock }
+    ensures limits { M.limits parts.new.manager ≡ M.limits parts.old.manager }
+{
+    if !request.cache.phase().may_purge() {
+        return Reply::WrongCall;
+    }
+    let Some(key) = request.cache.key() else {
+        unreachable!()
+    };
+    let slot = key.slot();
+    match request
+        .cache
+        .purge_key(&mut parts.store, &mut parts.manager)
+    {
+        Ok(removal) => note_removal(slot, removal, events),
+        Err(refused) => Reply::Refused(refused.etype()),
+    }
+}
+
+// Notes that a key was purged, and the entry that was taken out of the manager with it.
+fn note_removal(slot: u128, removal: Removal, events: &mut Vec<Event>) -> Reply
+    requires { vec_len events.old + 2 ≤ vec_capacity events.old }
+    ensures reply { result ≡ purge_reply (is_removed_by removal.outcome) }
+    ensures events { events.new.items ≡ events.old.items ++ Purge slot ∷ untracking removal.untracked }
+{
+    let was_there = removal.was_there();
+    events.push_reserved(Event::Purge { slot });
+    if let Some(entry) = removal.untracked {
+        events.push_reserved(Event::Untrack { entry });
+    }
+    if was_there {
+        Reply::Purged
+    } else {
+        Reply::Absent
+    }
+}
+
+/// Ends the freshness of what stands under the request's key.
+pub(crate) fn expire<M: EvictionManager>(
+    request: &mut OpenRequest,
+    parts: &mut Parts<M>,
+    events: &mut Vec<Event>,
+    now: Moment,
+) -> Reply
+    requires none { events.old.items ≡ [] }
+    requires room { 3 ≤ vec_capacity events.old }
+    ensures answers { Answers (facts_in parts.old.store parts.old.lock request.old.request) (calls.Expire 0 now) (Some request.old) result events.new.items }
+    ensures moves { Moves (M.limits parts.old.manager) (Some request.old) parts.old.store (M.tracked parts.old.manager) events.new.items (Some request.new) parts.new.store (M.tracked parts.new.manager) }
+    ensures keeps { KeepsKey (Some request.old) (Some request.new) }
+    ensures same { request.new ≡ request.old }
+    ensures locks { MovesLocks parts.old.lock events.new.items parts.new.lock }
+    ensures limits { M.limits parts.new.manager ≡ M.limits parts.old.manager }
+{
+    if !request.cache.phase().may_purge() {
+        return Reply::WrongCall;
+    }
+    let Some(key) = request.cache.key() else {
+        unreachable!()
+    };
+    let slot = key.slot();
+    match request
+        .cache
+        .expire(&mut parts.store, &mut parts.manager, now)
+    {
+        Ok(was_there) => {
+            events.push_reserved(Event::Expire { slot, now });
+            reply_of(was_there)
+        }
+        Err(refused) => Reply::Refused(refused.etype()),
+    }
+}
+
+// What an expiry answers.
+fn reply_of(was_there: bool) -> Reply
+    ensures { result ≡ expire_reply was_there }
+{
+    if was_there {
+        Reply::Expired
+    } else {
+        Reply::Absent
+    }
+}

@@ -1,0 +1,59 @@
+//! Calls that turn caching on and off.
+ghost use Rattle.std.specs.Prelude.{◌≡◌, ◌≤◌, Some, []};
+ghost use Rattle.std.specs.Vec.{vec_capacity};
+ghost use Rattle.pingora_cache.specs.Due.{KeepsKey};
+ghost use Rattle.pingora_cache.specs.Facts.{no_facts};
+ghost use Rattle.pingora_cache.specs.Held.{row};
+ghost use Rattle.pingora_cache.specs.Moved.{MovesRequest, MovesStore};
+ghost use Rattle.pingora_cache.specs.Rules.{Answers};
+ghost use Rattle.pingora_cache.specs.Waiting.{MovesLocks};
+ghost use Rattle.pingora_cache.specs.declared.world.call.Call.TheVariants as calls;
+
+use crate::world::call::Reply;
+use crate::world::entry::Event;
+use crate::world::notes::note_shut;
+use crate::world::request::{OpenRequest, hold, permit_in, world_use, write_number};
+use pcache_base::reason::NoCacheReason;
+use pcache_lock::lock::CacheLock;
+use pcache_store::memory::MemCache;
+
+/// Turns caching on again.
+pub(crate) fn enable(request: &mut OpenRequest) -> Reply
+    ensures answers { Answers no_facts (calls.Enable 0) (Some request.old) result [] }
+    ensures moves { MovesRequest (Some request.old) (Some request.new) }
+    ensures keeps { KeepsKey (Some request.old) (Some request.new) }
+    ensures row { Some request.new ≡ row (calls.Enable 0) result [] (Some request.old) }
+{
+    if !request.cache.phase().is_disabled() {
+        return Reply::WrongCall;
+    }
+    request.cache.enable(world_use());
+    Reply::Done
+}
+
+/// Turns caching off, and gives back what is held.
+pub(crate) fn disable(
+    request: &mut OpenRequest,
+    store: &mut MemCache,
+    lock: &mut CacheLock,
+    events: &mut Vec<Event>,
+    reason: NoCacheReason,
+) -> Reply
+    requires none { events.old.items ≡ [] }
+    requires room { 3 ≤ vec_capacity events.old }
+    ensures answers { Answers no_facts (calls.Disable 0 reason) (Some request.old) result events.new.items }
+    ensures moves { MovesStore (Some request.old) store.old events.new.items (Some request.new) store.new }
+    ensures keeps { KeepsKey (Some request.old) (Some request.new) }
+    ensures row { Some request.new ≡ row (calls.Disable 0 reason) result events.new.items (Some request.old) }
+    ensures locks { MovesLocks lock.old events.new.items lock.new }
+{
+    if !request.cache.may_disable(reason) {
+        return Reply::WrongCall;
+    }
+    hold(&mut request.pair, None, store);
+    request.carried = None;
+    let dropped = write_number(&request.cache);
+    let released = request.cache.disable(store, lock, reason);
+    note_shut(permit_in(released), dropped, events);
+    Reply::Done
+}

@@ -1,0 +1,170 @@
+//! Calls about the variants of a key, and the meta of a stale body that is good.
+ghost use Rattle.std.specs.Prelude.{◌≡◌, ◌+◌, ◌≤◌, ◌++◌, [], IfOk, IfErr, Option, Some, vec_len};
+ghost use Rattle.std.specs.Vec.{vec_capacity};
+ghost use Rattle.pcache_base.specs.declared.error.ErrorType.TheVariants.{OutOfMemory};
+ghost use Rattle.pingora_cache.specs.Due.{KeepsKey};
+ghost use Rattle.pingora_cache.specs.Facts.{facts_in, no_facts};
+ghost use Rattle.pingora_cache.specs.Held.{row};
+ghost use Rattle.pingora_cache.specs.Moved.{MovesRequest, MovesStore};
+ghost use Rattle.pingora_cache.specs.Rules.{Answers, IsOther, Renews};
+ghost use Rattle.pingora_cache.specs.Step.{renewal_reply, renewing, spare_of};
+ghost use Rattle.pingora_cache.specs.Waiting.{MovesLocks};
+ghost use Rattle.pingora_cache.specs.declared.world.call.Call.TheVariants as calls;
+ghost use Rattle.pcache_meta.specs.Meta.{Meta};
+ghost use Rattle.pcache_predict.specs.declared.admission.Decision.{Decision};
+ghost use Rattle.pcache_request.specs.Renewals.{renewed};
+ghost use Rattle.pcache_request.specs.Stale.{MayRevalidate};
+ghost use Rattle.pcache_store.specs.Store.{Reader, Store};
+
+use crate::world::call::{Call, Reply};
+use crate::world::entry::Event;
+use crate::world::notes::note_release;
+use crate::world::request::{OpenRequest, permit_in};
+use pcache_base::error::Result;
+use pcache_base::key::{CacheHashKey, HashBinary};
+use pcache_lock::lock::CacheLock;
+use pcache_meta::meta::CacheMeta;
+use pcache_request::cache::{HttpCache, Renewal};
+use pcache_store::memory::MemCache;
+
+/// Has the next look-up look for a variance.
+pub(crate) fn vary(request: &mut OpenRequest, variance: HashBinary) -> Reply
+    ensures answers { Answers no_facts (calls.Vary 0 variance) (Some request.old) result [] }
+    ensures moves { MovesRequest (Some request.old) (Some request.new) }
+    ensures keeps { KeepsKey (Some request.old) (Some request.new) }
+    ensures row { Some request.new ≡ row (calls.Vary 0 variance) result [] (Some request.old) }
+{
+    if !request.cache.phase().may_look_up() {
+        return Reply::WrongCall;
+    }
+    let Some((meta, _hit)) = &request.pair else {
+        return Reply::WrongCall;
+    };
+    if request.cache.cache_vary_lookup(variance, meta) {
+        Reply::Same
+    } else {
+        Reply::Other
+    }
+}
+
+/// Sets what the response varies on.
+pub(crate) fn variance(
+    request: &mut OpenRequest,
+    lock: &mut CacheLock,
+    events: &mut Vec<Event>,
+    variance: Option<HashBinary>,
+) -> Reply
+    requires none { events.old.items ≡ [] }
+    requires room { 3 ≤ vec_capacity events.old }
+    ensures answers { Answers no_facts (calls.Variance 0 variance) (Some request.old) result events.new.items }
+    ensures moves { (s : Store) → MovesStore (Some request.old) s events.new.items (Some request.new) s }
+    ensures keeps { KeepsKey (Some request.old) (Some request.new) }
+    ensures row { Some request.new ≡ row (calls.Variance 0 variance) result events.new.items (Some request.old) }
+    ensures locks { MovesLocks lock.old events.new.items lock.new }
+{
+    if !request.cache.may_write() {
+        return Reply::WrongCall;
+    }
+    let released = request.cache.update_variance(lock, variance);
+    note_release(permit_in(released), events);
+    Reply::Done
+}
+
+/// Copies of what a call brings that it hands on: the meta of a revalidation, for the request and for
+/// what is noted.
+pub(crate) type Spare = (CacheMeta, CacheMeta);
+
+/// The copies that a call needs. They are made before it, since it is not to be refused half way.
+pub(crate) fn spare_of(call: &Call) -> Result<Option<Spare>>
+    ensures ok { IfOk result (λ spare. spare ≡ spare_of call.now) }
+    ensures kind { IfErr result (λ e. e ≡ OutOfMemory) }
+{
+    match call {
+        Call::Revalidate { request: _, meta } => Ok(Some((meta.copied()?, meta.copied()?))),
+        _ => Ok(None),
+    }
+}
+
+/// Takes the meta of an answer that says that the stale body is good.
+pub(crate) fn revalidate(
+    request: &mut OpenRequest,
+    store: &mut MemCache,
+    lock: &mut CacheLock,
+    events: &mut Vec<Event>,
+    meta: &CacheMeta,
+    spare: &mut Option<Spare>,
+) -> Reply
+    requires spare { spare.old ≡ Some (meta.now, meta.now) }
+    requires none { events.old.items ≡ [] }
+    requires room { 3 ≤ vec_capacity events.old }
+    ensures answers { Answers (facts_in store.old lock.old request.old.request) (calls.Revalidate 0 meta.now) (Some request.old) result events.new.items }
+    ensures moves { MovesStore (Some request.old) store.old events.new.items (Some request.new) store.new }
+    ensures keeps { KeepsKey (Some request.old) (Some request.new) }
+    ensures row { Some request.new ≡ row (calls.Revalidate 0 meta.now) result events.new.items (Some request.old) }
+    ensures locks { MovesLocks lock.old events.new.items lock.new }
+{
+    if !request.cache.may_revalidate() {
+        return Reply::WrongCall;
+    }
+    let Some((own, noted)) = spare.take() else {
+        unreachable!()
+    };
+    renew(&mut request.cache, store, lock, events, own, noted)
+}
+
+// Takes the new meta, of which one copy is for the request and one for what is noted.
+fn renew(
+    cache: &mut HttpCache<MemCache>,
+    store: &mut MemCache,
+    lock: &mut CacheLock,
+    events: &mut Vec<Event>,
+    meta: CacheMeta,
+    mut noted: CacheMeta,
+) -> Reply
+    requires may { MayRevalidate cache.old }
+    requires same { noted ≡ meta }
+    requires none { events.old.items ≡ [] }
+    requires room { 3 ≤ vec_capacity events.old }
+    ensures answers { Renews (facts_in store.old lock.old cache.old) meta cache.old result events.new.items }
+    ensures other { IsOther result }
+    ensures request { cache.new ≡ renewed meta cache.old }
+    ensures moves { (p : Option (Meta × Reader)) (d : Option Decision) → MovesStore (Some (record { request = cache.old; pair = p; carried = d })) store.old events.new.items (Some (record { request = cache.new; pair = p; carried = d })) store.new }
+    ensures locks { MovesLocks lock.old events.new.items lock.new }
+{
+    let Some(key) = cache.key() else {
+        unreachable!()
+    };
+    let Some(old) = cache.meta() else {
+        unreachable!()
+    };
+    let slot = key.slot();
+    noted.set_provenance(old.provenance());
+    noted.set_created(old.created());
+    let Renewal { updated, released } = cache.renew_meta(store, lock, meta);
+    let reply = note_renewal(slot, noted, updated, events);
+    note_release(permit_in(released), events);
+    reply
+}
+
+// Notes the new meta, where the store set it.
+fn note_renewal(
+    slot: u128,
+    meta: CacheMeta,
+    updated: Result<bool>,
+    events: &mut Vec<Event>,
+) -> Reply
+    requires { vec_len events.old + 1 ≤ vec_capacity events.old }
+    ensures events { events.new.items ≡ events.old.items ++ renewing slot meta updated }
+    ensures reply { result ≡ renewal_reply updated }
+    ensures len { vec_len events.new ≤ vec_len events.old + 1 }
+    ensures room { vec_capacity events.new ≡ vec_capacity events.old }
+{
+    match updated {
+        Ok(true) => {
+            events.push_reserved(Event::Renew { slot, meta });
+            Reply::Updated
+        }
+        Ok(false) => Reply::NotUpdated,
+        Err(refused) => Reply::Refused(refused.etype()),
+    }
+}

@@ -1,0 +1,193 @@
+use crate::parts::{AA, aa, answered, holds, key, letter, node, with_aa, with_z};
+use pcache_base::error::Result;
+use pcache_evict::eviction::{CacheEntryId, sharded_lru, simple_lru};
+use pcache_files::sharded_lru::{deserialize_shard, serialize_shard};
+use pcache_files::simple_lru::{deserialize, serialize};
+use std::alloc::Global;
+use std::process::Abort;
+use std::test::*;
+
+// Whether loading these bytes into a manager with `z` answers this and leaves this list.
+fn loads(alloc: Global, bytes: &[u8], answer: &str, wanted: &str) -> Result<bool> {
+    let mut manager = with_z(alloc)?;
+    let result = deserialize(alloc, &mut manager, bytes);
+    Ok(answered(&result) == answer && holds(alloc, &manager, wanted)?)
+}
+
+// Whether loading these bytes into a shard with `z` answers this and leaves this list.
+fn shard_loads(alloc: Global, bytes: &[u8], answer: &str, wanted: &str) -> Result<bool> {
+    let mut manager = sharded_lru::Manager::<1>::with_capacity(alloc, 4, 1)?;
+    let mut before = Vec::new(alloc);
+    before.push((letter(alloc, b'z', None)?, 1))?;
+    manager.load_entries(before)?;
+    let result = deserialize_shard(alloc, &mut manager, bytes);
+    Ok(answered(&result) == answer && holds(alloc, &manager, wanted)?)
+}
+
+// A file of nodes of these letters and weights.
+fn file(alloc: Global, nodes: &[(u8, u8)]) -> Result<Vec<u8>> {
+    let mut out = Vec::new(alloc);
+    out.push(0x90 | (nodes.len() & 0xF) as u8)?;
+    for (name, weight) in nodes {
+        node(&mut out, *name, *weight)?;
+    }
+    Ok(out)
+}
+
+fn both(alloc: Global, nodes: &[(u8, u8)], one_list: &str, shards: &str) -> Result<bool> {
+    let bytes = file(alloc, nodes)?;
+    Ok(loads(alloc, &bytes, "ok", one_list)? && shard_loads(alloc, &bytes, "ok", shards)?)
+}
+
+fn refused(alloc: Global, bytes: &[u8]) -> Result<bool> {
+    Ok(
+        loads(alloc, bytes, "InternalError", " z1")?
+            && shard_loads(alloc, bytes, "InternalError", " z1")?,
+    )
+}
+
+#[test]
+fn one_entry_both_ways(rt: HostRuntime) -> std::result::Result<(), Fail> {
+    let alloc = rt.alloc();
+    let is_written = written(alloc)?;
+    assert!(rt; is_written);
+    let is_read = loads(alloc, &AA, "ok", " z1 \u{ac}9")?;
+    assert!(rt; is_read);
+    Ok(())
+}
+
+// Whether both managers write the file of `aa`, and one that loads it holds it.
+fn written(alloc: Global) -> Result<bool> {
+    let bytes = serialize(alloc, &with_aa(alloc)?)?;
+    let mut entries = Vec::new(alloc);
+    entries.push((aa(alloc)?, 9))?;
+    let mut shards = sharded_lru::Manager::<1>::with_capacity(alloc, 9, 1)?;
+    shards.load_entries(entries)?;
+    let shard = serialize_shard(alloc, &shards, 0)?;
+    let mut loaded = simple_lru::Manager::new(alloc, 4)?;
+    deserialize(alloc, &mut loaded, &bytes)?;
+    Ok(
+        bytes.as_slice() == AA.as_slice()
+            && shard.as_slice() == AA.as_slice()
+            && loaded.peek(&aa(alloc)?)
+            && loaded.total_size() == 9,
+    )
+}
+
+#[test]
+fn each_beginning_is_refused(rt: HostRuntime) -> std::result::Result<(), Fail> {
+    let alloc = rt.alloc();
+    for len in 0..34 {
+        let is_refused = refused(alloc, &AA[..len])?;
+        assert!(rt; is_refused, "{len}");
+    }
+    Ok(())
+}
+
+#[test]
+fn lists_are_loaded_as_the_moves_say(rt: HostRuntime) -> std::result::Result<(), Fail> {
+    let alloc = rt.alloc();
+    let rows = [
+        both(alloc, &[], " z1", " z1")?,
+        both(alloc, &[(b'a', 3)], " z1 a3", " z1 a3")?,
+        both(alloc, &[(b'a', 3), (b'b', 2)], " z1 a3 b2", " z1 a3 b2")?,
+        both(alloc, &[(b'a', 9), (b'a', 3)], " a3 z1", " z1 a9")?,
+        both(alloc, &[(b'z', 5), (b'b', 2)], " z5 b2", " z1 b2")?,
+    ];
+    assert!(rt; rows.iter().all(|row| *row));
+    Ok(())
+}
+
+// A file with these bytes in the place of an entry and its weight.
+fn other(alloc: Global, front: &[u8], with_key: bool, back: &[u8]) -> Result<Vec<u8>> {
+    let mut out = Vec::new(alloc);
+    out.extend_from_slice(front)?;
+    if with_key {
+        key(&mut out, b'a')?;
+    }
+    out.extend_from_slice(back)?;
+    Ok(out)
+}
+
+fn other_loads(alloc: Global, front: &[u8], back: &[u8], wanted: &str) -> Result<bool> {
+    let bytes = other(alloc, front, true, back)?;
+    loads(alloc, &bytes, "ok", wanted)
+}
+
+fn other_refused(alloc: Global, front: &[u8], with_key: bool, back: &[u8]) -> Result<bool> {
+    let bytes = other(alloc, front, with_key, back)?;
+    refused(alloc, &bytes)
+}
+
+#[test]
+fn other_forms_are_read(rt: HostRuntime) -> std::result::Result<(), Fail> {
+    let alloc = rt.alloc();
+    let rows = [
+        // a number, nil, wider forms
+        other_loads(alloc, &[0x91, 0x92, 0x92], &[7, 3], " z1 a#7=3")?,
+        other_loads(alloc, &[0x91, 0x92, 0x92], &[0xC0, 3], " z1 a3")?,
+        other_loads(
+            alloc,
+            &[0xDD, 0, 0, 0, 1, 0xDC, 0, 2],
+            &[0xCD, 0, 3],
+            " z1 a3",
+        )?,
+        other_loads(
+            alloc,
+            &[0x91, 0x92],
+            &[0xCF, 0, 0, 0, 0, 0, 0, 0, 3],
+            " z1 a3",
+        )?,
+    ];
+    assert!(rt; rows.iter().all(|row| *row));
+    Ok(())
+}
+
+#[test]
+fn other_bytes_are_refused(rt: HostRuntime) -> std::result::Result<(), Fail> {
+    let alloc = rt.alloc();
+    let rows = [
+        // no room is made for a number of nodes that is only stated
+        other_refused(alloc, &[0xDD, 0xFF, 0xFF, 0xFF, 0xFF], false, &[])?,
+        // no number, another number of items, a byte behind
+        other_refused(alloc, &[0x91, 0x92], true, &[0xFF])?,
+        other_refused(alloc, &[0x91, 0x92, 0x92], true, &[0xFF, 3])?,
+        other_refused(alloc, &[0x91, 0x93], true, &[3])?,
+        other_refused(alloc, &[0x91, 0x92, 0x91], true, &[3])?,
+        other_refused(alloc, &[0x91, 0x92], true, &[3, 0])?,
+        other_refused(alloc, &[0x90, 0x00], false, &[])?,
+        // the first node is good
+        other_refused(alloc, &[0x92, 0x92], true, &[3, 0xFF])?,
+        // a tag that is not UTF-8
+        tag_refused(alloc)?,
+    ];
+    assert!(rt; rows.iter().all(|row| *row));
+    Ok(())
+}
+
+fn tag_refused(alloc: Global) -> Result<bool> {
+    let mut bytes = other(alloc, &[0x91, 0x92], true, &[3])?;
+    if let Some(tag) = bytes.get_mut(24) {
+        *tag = 0xFF;
+    }
+    refused(alloc, &bytes)
+}
+
+#[test]
+fn numbers_are_written(rt: HostRuntime) -> std::result::Result<(), Fail> {
+    let alloc = rt.alloc();
+    let is_written = numbered(alloc)?;
+    assert!(rt; is_written);
+    Ok(())
+}
+
+// Whether an entry with a number is written as a key and that number, most recent first.
+fn numbered(alloc: Global) -> Result<bool> {
+    let mut manager = simple_lru::Manager::new(alloc, 9)?;
+    manager.load_entry(letter(alloc, b'a', Some(CacheEntryId::new(255)))?, 3)?;
+    manager.load_entry(letter(alloc, b'b', None)?, 2)?;
+    let bytes = serialize(alloc, &manager)?;
+    let mut wanted = other(alloc, &[0x92, 0x92, 0x92], true, &[0xCC, 0xFF, 3])?;
+    node(&mut wanted, b'b', 2)?;
+    Ok(bytes.as_slice() == wanted.as_slice())
+}

@@ -1,0 +1,12 @@
+#![tactic(auto)]
+//! Tests of the files of eviction managers: their bytes, devices that fail, and folders.
+//! They stand apart from the library, which is so proved once.
+
+#[cfg(test)]
+mod bytes;
+#[cfg(test)]
+mod devices;
+#[cfg(test)]
+mod folders;
+#[cfg(test)]
+mod parts;
