@@ -1,6 +1,6 @@
 use Rattle.std.proofs.Common.{sym, ◌∙◌}
 use Rattle.pcache_store.proofs.Writes.{landed_there, landed_gone}
-use Rattle.pcache_store.proofs.memory.drafts.land_in.Goals as goal
+use Rattle.pcache_store.proofs.memory.draft_table.land_in.Goals as goal
 
 pub returns-then-is_named : goal.returns-then-is_named
 returns-then-is_named c =

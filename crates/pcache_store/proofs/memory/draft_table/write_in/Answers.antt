@@ -1,6 +1,6 @@
 use Rattle.std.proofs.lemmas.Result.{on_ok_weaker, on_err_weaker}
 use Rattle.pcache_store.proofs.Writes.{wrote_there, same_there}
-use Rattle.pcache_store.proofs.memory.drafts.write_in.Goals as goal
+use Rattle.pcache_store.proofs.memory.draft_table.write_in.Goals as goal
 
 pub returns-clause-ok : goal.returns-clause-ok
 returns-clause-ok c =

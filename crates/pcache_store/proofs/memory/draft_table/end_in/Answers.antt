@@ -2,7 +2,7 @@ use Rattle.std.proofs.Common.{sym, ap, ◌∙◌}
 use Rattle.std.proofs.lemmas.Result.{IfOk-weaker}
 use Rattle.pcache_store.proofs.Writes.{landed_there, landed_gone, landed_body, not_lost}
 use Rattle.pcache_store.specs.Store.{is_named}
-use Rattle.pcache_store.proofs.memory.drafts.end_in.Goals as goal
+use Rattle.pcache_store.proofs.memory.draft_table.end_in.Goals as goal
 
 pub returns-then-is_named-clause-gone : goal.returns-then-is_named-clause-gone
 returns-then-is_named-clause-gone c =

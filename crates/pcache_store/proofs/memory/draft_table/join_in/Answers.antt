@@ -1,5 +1,5 @@
 use Rattle.pcache_store.proofs.Writes.{joined_there, same_there}
-use Rattle.pcache_store.proofs.memory.drafts.join_in.Goals as goal
+use Rattle.pcache_store.proofs.memory.draft_table.join_in.Goals as goal
 
 pub returns-in-Ok-clause-ok : goal.returns-in-Ok-clause-ok
 returns-in-Ok-clause-ok c =
