@@ -1,7 +1,6 @@
 -- How a state and a buffer follow a message as it grows.
-use Rattle.std.proofs.Common.{◌≡◌, ℕ, zero, suc, ◌+◌, ◌-◌, ◌*◌, ◌/◌, ◌%◌, ◌^◌, ◌<◌, ◌≤◌, Bool, true, false, List, [], ◌∷◌, ◌++◌, length, take, drop, replicate, slice_index, refl, sym, ap, ◌∙◌, arith, append_assoc, length-append, length-drop, add-one}
+use Rattle.std.proofs.Common.{◌≡◌, ℕ, zero, suc, ◌+◌, ◌-◌, ◌*◌, ◌/◌, ◌%◌, ◌^◌, ◌<◌, ◌≤◌, Bool, true, false, List, [], ◌∷◌, ◌++◌, length, take, drop, replicate, slice_index, refl, sym, ap, ◌∙◌, arith, length-append, length-drop, add-one}
 use Rattle.std.proofs.lemmas.List.{take-append-le, drop-append-le, take_all, drop_all, append-nil, drop-take, take-take, take-append-drop, length-take-le}
-use Rattle.std.proofs.Math.Seq.{take-add}
 use Rattle.std.proofs.lemmas.Slice.{take-put_mid}
 use borrow.Rule.Slice.PartMut.{put_mid, post_of}
 use Rattle.pcache_base.specs.Blake2b.{blocks_before_last, compress, final_state, first_words, padded, state_after, state_bytes, word_at}
@@ -65,6 +64,11 @@ HasRoom_flushed s r m held full len er eb eu ec =
     let absorbed : IsAbsorbed s.state s.buffer 128 n m = used_at s.state s.buffer s.used 128 n m full held.1 in
     (ec ∙ held.0, n + 1, rw (er, eb, eu) (IsAbsorbed_flushed s.state s.buffer n s.count m absorbed len held.0))
 
+-- a buffer that is not full stays
+pub HasRoom_kept : (s : Hasher) (m : List ℕ) → Holds s m → HasRoomAfter s m
+unfolding Holds HasRoomAfter
+HasRoom_kept s m held = (held.0, blocks_before_last m, held.1)
+
 -- bytes behind what the buffer has
 IsAbsorbed_grown : (h b c d : List ℕ) (used n : ℕ) (m : List ℕ) → IsAbsorbed h b used n m
     → take (used + length d) c ≡ take used b ++ d → IsAbsorbed h c (used + length d) n (m ++ d)
@@ -73,27 +77,6 @@ IsAbsorbed_grown h b c d used n m held e = record {
   size = omega (arith, length-append m d, held.size);
   rest = e ∙ rw held.rest (sym (drop-append-le (128 * n) m d (omega (arith, held.size))));
 }
-
--- a block is taken in past the buffer, which is empty
-IsAbsorbed_past : (h b c d : List ℕ) (n count : ℕ) (m : List ℕ) → IsAbsorbed h b 0 n m → length d ≡ 128 → count ≡ length (m ++ d) % 2 ^ 128
-    → IsAbsorbed (compress h d count false) c 0 (n + 1) (m ++ d)
-IsAbsorbed_past h b c d n count m held full counted =
-    let grown : IsAbsorbed h d (0 + length d) n (m ++ d) = IsAbsorbed_grown h b d d 0 n m held (take_all (0 + length d) d (omega arith)) in
-    let flushed = IsAbsorbed_flushed h d n count (m ++ d) (used_at h d (0 + length d) 128 n (m ++ d) (let all : 0 + length d ≡ 128 = omega (arith, full) in all) grown) full counted in
-    record { state = flushed.state; size = flushed.size; rest = flushed.rest }
-
-pub HasRoom_past : (s r : Hasher) (m d : List ℕ) → HasRoomAfter s m → s.used ≡ 0 → length d ≡ 128
-    → r.state ≡ compress s.state d r.count false → r.used ≡ 0 → r.count ≡ (s.count + 128) % 2 ^ 128 → HasRoomAfter r (m ++ d)
-unfolding HasRoomAfter
-HasRoom_past s r m d held empty full er eu ec =
-    let counted : r.count ≡ length (m ++ d) % 2 ^ 128 = count_append s.count r.count m d held.0 (ec ∙ ap (λ n. (s.count + n) % 2 ^ 128) (sym full)) in
-    let past = IsAbsorbed_past s.state s.buffer r.buffer d held.1 r.count m (used_at s.state s.buffer s.used 0 held.1 m empty held.2) full counted in
-    (counted, held.1 + 1, rw (er, eu) past)
-
--- a buffer that is not full stays
-pub HasRoom_kept : (s : Hasher) (m : List ℕ) → Holds s m → HasRoomAfter s m
-unfolding Holds HasRoomAfter
-HasRoom_kept s m held = (held.0, blocks_before_last m, held.1)
 
 -- what the filling of the buffer leaves
 pub Holds_filled : (s r : Hasher) (m d ys : List ℕ) (j : ℕ) → HasRoomAfter s m → length s.buffer ≡ 128 → s.used + length d ≤ 128
@@ -132,12 +115,6 @@ take_piece xs a b le =
     let whole : take a (take b xs) ++ drop a (take b xs) ≡ take b xs = take-append-drop a (take b xs) in
     let back : drop a (take (a + (b - a)) xs) ≡ take (b - a) (drop a xs) = drop-take a (b - a) xs in
     sym whole ∙ rw (take-take a b xs le) (ap (λ (z : List ℕ). take a xs ++ z) (rw e at back))
-
--- the first bytes of what is left, behind those before
-pub piece_more : (m xs : List ℕ) (a r : ℕ) → (m ++ take a xs) ++ take r (take (length xs - a) (drop a xs)) ≡ m ++ take (a + r) xs
-piece_more m xs a r =
-    ap (λ y. (m ++ take a xs) ++ take r y) (take_all (length xs - a) (drop a xs) (omega (arith, length-drop a xs)))
-    ∙ append_assoc m (take a xs) (take r (drop a xs)) ∙ ap (λ y. m ++ y) (sym (take-add a r xs))
 
 -- a buffer whose rest is set to zeros
 pub zeros_behind : (u j : ℕ) (b ys : List ℕ) → length b ≡ 128 → u ≤ 128 → j ≡ 128 - u → ys ≡ replicate (length (take j (drop u b))) 0
