@@ -15,6 +15,7 @@ use crate::world::call::Reply;
 use crate::world::entry::Event;
 use crate::world::notes::note_release;
 use crate::world::request::{OpenRequest, permit_in, permit_released};
+use crate::world::tokens::Tokens;
 use pcache_base::reason::NoCacheReason;
 use pcache_lock::lock::CacheLock;
 use pcache_meta::header::ResponseHeader;
@@ -34,7 +35,7 @@ pub(crate) fn set_lock(request: &mut OpenRequest, is_used: bool) -> Reply
 }
 
 /// Publishes what was found out about the fill.
-pub(crate) fn publish(request: &OpenRequest, lock: &mut CacheLock, tokens: &Vec<u64>) -> Reply
+pub(crate) fn publish(request: &OpenRequest, lock: &mut CacheLock, tokens: &Tokens) -> Reply
     ensures answers { Answers no_facts (calls.Publish 0 tokens.now) (Some request.now) result [] }
     ensures moves { MovesRequest (Some request.now) (Some request.now) }
     ensures locks { MovesLocks lock.old [] lock.new }
