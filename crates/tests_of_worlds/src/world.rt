@@ -1,7 +1,6 @@
 //! Calls of a world, each with the reply that is wanted.
 mod phases;
 mod plain;
-mod shards;
 
 use Step::*;
 use bytes::Bytes;
@@ -9,8 +8,8 @@ use http::StatusCode;
 use pcache_base::error::Result;
 use pcache_base::key::{CacheHashKey, CacheKey, HashBinary};
 use pcache_base::moment::Moment;
+use pcache_evict::eviction::CacheEntryKey;
 use pcache_evict::eviction::simple_lru::Manager;
-use pcache_evict::eviction::{CacheEntryKey, EvictionManager};
 use pcache_meta::header::ResponseHeader;
 use pcache_meta::meta::CacheMeta;
 use pcache_request::phase::HitStatus;
@@ -30,8 +29,6 @@ enum Step {
     Open(u64),
     Key(u64, &'static str),
     KeyVaried(u64, &'static str),
-    // with this tag of the user, where it is not 1
-    KeyTagged(u64, &'static str, &'static str),
     Look(u64),
     LookDeferred(u64),
     LookReady(u64),
@@ -53,12 +50,8 @@ enum Step {
 }
 
 fn key_of(alloc: Global, name: &str) -> Result<CacheKey> {
-    tagged_key_of(alloc, name, "1")
-}
-
-fn tagged_key_of(alloc: Global, name: &str, tag: &str) -> Result<CacheKey> {
     let primary = name.as_bytes().to_vec(alloc)?;
-    Ok(CacheKey::new(primary, String::from_str(alloc, tag)?))
+    Ok(CacheKey::new(primary, String::from_str(alloc, "1")?))
 }
 
 // The same key, with a variance.
@@ -115,10 +108,6 @@ fn call_of(alloc: Global, step: Step, now: Moment) -> Result<Call> {
             request,
             key: varied_key_of(alloc, name)?,
         },
-        KeyTagged(request, name, tag) => Call::Key {
-            request,
-            key: tagged_key_of(alloc, name, tag)?,
-        },
         Bypass(request) => Call::Bypass { request },
         Phase(request) => Call::Phase { request },
         Miss(request) => Call::Miss { request },
@@ -161,7 +150,7 @@ fn world_of(alloc: Global, limit: usize) -> Result<World<Manager>> {
 }
 
 // What is stored, what is tracked and what was evicted, with the number of entries at the start.
-fn numbers<M: EvictionManager>(alloc: Global, world: &World<M>) -> Result<String> {
+fn numbers(alloc: Global, world: &World<Manager>) -> Result<String> {
     let stored = world.stored_bytes();
     let slots = world.slots();
     let totals = world.totals();
@@ -171,10 +160,10 @@ fn numbers<M: EvictionManager>(alloc: Global, world: &World<M>) -> Result<String
 
 // Makes the calls of a table, in which the wanted reply stands behind each call. Each call is in the
 // history, in order, with the reply that was answered.
-fn check<M: EvictionManager>(
+fn check(
     rt: &impl Abort,
     alloc: Global,
-    world: &mut World<M>,
+    world: &mut World<Manager>,
     rows: &[(Step, &str)],
 ) -> std::result::Result<(), Fail> {
     let before = world.history().len();
@@ -573,69 +562,67 @@ fn one_permit_at_a_time(rt: HostRuntime) -> std::result::Result<(), Fail> {
     Ok(())
 }
 
-const PURGED_IN_FLIGHT: [(Step, &'static str); 25] = [
-    (Open(1), "Done"),
-    (Key(1, "k"), "Done"),
-    (Look(1), "NotFound(Some(Write))"),
-    (Miss(1), "Done"),
-    (Meta(1), "Done"),
-    (Begin(1), "Done"),
-    (Write(1, "x"), "Done"),
-    (Open(2), "Done"),
-    (Key(2, "k"), "Done"),
-    (Purge(2), "Purged"),
-    (Open(3), "Done"),
-    (Key(3, "k"), "Done"),
-    (Look(3), "NotFound(Some(Write))"),
-    (Miss(3), "Done"),
-    (Meta(3), "Done"),
-    (Begin(3), "Done"),
-    (Write(3, "yy"), "Done"),
-    (Finish(1), "Refused(WriteRemoved)"),
-    (Finish(3), "Stored { size: 2, evicted: 0 }"),
-    (Open(4), "Done"),
-    (Key(4, "k"), "Done"),
-    (Look(4), "Hit(2)"),
-    (Found(4, HitStatus::Fresh), "Taken(Hit, None)"),
-    (Read(4), "Data(b\"yy\")"),
-    (Read(4), "Finished"),
-];
-
 #[test]
 fn a_purge_while_a_write_is_in_flight(rt: HostRuntime) -> std::result::Result<(), Fail> {
-    play(&rt, rt.alloc(), 9, &[], &PURGED_IN_FLIGHT)?;
+    let rows = [
+        (Open(1), "Done"),
+        (Key(1, "k"), "Done"),
+        (Look(1), "NotFound(Some(Write))"),
+        (Miss(1), "Done"),
+        (Meta(1), "Done"),
+        (Begin(1), "Done"),
+        (Write(1, "x"), "Done"),
+        (Open(2), "Done"),
+        (Key(2, "k"), "Done"),
+        (Purge(2), "Purged"),
+        (Open(3), "Done"),
+        (Key(3, "k"), "Done"),
+        (Look(3), "NotFound(Some(Write))"),
+        (Miss(3), "Done"),
+        (Meta(3), "Done"),
+        (Begin(3), "Done"),
+        (Write(3, "yy"), "Done"),
+        (Finish(1), "Refused(WriteRemoved)"),
+        (Finish(3), "Stored { size: 2, evicted: 0 }"),
+        (Open(4), "Done"),
+        (Key(4, "k"), "Done"),
+        (Look(4), "Hit(2)"),
+        (Found(4, HitStatus::Fresh), "Taken(Hit, None)"),
+        (Read(4), "Data(b\"yy\")"),
+        (Read(4), "Finished"),
+    ];
+    play(&rt, rt.alloc(), 9, &[], &rows)?;
     Ok(())
 }
 
-const FOLLOWED: [(Step, &'static str); 23] = [
-    (Open(1), "Done"),
-    (Key(1, "k"), "Done"),
-    (Look(1), "NotFound(Some(Write))"),
-    (Miss(1), "Done"),
-    (Meta(1), "Done"),
-    (Begin(1), "Done"),
-    (Open(2), "Done"),
-    (Key(2, "k"), "Done"),
-    (Look(2), "Part"),
-    (Found(2, HitStatus::Fresh), "Taken(Hit, None)"),
-    (Read(2), "Pending"),
-    (Write(1, "ab"), "Done"),
-    (Read(2), "Data(b\"ab\")"),
-    (Open(3), "Done"),
-    (Key(3, "k"), "Done"),
-    (Purge(3), "Purged"),
-    (Write(1, "cd"), "Done"),
-    (End(1), "Done"),
-    (Read(2), "Data(b\"cd\")"),
-    (Read(2), "Finished"),
-    (Open(4), "Done"),
-    (Key(4, "k"), "Done"),
-    (Look(4), "NotFound(Some(Write))"),
-];
-
 #[test]
 fn a_reader_follows_a_purged_write(rt: HostRuntime) -> std::result::Result<(), Fail> {
-    play(&rt, rt.alloc(), 9, &[], &FOLLOWED)?;
+    let rows = [
+        (Open(1), "Done"),
+        (Key(1, "k"), "Done"),
+        (Look(1), "NotFound(Some(Write))"),
+        (Miss(1), "Done"),
+        (Meta(1), "Done"),
+        (Begin(1), "Done"),
+        (Open(2), "Done"),
+        (Key(2, "k"), "Done"),
+        (Look(2), "Part"),
+        (Found(2, HitStatus::Fresh), "Taken(Hit, None)"),
+        (Read(2), "Pending"),
+        (Write(1, "ab"), "Done"),
+        (Read(2), "Data(b\"ab\")"),
+        (Open(3), "Done"),
+        (Key(3, "k"), "Done"),
+        (Purge(3), "Purged"),
+        (Write(1, "cd"), "Done"),
+        (End(1), "Done"),
+        (Read(2), "Data(b\"cd\")"),
+        (Read(2), "Finished"),
+        (Open(4), "Done"),
+        (Key(4, "k"), "Done"),
+        (Look(4), "NotFound(Some(Write))"),
+    ];
+    play(&rt, rt.alloc(), 9, &[], &rows)?;
     Ok(())
 }
 
