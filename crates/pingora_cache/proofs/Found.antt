@@ -164,9 +164,9 @@ held-found r (e ∷ h) =
     ] refl
 
 pub reads_what_was_found : ReadsWhatWasFound
-reads_what_was_found limits start h r x body from to done l is has =
+reads_what_was_found age limits start h r x body from to done l is has =
     let all : AreOf (IsFoundBy h r) (Some x) = subst (AreOf (IsFoundBy h r)) is (held-found r h) in
     let f : IsFoundBy h r body = subst (IsOf (IsFoundBy h r)) has all.0 in
-    let at = legal-part limits start f.0 f.1 f.2 (subst (IsLegal limits start) f.6 l) in
-    let last = reads_the_last limits start f.2 f.3 f.4 body at.1 (looks_are_true limits start f.2 f.1 f.3 (A.Complete f.4 body) f.5 at f.8) in
+    let at = legal-part age limits start f.0 f.1 f.2 (subst (IsLegal age limits start) f.6 l) in
+    let last = reads_the_last age limits start f.2 f.3 f.4 body at.1 (looks_are_true age limits start f.2 f.1 f.3 (A.Complete f.4 body) f.5 at f.8) in
     (f, last.0, last.1, last.2, last.3)

@@ -307,12 +307,12 @@ follow-call f es call (Some x) reply events got k a old h = follow f es events r
 
 -- Histories.
 
-follows-at : (limits : Limits) (start : Tracked) (r : ℕ) (h : List Entry) → IsLegal limits start h → Follows (events_of h) (request_of r h) (read_by r h)
-follows-at limits start r [] l = tt
-follows-at limits start r (e ∷ h) l =
+follows-at : (age : ℕ) (limits : Limits) (start : Tracked) (r : ℕ) (h : List Entry) → IsLegal age limits start h → Follows (events_of h) (request_of r h) (read_by r h)
+follows-at age limits start r [] l = tt
+follows-at age limits start r (e ∷ h) l =
     let es = events_of h in
     let g = l.0 in
-    let old = follows-at limits start r h l.1 in
+    let old = follows-at age limits start r h l.1 in
     let now = still (reverse e.events) es (request_of r h) (read_by r h) old in
     elim (number_of e.call == r) as (λ b. (number_of e.call == r) ≡ b
     → Follows (reverse e.events ++ es) (if b then row e.call e.reply e.events (request_of r h) else request_of r h) (if b then read_on (change_of e.call) (outcome e.reply) e.events (read_by r h) else read_by r h)) [
@@ -324,6 +324,6 @@ follows-at limits start r (e ∷ h) l =
     ] refl
 
 pub reads_a_beginning : ReadsABeginning
-reads_a_beginning limits start before r x reader l is has =
-    let h = subst (λ q. Follows (events_of before) q (read_by r before)) is (follows-at limits start r before l) in
+reads_a_beginning age limits start before r x reader l is has =
+    let h = subst (λ q. Follows (events_of before) q (read_by r before)) is (follows-at age limits start r before l) in
     subst (λ o. IfSome o (λ y. HasRead (events_of before) y (read_by r before))) has h.0

@@ -60,7 +60,7 @@ held_by_one es all open_of slots is made w =
           | false ↦ λ f. ap (share (writers_in w)) (is q) ∙ no-writer w (open_of q) (λ h. both_ways _ f (cmp_same q r ∙ eq-eqb r q (sym (made.only q r w h has))))
         ] refl
 
-pub sound-of : (limits : Limits) (start now : Tracked) (s : Store) (t : Locks) (all : FinMap nat_cmp Held) (h : List Entry) → IsLegal limits start h → now ≡ tracked start (events_of h) → IsState (events_of h) (readers all) s → AreOpen h all → IsLocked (events_of h) t → IsSound limits start now s t all h
-sound-of limits start now s t all h l is state are locks =
-    let k = legal_kept limits start h l in
+pub sound-of : (age : ℕ) (limits : Limits) (start now : Tracked) (s : Store) (t : Locks) (all : FinMap nat_cmp Held) (h : List Entry) → IsLegal age limits start h → now ≡ tracked start (events_of h) → IsState (events_of h) (readers all) s → AreOpen h all → IsLocked (events_of h) t → IsSound age limits start now s t all h
+sound-of age limits start now s t all h l is state are locks =
+    let k = legal_kept age limits start h l in
     record { legal = l; tidy = k.tidy; state = state; tracks = is; exact = k.exact; bounded = k.bounded; requests = are; writes = held_by_one (events_of h) all (λ r. request_of r h) (λ r. slot_of (request_of r h)) are k.made; locks = locks }

@@ -52,15 +52,15 @@ entries-after before after call reply events is =
 
 -- one call of a sound world leaves it sound, with an entry more in its history; its reply is told as it is copied
 pub step_sound : (limits : Limits) (start m m' : Tracked) (s s' : Store) (t t' : Locks) (before after : List (ℕ × Held)) (h : List Entry) (call : Call) (reply told : Reply) (events : List Event)
-    → IsSound limits start m s t (from_entries {R = nat_cmp} before) h
+    → IsSound age limits start m s t (from_entries {R = nat_cmp} before) h
     → (IsOfWorldIn (lookup (is_at (nat_cmp (number_of call))) before) → Turn limits call (lookup (is_at (nat_cmp (number_of call))) before) s m t reply events s' m' t')
     → IsMoved call reply events before after → IsCopy reply told
-    → IsSound limits start m' s' t' (from_entries {R = nat_cmp} after) (record { call = call; reply = told; events = events } ∷ h)
-step_sound limits start m m' s s' t t' before after h call reply told events k turn moved copy =
+    → IsSound age limits start m' s' t' (from_entries {R = nat_cmp} after) (record { call = call; reply = told; events = events } ∷ h)
+step_sound age limits start m m' s s' t t' before after h call reply told events k turn moved copy =
     let n = number_of call in
     let all : FinMap nat_cmp Held = from_entries {R = nat_cmp} before in
     let q = lookup (is_at (nat_cmp n)) before in
-    let made = turn (subst IsOfWorldIn (sym (lookup-get before n ∙ k.requests n)) (legal_world limits start h k.legal n)) in
-    let kept = each-call-keeps limits start m m' s s' t t' all h call reply told events k (subst (λ o. Turn limits call o s m t reply events s' m' t') (lookup-get before n) made) copy in
-    subst (λ (x : FinMap nat_cmp Held). IsSound limits start m' s' t' x (record { call = call; reply = told; events = events } ∷ h))
+    let made = turn (subst IsOfWorldIn (sym (lookup-get before n ∙ k.requests n)) (legal_world age limits start h k.legal n)) in
+    let kept = each-call-keeps age limits start m m' s s' t t' all h call reply told events k (subst (λ o. Turn limits call o s m t reply events s' m' t') (lookup-get before n) made) copy in
+    subst (λ (x : FinMap nat_cmp Held). IsSound age limits start m' s' t' x (record { call = call; reply = told; events = events } ∷ h))
     (sym (entries-after before after call reply events moved ∙ ap (set_to all n) (sym (row-copied call reply told events (get all n) copy)))) kept

@@ -364,7 +364,7 @@ given-at [] rest w k n b a = a.0
 given-at (e ∷ earlier) rest w k n b a = given-at earlier rest (then_waiting e w) k n b a.1
 
 pub gives_the_permit_exactly : GivesThePermitExactly
-gives_the_permit_exactly limits start before entry earlier rest k n b l is =
+gives_the_permit_exactly age limits start before entry earlier rest k n b l is =
     let es = events_of before in
     exactly (waiting_in (reverse earlier ++ es)) k n b (subst (λ w. Gets w k n b) (after-in earlier es) (given-at earlier rest (waiting_in es) k n b (subst (AreGiven (waiting_in es)) is l.0.given)))
 
@@ -395,11 +395,11 @@ single-after : (events : List Event) (w : Waiting) → AreGiven w events → IsS
 single-after [] w g one = one
 single-after (e ∷ events) w g one = single-after events (then_waiting e w) g.1 (single-then e w g.0 one)
 
-single-in : (limits : Limits) (start : Tracked) (h : List Entry) → IsLegal limits start h → IsSingle (waiting_in (events_of h))
-single-in limits start [] l = λ k m n a b. let no : ◌≡◌ {A = Option ℕ} None (Some k) = a in absurd (cc)
-single-in limits start (e ∷ h) l =
+single-in : (age : ℕ) (limits : Limits) (start : Tracked) (h : List Entry) → IsLegal age limits start h → IsSingle (waiting_in (events_of h))
+single-in age limits start [] l = λ k m n a b. let no : ◌≡◌ {A = Option ℕ} None (Some k) = a in absurd (cc)
+single-in age limits start (e ∷ h) l =
     let es = events_of h in
-    subst IsSingle (after-in e.events es) (single-after e.events (waiting_in es) l.0.given (single-in limits start h l.1))
+    subst IsSingle (after-in e.events es) (single-after e.events (waiting_in es) l.0.given (single-in age limits start h l.1))
 
 pub one_permit_waits : OnePermitWaits
-one_permit_waits limits start before k l m legal = single-in limits start before legal k l m
+one_permit_waits age limits start before k l m legal = single-in age limits start before legal k l m

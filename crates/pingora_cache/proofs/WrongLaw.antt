@@ -33,6 +33,6 @@ exact es f g call q reply told events a b (inl (may, other, does)) copy = (λ wr
 exact es f g call q reply told events a b (inr (fails, idle)) copy = (λ _ may. fails (same-may es f g call q a b may), λ _. wrong-copied reply told copy idle.0)
 
 pub is_wrong_exactly : IsWrongExactly
-is_wrong_exactly limits start before entry f l says =
+is_wrong_exactly age limits start before entry f l says =
     let g = l.0 in
     exact (events_of before) f g.facts entry.call (request_of (number_of entry.call) before) g.told entry.reply entry.events says g.says g.answers g.copy
