@@ -99,6 +99,10 @@ IsOfWorldIn (Some x) = IsOfWorld x.request
 abbrev pub IsMoved : Call → List (ℕ × Held) → List (ℕ × Held) → Type 0
 IsMoved call all all' = (q : ℕ) → lookup (is_at (nat_cmp q)) all' ≡ cond (is_at (nat_cmp (number_of call)) q) (lookup (is_at (nat_cmp (number_of call))) all') (lookup (is_at (nat_cmp q)) all)
 
+-- the same by its row
+abbrev pub IsRowed : Call → Reply → List Event → List (ℕ × Held) → List (ℕ × Held) → Type 0
+IsRowed call reply events all all' = (q : ℕ) → lookup (is_at (nat_cmp q)) all' ≡ cond (is_at (nat_cmp (number_of call)) q) (row call reply events (lookup (is_at (nat_cmp (number_of call))) all)) (lookup (is_at (nat_cmp q)) all)
+
 -- a look-up of the request's key that hands nothing on, and one that turns caching off
 abbrev pub MissesKey : Facts → Answer → Request → Reply → List Event → Type 0
 MissesKey f a x reply events = (k : Key) × (x.key ≡ Some k) × Misses f (slot k) a x reply events
@@ -129,3 +133,10 @@ abbrev pub IsOfOpen : Call → Type 0
 IsOfOpen (C.Open r) = ⊥
 IsOfOpen (C.End r) = ⊥
 IsOfOpen _ = Unit {0}
+
+-- and is no wait
+abbrev pub IsTurned : Call → Type 0
+IsTurned (C.Open r) = ⊥
+IsTurned (C.End r) = ⊥
+IsTurned (C.Wait r t) = ⊥
+IsTurned _ = Unit {0}
