@@ -25,7 +25,7 @@ use Rattle.pingora_cache.specs.declared.world.entry.Entry.{Entry}
 use Rattle.pingora_cache.specs.declared.world.entry.Event.{Event}
 use Rattle.pingora_cache.specs.declared.world.entry.Event.TheVariants as E
 use Rattle.pingora_cache.specs.Headline.{IsFoundBy, ReadsWhatWasFound}
-use Rattle.pingora_cache.specs.Held.{Held, Change, opens, closes, stays, turns, turns_by, shuts, looks, takes, begins, ends, reads_on, seeks, reads_no_more, renews, change_of, changed, turned_by, shut_by, sought_in, with_sought, number_of, Outcome, outcome, is_wrong, is_done, is_taken, opened, asked, carrying, decides, looked_by, looked_with, pair_of, placed_by, taken_by, without_pair, began, ended, read_past, has_read, on_request, row, request_of}
+use Rattle.pingora_cache.specs.Held.{Held, Change, opens, closes, stays, turns, turns_by, shuts, looks, takes, begins, ends, reads_on, seeks, reads_no_more, renews, waits, change_of, changed, turned_by, shut_by, sought_in, with_sought, number_of, Outcome, outcome, is_wrong, is_done, is_taken, opened, asked, carrying, decides, looked_by, looked_with, pair_of, placed_by, taken_by, without_pair, began, ended, read_past, has_read, on_request, row, request_of}
 use Rattle.pingora_cache.specs.History.{events_of}
 use Rattle.pingora_cache.specs.Legal.{IsLegal}
 use Rattle.pingora_cache.specs.Sound.{pair_reader}
@@ -147,6 +147,8 @@ module _ (P : List ℕ → Type 0) (events : List Event) (found : (k : ℕ) (m :
   change-of reads_no_more (Some x) h = either P (is_wrong o) (Some x) (Some (on_request without_reader x)) h (tt, h.1)
   change-of (renews m) None h = either P (is_wrong o) None None tt tt
   change-of (renews m) (Some x) h = either P (is_wrong o) (Some x) (Some (on_request (renewed m) x)) h (h.0, h.1)
+  change-of (waits now) None h = tt
+  change-of (waits now) (Some x) h = (subst (IsOf P) (sym (waited-reader o now x.request)) h.0, h.1)
 
 -- an older look-up stands in a longer history
 found-more : (e : Entry) (h : List Entry) (r : ℕ) (body : List ℕ) → IsFoundBy h r body → IsFoundBy (e ∷ h) r body

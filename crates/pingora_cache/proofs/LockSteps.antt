@@ -1,6 +1,7 @@
 -- What the functions of calls do to the lock table and to the lock that their request holds, as one move.
 use Rattle.std.proofs.Common.{◌≡◌, ℕ, Bool, true, false, cond, if◌then◌else◌, Option, None, Some, List, [], ◌∷◌, ◌++◌, refl, ap, sym, subst, ◌∙◌, option_map, Result, Ok, Err}
 use Rattle.std.proofs.lemmas.List.{append_assoc}
+use Rattle.std.specs.List.{list_any}
 use Rattle.pcache_base.specs.Key.{Key, slot}
 use Rattle.pcache_base.specs.declared.error.ErrorType.{ErrorType}
 use Rattle.pcache_base.specs.declared.error.ErrorType.TheVariants.{WriteRemoved}
@@ -10,6 +11,7 @@ use Rattle.pcache_lock.specs.Statuses.{IsReason}
 use Rattle.pcache_lock.specs.declared.lock.permit.Locked.{Locked}
 use Rattle.pcache_lock.specs.declared.lock.permit.Locked.TheVariants.{Write, Read}
 use Rattle.pcache_lock.specs.declared.lock.status.LockStatus.{LockStatus}
+use Rattle.pcache_lock.specs.declared.lock.status.LockStatus.TheVariants.{Done, TransientError}
 use Rattle.pcache_meta.specs.Meta.{Meta}
 use Rattle.pcache_request.specs.LockUse.{published_by}
 use Rattle.pcache_request.specs.Reports.{asked_with, asked_by_found, name_of}
@@ -21,7 +23,7 @@ use Rattle.pcache_store.specs.Store.{Reader, reader_weight}
 use Rattle.pingora_cache.specs.declared.world.entry.Answer.{Answer}
 use Rattle.pingora_cache.specs.declared.world.entry.Event.{Event}
 use Rattle.pingora_cache.specs.declared.world.entry.Event.TheVariants as E
-use Rattle.pingora_cache.specs.Deeds.{Deed, Asked, Released, LetGo, deed_of, deeds_by, published_on}
+use Rattle.pingora_cache.specs.Deeds.{Deed, Asked, Released, LetGo, deed_of, deeds_by, keeps, published_on}
 use Rattle.pingora_cache.specs.LockMoves.{LockMove, MayMove, MovesLocks, asks, deeds_moved, each_deed, lets_go, publishes, rests, settles, table_moved}
 use Rattle.pingora_cache.specs.Rules.{accesses, drop_of, each, permit_of}
 use Rattle.pingora_cache.specs.Step.{asking, permit_in, refused_end, renewing, untracking}
@@ -159,8 +161,8 @@ ended-locks r at s t u h write permit old mid events held none one is to = recor
 
 -- ---- tokens are published
 
-pub publish-locks : (r : ℕ) (t u : Locks) (tokens : List ℕ) (h : Option Locked) (ds : List Deed) → ds ≡ published_on tokens h → u ≡ published_by tokens h t → MovesLocks r ds h t h u
-publish-locks r t u tokens h ds is to = record { move = publishes tokens; may = tt; done = is; held = refl; table = to }
+pub publish-locks : (r : ℕ) (t u : Locks) (tokens : List ℕ) (h : Option Locked) → u ≡ published_by tokens h t → MovesLocks r (published_on tokens h ++ []) h t h u
+publish-locks r t u tokens h to = record { move = publishes tokens; may = tt; done = no-more (published_on tokens h); held = refl; table = to }
 
 -- ---- the lock of a key is asked for
 
@@ -215,3 +217,36 @@ untaken-locks r at l s t u x y k h events same is all = quiet_locks r at l event
 pub purge-locks : (r at : ℕ) (s : LockStatus) (t : Locks) (h : Option Locked) (j : ℕ) (gone : Option CacheEntryKey) (old events : List Event) → old ≡ [] → events ≡ old ++ E.Purge j ∷ untracking gone → MovesLocks r (deeds_by r at s events) h t h t
 purge-locks r at s t h j gone old events none is =
     quiet_locks r at s events h h t t (subst AreOfNoLock (sym (is ∙ ap (λ es. es ++ E.Purge j ∷ untracking gone) none)) (tt, elim gone as (λ o. AreOfNoLock (untracking o)) [ None ↦ tt | Some e ↦ (tt, tt) ])) refl refl
+
+-- ---- a look-up is noted
+
+pub look-noted : (r at : ℕ) (s : LockStatus) (j : ℕ) (a : Answer) (h last : Option Locked) (t u : Locks) (old events : List Event) → old ≡ [] → events ≡ old ++ E.Look j a ∷ [] → last ≡ h → u ≡ t → MovesLocks r (deeds_by r at s events) h t last u
+look-noted r at s j a h last t u old events none is same to = quiet_locks r at s events h last t u (subst AreOfNoLock (sym (is ∙ ap (λ es. es ++ E.Look j a ∷ []) none)) (tt, tt)) same to
+
+-- ---- a write ends
+
+no-keep : (o : Option ℕ) → list_any keeps (each E.Release o) ≡ false
+no-keep None = refl
+no-keep (Some n) = refl
+
+refused-keeps : (w : ℕ) (kind : ErrorType) (o : Option ℕ) → list_any keeps (refused_end w kind ∷ each E.Release o) ≡ false
+refused-keeps w WriteRemoved o = no-keep o
+refused-keeps w kind o = no-keep o
+
+-- a body is stored, and one event more is noted
+pub stored-locks : (r at : ℕ) (t u : Locks) (h last : Option Locked) (o : Option ℕ) (w : ℕ) (two : Event) (old mid events : List Event) → IsOfNoLock two → o ≡ permit_of h → old ≡ [] → mid ≡ old ++ E.Finish w true ∷ each E.Release o → events ≡ mid ++ two ∷ [] → last ≡ None → u ≡ settled Done h t
+    → MovesLocks r (deeds_by r at (cond (list_any keeps events) Done TransientError) events) h t last u
+stored-locks r at t u h last o w two old mid events still permit none is all gone to =
+    let kept : list_any keeps events ≡ true = ap (list_any keeps) (all ∙ ap (λ es. es ++ two ∷ []) (is ∙ ap (λ es. es ++ E.Finish w true ∷ each E.Release o) none)) in
+    subst (λ s. MovesLocks r (deeds_by r at s events) h t last u) (sym (ap (λ b. cond b Done TransientError) kept)) (release-then r at Done t u h last o (E.Finish w true) two old mid events tt tt still permit none is all gone to)
+
+-- its end is refused
+pub refused-locks : (r at : ℕ) (t u : Locks) (h last : Option Locked) (o : Option ℕ) (w : ℕ) (kind : ErrorType) (one : Event) (old events : List Event) → one ≡ refused_end w kind → o ≡ permit_of h → old ≡ [] → events ≡ old ++ one ∷ each E.Release o → last ≡ None → u ≡ settled TransientError h t
+    → MovesLocks r (deeds_by r at (cond (list_any keeps events) Done TransientError) events) h t last u
+refused-locks r at t u h last o w kind one old events named permit none is gone to =
+    let dropped : list_any keeps events ≡ false = ap (list_any keeps) (is ∙ (λ i. none i ++ named i ∷ each E.Release o)) ∙ refused-keeps w kind o in
+    subst (λ s. MovesLocks r (deeds_by r at s events) h t last u) (sym (ap (λ b. cond b Done TransientError) dropped)) (release-locks r at TransientError t u h last o one old events tt (subst IsOfNoLock (sym named) (quiet-refused w kind)) permit none is gone to)
+
+-- a body expires
+pub expire-locks : (r at : ℕ) (s : LockStatus) (t : Locks) (h : Option Locked) (j now : ℕ) (old events : List Event) → old ≡ [] → events ≡ old ++ E.Expire j now ∷ [] → MovesLocks r (deeds_by r at s events) h t h t
+expire-locks r at s t h j now old events none is = quiet_locks r at s events h h t t (subst AreOfNoLock (sym (is ∙ ap (λ es. es ++ E.Expire j now ∷ []) none)) (tt, tt)) refl refl

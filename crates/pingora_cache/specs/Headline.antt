@@ -5,9 +5,13 @@ use Rattle.pcache_evict.specs.declared.eviction.entry_key.CacheEntryKey.{CacheEn
 use Rattle.pcache_base.specs.Key.{Key, slot}
 use Rattle.pcache_base.specs.declared.poll.Poll.{Poll}
 use Rattle.pcache_base.specs.declared.poll.Poll.TheVariants.{Ready}
+use Rattle.pcache_base.specs.declared.error.ErrorType.TheVariants.{OutOfMemory}
+use Rattle.pcache_lock.specs.Permits as lock
+use Rattle.pcache_lock.specs.declared.lock.permit.Locked.TheVariants as locked
 use Rattle.pcache_meta.specs.Meta.{Meta}
 use Rattle.pcache_evict.specs.Tracked.{Tracked, Limits, IsWithin, IsFair}
 use Rattle.pcache_predict.specs.declared.admission.Decision.{Decision}
+use Rattle.pcache_request.specs.LockWaits.{unusable_in}
 use Rattle.pcache_request.specs.Variants.{hides_pair}
 use Rattle.pcache_store.specs.Store.{Reader, Whole, Part, Stored}
 use Rattle.pingora_cache.specs.declared.world.call.Call.TheVariants as C
@@ -26,8 +30,9 @@ use Rattle.pingora_cache.specs.Facts.{Facts, Says, request_in}
 use Rattle.pingora_cache.specs.History.{events_of, Finds, reads}
 use Rattle.pingora_cache.specs.Legal.{IsLegal}
 use Rattle.pingora_cache.specs.Log.{Log, events_in}
-use Rattle.pingora_cache.specs.Rules.{MayBe}
+use Rattle.pingora_cache.specs.Rules.{MayBe, wait_reply}
 use Rattle.pingora_cache.specs.Waiting.{NoneWaits, waiting_in}
+use Rattle.pingora_cache.specs.Waits.{wait_of}
 use Rattle.pingora_cache.specs.ReadSoFar.{read_by, HasRead}
 
 -- a call is answered as a wrong one exactly where its condition fails, by the facts that the events before it say
@@ -102,6 +107,13 @@ GivesThePermitExactly = (age : ℕ) (limits : Limits) (start : Tracked) (before 
 -- of the permits that were asked for under one key at most one waits
 abbrev pub OnePermitWaits : Type 0
 OnePermitWaits = (age : ℕ) (limits : Limits) (start : Tracked) (before : List Entry) (k l m : ℕ) → IsLegal age limits start before → (waiting_in (events_of before)).under l ≡ Some k → (waiting_in (events_of before)).under m ≡ Some k → l ≡ m
+
+-- a wait on a read lock is answered by what the deeds before it say of the lock: the first of released, too old, told of a fill
+-- that cannot be used, and waited for long enough; else it goes on. Only a first poll with fills may be refused for want of
+-- memory
+abbrev pub WaitsAreTrue : Type 0
+WaitsAreTrue = (age : ℕ) (limits : Limits) (start : Tracked) (before : List Entry) (entry : Entry) (r t : ℕ) (x : Held) (rd : lock.Reader) → IsLegal age limits start (entry ∷ before) → entry.call ≡ C.Wait r t → request_of r before ≡ Some x → x.request.held ≡ Some (locked.Read rd)
+    → (entry.reply ≡ wait_reply (wait_of age t r rd x.request (deeds_of before))) ⊎ ((entry.reply ≡ R.Refused OutOfMemory) × (rd.watch ≡ None) × IsSome (unusable_in x.request.key))
 
 -- whether a reply tells that something was found, where it is that of a look-up
 abbrev pub told_found : Reply → Option Bool

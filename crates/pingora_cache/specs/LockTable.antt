@@ -6,6 +6,7 @@ use Rattle.std.specs.FinMap.{FinMap, get}
 use Rattle.pcache_base.specs.Totals.{total}
 use Rattle.pcache_lock.specs.Locks.{Locks}
 use Rattle.pcache_lock.specs.Permits.{Core, Reader, Watch}
+use Rattle.pcache_lock.specs.Statuses.{is_waiting}
 use Rattle.pcache_lock.specs.Waiting.{first_told}
 use Rattle.pcache_lock.specs.declared.lock.permit.Locked.{Locked}
 use Rattle.pcache_lock.specs.declared.lock.permit.Locked.TheVariants.{Write, Read}
@@ -51,6 +52,8 @@ pub record IsTable (ds : List Deed) (n : ℕ → ℕ) (t : Locks) : Type 0 where
   pub locks : (l : ℕ) → option_map plain (get t.cores l) ≡ lock_of t.age_timeout l (n l) ds
   -- only a lock that was asked for is read
   pub known : (l : ℕ) → 0 < n l → is_some (ask_of l ds) ≡ true
+  -- a permit that is over does not wait
+  pub over : (l : ℕ) → is_some (ask_of l ds) ≡ true → is_held l ds ≡ false → is_waiting (status_of l ds) ≡ false
   -- the publication that stands is the last one that is kept
   pub said : (l : ℕ) (c : Core) → get t.cores l ≡ Some c → last_of c.publications ≡ standing l ds
 

@@ -1,5 +1,5 @@
 //! Calls about the lock that a request holds.
-ghost use Rattle.std.specs.Prelude.{◌≡◌, ◌+◌, ◌≤◌, ◌++◌, [], IsSome, None, Option, Some, vec_len, ℕ};
+ghost use Rattle.std.specs.Prelude.{◌≡◌, ◌+◌, ◌≤◌, ◌++◌, ◌∷◌, if◌then◌else◌, [], IsSome, None, Option, Some, vec_len, ℕ};
 ghost use Rattle.std.specs.Vec.{vec_capacity};
 ghost use Rattle.pingora_cache.specs.Due.{KeepsIn, KeepsKey};
 ghost use Rattle.pingora_cache.specs.Facts.{facts_in, no_facts};
@@ -15,7 +15,7 @@ ghost use Rattle.pingora_cache.specs.Moved.{MovesRequest, MovesStore};
 ghost use Rattle.pingora_cache.specs.Rules.{Answers, IsOther, Waits, each, wait_reply};
 ghost use Rattle.pingora_cache.specs.Step.{IsRow};
 ghost use Rattle.pingora_cache.specs.Untold.{untold_request};
-ghost use Rattle.pingora_cache.specs.declared.world.entry.Event.TheVariants.{Release};
+ghost use Rattle.pingora_cache.specs.declared.world.entry.Event.TheVariants.{Aged, Release};
 ghost use Rattle.pingora_cache.specs.declared.world.call.Call.TheVariants as calls;
 ghost use Rattle.pcache_store.specs.Store.{Reader, Store};
 
@@ -47,6 +47,7 @@ pub(crate) fn set_lock(request: &mut OpenRequest, is_used: bool) -> Reply
 }
 
 /// Waits on the read lock that is held.
+#[tactic(auto, using(crate::proofs::LockSteps::none_noted))]
 pub(crate) fn wait(
     request: &mut OpenRequest,
     lock: &mut CacheLock,
@@ -68,6 +69,7 @@ pub(crate) fn wait(
 }
 
 // Waits on the read lock, and notes where its permit is too old.
+#[tactic(auto, using(crate::proofs::LockSteps::none_noted))]
 fn wait_on(
     cache: &mut HttpCache<MemCache>,
     lock: &mut CacheLock,
@@ -88,12 +90,18 @@ fn wait_on(
         Ok(report) => report,
         Err(refused) => return Reply::Refused(refused.etype()),
     };
-    if report.is_too_old {
-        events.push_reserved(Event::Aged {
-            lock: report.lock.number,
-        });
-    }
+    note_aged(report.is_too_old, report.lock.number, events);
     reply_of(report.answer)
+}
+
+// Notes a permit that was found too old.
+fn note_aged(is_too_old: bool, lock: u64, events: &mut Vec<Event>)
+    requires { vec_len events.old + 1 ≤ vec_capacity events.old }
+    ensures { events.new.items ≡ events.old.items ++ (if is_too_old then Aged lock ∷ [] else []) }
+{
+    if is_too_old {
+        events.push_reserved(Event::Aged { lock });
+    }
 }
 
 // What a wait answers.
@@ -122,6 +130,7 @@ pub(crate) fn publish(request: &OpenRequest, lock: &mut CacheLock, tokens: &Vec<
 }
 
 /// Releases what is held.
+#[tactic(auto, using(crate::proofs::LockSteps::none_noted))]
 pub(crate) fn release(
     request: &mut OpenRequest,
     lock: &mut CacheLock,
@@ -145,6 +154,7 @@ pub(crate) fn release(
 }
 
 /// Serves the stale body with another header, and releases what is held.
+#[tactic(auto, using(crate::proofs::LockSteps::none_noted))]
 pub(crate) fn uncacheable(
     request: &mut OpenRequest,
     lock: &mut CacheLock,

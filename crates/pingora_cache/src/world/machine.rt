@@ -165,6 +165,8 @@ impl<M: EvictionManager> World<M> {
         ensures err { OnErr result (self.new ≡ self.old) }
         ensures kind { IfErr result (λ e. e ≡ OutOfMemory) }
     {
+        // That the requests are fewer than their numbers bounds their read locks.
+        let _open = self.requests.len();
         let mut events = Vec::with_capacity(self.alloc, MOST_EVENTS)?;
         let mut spare = spare_of(&call)?;
         make_ready(&mut self.history, &mut self.start, &self.parts.manager)?;

@@ -23,6 +23,7 @@ use pcache_evict::eviction::EvictionManager;
 use pcache_request::cache::Removal;
 
 /// Removes what stands under the request's key.
+#[tactic(auto, using(crate::proofs::LockSteps::none_noted))]
 pub(crate) fn purge<M: EvictionManager>(
     request: &mut OpenRequest,
     parts: &mut Parts<M>,
@@ -72,6 +73,7 @@ fn note_removal(slot: u128, removal: Removal, events: &mut Vec<Event>) -> Reply
 }
 
 /// Ends the freshness of what stands under the request's key.
+#[tactic(auto, using(crate::proofs::LockSteps::none_noted))]
 pub(crate) fn expire<M: EvictionManager>(
     request: &mut OpenRequest,
     parts: &mut Parts<M>,

@@ -36,6 +36,7 @@ pub(crate) fn enable(request: &mut OpenRequest) -> Reply
 }
 
 /// Turns caching off, and gives back what is held.
+#[tactic(auto, using(crate::proofs::LockSteps::none_noted))]
 pub(crate) fn disable(
     request: &mut OpenRequest,
     store: &mut MemCache,

@@ -51,6 +51,7 @@ pub(crate) fn vary(request: &mut OpenRequest, variance: HashBinary) -> Reply
 }
 
 /// Sets what the response varies on.
+#[tactic(auto, using(crate::proofs::LockSteps::none_noted))]
 pub(crate) fn variance(
     request: &mut OpenRequest,
     lock: &mut CacheLock,
@@ -89,6 +90,7 @@ pub(crate) fn spare_of(call: &Call) -> Result<Option<Spare>>
 }
 
 /// Takes the meta of an answer that says that the stale body is good.
+#[tactic(auto, using(crate::proofs::LockSteps::none_noted))]
 pub(crate) fn revalidate(
     request: &mut OpenRequest,
     store: &mut MemCache,

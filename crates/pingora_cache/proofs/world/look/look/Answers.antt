@@ -4,6 +4,9 @@ use Rattle.pingora_cache.specs.Facts.{facts_in}
 use Rattle.pingora_cache.specs.Held.{Held}
 use Rattle.pingora_cache.specs.Rules.{Looks}
 use Rattle.pingora_cache.proofs.Looking.{carried-moves}
+use Rattle.pingora_cache.specs.LockMoves.{MovesLocks}
+use Rattle.pingora_cache.specs.Deeds.{deeds_by}
+use Rattle.pcache_lock.specs.declared.lock.status.LockStatus.TheVariants.{TransientError}
 use Rattle.pingora_cache.proofs.world.look.look.Goals as goal
 
 pub returns-clause-answers : goal.returns-clause-answers
@@ -14,3 +17,6 @@ returns-clause-answers c =
 
 pub returns-clause-moves : goal.returns-clause-moves
 returns-clause-moves c = carried-moves c.args.decision c.args.request.now c.carry.new.request (Some c.look_up.new.request) c.args.store.now c.look_up.new.store c.look_up.new.events.items c.carry.ensures c.look_up.ensures.moves
+
+pub returns-clause-locks : goal.returns-clause-locks
+returns-clause-locks c n = subst (λ (z : Held). MovesLocks n (deeds_by n c.args.now TransientError c.look_up.new.events.items) z.request.held c.args.lock.now c.look_up.new.request.request.held c.look_up.new.lock) c.carry.ensures (c.look_up.ensures.locks n)

@@ -10,7 +10,7 @@ invariant_of-self g c = (
 
 pub invariant_of-self-2 : goal.invariant_of-self-2
 invariant_of-self-2 g c = (
-  sound-step _ _ _ _ _ _ _ _ _ _ _ _ c.self.inside.history.items _ c.args.call _ _ _ c.self.invariant.0 c.apply-reply.ensures.turn c.apply-reply.ensures.requests c.doubled-noted.ensures.copy c.apply-reply.ensures.limits
+  sound-step _ _ _ _ _ _ _ _ _ _ _ _ c.self.inside.history.items _ c.args.call _ _ _ c.self.invariant.0 ? c.apply-reply.ensures.turn c.apply-reply.ensures.requests c.doubled-noted.ensures.copy c.apply-reply.ensures.limits
       (started-once (λ v. v.items) _ _ _ c.in_ok-make_ready.ensures.known ∙ c.make_ready.ensures.same_start)
       (c.note.ensures ∙ ap (λ xs. xs ++ record { call = c.args.call; reply = c.doubled-noted.result.0; events = c.apply-reply.new.events.items } ∷ []) c.make_ready.ensures.same_history),
   λ none. not-both _ none c.in_ok-make_ready.ensures.known,
