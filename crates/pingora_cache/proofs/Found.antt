@@ -32,7 +32,7 @@ use Rattle.pingora_cache.specs.Sound.{pair_reader}
 use Rattle.pingora_cache.proofs.AnswersLaw.{looks_are_true}
 use Rattle.pingora_cache.proofs.Laws.{reads_the_last}
 use Rattle.pingora_cache.proofs.Promised.{legal-part}
-use Rattle.pingora_cache.proofs.ReadsLaw.{asked-reader, decided-reader}
+use Rattle.pingora_cache.proofs.ReadsLaw.{asked-reader, decided-reader, waited-reader}
 
 -- a reader of a complete body has one of these
 abbrev IsOf : (List ℕ → Type 0) → Option Reader → Type 0

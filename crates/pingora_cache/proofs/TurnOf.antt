@@ -1,5 +1,5 @@
 -- What the functions of calls promise, as one turn.
-use Rattle.std.proofs.Common.{◌≡◌, ℕ, true, false, cond, Option, None, Some, List, [], refl, ap, sym, subst, ◌∙◌, arith, inl, inr, option_map}
+use Rattle.std.proofs.Common.{◌≡◌, ℕ, true, false, cond, Option, None, Some, List, [], ◌++◌, refl, ap, sym, subst, ◌∙◌, arith, inl, inr, option_map}
 use Rattle.std.proofs.lemmas.Bool.Decides.{nat_tests}
 use Rattle.std.specs.Ordering.{nat_cmp}
 use Rattle.std.specs.Map.{lookup}
@@ -11,16 +11,18 @@ use Rattle.pcache_store.specs.Store.{Store}
 use Rattle.pingora_cache.specs.declared.world.call.Call.{Call}
 use Rattle.pingora_cache.specs.declared.world.call.Call.TheVariants as C
 use Rattle.pingora_cache.specs.declared.world.call.Reply.{Reply}
+use Rattle.pingora_cache.specs.declared.world.call.Reply.TheVariants as R
 use Rattle.pingora_cache.specs.declared.world.entry.Event.{Event}
-use Rattle.pingora_cache.specs.Deeds.{deeds_by, deeds_in, held_in}
+use Rattle.pingora_cache.specs.Deeds.{deeds_by, deeds_in, held_in, said_by}
 use Rattle.pingora_cache.specs.Due.{IsOfWorld, KeepsKey}
 use Rattle.pingora_cache.specs.Facts.{Facts, facts_in, no_facts, request_in}
-use Rattle.pingora_cache.specs.Held.{Held, is_done, number_of, opened, outcome, row, untold}
+use Rattle.pingora_cache.specs.Held.{Held, Change, opens, closes, stays, turns, turns_by, shuts, looks, takes, begins, ends, reads_on, seeks, reads_no_more, renews, waits, change_of, changed, is_done, number_of, opened, outcome, row, untold, was_wrong}
 use Rattle.pingora_cache.specs.LockMoves.{MovesLocks}
 use Rattle.pingora_cache.specs.Moved.{Moves, MovesRequest, MovesStore}
-use Rattle.pingora_cache.specs.Rules.{Answers}
-use Rattle.pingora_cache.specs.Step.{IsMoved, IsOfWorldIn, IsRow, IsRowed, Turn}
+use Rattle.pingora_cache.specs.Rules.{Answers, MayBe}
+use Rattle.pingora_cache.specs.Step.{IsMoved, IsOfOpen, IsOfWorldIn, IsRow, IsRowed, Turn}
 use Rattle.pingora_cache.proofs.LockSteps.{no_locks_move}
+use Rattle.pingora_cache.proofs.MovesOf.{idle}
 
 -- a request that is as its row has it
 pub row-kept : (call : Call) (reply : Reply) (events : List Event) (q q' : Option Held) → q' ≡ row call reply events q → IsRow call reply events q q'
@@ -52,6 +54,47 @@ row-at call reply events all all' is =
 pub moved-by-row : (call c : Call) (reply : Reply) (events : List Event) (all all' : List (ℕ × Held)) → call ≡ c → IsRowed c reply events all all' → IsMoved call all all'
 moved-by-row call c reply events all all' same is =
     subst (λ (d : Call). IsMoved d all all') (sym same) (λ q. is q ∙ ap (λ o. cond (is_at (nat_cmp (number_of c)) q) o (lookup (is_at (nat_cmp q)) all)) (sym (row-at c reply events all all' is)))
+
+-- a call of a request that is not open
+
+none-may : (f : Facts) (call : Call) → IsOfOpen call → MayBe f call None → ⊥
+none-may f (C.Open n) known may = absurd known
+none-may f call known may = absurd may
+
+none-row : (change : Change) → changed change was_wrong [] None ≡ None
+none-row opens = refl
+none-row closes = refl
+none-row stays = refl
+none-row (turns f leaves_pair) = refl
+none-row (turns_by f) = refl
+none-row (shuts f) = refl
+none-row (looks d) = refl
+none-row (takes s) = refl
+none-row begins = refl
+none-row ends = refl
+none-row reads_on = refl
+none-row (seeks start end) = refl
+none-row reads_no_more = refl
+none-row (renews m) = refl
+none-row (waits now) = refl
+
+none-says : (call : Call) → said_by call was_wrong None ≡ []
+none-says (C.Publish r tokens) = refl
+none-says (C.Wait r t) = refl
+none-says call = refl
+
+pub none-of : (limits : Limits) (call : Call) (q q' : Option Held) (s : Store) (m : Tracked) (t : Locks) (reply : Reply) (events : List Event) → IsOfOpen call → q ≡ None → q' ≡ None → reply ≡ R.WrongCall → events ≡ [] → Turn limits call q s m t reply events q' s m t
+none-of limits call q q' s m t reply events known is now wrong none =
+    subst (λ (p : Option Held). Turn limits call p s m t reply events q' s m t) (sym is)
+    (subst (λ (p : Option Held). Turn limits call None s m t reply events p s m t) (sym now)
+    (subst (λ z. Turn limits call None s m t z events None s m t) (sym wrong)
+    (subst (λ es. Turn limits call None s m t R.WrongCall es None s m t) (sym none) (record {
+      answers = inr (none-may (facts_in s t (request_in None)) call known, (refl, refl));
+      moves = idle None None s s [] refl refl refl limits m;
+      keeps = tt;
+      now = ap (option_map untold) (sym (none-row (change_of call)));
+      locks = no_locks_move (number_of call) (deeds_in call was_wrong [] None) None None t t (ap (λ ds. ds ++ []) (none-says call)) refl refl;
+    }))))
 
 end-answers : (f g : Facts) (n : ℕ) (q : Option Held) (reply : Reply) (events : List Event) → Answers f (C.End n) q reply events → Answers g (C.End n) q reply events
 end-answers f g n None reply events a = a

@@ -22,7 +22,7 @@ use Rattle.pingora_cache.proofs.Laws.{legal_world}
 use Rattle.pingora_cache.proofs.MovedState.{set_to}
 use Rattle.pingora_cache.proofs.Opened.{get-set_to}
 use Rattle.pingora_cache.proofs.ReadLocks.{locks-few}
-use Rattle.pingora_cache.proofs.Uniform.{each-call-keeps}
+use Rattle.pingora_cache.proofs.Uniform.{call-age, each-call-keeps}
 use Rattle.pingora_cache.proofs.Untold.{world-told}
 
 -- the requests as entries, and as the map that the entries make
@@ -52,18 +52,31 @@ of-world : (q : Option Held) → IsOfWorldIn (option_map untold q) → IsOfWorld
 of-world None h = h
 of-world (Some x) h = world-told x.request h
 
--- one call of a sound world leaves it sound, with an entry more in its history; its reply is told as it is copied
-pub step_sound : (limits : Limits) (start m m' : Tracked) (s s' : Store) (t t' : Locks) (before after : List (ℕ × Held)) (h : List Entry) (call : Call) (reply told : Reply) (events : List Event)
-    → IsSound limits start m s t (from_entries {R = nat_cmp} before) h → length before < 2 ^ 64
-    → (IsOfWorldIn (lookup (is_at (nat_cmp (number_of call))) before) → Turn limits call (lookup (is_at (nat_cmp (number_of call))) before) s m t reply events (lookup (is_at (nat_cmp (number_of call))) after) s' m' t')
-    → IsMoved call before after → IsCopy reply told
-    → IsSound limits start m' s' t' (from_entries {R = nat_cmp} after) (record { call = call; reply = told; events = events } ∷ h)
-step_sound limits start m m' s s' t t' before after h call reply told events k small turn moved copy =
-    let n = number_of call in
-    let all : FinMap nat_cmp Held = from_entries {R = nat_cmp} before in
-    let q = lookup (is_at (nat_cmp n)) before in
-    let q' = lookup (is_at (nat_cmp n)) after in
-    let world : IsOfWorldIn q = subst IsOfWorldIn (sym (lookup-get before n)) (of-world (get all n) (subst IsOfWorldIn (sym (k.requests n)) (legal_world t.age_timeout limits start h k.legal n))) in
-    let few : (l : ℕ) → read_locks all l + 1 < 2 ^ 128 = λ l. let most = locks-few before l in omega arith in
-    let kept = each-call-keeps limits start m m' s s' t t' all h call reply told events q' k few (subst (λ o. Turn limits call o s m t reply events q' s' m' t') (lookup-get before n) (turn world)) copy in
-    subst (λ (x : FinMap nat_cmp Held). IsSound limits start m' s' t' x (record { call = call; reply = told; events = events } ∷ h)) (sym (entries-after before after call moved)) kept
+-- what a call of a sound world is, by the requests as a map
+module _ (limits : Limits) (start m m' : Tracked) (s s' : Store) (t t' : Locks) (before after : List (ℕ × Held)) (h : List Entry) (call : Call) (reply : Reply) (events : List Event) (k : IsSound limits start m s t (from_entries {R = nat_cmp} before) h) (small : length before < 2 ^ 64)
+    (turn : IsOfWorldIn (lookup (is_at (nat_cmp (number_of call))) before) → Turn limits call (lookup (is_at (nat_cmp (number_of call))) before) s m t reply events (lookup (is_at (nat_cmp (number_of call))) after) s' m' t') where
+  abbrev all : FinMap nat_cmp Held
+  all = from_entries {R = nat_cmp} before
+
+  abbrev n : ℕ
+  n = number_of call
+
+  abbrev q' : Option Held
+  q' = lookup (is_at (nat_cmp n)) after
+
+  few : (l : ℕ) → read_locks all l + 1 < 2 ^ 128
+  few l = let most = locks-few before l in omega arith
+
+  made : Turn limits call (get all n) s m t reply events q' s' m' t'
+  made =
+      let world : IsOfWorldIn (lookup (is_at (nat_cmp n)) before) = subst IsOfWorldIn (sym (lookup-get before n)) (of-world (get all n) (subst IsOfWorldIn (sym (k.requests n)) (legal_world t.age_timeout limits start h k.legal n))) in
+      subst (λ o. Turn limits call o s m t reply events q' s' m' t') (lookup-get before n) (turn world)
+
+  -- it leaves the world sound, with an entry more in its history; its reply is told as it is copied
+  pub step_sound : (told : Reply) → IsMoved call before after → IsCopy reply told → IsSound limits start m' s' t' (from_entries {R = nat_cmp} after) (record { call = call; reply = told; events = events } ∷ h)
+  step_sound told moved copy =
+      subst (λ (x : FinMap nat_cmp Held). IsSound limits start m' s' t' x (record { call = call; reply = told; events = events } ∷ h)) (sym (entries-after before after call moved))
+      (each-call-keeps limits start m m' s s' t t' all h call reply told events q' k few made copy)
+
+  pub step_age : t'.age_timeout ≡ t.age_timeout
+  step_age = call-age limits start m m' s s' t t' all h call reply events q' k few made

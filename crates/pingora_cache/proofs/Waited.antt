@@ -35,17 +35,17 @@ use Rattle.pingora_cache.proofs.Untold.{waited-untold}
 
 -- where a wait is refused
 
+refused-first : (A X : Type 0) (w : Option Watch) (e : X) → (IsSome w → IsOk {T = A} {E = X} (Err e)) → is_some w ≡ false
+refused-first A X None e f = refl
+refused-first A X (Some w) e f = let no : false ≡ true = f refl in absurd (cc)
+
 pub not-polled : {A X : Type 0} (held : Option Locked) (o : Result A X) (e : X) → o ≡ Err e → IfSome (read_in held) (λ rd. IsSome rd.watch → IsOk o) → was_polled held ≡ false
 not-polled None o e is later = refl
 not-polled (Some (Write p)) o e is later = refl
-not-polled (Some (Read rd)) o e is later = by rd.watch (subst (λ r. IsSome rd.watch → IsOk r) is later)
-  where
-    by : (w : Option Watch) → (IsSome w → IsOk (Err e)) → is_some w ≡ false
-    by None f = refl
-    by (Some w) f = absurd (f refl)
+not-polled {A = A} {X = X} (Some (Read rd)) o e is later = refused-first A X rd.watch e (subst (λ (r : Result A X). IsSome rd.watch → IsOk r) is later)
 
 pub names-fills : {A X : Type 0} (fills : Option (List UnusableFill)) (o : Result A X) (e : X) → o ≡ Err e → (fills ≡ None → IsOk o) → IsSome fills
-names-fills None o e is unnamed = absurd (subst IsOk is (unnamed refl))
+names-fills {A = A} {X = X} None o e is unnamed = let no : false ≡ true = subst (λ (r : Result A X). IsOk r) is (unnamed refl) in absurd (cc)
 names-fills (Some fs) o e is unnamed = refl
 
 -- what is noted
@@ -57,6 +57,10 @@ aged-noted b (Some (Read rd)) l old events same some none is =
     let names : ◌≡◌ {A = Option LockName} (Some l) (Some (name_of (Read rd))) = same in
     let name : l ≡ name_of (Read rd) = cc in
     is ∙ (λ i. none i ++ (if b then E.Aged (name i).number ∷ [] else []))
+
+-- by what the wait tells
+pub aged-by : (old-by : Bool) (held : Option Locked) (b : Bool) (l : LockName) (old events : List Event) → b ≡ old-by → Some l ≡ option_map name_of held → IsSome (read_in held) → old ≡ [] → events ≡ old ++ (if b then E.Aged l.number ∷ [] else []) → events ≡ (if old-by then each E.Aged (number_read held) else [])
+aged-by old-by held b l old events so same some none is = aged-noted b held l old events same some none is ∙ ap (λ c. if c then each E.Aged (number_read held) else []) so
 
 pub aged-quiet : (b : Bool) (n : ℕ) (old events : List Event) → old ≡ [] → events ≡ old ++ (if b then E.Aged n ∷ [] else []) → AreQuiet events
 aged-quiet b n old events none is = subst AreQuiet (sym (is ∙ ap (λ es. es ++ (if b then E.Aged n ∷ [] else [])) none)) (elim b as (λ b. AreQuiet (if b then E.Aged n ∷ [] else [])) [ true ↦ (tt, tt) | false ↦ tt ])
@@ -77,6 +81,9 @@ pub wait-write : (t : Locks) (now : ℕ) (held : Option Locked) (x : Request) �
 wait-write t now None x = refl
 wait-write t now (Some (Write p)) x = refl
 wait-write t now (Some (Read rd)) x = refl
+
+pub wait-kept : (t : Locks) (now : ℕ) (held : Option Locked) (x y : Request) → y ≡ waited t now held x → KeepsIn x y
+wait-kept t now held x y is = subst (KeepsIn x) (sym is) (wait-keeps t now held x)
 
 -- the outcome of its reply
 pub wait-outcome : (a : Poll LockWaitOutcome) → outcome (wait_reply a) ≡ was_waited a

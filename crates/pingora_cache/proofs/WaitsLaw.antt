@@ -1,5 +1,5 @@
 -- In a legal history a wait is answered by what the deeds before it say of its lock.
-use Rattle.std.proofs.Common.{◌≡◌, ℕ, ◌×◌, ◌⊎◌, false, Option, None, Some, IsSome, is_some, List, refl, ap, sym, subst, ◌∙◌, inl, inr}
+use Rattle.std.proofs.Common.{◌≡◌, ℕ, ◌⊎◌, false, Option, None, Some, IsSome, is_some, List, refl, ap, sym, subst, ◌∙◌, inl, inr}
 use Rattle.pcache_base.specs.declared.error.ErrorType.TheVariants.{OutOfMemory}
 use Rattle.pcache_base.specs.declared.poll.Poll.{Poll}
 use Rattle.pcache_base.specs.declared.poll.Poll.TheVariants.{Ready, Pending}

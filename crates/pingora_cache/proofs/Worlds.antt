@@ -26,7 +26,7 @@ use Rattle.pingora_cache.proofs.Opened.{open-none}
 use Rattle.pingora_cache.proofs.ReadLocks.{locks-none}
 use Rattle.pingora_cache.proofs.SoundOf.{sound-of}
 use Rattle.pingora_cache.proofs.States.{state-none, state-same}
-use Rattle.pingora_cache.proofs.Turned.{step_sound}
+use Rattle.pingora_cache.proofs.Turned.{step_age, step_sound}
 use Rattle.pingora_cache.proofs.Waiting.{locked-none}
 
 -- with an empty history, no requests and an empty store a world is sound, whatever the manager holds
@@ -65,8 +65,14 @@ pub sound-step : (limits limits' : Limits) (start start' m m' : Tracked) (s s' :
     → IsSound limits' start' m' s' t' (from_entries {R = nat_cmp} after) (reverse h')
 sound-step limits limits' start start' m m' s s' t t' before after h h' call reply told events k small turn moved copy same first is =
     let entry : Entry = record { call = call; reply = told; events = events } in
-    let more = step_sound limits start m m' s s' t t' before after (reverse h) call reply told events k small turn moved copy in
+    let more = step_sound limits start m m' s s' t t' before after (reverse h) call reply events k small turn told moved copy in
     let turned : reverse h' ≡ entry ∷ reverse h = ap reverse is ∙ reverse-append h (entry ∷ []) in
     subst (λ (l : Limits). IsSound l start' m' s' t' (from_entries {R = nat_cmp} after) (reverse h')) (sym same)
     (subst (λ (first : Tracked). IsSound limits first m' s' t' (from_entries {R = nat_cmp} after) (reverse h')) (sym first)
     (subst (λ (xs : List Entry). IsSound limits start m' s' t' (from_entries {R = nat_cmp} after) xs) (sym turned) more))
+
+-- after how long permits are too old stays as it is
+pub same-age : (limits : Limits) (start m m' : Tracked) (s s' : Store) (t t' : Locks) (before after : List (ℕ × Held)) (h : List Entry) (call : Call) (reply : Reply) (events : List Event)
+    → IsSound limits start m s t (from_entries {R = nat_cmp} before) (reverse h) → length before < 2 ^ 64
+    → (IsOfWorldIn (lookup (is_at (nat_cmp (number_of call))) before) → Turn limits call (lookup (is_at (nat_cmp (number_of call))) before) s m t reply events (lookup (is_at (nat_cmp (number_of call))) after) s' m' t') → t'.age_timeout ≡ t.age_timeout
+same-age limits start m m' s s' t t' before after h call reply events k small turn = step_age limits start m m' s s' t t' before after (reverse h) call reply events k small turn

@@ -1,4 +1,4 @@
-use Rattle.std.proofs.Common.{◌≡◌, ap, ◌∙◌}
+use Rattle.std.proofs.Common.{◌≡◌, ap, ◌∙◌, subst}
 use Rattle.pcache_request.specs.Requests.{Request}
 use Rattle.pingora_cache.specs.Rules.{permit_of}
 use Rattle.pingora_cache.specs.Step.{permit_in}

@@ -1,4 +1,4 @@
-use Rattle.std.proofs.Common.{sym, subst}
+use Rattle.std.proofs.Common.{sym, subst, ap}
 use Rattle.pcache_request.specs.Requests.{Request}
 use Rattle.pingora_cache.specs.Facts.{facts_in}
 use Rattle.pingora_cache.specs.Held.{Held}
