@@ -11,6 +11,7 @@ use pingora_cache::meta::CacheMeta;
 use pingora_cache::moment::Moment;
 use pingora_cache::phase::HitStatus;
 use pingora_cache::world::call::Call;
+use pingora_cache::world::tokens::Tokens;
 use std::alloc::{AllocError, AllocFailed, Global};
 
 /// What a line asks for.
@@ -250,7 +251,7 @@ fn read_lock_call(
         }),
         b"publish" => Ok(Call::Publish {
             request,
-            tokens: tokens(alloc, words)?,
+            tokens: Tokens::new(tokens(alloc, words)?),
         }),
         b"release" => Ok(Call::Release {
             request,

@@ -9,3 +9,4 @@ pub mod ShardMaps
 pub mod Sharded
 pub mod TrackedMaps
 pub mod Walks
+pub mod Raised

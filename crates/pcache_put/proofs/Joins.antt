@@ -1,11 +1,12 @@
 -- Where heads end in bytes that come in two pieces.
-use Rattle.std.proofs.Common.{◌≡◌, ◌≢◌, ℕ, ◌+◌, ◌-◌, ◌<◌, ◌≤◌, ◌⊎◌, inl, inr, List, ◌++◌, length, take, ap, sym, ◌∙◌, subst, arith, length-append}
-use Rattle.std.proofs.lemmas.List.{take-append-le}
+use Rattle.std.proofs.Common.{◌≡◌, ◌≢◌, ℕ, zero, suc, true, false, Bool, [], ◌∷◌, refl, ◌+◌, ◌-◌, ◌<◌, ◌≤◌, ◌⊎◌, inl, inr, List, ◌++◌, length, take, drop, slice_index, ap, sym, ◌∙◌, subst, arith, length-append}
+use Rattle.std.proofs.lemmas.List.{take-append-le, take_more}
 use Rattle.std.proofs.lemmas.List.Sums.{fold-append}
-use Rattle.std.proofs.Math.Seq.{take-append-add}
+use Rattle.std.specs.Prelude.{◌==◌}
+use Rattle.std.proofs.Math.Seq.{take-append-add, take-add}
 use Rattle.pcache_put.specs.Places.{next, place_after, CutsAt, NeverCuts}
 use Rattle.pcache_put.specs.declared.head_end.Place.{Place}
-use Rattle.pcache_put.specs.declared.head_end.Place.TheVariants.{Blank, Ended}
+use Rattle.pcache_put.specs.declared.head_end.Place.TheVariants.{Blank, Inside, Ended}
 
 -- the place behind two pieces
 pub place-append : (p : Place) (a b : List ℕ) → place_after p (a ++ b) ≡ place_after (place_after p a) b
@@ -59,3 +60,60 @@ joined_open p q a b c e unended moved later whole =
 
 pub joined_ended : (p : Place) (a b : List ℕ) (n : ℕ) → p ≡ place_after Blank a → NeverCuts a → CutsAt p b n → CutsAt Blank (a ++ b) (length a + n)
 joined_ended p a b n e unended h = CutsAt-append a b n unended (subst (λ r. CutsAt r b n) e h)
+
+-- ---- runs of bytes at which the place stays
+
+not_true : (b : Bool) → (b ≡ true → ⊥) → b ≡ false
+not_true true never = absurd (never refl)
+not_true false never = refl
+
+inside_next : (b : ℕ) → ((b == 0x0A) ≡ true → ⊥) → next Inside b ≡ Inside
+inside_next b never = rw (not_true (b == 0x0A) never) refl
+
+-- in a line, up to its line feed
+pub inside_run : (bytes : List ℕ) (n : ℕ) → ((k : ℕ) → k < n → (slice_index bytes k == 0x0A) ≡ true → ⊥) → (k : ℕ) → k ≤ n → place_after Inside (take k bytes) ≡ Inside
+inside_run bytes n none zero le = refl
+inside_run [] n none (suc k) le = refl
+inside_run (b ∷ bytes) n none (suc k) le =
+    ap (λ p. place_after p (take k bytes)) (inside_next b (none 0 (omega (arith, le))))
+    ∙ inside_run bytes (n - 1) (λ j lt. none (suc j) (omega (arith, lt))) k (omega (arith, le))
+
+-- the byte behind
+pub place_next : (p q : Place) (bytes : List ℕ) (j : ℕ) → j < length bytes → place_after p (take j bytes) ≡ q → place_after p (take (j + 1) bytes) ≡ next q (slice_index bytes j)
+place_next p q bytes j lt there =
+    ap (place_after p) (take_more bytes j 0 lt) ∙ place-append p (take j bytes) (slice_index bytes j ∷ []) ∙ ap (λ r. next r (slice_index bytes j)) there
+
+-- behind a run, and at each byte of it
+pub place_stays : (p q : Place) (bytes : List ℕ) (i n : ℕ) → q ≡ place_after p (take i bytes) → ((k : ℕ) → k ≤ n → place_after q (take k (drop i bytes)) ≡ q) → (k : ℕ) → k ≤ n → place_after p (take (i + k) bytes) ≡ q
+place_stays p q bytes i n there stays k le =
+    ap (place_after p) (take-add i k bytes) ∙ place-append p (take i bytes) (take k (drop i bytes)) ∙ ap (λ r. place_after r (take k (drop i bytes))) (sym there) ∙ stays k le
+
+-- where the head did not end before a run, it does not end in it
+pub run_goes_on : (p q : Place) (bytes : List ℕ) (i n : ℕ) → q ≡ place_after p (take i bytes) → q ≢ Ended → ((k : ℕ) → k ≤ i → place_after p (take k bytes) ≢ Ended) → ((k : ℕ) → k ≤ n → place_after q (take k (drop i bytes)) ≡ q)
+    → (k : ℕ) → k ≤ i + n → place_after p (take k bytes) ≢ Ended
+run_goes_on p q bytes i n there going before stays k le = by_order (order k i) where
+  by_order : (k ≤ i) ⊎ (i < k) → place_after p (take k bytes) ≢ Ended
+  by_order (inl early) = before k early
+  by_order (inr late) = λ e.
+      let here : i + (k - i) ≡ k = omega arith in
+      going (sym (place_stays p q bytes i n there stays (k - i) (omega (arith, le))) ∙ ap (λ j. place_after p (take j bytes)) here ∙ e)
+
+-- a run, and the byte behind it, at which the head ends
+pub cuts_behind : (p q : Place) (bytes : List ℕ) (i n : ℕ) → i + n < length bytes → q ≡ place_after p (take i bytes) → q ≢ Ended → ((k : ℕ) → k ≤ i → place_after p (take k bytes) ≢ Ended) → ((k : ℕ) → k ≤ n → place_after q (take k (drop i bytes)) ≡ q)
+    → next q (slice_index bytes (i + n)) ≡ Ended → CutsAt p bytes (i + n + 1)
+cuts_behind p q bytes i n lt there going before stays ends = record {
+  within = omega (arith, lt);
+  ended = place_next p q bytes (i + n) lt (place_stays p q bytes i n there stays n (omega arith)) ∙ ends;
+  no_sooner = λ k le. run_goes_on p q bytes i n there going before stays k (omega (arith, le));
+}
+
+-- one at which it does not
+pub goes_on_behind : (p q r : Place) (bytes : List ℕ) (i n : ℕ) → i + n < length bytes → q ≡ place_after p (take i bytes) → q ≢ Ended → ((k : ℕ) → k ≤ i → place_after p (take k bytes) ≢ Ended) → ((k : ℕ) → k ≤ n → place_after q (take k (drop i bytes)) ≡ q)
+    → r ≡ next q (slice_index bytes (i + n)) → r ≢ Ended → (r ≡ place_after p (take (i + n + 1) bytes)) × ((k : ℕ) → k ≤ i + n + 1 → place_after p (take k bytes) ≢ Ended)
+goes_on_behind p q r bytes i n lt there going before stays e on =
+    let here : r ≡ place_after p (take (i + n + 1) bytes) = e ∙ sym (place_next p q bytes (i + n) lt (place_stays p q bytes i n there stays n (omega arith))) in
+    (here, λ k le. by_order k le (order k (i + n)) here)
+  where
+    by_order : (k : ℕ) → k ≤ i + n + 1 → (k ≤ i + n) ⊎ (i + n < k) → r ≡ place_after p (take (i + n + 1) bytes) → place_after p (take k bytes) ≢ Ended
+    by_order k le (inl early) here = run_goes_on p q bytes i n there going before stays k early
+    by_order k le (inr late) here = λ x. on (here ∙ ap (λ j. place_after p (take j bytes)) (let same : i + n + 1 ≡ k = omega arith in same) ∙ x)

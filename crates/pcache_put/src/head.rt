@@ -1,5 +1,5 @@
 //! Reading the head of a response.
-ghost use Rattle.std.specs.Prelude.{◌≡◌, ◌⊎◌, ℕ, ◌+◌, ◌<◌, ◌≤◌, ◌^◌, List, [], length, take, map, All, IfOk, IfErr, OnOk, OnErr, IsErrOf};
+ghost use Rattle.std.specs.Prelude.{◌≡◌, ◌⊎◌, ℕ, ◌+◌, ◌<◌, ◌≤◌, ◌^◌, List, [], length, take, map, All, IsOk, IfOk, IfErr, OnOk, OnErr, IsErrOf};
 ghost use Rattle.httparse.specs.Grammar.{ResponseHead, status_code};
 ghost use Rattle.httparse.specs.Spans.{AreFieldsAt, IsHeaderWithin, header_bytes};
 ghost use Rattle.http_header.specs.Token.{IsToken, lowercase};
@@ -9,10 +9,9 @@ ghost use Rattle.pcache_put.specs.Head.{IsHead, ReadsHeader, version_of};
 ghost use Rattle.pcache_put.specs.Fields.{IsPair, IsShort, append_pair, fields_after};
 ghost use Rattle.pcache_base.specs.declared.error.ErrorType.TheVariants.{OutOfMemory, InvalidHttpHeader};
 
+use bytes::Bytes;
 use http::StatusCode;
-use http_header::{
-    HeaderMap, HeaderMapError, HeaderName, HeaderNameError, HeaderValue, HeaderValueError,
-};
+use http_header::{HeaderMap, HeaderMapError, HeaderName, HeaderNameError, HeaderValue};
 use httparse::Status;
 use httparse::spans::{EMPTY_HEADER_SPAN, HeaderSpan, ResponseSpans, parse_response};
 use pcache_base::error::{Error, ErrorType, Result};
@@ -39,39 +38,27 @@ fn parts_of(bytes: &[u8], room: &mut [HeaderSpan]) -> Result<ResponseSpans>
     }
 }
 
-// Adds a field of the grammar.
-fn add_field(alloc: Global, fields: &mut HeaderMap, name: &[u8], value: &[u8]) -> Result<()>
-    requires pair { IsPair (name.now, value.now) }
-    requires names { length fields.old < 24576 }
-    requires values { value_count fields.old + 1 < 2 ^ 64 }
-    ensures ok { OnOk result (fields.new ≡ append fields.old (lowercase name.now) (plain_value value.now)) }
-    ensures short { OnOk result (IsShort (name.now, value.now)) }
-    ensures long { IfErr result (λ e. e ≡ InvalidHttpHeader → ¬ (IsShort (name.now, value.now))) }
-    ensures too_long { ¬ (IsShort (name.now, value.now)) → IsErrOf result InvalidHttpHeader }
+// The name that a field of the grammar has.
+fn field_name(alloc: Global, name: &[u8]) -> Result<HeaderName>
+    requires { IsToken name.now }
+    ensures ok { IfOk result (λ n. n ≡ lowercase name.now) }
+    ensures short { OnOk result (length name.now ≤ 65535) }
+    ensures long { IfErr result (λ e. e ≡ InvalidHttpHeader → ¬ (length name.now ≤ 65535)) }
+    ensures too_long { ¬ (length name.now ≤ 65535) → IsErrOf result InvalidHttpHeader }
     ensures kind { IfErr result (λ e. (e ≡ OutOfMemory) ⊎ (e ≡ InvalidHttpHeader)) }
 {
     if name.len() > MAX_NAME_LEN {
         return Err(Error::new(ErrorType::InvalidHttpHeader));
     }
-    let name = match HeaderName::from_bytes(alloc, name) {
-        Ok(name) => name,
-        Err(HeaderNameError::OutOfMemory) => return Err(Error::new(ErrorType::OutOfMemory)),
+    match HeaderName::from_bytes(alloc, name) {
+        Ok(name) => Ok(name),
+        Err(HeaderNameError::OutOfMemory) => Err(Error::new(ErrorType::OutOfMemory)),
         Err(HeaderNameError::Invalid) => unreachable!(),
-    };
-    let value = match HeaderValue::from_bytes(alloc, value) {
-        Ok(value) => value,
-        Err(HeaderValueError::OutOfMemory) => return Err(Error::new(ErrorType::OutOfMemory)),
-        Err(HeaderValueError::Invalid) => unreachable!(),
-    };
-    match fields.append(name, value) {
-        Ok(_) => Ok(()),
-        Err(HeaderMapError::OutOfMemory) => Err(Error::new(ErrorType::OutOfMemory)),
-        Err(HeaderMapError::MaxSizeReached) => unreachable!(),
     }
 }
 
-// Adds the field that a span covers.
-fn add_span(alloc: Global, fields: &mut HeaderMap, bytes: &[u8], span: HeaderSpan) -> Result<()>
+// Adds the field that a span covers. Its value is a part of the bytes, and no copy of them.
+fn add_span(alloc: Global, fields: &mut HeaderMap, bytes: &Bytes, span: HeaderSpan) -> Result<()>
     requires within { IsHeaderWithin (length bytes.now) span }
     requires pair { IsPair (header_bytes bytes.now span) }
     requires names { length fields.old < 24576 }
@@ -79,13 +66,34 @@ fn add_span(alloc: Global, fields: &mut HeaderMap, bytes: &[u8], span: HeaderSpa
     ensures ok { OnOk result (fields.new ≡ append_pair fields.old (header_bytes bytes.now span)) }
     ensures short { OnOk result (IsShort (header_bytes bytes.now span)) }
     ensures long { IfErr result (λ e. e ≡ InvalidHttpHeader → ¬ (IsShort (header_bytes bytes.now span))) }
+    ensures too_long { ¬ (IsShort (header_bytes bytes.now span)) → IsErrOf result InvalidHttpHeader }
     ensures kind { IfErr result (λ e. (e ≡ OutOfMemory) ⊎ (e ≡ InvalidHttpHeader)) }
 {
-    add_field(alloc, fields, span.name.of(bytes), span.value.of(bytes))
+    let name = field_name(alloc, span.name.of(bytes.as_slice()))?;
+    let value = HeaderValue::from_known_valid(bytes.slice(span.value.start..span.value.end)?);
+    match fields.append(name, value) {
+        Ok(_) => Ok(()),
+        Err(HeaderMapError::OutOfMemory) => Err(Error::new(ErrorType::OutOfMemory)),
+        Err(HeaderMapError::MaxSizeReached) => unreachable!(),
+    }
+}
+
+// A map with room for as many names as there are fields at most.
+fn room_for(alloc: Global, fields: usize) -> Result<HeaderMap>
+    requires { fields ≤ 256 }
+    ensures ok { IfOk result (λ map. map ≡ []) }
+    ensures kind { IfErr result (λ e. e ≡ OutOfMemory) }
+    ensures none { fields ≡ 0 → IsOk result }
+{
+    match HeaderMap::with_capacity(alloc, fields) {
+        Ok(map) => Ok(map),
+        Err(HeaderMapError::OutOfMemory) => Err(Error::new(ErrorType::OutOfMemory)),
+        Err(HeaderMapError::MaxSizeReached) => unreachable!(),
+    }
 }
 
 // The fields that the spans cover.
-fn fields_of(alloc: Global, bytes: &[u8], spans: &[HeaderSpan]) -> Result<HeaderMap>
+fn fields_of(alloc: Global, bytes: &Bytes, spans: &[HeaderSpan]) -> Result<HeaderMap>
     requires few { length spans.now ≤ 256 }
     requires within { All (IsHeaderWithin (length bytes.now)) spans.now }
     requires pairs { All IsPair (map (header_bytes bytes.now) spans.now) }
@@ -94,7 +102,7 @@ fn fields_of(alloc: Global, bytes: &[u8], spans: &[HeaderSpan]) -> Result<Header
     ensures long { IfErr result (λ e. e ≡ InvalidHttpHeader → ¬ (All IsShort (map (header_bytes bytes.now) spans.now))) }
     ensures kind { IfErr result (λ e. (e ≡ OutOfMemory) ⊎ (e ≡ InvalidHttpHeader)) }
 {
-    let mut fields = HeaderMap::new(alloc);
+    let mut fields = room_for(alloc, spans.len())?;
     'spans: for i in 0..spans.len() {
         add_span(alloc, &mut fields, bytes, spans[i])?;
     }
@@ -112,20 +120,21 @@ fn version_of(minor: u8) -> HttpVersion
 }
 
 // The head that the bytes are, all of them.
-pub(crate) fn read_header(alloc: Global, bytes: &[u8]) -> Result<ResponseHeader>
-    ensures ok { IfOk result (ReadsHeader bytes.now) }
-    ensures invalid { IfErr result (λ e. e ≡ InvalidHttpHeader → (header : _) → ¬ (ReadsHeader bytes.now header)) }
-    ensures no_head { ((h : ResponseHead) → ¬ (IsHead 256 bytes.now h)) → IsErrOf result InvalidHttpHeader }
+pub(crate) fn read_header(alloc: Global, bytes: Vec<u8>) -> Result<ResponseHeader>
+    ensures ok { IfOk result (ReadsHeader bytes.items) }
+    ensures invalid { IfErr result (λ e. e ≡ InvalidHttpHeader → (header : _) → ¬ (ReadsHeader bytes.items header)) }
+    ensures no_head { ((h : ResponseHead) → ¬ (IsHead 256 bytes.items h)) → IsErrOf result InvalidHttpHeader }
     ensures kind { IfErr result (λ e. (e ≡ OutOfMemory) ⊎ (e ≡ InvalidHttpHeader)) }
 {
     let mut room = [EMPTY_HEADER_SPAN; MAX_FIELDS];
-    let head = parts_of(bytes, &mut room)?;
+    let head = parts_of(bytes.as_slice(), &mut room)?;
     let Ok(status) = StatusCode::from_u16(head.code) else {
         return Err(Error::new(ErrorType::InvalidHttpHeader));
     };
+    let bytes = Bytes::from_vec(bytes)?;
     Ok(ResponseHeader {
         version: version_of(head.version),
         status,
-        headers: fields_of(alloc, bytes, &room[..head.headers])?,
+        headers: fields_of(alloc, &bytes, &room[..head.headers])?,
     })
 }

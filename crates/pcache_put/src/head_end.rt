@@ -1,8 +1,9 @@
 //! Where the head of a response ends, as its bytes come.
-ghost use Rattle.std.specs.Prelude.{◌≡◌, ◌≢◌, ℕ, ◌+◌, ◌≤◌, ◌<◌, ◌++◌, [], List, length, take, IfSome, IfNone, IfOk, IfErr};
+ghost use Rattle.std.specs.Prelude.{◌≡◌, ◌≢◌, ℕ, ◌+◌, ◌≤◌, ◌<◌, ◌++◌, [], List, length, take, drop, IfSome, IfNone, IfOk, IfErr};
 ghost use Rattle.pcache_put.specs.Places.{next, place_after, CutsAt};
 ghost use Rattle.pcache_base.specs.declared.error.ErrorType.TheVariants.{OutOfMemory};
 
+use memchr::memchr;
 use pcache_base::error::Result;
 use std::alloc::Global;
 use std::marker::Model;
@@ -37,6 +38,28 @@ fn next(place: Place, byte: u8) -> Place
     }
 }
 
+// How many of the next bytes of a line there are before it ends, which are searched at once.
+fn line_rest(bytes: &[u8]) -> usize
+    ensures within { result ≤ length bytes.now }
+    ensures stays { (k : ℕ) → k ≤ result → place_after Place.Inside (take k bytes.now) ≡ Place.Inside }
+{
+    match memchr(b'\n', bytes) {
+        Some(end) => end,
+        None => bytes.len(),
+    }
+}
+
+// How many of the next bytes leave the place as it is, at the least.
+fn passed(place: Place, bytes: &[u8]) -> usize
+    ensures within { result ≤ length bytes.now }
+    ensures stays { (k : ℕ) → k ≤ result → place_after place (take k bytes.now) ≡ place }
+{
+    match place {
+        Place::Inside => line_rest(bytes),
+        _ => 0,
+    }
+}
+
 // How many of the next bytes still belong to the head, if it ends among them; else the place moves on.
 fn cut(place: &mut Place, piece: &[u8]) -> Option<usize>
     requires { place.old ≢ Place.Ended }
@@ -44,10 +67,16 @@ fn cut(place: &mut Place, piece: &[u8]) -> Option<usize>
     ensures none { IfNone result ((k : ℕ) → k ≤ length piece.now → place_after place.old (take k piece.now) ≢ Place.Ended) }
     ensures moved { IfNone result (place.new ≡ place_after place.old piece.now) }
 {
-    'bytes: for i in 0..piece.len() {
-        *place = next(*place, piece[i]);
-        if *place == Place::Ended {
-            return Some(i + 1);
+    let mut at = 0;
+    'bytes: while at < piece.len() {
+        at += passed(*place, &piece[at..]);
+        if at == piece.len() {
+            return None;
+        }
+        *place = next(*place, piece[at]);
+        at += 1;
+        if let Place::Ended = *place {
+            return Some(at);
         }
     }
     None

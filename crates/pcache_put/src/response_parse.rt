@@ -67,10 +67,10 @@ fn body_size(head: &ResponseHeader) -> Option<usize>
 }
 
 // Reads a head that has ended, and gives it; answers how many bytes of the body are left.
-fn give_head(alloc: Global, bytes: &[u8], parts: &mut Vec<ParsePart>) -> Result<Option<usize>>
-    ensures ok { IfOk result (λ size. (head : ResponseHeader) × ReadsHeader bytes.now head × HasSize head size
+fn give_head(alloc: Global, bytes: Vec<u8>, parts: &mut Vec<ParsePart>) -> Result<Option<usize>>
+    ensures ok { IfOk result (λ size. (head : ResponseHeader) × ReadsHeader bytes.items head × HasSize head size
         × (parts.new.items ≡ parts.old.items ++ ParsePart.Head head (is_whole size []) ∷ [])) }
-    ensures invalid { IfErr result (λ e. e ≡ InvalidHttpHeader → (head : ResponseHeader) → ¬ (ReadsHeader bytes.now head)) }
+    ensures invalid { IfErr result (λ e. e ≡ InvalidHttpHeader → (head : ResponseHeader) → ¬ (ReadsHeader bytes.items head)) }
     ensures kind { IfErr result (λ e. (e ≡ OutOfMemory) ⊎ (e ≡ InvalidHttpHeader)) }
 {
     let head = read_header(alloc, bytes)?;
@@ -122,7 +122,7 @@ fn take_head(
     match head.join(piece)? {
         HeadPiece::Open(head) => Ok(Progress::Head(head)),
         HeadPiece::Ended(head, used) => {
-            let size = give_head(alloc, head.as_slice(), parts)?;
+            let size = give_head(alloc, head, parts)?;
             let left = give_body(alloc, size, &piece[used..], parts)?;
             Ok(Progress::Body(left))
         }

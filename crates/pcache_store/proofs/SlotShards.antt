@@ -1,16 +1,16 @@
 -- Slots in shards as one map, after one table was changed at a key of its own.
-use Rattle.std.proofs.Common.{◌≡◌, ◌%◌, ◌<◌, ◌≤◌, ◌^◌, ◌+◌, ◌-◌, ℕ, zero, suc, Bool, true, false, Option, None, Some, is_some, List, [], ◌∷◌, cond, refl, sym, ap, subst, ◌∙◌, arith, length}
-use Rattle.std.specs.Prelude.{slice_get, slice_set, slice_index_or, IsSome, Result, Ok, Err, OnOk, OnErr}
+use Rattle.std.proofs.Common.{◌≡◌, ◌%◌, ◌<◌, ◌≤◌, ◌^◌, ◌+◌, ℕ, zero, suc, true, false, Option, None, Some, List, [], ◌∷◌, cond, refl, sym, ap, subst, ◌∙◌, arith, length}
+use Rattle.std.specs.Prelude.{slice_get, slice_set, slice_index_or}
 use Rattle.std.specs.Ordering.{nat_cmp}
-use Rattle.std.specs.Cmp.{nat_cmp_total}
-use Rattle.std.specs.FinMap.{FinMap, empty, get, insert, remove, len, contains_key, get-empty, len-insert, len-remove, len-empty, empty_of_len}
-use Rattle.std.proofs.lemmas.List.{length-set}
+use Rattle.std.specs.FinMap.{FinMap, empty, get, insert, remove, len, len-empty}
+use Rattle.std.proofs.lemmas.List.{length-set, set-get_or}
 use Rattle.std.proofs.lemmas.Option.{get_or_from_slice_get}
 use Rattle.pcache_meta.specs.Meta.{Meta}
 use Rattle.pcache_table.specs.Sharding.{Part, Belongs, Placed, AllPlaced, joined, part_of}
 use Rattle.pcache_table.proofs.Sharded.{get-joined, insert-joined, remove-joined, all-set, part-joined, made-placed, made-empty, belongs-insert, belongs-remove, get-insert-at, get-remove-at}
-use Rattle.pcache_store.specs.Store.{Slot, Stored, body_of, is_idle, with_slot, slot_or_new, opened_in, opened, shut_on, stored_on, with_meta, meta_changed_in, meta_changed_on}
+use Rattle.pcache_store.specs.Store.{Slot, Stored, is_idle, with_slot, slot_or_new, opened_in, opened, shut_on, stored_on, with_meta, meta_changed_in, meta_changed_on}
 use Rattle.pcache_store.specs.Shards.{parts, AreShards}
+use Rattle.pcache_store.proofs.Maps.{held, insert_len, remove_len}
 
 abbrev Map : Type 0
 Map = FinMap nat_cmp Slot
@@ -31,31 +31,6 @@ parts-set : (ms : List Map) (i j : ℕ) (m : Map) → parts i (slice_set ms j m)
 parts-set [] i j m = refl
 parts-set (x ∷ ms) i zero m = ap (λ p. part p m ∷ parts (suc i) ms) (let e : i ≡ i + 0 = omega arith in e)
 parts-set (x ∷ ms) i (suc j) m = ap (λ t. part i x ∷ t) (parts-set ms (suc i) j m ∙ ap (λ p. slice_set (parts (suc i) ms) j (part p m)) (let e : suc i + j ≡ i + suc j = omega arith in e))
-
-pub set_same : (ms : List Map) (j : ℕ) (d : Map) → slice_set ms j (slice_index_or ms j d) ≡ ms
-set_same [] j d = refl
-set_same (m ∷ ms) zero d = refl
-set_same (m ∷ ms) (suc j) d = ap (λ t. m ∷ t) (set_same ms j d)
-
-abbrev pub held : Option Slot → ℕ
-held o = cond (is_some o) 1 0
-
--- the numbers of keys before and after a key was set or taken out
-insert_len : (m : Map) (k : ℕ) (v : Slot) → len (insert m k v) + held (get m k) ≡ len m + 1
-insert_len m k v =
-    elim (is_some (get m k)) as (λ b. len (insert m k v) ≡ cond b (len m) (len m + 1) → len (insert m k v) + cond b 1 0 ≡ len m + 1) [ true ↦ λ h. omega arith | false ↦ λ h. omega arith ] (len-insert nat_cmp_total m k v)
-
-remove_len : (m : Map) (k : ℕ) → len (remove m k) + held (get m k) ≡ len m
-remove_len m k =
-    let whole = len-remove nat_cmp_total m k in
-    elim (get m k) as (λ o. get m k ≡ o → len (remove m k) ≡ cond (is_some o) (len m - 1) (len m) → len (remove m k) + held o ≡ len m) [
-      | None ↦ λ e h. omega arith
-      | Some x ↦ λ e h. some (len m) refl x e h
-    ] refl whole
-  where
-    some : (n : ℕ) → len m ≡ n → (x : Slot) → get m k ≡ Some x → len (remove m k) ≡ len m - 1 → len (remove m k) + 1 ≡ len m
-    some zero z x e h = let none : get m k ≡ None = ap (λ m. get m k) (empty_of_len m z) ∙ get-empty nat_cmp k in let both : None ≡ Some x = sym none ∙ e in cc
-    some (suc n) z x e h = omega arith
 
 -- one table changed at a key of its own: the whole map, and the number of keys
 pub record Changed (ms : List Map) (key : ℕ) (x after : Map) : Type 0 where
@@ -109,7 +84,7 @@ module _ (ms : List Map) (key : ℕ) (d : Map) (long : length ms ≡ 16) (placed
 
   pub changed-same : Changed ms key (slice_index_or ms (key % 16) d) (joined (parts 0 ms))
   changed-same =
-      let same = set_same ms (key % 16) d in
+      let same = set-get_or ms (key % 16) d in
       let there : held (get (slice_index_or ms (key % 16) d) key) ≡ held (get (joined (parts 0 ms)) key) = ap held here in
       record { whole = ap (λ x. joined (parts 0 x)) same; placed = subst (λ x. AllPlaced 16 (parts 0 x)) (sym same) placed; count = omega arith }
 

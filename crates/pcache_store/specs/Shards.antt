@@ -1,12 +1,12 @@
--- The slots by key in shards (own): the shard of a key is the key modulo 16.
-use Rattle.std.specs.Prelude.{ℕ, ◌≡◌, ◌<◌, ◌^◌, suc, List, [], ◌∷◌, length}
+-- What stands in shards (own): there are 16, and the shard of a key is the key modulo 16.
+use Rattle.std.specs.Prelude.{ℕ, ◌≡◌, ◌<◌, ◌^◌, ◌%◌, ◌==◌, suc, List, [], ◌∷◌, length, slice_index_or, Bool, false, Option, Some, None}
 use Rattle.std.specs.Ordering.{nat_cmp}
-use Rattle.std.specs.FinMap.{FinMap, len}
+use Rattle.std.specs.FinMap.{FinMap, empty, get, len, retain_keys}
 use Rattle.pcache_table.specs.Sharding.{Part, AllPlaced, joined}
-use Rattle.pcache_store.specs.Store.{Slot}
+use Rattle.pcache_store.specs.Store.{Slot, Written}
 
 -- tables side by side, each with its place
-abbrev pub parts : ℕ → List (FinMap nat_cmp Slot) → List (Part Slot)
+abbrev pub parts : {V : Type 0} → ℕ → List (FinMap nat_cmp V) → List (Part V)
 parts i [] = []
 parts i (m ∷ ms) = record { place = i; map = m } ∷ parts (suc i) ms
 
@@ -16,3 +16,26 @@ pub record AreShards (shards : List (FinMap nat_cmp Slot)) (count : ℕ) : Type 
   pub placed : AllPlaced 16 (parts 0 shards)
   pub counted : count ≡ len (joined (parts 0 shards))
   pub few : count < 2 ^ 63
+
+-- the writes of a shard's keys
+abbrev pub is_of_shard : ℕ → Option Written → Bool
+is_of_shard shard None = false
+is_of_shard shard (Some w) = (w.slot % 16) == shard
+
+abbrev pub of_shard : ℕ → FinMap nat_cmp Written → FinMap nat_cmp Written
+of_shard shard ws = retain_keys ws (λ n. is_of_shard shard (get ws n))
+
+-- the table at a place
+abbrev pub table_at : List (FinMap nat_cmp Written) → ℕ → FinMap nat_cmp Written
+table_at shards place = slice_index_or shards place empty
+
+-- each write stands in the table of its key's shard and in no other, and the number of all writes is known
+pub record AreRecords (shards : List (FinMap nat_cmp Written)) (count : ℕ) : Type 0 where
+  pub long : length shards ≡ 16
+  pub own : (place : ℕ) → place < 16 → table_at shards place ≡ of_shard place (joined (parts 0 shards))
+  pub counted : count ≡ len (joined (parts 0 shards))
+  pub few : count < 2 ^ 63
+
+-- the table at a place has a number where one of them has it
+abbrev pub IsPlaceOf : List (FinMap nat_cmp Written) → ℕ → ℕ → Type 0
+IsPlaceOf shards number place = get (table_at shards place) number ≡ None → (i : ℕ) → i < 16 → get (table_at shards i) number ≡ None

@@ -6,12 +6,14 @@ ghost use Rattle.pcache_table.specs.Sharding.{part_of};
 ghost use Rattle.pcache_store.specs.Finishes.{created};
 ghost use Rattle.pcache_store.specs.Purge.{target_slot};
 ghost use Rattle.pcache_store.specs.Refusals.{MayRefuseFinish};
+ghost use Rattle.pcache_store.specs.Shards.{of_shard};
 ghost use Rattle.pcache_store.specs.Store.{joined, left, wrote, dropped, finished, stands, left_on, found_part};
 ghost use Rattle.pcache_store.specs.Tag.{named_by};
 ghost use Rattle.pcache_store.specs.Totals.{stored_bytes, slots};
 
 mod body;
 mod draft;
+mod draft_table;
 mod drafts;
 mod hit;
 mod miss;
@@ -100,72 +102,89 @@ impl MemCache {
         self.drafts.len()
     }
 
-    pub(crate) fn draft(&self, number: u128) -> Option<&Draft>
+    /// The number of writes of a shard's keys that are kept. A write is kept in the shard of its key.
+    pub fn shard_write_records(&self, shard: usize) -> usize
+        requires { shard < 16 }
+        ensures { result ≡ map.len (of_shard shard self.now.writes) }
+    {
+        self.drafts.shard_len(shard)
+    }
+
+    // The record of a write, which stands in the shard of its key's slot.
+    pub(crate) fn draft(&self, slot: u128, number: u128) -> Option<&Draft>
         ensures { option_copied result ≡ map.get self.now.writes number }
     {
-        self.drafts.get(number)
+        self.drafts.get(slot, number)
     }
 
     ghost use Rattle.pcache_store.specs.Readers.{reader_of};
 
     // A reader more of a write, from its beginning, and its meta.
-    fn follow(&mut self, alloc: Global, number: u128) -> Result<Option<(CacheMeta, MemHitHandler)>>
+    fn follow(
+        &mut self,
+        alloc: Global,
+        slot: u128,
+        number: u128,
+    ) -> Result<Option<(CacheMeta, MemHitHandler)>>
         ensures found { IfOk result (λ r. option_map (λ p. (p.0, reader_of p.1)) r ≡ found_part number (map.get self.old.writes number)) }
         ensures ok { OnOk result (self.new ≡ joined self.old number) }
         ensures something { OnErr result (IsSome (map.get self.old.writes number)) }
         ensures kind { IfErr result (λ e. e ≡ OutOfMemory) }
         ensures err { OnErr result (self.new ≡ self.old) }
     {
-        match self.drafts.join(alloc, number) {
-            Ok(Some(meta)) => Ok(Some((meta, MemHitHandler::Partial(PartialHit::new(number))))),
+        match self.drafts.join(alloc, slot, number) {
+            Ok(Some(meta)) => {
+                let part = PartialHit::new(slot, number);
+                Ok(Some((meta, MemHitHandler::Partial(part))))
+            }
             Ok(None) => Ok(None),
             Err(refused) => Err(refused),
         }
     }
 
-    pub(crate) fn leave(&mut self, number: u128)
+    pub(crate) fn leave(&mut self, slot: u128, number: u128)
         ensures { self.new ≡ record self.old { writes = left_on self.old.writes number (map.get self.old.writes number) } }
     {
-        self.drafts.leave(number);
+        self.drafts.leave(slot, number);
     }
 
-    pub(crate) fn write(&mut self, number: u128, bytes: &[u8], eof: bool) -> Result<()>
+    pub(crate) fn write(&mut self, slot: u128, number: u128, bytes: &[u8], eof: bool) -> Result<()>
         ensures ok { OnOk result (self.new ≡ wrote self.old number bytes.now eof) }
         ensures kind { IfErr result (λ e. e ≡ OutOfMemory) }
         ensures err { OnErr result (self.new ≡ self.old) }
     {
         let alloc = self.alloc;
-        self.drafts.write(alloc, number, bytes, eof)
+        self.drafts.write(alloc, slot, number, bytes, eof)
     }
 
-    pub(crate) fn drop_write(&mut self, number: u128)
+    pub(crate) fn drop_write(&mut self, slot: u128, number: u128)
         ensures { self.new ≡ dropped self.old number }
     {
-        let Some(draft) = self.drafts.get(number) else {
+        let Some(draft) = self.drafts.get(slot, number) else {
             return;
         };
         let slot = draft.slot();
         self.slots.shut(slot, number);
-        self.drafts.land(number);
+        self.drafts.land(slot, number);
     }
 
-    pub(crate) fn finish(&mut self, number: u128) -> Result<MissFinishType>
+    pub(crate) fn finish(&mut self, slot: u128, number: u128) -> Result<MissFinishType>
         ensures answer { IfOk result (λ f. f ≡ created self.old number) }
         ensures ok { OnOk result (self.new ≡ finished self.old number) }
         ensures untouched { OnOk result (stands self.old number ≡ true) }
         ensures kind { IfErr result (λ e. MayRefuseFinish self.old number e) }
         ensures err { OnErr result (self.new ≡ dropped self.old number) }
     {
-        let Some(draft) = self.drafts.get(number) else {
+        let Some(draft) = self.drafts.get(slot, number) else {
             return Err(Error::new(ErrorType::WriteRemoved));
         };
         let slot = draft.slot();
         if !self.slots.is_fresh(slot, number) {
-            self.drop_write(number);
+            self.drop_write(slot, number);
             return Err(Error::new(ErrorType::WriteRemoved));
         }
         let alloc = self.alloc;
-        match self.drafts.end(alloc, number) {
+        match self.drafts.end(alloc, slot, number) {
             Ok(body) => {
                 let size = body.len();
                 self.slots.store(slot, number, body);
@@ -227,13 +246,14 @@ impl Storage for MemCache {
         alloc: Global,
         key: &CacheKey,
     ) -> Result<Option<(CacheMeta, MemHitHandler)>> {
-        let Some(slot) = self.slots.get(key.slot()) else {
+        let slot = key.slot();
+        let Some(held) = self.slots.get(slot) else {
             return Ok(None);
         };
-        if let Some(number) = slot.least() {
-            return self.follow(alloc, number);
+        if let Some(number) = held.least() {
+            return self.follow(alloc, slot, number);
         }
-        let Some(body) = slot.body() else {
+        let Some(body) = held.body() else {
             return Ok(None);
         };
         let (meta, bytes) = body.shared(alloc)?;
@@ -249,13 +269,14 @@ impl Storage for MemCache {
         let Some(number) = number_named_by(streaming_write_tag) else {
             return Ok(None);
         };
-        let Some(draft) = self.drafts.get(number) else {
+        let slot = key.slot();
+        let Some(draft) = self.drafts.get(slot, number) else {
             return Ok(None);
         };
-        if !draft.is_flying() || draft.slot() != key.slot() {
+        if !draft.is_flying() || draft.slot() != slot {
             return Ok(None);
         }
-        self.follow(alloc, number)
+        self.follow(alloc, slot, number)
     }
 
     fn get_miss_handler(
@@ -271,10 +292,10 @@ impl Storage for MemCache {
         let draft = Draft::new(alloc, slot, SpelledMeta::new(alloc, meta)?);
         self.drafts.begin(draft)?;
         if let Err(refused) = self.slots.open(alloc, slot, number as u128) {
-            self.drafts.take_back();
+            self.drafts.take_back(slot);
             return Err(refused);
         }
-        Ok(MemMissHandler::new(number))
+        Ok(MemMissHandler::new(slot, number))
     }
 
     /// Takes no memory, so it is never refused.

@@ -349,7 +349,7 @@ all-given r at s (e ∷ events) w g =
 
 -- what a call says beside its events says nothing of who waits
 said-spoken : (call : Call) (o : Outcome) (h : Option Locked) → spoken (said_by call o h) ≡ []
-said-spoken (C.Publish r tokens) was_done h = spoken-published tokens.items h
+said-spoken (C.Publish r tokens) was_done h = spoken-published tokens h
 said-spoken (C.Wait r t) (was_waited Pending) h = refl
 said-spoken (C.Publish r tokens) was_wrong h = refl
 said-spoken (C.Publish r tokens) was_taken h = refl

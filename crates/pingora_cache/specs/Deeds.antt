@@ -76,7 +76,7 @@ published_on tokens (Some (Read rd)) = []
 
 -- what a call does to locks that no event tells: tokens are published, where a permit is held; a wait has to go on
 abbrev pub said_by : Call → Outcome → Option Locked → List Deed
-said_by (C.Publish r tokens) was_done held = published_on tokens.items held
+said_by (C.Publish r tokens) was_done held = published_on tokens held
 said_by (C.Wait r t) (was_waited Pending) held = Polled r ∷ []
 said_by _ _ held = []
 

@@ -2,6 +2,7 @@
 //! asked.
 
 pub mod call;
+mod call_copy;
 pub mod entry;
 mod fill;
 pub mod laws;
@@ -14,6 +15,7 @@ mod reads;
 mod remove;
 mod request;
 mod switch;
+pub mod tokens;
 mod turn;
 mod vary;
 

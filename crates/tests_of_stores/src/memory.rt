@@ -717,3 +717,89 @@ fn bodies_stand_in_the_shard_of_their_key(rt: HostRuntime) -> std::result::Resul
     two_in_a_shard(&rt, alloc, &mut store, &plain, &varied)?;
     Ok(())
 }
+
+// Whether so many writes are kept in shard 14, and none in another.
+fn records_are(store: &MemCache, records: usize) -> bool {
+    for shard in 0..16usize {
+        let wanted = if shard == 14 { records } else { 0 };
+        if store.shard_write_records(shard) != wanted {
+            return false;
+        }
+    }
+    true
+}
+
+// A write of the plain key and one of the varied are kept in their shard, the first as long as its
+// reader names it.
+fn records_stand(
+    alloc: Global,
+    store: &mut MemCache,
+    plain: &CacheKey,
+    varied: &CacheKey,
+) -> Result<bool> {
+    let meta = meta_until(alloc, 300);
+    let first = store.get_miss_handler(alloc, plain, &meta)?;
+    let one = records_are(store, 1);
+    let found = store.lookup(alloc, plain);
+    first.drop_write(store);
+    let Some((_meta, reader)) = found? else {
+        return Ok(false);
+    };
+    let second = store.get_miss_handler(alloc, varied, &meta);
+    let two = records_are(store, 2);
+    reader.let_go(store);
+    let left = records_are(store, 1);
+    second?.drop_write(store);
+    Ok(one && two && left && records_are(store, 0))
+}
+
+#[test]
+fn writes_are_kept_in_the_shard_of_their_key(rt: HostRuntime) -> std::result::Result<(), Fail> {
+    let alloc = rt.alloc();
+    let mut store = MemCache::new(alloc);
+    let (plain, varied) = (aa(alloc, None)?, aa(alloc, Some([0; 16]))?);
+    let stand = records_stand(alloc, &mut store, &plain, &varied)?;
+    assert!(rt; stand);
+    Ok(())
+}
+
+// Writes the last bytes, where they are not yet said.
+fn write_last(writer: &mut MemMissHandler, store: &mut MemCache) -> Result<bool> {
+    if writer.at_eof(store) {
+        return Ok(false);
+    }
+    writer.write_body(store, Bytes::from_static(b"ab".as_slice()), true)?;
+    Ok(writer.at_eof(store))
+}
+
+// The first write of one store and the first of another, under keys of different shards. Lent the
+// other's store, the handler of the one names the write of its number there.
+fn is_named_by_number(
+    alloc: Global,
+    here: &mut MemCache,
+    there: &mut MemCache,
+    key: &CacheKey,
+    other: &CacheKey,
+) -> Result<bool> {
+    let meta = meta_until(alloc, 300);
+    let mut first = here.get_miss_handler(alloc, key, &meta)?;
+    let second = there.get_miss_handler(alloc, other, &meta);
+    let wrote = write_last(&mut first, there);
+    let untold = !first.at_eof(here);
+    first.drop_write(here);
+    let second = second?;
+    let told = second.at_eof(there);
+    second.drop_write(there);
+    Ok(wrote? && untold && told)
+}
+
+#[test]
+fn a_handler_names_its_write_by_the_number(rt: HostRuntime) -> std::result::Result<(), Fail> {
+    let alloc = rt.alloc();
+    let (mut here, mut there) = (MemCache::new(alloc), MemCache::new(alloc));
+    let (key, other) = (aa(alloc, None)?, key_of(alloc, "b")?);
+    assert!(rt; key.slot() % 16 != other.slot() % 16);
+    let named = is_named_by_number(alloc, &mut here, &mut there, &key, &other)?;
+    assert!(rt; named);
+    Ok(())
+}

@@ -5,12 +5,13 @@ use pcache_base::key::CacheKey;
 use pcache_base::moment::Moment;
 use pcache_base::poll::Poll;
 use pcache_base::reason::NoCacheReason;
-use pcache_control::CacheMetaDefaults;
+use pcache_control::{CacheMetaDefaults, RespCacheable};
 use pcache_evict::eviction::EvictionManager;
 use pcache_evict::eviction::simple_lru::Manager;
+use pcache_meta::header::ResponseHeader;
 use pcache_put_ctx::context::CachePutCtx;
-use pcache_put_ctx::policy::ByDefaults;
-use pcache_put_ctx::report::{PieceEnd, PieceReport, PutEnd, PutOutcome};
+use pcache_put_ctx::policy::{ByDefaults, CachePut, default_cacheable};
+use pcache_put_ctx::report::{PieceEnd, PieceReport, PutEnd, PutOutcome, PutReport};
 use pcache_store::memory::MemCache;
 use pcache_store::storage::{HandleHit, HandleMiss, PurgeTarget, PurgeType, Storage};
 use std::alloc::Global;
@@ -21,9 +22,24 @@ fn one_second(_status: StatusCode) -> Option<Duration> {
     Some(Duration::from_secs(1))
 }
 
-fn policy() -> ByDefaults {
-    ByDefaults {
-        defaults: CacheMetaDefaults::new(one_second, 0, 0),
+fn defaults() -> CacheMetaDefaults {
+    CacheMetaDefaults::new(one_second, 0, 0)
+}
+
+// A policy that goes by these defaults, and promises nothing.
+#[derive(Drop)]
+struct OneSecond;
+
+impl CachePut for OneSecond {
+    ghost says = { λ p header now answer. Unit {0} };
+
+    fn cacheable(
+        &self,
+        alloc: Global,
+        header: ResponseHeader,
+        now: Moment,
+    ) -> Result<RespCacheable> {
+        default_cacheable(alloc, header, &defaults(), now)
     }
 }
 
@@ -54,12 +70,28 @@ fn key_of(alloc: Global) -> Result<CacheKey> {
     ))
 }
 
-fn new_put(alloc: Global, limit: Option<usize>) -> Result<CachePutCtx<ByDefaults, MemCache>> {
-    let mut put = CachePutCtx::new(alloc, policy(), key_of(alloc)?);
+fn new_put(alloc: Global, limit: Option<usize>) -> Result<CachePutCtx<OneSecond, MemCache>> {
+    let mut put = CachePutCtx::new(alloc, OneSecond, key_of(alloc)?);
     if let Some(limit) = limit {
         put.set_max_file_size_bytes(limit);
     }
     Ok(put)
+}
+
+// Whether a response that says nothing of its lifetime is stored by the policy that goes by these defaults.
+fn is_stored_by_defaults(alloc: Global) -> Result<bool> {
+    let policy = ByDefaults {
+        defaults: defaults(),
+    };
+    let header = ResponseHeader::build(alloc, StatusCode::OK);
+    let answer = policy.cacheable(alloc, header, Moment::EPOCH)?;
+    Ok(matches!(answer, RespCacheable::Cacheable(_)))
+}
+
+#[test]
+fn defaults_decide(rt: HostRuntime) -> std::result::Result<(), std::test::Fail> {
+    assert!(rt; is_stored_by_defaults(rt.alloc())?);
+    Ok(())
 }
 
 // What a call of a put answered.
@@ -98,7 +130,7 @@ struct Told {
 
 fn feed_all(
     parts: &mut Parts,
-    put: &mut CachePutCtx<ByDefaults, MemCache>,
+    put: &mut CachePutCtx<OneSecond, MemCache>,
     pieces: &[&[u8]],
 ) -> Said {
     let mut last = Said::GoesOn;
@@ -108,7 +140,7 @@ fn feed_all(
     last
 }
 
-fn end(parts: &mut Parts, put: &mut CachePutCtx<ByDefaults, MemCache>, last: Said) -> Told {
+fn end(parts: &mut Parts, put: &mut CachePutCtx<OneSecond, MemCache>, last: Said) -> Told {
     let end = finished(put.finish(&mut parts.store, &mut parts.manager));
     Told {
         last,
@@ -373,7 +405,7 @@ fn a_response_without_a_body_is_read_as_an_empty_one(
 // How many bytes a piece wrote, and whether they were the last; whether it began a write; and whether the put goes on.
 fn take(
     parts: &mut Parts,
-    put: &mut CachePutCtx<ByDefaults, MemCache>,
+    put: &mut CachePutCtx<OneSecond, MemCache>,
     piece: &[u8],
 ) -> (usize, bool, bool, bool) {
     let PieceReport { began, wrote, end } = put.take_piece(piece, &mut parts.store, Moment::EPOCH);
@@ -405,19 +437,25 @@ struct Calls {
     weight: usize,
 }
 
+// Whether the put is stored at its end, and its entry told.
+fn is_told(parts: &mut Parts, put: &mut CachePutCtx<OneSecond, MemCache>) -> bool {
+    let PutReport { end, entry, .. } = put.end_put(&mut parts.store, &mut parts.manager);
+    matches!(end, PutEnd::Stored(_)) && entry.is_some()
+}
+
 fn two_calls(alloc: Global, limit: Option<usize>, first: &[u8], second: &[u8]) -> Result<Calls> {
     let mut parts = Parts::new(alloc)?;
     let mut put = new_put(alloc, limit)?;
     let first = take(&mut parts, &mut put, first);
     let flying = put.writer().is_some();
     let second = take(&mut parts, &mut put, second);
-    let report = put.end_put(&mut parts.store, &mut parts.manager);
+    let told = is_told(&mut parts, &mut put);
     put.end(&mut parts.store);
     Ok(Calls {
         first,
         flying,
         second,
-        told: matches!(report.end, PutEnd::Stored(_)) && report.entry.is_some(),
+        told,
         weight: parts.manager.total_size(),
     })
 }

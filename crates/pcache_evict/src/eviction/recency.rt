@@ -5,7 +5,7 @@ ghost use Rattle.pcache_base.specs.declared.error.ErrorType.TheVariants.{OutOfMe
 ghost use Rattle.lru.specs.LruCache.{lru_cache, put_entries};
 ghost use Rattle.pcache_evict.specs.Entry.{entry_eq};
 ghost use Rattle.pcache_evict.specs.Tracked.{limits_of, raised};
-ghost use Rattle.pcache_evict.specs.Recency.{Recency, weight, weight_of, others, moved, loaded, loaded_all, IsInside, Evicts};
+ghost use Rattle.pcache_evict.specs.Recency.{Recency, weight, weight_of, others, moved, incremented, loaded, loaded_all, IsInside, Evicts};
 ghost use Rattle.pcache_evict.specs.Listed.{IsOnce, IsEnough};
 ghost use Rattle.pcache_evict.specs.Shards.{reweighed, last_key};
 ghost use Rattle.pcache_evict.specs.Chain.{AreSmall, Walks};
@@ -79,23 +79,32 @@ impl RecencyList {
         ensures kind { IfErr result (λ e. e ≡ OutOfMemory) }
         ensures err { OnErr result (self.new ≡ self.old) }
     {
-        let rest = self.others(&item).0;
-        self.put_beside(item, size, rest)
+        let before = self.cache.put(item, size)?.unwrap_or(0);
+        self.cache.len();
+        self.weight = self.weight - before as u128 + size as u128;
+        Ok(())
     }
 
-    /// The same, where it is known what the other entries weigh.
-    pub(super) fn put_beside(&mut self, item: CacheEntryKey, size: usize, rest: u128) -> Result<()>
-        requires sum { rest ≡ weight (others item self.old) }
-        requires fits { rest + 2 ^ 64 < 2 ^ 128 }
-        ensures ok { OnOk result (self.new ≡ moved item size self.old) }
+    /// Raises the weight of an entry and moves it to the front, which takes no memory, and answers
+    /// whether it is there.
+    pub(super) fn raise(
+        &mut self,
+        item: &CacheEntryKey,
+        delta: usize,
+        max_weight: Option<usize>,
+    ) -> bool
+        ensures was { result ≡ is_some (weight_of item.now self.old) }
+        ensures there { result ≡ true → self.new ≡ incremented item.now delta max_weight self.old }
+        ensures missing { result ≡ false → self.new ≡ self.old }
         ensures once { IsOnce self.new }
-        ensures kind { IfErr result (λ e. e ≡ OutOfMemory) }
-        ensures err { OnErr result (self.new ≡ self.old) }
     {
-        self.cache.put(item, size)?;
+        let raised = raise_in(&mut self.cache, item, delta, max_weight);
         self.cache.len();
-        self.weight = rest + size as u128;
-        Ok(())
+        let Some((before, after)) = raised else {
+            return false;
+        };
+        self.weight = self.weight - before as u128 + after as u128;
+        true
     }
 
     /// Sets the weight of an entry that is there and moves it to the front, which takes no memory;
@@ -151,9 +160,8 @@ impl RecencyList {
     pub(super) fn remove(&mut self, item: &CacheEntryKey)
         ensures { self.new ≡ others item.now self.old }
     {
-        let rest = self.others(item).0;
-        self.cache.pop(item);
-        self.weight = rest;
+        let gone = self.cache.pop(item).unwrap_or(0);
+        self.weight -= gone as u128;
     }
 
     /// Takes the last entry out.
@@ -249,6 +257,28 @@ impl RecencyList {
         Ok(())
     }
 
+    /// Whether the limits hold for every list that weighs at most so much more and has at most so
+    /// many entries more.
+    pub(super) fn allows(
+        &self,
+        size: usize,
+        count: usize,
+        limit: usize,
+        watermark: Option<usize>,
+    ) -> bool
+        requires { count < 2 ^ 63 }
+        ensures once { IsOnce self.now }
+        ensures inside { result ≡ true → (l : Recency) → weight l ≤ weight self.now + size → length l ≤ length self.now + count
+            → IsInside (limits_of limit watermark) l }
+    {
+        !exceeds(
+            self.weight + size as u128,
+            self.cache.len() + count,
+            limit,
+            watermark,
+        )
+    }
+
     /// Whether the limits hold once this entry is put; it is known what the other entries weigh and
     /// how many there are.
     pub(super) fn fits(
@@ -300,6 +330,25 @@ impl RecencyList {
             }
         }
         room
+    }
+
+    /// How many entries go at most when this one is put and the limits are then kept, without a look
+    /// whether it is there: some more where it is.
+    pub(super) fn room_at_most(
+        &self,
+        item: &CacheEntryKey,
+        size: usize,
+        limit: usize,
+        watermark: Option<usize>,
+    ) -> usize
+        ensures { IsEnough (limits_of limit watermark) (moved item.now size self.now) result }
+    {
+        let start = Walk {
+            sum: self.weight + size as u128,
+            count: self.cache.len() + 1,
+            room: 0,
+        };
+        self.walk(item, limit, watermark, start).room + 1
     }
 
     /// Walks over the list from its end as long as the limits do not hold for what it did not pass.
@@ -391,6 +440,28 @@ fn set_weight(cache: &mut LruCache<CacheEntryKey, usize>, item: &CacheEntryKey, 
         unreachable!()
     };
     *weight = size;
+}
+
+/// Raises the weight of an entry, and moves it to the front: its weight before and after, if it is
+/// there.
+fn raise_in(
+    cache: &mut LruCache<CacheEntryKey, usize>,
+    item: &CacheEntryKey,
+    delta: usize,
+    max_weight: Option<usize>,
+) -> Option<(usize, usize)>
+    ensures there { IfSome result (λ p. (weight_of item.now cache.old.entries ≡ Some p.0) × (p.1 ≡ raised delta max_weight (Some p.0))
+        × (cache.new ≡ lru_cache (put_entries entry_eq cache.old item.now p.1) cache.old.cap)) }
+    ensures fits { IfSome result (λ p. p.1 < 2 ^ 64) }
+    ensures missing { IfNone result ((weight_of item.now cache.old.entries ≡ None) × (cache.new.entries ≡ cache.old.entries) × (cache.new.cap ≡ cache.old.cap)) }
+{
+    let Some(weight) = cache.get_mut(item) else {
+        return None;
+    };
+    let before = *weight;
+    let after = raised_weight(Some(before), delta, max_weight);
+    *weight = after;
+    Some((before, after))
 }
 
 /// Adds a copy of an entry.

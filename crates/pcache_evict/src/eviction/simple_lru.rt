@@ -149,6 +149,11 @@ impl Manager {
         ensures kind { IfErr result (λ e. e ≡ OutOfMemory) }
         ensures err { OnErr result (self.new ≡ self.old) }
     {
+        if self.list.allows(delta, 0, self.limit, self.watermark)
+            && self.list.raise(item, delta, max_weight)
+        {
+            return Ok(self.keep_limits(Vec::new(self.alloc)));
+        }
         let present = self.list.weight_of(item);
         let size = raised_weight(present, delta, max_weight);
         if present.is_some() {
@@ -237,13 +242,32 @@ impl Manager {
         ensures kind { IfErr result (λ e. e ≡ OutOfMemory) }
         ensures err { OnErr result (self.new ≡ self.old) }
     {
-        let rest = self.list.others(&item);
+        if self.list.allows(size, 1, self.limit, self.watermark) {
+            self.list.put(item, size)?;
+            return Ok(self.keep_limits(Vec::new(self.alloc)));
+        }
         let room = self
             .list
-            .room_for(&item, size, self.limit, self.watermark, rest);
-        let out = Vec::with_capacity(self.alloc, room)?;
-        self.list.put_beside(item, size, rest.0)?;
+            .room_at_most(&item, size, self.limit, self.watermark);
+        let out = match Vec::with_capacity(self.alloc, room) {
+            Ok(out) => out,
+            Err(_) => self.exact_room(&item, size)?,
+        };
+        self.list.put(item, size)?;
         Ok(self.keep_limits(out))
+    }
+
+    // Room for what goes when this entry is put and the limits are then kept, and for no more.
+    fn exact_room(&self, item: &CacheEntryKey, size: usize) -> Result<Vec<CacheEntryKey>>
+        ensures ok { IfOk result (λ out. (out.items ≡ [])
+            × IsEnough self.now.limits (moved item.now size self.now.entries) (vec_capacity out)) }
+        ensures kind { IfErr result (λ e. e ≡ OutOfMemory) }
+    {
+        let rest = self.list.others(item);
+        let room = self
+            .list
+            .room_for(item, size, self.limit, self.watermark, rest);
+        Ok(Vec::with_capacity(self.alloc, room)?)
     }
 
     // Evicts into a list that has the room for what goes.

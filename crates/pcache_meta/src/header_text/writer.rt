@@ -66,6 +66,18 @@ fn put_status_line(out: &mut Vec<u8>, version: HttpVersion, status: StatusCode) 
     Ok(())
 }
 
+// How many bytes the text of a head has, so that its room is made at once and none is left over.
+fn text_len(headers: &HeaderMap) -> usize {
+    let mut len = b"HTTP/1.1 200\r\n\r\n".len();
+    for (name, value) in headers.iter() {
+        len = len
+            .saturating_add(name.as_bytes().len())
+            .saturating_add(b": \r\n".len())
+            .saturating_add(value.len());
+    }
+    len
+}
+
 #[tactic(auto, unfolding(crate::specs::HeaderText::header_text))]
 fn write_header(alloc: Global, header: &ResponseHeader) -> Result<Vec<u8>>
     ensures written { IfOk result (λ v. v.items ≡ header_text header.now.version header.now.status (shown_lines (pairs header.now.headers))) }
@@ -76,7 +88,7 @@ fn write_header(alloc: Global, header: &ResponseHeader) -> Result<Vec<u8>>
 {
     // What is true of each map.
     let _values = header.headers.len();
-    let mut out = Vec::with_capacity(alloc, 512)?;
+    let mut out = Vec::with_capacity(alloc, text_len(&header.headers))?;
     put_status_line(&mut out, header.version, header.status)?;
     put_fields(&mut out, &header.headers)?;
     Ok(out)

@@ -210,6 +210,15 @@ fn put_last_moment(out: &mut Vec<u8>, moment: Option<Moment>) -> Result<()>
     Ok(())
 }
 
+// How many bytes are enough for nearly every meta in version 2, so that room is made once.
+fn usual_len(meta: &InternalMetaV2) -> usize {
+    if meta.variance.is_some() || meta.epoch_override.is_some() || meta.provenance.is_some() {
+        96
+    } else {
+        48
+    }
+}
+
 // Version 2.
 #[tactic(auto, unfolding(crate::specs::MetaWriting::internal_written))]
 fn write_internal(alloc: Global, meta: &InternalMetaV2) -> Result<Vec<u8>>
@@ -217,7 +226,7 @@ fn write_internal(alloc: Global, meta: &InternalMetaV2) -> Result<Vec<u8>>
     ensures range { OnOk result (IsInternal meta.now) }
     ensures kind { IfErr result (λ e. e ≡ OutOfMemory) }
 {
-    let mut out = Vec::with_capacity(alloc, 64)?;
+    let mut out = Vec::with_capacity(alloc, usual_len(meta))?;
     put_array(&mut out, if meta.provenance.is_some() { 9 } else { 8 })?;
     out.push(InternalMetaV2::VERSION)?;
     put_moment(&mut out, meta.fresh_until)?;

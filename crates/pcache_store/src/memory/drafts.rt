@@ -3,20 +3,21 @@ ghost use Rattle.std.specs.Prelude.{◌≡◌, ◌<◌, ◌≤◌, ◌+◌, ◌-
 ghost use Rattle.std.specs.FinMap as map;
 ghost use Rattle.pcache_base.specs.declared.error.ErrorType.TheVariants.{OutOfMemory};
 ghost use Rattle.pcache_store.specs.Drafts.{IsBodyOf};
+ghost use Rattle.pcache_store.specs.Shards.{of_shard};
 ghost use Rattle.pcache_store.specs.Store.{joined_on, left_on, wrote_on, grounded_on};
 
 use crate::memory::body::Body;
 use crate::memory::draft::Draft;
-use pcache_base::error::{Error, ErrorType, Result};
+use crate::memory::draft_table::DraftTable;
+use pcache_base::error::Result;
 use pcache_meta::meta::CacheMeta;
-use pcache_table::hashtable::Table;
 use std::alloc::Global;
 use std::marker::Model;
 
 /// The writes that somebody names, by number. A number is given once.
 #[derive(Drop)]
 pub(crate) struct Drafts {
-    writes: Table<Draft>,
+    writes: DraftTable,
     next: u128,
 }
 
@@ -37,7 +38,7 @@ impl Drafts {
         ensures { result ≡ record { writes = map.empty; next = 0 } }
     {
         Drafts {
-            writes: Table::new(alloc),
+            writes: DraftTable::new(alloc),
             next: 0,
         }
     }
@@ -48,10 +49,18 @@ impl Drafts {
         self.writes.len()
     }
 
-    pub(crate) fn get(&self, number: u128) -> Option<&Draft>
+    // The number of records of the writes of a shard's keys.
+    pub(crate) fn shard_len(&self, shard: usize) -> usize
+        requires { shard < 16 }
+        ensures { result ≡ map.len (of_shard shard self.now.writes) }
+    {
+        self.writes.shard_len(shard)
+    }
+
+    pub(crate) fn get(&self, slot: u128, number: u128) -> Option<&Draft>
         ensures { option_copied result ≡ map.get self.now.writes number }
     {
-        self.writes.get(number)
+        self.writes.get(slot, number)
     }
 
     // The number of the next write, where it has 64 bits.
@@ -75,17 +84,18 @@ impl Drafts {
     }
 
     // Takes the last begun write back, as if it had not begun.
-    pub(crate) fn take_back(&mut self)
+    pub(crate) fn take_back(&mut self, slot: u128)
         requires { 0 < self.old.next }
         ensures { self.new ≡ record { writes = map.remove self.old.writes (self.old.next - 1); next = self.old.next - 1 } }
     {
         self.next -= 1;
-        self.writes.remove(self.next);
+        self.writes.remove(slot, self.next);
     }
 
     pub(crate) fn write(
         &mut self,
         alloc: Global,
+        slot: u128,
         number: u128,
         bytes: &[u8],
         eof: bool,
@@ -94,120 +104,46 @@ impl Drafts {
         ensures kind { IfErr result (λ e. e ≡ OutOfMemory) }
         ensures err { OnErr result (self.new ≡ self.old) }
     {
-        write_in(&mut self.writes, alloc, number, bytes, eof)
+        self.writes.write(alloc, slot, number, bytes, eof)
     }
 
     // Counts a reader more of a write, and answers its meta.
-    pub(crate) fn join(&mut self, alloc: Global, number: u128) -> Result<Option<CacheMeta>>
+    pub(crate) fn join(
+        &mut self,
+        alloc: Global,
+        slot: u128,
+        number: u128,
+    ) -> Result<Option<CacheMeta>>
         ensures meta { IfOk result (λ m. m ≡ option_map (λ w. w.meta) (map.get self.old.writes number)) }
         ensures ok { OnOk result (self.new ≡ record self.old { writes = joined_on self.old.writes number (map.get self.old.writes number) }) }
         ensures something { OnErr result (IsSome (map.get self.old.writes number)) }
         ensures kind { IfErr result (λ e. e ≡ OutOfMemory) }
         ensures err { OnErr result (self.new ≡ self.old) }
     {
-        join_in(&mut self.writes, alloc, number)
+        self.writes.join(alloc, slot, number)
     }
 
     // Counts a reader less.
-    pub(crate) fn leave(&mut self, number: u128)
+    pub(crate) fn leave(&mut self, slot: u128, number: u128)
         ensures { self.new ≡ record self.old { writes = left_on self.old.writes number (map.get self.old.writes number) } }
     {
-        leave_in(&mut self.writes, number);
+        self.writes.leave(slot, number);
     }
 
     // A write whose handler is gone.
-    pub(crate) fn land(&mut self, number: u128)
+    pub(crate) fn land(&mut self, slot: u128, number: u128)
         ensures { self.new ≡ record self.old { writes = grounded_on self.old.writes number (map.get self.old.writes number) } }
     {
-        land_in(&mut self.writes, number);
+        self.writes.land(slot, number);
     }
 
     // A write whose handler is gone, and its body, which shares its bytes.
-    pub(crate) fn end(&mut self, alloc: Global, number: u128) -> Result<Body>
+    pub(crate) fn end(&mut self, alloc: Global, slot: u128, number: u128) -> Result<Body>
         requires { IsSome (map.get self.old.writes number) }
         ensures body { IfOk result (λ b. IsBodyOf (map.get self.old.writes number) b) }
         ensures gone { self.new ≡ record self.old { writes = grounded_on self.old.writes number (map.get self.old.writes number) } }
         ensures kind { IfErr result (λ e. e ≡ OutOfMemory) }
     {
-        end_in(&mut self.writes, alloc, number)
+        self.writes.end(alloc, slot, number)
     }
-}
-
-fn write_in(
-    writes: &mut Table<Draft>,
-    alloc: Global,
-    number: u128,
-    bytes: &[u8],
-    eof: bool,
-) -> Result<()>
-    ensures ok { OnOk result (writes.new ≡ wrote_on writes.old number bytes.now eof (map.get writes.old number)) }
-    ensures kind { IfErr result (λ e. e ≡ OutOfMemory) }
-    ensures err { OnErr result (writes.new ≡ writes.old) }
-{
-    let Some(draft) = writes.get_mut(number) else {
-        return Ok(());
-    };
-    draft.write(alloc, bytes, eof)
-}
-
-fn join_in(writes: &mut Table<Draft>, alloc: Global, number: u128) -> Result<Option<CacheMeta>>
-    ensures meta { IfOk result (λ m. m ≡ option_map (λ w. w.meta) (map.get writes.old number)) }
-    ensures ok { OnOk result (writes.new ≡ joined_on writes.old number (map.get writes.old number)) }
-    ensures something { OnErr result (IsSome (map.get writes.old number)) }
-    ensures kind { IfErr result (λ e. e ≡ OutOfMemory) }
-    ensures err { OnErr result (writes.new ≡ writes.old) }
-{
-    let Some(draft) = writes.get_mut(number) else {
-        return Ok(None);
-    };
-    match draft.join(alloc) {
-        Ok(meta) => Ok(Some(meta)),
-        Err(refused) => Err(refused),
-    }
-}
-
-fn leave_in(writes: &mut Table<Draft>, number: u128)
-    ensures { writes.new ≡ left_on writes.old number (map.get writes.old number) }
-{
-    let Some(draft) = writes.get_mut(number) else {
-        return;
-    };
-    draft.leave();
-    if draft.is_named() {
-        return;
-    }
-    writes.remove(number);
-}
-
-fn land_in(writes: &mut Table<Draft>, number: u128)
-    ensures { writes.new ≡ grounded_on writes.old number (map.get writes.old number) }
-{
-    let Some(draft) = writes.get_mut(number) else {
-        return;
-    };
-    draft.land();
-    if draft.is_named() {
-        return;
-    }
-    writes.remove(number);
-}
-
-// Where nobody reads the write its meta and bytes move into the body, and else the body shares them.
-fn end_in(writes: &mut Table<Draft>, alloc: Global, number: u128) -> Result<Body>
-    requires { IsSome (map.get writes.old number) }
-    ensures body { IfOk result (λ b. IsBodyOf (map.get writes.old number) b) }
-    ensures gone { writes.new ≡ grounded_on writes.old number (map.get writes.old number) }
-    ensures kind { IfErr result (λ e. e ≡ OutOfMemory) }
-{
-    let Some(draft) = writes.get_mut(number) else {
-        unreachable!()
-    };
-    draft.land();
-    if draft.is_named() {
-        return draft.to_body(alloc);
-    }
-    let Some(draft) = writes.remove(number) else {
-        unreachable!()
-    };
-    draft.into_body()
 }

@@ -89,16 +89,21 @@ impl CompleteHit {
 /// once nothing more can come.
 pub struct PartialHit {
     write: u128,
+    slot: u128,
     place: usize,
 }
 
 impl PartialHit {
-    // A reader that has read nothing yet.
-    pub(crate) fn new(write: u128) -> PartialHit
+    // A reader of a write of this slot, which has read nothing yet.
+    pub(crate) fn new(slot: u128, write: u128) -> PartialHit
         ensures write { result.write ≡ write }
         ensures place { result.place ≡ 0 }
     {
-        PartialHit { write, place: 0 }
+        PartialHit {
+            write,
+            slot,
+            place: 0,
+        }
     }
 
     /// The number of the write.
@@ -135,8 +140,12 @@ impl MemHitHandler {
                 drop(body);
             }
             MemHitHandler::Partial(part) => {
-                let PartialHit { write, place: _ } = part;
-                store.leave(write);
+                let PartialHit {
+                    write,
+                    slot,
+                    place: _,
+                } = part;
+                store.leave(slot, write);
             }
         }
     }
@@ -157,7 +166,7 @@ impl HandleHit<MemCache> for MemHitHandler {
                 Err(refused) => Err(refused),
             },
             MemHitHandler::Partial(part) => {
-                let Some(draft) = store.draft(part.write) else {
+                let Some(draft) = store.draft(part.slot, part.write) else {
                     return Ok(Poll::Ready(None));
                 };
                 let written = draft.len();

@@ -12,16 +12,19 @@ use pcache_evict::eviction::CacheEntryId;
 /// The handler of a write, which must be finished or dropped.
 pub struct MemMissHandler {
     number: u64,
+    slot: u128,
     tag: U64WriteId,
     ghost named: { number_of_tag tag ≡ Some number },
 }
 
 impl MemMissHandler {
-    pub(crate) fn new(number: u64) -> MemMissHandler
+    // The handler of a write of this slot.
+    pub(crate) fn new(slot: u128, number: u64) -> MemMissHandler
         ensures { result.number ≡ number }
     {
         MemMissHandler {
             number,
+            slot,
             tag: U64WriteId::from(number),
         }
     }
@@ -40,24 +43,32 @@ impl HandleMiss<MemCache> for MemMissHandler {
     ghost entry_number = { λ _. None };
 
     fn write_body(&mut self, store: &mut MemCache, bytes: Bytes, eof: bool) -> Result<()> {
-        store.write(self.number as u128, bytes.as_slice(), eof)
+        store.write(self.slot, self.number as u128, bytes.as_slice(), eof)
     }
 
     fn at_eof(&self, store: &MemCache) -> bool {
-        match store.draft(self.number as u128) {
+        match store.draft(self.slot, self.number as u128) {
             Some(draft) => draft.is_told(),
             None => false,
         }
     }
 
     fn finish(self, store: &mut MemCache) -> Result<MissFinishType> {
-        let MemMissHandler { number, tag: _ } = self;
-        store.finish(number as u128)
+        let MemMissHandler {
+            number,
+            slot,
+            tag: _,
+        } = self;
+        store.finish(slot, number as u128)
     }
 
     fn drop_write(self, store: &mut MemCache) {
-        let MemMissHandler { number, tag: _ } = self;
-        store.drop_write(number as u128);
+        let MemMissHandler {
+            number,
+            slot,
+            tag: _,
+        } = self;
+        store.drop_write(slot, number as u128);
     }
 
     fn streaming_write_tag(&self) -> Option<&[u8]> {

@@ -15,7 +15,7 @@ use std::alloc::Global;
 use std::marker::Model;
 
 /// How many shards there are. The shard of a key is the key modulo their number.
-const SHARDS: u128 = 16;
+pub(crate) const SHARDS: u128 = 16;
 
 /// The most keys that all shards may have together, as many as one table may have.
 const MOST_KEYS: usize = (1 << 63) - 1;

@@ -4,6 +4,7 @@ ghost use Rattle.pcache_base.specs.declared.error.ErrorType.TheVariants.{OutOfMe
 ghost use Rattle.pingora_cache.specs.Held.{number_of};
 ghost use Rattle.pingora_cache.specs.declared.world.call.Reply.TheVariants.{Data};
 
+use crate::world::tokens::Tokens;
 use bytes::Bytes;
 use pcache_base::error::{ErrorType, Result};
 use pcache_base::key::{CacheKey, HashBinary};
@@ -117,7 +118,7 @@ pub enum Call {
     /// Publishes what was found out about the fill, where the permit is held.
     Publish {
         request: u64,
-        tokens: Vec<u64>,
+        tokens: Tokens,
     },
     /// Releases the permit for a reason; a read lock is let go.
     Release {

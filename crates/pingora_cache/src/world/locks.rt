@@ -23,6 +23,7 @@ use crate::world::call::Reply;
 use crate::world::entry::Event;
 use crate::world::notes::note_release;
 use crate::world::request::{OpenRequest, permit_in, permit_released};
+use crate::world::tokens::Tokens;
 use pcache_base::moment::Moment;
 use pcache_base::poll::Poll;
 use pcache_base::reason::NoCacheReason;
@@ -115,7 +116,7 @@ fn reply_of(answer: Poll<LockWaitOutcome>) -> Reply
 }
 
 /// Publishes what was found out about the fill.
-pub(crate) fn publish(request: &OpenRequest, lock: &mut CacheLock, tokens: &Vec<u64>) -> Reply
+pub(crate) fn publish(request: &OpenRequest, lock: &mut CacheLock, tokens: &Tokens) -> Reply
     ensures answers { Answers no_facts (calls.Publish 0 tokens.now) (Some request.now) result [] }
     ensures moves { MovesRequest (Some request.now) (Some request.now) }
     ensures locks { (r : ℕ) → MovesLocks r (deeds_in (calls.Publish r tokens.now) (outcome result) [] (Some request.now)) request.now.request.held lock.old request.now.request.held lock.new }

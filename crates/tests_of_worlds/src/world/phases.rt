@@ -8,6 +8,7 @@ use pcache_base::reason::NoCacheReason;
 use pcache_meta::header::ResponseHeader;
 use pcache_request::phase::HitStatus;
 use pingora_cache::world::call::{Call, Reply};
+use pingora_cache::world::tokens::Tokens;
 use std::alloc::Global;
 use std::process::Abort;
 use std::test::Fail;
@@ -137,7 +138,7 @@ fn call_of(alloc: Global, request: u64, word: &str) -> Result<Call> {
         b"wait" => Call::Wait { request, now },
         b"publish" => Call::Publish {
             request,
-            tokens: Vec::new(alloc),
+            tokens: Tokens::new(Vec::new(alloc)),
         },
         b"release" => Call::Release { request, reason },
         b"updating" => Call::Updating { request },

@@ -30,7 +30,7 @@ add_span-requires c =
 pub returns-in_err-add_span-clause-long : goal.returns-in_err-add_span-clause-long
 unfolding empty
 returns-in_err-add_span-clause-long c =
-    let p = err_from_is_err_and c.from_residual.result c.from_residual.ensures.1 in
+    let p = err_from_is_err_and c.from_residual-in_err-add_span.result c.from_residual-in_err-add_span.ensures.1 in
     rw (p.1, p.2) (λ e all. c.in_err-add_span.ensures.long e (All-map_at IsShort (header_bytes c.args.bytes.now) c.args.spans.now c.spans.i empty c.spans-test.true all))
 
 pub spans-preserved : goal.spans-preserved

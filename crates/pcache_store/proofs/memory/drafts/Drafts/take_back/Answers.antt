@@ -5,5 +5,5 @@ use Rattle.pcache_store.proofs.memory.drafts.Drafts.take_back.Goals as goal
 
 pub invariant_of-self : goal.invariant_of-self
 invariant_of-self c =
-    subst (λ m. AreBefore m (c.self.inside.next - 1)) (sym c.remove.ensures.removed)
+    subst (λ m. AreBefore m (c.self.inside.next - 1)) (sym c.remove.ensures)
     (before_taken_back c.self.inside.writes c.self.inside.next (subst (λ a. 0 < a.next) (sym c.self.view_is) c.requires) c.self.invariant)

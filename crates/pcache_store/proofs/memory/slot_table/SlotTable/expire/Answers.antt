@@ -1,13 +1,14 @@
-use Rattle.std.proofs.Common.{◌≡◌, ◌∙◌, ◌%◌, ◌+◌, ap, sym, subst, arith, refl, is_some, true}
+use Rattle.std.proofs.Common.{◌∙◌, ◌%◌, ap, sym, subst, arith, is_some}
 use Rattle.std.specs.Prelude.{slice_index_or, slice_set}
 use Rattle.std.specs.FinMap as map
+use Rattle.std.proofs.lemmas.List.{set-get_or}
 use Rattle.std.proofs.lemmas.Result.{IfOk-weaker, on_ok_weaker, on_err_weaker}
 use Rattle.pcache_meta.specs.Meta.{expired_at}
 use Rattle.pcache_store.specs.Store.{body_of, meta_changed_on}
 use Rattle.pcache_table.specs.Sharding.{joined}
 use Rattle.pcache_store.specs.Shards.{AreShards, parts}
 use Rattle.pcache_store.proofs.Writes.{on_both}
-use Rattle.pcache_store.proofs.SlotShards.{here, changed-meta, changed-same, held-meta, kept-changed, set_same}
+use Rattle.pcache_store.proofs.SlotShards.{here, changed-meta, held-meta, kept-changed}
 use Rattle.pcache_store.proofs.memory.slot_table.SlotTable.expire.Goals as goal
 
 pub invariant_of-self : goal.invariant_of-self
@@ -17,7 +18,7 @@ invariant_of-self c =
     let few = c.self.invariant.few in
     on_both c.expire_in.result
     (λ e. subst (λ x. AreShards (slice_set c.self.inside.shards (c.args.key % 16) x) c.self.inside.count) (sym e) (kept-changed c.self.inside.shards c.args.key c.self.inside.count c.self.inside.count c.index-self-place.result _ _ c.self.invariant changed (omega arith) few))
-    (λ e. subst (λ x. AreShards x c.self.inside.count) (sym (ap (λ x. slice_set c.self.inside.shards (c.args.key % 16) x) e ∙ set_same c.self.inside.shards (c.args.key % 16) c.index-self-place.result)) c.self.invariant) c.expire_in.ensures.slots c.expire_in.ensures.err
+    (λ e. subst (λ x. AreShards x c.self.inside.count) (sym (ap (λ x. slice_set c.self.inside.shards (c.args.key % 16) x) e ∙ set-get_or c.self.inside.shards (c.args.key % 16) c.index-self-place.result)) c.self.invariant) c.expire_in.ensures.slots c.expire_in.ensures.err
 
 pub returns-clause-there : goal.returns-clause-there
 returns-clause-there c = IfOk-weaker c.expire_in.result _ _ (λ b h. h ∙ ap (λ o. is_some (body_of o)) (here c.self.inside.shards c.args.key c.index-self-place.result c.self.invariant.long c.self.invariant.placed ∙ ap (λ m. map.get m c.args.key) c.self.view_is)) c.expire_in.ensures.there

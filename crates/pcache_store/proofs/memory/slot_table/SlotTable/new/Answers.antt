@@ -1,4 +1,3 @@
-use Rattle.std.proofs.Common.{refl}
 use Rattle.pcache_store.proofs.SlotShards.{new-empty, new-shards}
 use Rattle.pcache_store.proofs.memory.slot_table.SlotTable.new.Goals as goal
 

@@ -1,6 +1,5 @@
-use Rattle.std.proofs.Common.{◌≡◌, ◌∙◌, ◌%◌, ◌+◌, ap, sym, subst, arith, refl, ◌-◌}
+use Rattle.std.proofs.Common.{◌∙◌, ◌%◌, ◌+◌, ap, sym, subst, arith, ◌-◌}
 use Rattle.std.specs.Prelude.{slice_index_or, slice_set}
-use Rattle.std.specs.FinMap as map
 use Rattle.pcache_store.specs.Store.{opened}
 use Rattle.pcache_table.specs.Sharding.{joined}
 use Rattle.pcache_store.specs.Shards.{AreShards, parts}

@@ -1,4 +1,4 @@
-use Rattle.std.proofs.Common.{◌≡◌, ◌∙◌, ◌%◌, ◌+◌, ap, sym, subst, arith, refl, is_some}
+use Rattle.std.proofs.Common.{◌∙◌, ◌%◌, ap, sym, subst, arith, is_some}
 use Rattle.std.specs.Prelude.{slice_index_or, slice_set}
 use Rattle.std.specs.FinMap as map
 use Rattle.pcache_store.specs.Store.{body_of, meta_changed_on}

@@ -1,10 +1,11 @@
-use Rattle.std.proofs.Common.{◌≡◌, ◌∙◌, ◌%◌, ◌+◌, ap, sym, subst, arith, refl, ◌-◌}
+use Rattle.std.proofs.Common.{◌∙◌, ◌%◌, ◌+◌, ap, sym, subst, arith, ◌-◌}
 use Rattle.std.specs.Prelude.{slice_index_or, slice_set}
 use Rattle.std.specs.FinMap as map
 use Rattle.pcache_store.specs.Store.{shut_on}
 use Rattle.pcache_table.specs.Sharding.{joined}
 use Rattle.pcache_store.specs.Shards.{AreShards, parts}
-use Rattle.pcache_store.proofs.SlotShards.{here, changed-shut, held-shut, held-fits, kept-changed, held}
+use Rattle.pcache_store.proofs.SlotShards.{changed-shut, held-shut, held-fits, kept-changed}
+use Rattle.pcache_store.proofs.Maps.{held}
 use Rattle.pcache_store.proofs.memory.slot_table.SlotTable.shut.Goals as goal
 
 pub overflow_sub-self : goal.overflow_sub-self

@@ -1,4 +1,4 @@
-use Rattle.std.proofs.Common.{◌≡◌, ◌∙◌, ◌%◌, ◌+◌, ap, sym, subst, arith, refl}
+use Rattle.std.proofs.Common.{◌∙◌, ◌%◌, ap, sym, subst, arith}
 use Rattle.std.specs.Prelude.{slice_index_or, slice_set}
 use Rattle.std.specs.FinMap as map
 use Rattle.std.specs.Prelude.{IsSome}

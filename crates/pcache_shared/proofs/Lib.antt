@@ -1,0 +1,5 @@
+pub mod Calls
+pub mod Closing
+pub mod Lists
+pub mod Moves
+pub mod Scripts

@@ -1,0 +1,15 @@
+-- A share, after what its call lent (own).
+use Rattle.std.specs.Prelude.{◌≡◌, ℕ, List, Result, [], ◌∷◌, ◌++◌, MatchResult, ⊤}
+use Rattle.std.specs.Borrow.{Fml, RattleType, Bor, MutBor, follows_so}
+use mathlib.Core.Option.{none}
+use Rattle.pingora_cache.specs.declared.world.call.Call.{Call}
+use Rattle.pingora_cache.specs.declared.world.call.Reply.{Reply}
+use Rattle.pcache_shared.specs.declared.mark.Mark as mark
+use Rattle.pcache_shared.specs.declared.receipt.Receipt.{Receipt}
+use Rattle.pcache_shared.specs.contracts.share.Share.{the_row}
+
+-- with a reply, one receipt more, of the call and that reply; at an error none
+abbrev pub ends_added : {E : Type 0} (M : RattleType) (g : mark.Ghosts M.Denot) → MutBor (List Receipt) → Call → Result (Bor Reply) E → Fml
+ends_added M g s call r =
+    follows_so (the_row M g) (the_row M g) s.ghost_name none (λ _ _. ⊤)
+    (λ n. MatchResult r (λ reply. (place : ℕ) × (n ≡ s.now ++ (record { place = place; call = call; reply = reply.now }) ∷ [])) (λ _. n ≡ s.now))

@@ -1,0 +1,5 @@
+pub mod Lends
+pub mod Opened
+pub mod Receipts
+pub mod Views
+pub mod Workers

@@ -1,0 +1,27 @@
+-- What a mark stands for (own).
+use Rattle.std.specs.Prelude.{ℕ, [], None, refl}
+use Rattle.std.specs.Coded.{Coded, code_by, coded×, coded_ℕ}
+use Rattle.std.specs.FinMap as map
+use Rattle.atomic_table.specs.Seated.{TableId, table_id_coded}
+use Rattle.pingora_cache.specs.Log.{Log}
+use Rattle.pingora_cache.specs.LogCode.{log_code}
+
+-- one shared world: its table, the world it was made with, and the number of its shares
+pub record Opened : Type 0 where
+  pub table : TableId
+  pub log : Log
+  pub shares : ℕ
+
+-- nothing was opened
+abbrev pub unopened : Opened
+unopened =
+    record {
+      table = record { words = 0; slots = 0; views_name = 0; atom = 0; block = 0; offset = 0; slot_names = [] };
+      log = record { history = []; start = map.empty; limits = record { weight = 0; watermark = None }; evicted = record { weight = 0; count = 0 } };
+      shares = 0;
+    }
+
+-- a code, which a model's value needs
+abbrev pub opened_code : Coded Opened
+opened_code =
+    code_by (TableId × (Log × ℕ)) (coded× table_id_coded (coded× log_code coded_ℕ)) (λ o. (o.table, (o.log, o.shares))) (λ p. record { table = p.0; log = p.1.0; shares = p.1.1 }) (λ _. refl)

@@ -1,0 +1,48 @@
+-- What a receipt says of a history, and what is known of all receipts at the end (own).
+use Rattle.std.specs.Prelude.{◌≡◌, ℕ, ◌+◌, ◌-◌, List, [], ◌∷◌, ◌++◌, map, length, Some, slice_get}
+use Rattle.std.specs.List.{All}
+use Rattle.pingora_cache.specs.Log.{Log, HasLegal}
+use Rattle.pingora_cache.specs.declared.world.entry.Entry.{Entry}
+use Rattle.pcache_shared.specs.declared.receipt.Receipt.{Receipt}
+use Rattle.pcache_shared.specs.Views.{times, numbers, Rises}
+
+-- the receipt of an entry that was added as the one with this number, to a history of s entries
+abbrev pub receipt_of : ℕ → ℕ × Entry → Receipt
+receipt_of s c = record { place = s + c.0; call = c.1.call; reply = c.1.reply }
+
+-- the entry has the receipt's call and reply
+abbrev pub IsOf : Entry → Receipt → Type 0
+IsOf e r = (e.call ≡ r.call) × (e.reply ≡ r.reply)
+
+-- an entry with the receipt's call and reply stands in the history at the receipt's place
+abbrev pub StandsIn : List Entry → Receipt → Type 0
+StandsIn history r = (e : Entry) × (slice_get history r.place ≡ Some e) × IsOf e r
+
+-- the lists, one behind the other
+abbrev pub joined : {X : Type 0} → List (List X) → List X
+joined [] = []
+joined (x ∷ xs) = x ++ joined xs
+
+abbrev pub places_of : List Receipt → List ℕ
+places_of receipts = map (λ (r : Receipt). r.place) receipts
+
+-- the places that a history of m entries has and one of s entries has not
+abbrev pub places_from : ℕ → ℕ → List ℕ
+places_from s m = map (λ k. s + k) (numbers (m - s))
+
+-- the receipts are those of the entries that came to the history since the start: each stands in it, in a share the places rise, and each place that came is that of one receipt
+pub record AreReceipts (start history : List Entry) (all : List (List Receipt)) : Type 0 where
+  pub stand : All (StandsIn history) (joined all)
+  pub rise : All (λ rs. Rises (places_of rs)) all
+  pub once : (p : ℕ) → times p (places_of (joined all)) ≡ times p (places_from (length start) (length history))
+
+-- the world has the history of before and perhaps more, over the same entries at the start and under the same limits
+pub record HasGrown (old new : Log) : Type 0 where
+  pub more : List Entry
+  pub history : new.history ≡ old.history ++ more
+  pub start : new.start ≡ old.start
+  pub limits : new.limits ≡ old.limits
+
+-- it holds of what the world has become, by calls that make a legal history
+abbrev pub IsTold : Log → (Log → Type 0) → Type 0
+IsTold opened Holds = (log : Log) × HasLegal log × HasGrown opened log × Holds log

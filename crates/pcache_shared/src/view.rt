@@ -1,0 +1,79 @@
+//! What carries the entries out of the lock: tokens of no bytes, whose steps neither wait nor take
+//! memory.
+
+use atomic_table::{Join, Play, Split, Table, TableRule};
+use pingora_cache::world::entry::Entry;
+use std::alloc::Global;
+use std::collections::LinkedList;
+
+/// What a seat knows: the one under the lock all entries that came since the opening, and each those
+/// that it has added, with their places. No value of it is made.
+pub struct View<E> {
+    pub keeps: bool,
+    pub all: LinkedList<E>,
+    pub parts: u64,
+    pub claims: LinkedList<(u64, E)>,
+}
+
+/// What always holds of all views.
+pub struct Law;
+
+impl<E> TableRule<E, View<E>, ()> for Law {
+    ghost use Rattle.std.specs.Prelude.{[]};
+    ghost use Rattle.pcache_shared.specs.Views.{Kept, keeper, whole};
+
+    ghost holds = { λ _ s. Kept s.views };
+
+    ghost first = { λ _. keeper whole [] [] };
+}
+
+/// An entry is added and claimed.
+pub struct Adding;
+
+impl<E> Play<E, View<E>> for Adding {
+    ghost use Rattle.pcache_shared.specs.Views.{Adds};
+
+    ghost then = { Adds };
+}
+
+/// The claims of all are seen.
+pub struct Settling;
+
+impl<E> Play<E, View<E>> for Settling {
+    ghost use Rattle.pcache_shared.specs.Views.{Settles};
+
+    ghost then = { Settles };
+}
+
+/// All that a share knows goes to a new seat.
+pub struct Moving;
+
+impl<E> Split<View<E>> for Moving {
+    ghost use Rattle.pcache_shared.specs.Views.{nobody};
+
+    ghost left = { λ v. nobody };
+
+    ghost right = { λ v. v };
+}
+
+/// One part and the claims go from the keeper to a new seat, or come back.
+pub struct Dealing;
+
+impl<E> Split<View<E>> for Dealing {
+    ghost use Rattle.pcache_shared.specs.Views.{relieved, slip_of};
+
+    ghost left = { relieved };
+
+    ghost right = { slip_of };
+}
+
+impl<E> Join<View<E>> for Dealing {
+    ghost use Rattle.pcache_shared.specs.Views.{both, nobody};
+
+    ghost both = { both };
+
+    ghost spent = { nobody };
+}
+
+/// The table whose seats they are: one word, and no slots.
+pub type Room = Table<Entry, View<Entry>, (), Law, Global>;

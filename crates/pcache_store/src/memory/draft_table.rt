@@ -1,0 +1,313 @@
+//! The records of writes by number, in shards.
+ghost use Rattle.std.specs.Prelude.{◌≡◌, ◌<◌, ◌++◌, ◌^◌, ℕ, Option, Some, None, IsSome, IfSome, IfNone, IfOk, IfErr, OnOk, OnErr, option_map, option_copied, is_some, cond};
+ghost use Rattle.std.specs.FinMap as map;
+ghost use Rattle.pcache_base.specs.declared.error.ErrorType.TheVariants.{OutOfMemory};
+ghost use Rattle.pcache_store.specs.Drafts.{IsBodyOf};
+ghost use Rattle.pcache_store.specs.Shards.{of_shard, table_at, IsPlaceOf};
+ghost use Rattle.pcache_store.specs.Store.{Written, joined_on, left_on, wrote_on, grounded_on};
+
+use crate::memory::body::Body;
+use crate::memory::draft::Draft;
+use crate::memory::slot_table::SHARDS;
+use pcache_base::error::{Error, ErrorType, Result};
+use pcache_meta::meta::CacheMeta;
+use pcache_table::hashtable::Table;
+use std::alloc::Global;
+use std::marker::Model;
+
+/// The most records that all shards may have together, as many as one table may have.
+const MOST_RECORDS: usize = (1 << 63) - 1;
+
+/// The records of writes by number, each in the shard of its key, of which there are 16. A contract
+/// sees one map.
+///
+/// A call is handed a slot besides the number: the record is looked for in that slot's shard, and in
+/// the others only where it is not there. So whoever names the slot of the write's key takes time in
+/// the logarithm of the number of records, and a slot of another store's write finds the same.
+#[derive(Drop)]
+pub(crate) struct DraftTable {
+    shards: [Table<Draft>; 16],
+    count: usize,
+}
+
+impl Model for DraftTable {
+    ghost use Rattle.std.specs.FinMap as map;
+    ghost use Rattle.std.specs.Ordering.{nat_cmp};
+    ghost use Rattle.std.specs.Coded.{coded_ℕ};
+    ghost use Rattle.pcache_table.specs.Sharding.{joined};
+    ghost use Rattle.pcache_store.specs.Store.{Written};
+    ghost use Rattle.pcache_store.specs.StoreCode.{written_code};
+    ghost use Rattle.pcache_store.specs.Shards.{parts, AreRecords};
+
+    ghost Value = { map.FinMap nat_cmp Written };
+
+    ghost coded = { map.code coded_ℕ written_code };
+
+    ghost view = { λ a. joined (parts 0 a.shards) };
+
+    ghost invariant = { λ a. AreRecords a.shards a.count };
+}
+
+impl DraftTable {
+    pub(crate) fn new(alloc: Global) -> DraftTable
+        ensures { result ≡ map.empty }
+    {
+        DraftTable {
+            shards: std::array::from_fn(
+                |_place: usize| -> Table<Draft>
+                    ensures { result ≡ map.empty }
+                { Table::new(alloc) },
+            ),
+            count: 0,
+        }
+    }
+
+    // The number of records.
+    pub(crate) fn len(&self) -> usize
+        ensures { result ≡ map.len self.now }
+    {
+        self.count
+    }
+
+    // The number of records of a shard.
+    pub(crate) fn shard_len(&self, shard: usize) -> usize
+        requires { shard < 16 }
+        ensures { result ≡ map.len (of_shard shard self.now) }
+    {
+        let shards = &self.shards;
+        let table = &shards[shard];
+        table.len()
+    }
+
+    pub(crate) fn get(&self, slot: u128, number: u128) -> Option<&Draft>
+        ensures { option_copied result ≡ map.get self.now number }
+    {
+        let shards = &self.shards;
+        let place = place_of(shards, slot, number);
+        let table = &shards[place];
+        table.get(number)
+    }
+
+    // The record of a new write.
+    pub(crate) fn insert(&mut self, number: u128, draft: Draft) -> Result<()>
+        requires { map.get self.old number ≡ None }
+        ensures ok { OnOk result (self.new ≡ map.insert self.old number draft) }
+        ensures kind { IfErr result (λ e. e ≡ OutOfMemory) }
+        ensures err { OnErr result (self.new ≡ self.old) }
+    {
+        if self.count >= MOST_RECORDS {
+            return Err(Error::new(ErrorType::OutOfMemory));
+        }
+        let place = (draft.slot() % SHARDS) as usize;
+        let table = &mut self.shards[place];
+        table.insert(number, draft)?;
+        self.count += 1;
+        Ok(())
+    }
+
+    // Takes a record out.
+    pub(crate) fn remove(&mut self, slot: u128, number: u128)
+        ensures { self.new ≡ map.remove self.old number }
+    {
+        let place = place_of(&self.shards, slot, number);
+        let table = &mut self.shards[place];
+        let was = held(table, number);
+        table.remove(number);
+        self.count -= was;
+    }
+
+    pub(crate) fn write(
+        &mut self,
+        alloc: Global,
+        slot: u128,
+        number: u128,
+        bytes: &[u8],
+        eof: bool,
+    ) -> Result<()>
+        ensures ok { OnOk result (self.new ≡ wrote_on self.old number bytes.now eof (map.get self.old number)) }
+        ensures kind { IfErr result (λ e. e ≡ OutOfMemory) }
+        ensures err { OnErr result (self.new ≡ self.old) }
+    {
+        let place = place_of(&self.shards, slot, number);
+        let table = &mut self.shards[place];
+        write_in(table, alloc, number, bytes, eof)
+    }
+
+    // Counts a reader more of a write, and answers its meta.
+    pub(crate) fn join(
+        &mut self,
+        alloc: Global,
+        slot: u128,
+        number: u128,
+    ) -> Result<Option<CacheMeta>>
+        ensures meta { IfOk result (λ m. m ≡ option_map (λ w. w.meta) (map.get self.old number)) }
+        ensures ok { OnOk result (self.new ≡ joined_on self.old number (map.get self.old number)) }
+        ensures something { OnErr result (IsSome (map.get self.old number)) }
+        ensures kind { IfErr result (λ e. e ≡ OutOfMemory) }
+        ensures err { OnErr result (self.new ≡ self.old) }
+    {
+        let place = place_of(&self.shards, slot, number);
+        let table = &mut self.shards[place];
+        join_in(table, alloc, number)
+    }
+
+    // Counts a reader less.
+    pub(crate) fn leave(&mut self, slot: u128, number: u128)
+        ensures { self.new ≡ left_on self.old number (map.get self.old number) }
+    {
+        let place = place_of(&self.shards, slot, number);
+        let table = &mut self.shards[place];
+        let was = held(table, number);
+        leave_in(table, number);
+        let is = held(table, number);
+        self.count = self.count - was + is;
+    }
+
+    // A write whose handler is gone.
+    pub(crate) fn land(&mut self, slot: u128, number: u128)
+        ensures { self.new ≡ grounded_on self.old number (map.get self.old number) }
+    {
+        let place = place_of(&self.shards, slot, number);
+        let table = &mut self.shards[place];
+        let was = held(table, number);
+        land_in(table, number);
+        let is = held(table, number);
+        self.count = self.count - was + is;
+    }
+
+    // A write whose handler is gone, and its body, which shares its bytes.
+    pub(crate) fn end(&mut self, alloc: Global, slot: u128, number: u128) -> Result<Body>
+        requires { IsSome (map.get self.old number) }
+        ensures body { IfOk result (λ b. IsBodyOf (map.get self.old number) b) }
+        ensures gone { self.new ≡ grounded_on self.old number (map.get self.old number) }
+        ensures kind { IfErr result (λ e. e ≡ OutOfMemory) }
+    {
+        let place = place_of(&self.shards, slot, number);
+        let table = &mut self.shards[place];
+        let was = held(table, number);
+        let body = end_in(table, alloc, number);
+        let is = held(table, number);
+        self.count = self.count - was + is;
+        body
+    }
+}
+
+// The place of the shard that has a number, where one has it. That of the slot comes first.
+fn place_of(shards: &[Table<Draft>; 16], slot: u128, number: u128) -> usize
+    ensures within { result < 16 }
+    ensures place { IsPlaceOf shards.now number result }
+{
+    let first = (slot % SHARDS) as usize;
+    let table = &shards[first];
+    if table.get(number).is_some() {
+        return first;
+    }
+    match place_with(shards, number) {
+        Some(place) => place,
+        None => first,
+    }
+}
+
+// The place of a shard that has a number.
+fn place_with(shards: &[Table<Draft>; 16], number: u128) -> Option<usize>
+    ensures within { IfSome result (λ i. i < 16) }
+    ensures there { IfSome result (λ i. IsSome (map.get (table_at shards.now i) number)) }
+    ensures none { IfNone result ((i : ℕ) → i < 16 → map.get (table_at shards.now i) number ≡ None) }
+{
+    for place in 0..16usize {
+        let table = &shards[place];
+        if table.get(number).is_some() {
+            return Some(place);
+        }
+    }
+    None
+}
+
+// One where a table has a record of a number, else none.
+fn held(table: &Table<Draft>, number: u128) -> usize
+    ensures { result ≡ cond (is_some (map.get table.now number)) 1 0 }
+{
+    match table.get(number) {
+        Some(_draft) => 1,
+        None => 0,
+    }
+}
+
+fn write_in(
+    writes: &mut Table<Draft>,
+    alloc: Global,
+    number: u128,
+    bytes: &[u8],
+    eof: bool,
+) -> Result<()>
+    ensures ok { OnOk result (writes.new ≡ wrote_on writes.old number bytes.now eof (map.get writes.old number)) }
+    ensures kind { IfErr result (λ e. e ≡ OutOfMemory) }
+    ensures err { OnErr result (writes.new ≡ writes.old) }
+{
+    let Some(draft) = writes.get_mut(number) else {
+        return Ok(());
+    };
+    draft.write(alloc, bytes, eof)
+}
+
+fn join_in(writes: &mut Table<Draft>, alloc: Global, number: u128) -> Result<Option<CacheMeta>>
+    ensures meta { IfOk result (λ m. m ≡ option_map (λ w. w.meta) (map.get writes.old number)) }
+    ensures ok { OnOk result (writes.new ≡ joined_on writes.old number (map.get writes.old number)) }
+    ensures something { OnErr result (IsSome (map.get writes.old number)) }
+    ensures kind { IfErr result (λ e. e ≡ OutOfMemory) }
+    ensures err { OnErr result (writes.new ≡ writes.old) }
+{
+    let Some(draft) = writes.get_mut(number) else {
+        return Ok(None);
+    };
+    match draft.join(alloc) {
+        Ok(meta) => Ok(Some(meta)),
+        Err(refused) => Err(refused),
+    }
+}
+
+fn leave_in(writes: &mut Table<Draft>, number: u128)
+    ensures { writes.new ≡ left_on writes.old number (map.get writes.old number) }
+{
+    let Some(draft) = writes.get_mut(number) else {
+        return;
+    };
+    draft.leave();
+    if draft.is_named() {
+        return;
+    }
+    writes.remove(number);
+}
+
+fn land_in(writes: &mut Table<Draft>, number: u128)
+    ensures { writes.new ≡ grounded_on writes.old number (map.get writes.old number) }
+{
+    let Some(draft) = writes.get_mut(number) else {
+        return;
+    };
+    draft.land();
+    if draft.is_named() {
+        return;
+    }
+    writes.remove(number);
+}
+
+// Where nobody reads the write its meta and bytes move into the body, and else the body shares them.
+fn end_in(writes: &mut Table<Draft>, alloc: Global, number: u128) -> Result<Body>
+    requires { IsSome (map.get writes.old number) }
+    ensures body { IfOk result (λ b. IsBodyOf (map.get writes.old number) b) }
+    ensures gone { writes.new ≡ grounded_on writes.old number (map.get writes.old number) }
+    ensures kind { IfErr result (λ e. e ≡ OutOfMemory) }
+{
+    let Some(draft) = writes.get_mut(number) else {
+        unreachable!()
+    };
+    draft.land();
+    if draft.is_named() {
+        return draft.to_body(alloc);
+    }
+    let Some(draft) = writes.remove(number) else {
+        unreachable!()
+    };
+    draft.into_body()
+}
