@@ -1,6 +1,7 @@
 //! Writing the replies of a script.
 
 use pingora_cache::error::ErrorType;
+use pingora_cache::lock::LockWaitOutcome;
 use pingora_cache::world::Totals;
 use pingora_cache::world::call::{LockKind, Reply};
 use std::io;
@@ -35,6 +36,8 @@ pub fn write_reply<W: Write>(output: &mut W, reply: &Reply) -> io::Result<()> {
         Reply::Other => writeln!(output, "other"),
         Reply::Updated => writeln!(output, "updated"),
         Reply::NotUpdated => writeln!(output, "not updated"),
+        Reply::Waiting => writeln!(output, "pending"),
+        Reply::Waited(outcome) => write_outcome(output, *outcome),
         Reply::Phase(phase) => writeln!(output, "{}", phase.as_str()),
     }
 }
@@ -61,6 +64,19 @@ fn write_with_lock<W: Write>(output: &mut W, word: &str, lock: Option<LockKind>)
         None => writeln!(output, "{word}"),
         Some(LockKind::Write) => writeln!(output, "{word} write"),
         Some(LockKind::Read) => writeln!(output, "{word} read"),
+    }
+}
+
+// How a wait ended.
+fn write_outcome<W: Write>(output: &mut W, outcome: LockWaitOutcome) -> io::Result<()> {
+    match outcome {
+        LockWaitOutcome::Done => writeln!(output, "done"),
+        LockWaitOutcome::TransientError => writeln!(output, "transient_error"),
+        LockWaitOutcome::Dangling => writeln!(output, "dangling"),
+        LockWaitOutcome::WaitTimeout => writeln!(output, "wait_timeout"),
+        LockWaitOutcome::AgeTimeout => writeln!(output, "age_timeout"),
+        LockWaitOutcome::GiveUp => writeln!(output, "give_up"),
+        LockWaitOutcome::Abandoned { reason: _, token } => writeln!(output, "abandoned {token}"),
     }
 }
 

@@ -158,7 +158,7 @@ fn read_call(
         b"vary" | b"variance" | b"revalidate" => {
             read_variant_call(alloc, word, request, words, now)
         }
-        _ => read_lock_call(alloc, word, request, words),
+        _ => read_lock_call(alloc, word, request, words, now),
     }
 }
 
@@ -241,8 +241,10 @@ fn read_lock_call(
     word: &[u8],
     request: u64,
     words: &mut Words<'_>,
+    now: Moment,
 ) -> Result<Call, Unread> {
     match word {
+        b"wait" => Ok(Call::Wait { request, now }),
         b"lock" => Ok(Call::Lock {
             request,
             is_used: is_on(words.word()?)?,

@@ -1,4 +1,6 @@
 //! Whole scripts, each with the replies that are wanted.
+mod waits;
+
 use crate::replay::replay;
 use std::alloc::Global;
 use std::process::Abort;

@@ -7,7 +7,7 @@ use Rattle.pingora_cache.specs.Held.{Held, number_of, row, request_of}
 use Rattle.pingora_cache.specs.History.{events_of}
 
 pub looks_are_true : LooksAreTrue
-looks_are_true limits start before entry k answer rest l is =
+looks_are_true age limits start before entry k answer rest l is =
     let q = request_of (number_of entry.call) before in
     (subst (λ xs. AreDue limits start (events_of before) q (makes_of q) None xs (makes_of (row entry.call entry.reply entry.events q))) is l.0.due).0
 
@@ -17,7 +17,7 @@ reader-is None rd is = absurd (cc)
 reader-is (Some x) rd is = (x, refl, is)
 
 pub reads_are_true : ReadsAreTrue
-reads_are_true limits start before entry answer rest l is =
+reads_are_true age limits start before entry answer rest l is =
     let q = request_of (number_of entry.call) before in
     let told = (subst (λ xs. AreDue limits start (events_of before) q (makes_of q) None xs (makes_of (row entry.call entry.reply entry.events q))) is l.0.due).0 in
     let x = reader-is q told.0 told.1 in

@@ -19,7 +19,7 @@ use Rattle.pcache_evict.proofs.EntryOrder.{exact_entries}
 use Rattle.pcache_base.specs.CompactKey.{compact_slot}
 use Rattle.pcache_store.specs.Store.{Stored}
 use Rattle.pingora_cache.specs.declared.world.entry.Event.{Event}
-use Rattle.pingora_cache.specs.declared.world.entry.Event.TheVariants.{Look, Ask, Access, Begin, Wrote, Finish, Dropped, Release, LetGo, Admit, Purge, Expire, Renew, Untrack, Read}
+use Rattle.pingora_cache.specs.declared.world.entry.Event.TheVariants.{Look, Ask, Access, Begin, Wrote, Finish, Dropped, Release, LetGo, Aged, Admit, Purge, Expire, Renew, Untrack, Read}
 use Rattle.pingora_cache.specs.Events.{begun, begin_of, names_slot, is_removed, in_flight, body_of, complete, tracked, with_key, finished_keys, size_of, stored, slots}
 use Rattle.pingora_cache.specs.Sound.{IsTidy, IsExact, IsBounded, standing_entry}
 use Rattle.pingora_cache.proofs.Steps.{complete-wrote, complete-begin, complete-purge, complete-expire, complete-renew, complete-finish, body_with, altered_body}
@@ -57,6 +57,7 @@ keys_distinct (Wrote w bs eof ∷ es) = keys_distinct es
 keys_distinct (Dropped w ∷ es) = keys_distinct es
 keys_distinct (Release n ∷ es) = keys_distinct es
 keys_distinct (LetGo n ∷ es) = keys_distinct es
+keys_distinct (Aged n ∷ es) = keys_distinct es
 keys_distinct (Admit e n out ∷ es) = keys_distinct es
 keys_distinct (Purge k ∷ es) = keys_distinct es
 keys_distinct (Expire k t ∷ es) = keys_distinct es

@@ -17,7 +17,7 @@ use Rattle.pcache_store.specs.Store.{Stored}
 use Rattle.pcache_request.specs.Finishing.{entry_slot}
 use Rattle.pcache_request.specs.Requests.{entry_of}
 use Rattle.pingora_cache.specs.declared.world.entry.Event.{Event}
-use Rattle.pingora_cache.specs.declared.world.entry.Event.TheVariants.{Look, Ask, Access, Begin, Wrote, Finish, Dropped, Release, LetGo, Admit, Purge, Expire, Renew, Untrack, Read}
+use Rattle.pingora_cache.specs.declared.world.entry.Event.TheVariants.{Look, Ask, Access, Begin, Wrote, Finish, Dropped, Release, LetGo, Aged, Admit, Purge, Expire, Renew, Untrack, Read}
 use Rattle.pingora_cache.specs.Events.{begun, begin_of, names_slot, names_key, option_any, is_removed, in_flight, body_of, complete, tracked, size_of}
 use Rattle.pingora_cache.specs.Sound.{IsTidy, IsExact, standing_entry}
 use Rattle.pingora_cache.proofs.Steps.{complete-wrote, complete-begin, complete-purge, complete-admit, complete-expire, complete-renew, complete-finish, body_with, altered_body}
@@ -53,6 +53,7 @@ standing-names (Finish w b ∷ es) k e h = standing-names es k e h
 standing-names (Dropped w ∷ es) k e h = standing-names es k e h
 standing-names (Release n ∷ es) k e h = standing-names es k e h
 standing-names (LetGo n ∷ es) k e h = standing-names es k e h
+standing-names (Aged n ∷ es) k e h = standing-names es k e h
 standing-names (Purge q ∷ es) k e h = standing-names es k e h
 standing-names (Expire q t ∷ es) k e h = standing-names es k e h
 standing-names (Renew q m ∷ es) k e h = standing-names es k e h

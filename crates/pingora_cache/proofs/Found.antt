@@ -25,14 +25,14 @@ use Rattle.pingora_cache.specs.declared.world.entry.Entry.{Entry}
 use Rattle.pingora_cache.specs.declared.world.entry.Event.{Event}
 use Rattle.pingora_cache.specs.declared.world.entry.Event.TheVariants as E
 use Rattle.pingora_cache.specs.Headline.{IsFoundBy, ReadsWhatWasFound}
-use Rattle.pingora_cache.specs.Held.{Held, Change, opens, closes, stays, turns, turns_by, shuts, looks, takes, begins, ends, reads_on, seeks, reads_no_more, renews, change_of, changed, turned_by, shut_by, sought_in, with_sought, number_of, Outcome, outcome, is_wrong, is_done, is_taken, opened, asked, carrying, decides, looked_by, looked_with, pair_of, placed_by, taken_by, without_pair, began, ended, read_past, has_read, on_request, row, request_of}
+use Rattle.pingora_cache.specs.Held.{Held, Change, opens, closes, stays, turns, turns_by, shuts, looks, takes, begins, ends, reads_on, seeks, reads_no_more, renews, waits, change_of, changed, turned_by, shut_by, sought_in, with_sought, number_of, Outcome, outcome, is_wrong, is_done, is_taken, opened, asked, carrying, decides, looked_by, looked_with, pair_of, placed_by, taken_by, without_pair, began, ended, read_past, has_read, on_request, row, request_of}
 use Rattle.pingora_cache.specs.History.{events_of}
 use Rattle.pingora_cache.specs.Legal.{IsLegal}
 use Rattle.pingora_cache.specs.Sound.{pair_reader}
 use Rattle.pingora_cache.proofs.AnswersLaw.{looks_are_true}
 use Rattle.pingora_cache.proofs.Laws.{reads_the_last}
 use Rattle.pingora_cache.proofs.Promised.{legal-part}
-use Rattle.pingora_cache.proofs.ReadsLaw.{asked-reader, decided-reader}
+use Rattle.pingora_cache.proofs.ReadsLaw.{asked-reader, decided-reader, waited-reader}
 
 -- a reader of a complete body has one of these
 abbrev IsOf : (List ℕ → Type 0) → Option Reader → Type 0
@@ -147,6 +147,8 @@ module _ (P : List ℕ → Type 0) (events : List Event) (found : (k : ℕ) (m :
   change-of reads_no_more (Some x) h = either P (is_wrong o) (Some x) (Some (on_request without_reader x)) h (tt, h.1)
   change-of (renews m) None h = either P (is_wrong o) None None tt tt
   change-of (renews m) (Some x) h = either P (is_wrong o) (Some x) (Some (on_request (renewed m) x)) h (h.0, h.1)
+  change-of (waits now) None h = tt
+  change-of (waits now) (Some x) h = (subst (IsOf P) (sym (waited-reader o now x.request)) h.0, h.1)
 
 -- an older look-up stands in a longer history
 found-more : (e : Entry) (h : List Entry) (r : ℕ) (body : List ℕ) → IsFoundBy h r body → IsFoundBy (e ∷ h) r body
@@ -164,9 +166,9 @@ held-found r (e ∷ h) =
     ] refl
 
 pub reads_what_was_found : ReadsWhatWasFound
-reads_what_was_found limits start h r x body from to done l is has =
+reads_what_was_found age limits start h r x body from to done l is has =
     let all : AreOf (IsFoundBy h r) (Some x) = subst (AreOf (IsFoundBy h r)) is (held-found r h) in
     let f : IsFoundBy h r body = subst (IsOf (IsFoundBy h r)) has all.0 in
-    let at = legal-part limits start f.0 f.1 f.2 (subst (IsLegal limits start) f.6 l) in
-    let last = reads_the_last limits start f.2 f.3 f.4 body at.1 (looks_are_true limits start f.2 f.1 f.3 (A.Complete f.4 body) f.5 at f.8) in
+    let at = legal-part age limits start f.0 f.1 f.2 (subst (IsLegal age limits start) f.6 l) in
+    let last = reads_the_last age limits start f.2 f.3 f.4 body at.1 (looks_are_true age limits start f.2 f.1 f.3 (A.Complete f.4 body) f.5 at f.8) in
     (f, last.0, last.1, last.2, last.3)

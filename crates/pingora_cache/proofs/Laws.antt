@@ -51,26 +51,26 @@ keeps-slot q None k world w is = absurd (cc)
 keeps-slot None (Some y) k world w is = let none = k.1 in absurd (cc)
 keeps-slot (Some x) (Some y) k world w is = ap (option_map slot) ((k world).1 (ap is_some is))
 
-pub legal_world : (limits : Limits) (start : Tracked) (h : List Entry) → IsLegal limits start h → (r : ℕ) → IsOfWorldIn (request_of r h)
-legal_world limits start [] l r = tt
-legal_world limits start (e ∷ h) l r =
+pub legal_world : (age : ℕ) (limits : Limits) (start : Tracked) (h : List Entry) → IsLegal age limits start h → (r : ℕ) → IsOfWorldIn (request_of r h)
+legal_world age limits start [] l r = tt
+legal_world age limits start (e ∷ h) l r =
     let n = number_of e.call in
-    let old = legal_world limits start h l.1 in
+    let old = legal_world age limits start h l.1 in
     elim (n == r) as (λ b. (n == r) ≡ b → IsOfWorldIn (request_of r (e ∷ h))) [
       | true ↦ λ t. subst IsOfWorldIn (sym (named e h r (eqb-true n r t))) (keeps-world (request_of n h) (row e.call e.reply e.events (request_of n h)) l.0.keeps (old n))
       | false ↦ λ f. subst IsOfWorldIn (sym (unnamed e h r (eqb-false n r f))) (old r)
     ] refl
 
-pub legal_kept : (limits : Limits) (start : Tracked) (h : List Entry) → IsLegal limits start h → IsKept limits start h
-legal_kept limits start [] l = record {
+pub legal_kept : (age : ℕ) (limits : Limits) (start : Tracked) (h : List Entry) → IsLegal age limits start h → IsKept limits start h
+legal_kept age limits start [] l = record {
   tidy = tidy-none;
   made = record { only = λ r s w x y. absurd (cc); some = λ w x. absurd (cc); flies = λ r w x. absurd (cc); keyed = λ r w x. absurd (cc) };
   exact = exact-none start;
   bounded = bound-none limits;
   world = λ r. tt;
 }
-legal_kept limits start (e ∷ h) l =
-    let k = legal_kept limits start h l.1 in
+legal_kept age limits start (e ∷ h) l =
+    let k = legal_kept age limits start h l.1 in
     let es = events_of h in
     let n = number_of e.call in
     let q = request_of n h in
@@ -96,7 +96,7 @@ legal_kept limits start (e ∷ h) l =
       };
       exact = done.settled.0;
       bounded = done.settled.1;
-      world = legal_world limits start (e ∷ h) l;
+      world = legal_world age limits start (e ∷ h) l;
     }
   where
     same-one : (n : ℕ) (f : ℕ → Option ℕ) (r : ℕ) → with_one n (f n) f r ≡ f r
@@ -110,15 +110,15 @@ legal_kept limits start (e ∷ h) l =
           | true ↦ λ t.
               let same = eqb-true n r t in
               let moved = named e h r same in
-              ap slot_of moved ∙ keeps-slot (request_of n h) (row e.call e.reply e.events (request_of n h)) l.0.keeps (legal_world limits start h l.1 n) w (sym (ap makes_of moved) ∙ is) ∙ ap (λ x. slot_of (request_of x h)) same
+              ap slot_of moved ∙ keeps-slot (request_of n h) (row e.call e.reply e.events (request_of n h)) l.0.keeps (legal_world age limits start h l.1 n) w (sym (ap makes_of moved) ∙ is) ∙ ap (λ x. slot_of (request_of x h)) same
           | false ↦ λ f. ap slot_of (unnamed e h r (eqb-false n r f))
         ] refl
 
-pub legal_tidy : (limits : Limits) (start : Tracked) (h : List Entry) → IsLegal limits start h → IsTidy (events_of h)
-legal_tidy limits start h l = (legal_kept limits start h l).tidy
+pub legal_tidy : (age : ℕ) (limits : Limits) (start : Tracked) (h : List Entry) → IsLegal age limits start h → IsTidy (events_of h)
+legal_tidy age limits start h l = (legal_kept age limits start h l).tidy
 
-pub legal_bounded : (limits : Limits) (start : Tracked) (h : List Entry) → IsLegal limits start h → IsBounded limits (events_of h)
-legal_bounded limits start h l = (legal_kept limits start h l).bounded
+pub legal_bounded : (age : ℕ) (limits : Limits) (start : Tracked) (h : List Entry) → IsLegal age limits start h → IsBounded limits (events_of h)
+legal_bounded age limits start h l = (legal_kept age limits start h l).bounded
 
 -- The three laws.
 
@@ -157,20 +157,20 @@ nothing k es t closed none u =
     ]
 
 pub finds_exactly : FindsExactly
-finds_exactly limits start before k A.Nothing legal f = (λ x. absurd (cc), λ u. absurd (nothing k (events_of before) (legal_tidy limits start before legal) f.0 f.1 u))
-finds_exactly limits start before k (A.Streaming m w) legal f = (λ _. opened k w (events_of before) f.0, λ _. refl)
-finds_exactly limits start before k (A.Complete m body) legal f = (λ _. stands k (events_of before) (body_with m body) (legal_tidy limits start before legal) f.1, λ _. refl)
+finds_exactly age limits start before k A.Nothing legal f = (λ x. absurd (cc), λ u. absurd (nothing k (events_of before) (legal_tidy age limits start before legal) f.0 f.1 u))
+finds_exactly age limits start before k (A.Streaming m w) legal f = (λ _. opened k w (events_of before) f.0, λ _. refl)
+finds_exactly age limits start before k (A.Complete m body) legal f = (λ _. stands k (events_of before) (body_with m body) (legal_tidy age limits start before legal) f.1, λ _. refl)
 
 pub reads_the_last : ReadsTheLast
-reads_the_last limits start before k m body legal f = stands_last k (events_of before) (body_with m body) f.1
+reads_the_last age limits start before k m body legal f = stands_last k (events_of before) (body_with m body) f.1
 
 pub is_within_limits : IsWithinLimits
-is_within_limits limits start before legal = let b = legal_bounded limits start before legal in (b.bytes, b.count)
+is_within_limits age limits start before legal = let b = legal_bounded age limits start before legal in (b.bytes, b.count)
 
 -- The end of a write.
 
 pub finishes_exactly : FinishesExactly
-finishes_exactly limits start before entry w stored rest l is =
+finishes_exactly age limits start before entry w stored rest l is =
     let q = request_of (number_of entry.call) before in
     let es = events_of before in
     by_outcome stored (subst (λ xs. AreDue limits start es q (makes_of q) None xs (makes_of (row entry.call entry.reply entry.events q))) is l.0.due)

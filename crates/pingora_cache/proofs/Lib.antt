@@ -8,12 +8,17 @@ pub mod Found
 pub mod History
 pub mod Keeps
 pub mod Laws
+pub mod LockKept
+pub mod LockSteps
+pub mod LockTable
+pub mod LockWatch
 pub mod Looking
 pub mod MovedState
 pub mod MovesOf
 pub mod Noted
 pub mod Opened
 pub mod Promised
+pub mod ReadLocks
 pub mod ReadsLaw
 pub mod Runs
 pub mod SoundOf
@@ -33,6 +38,9 @@ pub mod TrackedLaws
 pub mod TurnOf
 pub mod Turned
 pub mod Uniform
+pub mod Untold
+pub mod Waited
 pub mod Waiting
+pub mod WaitsLaw
 pub mod Worlds
 pub mod WrongLaw

@@ -1,5 +1,5 @@
 -- What a look-up tells is what its rule wants, and what it makes of its request is its row.
-use Rattle.std.proofs.Common.{◌≡◌, ℕ, ◌&&◌, Bool, true, false, cond, Option, None, Some, is_none, IsTrue, List, [], ◌∷◌, ◌++◌, refl, ap, sym, subst, ◌∙◌, inl, inr}
+use Rattle.std.proofs.Common.{◌≡◌, ℕ, ◌&&◌, Bool, true, false, cond, Option, None, Some, is_none, IsTrue, List, [], ◌∷◌, ◌++◌, refl, ap, sym, subst, ◌∙◌, inl, inr, ◌≤◌, ◌^◌}
 use Rattle.pcache_base.specs.Key.{Key, slot}
 use Rattle.pcache_lock.specs.Locks.{Locks}
 use Rattle.pcache_lock.specs.declared.lock.permit.Locked.{Locked}
@@ -182,3 +182,19 @@ pub carried-moves : (d : Option Decision) (x z : Held) (q : Option Held) (s u : 
 carried-moves d x z q s u events is moves limits m =
     let h = subst (λ (z : Held). MovesStore (Some z) s events q u) is moves limits m in
     (h.0, h.1, acts-carried limits d x h.0 (at_call (Some x) s m) (at_call q u m) h.2)
+
+-- a look-up asks only what is found, and how many permits were asked for
+
+misses-by : (f g : Facts) (k : ℕ) (a : Answer) (x : Request) (reply : Reply) (events : List Event) → f.asked ≡ g.asked → Misses f k a x reply events → Misses g k a x reply events
+misses-by f g k a x reply events same (inl (e, used, inl oom, is, told)) = inl (e, used, inl oom, is, told)
+misses-by f g k a x reply events same (inl (e, used, inr (number, asks, many), is, told)) = inl (e, used, inr (number, asks, subst (λ n. 2 ^ 64 ≤ n) same many), is, told)
+misses-by f g k a x reply events same (inr more) = inr more
+
+looks-on-by : (b c : Bool) (f g : Facts) (k : ℕ) (a : Answer) (x : Request) (reply : Reply) (events : List Event) → is_unseen x.valid_after (pair_of a) ≡ c → f.asked ≡ g.asked → LooksOn b f k a x reply events → LooksOn b g k a x reply events
+looks-on-by true c f g k a x reply events unseen same h = h
+looks-on-by false true f g k a x reply events unseen same h = subst (λ c. HandsOn c g k a x reply events) (sym unseen) (misses-by f g k a x reply events same (subst (λ c. HandsOn c f k a x reply events) unseen h))
+looks-on-by false false f g k a x reply events unseen same h = subst (λ c. HandsOn c g k a x reply events) (sym unseen) (subst (λ c. HandsOn c f k a x reply events) unseen h)
+
+pub looks-by : (f g : Facts) (x : Held) (reply : Reply) (events : List Event) → f.found ≡ g.found → f.asked ≡ g.asked → Looks f x reply events → Looks g x reply events
+looks-by f g x reply events found same (inl starved) = inl starved
+looks-by f g x reply events found same (inr (k, a, key, is, on)) = inr (k, a, key, is ∙ found, looks-on-by (is_deferral (decides a x)) (is_unseen x.request.valid_after (pair_of a)) f g (slot k) a x.request reply events refl same on)

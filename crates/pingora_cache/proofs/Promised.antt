@@ -22,6 +22,7 @@ use Rattle.pingora_cache.specs.declared.world.entry.Answer.TheVariants as A
 use Rattle.pingora_cache.specs.declared.world.entry.Entry.{Entry}
 use Rattle.pingora_cache.specs.declared.world.entry.Event.{Event}
 use Rattle.pingora_cache.specs.declared.world.entry.Event.TheVariants as E
+use Rattle.pingora_cache.specs.Deeds.{deeds_of}
 use Rattle.pingora_cache.specs.Events.{begin_of, in_flight, body_of, is_told}
 use Rattle.pingora_cache.specs.Facts.{Facts, Says}
 use Rattle.pingora_cache.specs.Headline.{is_found, HasUntouched, HandsOnExactly, HandsOnUnhidden, told_found, TellsExactly, ReadsTheWhole, IsEntryOf, FindsUntouched, FinishesUntouched, HitsTheLast, StaysWithin, EvictsNothingWithin, GivesWhereNoneWaits}
@@ -104,27 +105,27 @@ module _ (b : Bool) (x : Held) where
   by-copy es f r t d reply told events is (inl same) a = by-answers es f r t d reply events (ap told_found (sym same) ∙ is) a
   by-copy es f r t d reply told events is (inr other) a = tells-none told (R.Refused _) b other.0 refl is
 
-  by-entry : (limits : Limits) (start : Tracked) (before : List Entry) (entry : Entry) (r t : ℕ) (d : Option Decision) → IsLegal limits start (entry ∷ before) → entry.call ≡ C.Look r t d → request_of r before ≡ Some x → told_found entry.reply ≡ Some b
-      → (f : Facts) × Says (events_of before) x.request f × Tells (events_of before) f entry.events
-  by-entry limits start before entry r t d l call has told =
+  by-entry : (age : ℕ) (limits : Limits) (start : Tracked) (before : List Entry) (entry : Entry) (r t : ℕ) (d : Option Decision) → IsLegal age limits start (entry ∷ before) → entry.call ≡ C.Look r t d → request_of r before ≡ Some x → told_found entry.reply ≡ Some b
+      → (f : Facts) × Says age (events_of before) (deeds_of before) r x.request f × Tells (events_of before) f entry.events
+  by-entry age limits start before entry r t d l call has told =
       let opened-as : request_of (number_of entry.call) before ≡ Some x = ap (λ c. request_of (number_of c) before) call ∙ has in
-      let moved = subst (λ q. Gives limits start (events_of before) q entry.call entry.reply entry.events) opened-as l.0 in
-      let looked = subst (λ c. Gives limits start (events_of before) (Some x) c entry.reply entry.events) call moved in
+      let moved = subst (λ q. Gives age limits start (events_of before) (deeds_of before) q entry.call entry.reply entry.events) opened-as l.0 in
+      let looked = subst (λ c. Gives age limits start (events_of before) (deeds_of before) (Some x) c entry.reply entry.events) call moved in
       (looked.facts, looked.says, by-copy (events_of before) looked.facts r t d looked.told entry.reply entry.events told looked.copy looked.answers)
 
 pub tells_exactly : TellsExactly
-tells_exactly limits start before entry r t d x k b l call has key bare told =
-    let h = by-entry b x limits start before entry r t d l call has told in
+tells_exactly age limits start before entry r t d x k b l call has key bare told =
+    let h = by-entry b x age limits start before entry r t d l call has told in
     let n = h.2 in
     let same : ◌≡◌ {A = Option Key} (Some n.0) (Some k) = sym n.3 ∙ key in
     let at : n.0 ≡ k = cc in
-    let law = finds_exactly limits start before (slot n.0) n.1 l.1 (h.1.found n.0 n.1 n.3 n.4) in
+    let law = finds_exactly age limits start before (slot n.0) n.1 l.1 (h.1.found n.0 n.1 n.3 n.4) in
     let unhidden : hides_pair x.request.valid_after (pair_of n.1) ≡ false = ap (λ o. hides_pair o (pair_of n.1)) bare ∙ none-hides (pair_of n.1) in
     subst (λ q. (b ≡ true) ↔ HasUntouched (slot q) (events_of before)) at ((λ is. law.0 (n.6.0 is).0), (λ u. n.6.1 (law.1 u, unhidden)))
 
 pub hands_on_exactly : HandsOnExactly
-hands_on_exactly limits start before entry r t d x k answer rest b l call has is told =
-    let h = by-entry b x limits start before entry r t d l call has told in
+hands_on_exactly age limits start before entry r t d x k answer rest b l call has is told =
+    let h = by-entry b x age limits start before entry r t d l call has told in
     let n = h.2 in
     let all : ◌≡◌ {A = List Event} (E.Look (slot n.0) n.1 ∷ n.2) (E.Look k answer ∷ rest) = sym n.5 ∙ is in
     let same : n.1 ≡ answer = cc in
@@ -139,15 +140,15 @@ gave-all place body more got is h =
     ] refl is)
 
 pub reads_the_whole : ReadsTheWhole
-reads_the_whole limits start before entry rest x w place l is has reader begun =
+reads_the_whole age limits start before entry rest x w place l is has reader begun =
     let es = events_of before in
-    let told = reads_are_true limits start before entry (Ready None) rest l is in
+    let told = reads_are_true age limits start before entry (Ready None) rest l is in
     let opened : ◌≡◌ {A = Option Held} (Some told.0) (Some x) = sym told.2 ∙ has in
     let same : told.0 ≡ x = cc in
     let readers : ◌≡◌ {A = Option Reader} (Some told.1) (Some (Part w place)) = sym told.3 ∙ ap (λ (y : Held). y.request.reader) same ∙ reader in
     let own : told.1 ≡ Part w place = cc in
     let gave = told.4 ∙ ap (reads es) own in
-    let h = reads_a_beginning limits start before (number_of entry.call) x (Part w place) l.1 has reader in
+    let h = reads_a_beginning age limits start before (number_of entry.call) x (Part w place) l.1 has reader in
     elim (begin_of w es) as (λ o. begin_of w es ≡ o → IsSome o → read_by (number_of entry.call) before ≡ body_of w es) [
       | None ↦ λ _ none. absurd (cc)
       | Some p ↦ λ b _. gave-all place (body_of w es) (in_flight w es && not (is_told w es)) (read_by (number_of entry.call) before) (gave ∙ ap (λ o. read_part place (option_map (written_as w es) o)) b) h
@@ -155,35 +156,35 @@ reads_the_whole limits start before entry rest x w place l is has reader begun =
 
 -- ---- a world's own history
 
-pub legal-part : (limits : Limits) (start : Tracked) (later : List Entry) (entry : Entry) (before : List Entry) → IsLegal limits start (later ++ entry ∷ before) → IsLegal limits start (entry ∷ before)
-legal-part limits start [] entry before l = l
-legal-part limits start (e ∷ later) entry before l = legal-part limits start later entry before l.1
+pub legal-part : (age : ℕ) (limits : Limits) (start : Tracked) (later : List Entry) (entry : Entry) (before : List Entry) → IsLegal age limits start (later ++ entry ∷ before) → IsLegal age limits start (entry ∷ before)
+legal-part age limits start [] entry before l = l
+legal-part age limits start (e ∷ later) entry before l = legal-part age limits start later entry before l.1
 
 module _ (log : Log) (legal : HasLegal log) where
-  at-entry : (entry : Entry) (before : List Entry) → IsEntryOf log entry before → IsLegal log.limits log.start (entry ∷ before)
-  at-entry entry before at = legal-part log.limits log.start at.0 entry before (subst (IsLegal log.limits log.start) at.1 legal)
+  at-entry : (entry : Entry) (before : List Entry) → IsEntryOf log entry before → IsLegal log.age log.limits log.start (entry ∷ before)
+  at-entry entry before at = legal-part log.age log.limits log.start at.0 entry before (subst (IsLegal log.age log.limits log.start) at.1 legal)
 
   pub finds_untouched : FindsUntouched log
   finds_untouched before entry k answer rest at is =
       let l = at-entry entry before at in
-      finds_exactly log.limits log.start before k answer l.1 (looks_are_true log.limits log.start before entry k answer rest l is)
+      finds_exactly log.age log.limits log.start before k answer l.1 (looks_are_true log.age log.limits log.start before entry k answer rest l is)
 
   pub hands_on_unhidden : HandsOnUnhidden log
-  hands_on_unhidden before entry r t d x k answer rest b at = hands_on_exactly log.limits log.start before entry r t d x k answer rest b (at-entry entry before at)
+  hands_on_unhidden before entry r t d x k answer rest b at = hands_on_exactly log.age log.limits log.start before entry r t d x k answer rest b (at-entry entry before at)
 
   pub finishes_untouched : FinishesUntouched log
-  finishes_untouched before entry w is_stored rest at = finishes_exactly log.limits log.start before entry w is_stored rest (at-entry entry before at)
+  finishes_untouched before entry w is_stored rest at = finishes_exactly log.age log.limits log.start before entry w is_stored rest (at-entry entry before at)
 
   pub hits_the_last : HitsTheLast log
   hits_the_last before entry k m body rest at is =
       let l = at-entry entry before at in
-      reads_the_last log.limits log.start before k m body l.1 (looks_are_true log.limits log.start before entry k (A.Complete m body) rest l is)
+      reads_the_last log.age log.limits log.start before k m body l.1 (looks_are_true log.age log.limits log.start before entry k (A.Complete m body) rest l is)
 
   pub stays_within : StaysWithin log
-  stays_within = is_within_limits log.limits log.start (reverse log.history) legal
+  stays_within = is_within_limits log.age log.limits log.start (reverse log.history) legal
 
   pub evicts_nothing_within : EvictsNothingWithin log
-  evicts_nothing_within before entry earlier rest e n out at is = (evicts-fairly log.limits log.start before entry earlier rest e n out (at-entry entry before at) is).1
+  evicts_nothing_within before entry earlier rest e n out at is = (evicts-fairly log.age log.limits log.start before entry earlier rest e n out (at-entry entry before at) is).1
 
   pub gives_where_none_waits : GivesWhereNoneWaits log
-  gives_where_none_waits before entry earlier rest k n b at = gives_the_permit_exactly log.limits log.start before entry earlier rest k n b (at-entry entry before at)
+  gives_where_none_waits before entry earlier rest k n b at = gives_the_permit_exactly log.age log.limits log.start before entry earlier rest k n b (at-entry entry before at)

@@ -8,6 +8,8 @@ use Rattle.pcache_meta.specs.Meta.{Meta}
 use Rattle.pcache_base.specs.declared.poll.Poll.{Poll}
 use Rattle.pcache_base.specs.declared.poll.Poll.TheVariants.{Ready, Pending}
 use Rattle.pcache_evict.specs.Tracked.{Tracked, Limits}
+use Rattle.pcache_lock.specs.declared.lock.permit.Locked.{Locked}
+use Rattle.pcache_lock.specs.declared.lock.permit.Locked.TheVariants.{Write, Read}
 use Rattle.pcache_store.specs.Store.{Written, Reader, Whole, Part, read_part, end_or, is_forward}
 use Rattle.pcache_base.specs.declared.reason.NoCacheReason.TheVariants as reason
 use Rattle.pcache_base.specs.declared.reason.NoCacheReason.TheVariants.{Deferred}
@@ -31,13 +33,14 @@ use Rattle.pingora_cache.specs.declared.world.entry.Entry.{Entry}
 use Rattle.pingora_cache.specs.declared.world.entry.Event.{Event}
 use Rattle.pingora_cache.specs.declared.world.entry.Event.TheVariants as E
 use Rattle.pingora_cache.specs.Events.{begin_of, in_flight, body_of, is_told}
-use Rattle.pingora_cache.specs.Held.{Held, Change, opens, closes, stays, turns, turns_by, shuts, looks, takes, begins, ends, reads_on, seeks, reads_no_more, renews, change_of, changed, turned_by, shut_by, sought_in, with_sought, number_of, Outcome, outcome, is_wrong, is_done, is_taken, opened, with_given, asked, pair_of, carrying, decides, looked_by, looked_with, placed_by, taken_by, without_pair, began, ended, read_past, has_read, on_request, row_by, row, request_of}
+use Rattle.pingora_cache.specs.Held.{Held, Change, opens, closes, stays, turns, turns_by, shuts, looks, takes, begins, ends, reads_on, seeks, reads_no_more, renews, waits, change_of, changed, turned_by, shut_by, sought_in, with_sought, number_of, Outcome, outcome, was_wrong, was_done, was_taken, was_waited, was_other, waited_by, is_wrong, is_done, is_taken, opened, with_given, asked, pair_of, carrying, decides, looked_by, looked_with, placed_by, taken_by, without_pair, began, ended, read_past, has_read, on_request, row_by, row, request_of}
 use Rattle.pingora_cache.specs.History.{events_of, reads}
-use Rattle.pingora_cache.specs.Facts.{Facts, Says, request_in}
+use Rattle.pingora_cache.specs.Facts.{Facts, request_in}
 use Rattle.pingora_cache.specs.Legal.{IsLegal}
 use Rattle.pingora_cache.specs.Rules.{IsIdle, release_of, Begins, Reads, Answers}
 use Rattle.pingora_cache.specs.ReadSoFar.{given_in, read_on, read_by, HasRead}
 use Rattle.pingora_cache.specs.Headline.{ReadsABeginning}
+use Rattle.pingora_cache.specs.Untold.{waited_on}
 use Rattle.pingora_cache.proofs.Copied.{outcome-copied}
 
 -- a reader that has given nothing
@@ -159,6 +162,10 @@ pub decided-reader : (d : Option Decision) (x : Request) → (with_decision d x)
 decided-reader None x = refl
 decided-reader (Some d) x = refl
 
+pub decided-held : (d : Option Decision) (x : Request) → (with_decision d x).held ≡ x.held
+decided-held None x = refl
+decided-held (Some d) x = refl
+
 -- caching that is turned off leaves no reader, or where it was never on all as it was
 off-follows : (es : List Event) (got : List ℕ) (x : Request) (p : CachePhase) → IfSome x.reader (λ reader. HasRead es reader got) → IfSome (disabled_in p Deferred x).reader (λ reader. HasRead es reader got)
 off-follows es got x (phase.Disabled reason.NeverEnabled) h = h
@@ -223,7 +230,11 @@ FollowsRead es x got events = FollowsIn (reverse events ++ es) (on_request (has_
 none-read : (es : List Event) (x : Held) (got : List ℕ) → FollowsIn es x got → FollowsRead es x got []
 none-read es x got h = subst (FollowsIn es x) (sym (append-nil got)) h
 
-read-follows : (f : Facts) (es : List Event) (x : Held) (got : List ℕ) (reply : Reply) (events : List Event) → Says es x.request f → IsSome x.request.reader → FollowsIn es x got → Reads f reply events → FollowsRead es x got events
+-- what the reader of a request gives, by the facts
+abbrev GivesRead : List Event → Request → Facts → Type 0
+GivesRead es x f = (rd : Reader) → x.reader ≡ Some rd → f.given ≡ reads es rd
+
+read-follows : (f : Facts) (es : List Event) (x : Held) (got : List ℕ) (reply : Reply) (events : List Event) → GivesRead es x.request f → IsSome x.request.reader → FollowsIn es x got → Reads f reply events → FollowsRead es x got events
 read-follows f es x got reply events says some h (inl a) = subst (FollowsRead es x got) (sym a.1) (none-read es x got h)
 read-follows f es x got reply events says some h (inr (done, told)) = by x.request.reader refl some
   where
@@ -232,8 +243,21 @@ read-follows f es x got reply events says some h (inr (done, told)) = by x.reque
     by (Some reader) is _ =
         let a = reads es reader in
         let had : HasRead es reader got = subst (λ o. IfSome o (λ y. HasRead es y got)) is h.0 in
-        subst (FollowsRead es x got) (sym (done ∙ ap (λ g. E.Read g ∷ []) (says.given reader is)))
+        subst (FollowsRead es x got) (sym (done ∙ ap (λ g. E.Read g ∷ []) (says reader is)))
         (subst (λ o. IfSome (option_map (read_past a) o) (λ y. HasRead (E.Read a ∷ es) y (got ++ given_in (E.Read a ∷ [])))) (sym is) (gave es reader got had), h.1)
+
+-- a wait leaves the reader of the body
+pub waited-reader : (o : Outcome) (now : ℕ) (x : Request) → (waited_by o now x).reader ≡ x.reader
+waited-reader was_wrong now x = refl
+waited-reader was_done now x = refl
+waited-reader was_taken now x = refl
+waited-reader was_other now x = refl
+waited-reader (was_waited a) now x = by x.held
+  where
+    by : (h : Option Locked) → (waited_on a now h x).reader ≡ x.reader
+    by None = refl
+    by (Some (Write p)) = refl
+    by (Some (Read rd)) = refl
 
 -- What a clause promises of a change that is more than a turn of the request.
 
@@ -262,7 +286,7 @@ module _ (f : Facts) (es events : List Event) (reply : Reply) (got : List ℕ) w
   abbrev FollowsTo : Change → Option Held → Type 0
   FollowsTo change q = Follows after (changed change o events q) (read_on change o events got)
 
-  follow : (change : Change) (x : Held) → Says es x.request f → Promises f change x reply events → FollowsIn es x got → FollowsIn after x got → FollowsTo change (Some x)
+  follow : (change : Change) (x : Held) → GivesRead es x.request f → Promises f change x reply events → FollowsIn es x got → FollowsIn after x got → FollowsTo change (Some x)
   follow opens x says a old h = elim (is_done o) as (λ b. Follows after (cond b (Some opened) (Some x)) (cond b [] got)) [ true ↦ (tt, tt) | false ↦ h ]
   follow closes x says a old h = on-done after got (is_done o) None (Some x) tt h
   follow stays x says a old h = h
@@ -281,6 +305,7 @@ module _ (f : Facts) (es events : List Event) (reply : Reply) (got : List ℕ) w
       elim (is_done o) as (λ b. Follows after (cond b (Some (on_request (with_sought start end) x)) (Some x)) (cond b [] got)) [ true ↦ (sought-follows after start end x.request.reader, h.1) | false ↦ h ]
   follow reads_no_more x says a old h = on-done after got (is_wrong o) (Some x) (Some (on_request without_reader x)) h (tt, h.1)
   follow (renews m) x says a old h = on-done after got (is_wrong o) (Some x) (Some (on_request (renewed m) x)) h (h.0, h.1)
+  follow (waits now) x says a old h = (subst (λ r. IfSome r (λ y. HasRead after y got)) (sym (waited-reader o now x.request)) h.0, h.1)
 
   -- where no request is open
   follow-none : (change : Change) → FollowsTo change None
@@ -298,32 +323,33 @@ module _ (f : Facts) (es events : List Event) (reply : Reply) (got : List ℕ) w
   follow-none (seeks start end) = elim (is_done o) as (λ b. Follows after (cond b None None) (cond b [] got)) [ true ↦ tt | false ↦ tt ]
   follow-none reads_no_more = on-done after got (is_wrong o) None None tt tt
   follow-none (renews m) = on-done after got (is_wrong o) None None tt tt
+  follow-none (waits now) = tt
 
 -- one call
-follow-call : (f : Facts) (es : List Event) (call : Call) (q : Option Held) (reply : Reply) (events : List Event) (got : List ℕ) → Says es (request_in q) f → Answers f call q reply events → Follows es q got → Follows (reverse events ++ es) q got
+follow-call : (f : Facts) (es : List Event) (call : Call) (q : Option Held) (reply : Reply) (events : List Event) (got : List ℕ) → GivesRead es (request_in q) f → Answers f call q reply events → Follows es q got → Follows (reverse events ++ es) q got
     → Follows (reverse events ++ es) (row call reply events q) (read_on (change_of call) (outcome reply) events got)
 follow-call f es call None reply events got k a old h = follow-none f es events reply got (change_of call)
 follow-call f es call (Some x) reply events got k a old h = follow f es events reply got (change_of call) x k (promised f call x reply events a) old h
 
 -- Histories.
 
-follows-at : (limits : Limits) (start : Tracked) (r : ℕ) (h : List Entry) → IsLegal limits start h → Follows (events_of h) (request_of r h) (read_by r h)
-follows-at limits start r [] l = tt
-follows-at limits start r (e ∷ h) l =
+follows-at : (age : ℕ) (limits : Limits) (start : Tracked) (r : ℕ) (h : List Entry) → IsLegal age limits start h → Follows (events_of h) (request_of r h) (read_by r h)
+follows-at age limits start r [] l = tt
+follows-at age limits start r (e ∷ h) l =
     let es = events_of h in
     let g = l.0 in
-    let old = follows-at limits start r h l.1 in
+    let old = follows-at age limits start r h l.1 in
     let now = still (reverse e.events) es (request_of r h) (read_by r h) old in
     elim (number_of e.call == r) as (λ b. (number_of e.call == r) ≡ b
     → Follows (reverse e.events ++ es) (if b then row e.call e.reply e.events (request_of r h) else request_of r h) (if b then read_on (change_of e.call) (outcome e.reply) e.events (read_by r h) else read_by r h)) [
       | true ↦ λ is.
           let named : request_of (number_of e.call) h ≡ request_of r h = ap (λ n. request_of n h) (eqb-true (number_of e.call) r is) in
           subst (λ o. Follows (reverse e.events ++ es) (row_by e.call o e.events (request_of r h)) (read_on (change_of e.call) o e.events (read_by r h))) (sym (outcome-copied g.told e.reply g.copy))
-          (follow-call g.facts es e.call (request_of r h) g.told e.events (read_by r h) (subst (λ q. Says es (request_in q) g.facts) named g.says) (subst (λ q. Answers g.facts e.call q g.told e.events) named g.answers) old now)
+          (follow-call g.facts es e.call (request_of r h) g.told e.events (read_by r h) (subst (λ q. GivesRead es (request_in q) g.facts) named g.says.given) (subst (λ q. Answers g.facts e.call q g.told e.events) named g.answers) old now)
       | false ↦ λ _. now
     ] refl
 
 pub reads_a_beginning : ReadsABeginning
-reads_a_beginning limits start before r x reader l is has =
-    let h = subst (λ q. Follows (events_of before) q (read_by r before)) is (follows-at limits start r before l) in
+reads_a_beginning age limits start before r x reader l is has =
+    let h = subst (λ q. Follows (events_of before) q (read_by r before)) is (follows-at age limits start r before l) in
     subst (λ o. IfSome o (λ y. HasRead (events_of before) y (read_by r before))) has h.0

@@ -1,5 +1,5 @@
 -- A legal history, and parts that are as it says, are a sound world: the rest follows from these.
-use Rattle.std.proofs.Common.{◌≡◌, ℕ, ◌+◌, Bool, true, false, cond, ◌==◌, if◌then◌else◌, Option, None, Some, List, refl, ap, sym, ◌∙◌, arith}
+use Rattle.std.proofs.Common.{◌≡◌, ℕ, ◌+◌, Bool, true, false, cond, ◌==◌, if◌then◌else◌, Option, None, Some, List, refl, ap, sym, ◌∙◌, arith, option_map}
 use Rattle.std.specs.Ordering.{nat_cmp, eq_by_cmp}
 use Rattle.std.specs.Cmp.{nat_cmp_total}
 use Rattle.std.specs.FinMap.{FinMap, get, remove, len, get-remove, nat_cmp-IsAntisymmetric}
@@ -12,11 +12,13 @@ use Rattle.pcache_store.specs.Store.{Store}
 use Rattle.pingora_cache.specs.declared.world.entry.Entry.{Entry}
 use Rattle.pingora_cache.specs.declared.world.entry.Event.{Event}
 use Rattle.pingora_cache.specs.Events.{in_flight, tracked, option_any}
-use Rattle.pingora_cache.specs.Held.{Held, request_of}
+use Rattle.pingora_cache.specs.Deeds.{deeds_of}
+use Rattle.pingora_cache.specs.Held.{Held, request_of, untold}
 use Rattle.pingora_cache.specs.History.{events_of}
 use Rattle.pingora_cache.specs.Due.{makes_of, slot_of}
 use Rattle.pingora_cache.specs.Legal.{IsLegal}
-use Rattle.pingora_cache.specs.Sound.{IsState, AreOpen, AreHeld, IsSound, readers, writers_in}
+use Rattle.pingora_cache.specs.LockTable.{IsTable, read_locks}
+use Rattle.pingora_cache.specs.Sound.{AllHold, IsState, AreOpen, AreHeld, IsSound, readers, writers_in}
 use Rattle.pingora_cache.specs.Waiting.{IsLocked}
 use Rattle.pingora_cache.proofs.Counts.{writes-one}
 use Rattle.pingora_cache.proofs.Sums.{cmp_same, total-zero}
@@ -40,27 +42,36 @@ no-writer w (Some x) n =
       | Some y ↦ λ is. ap count (ne_eqb y w (λ same. n (is ∙ ap Some same)))
     ] refl
 
-held_by_one : (es : List Event) (all : FinMap nat_cmp Held) (open_of : ℕ → Option Held) (slots : ℕ → Option ℕ) → ((r : ℕ) → get all r ≡ open_of r) → AreMade (λ r. makes_of (open_of r)) slots es → AreHeld es all
+-- what a read lock was told plays no part
+same-writer : (w : ℕ) (q : Option Held) → share (writers_in w) q ≡ share (writers_in w) (option_map untold q)
+same-writer w None = refl
+same-writer w (Some x) = refl
+
+held_by_one : (es : List Event) (all : FinMap nat_cmp Held) (open_of : ℕ → Option Held) (slots : ℕ → Option ℕ) → ((r : ℕ) → option_map untold (get all r) ≡ open_of r) → AreMade (λ r. makes_of (open_of r)) slots es → AreHeld es all
 held_by_one es all open_of slots is made w =
     elim (in_flight w es) as (λ b. in_flight w es ≡ b → total (writers_in w) all ≡ count b) [
       | true ↦ λ fly.
           let p = made.some w fly in
-          let one = ap (share (writers_in w)) (is p.0) ∙ one-writer w (open_of p.0) p.1 in
+          let one = writer-at p.0 ∙ one-writer w (open_of p.0) p.1 in
           let split : total (writers_in w) (remove all p.0) + share (writers_in w) (get all p.0) ≡ total (writers_in w) all = total-remove nat_cmp_total (writers_in w) nat_cmp-IsAntisymmetric all p.0 in
           let rest : total (writers_in w) (remove all p.0) ≡ 0 = total-zero (writers_in w) (len (remove all p.0)) (remove all p.0) refl (λ q. others p.0 p.1 q) in
           omega arith
-      | false ↦ λ none. total-zero (writers_in w) (len all) all refl (λ q. ap (share (writers_in w)) (is q) ∙ no-writer w (open_of q) (λ h. both_ways _ none (made.flies q w h)))
+      | false ↦ λ none. total-zero (writers_in w) (len all) all refl (λ q. writer-at q ∙ no-writer w (open_of q) (λ h. both_ways _ none (made.flies q w h)))
     ] refl
   where
+    writer-at : (q : ℕ) → share (writers_in w) (get all q) ≡ share (writers_in w) (open_of q)
+    writer-at q = same-writer w (get all q) ∙ ap (share (writers_in w)) (is q)
+
     others : (r : ℕ) → makes_of (open_of r) ≡ Some w → (q : ℕ) → share (writers_in w) (get (remove all r) q) ≡ 0
     others r has q =
         ap (share (writers_in w)) (get-remove nat_cmp_total all r q)
         ∙ elim (eq_by_cmp nat_cmp q r) as (λ b. eq_by_cmp nat_cmp q r ≡ b → share (writers_in w) (cond b None (get all q)) ≡ 0) [
           | true ↦ λ _. refl
-          | false ↦ λ f. ap (share (writers_in w)) (is q) ∙ no-writer w (open_of q) (λ h. both_ways _ f (cmp_same q r ∙ eq-eqb r q (sym (made.only q r w h has))))
+          | false ↦ λ f. writer-at q ∙ no-writer w (open_of q) (λ h. both_ways _ f (cmp_same q r ∙ eq-eqb r q (sym (made.only q r w h has))))
         ] refl
 
-pub sound-of : (limits : Limits) (start now : Tracked) (s : Store) (t : Locks) (all : FinMap nat_cmp Held) (h : List Entry) → IsLegal limits start h → now ≡ tracked start (events_of h) → IsState (events_of h) (readers all) s → AreOpen h all → IsLocked (events_of h) t → IsSound limits start now s t all h
-sound-of limits start now s t all h l is state are locks =
-    let k = legal_kept limits start h l in
-    record { legal = l; tidy = k.tidy; state = state; tracks = is; exact = k.exact; bounded = k.bounded; requests = are; writes = held_by_one (events_of h) all (λ r. request_of r h) (λ r. slot_of (request_of r h)) are k.made; locks = locks }
+pub sound-of : (limits : Limits) (start now : Tracked) (s : Store) (t : Locks) (all : FinMap nat_cmp Held) (h : List Entry) → IsLegal t.age_timeout limits start h → now ≡ tracked start (events_of h) → IsState (events_of h) (readers all) s → AreOpen h all → IsLocked (events_of h) t
+    → IsTable (deeds_of h) (read_locks all) t → AllHold (deeds_of h) t all → IsSound limits start now s t all h
+sound-of limits start now s t all h l is state are locks table holds =
+    let k = legal_kept t.age_timeout limits start h l in
+    record { legal = l; tidy = k.tidy; state = state; tracks = is; exact = k.exact; bounded = k.bounded; requests = are; writes = held_by_one (events_of h) all (λ r. request_of r h) (λ r. slot_of (request_of r h)) are k.made; locks = locks; table = table; holds = holds }

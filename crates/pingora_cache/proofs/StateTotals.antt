@@ -15,7 +15,7 @@ use Rattle.pcache_base.proofs.Totals.{total-remove, get-remove_apart}
 use Rattle.pcache_store.specs.Store.{Store, Slot, Stored, body_of}
 use Rattle.pcache_store.specs.Totals as totals
 use Rattle.pingora_cache.specs.declared.world.entry.Event.{Event}
-use Rattle.pingora_cache.specs.declared.world.entry.Event.TheVariants.{Look, Ask, Access, Begin, Wrote, Finish, Dropped, Release, LetGo, Admit, Purge, Expire, Renew, Untrack, Read}
+use Rattle.pingora_cache.specs.declared.world.entry.Event.TheVariants.{Look, Ask, Access, Begin, Wrote, Finish, Dropped, Release, LetGo, Aged, Admit, Purge, Expire, Renew, Untrack, Read}
 use Rattle.pingora_cache.specs.Events.{begin_of, option_any, is_removed, last_finished, body_stored, complete, with_key, finished_keys, size_of, stored, slots}
 use Rattle.pingora_cache.specs.Sound.{IsState}
 use Rattle.pingora_cache.proofs.Bound.{keys_distinct}
@@ -83,6 +83,7 @@ covered k (Wrote x bs eof ∷ es) w h = covered k es w h
 covered k (Dropped x ∷ es) w h = covered k es w h
 covered k (Release lock ∷ es) w h = covered k es w h
 covered k (LetGo lock ∷ es) w h = covered k es w h
+covered k (Aged lock ∷ es) w h = covered k es w h
 covered k (Admit e n out ∷ es) w h = covered k es w h
 covered k (Purge j ∷ es) w h = covered k es w h
 covered k (Expire j t ∷ es) w h = covered k es w h

@@ -7,7 +7,7 @@ use Rattle.pcache_evict.specs.declared.eviction.entry_key.CacheEntryKey.{CacheEn
 use Rattle.pcache_store.specs.Store.{Store, Slot, body_of, is_fresh_in}
 use Rattle.pingora_cache.specs.declared.world.entry.Answer.{Answer}
 use Rattle.pingora_cache.specs.declared.world.entry.Event.{Event}
-use Rattle.pingora_cache.specs.declared.world.entry.Event.TheVariants.{Look, Ask, Access, Release, LetGo, Untrack, Read}
+use Rattle.pingora_cache.specs.declared.world.entry.Event.TheVariants.{Look, Ask, Access, Release, LetGo, Aged, Untrack, Read}
 use Rattle.pingora_cache.specs.Sound.{IsState}
 
 pub state-none : (s : Store) → s.slots ≡ map.empty → s.writes ≡ map.empty → s.next ≡ 0 → IsState [] (λ _. 0) s
@@ -40,6 +40,9 @@ module _ (es : List Event) (n : ℕ → ℕ) (s : Store) (st : IsState es n s) w
 
   pub state-let_go : (lock : ℕ) → IsState (LetGo lock ∷ es) n s
   state-let_go lock = record { next = st.next; writes = st.writes; fresh = st.fresh; bodies = st.bodies; filled = st.filled; known = st.known }
+
+  pub state-aged : (lock : ℕ) → IsState (Aged lock ∷ es) n s
+  state-aged lock = record { next = st.next; writes = st.writes; fresh = st.fresh; bodies = st.bodies; filled = st.filled; known = st.known }
 
   pub state-untrack : (e : CacheEntryKey) → IsState (Untrack e ∷ es) n s
   state-untrack e = record { next = st.next; writes = st.writes; fresh = st.fresh; bodies = st.bodies; filled = st.filled; known = st.known }

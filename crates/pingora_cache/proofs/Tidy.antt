@@ -8,7 +8,7 @@ use Rattle.pcache_evict.specs.declared.eviction.entry_key.CacheEntryKey.{CacheEn
 use Rattle.pcache_store.specs.Store.{Stored}
 use Rattle.pingora_cache.specs.declared.world.entry.Answer.{Answer}
 use Rattle.pingora_cache.specs.declared.world.entry.Event.{Event}
-use Rattle.pingora_cache.specs.declared.world.entry.Event.TheVariants.{Look, Ask, Access, Begin, Wrote, Finish, Dropped, Release, LetGo, Admit, Purge, Expire, Renew, Untrack, Read}
+use Rattle.pingora_cache.specs.declared.world.entry.Event.TheVariants.{Look, Ask, Access, Begin, Wrote, Finish, Dropped, Release, LetGo, Aged, Admit, Purge, Expire, Renew, Untrack, Read}
 use Rattle.pingora_cache.specs.Events.{begun, begin_of, since, removes, names_key, option_any, is_removed, has_ended, in_flight, body_of, is_told, is_of, was_stored, last_finished, complete}
 use Rattle.pingora_cache.specs.Sound.{IsTidy}
 use Rattle.pingora_cache.proofs.Steps.{flies, below, begun_of, body_with, complete-wrote, complete-begin, complete-purge, complete-expire, complete-renew, complete-admit, complete-finish, altered_body}
@@ -37,6 +37,9 @@ tidy-release es n t = record { fresh = t.fresh; not_ended = t.not_ended; no_body
 
 pub tidy-let_go : (es : List Event) (n : ℕ) → IsTidy es → IsTidy (LetGo n ∷ es)
 tidy-let_go es n t = record { fresh = t.fresh; not_ended = t.not_ended; no_body = t.no_body; not_told = t.not_told; not_stored = t.not_stored; finished = t.finished; survives = t.survives }
+
+pub tidy-aged : (es : List Event) (n : ℕ) → IsTidy es → IsTidy (Aged n ∷ es)
+tidy-aged es n t = record { fresh = t.fresh; not_ended = t.not_ended; no_body = t.no_body; not_told = t.not_told; not_stored = t.not_stored; finished = t.finished; survives = t.survives }
 
 pub tidy-untrack : (es : List Event) (e : CacheEntryKey) → IsTidy es → IsTidy (Untrack e ∷ es)
 tidy-untrack es e t = record { fresh = t.fresh; not_ended = t.not_ended; no_body = t.no_body; not_told = t.not_told; not_stored = t.not_stored; finished = t.finished; survives = t.survives }

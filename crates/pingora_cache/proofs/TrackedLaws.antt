@@ -62,14 +62,14 @@ none-within limits m [] fair held = refl
 none-within limits m (e ∷ out) fair held = let p = front-last e out in absurd (fair.needed p.0 p.1 p.2 (still-within limits p.0 m held))
 
 pub evicts-fairly : EvictsFairly
-evicts-fairly limits start before entry earlier rest e n out l is =
+evicts-fairly age limits start before entry earlier rest e n out l is =
     let q = request_of (number_of entry.call) before in
     let now = makes_of (row entry.call entry.reply entry.events q) in
     let fair = fair-in limits start q now e n out rest earlier (events_of before) (makes_of q) None (subst (λ xs. AreDue limits start (events_of before) q (makes_of q) None xs now) is l.0.due) in
     (fair, none-within limits (map.insert (tracked start (reverse earlier ++ events_of before)) e n) out fair)
 
 pub tracks-exactly : TracksExactly
-tracks-exactly limits start before k b l is =
-    let x = (legal_kept limits start before l).exact k b is in
+tracks-exactly age limits start before k b l is =
+    let x = (legal_kept age limits start before l).exact k b is in
     let own = standing-names (events_of before) k x.0 x.1 in
     (x.0, own, x.2, λ q other. eqb-true k q (sym (names_only k x.0 own q) ∙ other))

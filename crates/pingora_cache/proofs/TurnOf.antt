@@ -1,45 +1,145 @@
 -- What the functions of calls promise, as one turn.
-use Rattle.std.proofs.Common.{◌≡◌, ℕ, Option, None, Some, List, [], sym, subst}
+use Rattle.std.proofs.Common.{◌≡◌, ℕ, true, false, cond, Option, None, Some, List, [], ◌++◌, refl, ap, sym, subst, ◌∙◌, arith, inl, inr, option_map}
+use Rattle.std.proofs.lemmas.Bool.Decides.{nat_tests}
 use Rattle.std.specs.Ordering.{nat_cmp}
 use Rattle.std.specs.Map.{lookup}
 use Rattle.std.specs.BTreeMap.{is_at}
 use Rattle.pcache_evict.specs.Tracked.{Tracked, Limits}
 use Rattle.pcache_lock.specs.Locks.{Locks}
+use Rattle.pcache_lock.specs.declared.lock.status.LockStatus.TheVariants.{Done}
 use Rattle.pcache_store.specs.Store.{Store}
 use Rattle.pingora_cache.specs.declared.world.call.Call.{Call}
 use Rattle.pingora_cache.specs.declared.world.call.Call.TheVariants as C
 use Rattle.pingora_cache.specs.declared.world.call.Reply.{Reply}
+use Rattle.pingora_cache.specs.declared.world.call.Reply.TheVariants as R
 use Rattle.pingora_cache.specs.declared.world.entry.Event.{Event}
+use Rattle.pingora_cache.specs.Deeds.{deeds_by, deeds_in, held_in, said_by}
 use Rattle.pingora_cache.specs.Due.{IsOfWorld, KeepsKey}
 use Rattle.pingora_cache.specs.Facts.{Facts, facts_in, no_facts, request_in}
-use Rattle.pingora_cache.specs.Held.{Held, number_of, row}
-use Rattle.pingora_cache.specs.Moved.{Moves, MovesStore}
-use Rattle.pingora_cache.specs.Rules.{Answers}
-use Rattle.pingora_cache.specs.Step.{IsOfWorldIn, Turn}
-use Rattle.pingora_cache.specs.Waiting.{MovesLocks}
+use Rattle.pingora_cache.specs.Held.{Held, Change, opens, closes, stays, turns, turns_by, shuts, looks, takes, begins, ends, reads_on, seeks, reads_no_more, renews, waits, change_of, changed, is_done, number_of, opened, outcome, row, untold, was_wrong}
+use Rattle.pingora_cache.specs.LockMoves.{MovesLocks}
+use Rattle.pingora_cache.specs.Moved.{Moves, MovesRequest, MovesStore}
+use Rattle.pingora_cache.specs.Rules.{Answers, MayBe}
+use Rattle.pingora_cache.specs.Step.{IsMoved, IsOfOpen, IsOfWorldIn, IsRow, IsRowed, Turn}
+use Rattle.pingora_cache.proofs.LockSteps.{no_locks_move}
+use Rattle.pingora_cache.proofs.MovesOf.{idle}
 
--- a call of an open request
-pub turn-of : (limits : Limits) (call : Call) (q : Option Held) (x y : Held) (s s' : Store) (m m' : Tracked) (t t' : Locks) (reply : Reply) (events : List Event) → q ≡ Some x → Some y ≡ row call reply events (Some x) → Answers (facts_in s t x.request) call (Some x) reply events
-    → (IsOfWorld x.request → Moves limits (Some x) s m events (Some y) s' m') → KeepsKey (Some x) (Some y) → MovesLocks t events t' → IsOfWorldIn q → Turn limits call q s m t reply events s' m' t'
-turn-of limits call q x y s s' m m' t t' reply events is now answers moves keeps locks =
-    subst (λ (p : Option Held). IsOfWorldIn p → Turn limits call p s m t reply events s' m' t') (sym is) (λ world. record {
+-- a request that is as its row has it
+pub row-kept : (call : Call) (reply : Reply) (events : List Event) (q q' : Option Held) → q' ≡ row call reply events q → IsRow call reply events q q'
+row-kept call reply events q q' is = ap (option_map untold) is
+
+-- a call of an open request, which is x before and y after
+pub turn-of : (limits : Limits) (call : Call) (q q' : Option Held) (x y : Held) (s s' : Store) (m m' : Tracked) (t t' : Locks) (reply : Reply) (events : List Event) → q ≡ Some x → q' ≡ Some y → Answers (facts_in s t x.request) call (Some x) reply events
+    → (IsOfWorld x.request → Moves limits (Some x) s m events (Some y) s' m') → KeepsKey (Some x) (Some y) → IsRow call reply events (Some x) (Some y)
+    → MovesLocks (number_of call) (deeds_in call (outcome reply) events (Some x)) x.request.held t y.request.held t' → IsOfWorldIn q → Turn limits call q s m t reply events q' s' m' t'
+turn-of limits call q q' x y s s' m m' t t' reply events is now answers moves keeps same locks =
+    subst (λ (p : Option Held). IsOfWorldIn p → Turn limits call p s m t reply events q' s' m' t') (sym is) (λ world.
+    subst (λ (p : Option Held). Turn limits call (Some x) s m t reply events p s' m' t') (sym now) (record {
       answers = answers;
-      moves = subst (λ (p : Option Held). Moves limits (Some x) s m events p s' m') now (moves world);
-      keeps = subst (KeepsKey (Some x)) now keeps;
+      moves = moves world;
+      keeps = keeps;
+      now = same;
       locks = locks;
-    })
+    }))
+
+at-self : (n : ℕ) → is_at (nat_cmp n) n ≡ true
+at-self n = grind (arith, nat_tests)
+
+-- the request that a call names, where it moves by its row
+row-at : (call : Call) (reply : Reply) (events : List Event) (all all' : List (ℕ × Held)) → IsRowed call reply events all all' → lookup (is_at (nat_cmp (number_of call))) all' ≡ row call reply events (lookup (is_at (nat_cmp (number_of call))) all)
+row-at call reply events all all' is =
+    let n = number_of call in
+    is n ∙ ap (λ b. cond b (row call reply events (lookup (is_at (nat_cmp n)) all)) (lookup (is_at (nat_cmp n)) all)) (at-self n)
+
+pub moved-by-row : (call c : Call) (reply : Reply) (events : List Event) (all all' : List (ℕ × Held)) → call ≡ c → IsRowed c reply events all all' → IsMoved call all all'
+moved-by-row call c reply events all all' same is =
+    subst (λ (d : Call). IsMoved d all all') (sym same) (λ q. is q ∙ ap (λ o. cond (is_at (nat_cmp (number_of c)) q) o (lookup (is_at (nat_cmp q)) all)) (sym (row-at c reply events all all' is)))
+
+-- a call of a request that is not open
+
+none-may : (f : Facts) (call : Call) → IsOfOpen call → MayBe f call None → ⊥
+none-may f (C.Open n) known may = absurd known
+none-may f call known may = absurd may
+
+none-row : (change : Change) → changed change was_wrong [] None ≡ None
+none-row opens = refl
+none-row closes = refl
+none-row stays = refl
+none-row (turns f leaves_pair) = refl
+none-row (turns_by f) = refl
+none-row (shuts f) = refl
+none-row (looks d) = refl
+none-row (takes s) = refl
+none-row begins = refl
+none-row ends = refl
+none-row reads_on = refl
+none-row (seeks start end) = refl
+none-row reads_no_more = refl
+none-row (renews m) = refl
+none-row (waits now) = refl
+
+none-says : (call : Call) → said_by call was_wrong None ≡ []
+none-says (C.Publish r tokens) = refl
+none-says (C.Wait r t) = refl
+none-says call = refl
+
+pub none-of : (limits : Limits) (call : Call) (q q' : Option Held) (s : Store) (m : Tracked) (t : Locks) (reply : Reply) (events : List Event) → IsOfOpen call → q ≡ None → q' ≡ None → reply ≡ R.WrongCall → events ≡ [] → Turn limits call q s m t reply events q' s m t
+none-of limits call q q' s m t reply events known is now wrong none =
+    subst (λ (p : Option Held). Turn limits call p s m t reply events q' s m t) (sym is)
+    (subst (λ (p : Option Held). Turn limits call None s m t reply events p s m t) (sym now)
+    (subst (λ z. Turn limits call None s m t z events None s m t) (sym wrong)
+    (subst (λ es. Turn limits call None s m t R.WrongCall es None s m t) (sym none) (record {
+      answers = inr (none-may (facts_in s t (request_in None)) call known, (refl, refl));
+      moves = idle None None s s [] refl refl refl limits m;
+      keeps = tt;
+      now = ap (option_map untold) (sym (none-row (change_of call)));
+      locks = no_locks_move (number_of call) (deeds_in call was_wrong [] None) None None t t (ap (λ ds. ds ++ []) (none-says call)) refl refl;
+    }))))
 
 end-answers : (f g : Facts) (n : ℕ) (q : Option Held) (reply : Reply) (events : List Event) → Answers f (C.End n) q reply events → Answers g (C.End n) q reply events
 end-answers f g n None reply events a = a
 end-answers f g n (Some x) reply events a = a
 
+open-answers : (f g : Facts) (n : ℕ) (q : Option Held) (reply : Reply) (events : List Event) → Answers f (C.Open n) q reply events → Answers g (C.Open n) q reply events
+open-answers f g n None reply events a = a
+open-answers f g n (Some x) reply events a = a
+
+-- a request that comes to be holds no lock
+open-held : (f : Facts) (n : ℕ) (q : Option Held) (reply : Reply) (events : List Event) → Answers f (C.Open n) q reply events → held_in (row (C.Open n) reply events q) ≡ held_in q
+open-held f n None reply events a = elim (is_done (outcome reply)) as (λ b. held_in (cond b (Some opened) None) ≡ None) [ true ↦ refl | false ↦ refl ]
+open-held f n (Some x) reply events (inl a) = absurd a.0
+open-held f n (Some x) reply events (inr a) = ap (λ z. held_in (row (C.Open n) z events (Some x))) a.1.0
+
 -- a call that ends a request
-pub end-of : (limits : Limits) (call : Call) (n : ℕ) (all : List (ℕ × Held)) (s s' : Store) (m : Tracked) (t t' : Locks) (reply : Reply) (events : List Event) → call ≡ C.End n → Answers no_facts (C.End n) (lookup (is_at (nat_cmp n)) all) reply events
+pub end-of : (limits : Limits) (call : Call) (n : ℕ) (all all' : List (ℕ × Held)) (s s' : Store) (m : Tracked) (t t' : Locks) (reply : Reply) (events : List Event) → call ≡ C.End n → Answers no_facts (C.End n) (lookup (is_at (nat_cmp n)) all) reply events
     → MovesStore (lookup (is_at (nat_cmp n)) all) s events (row (C.End n) reply events (lookup (is_at (nat_cmp n)) all)) s' → KeepsKey (lookup (is_at (nat_cmp n)) all) (row (C.End n) reply events (lookup (is_at (nat_cmp n)) all))
-    → MovesLocks t events t' → Turn limits call (lookup (is_at (nat_cmp (number_of call))) all) s m t reply events s' m t'
-end-of limits call n all s s' m t t' reply events is answers moves keeps locks =
-    subst (λ (c : Call). Turn limits c (lookup (is_at (nat_cmp (number_of c))) all) s m t reply events s' m t') (sym is)
-    (record { answers = end-answers no_facts (facts_in s t (request_in (lookup (is_at (nat_cmp n)) all))) n (lookup (is_at (nat_cmp n)) all) reply events answers; moves = moves limits m; keeps = keeps; locks = locks })
+    → ((r : ℕ) → MovesLocks r (deeds_by r 0 Done events) (held_in (lookup (is_at (nat_cmp n)) all)) t (held_in (row (C.End n) reply events (lookup (is_at (nat_cmp n)) all))) t') → IsRowed (C.End n) reply events all all'
+    → Turn limits call (lookup (is_at (nat_cmp (number_of call))) all) s m t reply events (lookup (is_at (nat_cmp (number_of call))) all') s' m t'
+end-of limits call n all all' s s' m t t' reply events is answers moves keeps locks rowed =
+    subst (λ (c : Call). Turn limits c (lookup (is_at (nat_cmp (number_of c))) all) s m t reply events (lookup (is_at (nat_cmp (number_of c))) all') s' m t') (sym is)
+    (subst (λ (p : Option Held). Turn limits (C.End n) (lookup (is_at (nat_cmp n)) all) s m t reply events p s' m t') (sym (row-at (C.End n) reply events all all' rowed)) (record {
+      answers = end-answers no_facts (facts_in s t (request_in (lookup (is_at (nat_cmp n)) all))) n (lookup (is_at (nat_cmp n)) all) reply events answers;
+      moves = moves limits m;
+      keeps = keeps;
+      now = refl;
+      locks = locks n;
+    }))
+
+-- a call that makes one
+pub open-of : (limits : Limits) (call : Call) (n : ℕ) (all all' : List (ℕ × Held)) (s : Store) (m : Tracked) (t : Locks) (reply : Reply) (events : List Event) → call ≡ C.Open n → events ≡ [] → Answers no_facts (C.Open n) (lookup (is_at (nat_cmp n)) all) reply []
+    → MovesRequest (lookup (is_at (nat_cmp n)) all) (row (C.Open n) reply [] (lookup (is_at (nat_cmp n)) all)) → KeepsKey (lookup (is_at (nat_cmp n)) all) (row (C.Open n) reply [] (lookup (is_at (nat_cmp n)) all)) → IsRowed (C.Open n) reply [] all all'
+    → Turn limits call (lookup (is_at (nat_cmp (number_of call))) all) s m t reply events (lookup (is_at (nat_cmp (number_of call))) all') s m t
+open-of limits call n all all' s m t reply events is none answers moves keeps rowed =
+    let q = lookup (is_at (nat_cmp n)) all in
+    subst (λ es. Turn limits call (lookup (is_at (nat_cmp (number_of call))) all) s m t reply es (lookup (is_at (nat_cmp (number_of call))) all') s m t) (sym none)
+    (subst (λ (c : Call). Turn limits c (lookup (is_at (nat_cmp (number_of c))) all) s m t reply [] (lookup (is_at (nat_cmp (number_of c))) all') s m t) (sym is)
+    (subst (λ (p : Option Held). Turn limits (C.Open n) q s m t reply [] p s m t) (sym (row-at (C.Open n) reply [] all all' rowed)) (record {
+      answers = open-answers no_facts (facts_in s t (request_in q)) n q reply [] answers;
+      moves = moves s limits m;
+      keeps = keeps;
+      now = refl;
+      locks = no_locks_move n [] (held_in q) (held_in (row (C.Open n) reply [] q)) t t refl (open-held no_facts n q reply [] answers) refl;
+    })))
 
 -- a call that notes nothing
 pub moves_quietly : (limits : Limits) (q q' : Option Held) (s s' : Store) (m : Tracked) (events : List Event) → events ≡ [] → MovesStore q s [] q' s' → Moves limits q s m events q' s' m

@@ -1,5 +1,5 @@
 -- A step of a sound world leaves it sound.
-use Rattle.std.proofs.Common.{◌≡◌, ℕ, ◌==◌, cond, Option, None, Some, List, [], ◌∷◌, ap, sym, subst, ◌∙◌, refl, arith}
+use Rattle.std.proofs.Common.{◌≡◌, ℕ, ◌+◌, ◌^◌, ◌<◌, ◌==◌, cond, Option, None, Some, List, [], ◌∷◌, ap, sym, subst, ◌∙◌, refl, arith, length, option_map}
 use Rattle.std.specs.BTreeMap.{is_at}
 use Rattle.std.specs.Cmp.{nat_cmp_total}
 use Rattle.std.specs.FinMap.{FinMap, get, find, from_entries, get-from_entries, same_map, nat_cmp-IsAntisymmetric}
@@ -13,15 +13,17 @@ use Rattle.pingora_cache.specs.declared.world.call.Call.{Call}
 use Rattle.pingora_cache.specs.declared.world.call.Reply.{Reply}
 use Rattle.pingora_cache.specs.declared.world.entry.Entry.{Entry}
 use Rattle.pingora_cache.specs.declared.world.entry.Event.{Event}
-use Rattle.pingora_cache.specs.Held.{Held, number_of, row}
+use Rattle.pingora_cache.specs.Held.{Held, number_of, untold}
+use Rattle.pingora_cache.specs.LockTable.{read_locks}
 use Rattle.pingora_cache.specs.Rules.{IsCopy}
 use Rattle.pingora_cache.specs.Sound.{IsSound}
 use Rattle.pingora_cache.specs.Step.{Turn, IsOfWorldIn, IsMoved}
-use Rattle.pingora_cache.proofs.StateWrites.{get-set, get-unset}
-use Rattle.pingora_cache.proofs.Copied.{row-copied}
 use Rattle.pingora_cache.proofs.Laws.{legal_world}
 use Rattle.pingora_cache.proofs.MovedState.{set_to}
-use Rattle.pingora_cache.proofs.Uniform.{after_call, each-call-keeps}
+use Rattle.pingora_cache.proofs.Opened.{get-set_to}
+use Rattle.pingora_cache.proofs.ReadLocks.{locks-few}
+use Rattle.pingora_cache.proofs.Uniform.{call-age, each-call-keeps}
+use Rattle.pingora_cache.proofs.Untold.{world-told}
 
 -- the requests as entries, and as the map that the entries make
 find-lookup : (es : List (ℕ × Held)) (q : ℕ) → find nat_cmp q es ≡ lookup (is_at (nat_cmp q)) es
@@ -34,33 +36,47 @@ lookup-get es q = sym (get-from_entries nat_cmp_total es q ∙ find-lookup es q)
 at-number : (r q : ℕ) → (r == q) ≡ is_at (nat_cmp r) q
 at-number r q = grind (arith, nat_tests)
 
-get-set_to : (all : FinMap nat_cmp Held) (r : ℕ) (o : Option Held) (q : ℕ) → get (set_to all r o) q ≡ cond (is_at (nat_cmp r) q) o (get all q)
-get-set_to all r None q = get-unset all r q ∙ ap (λ b. cond b None (get all q)) (at-number r q)
-get-set_to all r (Some x) q = get-set all r x q ∙ ap (λ b. cond b (Some x) (get all q)) (at-number r q)
+set-at : (all : FinMap nat_cmp Held) (r : ℕ) (o : Option Held) (q : ℕ) → get (set_to all r o) q ≡ cond (is_at (nat_cmp r) q) o (get all q)
+set-at all r o q = get-set_to all r o q ∙ ap (λ b. cond b o (get all q)) (at-number r q)
 
--- where the request that a call names moves by its row, the entries are the requests after the call
-entries-after : (before after : List (ℕ × Held)) (call : Call) (reply : Reply) (events : List Event)
-    → ((q : ℕ) → lookup (is_at (nat_cmp q)) after ≡ cond (is_at (nat_cmp (number_of call)) q) (row call reply events (lookup (is_at (nat_cmp (number_of call))) before)) (lookup (is_at (nat_cmp q)) before))
-    → from_entries {R = nat_cmp} after ≡ after_call (from_entries {R = nat_cmp} before) call reply events
-entries-after before after call reply events is =
+-- where only the request that a call names moves, the entries are the requests with what it is then
+entries-after : (before after : List (ℕ × Held)) (call : Call) → IsMoved call before after → from_entries {R = nat_cmp} after ≡ set_to (from_entries {R = nat_cmp} before) (number_of call) (lookup (is_at (nat_cmp (number_of call))) after)
+entries-after before after call is =
     let n = number_of call in
-    let all : FinMap nat_cmp Held = from_entries {R = nat_cmp} before in
+    let now = lookup (is_at (nat_cmp n)) after in
     same_map nat_cmp_total nat_cmp-IsAntisymmetric _ _ (λ q.
-    sym (lookup-get after q) ∙ is q
-    ∙ (λ i. cond (is_at (nat_cmp n) q) (row call reply events (lookup-get before n i)) (lookup-get before q i))
-    ∙ sym (get-set_to all n (row call reply events (get all n)) q))
+    sym (lookup-get after q) ∙ is q ∙ (λ i. cond (is_at (nat_cmp n) q) now (lookup-get before q i)) ∙ sym (set-at (from_entries {R = nat_cmp} before) n now q))
 
--- one call of a sound world leaves it sound, with an entry more in its history; its reply is told as it is copied
-pub step_sound : (limits : Limits) (start m m' : Tracked) (s s' : Store) (t t' : Locks) (before after : List (ℕ × Held)) (h : List Entry) (call : Call) (reply told : Reply) (events : List Event)
-    → IsSound limits start m s t (from_entries {R = nat_cmp} before) h
-    → (IsOfWorldIn (lookup (is_at (nat_cmp (number_of call))) before) → Turn limits call (lookup (is_at (nat_cmp (number_of call))) before) s m t reply events s' m' t')
-    → IsMoved call reply events before after → IsCopy reply told
-    → IsSound limits start m' s' t' (from_entries {R = nat_cmp} after) (record { call = call; reply = told; events = events } ∷ h)
-step_sound limits start m m' s s' t t' before after h call reply told events k turn moved copy =
-    let n = number_of call in
-    let all : FinMap nat_cmp Held = from_entries {R = nat_cmp} before in
-    let q = lookup (is_at (nat_cmp n)) before in
-    let made = turn (subst IsOfWorldIn (sym (lookup-get before n ∙ k.requests n)) (legal_world limits start h k.legal n)) in
-    let kept = each-call-keeps limits start m m' s s' t t' all h call reply told events k (subst (λ o. Turn limits call o s m t reply events s' m' t') (lookup-get before n) made) copy in
-    subst (λ (x : FinMap nat_cmp Held). IsSound limits start m' s' t' x (record { call = call; reply = told; events = events } ∷ h))
-    (sym (entries-after before after call reply events moved ∙ ap (set_to all n) (sym (row-copied call reply told events (get all n) copy)))) kept
+-- a request of a world is one, whatever its read lock was told
+of-world : (q : Option Held) → IsOfWorldIn (option_map untold q) → IsOfWorldIn q
+of-world None h = h
+of-world (Some x) h = world-told x.request h
+
+-- what a call of a sound world is, by the requests as a map
+module _ (limits : Limits) (start m m' : Tracked) (s s' : Store) (t t' : Locks) (before after : List (ℕ × Held)) (h : List Entry) (call : Call) (reply : Reply) (events : List Event) (k : IsSound limits start m s t (from_entries {R = nat_cmp} before) h) (small : length before < 2 ^ 64)
+    (turn : IsOfWorldIn (lookup (is_at (nat_cmp (number_of call))) before) → Turn limits call (lookup (is_at (nat_cmp (number_of call))) before) s m t reply events (lookup (is_at (nat_cmp (number_of call))) after) s' m' t') where
+  abbrev all : FinMap nat_cmp Held
+  all = from_entries {R = nat_cmp} before
+
+  abbrev n : ℕ
+  n = number_of call
+
+  abbrev q' : Option Held
+  q' = lookup (is_at (nat_cmp n)) after
+
+  few : (l : ℕ) → read_locks all l + 1 < 2 ^ 128
+  few l = let most = locks-few before l in omega arith
+
+  made : Turn limits call (get all n) s m t reply events q' s' m' t'
+  made =
+      let world : IsOfWorldIn (lookup (is_at (nat_cmp n)) before) = subst IsOfWorldIn (sym (lookup-get before n)) (of-world (get all n) (subst IsOfWorldIn (sym (k.requests n)) (legal_world t.age_timeout limits start h k.legal n))) in
+      subst (λ o. Turn limits call o s m t reply events q' s' m' t') (lookup-get before n) (turn world)
+
+  -- it leaves the world sound, with an entry more in its history; its reply is told as it is copied
+  pub step_sound : (told : Reply) → IsMoved call before after → IsCopy reply told → IsSound limits start m' s' t' (from_entries {R = nat_cmp} after) (record { call = call; reply = told; events = events } ∷ h)
+  step_sound told moved copy =
+      subst (λ (x : FinMap nat_cmp Held). IsSound limits start m' s' t' x (record { call = call; reply = told; events = events } ∷ h)) (sym (entries-after before after call moved))
+      (each-call-keeps limits start m m' s s' t t' all h call reply told events q' k few made copy)
+
+  pub step_age : t'.age_timeout ≡ t.age_timeout
+  step_age = call-age limits start m m' s s' t t' all h call reply events q' k few made

@@ -1,51 +1,48 @@
 -- What calls make of the lock table is what their events say of it, and which locks a legal history gives.
-use Rattle.std.proofs.Common.{◌≡◌, ℕ, ◌==◌, Bool, true, false, not, ◌&&◌, ◌||◌, cond, if◌then◌else◌, Option, None, Some, is_some, List, [], ◌∷◌, ◌++◌, refl, ap, sym, subst, ◌∙◌, arith, inr, option_map, reverse, ◌↔◌, Result, Ok, Err}
+use Rattle.std.proofs.Common.{◌≡◌, ℕ, ◌==◌, Bool, true, false, not, ◌&&◌, ◌||◌, cond, if◌then◌else◌, Option, None, Some, List, [], ◌∷◌, ◌++◌, refl, ap, sym, subst, ◌∙◌, arith, inr, reverse, ◌↔◌}
 use Rattle.std.specs.List.{list_any}
 use Rattle.std.specs.FinMap.{get, insert, remove, get-empty}
 use Rattle.std.specs.Ordering.{nat_cmp}
 use Rattle.std.proofs.lemmas.Bool.{eqb-true}
 use Rattle.std.proofs.lemmas.Bool.Decides.{nat_tests}
-use Rattle.pcache_base.specs.Key.{Key, slot}
+use Rattle.std.proofs.lemmas.List.{append_assoc}
+use Rattle.pcache_base.specs.declared.fills.UnusableFill.{UnusableFill}
+use Rattle.pcache_base.specs.declared.poll.Poll.TheVariants.{Pending, Ready}
 use Rattle.pcache_evict.specs.Tracked.{Tracked, Limits}
-use Rattle.pcache_evict.specs.declared.eviction.entry_key.CacheEntryKey.{CacheEntryKey}
 use Rattle.pcache_lock.specs.Locks.{Locks, no_locks, holder, given, after_request, with_read_lock, released, released_on, left, kept, let_go, permit_dropped, reader_dropped, is_permit, number_of_lock, without_entry}
 use Rattle.pcache_lock.specs.Permits as permits
 use Rattle.pcache_lock.specs.Permits.{Core, Permit, is_named, spent, released_status, dropped_status, without_reader}
 use Rattle.pcache_lock.specs.Statuses.{IsReason, is_aged}
-use Rattle.pcache_lock.specs.Waiting.{published}
+use Rattle.pcache_lock.specs.Waiting.{after_poll, answer_at, is_old, looked, polled, published, stage_of, table_at, told_or_pending, watch_at}
 use Rattle.pcache_lock.specs.Waits as table
 use Rattle.pcache_lock.specs.Waits.{Leads, LeadsAll, is_unlock, waiting_slot}
+use Rattle.pcache_lock.specs.declared.lock.outcome.Stage.{Stage}
+use Rattle.pcache_lock.specs.declared.lock.outcome.Stage.TheVariants as stage
 use Rattle.pcache_lock.specs.declared.lock.permit.Locked.{Locked}
 use Rattle.pcache_lock.specs.declared.lock.permit.Locked.TheVariants.{Write, Read}
 use Rattle.pcache_lock.specs.declared.lock.status.LockStatus.{LockStatus}
-use Rattle.pcache_lock.specs.declared.lock.status.LockStatus.TheVariants.{Done, GiveUp}
+use Rattle.pcache_lock.specs.declared.lock.status.LockStatus.TheVariants.{GiveUp}
 use Rattle.pcache_base.specs.declared.reason.NoCacheReason.{NoCacheReason}
 use Rattle.pcache_base.specs.declared.reason.NoCacheReason.TheVariants as reason
 use Rattle.pcache_lock.proofs.Calls.{finds_the_waiting}
 use Rattle.pcache_lock.proofs.Ends.{waits_until_its_end}
 use Rattle.pcache_request.specs.LockUse.{published_by}
+use Rattle.pcache_request.specs.LockWaits.{is_old_answer, too_old_for}
 use Rattle.pcache_request.specs.Releasing.{status_for}
-use Rattle.pcache_request.specs.Reports.{asked_with, asked_by_found, name_of}
-use Rattle.pcache_request.specs.Variants.{asked_for_key, table_key_locked}
-use Rattle.pcache_request.specs.Requests.{Request, entry_of, let_go_by, settled, table_asked, table_found, asks_for_hit, asks_as_stale, counts_found}
-use Rattle.pcache_request.specs.declared.phase.HitStatus.{HitStatus}
-use Rattle.pcache_store.specs.Store.{Store, Reader, reader_weight}
-use Rattle.pcache_meta.specs.Meta.{Meta}
-use Rattle.pcache_base.specs.declared.error.ErrorType.{ErrorType}
-use Rattle.pcache_base.specs.declared.error.ErrorType.TheVariants.{WriteRemoved}
-use Rattle.pcache_request.specs.declared.cache.report.AskedLock.{AskedLock}
+use Rattle.pcache_request.specs.Requests.{let_go_by, settled}
+use Rattle.pingora_cache.specs.declared.world.call.Call.{Call}
+use Rattle.pingora_cache.specs.declared.world.call.Call.TheVariants as C
 use Rattle.pingora_cache.specs.declared.world.entry.Entry.{Entry}
 use Rattle.pingora_cache.specs.declared.world.entry.Event.{Event}
 use Rattle.pingora_cache.specs.declared.world.entry.Event.TheVariants as E
+use Rattle.pingora_cache.specs.Deeds.{Deed, Asked, Released, LetGo, Aged, deed_of, deeds_by, deeds_in, held_in, moment_of, published_on, said_by, status_left}
 use Rattle.pingora_cache.specs.Headline.{GivesThePermitExactly, OnePermitWaits}
+use Rattle.pingora_cache.specs.Held.{Held, Outcome, number_of, was_done, was_other, was_taken, was_waited, was_wrong}
 use Rattle.pingora_cache.specs.History.{events_of}
 use Rattle.pingora_cache.specs.Legal.{IsLegal}
-use Rattle.pingora_cache.specs.Rules.{each, permit_of, accesses, drop_of}
-use Rattle.pingora_cache.specs.declared.world.entry.Answer.{Answer}
-use Rattle.pingora_cache.specs.declared.world.entry.Answer.TheVariants.{Nothing}
-use Rattle.pingora_cache.specs.Step.{asking, permit_in, refused_end, renewing, untracking}
-use Rattle.pingora_cache.specs.Waiting.{Waiting, none_waiting, waits_at, then_waiting, waiting_after, waiting_in, NoneWaits, Gets, IsGiven, AreGiven, IsOfNoLock, AreOfNoLock, waiting_of, IsReached, IsLocked, LocksMoved, MovesLocks}
-use Rattle.pingora_cache.proofs.Noted.{permit-named}
+use Rattle.pingora_cache.specs.LockMoves.{LockMove, MayMove, MovesLocks, ages, asks, deeds_moved, each_deed, lets_go, polls, publishes, rests, settles, table_moved, table_polled}
+use Rattle.pingora_cache.specs.Rules.{each, number_read, permit_of}
+use Rattle.pingora_cache.specs.Waiting.{Waiting, none_waiting, waits_at, then_waiting, waiting_after, waiting_in, NoneWaits, Gets, IsGiven, AreGiven, IsOfNoLock, AreOfNoLock, waiting_of, IsReached, IsLocked, LocksMoved}
 use Rattle.pingora_cache.proofs.Runs.{turned}
 
 -- ---- calls that lead to a table
@@ -81,6 +78,10 @@ locked-none age t is = subst (IsLocked []) (sym is) (record {
 
 -- ---- two moves, one after the other
 
+-- a table moves as these events say
+abbrev Steps : Locks → List Event → Locks → Type 0
+Steps t events u = IsReached t → LocksMoved t events u
+
 after-both : (xs ys : List Event) (w : Waiting) → waiting_after (xs ++ ys) w ≡ waiting_after ys (waiting_after xs w)
 after-both [] ys w = refl
 after-both (e ∷ xs) ys w = after-both xs ys (then_waiting e w)
@@ -89,8 +90,8 @@ given-both : (xs ys : List Event) (w : Waiting) → AreGiven w xs → AreGiven (
 given-both [] ys w a b = b
 given-both (e ∷ xs) ys w a b = (a.0, given-both xs ys (then_waiting e w) a.1 b)
 
-pub both-locks : (t u v : Locks) (xs ys : List Event) → MovesLocks t xs u → MovesLocks u ys v → MovesLocks t (xs ++ ys) v
-both-locks t u v xs ys a b reached =
+both : (t u v : Locks) (xs ys : List Event) → Steps t xs u → Steps u ys v → Steps t (xs ++ ys) v
+both t u v xs ys a b reached =
     let k = a reached in
     let m = b k.reached in
     record {
@@ -109,6 +110,7 @@ quiet-then : (e : Event) (w : Waiting) → IsOfNoLock e → then_waiting e w ≡
 quiet-then (E.Ask k n b) w h = absurd h
 quiet-then (E.Release n) w h = absurd h
 quiet-then (E.LetGo n) w h = absurd h
+quiet-then (E.Aged n) w h = absurd h
 quiet-then e w h = refl
 
 quiet-given : (events : List Event) (w : Waiting) → AreOfNoLock events → AreGiven w events
@@ -119,11 +121,8 @@ quiet-after : (events : List Event) (w : Waiting) → AreOfNoLock events → wai
 quiet-after [] w h = refl
 quiet-after (e ∷ events) w h = quiet-after events (then_waiting e w) h.1 ∙ quiet-then e w h.0
 
-pub quiet_locks : (t u : Locks) (events : List Event) → AreOfNoLock events → u ≡ t → MovesLocks t events u
-quiet_locks t u events quiet is = subst (MovesLocks t events) (sym is) (λ reached. record { reached = reached; given = quiet-given events (waiting_of t) quiet; waiting = sym (quiet-after events (waiting_of t) quiet) })
-
-pub no_locks_move : (t u : Locks) (events : List Event) → events ≡ [] → u ≡ t → MovesLocks t events u
-no_locks_move t u events none is = subst (λ es. MovesLocks t es u) (sym none) (quiet_locks t u [] tt is)
+quiet : (t u : Locks) (events : List Event) → AreOfNoLock events → u ≡ t → Steps t events u
+quiet t u events none is = subst (Steps t events) (sym is) (λ reached. record { reached = reached; given = quiet-given events (waiting_of t) none; waiting = sym (quiet-after events (waiting_of t) none) })
 
 -- ---- one deed on the table
 
@@ -152,11 +151,20 @@ next-left-by : (t : Locks) (l : ℕ) (o : Option Core) → (reader_dropped t l o
 next-left-by t l None = refl
 next-left-by t l (Some c) = next-kept t l (without_reader c)
 
+next-at : (t : Locks) (l : ℕ) (c : Core) (s : Stage) → (table_at s t l c).next ≡ t.next
+next-at t l c stage.Over = refl
+next-at t l c stage.Old = refl
+next-at t l c stage.Held = refl
+
+next-polled : (t : Locks) (l now : ℕ) (o : Option Core) → (after_poll t now l o).next ≡ t.next
+next-polled t l now None = refl
+next-polled t l now (Some c) = next-at t l c (stage_of now c)
+
 -- the key under which a permit waits, and the number of the next one
 waiting-as : (t : Locks) (w : Waiting) → ((l : ℕ) → table.waits_under t l ≡ w.under l) → t.next ≡ w.asked → waiting_of t ≡ w
 waiting-as t w under asked = λ i. record { under = λ l. under l i; asked = asked i }
 
-gives-permit : (t : Locks) (k : ℕ) (stale : Bool) (now : ℕ) → holder t k ≡ None → MovesLocks t (E.Ask k t.next true ∷ []) (after_request t k stale now None)
+gives-permit : (t : Locks) (k : ℕ) (stale : Bool) (now : ℕ) → holder t k ≡ None → Steps t (E.Ask k t.next true ∷ []) (after_request t k stale now None)
 gives-permit t k stale now free reached =
     let u = after_request t k stale now None in
     record {
@@ -165,7 +173,7 @@ gives-permit t k stale now free reached =
       waiting = waiting-as u (then_waiting (E.Ask k t.next true) (waiting_of t)) (λ l. waits_until_its_end.asking t k stale now l ∙ ap (λ b. cond b (Some k) (table.waits_under t l)) (flip l t.next)) refl;
     }
 
-gives-read : (t : Locks) (k : ℕ) (stale : Bool) (now l : ℕ) → holder t k ≡ Some l → MovesLocks t (E.Ask k l false ∷ []) (after_request t k stale now (Some l))
+gives-read : (t : Locks) (k : ℕ) (stale : Bool) (now l : ℕ) → holder t k ≡ Some l → Steps t (E.Ask k l false ∷ []) (after_request t k stale now (Some l))
 gives-read t k stale now l is reached =
     let u = after_request t k stale now (Some l) in
     record {
@@ -174,169 +182,199 @@ gives-read t k stale now l is reached =
       waiting = waiting-as u (waiting_of t) (λ q. waits_until_its_end.joining t k stale now l q) (next-joined t l (get t.cores l));
     }
 
-releases : (t : Locks) (l : ℕ) (s : LockStatus) → IsReason s → MovesLocks t (E.Release l ∷ []) (released t l s)
+releases : (t : Locks) (l : ℕ) (s : LockStatus) → IsReason s → Steps t (E.Release l ∷ []) (released t l s)
 releases t l s reason reached = record {
   reached = reached-more t (released t l s) (table.Released l s) reached (reason, refl) refl;
   given = (tt, tt);
   waiting = waiting-as (released t l s) (then_waiting (E.Release l) (waiting_of t)) (λ q. waits_until_its_end.releasing t l s q ∙ ap (λ b. cond b None (table.waits_under t q)) (flip q l)) (next-released t l s (get t.cores l));
 }
 
-lets-go : (t : Locks) (p : Permit) → MovesLocks t (E.LetGo p.number ∷ []) (let_go t (Write p))
+lets-go : (t : Locks) (p : Permit) → Steps t (E.LetGo p.number ∷ []) (let_go t (Write p))
 lets-go t p reached = record {
   reached = reached-more t (let_go t (Write p)) (table.LetGo (Write p)) reached refl refl;
   given = (tt, tt);
   waiting = waiting-as (let_go t (Write p)) (then_waiting (E.LetGo p.number) (waiting_of t)) (λ q. waits_until_its_end.letting_go t p q ∙ ap (λ b. cond b None (table.waits_under t q)) (flip q p.number)) (next-dropped t p.number (get t.cores p.number));
 }
 
-leaves : (t : Locks) (r : permits.Reader) → MovesLocks t [] (let_go t (Read r))
+leaves : (t : Locks) (r : permits.Reader) → Steps t [] (let_go t (Read r))
 leaves t r reached = record {
   reached = reached-more t (let_go t (Read r)) (table.LetGo (Read r)) reached refl refl;
   given = tt;
   waiting = waiting-as (let_go t (Read r)) (waiting_of t) (λ q. waits_until_its_end.leaving t r q) (next-left-by t r.number (get t.cores r.number));
 }
 
-publishes : (t : Locks) (l : ℕ) (tokens : List ℕ) → MovesLocks t [] (published t l tokens)
-publishes t l tokens reached = record {
+publishes-one : (t : Locks) (l : ℕ) (tokens : List ℕ) → Steps t [] (published t l tokens)
+publishes-one t l tokens reached = record {
   reached = reached-more t (published t l tokens) (table.Published l tokens) reached (inr refl) refl;
   given = tt;
   waiting = waiting-as (published t l tokens) (waiting_of t) (λ q. waits_until_its_end.publishing t l tokens q) refl;
 }
 
+-- a permit is found too old
+ages-one : (t : Locks) (l now : ℕ) → table.is_old_at now (get t.cores l) ≡ true → Steps t (E.Aged l ∷ []) (after_poll t now l (get t.cores l))
+ages-one t l now old reached = record {
+  reached = reached-more t (after_poll t now l (get t.cores l)) (table.Polled l now) reached (inr refl) refl;
+  given = (tt, tt);
+  waiting = waiting-as (after_poll t now l (get t.cores l)) (then_waiting (E.Aged l) (waiting_of t))
+      (λ q. waits_until_its_end.polling t now l q ∙ ap (λ b. cond ((q == l) && b) None (table.waits_under t q)) old ∙ ap (λ b. cond b None (table.waits_under t q)) (and-true (q == l) ∙ flip q l))
+      (next-polled t l now (get t.cores l));
+}
+  where
+    and-true : (b : Bool) → (b && true) ≡ b
+    and-true true = refl
+    and-true false = refl
+
 -- ---- the rows of a request
 
-pub let-go-by : (t : Locks) (h : Option Locked) → MovesLocks t (each E.LetGo (permit_of h)) (let_go_by h t)
-let-go-by t None = quiet_locks t t [] tt refl
+let-go-by : (t : Locks) (h : Option Locked) → Steps t (each E.LetGo (permit_of h)) (let_go_by h t)
+let-go-by t None = quiet t t [] tt refl
 let-go-by t (Some (Write p)) = lets-go t p
 let-go-by t (Some (Read r)) = leaves t r
 
-pub settles : (t : Locks) (s : LockStatus) (h : Option Locked) → IsReason s → MovesLocks t (each E.Release (permit_of h)) (settled s h t)
-settles t s None reason = quiet_locks t t [] tt refl
-settles t s (Some (Write p)) reason = releases t p.number s reason
-settles t s (Some (Read r)) reason = leaves t r
+settles-by : (t : Locks) (s : LockStatus) (h : Option Locked) → IsReason s → Steps t (each E.Release (permit_of h)) (settled s h t)
+settles-by t s None reason = quiet t t [] tt refl
+settles-by t s (Some (Write p)) reason = releases t p.number s reason
+settles-by t s (Some (Read r)) reason = leaves t r
 
-published-by : (t : Locks) (tokens : List ℕ) (h : Option Locked) → MovesLocks t [] (published_by tokens h t)
-published-by t tokens None = quiet_locks t t [] tt refl
-published-by t tokens (Some (Write p)) = publishes t p.number tokens
-published-by t tokens (Some (Read r)) = quiet_locks t t [] tt refl
-
-pub publish-locks : (t u : Locks) (tokens : List ℕ) (h : Option Locked) (events : List Event) → events ≡ [] → u ≡ published_by tokens h t → MovesLocks t events u
-publish-locks t u tokens h events none is = subst (λ es. MovesLocks t es u) (sym none) (subst (MovesLocks t []) (sym is) (published-by t tokens h))
+published-by : (t : Locks) (tokens : List ℕ) (h : Option Locked) → Steps t [] (published_by tokens h t)
+published-by t tokens None = quiet t t [] tt refl
+published-by t tokens (Some (Write p)) = publishes-one t p.number tokens
+published-by t tokens (Some (Read r)) = quiet t t [] tt refl
 
 -- the status that a reason leaves is one that a permit may be released with
 pub status-reason : (why : NoCacheReason) → IsReason (status_for (λ text. GiveUp) why)
 status-reason (reason.Custom text) = tt
 status-reason why = tt
 
--- what is held is released, and the permit noted
-pub settle-locks : (t u : Locks) (s : LockStatus) (h : Option Locked) (o : Option ℕ) (old events : List Event) → IsReason s → o ≡ permit_of h → old ≡ [] → events ≡ old ++ each E.Release o → u ≡ settled s h t → MovesLocks t events u
-settle-locks t u s h o old events reason permit none is to =
-    subst (λ es. MovesLocks t es u) (sym (is ∙ (λ i. none i ++ each E.Release (permit i)))) (subst (MovesLocks t (each E.Release (permit_of h))) (sym to) (settles t s h reason))
-
--- what is held is released, and a write is dropped
-pub settle-then : (t u : Locks) (s : LockStatus) (h : Option Locked) (o write : Option ℕ) (old events : List Event) → IsReason s → o ≡ permit_of h → old ≡ [] → events ≡ old ++ each E.Release o ++ drop_of write → u ≡ settled s h t → MovesLocks t events u
-settle-then t u s h o write old events reason permit none is to =
-    subst (λ es. MovesLocks t es u) (sym (is ∙ (λ i. none i ++ each E.Release (permit i) ++ drop_of write)))
-    (subst (λ v. MovesLocks t (each E.Release (permit_of h) ++ drop_of write) v) (sym to)
-    (both-locks t (settled s h t) (settled s h t) (each E.Release (permit_of h)) (drop_of write) (settles t s h reason)
-    (quiet_locks (settled s h t) (settled s h t) (drop_of write) (elim write as (λ o. AreOfNoLock (drop_of o)) [ None ↦ tt | Some w ↦ (tt, tt) ]) refl)))
-
-asks-for : (t : Locks) (k : ℕ) (stale : Bool) (now : ℕ) (o : Option ℕ) → holder t k ≡ o → MovesLocks t (E.Ask k (number_of_lock (given t stale o)) (is_permit (given t stale o)) ∷ []) (after_request t k stale now o)
+asks-for : (t : Locks) (k : ℕ) (stale : Bool) (now : ℕ) (o : Option ℕ) → holder t k ≡ o → Steps t (E.Ask k (number_of_lock (given t stale o)) (is_permit (given t stale o)) ∷ []) (after_request t k stale now o)
 asks-for t k stale now None is = gives-permit t k stale now is
 asks-for t k stale now (Some l) is = gives-read t k stale now l is
 
--- a lock that is asked for, where it is
-abbrev asked_if : Bool → Bool → Locks → Option Key → Option Locked → Option AskedLock
-asked_if b stale t o h = cond b (option_map (λ k. asked_with stale t k h) o) None
+-- ---- a move of the request's lock
 
-pub asks-locks : (t u : Locks) (b stale : Bool) (now j : ℕ) (o : Option Key) (k : Key) (h : Option Locked) (a : Option AskedLock) → o ≡ Some k → j ≡ slot k → a ≡ asked_if b stale t o h → u ≡ cond b (table_asked stale now o h t) t → MovesLocks t (asking j a) u
-asks-locks t u b stale now j o k h a key at is to =
-    subst (λ v. MovesLocks t (asking j a) v) (sym to) (subst (λ x. MovesLocks t (asking j x) (cond b (table_asked stale now o h t) t)) (sym is)
-    (subst (λ i. MovesLocks t (asking i (asked_if b stale t o h)) (cond b (table_asked stale now o h t) t)) (sym at)
-    (subst (λ q. MovesLocks t (asking (slot k) (asked_if b stale t q h)) (cond b (table_asked stale now q h t) t)) (sym key) (by b))))
+-- the events that deeds are read off
+abbrev spoken_of : Deed → List Event
+spoken_of (Asked r k n b t) = E.Ask k n b ∷ []
+spoken_of (Released n s) = E.Release n ∷ []
+spoken_of (LetGo n) = E.LetGo n ∷ []
+spoken_of (Aged n) = E.Aged n ∷ []
+spoken_of _ = []
+
+abbrev spoken : List Deed → List Event
+spoken [] = []
+spoken (d ∷ ds) = spoken_of d ++ spoken ds
+
+spoken-let-go : (o : Option ℕ) → spoken (each_deed LetGo o) ≡ each E.LetGo o
+spoken-let-go None = refl
+spoken-let-go (Some n) = refl
+
+spoken-released : (s : LockStatus) (o : Option ℕ) → spoken (each_deed (λ n. Released n s) o) ≡ each E.Release o
+spoken-released s None = refl
+spoken-released s (Some n) = refl
+
+spoken-published : (tokens : List ℕ) (h : Option Locked) → spoken (published_on tokens h) ≡ []
+spoken-published tokens None = refl
+spoken-published tokens (Some (Write p)) = refl
+spoken-published tokens (Some (Read rd)) = refl
+
+-- a read lock is let go once its permit was found too old
+ages-by : (t : Locks) (fills : Option (List UnusableFill)) (at : ℕ) (mine : Option Locked) → too_old_for t at mine fills ≡ true → Steps t (spoken (each_deed Aged (number_read mine))) (let_go_by mine (table_polled at mine t))
+ages-by t fills at None old = absurd (cc)
+ages-by t fills at (Some (Write p)) old = absurd (cc)
+ages-by t fills at (Some (Read rd)) old =
+    let u = after_poll t at rd.number (get t.cores rd.number) in
+    both t u (let_go u (Read rd)) (E.Aged rd.number ∷ []) [] (ages-one t rd.number at (is-old (get t.cores rd.number) old)) (leaves u rd)
   where
-    l : Locked
-    l = given t stale (holder t (slot k))
+    at-stage : (s : Stage) (w : permits.Watch) → is_old_answer (answer_at s w) ≡ true → is_old s ≡ true
+    at-stage stage.Over w e = absurd (cc)
+    at-stage stage.Old w e = refl
+    at-stage stage.Held w e = elim w.told as (λ o. is_old_answer (told_or_pending o) ≡ true → false ≡ true) [ None ↦ λ f. f | Some fill ↦ λ f. f ] e
 
-    by : (b : Bool) → MovesLocks t (asking (slot k) (asked_if b stale t (Some k) h)) (cond b (table_asked stale now (Some k) h t) t)
-    by true =
-        subst (λ p. MovesLocks t (E.Ask (slot k) (number_of_lock l) (is_permit l) ∷ each E.LetGo p) (let_go_by h (after_request t (slot k) stale now (holder t (slot k))))) (sym (permit-named h))
-        (both-locks t (after_request t (slot k) stale now (holder t (slot k))) (let_go_by h (after_request t (slot k) stale now (holder t (slot k)))) (E.Ask (slot k) (number_of_lock l) (is_permit l) ∷ []) (each E.LetGo (permit_of h))
-        (asks-for t (slot k) stale now (holder t (slot k)) refl) (let-go-by (after_request t (slot k) stale now (holder t (slot k))) h))
-    by false = quiet_locks t t [] tt refl
+    is-old : (o : Option Core) → is_old_answer (polled at fills rd.watch o) ≡ true → table.is_old_at at o ≡ true
+    is-old None e = absurd (cc)
+    is-old (Some c) e = at-stage (stage_of at c) (looked c (watch_at c fills rd.watch)) e
 
--- ---- what calls note of locks
+steps-by : (move : LockMove) (r : ℕ) (mine : Option Locked) (t : Locks) → MayMove move mine t → Steps t (spoken (deeds_moved move r mine t)) (table_moved move mine t)
+steps-by rests r mine t may = quiet t t [] tt refl
+steps-by (asks k stale at) r mine t may =
+    let u = after_request t k stale at (holder t k) in
+    subst (λ es. Steps t (E.Ask k (number_of_lock (given t stale (holder t k))) (is_permit (given t stale (holder t k))) ∷ es) (let_go_by mine u)) (sym (spoken-let-go (permit_of mine)))
+    (both t u (let_go_by mine u) (E.Ask k (number_of_lock (given t stale (holder t k))) (is_permit (given t stale (holder t k))) ∷ []) (each E.LetGo (permit_of mine)) (asks-for t k stale at (holder t k) refl) (let-go-by u mine))
+steps-by (settles s) r mine t may = subst (λ es. Steps t es (settled s mine t)) (sym (spoken-released s (permit_of mine))) (settles-by t s mine may)
+steps-by lets_go r mine t may = subst (λ es. Steps t es (let_go_by mine t)) (sym (spoken-let-go (permit_of mine))) (let-go-by t mine)
+steps-by (publishes tokens) r mine t may = subst (λ es. Steps t es (published_by tokens mine t)) (sym (spoken-published tokens mine)) (published-by t tokens mine)
+steps-by (polls fills at) r mine t may = quiet t t [] tt refl
+steps-by (ages fills at) r mine t may = ages-by t fills at mine may
 
-quiet-accesses : (s : HitStatus) (k : Key) (h : Reader) (x : Request) → AreOfNoLock (accesses s k h x)
-quiet-accesses s k h x = elim (counts_found s h x) as (λ b. AreOfNoLock (if b then E.Access (entry_of k None) (reader_weight h) ∷ [] else [])) [ true ↦ (tt, tt) | false ↦ tt ]
+pub steps : (r : ℕ) (ds : List Deed) (mine last : Option Locked) (t u : Locks) → MovesLocks r ds mine t last u → Steps t (spoken ds) u
+steps r ds mine last t u k = subst (λ es. Steps t (spoken es) u) (sym k.done) (subst (Steps t (spoken (deeds_moved k.move r mine t))) (sym k.table) (steps-by k.move r mine t k.may))
 
--- a look-up that hands nothing on
-pub missed-locks : (t u : Locks) (x : Request) (k : Key) (answer : Answer) (j now : ℕ) (a : Option AskedLock) (old first events : List Event) → x.key ≡ Some k → j ≡ slot k → a ≡ asked_for_key t x → u ≡ table_key_locked now x t
-    → old ≡ [] → first ≡ old ++ E.Look j answer ∷ [] → events ≡ first ++ asking j a → MovesLocks t events u
-missed-locks t u x k answer j now a old first events key at is to none one all =
-    subst (λ es. MovesLocks t es u) (sym (all ∙ ap (λ es. es ++ asking j a) (one ∙ ap (λ es. es ++ E.Look j answer ∷ []) none)))
-    (both-locks t t u (E.Look j answer ∷ []) (asking j a) (quiet_locks t t (E.Look j answer ∷ []) (tt, tt) refl) (asks-locks t u x.uses.lock false now j x.key k x.held a key at is to))
+-- what deeds say of who waits is what their events say
 
--- one that turns caching off
-pub deferred-locks : (t u : Locks) (s : LockStatus) (h : Option Locked) (o write : Option ℕ) (j : ℕ) (old first events : List Event) → IsReason s → o ≡ permit_of h → old ≡ [] → first ≡ old ++ E.Look j Nothing ∷ [] → events ≡ first ++ each E.Release o ++ drop_of write → u ≡ settled s h t → MovesLocks t events u
-deferred-locks t u s h o write j old first events reason permit none one all to =
-    subst (λ es. MovesLocks t es u) (sym (all ∙ ap (λ es. es ++ each E.Release o ++ drop_of write) (one ∙ ap (λ es. es ++ E.Look j Nothing ∷ []) none)))
-    (both-locks t t u (E.Look j Nothing ∷ []) (each E.Release o ++ drop_of write) (quiet_locks t t (E.Look j Nothing ∷ []) (tt, tt) refl) (settle-then t u s h o write [] (each E.Release o ++ drop_of write) reason permit refl refl to))
+one-spoken : (r at : ℕ) (s : LockStatus) (e : Event) (w : Waiting) → waiting_after (spoken (deed_of r at s e)) w ≡ then_waiting e w
+one-spoken r at s (E.Ask k n b) w = refl
+one-spoken r at s (E.Release n) w = refl
+one-spoken r at s (E.LetGo n) w = refl
+one-spoken r at s (E.Aged n) w = refl
+one-spoken r at s e w = refl
 
--- a permit is released where the key gives its variance up, and is noted
-pub varied-locks : (t u : Locks) (b : Bool) (h : Option Locked) (o : Option ℕ) (old events : List Event) → o ≡ permit_in (cond b (option_map name_of h) None) → old ≡ [] → events ≡ old ++ each E.Release o → u ≡ cond b (settled Done h t) t → MovesLocks t events u
-varied-locks t u b h o old events permit none is to =
-    subst (λ es. MovesLocks t es u) (sym (is ∙ (λ i. none i ++ each E.Release (permit i)))) (subst (MovesLocks t (each E.Release (permit_in (cond b (option_map name_of h) None)))) (sym to) (by b))
-  where
-    by : (b : Bool) → MovesLocks t (each E.Release (permit_in (cond b (option_map name_of h) None))) (cond b (settled Done h t) t)
-    by true = subst (λ p. MovesLocks t (each E.Release p) (settled Done h t)) (sym (permit-named h)) (settles t Done h tt)
-    by false = quiet_locks t t [] tt refl
+one-given : (r at : ℕ) (s : LockStatus) (e : Event) (w : Waiting) → AreGiven w (spoken (deed_of r at s e)) → IsGiven w e
+one-given r at s (E.Ask k n b) w g = g.0
+one-given r at s (E.Release n) w g = tt
+one-given r at s (E.LetGo n) w g = tt
+one-given r at s (E.Aged n) w g = tt
+one-given r at s e w g = tt
 
--- a stale body is found good, and what is held is released
-pub renewed-locks : (t u : Locks) (h : Option Locked) (o : Option ℕ) (j : ℕ) (m : Meta) (r : Result Bool ErrorType) (old mid events : List Event) → o ≡ permit_of h → old ≡ [] → mid ≡ old ++ renewing j m r → events ≡ mid ++ each E.Release o → u ≡ settled Done h t → MovesLocks t events u
-renewed-locks t u h o j m r old mid events permit none one is to =
-    subst (λ es. MovesLocks t es u) (sym (is ∙ ap (λ es. es ++ each E.Release o) (one ∙ ap (λ es. es ++ renewing j m r) none) ∙ ap (λ p. renewing j m r ++ each E.Release p) permit))
-    (both-locks t t u (renewing j m r) (each E.Release (permit_of h)) (quiet_locks t t (renewing j m r) (quiet r) refl) (subst (MovesLocks t (each E.Release (permit_of h))) (sym to) (settles t Done h tt)))
-  where
-    quiet : (r : Result Bool ErrorType) → AreOfNoLock (renewing j m r)
-    quiet (Ok true) = (tt, tt)
-    quiet (Ok false) = tt
-    quiet (Err e) = tt
+spoken-both : (xs ys : List Deed) → spoken (xs ++ ys) ≡ spoken xs ++ spoken ys
+spoken-both [] ys = refl
+spoken-both (d ∷ xs) ys = ap (λ es. spoken_of d ++ es) (spoken-both xs ys) ∙ sym (append_assoc (spoken_of d) (spoken xs) (spoken ys))
 
--- what was found is taken
-pub taken-locks : (s : HitStatus) (t u : Locks) (x : Request) (k : Key) (h : Reader) (j now : ℕ) (a : Option AskedLock) (events : List Event) → x.key ≡ Some k → j ≡ slot k → a ≡ asked_by_found s t x → u ≡ table_found s now x t
-    → events ≡ accesses s k h x ++ asking j a → MovesLocks t events u
-taken-locks s t u x k h j now a events key at is to all =
-    subst (λ es. MovesLocks t es u) (sym all)
-    (both-locks t t u (accesses s k h x) (asking j a) (quiet_locks t t (accesses s k h x) (quiet-accesses s k h x) refl) (asks-locks t u (asks_for_hit s x) (asks_as_stale s x.phase) now j x.key k x.held a key at is to))
+all-spoken : (r at : ℕ) (s : LockStatus) (events : List Event) (w : Waiting) → waiting_after (spoken (deeds_by r at s events)) w ≡ waiting_after events w
+all-spoken r at s [] w = refl
+all-spoken r at s (e ∷ events) w =
+    ap (λ es. waiting_after es w) (spoken-both (deed_of r at s e) (deeds_by r at s events))
+    ∙ after-both (spoken (deed_of r at s e)) (spoken (deeds_by r at s events)) w
+    ∙ ap (waiting_after (spoken (deeds_by r at s events))) (one-spoken r at s e w)
+    ∙ all-spoken r at s events (then_waiting e w)
 
-pub untaken-locks : (s : HitStatus) (t u : Locks) (x : Request) (k : Key) (h : Reader) (events : List Event) → u ≡ t → events ≡ accesses s k h x → MovesLocks t events u
-untaken-locks s t u x k h events same all = quiet_locks t u events (subst AreOfNoLock (sym all) (quiet-accesses s k h x)) same
+given-first : (xs ys : List Event) (w : Waiting) → AreGiven w (xs ++ ys) → AreGiven w xs × AreGiven (waiting_after xs w) ys
+given-first [] ys w g = (tt, g)
+given-first (e ∷ xs) ys w g = let k = given-first xs ys (then_waiting e w) g.1 in ((g.0, k.0), k.1)
 
--- an event, and then the release of what is held
-pub release-locks : (t u : Locks) (h : Option Locked) (o : Option ℕ) (first : Event) (old events : List Event) → MovesLocks t (each E.Release (permit_of h)) u → IsOfNoLock first → o ≡ permit_of h → old ≡ [] → events ≡ old ++ first ∷ each E.Release o → MovesLocks t events u
-release-locks t u h o first old events moves quiet permit none is =
-    subst (λ es. MovesLocks t es u) (sym (is ∙ (λ i. none i ++ first ∷ each E.Release (permit i))))
-    (both-locks t t u (first ∷ []) (each E.Release (permit_of h)) (quiet_locks t t (first ∷ []) (quiet, tt) refl) moves)
+all-given : (r at : ℕ) (s : LockStatus) (events : List Event) (w : Waiting) → AreGiven w (spoken (deeds_by r at s events)) → AreGiven w events
+all-given r at s [] w g = tt
+all-given r at s (e ∷ events) w g =
+    let k = given-first (spoken (deed_of r at s e)) (spoken (deeds_by r at s events)) w (subst (AreGiven w) (spoken-both (deed_of r at s e) (deeds_by r at s events)) g) in
+    (one-given r at s e w k.0, all-given r at s events (then_waiting e w) (subst (λ x. AreGiven x (spoken (deeds_by r at s events))) (one-spoken r at s e w) k.1))
 
-pub release-then : (t u : Locks) (h : Option Locked) (o : Option ℕ) (first last : Event) (old mid events : List Event) → MovesLocks t (each E.Release (permit_of h)) u → IsOfNoLock first → IsOfNoLock last → o ≡ permit_of h → old ≡ []
-    → mid ≡ old ++ first ∷ each E.Release o → events ≡ mid ++ last ∷ [] → MovesLocks t events u
-release-then t u h o first last old mid events moves quiet still permit none one is =
-    subst (λ es. MovesLocks t es u) (sym is) (both-locks t u u mid (last ∷ []) (release-locks t u h o first old mid moves quiet permit none one) (quiet_locks u u (last ∷ []) (still, tt) refl))
+-- what a call says beside its events says nothing of who waits
+said-spoken : (call : Call) (o : Outcome) (h : Option Locked) → spoken (said_by call o h) ≡ []
+said-spoken (C.Publish r tokens) was_done h = spoken-published tokens h
+said-spoken (C.Wait r t) (was_waited Pending) h = refl
+said-spoken (C.Publish r tokens) was_wrong h = refl
+said-spoken (C.Publish r tokens) was_taken h = refl
+said-spoken (C.Publish r tokens) was_other h = refl
+said-spoken (C.Publish r tokens) (was_waited a) h = refl
+said-spoken (C.Wait r t) was_wrong h = refl
+said-spoken (C.Wait r t) was_done h = refl
+said-spoken (C.Wait r t) was_taken h = refl
+said-spoken (C.Wait r t) was_other h = refl
+said-spoken (C.Wait r t) (was_waited (Ready a)) h = refl
+said-spoken call o h = refl
 
-pub quiet-refused : (w : ℕ) (kind : ErrorType) → IsOfNoLock (refused_end w kind)
-quiet-refused w WriteRemoved = tt
-quiet-refused w kind = tt
-
-pub purge-locks : (t : Locks) (j : ℕ) (gone : Option CacheEntryKey) (old events : List Event) → old ≡ [] → events ≡ old ++ E.Purge j ∷ untracking gone → MovesLocks t events t
-purge-locks t j gone old events none is =
-    quiet_locks t t events (subst AreOfNoLock (sym (is ∙ ap (λ es. es ++ E.Purge j ∷ untracking gone) none)) (tt, elim gone as (λ o. AreOfNoLock (untracking o)) [ None ↦ tt | Some e ↦ (tt, tt) ])) refl
-
--- a request that is given back
-pub ended-locks : (t u : Locks) (h : Option Locked) (write permit : Option ℕ) (old mid events : List Event) → permit ≡ permit_of h → old ≡ [] → mid ≡ old ++ drop_of write → events ≡ mid ++ each E.LetGo permit → u ≡ let_go_by h t → MovesLocks t events u
-ended-locks t u h write permit old mid events held none one is to =
-    subst (λ es. MovesLocks t es u) (sym (is ∙ (λ i. one i ++ each E.LetGo (held i)) ∙ ap (λ es. (es ++ drop_of write) ++ each E.LetGo (permit_of h)) none))
-    (subst (λ v. MovesLocks t (drop_of write ++ each E.LetGo (permit_of h)) v) (sym to)
-    (both-locks t t (let_go_by h t) (drop_of write) (each E.LetGo (permit_of h)) (quiet_locks t t (drop_of write) (elim write as (λ o. AreOfNoLock (drop_of o)) [ None ↦ tt | Some w ↦ (tt, tt) ]) refl) (let-go-by t h)))
+-- one call moves the table as its events say
+pub call-steps : (call : Call) (o : Outcome) (events : List Event) (q : Option Held) (mine last : Option Locked) (t u : Locks) → MovesLocks (number_of call) (deeds_in call o events q) mine t last u → Steps t events u
+call-steps call o events q mine last t u k reached =
+    let r = number_of call in
+    let at = moment_of call in
+    let s = status_left call events in
+    let is : spoken (deeds_in call o events q) ≡ spoken (deeds_by r at s events) = spoken-both (said_by call o (held_in q)) (deeds_by r at s events) ∙ ap (λ es. es ++ spoken (deeds_by r at s events)) (said-spoken call o (held_in q)) in
+    let m = subst (λ es. Steps t es u) is (steps r (deeds_in call o events q) mine last t u k) reached in
+    record {
+      reached = m.reached;
+      given = all-given r at s events (waiting_of t) m.given;
+      waiting = m.waiting ∙ all-spoken r at s events (waiting_of t);
+    }
 
 -- ---- histories
 
@@ -345,12 +383,12 @@ after-in [] es = refl
 after-in (e ∷ events) es = after-in events (e ∷ es) ∙ ap waiting_in (sym (turned e events es))
 
 -- a table that moved by the events of a call is what the longer history says
-pub locked-after : (es events : List Event) (t u : Locks) → IsLocked es t → MovesLocks t events u → IsLocked (reverse events ++ es) u
+pub locked-after : (es events : List Event) (t u : Locks) → IsLocked es t → Steps t events u → IsLocked (reverse events ++ es) u
 locked-after es events t u k moves =
     let m = moves k.reached in
     record { reached = m.reached; waiting = m.waiting ∙ ap (waiting_after events) k.waiting ∙ after-in events es }
 
-pub given-after : (es events : List Event) (t u : Locks) → IsLocked es t → MovesLocks t events u → AreGiven (waiting_in es) events
+pub given-after : (es events : List Event) (t u : Locks) → IsLocked es t → Steps t events u → AreGiven (waiting_in es) events
 given-after es events t u k moves = subst (λ w. AreGiven w events) k.waiting (moves k.reached).given
 
 -- ---- what is promised of locks
@@ -364,7 +402,7 @@ given-at [] rest w k n b a = a.0
 given-at (e ∷ earlier) rest w k n b a = given-at earlier rest (then_waiting e w) k n b a.1
 
 pub gives_the_permit_exactly : GivesThePermitExactly
-gives_the_permit_exactly limits start before entry earlier rest k n b l is =
+gives_the_permit_exactly age limits start before entry earlier rest k n b l is =
     let es = events_of before in
     exactly (waiting_in (reverse earlier ++ es)) k n b (subst (λ w. Gets w k n b) (after-in earlier es) (given-at earlier rest (waiting_in es) k n b (subst (AreGiven (waiting_in es)) is l.0.given)))
 
@@ -389,17 +427,18 @@ single-then (E.Ask k n true) w g one q l m a b = one-more w k n g.0 one q l m (n
 single-then (E.Ask k n false) w g one q l m a b = one q l m a b
 single-then (E.Release n) w g one q l m a b = one q l m (still (n == l) (w.under l) q a) (still (n == m) (w.under m) q b)
 single-then (E.LetGo n) w g one q l m a b = one q l m (still (n == l) (w.under l) q a) (still (n == m) (w.under m) q b)
+single-then (E.Aged n) w g one q l m a b = one q l m (still (n == l) (w.under l) q a) (still (n == m) (w.under m) q b)
 single-then e w g one q l m a b = one q l m a b
 
 single-after : (events : List Event) (w : Waiting) → AreGiven w events → IsSingle w → IsSingle (waiting_after events w)
 single-after [] w g one = one
 single-after (e ∷ events) w g one = single-after events (then_waiting e w) g.1 (single-then e w g.0 one)
 
-single-in : (limits : Limits) (start : Tracked) (h : List Entry) → IsLegal limits start h → IsSingle (waiting_in (events_of h))
-single-in limits start [] l = λ k m n a b. let no : ◌≡◌ {A = Option ℕ} None (Some k) = a in absurd (cc)
-single-in limits start (e ∷ h) l =
+single-in : (age : ℕ) (limits : Limits) (start : Tracked) (h : List Entry) → IsLegal age limits start h → IsSingle (waiting_in (events_of h))
+single-in age limits start [] l = λ k m n a b. let no : ◌≡◌ {A = Option ℕ} None (Some k) = a in absurd (cc)
+single-in age limits start (e ∷ h) l =
     let es = events_of h in
-    subst IsSingle (after-in e.events es) (single-after e.events (waiting_in es) l.0.given (single-in limits start h l.1))
+    subst IsSingle (after-in e.events es) (single-after e.events (waiting_in es) l.0.given (single-in age limits start h l.1))
 
 pub one_permit_waits : OnePermitWaits
-one_permit_waits limits start before k l m legal = single-in limits start before legal k l m
+one_permit_waits age limits start before k l m legal = single-in age limits start before legal k l m

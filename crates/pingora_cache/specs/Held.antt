@@ -6,6 +6,7 @@ use Rattle.pcache_meta.specs.Header.{shown}
 use Rattle.pcache_meta.specs.Meta.{Meta}
 use Rattle.pcache_base.specs.declared.poll.Poll.{Poll}
 use Rattle.pcache_base.specs.declared.poll.Poll.TheVariants.{Ready, Pending}
+use Rattle.pcache_lock.specs.declared.lock.outcome.LockWaitOutcome.{LockWaitOutcome}
 use Rattle.pcache_lock.specs.declared.lock.permit.Locked.{Locked}
 use Rattle.pcache_lock.specs.declared.lock.permit.Locked.TheVariants.{Write, Read}
 use Rattle.pcache_store.specs.Store.{Reader, Whole, Part, sought}
@@ -30,12 +31,17 @@ use Rattle.pingora_cache.specs.declared.world.entry.Answer.TheVariants as A
 use Rattle.pingora_cache.specs.declared.world.entry.Entry.{Entry}
 use Rattle.pingora_cache.specs.declared.world.entry.Event.{Event}
 use Rattle.pingora_cache.specs.declared.world.entry.Event.TheVariants as E
+use Rattle.pingora_cache.specs.Untold.{untold_request, waited_with}
 
 pub record Held : Type 0 where
   pub request : Request
   pub pair : Option (Meta × Reader)
   -- the decision that a look-up carried last, which the policy in use answers
   pub carried : Option Decision
+
+-- but for what its read lock was told
+abbrev pub untold : Held → Held
+untold x = record { request = untold_request x.request; pair = x.pair; carried = x.carried }
 
 -- the request that a call names
 abbrev pub number_of : Call → ℕ
@@ -58,6 +64,7 @@ number_of (C.Done r) = r
 number_of (C.Purge r) = r
 number_of (C.Expire r t) = r
 number_of (C.Lock r is_used) = r
+number_of (C.Wait r t) = r
 number_of (C.Publish r tokens) = r
 number_of (C.Release r why) = r
 number_of (C.Updating r) = r
@@ -72,6 +79,7 @@ pub data Outcome : Type 0 where
   was_wrong : Outcome
   was_done : Outcome
   was_taken : Outcome
+  was_waited : (answer : Poll LockWaitOutcome) → Outcome
   was_other : Outcome
 
 abbrev pub outcome : Reply → Outcome
@@ -80,6 +88,8 @@ outcome R.Done = was_done
 outcome R.Same = was_done
 outcome R.Other = was_done
 outcome (R.Taken p l) = was_taken
+outcome R.Waiting = was_waited Pending
+outcome (R.Waited o) = was_waited (Ready o)
 outcome _ = was_other
 
 abbrev pub is_wrong : Outcome → Bool
@@ -192,6 +202,11 @@ with_sought start end x = record x { reader = sought_in start end x.reader }
 abbrev pub on_request : (Request → Request) → Held → Held
 on_request f x = record { request = f x.request; pair = x.pair; carried = x.carried }
 
+-- a wait that was answered
+abbrev pub waited_by : Outcome → ℕ → Request → Request
+waited_by (was_waited answer) now x = waited_with answer now x
+waited_by _ now x = x
+
 -- What a call makes of the request that it names, by the row of the phase table.
 pub data Change : Type 0 where
   -- a request comes to be
@@ -218,6 +233,8 @@ pub data Change : Type 0 where
   reads_no_more : Change
   -- its stale meta is renewed, also where the store refuses it
   renews : (m : Meta) → Change
+  -- it waits on the read lock that it holds
+  waits : (now : ℕ) → Change
 
 abbrev pub change_of : Call → Change
 change_of (C.Open r) = opens
@@ -239,6 +256,7 @@ change_of (C.Done r) = reads_no_more
 change_of (C.Purge r) = stays
 change_of (C.Expire r t) = stays
 change_of (C.Lock r is_used) = turns (with_cache_lock is_used None) false
+change_of (C.Wait r t) = waits t
 change_of (C.Publish r tokens) = stays
 change_of (C.Release r why) = turns unheld false
 change_of (C.Updating r) = turns updating false
@@ -271,6 +289,7 @@ changed reads_on o events q = option_map (on_request (has_read events)) q
 changed (seeks start end) o events q = cond (is_done o) (option_map (on_request (with_sought start end)) q) q
 changed reads_no_more o events q = cond (is_wrong o) q (option_map (on_request without_reader) q)
 changed (renews m) o events q = cond (is_wrong o) q (option_map (on_request (renewed m)) q)
+changed (waits now) o events q = option_map (on_request (waited_by o now)) q
 
 abbrev pub row_by : Call → Outcome → List Event → Option Held → Option Held
 row_by call o events q = changed (change_of call) o events q

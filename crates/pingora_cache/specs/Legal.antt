@@ -1,10 +1,11 @@
 -- Which entries a history may have: each by what stands before it (own). Histories stand newest first.
-use Rattle.std.specs.Prelude.{Option, None, List, [], ◌∷◌}
+use Rattle.std.specs.Prelude.{ℕ, Option, None, List, [], ◌∷◌}
 use Rattle.pcache_evict.specs.Tracked.{Tracked, Limits}
 use Rattle.pingora_cache.specs.declared.world.call.Call.{Call}
 use Rattle.pingora_cache.specs.declared.world.call.Reply.{Reply}
 use Rattle.pingora_cache.specs.declared.world.entry.Entry.{Entry}
 use Rattle.pingora_cache.specs.declared.world.entry.Event.{Event}
+use Rattle.pingora_cache.specs.Deeds.{Deed, deeds_of}
 use Rattle.pingora_cache.specs.Due.{makes_of, AreDue, KeepsKey}
 use Rattle.pingora_cache.specs.Facts.{Facts, Says, request_in}
 use Rattle.pingora_cache.specs.Held.{Held, number_of, row, request_of}
@@ -12,11 +13,12 @@ use Rattle.pingora_cache.specs.History.{events_of}
 use Rattle.pingora_cache.specs.Rules.{Answers, IsCopy}
 use Rattle.pingora_cache.specs.Waiting.{waiting_in, AreGiven}
 
--- what a call answers and does after a history that leaves its request as q, for a manager with these limits that held these
--- entries at the start: its clause by what the history says, told as it may be copied, events as they are due, and the locks that are given then
-pub record Gives (limits : Limits) (start : Tracked) (es : List Event) (q : Option Held) (call : Call) (reply : Reply) (events : List Event) : Type 0 where
+-- what a call answers and does after a history that leaves its request as q, where permits are too old after this time, for a
+-- manager with these limits that held these entries at the start: its clause by what the history says, told as it may be
+-- copied, events as they are due, and the locks that are given then
+pub record Gives (age : ℕ) (limits : Limits) (start : Tracked) (es : List Event) (ds : List Deed) (q : Option Held) (call : Call) (reply : Reply) (events : List Event) : Type 0 where
   pub facts : Facts
-  pub says : Says es (request_in q) facts
+  pub says : Says age es ds (number_of call) (request_in q) facts
   pub told : Reply
   pub answers : Answers facts call q told events
   pub copy : IsCopy told reply
@@ -25,6 +27,6 @@ pub record Gives (limits : Limits) (start : Tracked) (es : List Event) (q : Opti
   pub given : AreGiven (waiting_in es) events
 
 -- a legal history: each entry is one that what stands before it gives
-abbrev pub IsLegal : Limits → Tracked → List Entry → Type 0
-IsLegal limits start [] = Unit {0}
-IsLegal limits start (e ∷ h) = Gives limits start (events_of h) (request_of (number_of e.call) h) e.call e.reply e.events × IsLegal limits start h
+abbrev pub IsLegal : ℕ → Limits → Tracked → List Entry → Type 0
+IsLegal age limits start [] = Unit {0}
+IsLegal age limits start (e ∷ h) = Gives age limits start (events_of h) (deeds_of h) (request_of (number_of e.call) h) e.call e.reply e.events × IsLegal age limits start h

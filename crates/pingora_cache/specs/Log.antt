@@ -19,6 +19,8 @@ pub record Log : Type 0 where
   pub limits : Limits
   -- the manager's totals of all that it evicted
   pub evicted : Evicted
+  -- after how many nanoseconds a permit is too old
+  pub age : ℕ
 
 -- the events, newest first
 abbrev pub events_in : Log → List Event
@@ -26,7 +28,7 @@ events_in log = events_of (reverse log.history)
 
 -- the history is legal, for a manager that held these entries at the start and has these limits
 abbrev pub HasLegal : Log → Type 0
-HasLegal log = IsLegal log.limits log.start (reverse log.history)
+HasLegal log = IsLegal log.age log.limits log.start (reverse log.history)
 
 -- what was noted of the manager before the first call; before that, what it holds now
 abbrev pub started : Option (List (CacheEntryKey × ℕ)) → Tracked → Tracked
@@ -39,6 +41,7 @@ pub record Adds (old : Log) (call : Call) (reply : Reply) (new : Log) : Type 0 w
   pub history : new.history ≡ old.history ++ record { call = call; reply = reply; events = events } ∷ []
   pub start : new.start ≡ old.start
   pub limits : new.limits ≡ old.limits
+  pub age : new.age ≡ old.age
 
 -- one entry more for each call, in order, with its reply
 abbrev pub AddsAll : Log → List Call → List Reply → Log → Type 0

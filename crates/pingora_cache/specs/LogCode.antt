@@ -10,8 +10,8 @@ use Rattle.pingora_cache.specs.declared.world.entry.Entry.{Entry}
 
 abbrev pub log_code : Coded Log
 log_code =
-    code_by (List Entry × (Tracked × ((ℕ × Option ℕ) × (ℕ × ℕ))))
-    (coded× (coded_list entry_row.the_row.coded) (coded× (code key_row.the_row.coded coded_ℕ) (coded× (coded× coded_ℕ (coded_option coded_ℕ)) (coded× coded_ℕ coded_ℕ))))
-    (λ l. (l.history, (l.start, ((l.limits.weight, l.limits.watermark), (l.evicted.weight, l.evicted.count)))))
-    (λ p. record { history = p.0; start = p.1.0; limits = record { weight = p.1.1.0.0; watermark = p.1.1.0.1 }; evicted = record { weight = p.1.1.1.0; count = p.1.1.1.1 } })
+    code_by (List Entry × (Tracked × ((ℕ × Option ℕ) × ((ℕ × ℕ) × ℕ))))
+    (coded× (coded_list entry_row.the_row.coded) (coded× (code key_row.the_row.coded coded_ℕ) (coded× (coded× coded_ℕ (coded_option coded_ℕ)) (coded× (coded× coded_ℕ coded_ℕ) coded_ℕ))))
+    (λ l. (l.history, (l.start, ((l.limits.weight, l.limits.watermark), ((l.evicted.weight, l.evicted.count), l.age)))))
+    (λ p. record { history = p.0; start = p.1.0; limits = record { weight = p.1.1.0.0; watermark = p.1.1.0.1 }; evicted = record { weight = p.1.1.1.0.0; count = p.1.1.1.0.1 }; age = p.1.1.1.1 })
     (λ _. refl)

@@ -14,8 +14,10 @@ use Rattle.pingora_cache.specs.declared.world.entry.Event.{Event}
 use Rattle.pingora_cache.specs.declared.world.entry.Event.TheVariants.{Admit}
 use Rattle.pingora_cache.specs.Events as ev
 use Rattle.pingora_cache.specs.Events.{begun, begin_of, is_removed, has_ended, was_stored, in_flight, is_told, is_of, last_finished, complete, is_open, tracked, stored, slots, names_slot, size_of}
-use Rattle.pingora_cache.specs.Held.{Held, request_of}
+use Rattle.pingora_cache.specs.Held.{Held, request_of, untold}
+use Rattle.pingora_cache.specs.Deeds.{Deed, deeds_of}
 use Rattle.pingora_cache.specs.History.{events_of}
+use Rattle.pingora_cache.specs.LockTable.{Holds, IsTable, read_locks}
 use Rattle.pingora_cache.specs.Waiting.{IsLocked}
 use Rattle.pingora_cache.specs.Legal.{IsLegal}
 
@@ -87,16 +89,20 @@ pub record IsBounded (limits : Limits) (es : List Event) : Type 0 where
   pub bytes : stored es ≤ limits.weight
   pub count : IfSome limits.watermark (λ most. slots es ≤ most)
 
--- each open request is what the entries that name it leave
+-- each open request is what the entries that name it leave, but for what its read lock was told
 abbrev pub AreOpen : List Entry → map.FinMap nat_cmp Held → Type 0
-AreOpen h all = (r : ℕ) → map.get all r ≡ request_of r h
+AreOpen h all = (r : ℕ) → option_map untold (map.get all r) ≡ request_of r h
+
+-- each open request holds what the deeds say
+abbrev pub AllHold : List Deed → Locks → map.FinMap nat_cmp Held → Type 0
+AllHold ds t all = (r : ℕ) (x : Held) → map.get all r ≡ Some x → Holds r ds t x.request.held
 
 -- one request holds each write that is in flight
 abbrev pub AreHeld : List Event → map.FinMap nat_cmp Held → Type 0
 AreHeld es all = (w : ℕ) → writers all w ≡ (if in_flight w es then 1 else 0)
 
 pub record IsSound (limits : Limits) (start : Tracked) (now : Tracked) (s : Store) (t : Locks) (all : map.FinMap nat_cmp Held) (h : List Entry) : Type 0 where
-  pub legal : IsLegal limits start h
+  pub legal : IsLegal t.age_timeout limits start h
   pub tidy : IsTidy (events_of h)
   pub state : IsState (events_of h) (readers all) s
   pub tracks : now ≡ tracked start (events_of h)
@@ -105,3 +111,5 @@ pub record IsSound (limits : Limits) (start : Tracked) (now : Tracked) (s : Stor
   pub requests : AreOpen h all
   pub writes : AreHeld (events_of h) all
   pub locks : IsLocked (events_of h) t
+  pub table : IsTable (deeds_of h) (read_locks all) t
+  pub holds : AllHold (deeds_of h) t all

@@ -2,6 +2,7 @@
 use Rattle.std.specs.Prelude.{◌≡◌, ℕ, ◌++◌, Bool, true, false, cond, Option, Some, None, List, [], ◌∷◌, Result, Ok, Err}
 use Rattle.std.specs.Ordering.{nat_cmp}
 use Rattle.std.specs.Map.{lookup}
+use Rattle.std.specs.Option.{option_map}
 use Rattle.std.specs.BTreeMap.{is_at}
 use Rattle.pcache_meta.specs.Meta.{Meta}
 use Rattle.pcache_base.specs.Key.{Key, slot}
@@ -28,11 +29,12 @@ use Rattle.pingora_cache.specs.declared.world.entry.Event.{Event}
 use Rattle.pingora_cache.specs.declared.world.entry.Event.TheVariants as E
 use Rattle.pingora_cache.specs.Due.{IsOfWorld, KeepsKey}
 use Rattle.pingora_cache.specs.Facts.{Facts, facts_in, request_in}
-use Rattle.pingora_cache.specs.Held.{Held, decides, number_of, row, pair_of}
+use Rattle.pingora_cache.specs.Deeds.{deeds_in, held_in}
+use Rattle.pingora_cache.specs.Held.{Held, decides, number_of, outcome, row, pair_of, untold}
+use Rattle.pingora_cache.specs.LockMoves.{MovesLocks}
 use Rattle.pingora_cache.specs.Moved.{Moves}
 use Rattle.pingora_cache.specs.Rules.{Answers, Misses, drop_of, each, kind_of, release_of, renew_of, update_reply}
 use Rattle.pingora_cache.specs.Sound.{pair_reader}
-use Rattle.pingora_cache.specs.Waiting.{MovesLocks}
 
 -- a pair that a look-up may answer
 abbrev pub IsAnswered : Meta → Reader → Type 0
@@ -76,21 +78,30 @@ refused_end w _ = E.Dropped w
 abbrev pub store_ended : Held → Store → Store
 store_ended x s = left_by x.request.reader (dropped_by x.request.write (left_by (pair_reader x.pair) s))
 
+-- a request before and after a call is as the row of the call has it, but for what its read lock was told
+abbrev pub IsRow : Call → Reply → List Event → Option Held → Option Held → Type 0
+IsRow call reply events q q' = option_map untold q' ≡ option_map untold (row call reply events q)
+
 -- one call over the parts: what it answers and does is what the parts give, and they move by its events
-pub record Turn (limits : Limits) (call : Call) (q : Option Held) (s : Store) (m : Tracked) (t : Locks) (reply : Reply) (events : List Event) (s' : Store) (m' : Tracked) (t' : Locks) : Type 0 where
+pub record Turn (limits : Limits) (call : Call) (q : Option Held) (s : Store) (m : Tracked) (t : Locks) (reply : Reply) (events : List Event) (q' : Option Held) (s' : Store) (m' : Tracked) (t' : Locks) : Type 0 where
   pub answers : Answers (facts_in s t (request_in q)) call q reply events
-  pub moves : Moves limits q s m events (row call reply events q) s' m'
-  pub keeps : KeepsKey q (row call reply events q)
-  pub locks : MovesLocks t events t'
+  pub moves : Moves limits q s m events q' s' m'
+  pub keeps : KeepsKey q q'
+  pub now : IsRow call reply events q q'
+  pub locks : MovesLocks (number_of call) (deeds_in call (outcome reply) events q) (held_in q) t (held_in q') t'
 
 -- a request of a world, or none
 abbrev pub IsOfWorldIn : Option Held → Type 0
 IsOfWorldIn None = Unit {0}
 IsOfWorldIn (Some x) = IsOfWorld x.request
 
--- only the request that the call names moves, by its row
-abbrev pub IsMoved : Call → Reply → List Event → List (ℕ × Held) → List (ℕ × Held) → Type 0
-IsMoved call reply events all all' = (q : ℕ) → lookup (is_at (nat_cmp q)) all' ≡ cond (is_at (nat_cmp (number_of call)) q) (row call reply events (lookup (is_at (nat_cmp (number_of call))) all)) (lookup (is_at (nat_cmp q)) all)
+-- only the request that the call names moves
+abbrev pub IsMoved : Call → List (ℕ × Held) → List (ℕ × Held) → Type 0
+IsMoved call all all' = (q : ℕ) → lookup (is_at (nat_cmp q)) all' ≡ cond (is_at (nat_cmp (number_of call)) q) (lookup (is_at (nat_cmp (number_of call))) all') (lookup (is_at (nat_cmp q)) all)
+
+-- the same by its row
+abbrev pub IsRowed : Call → Reply → List Event → List (ℕ × Held) → List (ℕ × Held) → Type 0
+IsRowed call reply events all all' = (q : ℕ) → lookup (is_at (nat_cmp q)) all' ≡ cond (is_at (nat_cmp (number_of call)) q) (row call reply events (lookup (is_at (nat_cmp (number_of call))) all)) (lookup (is_at (nat_cmp q)) all)
 
 -- a look-up of the request's key that hands nothing on, and one that turns caching off
 abbrev pub MissesKey : Facts → Answer → Request → Reply → List Event → Type 0
@@ -122,3 +133,10 @@ abbrev pub IsOfOpen : Call → Type 0
 IsOfOpen (C.Open r) = ⊥
 IsOfOpen (C.End r) = ⊥
 IsOfOpen _ = Unit {0}
+
+-- and is no wait
+abbrev pub IsTurned : Call → Type 0
+IsTurned (C.Open r) = ⊥
+IsTurned (C.End r) = ⊥
+IsTurned (C.Wait r t) = ⊥
+IsTurned _ = Unit {0}

@@ -1,11 +1,11 @@
--- Which permits wait, and what a request for a lock is given (own). A permit waits from its asking until it is released or
--- let go.
+-- Which permits wait, and what a request for a lock is given (own). A permit waits from its asking until it is released, let
+-- go, or found too old.
 use Rattle.std.specs.Prelude.{◌≡◌, ◌≢◌, ℕ, ◌+◌, ◌==◌, Bool, true, false, if◌then◌else◌, Option, None, Some, List, [], ◌∷◌}
 use Rattle.pcache_lock.specs.Locks.{Locks, no_locks}
 use Rattle.pcache_lock.specs.Waits as table
 use Rattle.pcache_lock.specs.Waits.{LeadsAll, NoneUnlocks}
 use Rattle.pingora_cache.specs.declared.world.entry.Event.{Event}
-use Rattle.pingora_cache.specs.declared.world.entry.Event.TheVariants.{Look, Ask, Access, Begin, Wrote, Finish, Dropped, Release, LetGo, Admit, Purge, Untrack, Read}
+use Rattle.pingora_cache.specs.declared.world.entry.Event.TheVariants.{Look, Ask, Access, Begin, Wrote, Finish, Dropped, Release, LetGo, Aged, Admit, Purge, Untrack, Read}
 
 -- the key under which each permit waits, if it does; and how many permits were asked for
 pub record Waiting : Type 0 where
@@ -21,6 +21,7 @@ abbrev pub waits_at : ℕ → Event → Option ℕ → Option ℕ
 waits_at l (Ask k n true) before = if n == l then Some k else before
 waits_at l (Release n) before = if n == l then None else before
 waits_at l (LetGo n) before = if n == l then None else before
+waits_at l (Aged n) before = if n == l then None else before
 waits_at l _ before = before
 
 abbrev pub count_asked : Event → ℕ → ℕ
@@ -63,6 +64,7 @@ abbrev pub IsOfNoLock : Event → Type 0
 IsOfNoLock (Ask k n is_permit) = ⊥
 IsOfNoLock (Release n) = ⊥
 IsOfNoLock (LetGo n) = ⊥
+IsOfNoLock (Aged n) = ⊥
 IsOfNoLock _ = Unit {0}
 
 abbrev pub AreOfNoLock : List Event → Type 0
@@ -91,6 +93,3 @@ pub record LocksMoved (t : Locks) (events : List Event) (t' : Locks) : Type 0 wh
   pub reached : IsReached t'
   pub given : AreGiven (waiting_of t) events
   pub waiting : waiting_of t' ≡ waiting_after events (waiting_of t)
-
-abbrev pub MovesLocks : Locks → List Event → Locks → Type 0
-MovesLocks t events t' = IsReached t → LocksMoved t events t'

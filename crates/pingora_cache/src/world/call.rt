@@ -10,6 +10,7 @@ use pcache_base::error::{ErrorType, Result};
 use pcache_base::key::{CacheKey, HashBinary};
 use pcache_base::moment::Moment;
 use pcache_base::reason::NoCacheReason;
+use pcache_lock::lock::LockWaitOutcome;
 use pcache_meta::header::ResponseHeader;
 use pcache_meta::meta::CacheMeta;
 use pcache_predict::admission::Decision;
@@ -109,6 +110,11 @@ pub enum Call {
         request: u64,
         is_used: bool,
     },
+    /// Waits on the read lock that is held, at a moment.
+    Wait {
+        request: u64,
+        now: Moment,
+    },
     /// Publishes what was found out about the fill, where the permit is held.
     Publish {
         request: u64,
@@ -197,6 +203,7 @@ impl Call {
                 request,
                 is_used: _,
             } => request,
+            Call::Wait { request, now: _ } => request,
             Call::Publish { request, tokens: _ } => request,
             Call::Release { request, reason: _ } => request,
             Call::Updating { request } => request,
@@ -266,6 +273,10 @@ pub enum Reply {
     Updated,
     /// No complete body stood under the key.
     NotUpdated,
+    /// The wait goes on.
+    Waiting,
+    /// The wait ended so, and the read lock is let go.
+    Waited(LockWaitOutcome),
     /// The phase of the request.
     Phase(CachePhase),
 }
@@ -301,6 +312,8 @@ impl Reply {
             Reply::Other => Reply::Other,
             Reply::Updated => Reply::Updated,
             Reply::NotUpdated => Reply::NotUpdated,
+            Reply::Waiting => Reply::Waiting,
+            Reply::Waited(outcome) => Reply::Waited(*outcome),
             Reply::Phase(phase) => Reply::Phase(*phase),
         })
     }

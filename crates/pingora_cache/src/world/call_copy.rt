@@ -81,6 +81,10 @@ impl Call {
                 request: *request,
                 is_used: *is_used,
             },
+            Call::Wait { request, now } => Call::Wait {
+                request: *request,
+                now: *now,
+            },
             Call::Publish { request, tokens } => Call::Publish {
                 request: *request,
                 tokens: tokens.copied()?,

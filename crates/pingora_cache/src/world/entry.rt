@@ -69,6 +69,10 @@ pub enum Event {
     LetGo {
         lock: u64,
     },
+    /// A permit was found too old.
+    Aged {
+        lock: u64,
+    },
     /// An entry was admitted with this weight, and others were evicted.
     Admit {
         entry: CacheEntryKey,

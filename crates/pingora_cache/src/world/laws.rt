@@ -1,5 +1,5 @@
 //! What is promised of every legal history, whatever calls it has.
-ghost use Rattle.pingora_cache.specs.Headline.{EvictsFairly, FindsExactly, FinishesExactly, GivesThePermitExactly, HandsOnExactly, IsWithinLimits, IsWrongExactly, LooksAreTrue, OnePermitWaits, ReadsABeginning, ReadsAreTrue, ReadsTheLast, ReadsTheWhole, ReadsWhatWasFound, TellsExactly, TracksExactly};
+ghost use Rattle.pingora_cache.specs.Headline.{EvictsFairly, FindsExactly, FinishesExactly, GivesThePermitExactly, HandsOnExactly, IsWithinLimits, IsWrongExactly, LooksAreTrue, OnePermitWaits, ReadsABeginning, ReadsAreTrue, ReadsTheLast, ReadsTheWhole, ReadsWhatWasFound, TellsExactly, TracksExactly, WaitsAreTrue};
 
 /// A call is answered as a wrong one exactly where its condition fails.
 pub fn is_wrong_exactly()
@@ -63,6 +63,12 @@ pub fn gives_the_permit_exactly()
 /// Of the permits that were asked for under one key at most one waits.
 pub fn one_permit_waits()
     ensures { OnePermitWaits }
+{}
+
+/// A wait on a read lock is answered by how its permit ended, else by its age, else by what was
+/// published, else by the time waited; else it goes on.
+pub fn waits_are_true()
+    ensures { WaitsAreTrue }
 {}
 
 /// The reply to a look-up tells that something was found exactly where a write of the key, in

@@ -1,24 +1,36 @@
 //! Calls about the lock that a request holds.
-ghost use Rattle.std.specs.Prelude.{◌≡◌, ◌+◌, ◌≤◌, ◌++◌, [], Some, vec_len};
+ghost use Rattle.std.specs.Prelude.{◌≡◌, ◌+◌, ◌≤◌, ◌++◌, ◌∷◌, if◌then◌else◌, [], IsSome, None, Option, Some, vec_len, ℕ};
 ghost use Rattle.std.specs.Vec.{vec_capacity};
-ghost use Rattle.pingora_cache.specs.Due.{KeepsKey};
-ghost use Rattle.pingora_cache.specs.Facts.{no_facts};
-ghost use Rattle.pingora_cache.specs.Held.{row};
+ghost use Rattle.pingora_cache.specs.Due.{KeepsIn, KeepsKey};
+ghost use Rattle.pingora_cache.specs.Facts.{facts_in, no_facts};
+ghost use Rattle.pcache_lock.specs.declared.lock.status.LockStatus.TheVariants.{GiveUp};
+ghost use Rattle.pcache_meta.specs.Meta.{Meta};
+ghost use Rattle.pcache_predict.specs.declared.admission.Decision.{Decision};
+ghost use Rattle.pcache_request.specs.LockUse.{read_in};
+ghost use Rattle.pcache_request.specs.Releasing.{status_for};
+ghost use Rattle.pingora_cache.specs.Deeds.{deeds_by, deeds_in};
+ghost use Rattle.pingora_cache.specs.Held.{outcome, row, waited_by};
+ghost use Rattle.pingora_cache.specs.LockMoves.{MovesLocks};
 ghost use Rattle.pingora_cache.specs.Moved.{MovesRequest, MovesStore};
-ghost use Rattle.pingora_cache.specs.Rules.{Answers, each};
-ghost use Rattle.pingora_cache.specs.declared.world.entry.Event.TheVariants.{Release};
-ghost use Rattle.pingora_cache.specs.Waiting.{MovesLocks};
+ghost use Rattle.pingora_cache.specs.Rules.{Answers, IsOther, Waits, each, wait_reply};
+ghost use Rattle.pingora_cache.specs.Step.{IsRow};
+ghost use Rattle.pingora_cache.specs.Untold.{untold_request};
+ghost use Rattle.pingora_cache.specs.declared.world.entry.Event.TheVariants.{Aged, Release};
 ghost use Rattle.pingora_cache.specs.declared.world.call.Call.TheVariants as calls;
-ghost use Rattle.pcache_store.specs.Store.{Store};
+ghost use Rattle.pcache_store.specs.Store.{Reader, Store};
 
 use crate::world::call::Reply;
 use crate::world::entry::Event;
 use crate::world::notes::note_release;
 use crate::world::request::{OpenRequest, permit_in, permit_released};
 use crate::world::tokens::Tokens;
+use pcache_base::moment::Moment;
+use pcache_base::poll::Poll;
 use pcache_base::reason::NoCacheReason;
-use pcache_lock::lock::CacheLock;
+use pcache_lock::lock::{CacheLock, LockWaitOutcome, Locked};
 use pcache_meta::header::ResponseHeader;
+use pcache_request::cache::HttpCache;
+use pcache_store::memory::MemCache;
 
 /// Takes the lock into use, or out of it.
 pub(crate) fn set_lock(request: &mut OpenRequest, is_used: bool) -> Reply
@@ -26,6 +38,7 @@ pub(crate) fn set_lock(request: &mut OpenRequest, is_used: bool) -> Reply
     ensures moves { MovesRequest (Some request.old) (Some request.new) }
     ensures keeps { KeepsKey (Some request.old) (Some request.new) }
     ensures row { Some request.new ≡ row (calls.Lock 0 is_used) result [] (Some request.old) }
+    ensures held { request.new.request.held ≡ request.old.request.held }
 {
     if !request.cache.may_set_cache_lock() {
         return Reply::WrongCall;
@@ -34,11 +47,79 @@ pub(crate) fn set_lock(request: &mut OpenRequest, is_used: bool) -> Reply
     Reply::Done
 }
 
+/// Waits on the read lock that is held.
+#[tactic(auto, using(crate::proofs::LockSteps::none_noted))]
+pub(crate) fn wait(
+    request: &mut OpenRequest,
+    lock: &mut CacheLock,
+    events: &mut Vec<Event>,
+    now: Moment,
+) -> Reply
+    requires none { events.old.items ≡ [] }
+    requires room { 3 ≤ vec_capacity events.old }
+    ensures answers { (s : Store) → Answers (facts_in s lock.old request.old.request) (calls.Wait 0 now) (Some request.old) result events.new.items }
+    ensures moves { (s : Store) → MovesStore (Some request.old) s events.new.items (Some request.new) s }
+    ensures keeps { KeepsKey (Some request.old) (Some request.new) }
+    ensures row { IsRow (calls.Wait 0 now) result events.new.items (Some request.old) (Some request.new) }
+    ensures locks { (r : ℕ) → MovesLocks r (deeds_in (calls.Wait r now) (outcome result) events.new.items (Some request.old)) request.old.request.held lock.old request.new.request.held lock.new }
+{
+    let Some(Locked::Read(_)) = request.cache.held() else {
+        return Reply::WrongCall;
+    };
+    wait_on(&mut request.cache, lock, events, now)
+}
+
+// Waits on the read lock, and notes where its permit is too old.
+#[tactic(auto, using(crate::proofs::LockSteps::none_noted))]
+fn wait_on(
+    cache: &mut HttpCache<MemCache>,
+    lock: &mut CacheLock,
+    events: &mut Vec<Event>,
+    now: Moment,
+) -> Reply
+    requires may { IsSome (read_in cache.old.held) }
+    requires none { events.old.items ≡ [] }
+    requires room { 3 ≤ vec_capacity events.old }
+    ensures answers { (s : Store) → Waits (facts_in s lock.old cache.old) now cache.old result events.new.items }
+    ensures other { IsOther result }
+    ensures moves { (s : Store) (p : Option (Meta × Reader)) (d : Option Decision) → MovesStore (Some (record { request = cache.old; pair = p; carried = d })) s events.new.items (Some (record { request = cache.new; pair = p; carried = d })) s }
+    ensures keeps { KeepsIn cache.old cache.new }
+    ensures row { untold_request cache.new ≡ untold_request (waited_by (outcome result) now cache.old) }
+    ensures locks { (r : ℕ) → MovesLocks r (deeds_in (calls.Wait r now) (outcome result) events.new.items None) cache.old.held lock.old cache.new.held lock.new }
+{
+    let report = match cache.wait(lock, now) {
+        Ok(report) => report,
+        Err(refused) => return Reply::Refused(refused.etype()),
+    };
+    note_aged(report.is_too_old, report.lock.number, events);
+    reply_of(report.answer)
+}
+
+// Notes a permit that was found too old.
+fn note_aged(is_too_old: bool, lock: u64, events: &mut Vec<Event>)
+    requires { vec_len events.old + 1 ≤ vec_capacity events.old }
+    ensures { events.new.items ≡ events.old.items ++ (if is_too_old then Aged lock ∷ [] else []) }
+{
+    if is_too_old {
+        events.push_reserved(Event::Aged { lock });
+    }
+}
+
+// What a wait answers.
+fn reply_of(answer: Poll<LockWaitOutcome>) -> Reply
+    ensures { result ≡ wait_reply answer }
+{
+    match answer {
+        Poll::Pending => Reply::Waiting,
+        Poll::Ready(outcome) => Reply::Waited(outcome),
+    }
+}
+
 /// Publishes what was found out about the fill.
 pub(crate) fn publish(request: &OpenRequest, lock: &mut CacheLock, tokens: &Tokens) -> Reply
     ensures answers { Answers no_facts (calls.Publish 0 tokens.now) (Some request.now) result [] }
     ensures moves { MovesRequest (Some request.now) (Some request.now) }
-    ensures locks { MovesLocks lock.old [] lock.new }
+    ensures locks { (r : ℕ) → MovesLocks r (deeds_in (calls.Publish r tokens.now) (outcome result) [] (Some request.now)) request.now.request.held lock.old request.now.request.held lock.new }
 {
     match request
         .cache
@@ -50,6 +131,7 @@ pub(crate) fn publish(request: &OpenRequest, lock: &mut CacheLock, tokens: &Toke
 }
 
 /// Releases what is held.
+#[tactic(auto, using(crate::proofs::LockSteps::none_noted))]
 pub(crate) fn release(
     request: &mut OpenRequest,
     lock: &mut CacheLock,
@@ -62,7 +144,7 @@ pub(crate) fn release(
     ensures moves { (s : Store) → MovesStore (Some request.old) s events.new.items (Some request.new) s }
     ensures keeps { KeepsKey (Some request.old) (Some request.new) }
     ensures row { Some request.new ≡ row (calls.Release 0 reason) result events.new.items (Some request.old) }
-    ensures locks { MovesLocks lock.old events.new.items lock.new }
+    ensures locks { (r : ℕ) → MovesLocks r (deeds_by r 0 (status_for (λ text. GiveUp) reason) events.new.items) request.old.request.held lock.old request.new.request.held lock.new }
 {
     if !request.cache.may_release(reason) {
         return Reply::WrongCall;
@@ -73,6 +155,7 @@ pub(crate) fn release(
 }
 
 /// Serves the stale body with another header, and releases what is held.
+#[tactic(auto, using(crate::proofs::LockSteps::none_noted))]
 pub(crate) fn uncacheable(
     request: &mut OpenRequest,
     lock: &mut CacheLock,
@@ -86,7 +169,7 @@ pub(crate) fn uncacheable(
     ensures moves { (s : Store) → MovesStore (Some request.old) s events.new.items (Some request.new) s }
     ensures keeps { KeepsKey (Some request.old) (Some request.new) }
     ensures row { Some request.new ≡ row (calls.Uncacheable 0 header.now reason) result events.new.items (Some request.old) }
-    ensures locks { MovesLocks lock.old events.new.items lock.new }
+    ensures locks { (r : ℕ) → MovesLocks r (deeds_by r 0 (status_for (λ text. GiveUp) reason) events.new.items) request.old.request.held lock.old request.new.request.held lock.new }
 {
     if !request.cache.may_revalidate() || !request.cache.may_release(reason) {
         return Reply::WrongCall;

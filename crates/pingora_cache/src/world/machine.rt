@@ -56,12 +56,13 @@ impl<M: EvictionManager> Model for World<M> {
 
     ghost coded = { log_code };
 
-    ghost view = { λ w. record { history = w.history.items; start = started (option_map (λ v. v.items) w.start) (M.tracked w.parts.manager); limits = M.limits w.parts.manager; evicted = M.evicted w.parts.manager } };
+    ghost view = { λ w. record { history = w.history.items; start = started (option_map (λ v. v.items) w.start) (M.tracked w.parts.manager); limits = M.limits w.parts.manager; evicted = M.evicted w.parts.manager; age = w.parts.lock.age_timeout } };
 
     ghost invariant = { λ w. IsSound (M.limits w.parts.manager) (started (option_map (λ v. v.items) w.start) (M.tracked w.parts.manager)) (M.tracked w.parts.manager) w.parts.store w.parts.lock (map.from_entries w.requests.entries) (reverse w.history.items) × (w.start ≡ None → w.history.items ≡ []) };
 }
 
 impl<M: EvictionManager> World<M> {
+    ghost use Rattle.std.specs.Duration.{as_nanos};
     ghost use Rattle.std.specs.FinMap as map;
     ghost use Rattle.pingora_cache.specs.Events.{stored, slots, tracked};
     ghost use Rattle.pingora_cache.specs.Log.{Log, Adds, AddsAll, AddsSome, HasLegal, events_in};
@@ -72,7 +73,7 @@ impl<M: EvictionManager> World<M> {
     /// A world with no requests, nothing stored and an empty history. Permits age out after
     /// `age_timeout`.
     pub fn new(alloc: Global, manager: M, age_timeout: Duration) -> World<M>
-        ensures { result ≡ record { history = []; start = M.tracked manager; limits = M.limits manager; evicted = M.evicted manager } }
+        ensures { result ≡ record { history = []; start = M.tracked manager; limits = M.limits manager; evicted = M.evicted manager; age = as_nanos age_timeout } }
     {
         World {
             alloc,
@@ -164,6 +165,8 @@ impl<M: EvictionManager> World<M> {
         ensures err { OnErr result (self.new ≡ self.old) }
         ensures kind { IfErr result (λ e. e ≡ OutOfMemory) }
     {
+        // That the requests are fewer than their numbers bounds their read locks.
+        let _open = self.requests.len();
         let mut events = Vec::with_capacity(self.alloc, MOST_EVENTS)?;
         let mut spare = spare_of(&call)?;
         make_ready(&mut self.history, &mut self.start, &self.parts.manager)?;

@@ -33,6 +33,7 @@ pub(crate) fn read(
     ensures moves { MovesStore (Some request.old) store.old events.new.items (Some request.new) store.new }
     ensures keeps { KeepsKey (Some request.old) (Some request.new) }
     ensures row { request.new ≡ on_request (has_read events.new.items) request.old }
+    ensures held { request.new.request.held ≡ request.old.request.held }
     ensures same { store.new ≡ store.old }
     ensures quiet { AreOfNoLock events.new.items }
 {
@@ -69,6 +70,7 @@ pub(crate) fn seek(request: &mut OpenRequest, start: usize, end: Option<usize>) 
     ensures moves { MovesRequest (Some request.old) (Some request.new) }
     ensures keeps { KeepsKey (Some request.old) (Some request.new) }
     ensures row { Some request.new ≡ row (calls.Seek 0 start end) result [] (Some request.old) }
+    ensures held { request.new.request.held ≡ request.old.request.held }
 {
     if !request.cache.has_body_reader() {
         return Reply::WrongCall;
@@ -80,6 +82,7 @@ fn seek_in(cache: &mut HttpCache<MemCache>, start: usize, end: Option<usize>) ->
     requires { IsSome cache.old.reader }
     ensures reply { result ≡ seek_reply (sought_in start end cache.old.reader) }
     ensures request { cache.new ≡ cond (is_some (sought_in start end cache.old.reader)) (with_sought start end cache.old) cache.old }
+    ensures held { cache.new.held ≡ cache.old.held }
 {
     if let Err(refused) = cache.seek(start, end) {
         return Reply::Refused(refused.etype());
@@ -93,6 +96,7 @@ pub(crate) fn done(request: &mut OpenRequest, store: &mut MemCache) -> Reply
     ensures moves { MovesStore (Some request.old) store.old [] (Some request.new) store.new }
     ensures keeps { KeepsKey (Some request.old) (Some request.new) }
     ensures row { Some request.new ≡ row (calls.Done 0) result [] (Some request.old) }
+    ensures held { request.new.request.held ≡ request.old.request.held }
 {
     if !request.cache.phase().may_finish_hit() {
         return Reply::WrongCall;

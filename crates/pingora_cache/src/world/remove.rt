@@ -1,13 +1,15 @@
 //! Calls that remove or expire what stands under a request's key.
-ghost use Rattle.std.specs.Prelude.{◌≡◌, ◌+◌, ◌≤◌, ◌∷◌, ◌++◌, Some, [], vec_len};
+ghost use Rattle.std.specs.Prelude.{◌≡◌, ◌+◌, ◌≤◌, ◌∷◌, ◌++◌, Some, [], vec_len, ℕ};
 ghost use Rattle.std.specs.Vec.{vec_capacity};
 ghost use Rattle.pcache_request.specs.Requests.{is_removed_by};
+ghost use Rattle.pcache_lock.specs.declared.lock.status.LockStatus.TheVariants.{Done};
+ghost use Rattle.pingora_cache.specs.Deeds.{deeds_by};
 ghost use Rattle.pingora_cache.specs.Due.{IsOfWorld, KeepsKey};
 ghost use Rattle.pingora_cache.specs.Facts.{facts_in};
 ghost use Rattle.pingora_cache.specs.Moved.{Moves};
 ghost use Rattle.pingora_cache.specs.Rules.{Answers, expire_reply, purge_reply};
 ghost use Rattle.pingora_cache.specs.Step.{untracking};
-ghost use Rattle.pingora_cache.specs.Waiting.{MovesLocks};
+ghost use Rattle.pingora_cache.specs.LockMoves.{MovesLocks};
 ghost use Rattle.pingora_cache.specs.declared.world.call.Call.TheVariants as calls;
 ghost use Rattle.pingora_cache.specs.declared.world.entry.Event.TheVariants.{Purge};
 
@@ -21,6 +23,7 @@ use pcache_evict::eviction::EvictionManager;
 use pcache_request::cache::Removal;
 
 /// Removes what stands under the request's key.
+#[tactic(auto, using(crate::proofs::LockSteps::none_noted))]
 pub(crate) fn purge<M: EvictionManager>(
     request: &mut OpenRequest,
     parts: &mut Parts<M>,
@@ -32,7 +35,7 @@ pub(crate) fn purge<M: EvictionManager>(
     ensures moves { IsOfWorld request.old.request → Moves (M.limits parts.old.manager) (Some request.old) parts.old.store (M.tracked parts.old.manager) events.new.items (Some request.new) parts.new.store (M.tracked parts.new.manager) }
     ensures keeps { KeepsKey (Some request.old) (Some request.new) }
     ensures same { request.new ≡ request.old }
-    ensures locks { MovesLocks parts.old.lock events.new.items parts.new.lock }
+    ensures locks { (r : ℕ) → MovesLocks r (deeds_by r 0 Done events.new.items) request.old.request.held parts.old.lock request.new.request.held parts.new.lock }
     ensures limits { M.limits parts.new.manager ≡ M.limits parts.old.manager }
 {
     if !request.cache.phase().may_purge() {
@@ -70,6 +73,7 @@ fn note_removal(slot: u128, removal: Removal, events: &mut Vec<Event>) -> Reply
 }
 
 /// Ends the freshness of what stands under the request's key.
+#[tactic(auto, using(crate::proofs::LockSteps::none_noted))]
 pub(crate) fn expire<M: EvictionManager>(
     request: &mut OpenRequest,
     parts: &mut Parts<M>,
@@ -82,7 +86,7 @@ pub(crate) fn expire<M: EvictionManager>(
     ensures moves { Moves (M.limits parts.old.manager) (Some request.old) parts.old.store (M.tracked parts.old.manager) events.new.items (Some request.new) parts.new.store (M.tracked parts.new.manager) }
     ensures keeps { KeepsKey (Some request.old) (Some request.new) }
     ensures same { request.new ≡ request.old }
-    ensures locks { MovesLocks parts.old.lock events.new.items parts.new.lock }
+    ensures locks { (r : ℕ) → MovesLocks r (deeds_by r 0 Done events.new.items) request.old.request.held parts.old.lock request.new.request.held parts.new.lock }
     ensures limits { M.limits parts.new.manager ≡ M.limits parts.old.manager }
 {
     if !request.cache.phase().may_purge() {

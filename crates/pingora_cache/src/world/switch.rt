@@ -1,12 +1,15 @@
 //! Calls that turn caching on and off.
-ghost use Rattle.std.specs.Prelude.{◌≡◌, ◌≤◌, Some, []};
+ghost use Rattle.std.specs.Prelude.{◌≡◌, ◌≤◌, Some, [], ℕ};
 ghost use Rattle.std.specs.Vec.{vec_capacity};
 ghost use Rattle.pingora_cache.specs.Due.{KeepsKey};
 ghost use Rattle.pingora_cache.specs.Facts.{no_facts};
+ghost use Rattle.pcache_lock.specs.declared.lock.status.LockStatus.TheVariants.{GiveUp};
+ghost use Rattle.pcache_request.specs.Releasing.{status_for};
+ghost use Rattle.pingora_cache.specs.Deeds.{deeds_by};
 ghost use Rattle.pingora_cache.specs.Held.{row};
 ghost use Rattle.pingora_cache.specs.Moved.{MovesRequest, MovesStore};
 ghost use Rattle.pingora_cache.specs.Rules.{Answers};
-ghost use Rattle.pingora_cache.specs.Waiting.{MovesLocks};
+ghost use Rattle.pingora_cache.specs.LockMoves.{MovesLocks};
 ghost use Rattle.pingora_cache.specs.declared.world.call.Call.TheVariants as calls;
 
 use crate::world::call::Reply;
@@ -23,6 +26,7 @@ pub(crate) fn enable(request: &mut OpenRequest) -> Reply
     ensures moves { MovesRequest (Some request.old) (Some request.new) }
     ensures keeps { KeepsKey (Some request.old) (Some request.new) }
     ensures row { Some request.new ≡ row (calls.Enable 0) result [] (Some request.old) }
+    ensures held { request.new.request.held ≡ request.old.request.held }
 {
     if !request.cache.phase().is_disabled() {
         return Reply::WrongCall;
@@ -32,6 +36,7 @@ pub(crate) fn enable(request: &mut OpenRequest) -> Reply
 }
 
 /// Turns caching off, and gives back what is held.
+#[tactic(auto, using(crate::proofs::LockSteps::none_noted))]
 pub(crate) fn disable(
     request: &mut OpenRequest,
     store: &mut MemCache,
@@ -45,7 +50,7 @@ pub(crate) fn disable(
     ensures moves { MovesStore (Some request.old) store.old events.new.items (Some request.new) store.new }
     ensures keeps { KeepsKey (Some request.old) (Some request.new) }
     ensures row { Some request.new ≡ row (calls.Disable 0 reason) result events.new.items (Some request.old) }
-    ensures locks { MovesLocks lock.old events.new.items lock.new }
+    ensures locks { (r : ℕ) → MovesLocks r (deeds_by r 0 (status_for (λ text. GiveUp) reason) events.new.items) request.old.request.held lock.old request.new.request.held lock.new }
 {
     if !request.cache.may_disable(reason) {
         return Reply::WrongCall;

@@ -1,14 +1,16 @@
 //! Calls about the variants of a key, and the meta of a stale body that is good.
-ghost use Rattle.std.specs.Prelude.{◌≡◌, ◌+◌, ◌≤◌, ◌++◌, [], IfOk, IfErr, Option, Some, vec_len};
+ghost use Rattle.std.specs.Prelude.{◌≡◌, ◌+◌, ◌≤◌, ◌++◌, [], IfOk, IfErr, Option, Some, vec_len, ℕ};
 ghost use Rattle.std.specs.Vec.{vec_capacity};
 ghost use Rattle.pcache_base.specs.declared.error.ErrorType.TheVariants.{OutOfMemory};
 ghost use Rattle.pingora_cache.specs.Due.{KeepsKey};
 ghost use Rattle.pingora_cache.specs.Facts.{facts_in, no_facts};
+ghost use Rattle.pcache_lock.specs.declared.lock.status.LockStatus.TheVariants.{Done};
+ghost use Rattle.pingora_cache.specs.Deeds.{deeds_by};
 ghost use Rattle.pingora_cache.specs.Held.{row};
 ghost use Rattle.pingora_cache.specs.Moved.{MovesRequest, MovesStore};
 ghost use Rattle.pingora_cache.specs.Rules.{Answers, IsOther, Renews};
 ghost use Rattle.pingora_cache.specs.Step.{renewal_reply, renewing, spare_of};
-ghost use Rattle.pingora_cache.specs.Waiting.{MovesLocks};
+ghost use Rattle.pingora_cache.specs.LockMoves.{MovesLocks};
 ghost use Rattle.pingora_cache.specs.declared.world.call.Call.TheVariants as calls;
 ghost use Rattle.pcache_meta.specs.Meta.{Meta};
 ghost use Rattle.pcache_predict.specs.declared.admission.Decision.{Decision};
@@ -33,6 +35,7 @@ pub(crate) fn vary(request: &mut OpenRequest, variance: HashBinary) -> Reply
     ensures moves { MovesRequest (Some request.old) (Some request.new) }
     ensures keeps { KeepsKey (Some request.old) (Some request.new) }
     ensures row { Some request.new ≡ row (calls.Vary 0 variance) result [] (Some request.old) }
+    ensures held { request.new.request.held ≡ request.old.request.held }
 {
     if !request.cache.phase().may_look_up() {
         return Reply::WrongCall;
@@ -48,6 +51,7 @@ pub(crate) fn vary(request: &mut OpenRequest, variance: HashBinary) -> Reply
 }
 
 /// Sets what the response varies on.
+#[tactic(auto, using(crate::proofs::LockSteps::none_noted))]
 pub(crate) fn variance(
     request: &mut OpenRequest,
     lock: &mut CacheLock,
@@ -60,7 +64,7 @@ pub(crate) fn variance(
     ensures moves { (s : Store) → MovesStore (Some request.old) s events.new.items (Some request.new) s }
     ensures keeps { KeepsKey (Some request.old) (Some request.new) }
     ensures row { Some request.new ≡ row (calls.Variance 0 variance) result events.new.items (Some request.old) }
-    ensures locks { MovesLocks lock.old events.new.items lock.new }
+    ensures locks { (r : ℕ) → MovesLocks r (deeds_by r 0 Done events.new.items) request.old.request.held lock.old request.new.request.held lock.new }
 {
     if !request.cache.may_write() {
         return Reply::WrongCall;
@@ -86,6 +90,7 @@ pub(crate) fn spare_of(call: &Call) -> Result<Option<Spare>>
 }
 
 /// Takes the meta of an answer that says that the stale body is good.
+#[tactic(auto, using(crate::proofs::LockSteps::none_noted))]
 pub(crate) fn revalidate(
     request: &mut OpenRequest,
     store: &mut MemCache,
@@ -101,7 +106,7 @@ pub(crate) fn revalidate(
     ensures moves { MovesStore (Some request.old) store.old events.new.items (Some request.new) store.new }
     ensures keeps { KeepsKey (Some request.old) (Some request.new) }
     ensures row { Some request.new ≡ row (calls.Revalidate 0 meta.now) result events.new.items (Some request.old) }
-    ensures locks { MovesLocks lock.old events.new.items lock.new }
+    ensures locks { (r : ℕ) → MovesLocks r (deeds_by r 0 Done events.new.items) request.old.request.held lock.old request.new.request.held lock.new }
 {
     if !request.cache.may_revalidate() {
         return Reply::WrongCall;
@@ -129,7 +134,7 @@ fn renew(
     ensures other { IsOther result }
     ensures request { cache.new ≡ renewed meta cache.old }
     ensures moves { (p : Option (Meta × Reader)) (d : Option Decision) → MovesStore (Some (record { request = cache.old; pair = p; carried = d })) store.old events.new.items (Some (record { request = cache.new; pair = p; carried = d })) store.new }
-    ensures locks { MovesLocks lock.old events.new.items lock.new }
+    ensures locks { (r : ℕ) → MovesLocks r (deeds_by r 0 Done events.new.items) cache.old.held lock.old cache.new.held lock.new }
 {
     let Some(key) = cache.key() else {
         unreachable!()

@@ -39,8 +39,8 @@ const STATES: [&str; 15] = [
 ];
 
 // For each call, and for each state in the order above: `+` where it is answered, `-` where it is a
-// wrong one. Written by hand from the phase table.
-const ROWS: [(&str, &str); 27] = [
+// wrong one. Written by hand from the phase table. No other request holds the permit, so none waits.
+const ROWS: [(&str, &str); 28] = [
     ("open", "+--------------"),
     ("enable", "-+-------------"),
     ("disable", "-++++++++++++++"),
@@ -60,6 +60,7 @@ const ROWS: [(&str, &str); 27] = [
     ("purge", "----++---------"),
     ("expire", "----++---------"),
     ("lock", "----+++--------"),
+    ("wait", "---------------"),
     ("publish", "-++++++++++++++"),
     ("release", "-++++++++++++++"),
     ("updating", "----------+----"),
@@ -134,6 +135,7 @@ fn call_of(alloc: Global, request: u64, word: &str) -> Result<Call> {
             request,
             is_used: true,
         },
+        b"wait" => Call::Wait { request, now },
         b"publish" => Call::Publish {
             request,
             tokens: Tokens::new(Vec::new(alloc)),

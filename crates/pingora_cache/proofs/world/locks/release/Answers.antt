@@ -10,7 +10,12 @@ use Rattle.pingora_cache.specs.Step.{permit_released}
 use Rattle.pingora_cache.specs.declared.world.entry.Event.TheVariants.{Release}
 use Rattle.pingora_cache.proofs.MovesOf.{turns-quietly, quiet-each, quiet-noted}
 use Rattle.pingora_cache.proofs.Noted.{held_with, permit-released}
-use Rattle.pingora_cache.proofs.Waiting.{settle-locks, status-reason}
+use Rattle.pingora_cache.specs.LockMoves.{MovesLocks}
+use Rattle.pingora_cache.specs.Deeds.{deeds_by}
+use Rattle.pingora_cache.proofs.LockSteps.{settle-alone}
+use Rattle.pingora_cache.proofs.Waiting.{status-reason}
+use Rattle.pcache_request.specs.Releasing.{status_for}
+use Rattle.pcache_lock.specs.declared.lock.status.LockStatus.TheVariants.{GiveUp}
 use Rattle.pingora_cache.proofs.world.locks.release.Goals as goal
 
 pub returns-clause-moves : goal.returns-clause-moves
@@ -25,10 +30,11 @@ returns-clause-moves c s =
     refl (ap (λ (y : Request). y.reader) c.release_write_lock-released.ensures.request) (ap (λ (y : Request). y.write) c.release_write_lock-released.ensures.request))
 
 pub returns-clause-locks : goal.returns-clause-locks
-returns-clause-locks c =
+returns-clause-locks c n =
     let r : Request = c.request.inside.cache in
     let o = c.permit_released.result in
     let old = c.args.events.now.items in
     let all = c.note_release.new.events.items in
     let permit : o ≡ permit_of r.held = c.permit_released.ensures ∙ ap permit_released c.release_write_lock-released.ensures.released ∙ permit-released _ r.held in
-    settle-locks c.args.lock.now c.release_write_lock-released.new.lock _ r.held o old all (status-reason c.args.reason) permit c.requires.none c.note_release.ensures.events c.release_write_lock-released.ensures.table
+    subst (λ (x : Held). MovesLocks n (deeds_by n 0 (status_for (λ text. GiveUp) c.args.reason) all) x.request.held c.args.lock.now c.release_write_lock-released.new.self.held c.release_write_lock-released.new.lock) c.request.view_is
+    (settle-alone n 0 (status_for (λ text. GiveUp) c.args.reason) c.args.lock.now c.release_write_lock-released.new.lock r.held c.release_write_lock-released.new.self.held o old all (status-reason c.args.reason) permit c.requires.none c.note_release.ensures.events (ap (λ (y : Request). y.held) c.release_write_lock-released.ensures.request) c.release_write_lock-released.ensures.table)

@@ -8,6 +8,9 @@ use Rattle.pingora_cache.specs.Facts.{facts_in}
 use Rattle.pingora_cache.specs.Held.{Held}
 use Rattle.pingora_cache.specs.Rules.{IsOther, Takes}
 use Rattle.pingora_cache.proofs.Noted.{held_with}
+use Rattle.pingora_cache.specs.LockMoves.{MovesLocks}
+use Rattle.pingora_cache.specs.Deeds.{deeds_by}
+use Rattle.pcache_lock.specs.declared.lock.status.LockStatus.TheVariants.{Done}
 use Rattle.pingora_cache.proofs.world.look.found.Goals as goal
 
 pub returns-clause-answers : goal.returns-clause-answers
@@ -33,3 +36,6 @@ returns-clause-moves g c =
     let n = tracked c.take-2.new.parts.manager in
     subst (λ (x : Held). Moves limits (Some x) s m events (Some (held_with d (option_map (λ p. (p.0, reader_of p.1)) c.take.new.self) c.take-2.new.cache)) u n) is
     (subst (λ o. Moves limits (Some (held_with d p c.request.inside.cache)) s m events (Some (held_with d (option_map (λ p. (p.0, reader_of p.1)) o) c.take-2.new.cache)) u n) (sym c.take.ensures.after) (c.take-2.ensures.moves d))
+
+pub returns-clause-locks : goal.returns-clause-locks
+returns-clause-locks g c n = subst (λ (x : Held). MovesLocks n (deeds_by n c.args.now Done c.take-2.new.events.items) x.request.held c.args.parts.now.lock c.take-2.new.cache.held c.take-2.new.parts.lock) c.request.view_is (c.take-2.ensures.locks n)

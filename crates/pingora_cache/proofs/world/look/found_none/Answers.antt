@@ -8,6 +8,10 @@ use Rattle.pingora_cache.specs.Held.{Held, asked, decides}
 use Rattle.pingora_cache.specs.Sound.{pair_reader}
 use Rattle.pingora_cache.specs.Step.{DefersKey, MissesKey, store_ended}
 use Rattle.pingora_cache.proofs.Looking.{off_with, on_with, deferred-moves, missed-keeps, missed-looks, missed-moves, missed-row}
+use Rattle.pingora_cache.specs.LockMoves.{MovesLocks}
+use Rattle.pingora_cache.specs.Deeds.{deeds_by}
+use Rattle.pcache_lock.specs.declared.lock.status.LockStatus.TheVariants.{TransientError}
+use Rattle.pingora_cache.proofs.ReadsLaw.{decided-held}
 use Rattle.pingora_cache.proofs.world.look.found_none.Goals as goal
 
 pub returns-then-decide-clause-moves : goal.returns-then-decide-clause-moves
@@ -62,3 +66,15 @@ returns-clause-row c =
     let now : c.miss.new.request ≡ on_with (decides Nothing x) events None x = c.miss.ensures.request ∙ ap (λ (z : Held). let r : Held = record { request = asked false events z.request; pair = None; carried = z.carried } in r) kept in
     missed-row s t x c.miss.new.request c.miss.new.store c.requires.nothing c.miss.result events (sym c.decide.ensures.defers ∙ c.if-decide.false)
     (subst (λ (z : Held). MissesKey (facts_in s t z.request) Nothing z.request c.miss.result events) kept (c.miss.ensures.answers s)) now
+
+pub returns-then-decide-clause-locks : goal.returns-then-decide-clause-locks
+returns-then-decide-clause-locks c n =
+    let x : Held = c.args.request.now in
+    let h = c.defer.ensures.locks n c.args.now in
+    subst (λ l. MovesLocks n (deeds_by n c.args.now TransientError c.defer.new.events.items) l c.args.lock.now c.defer.new.request.request.held c.defer.new.lock) (ap (λ (z : Held). z.request.held) c.decide.ensures.request ∙ decided-held (decides Nothing x) x.request) h
+
+pub returns-clause-locks : goal.returns-clause-locks
+returns-clause-locks c n =
+    let x : Held = c.args.request.now in
+    let h = c.miss.ensures.locks n in
+    subst (λ l. MovesLocks n (deeds_by n c.args.now TransientError c.miss.new.events.items) l c.args.lock.now c.miss.new.request.request.held c.miss.new.lock) (ap (λ (z : Held). z.request.held) c.decide.ensures.request ∙ decided-held (decides Nothing x) x.request) h

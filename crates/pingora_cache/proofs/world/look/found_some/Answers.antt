@@ -10,6 +10,8 @@ use Rattle.pingora_cache.specs.Sound.{pair_reader}
 use Rattle.pingora_cache.proofs.Looking.{find-at, hidden-keeps, hidden-looks, hidden-moves, hidden-row, key-found, seen-moves}
 use Rattle.pingora_cache.proofs.MovesOf.{unnoted}
 use Rattle.pingora_cache.proofs.Noted.{held_with}
+use Rattle.pingora_cache.proofs.LockSteps.{look-noted}
+use Rattle.pcache_lock.specs.declared.lock.status.LockStatus.TheVariants.{TransientError}
 use Rattle.pingora_cache.proofs.world.look.found_some.Goals as goal
 
 pub returns-in-Err-clause-moves : goal.returns-in-Err-clause-moves
@@ -59,3 +61,7 @@ returns-clause-moves c s found at =
     (seen-moves (held_with d pair r) (held_with d now r) s c.hold.new.store c.in-Some.key.now c.slot-slot.result c.in-Ok.told.0 p c.args.events.now.items c.push_reserved.new.self.items
     (ap (λ (z : Held). found_for s z.request.key) c.request.view_is ∙ found) (sym c.in-Some.ensures.value) c.slot-slot.ensures c.in-Ok.ensures.answer c.requires.none c.push_reserved.ensures.items
     (ap (λ o. held_with d (option_map (λ p. (p.0, reader_of p.1)) o) r) c.hold.ensures.place) (c.hold.ensures.store ∙ ap (left_by (pair_reader pair)) at))
+
+pub returns-clause-locks : goal.returns-clause-locks
+returns-clause-locks c n =
+    look-noted n c.args.now TransientError c.slot-slot.result c.in-Ok.told.0 c.args.request.now.request.held c.request.inside.cache.held c.args.lock.now c.args.lock.now c.args.events.now.items c.push_reserved.new.self.items c.requires.none c.push_reserved.ensures.items (ap (λ (z : Held). z.request.held) c.request.view_is) refl

@@ -1,4 +1,4 @@
-use Rattle.std.proofs.Common.{Option, Some, refl, sym, ap, subst, ◌∙◌, option_map}
+use Rattle.std.proofs.Common.{Option, Some, refl, sym, ap, subst, ◌∙◌, option_map, ◌≡◌}
 use Rattle.pcache_meta.specs.Meta.{Meta}
 use Rattle.pcache_request.specs.Requests.{Request}
 use Rattle.pcache_store.specs.Readers.{reader_of}
@@ -9,6 +9,10 @@ use Rattle.pingora_cache.specs.Moved.{Moves}
 use Rattle.pingora_cache.proofs.MovesOf.{expires, idle}
 use Rattle.pingora_cache.proofs.Noted.{held_with, expire-store, expire-tracks}
 use Rattle.pingora_cache.proofs.world.remove.expire.Goals as goal
+use Rattle.pingora_cache.specs.LockMoves.{MovesLocks}
+use Rattle.pingora_cache.specs.Deeds.{deeds_by}
+use Rattle.pingora_cache.proofs.LockSteps.{expire-locks, none_noted}
+use Rattle.pcache_lock.specs.declared.lock.status.LockStatus.TheVariants.{Done}
 use Rattle.pingora_cache.proofs.world.remove.expire.Goals.{in-Ok, in-Err}
 
 pub returns-clause-moves : goal.returns-clause-moves
@@ -34,3 +38,14 @@ returns-clause-moves g c =
           subst (λ t. Moves limits (Some (held_with c.request.inside.carried pair r)) s m events (Some (held_with c.request.inside.carried pair r)) u t) (sym w.in-Err.ensures.same_tracked)
           (idle (Some (held_with c.request.inside.carried pair r)) (Some (held_with c.request.inside.carried pair r)) s u events (ap (λ v. v.items) w.events-is ∙ c.requires.none) refl w.in-Err.ensures.same_store limits m)
     ]))
+
+pub returns-clause-locks : goal.returns-clause-locks
+returns-clause-locks g c n =
+    let events = c.match-expire.events.items in
+    let h = c.args.request.now.request.held in
+    let same : c.expire.new.self.held ≡ h = ap (λ (y : Request). y.held) c.expire.ensures.same ∙ ap (λ (z : Held). z.request.held) c.request.view_is in
+    subst (λ l. MovesLocks n (deeds_by n 0 Done events) h c.args.parts.now.lock l c.args.parts.now.lock) (sym same)
+    (elim c.match-expire.branch [
+      | in-Ok w ↦ expire-locks n 0 Done c.args.parts.now.lock h c.slot-slot.result c.args.now c.args.events.now.items events c.requires.none (ap (λ v. v.items) w.events-is ∙ w.push_reserved.ensures.items)
+      | in-Err w ↦ none_noted n 0 Done events h h c.args.parts.now.lock c.args.parts.now.lock (ap (λ v. v.items) w.events-is ∙ c.requires.none) refl refl
+    ])

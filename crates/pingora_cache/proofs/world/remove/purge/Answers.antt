@@ -1,4 +1,4 @@
-use Rattle.std.proofs.Common.{Option, Some, refl, sym, ap, subst, ◌∙◌, option_map}
+use Rattle.std.proofs.Common.{Option, Some, refl, sym, ap, subst, ◌∙◌, option_map, ◌≡◌}
 use Rattle.pcache_meta.specs.Meta.{Meta}
 use Rattle.pcache_request.specs.Requests.{Request}
 use Rattle.pcache_store.specs.Readers.{reader_of}
@@ -7,8 +7,11 @@ use Rattle.pingora_cache.specs.Held.{Held}
 use Rattle.pingora_cache.specs.Moved.{Moves}
 use Rattle.pingora_cache.proofs.MovesOf.{purges, idle}
 use Rattle.pingora_cache.proofs.Noted.{held_with, goes, purge-events, purge-untracks, purge-store}
-use Rattle.pingora_cache.proofs.Waiting.{purge-locks, no_locks_move}
 use Rattle.pingora_cache.proofs.world.remove.purge.Goals as goal
+use Rattle.pingora_cache.specs.LockMoves.{MovesLocks}
+use Rattle.pingora_cache.specs.Deeds.{deeds_by}
+use Rattle.pingora_cache.proofs.LockSteps.{none_noted, purge-locks}
+use Rattle.pcache_lock.specs.declared.lock.status.LockStatus.TheVariants.{Done}
 use Rattle.pingora_cache.proofs.world.remove.purge.Goals.{in-Ok, in-Err}
 
 pub returns-clause-moves : goal.returns-clause-moves
@@ -37,9 +40,12 @@ returns-clause-moves g c world =
     ]))
 
 pub returns-clause-locks : goal.returns-clause-locks
-returns-clause-locks g c =
+returns-clause-locks g c n =
     let events = c.match-purge_key.events.items in
-    elim c.match-purge_key.branch [
-      | in-Ok w ↦ purge-locks c.args.parts.now.lock c.slot-slot.result w.in-Ok.removal.untracked c.args.events.now.items events c.requires.none (ap (λ v. v.items) w.events-is ∙ w.note_removal.ensures.events)
-      | in-Err w ↦ no_locks_move c.args.parts.now.lock c.args.parts.now.lock events (ap (λ v. v.items) w.events-is ∙ c.requires.none) refl
-    ]
+    let h = c.args.request.now.request.held in
+    let same : c.purge_key.new.self.held ≡ h = ap (λ (y : Request). y.held) c.purge_key.ensures.same ∙ ap (λ (z : Held). z.request.held) c.request.view_is in
+    subst (λ l. MovesLocks n (deeds_by n 0 Done events) h c.args.parts.now.lock l c.args.parts.now.lock) (sym same)
+    (elim c.match-purge_key.branch [
+      | in-Ok w ↦ purge-locks n 0 Done c.args.parts.now.lock h c.slot-slot.result w.in-Ok.removal.untracked c.args.events.now.items events c.requires.none (ap (λ v. v.items) w.events-is ∙ w.note_removal.ensures.events)
+      | in-Err w ↦ none_noted n 0 Done events h h c.args.parts.now.lock c.args.parts.now.lock (ap (λ v. v.items) w.events-is ∙ c.requires.none) refl refl
+    ])

@@ -14,7 +14,12 @@ use Rattle.pingora_cache.specs.declared.world.entry.Event.TheVariants as E
 use Rattle.pingora_cache.specs.Step.{permit_in}
 use Rattle.pingora_cache.proofs.MovesOf.{switches-off}
 use Rattle.pingora_cache.proofs.Noted.{held_with, permit-named}
-use Rattle.pingora_cache.proofs.Waiting.{settle-then, status-reason}
+use Rattle.pingora_cache.specs.LockMoves.{MovesLocks}
+use Rattle.pingora_cache.specs.Deeds.{deeds_by}
+use Rattle.pingora_cache.proofs.LockSteps.{settle-then}
+use Rattle.pingora_cache.proofs.Waiting.{status-reason}
+use Rattle.pcache_request.specs.Releasing.{status_for}
+use Rattle.pcache_lock.specs.declared.lock.status.LockStatus.TheVariants.{GiveUp}
 use Rattle.pingora_cache.proofs.world.switch.disable.Goals as goal
 
 pub returns-clause-moves : goal.returns-clause-moves
@@ -39,7 +44,10 @@ returns-clause-answers c =
     subst (λ (x : Held). Answers no_facts (calls.Disable 0 c.args.reason) (Some x) replies.Done events) c.request.view_is (inl (may, tt, (refl, is)))
 
 pub returns-clause-locks : goal.returns-clause-locks
-returns-clause-locks c =
+returns-clause-locks c n =
     let r : Request = c.request.inside.cache in
+    let s = status_for (λ text. GiveUp) c.args.reason in
+    let all = c.note_shut.new.events.items in
     let permit : c.permit_in.result ≡ permit_of r.held = c.permit_in.ensures ∙ ap permit_in c.disable-released.ensures.released ∙ permit-named r.held in
-    settle-then c.args.lock.now c.disable-released.new.lock _ r.held c.permit_in.result c.write_number-dropped.result c.args.events.now.items c.note_shut.new.events.items (status-reason c.args.reason) permit c.requires.none c.note_shut.ensures c.disable-released.ensures.table
+    subst (λ (x : Held). MovesLocks n (deeds_by n 0 s all) x.request.held c.args.lock.now c.disable-released.new.self.held c.disable-released.new.lock) c.request.view_is
+    (settle-then n 0 s c.args.lock.now c.disable-released.new.lock r.held c.disable-released.new.self.held c.permit_in.result c.write_number-dropped.result c.args.events.now.items all (status-reason c.args.reason) permit c.requires.none c.note_shut.ensures c.disable-released.ensures.held.0 c.disable-released.ensures.table)

@@ -1,12 +1,24 @@
-use Rattle.std.proofs.Common.{rules, ◌≡◌, Option, None, Some, sym, subst}
+use Rattle.std.proofs.Common.{rules, ◌≡◌, Option, None, Some, sym, subst, refl}
 use Rattle.std.specs.BTreeMap.{is_at}
 use Rattle.std.specs.Map.{lookup}
 use Rattle.std.specs.Ordering.{nat_cmp}
 use Rattle.pingora_cache.specs.Held.{Held}
 use Rattle.pingora_cache.specs.Moved.{MovesStore}
+use Rattle.pingora_cache.specs.LockMoves.{MovesLocks}
+use Rattle.pingora_cache.specs.Deeds.{deeds_by, held_in}
+use Rattle.pcache_lock.specs.declared.lock.status.LockStatus.TheVariants.{Done}
+use Rattle.pingora_cache.proofs.LockSteps.{none_noted}
 use Rattle.pingora_cache.proofs.world.turn.end.Goals as goal
 
 pub returns-clause-moves : goal.returns-clause-moves
 returns-clause-moves c =
     let is : lookup (is_at (nat_cmp c.args.number)) c.args.requests.now.entries ≡ Some c.in-Some.request = search rules in
     subst (λ (q : Option Held). MovesStore q c.args.store.now c.close.new.events.items None c.close.new.store) (sym is) c.close.ensures.moves
+
+pub returns-clause-locks : goal.returns-clause-locks
+returns-clause-locks c n =
+    let is : lookup (is_at (nat_cmp c.args.number)) c.args.requests.now.entries ≡ Some c.in-Some.request = search rules in
+    subst (λ (q : Option Held). MovesLocks n (deeds_by n 0 Done c.close.new.events.items) (held_in q) c.args.lock.now None c.close.new.lock) (sym is) (c.close.ensures.locks n)
+
+pub returns-in_default-clause-locks : goal.returns-in_default-clause-locks
+returns-in_default-clause-locks c n = none_noted n 0 Done c.args.events.now.items _ _ c.args.lock.now c.args.lock.now c.requires.none refl refl

@@ -5,7 +5,8 @@ use Rattle.pingora_cache.specs.Rules.{permit_of}
 use Rattle.pingora_cache.specs.Step.{permit_in}
 use Rattle.pingora_cache.proofs.MovesOf.{renews}
 use Rattle.pingora_cache.proofs.Noted.{held_with, permit-named, renewed-as, renews-told}
-use Rattle.pingora_cache.proofs.Waiting.{renewed-locks}
+use Rattle.pingora_cache.proofs.LockSteps.{renewed-locks}
+use Rattle.pcache_lock.specs.declared.lock.status.LockStatus.TheVariants.{Done}
 use Rattle.pingora_cache.proofs.world.vary.renew.Goals as goal
 
 pub returns-clause-answers : goal.returns-clause-answers
@@ -26,8 +27,8 @@ returns-clause-moves c p d =
     (sym c.in-Some.ensures.value) c.slot-slot.ensures copy c.renew_meta-updated.ensures.there c.renew_meta-updated.ensures.store c.renew_meta-updated.ensures.same_store
 
 pub returns-clause-locks : goal.returns-clause-locks
-returns-clause-locks c =
+returns-clause-locks c n =
     let x : Request = c.args.cache.now in
     let permit : c.permit_in.result ≡ permit_of x.held = c.permit_in.ensures ∙ ap permit_in c.renew_meta-updated.ensures.released ∙ permit-named x.held in
-    renewed-locks c.args.lock.now c.renew_meta-updated.new.lock x.held c.permit_in.result c.slot-slot.result c.set_created.new.self c.renew_meta-updated.result.updated c.args.events.now.items c.note_renewal-reply.new.events.items c.note_release.new.events.items
-    permit c.requires.none c.note_renewal-reply.ensures.events c.note_release.ensures.events c.renew_meta-updated.ensures.table
+    renewed-locks n 0 Done c.args.lock.now c.renew_meta-updated.new.lock x.held c.renew_meta-updated.new.self.held c.permit_in.result c.slot-slot.result c.set_created.new.self c.renew_meta-updated.result.updated c.args.events.now.items c.note_renewal-reply.new.events.items c.note_release.new.events.items
+    tt permit c.requires.none c.note_renewal-reply.ensures.events c.note_release.ensures.events (ap (λ (y : Request). y.held) c.renew_meta-updated.ensures.request) c.renew_meta-updated.ensures.table

@@ -8,6 +8,9 @@ use Rattle.pingora_cache.specs.Held.{Held}
 use Rattle.pingora_cache.specs.Moved.{MovesStore}
 use Rattle.pingora_cache.specs.Rules.{Renews}
 use Rattle.pingora_cache.proofs.Noted.{held_with}
+use Rattle.pingora_cache.specs.LockMoves.{MovesLocks}
+use Rattle.pingora_cache.specs.Deeds.{deeds_by}
+use Rattle.pcache_lock.specs.declared.lock.status.LockStatus.TheVariants.{Done}
 use Rattle.pingora_cache.proofs.world.vary.revalidate.Goals as goal
 
 pub returns-clause-answers : goal.returns-clause-answers
@@ -24,3 +27,6 @@ returns-clause-moves c =
     let pair : Option (Meta × Reader) = option_map (λ p. (p.0, reader_of p.1)) c.request.inside.pair in
     let d = c.request.inside.carried in
     subst (λ (x : Held). MovesStore (Some x) c.args.store.now c.renew.new.events.items (Some (held_with d pair c.renew.new.cache)) c.renew.new.store) c.request.view_is (c.renew.ensures.moves pair d)
+
+pub returns-clause-locks : goal.returns-clause-locks
+returns-clause-locks c n = subst (λ (x : Held). MovesLocks n (deeds_by n 0 Done c.renew.new.events.items) x.request.held c.args.lock.now c.renew.new.cache.held c.renew.new.lock) c.request.view_is (c.renew.ensures.locks n)

@@ -9,7 +9,12 @@ use Rattle.pingora_cache.specs.Step.{permit_in}
 use Rattle.pingora_cache.specs.declared.world.entry.Event.TheVariants.{Release}
 use Rattle.pingora_cache.proofs.MovesOf.{turns-quietly, quiet-noted}
 use Rattle.pingora_cache.proofs.Noted.{held_with}
-use Rattle.pingora_cache.proofs.Waiting.{varied-locks}
+use Rattle.pingora_cache.specs.LockMoves.{MovesLocks}
+use Rattle.pingora_cache.specs.Deeds.{deeds_by}
+use Rattle.pingora_cache.proofs.LockSteps.{varied-locks}
+use Rattle.pingora_cache.specs.Held.{Held}
+use Rattle.pcache_lock.specs.declared.lock.status.LockStatus.TheVariants.{Done}
+use Rattle.pcache_request.specs.Variants.{leaves_variant}
 use Rattle.pingora_cache.proofs.world.vary.variance.Goals as goal
 
 pub returns-clause-moves : goal.returns-clause-moves
@@ -25,7 +30,10 @@ returns-clause-moves c s =
     refl (ap (λ (y : Request). y.reader) c.update_variance-released.ensures.request) (ap (λ (y : Request). y.write) c.update_variance-released.ensures.request))
 
 pub returns-clause-locks : goal.returns-clause-locks
-returns-clause-locks c =
+returns-clause-locks c n =
     let r : Request = c.request.inside.cache in
-    varied-locks c.args.lock.now c.update_variance-released.new.lock _ r.held c.permit_in.result c.args.events.now.items c.note_release.new.events.items (c.permit_in.ensures ∙ ap permit_in c.update_variance-released.ensures.released) c.requires.none c.note_release.ensures.events
-    c.update_variance-released.ensures.table
+    let all = c.note_release.new.events.items in
+    let b = leaves_variant c.args.variance r.key in
+    subst (λ (x : Held). MovesLocks n (deeds_by n 0 Done all) x.request.held c.args.lock.now c.update_variance-released.new.self.held c.update_variance-released.new.lock) c.request.view_is
+    (varied-locks n 0 Done c.args.lock.now c.update_variance-released.new.lock b r.held c.update_variance-released.new.self.held c.permit_in.result c.args.events.now.items all tt (c.permit_in.ensures ∙ ap permit_in c.update_variance-released.ensures.released) c.requires.none c.note_release.ensures.events
+    (ap (λ (y : Request). y.held) c.update_variance-released.ensures.request) c.update_variance-released.ensures.table)

@@ -1,0 +1,409 @@
+-- No row, condition or clause of a call looks at what a read lock was told: of the lock that is held they look at its kind, at
+-- its number, and at the fills that it watches for since it was polled.
+use Rattle.std.proofs.Common.{◌≡◌, ℕ, ◌&&◌, ◌⊎◌, ◌++◌, Bool, true, false, not, cond, Option, None, Some, List, [], ◌∷◌, refl, ap, sym, subst, ◌∙◌, inl, inr, option_map}
+use Rattle.std.specs.FinMap.{get}
+use Rattle.pcache_base.specs.Key.{Key, slot}
+use Rattle.pcache_base.specs.declared.error.ErrorType.{ErrorType}
+use Rattle.pcache_base.specs.declared.fills.UnusableFill.{UnusableFill}
+use Rattle.pcache_base.specs.declared.poll.Poll.{Poll}
+use Rattle.pcache_base.specs.declared.poll.Poll.TheVariants.{Ready, Pending}
+use Rattle.pcache_base.specs.declared.reason.NoCacheReason.{NoCacheReason}
+use Rattle.pcache_base.specs.declared.reason.NoCacheReason.TheVariants as reason
+use Rattle.pcache_lock.specs.Locks.{Locks}
+use Rattle.pcache_lock.specs.Permits as permits
+use Rattle.pcache_lock.specs.Permits.{Watch}
+use Rattle.pcache_lock.specs.Waiting.{answer_at, looked, polled, reader_at, reader_polled, stage_of, status_seen, told_or_pending, watch_at}
+use Rattle.pcache_lock.specs.declared.lock.outcome.LockWaitOutcome.{LockWaitOutcome}
+use Rattle.pcache_lock.specs.declared.lock.outcome.Stage.{Stage}
+use Rattle.pcache_lock.specs.declared.lock.outcome.Stage.TheVariants as stage
+use Rattle.pcache_lock.specs.declared.lock.outcome.Stage.TheVariants.{Over, Old}
+use Rattle.pcache_lock.specs.declared.lock.permit.Locked.{Locked}
+use Rattle.pcache_lock.specs.declared.lock.permit.Locked.TheVariants.{Write, Read}
+use Rattle.pcache_lock.specs.declared.lock.status.LockStatus.{LockStatus}
+use Rattle.pcache_meta.specs.Meta.{Meta}
+use Rattle.pcache_predict.specs.declared.admission.Decision.{Decision}
+use Rattle.pcache_request.specs.Admissions.{decided, is_deferral, with_decision}
+use Rattle.pcache_request.specs.LockWaits.{after_wait, answer_by, is_late, since_of, unusable_in, wait_answer, waited}
+use Rattle.pcache_request.specs.Phases.{is_fresh}
+use Rattle.pcache_request.specs.Releasing.{disabled_for, disabled_in}
+use Rattle.pcache_request.specs.Requests.{Request, asks_as_stale, phase_found, placed}
+use Rattle.pcache_request.specs.Variants.{is_unseen, leaves_variant, varied, visible}
+use Rattle.pcache_request.specs.declared.phase.CachePhase.{CachePhase}
+use Rattle.pcache_request.specs.declared.phase.CachePhase.TheVariants as phase
+use Rattle.pcache_request.specs.declared.phase.HitStatus.{HitStatus}
+use Rattle.pcache_store.specs.Store.{Reader, Store}
+use Rattle.pingora_cache.specs.declared.world.call.Call.{Call}
+use Rattle.pingora_cache.specs.declared.world.call.Call.TheVariants as C
+use Rattle.pingora_cache.specs.declared.world.call.LockKind.{LockKind}
+use Rattle.pingora_cache.specs.declared.world.call.Reply.{Reply}
+use Rattle.pingora_cache.specs.declared.world.call.Reply.TheVariants as R
+use Rattle.pingora_cache.specs.declared.world.entry.Answer.{Answer}
+use Rattle.pingora_cache.specs.declared.world.entry.Event.{Event}
+use Rattle.pingora_cache.specs.declared.world.entry.Event.TheVariants as E
+use Rattle.pingora_cache.specs.Deeds.{deeds_by, deeds_in, held_in, moment_of, said_by, status_left}
+use Rattle.pingora_cache.specs.Due.{IsOfWorld, KeepsKey, makes_of, reader_for, slot_of}
+use Rattle.pingora_cache.specs.Facts.{Facts, facts_in, request_in}
+use Rattle.pingora_cache.specs.Held.{Held, Outcome, was_done, was_waited, opened, is_done, is_taken, is_wrong, number_of, outcome, on_request, pair_of, with_given, asked, carrying, decides, looked_with, looked_by, looks_for, placed_by, taken_by, turned_by, shut_by, without_pair, began, ended, has_read, waited_by, row, row_by, untold}
+use Rattle.pingora_cache.specs.Moved.{reads_of}
+use Rattle.pingora_cache.specs.Rules.{Answers, AsksIf, Does, Finishes, HandsOn, IsLockRefusal, IsStarved, Looks, LooksOn, MayBe, Misses, Takes, Waits, accesses}
+use Rattle.pingora_cache.specs.Step.{IsRow}
+use Rattle.pingora_cache.specs.Untold.{fills_of, reader_watching, untold_lock, untold_reader, untold_request, untold_watch, waited_on, waited_with}
+
+-- ---- twice
+
+watch-twice : (w : Option Watch) → option_map untold_watch (option_map untold_watch w) ≡ option_map untold_watch w
+watch-twice None = refl
+watch-twice (Some w) = refl
+
+lock-twice : (h : Option Locked) → option_map untold_lock (option_map untold_lock h) ≡ option_map untold_lock h
+lock-twice None = refl
+lock-twice (Some (Write p)) = refl
+lock-twice (Some (Read rd)) = ap {A = Option Watch} {B = Option Locked} (λ w. Some (Read (record { number = rd.number; watch = w }))) (watch-twice rd.watch)
+
+-- a request that holds this
+abbrev holding : Option Locked → Request → Request
+holding h x = record x { held = h }
+
+pub untold-twice : (x : Held) → untold (untold x) ≡ untold x
+untold-twice x = ap {A = Option Locked} {B = Held} (λ h. record { request = holding h x.request; pair = x.pair; carried = x.carried }) (lock-twice x.request.held)
+
+-- ---- rows: what a call makes of a request
+
+decision-untold : (d : Option Decision) (x : Request) → untold_request (with_decision d x) ≡ with_decision d (untold_request x)
+decision-untold None x = refl
+decision-untold (Some d) x = refl
+
+disabled-untold : (p : CachePhase) (why : NoCacheReason) (x : Request) → untold_request (disabled_in p why x) ≡ disabled_in p why (untold_request x)
+disabled-untold (phase.Disabled reason.NeverEnabled) why x = refl
+disabled-untold p why x = refl
+
+given-untold : (stale : Bool) (e : Event) (x : Request) → untold_request (with_given stale e x) ≡ with_given stale e (untold_request x)
+given-untold stale (E.Ask k n true) x = refl
+given-untold stale (E.Ask k n false) x = refl
+given-untold stale e x = refl
+
+asked-untold : (stale : Bool) (es : List Event) (x : Request) → untold_request (asked stale es x) ≡ asked stale es (untold_request x)
+asked-untold stale [] x = refl
+asked-untold stale (e ∷ es) x = asked-untold stale es (with_given stale e x) ∙ ap (asked stale es) (given-untold stale e x)
+
+-- where a test tells which it is
+either-held : (b : Bool) (x y u v : Held) → untold x ≡ u → untold y ≡ v → untold (cond b x y) ≡ cond b u v
+either-held true x y u v e f = e
+either-held false x y u v e f = f
+
+-- of the pair and the decision nothing changes
+with-request : (x : Held) (p : Option (Meta × Reader)) (y z : Request) → untold_request y ≡ z → untold (record { request = y; pair = p; carried = x.carried }) ≡ record { request = z; pair = p; carried = x.carried }
+with-request x p y z e = ap {A = Request} {B = Held} (λ r. record { request = r; pair = p; carried = x.carried }) e
+
+deferred-untold : (d : Option Decision) (x : Held) → untold (record { request = disabled_for reason.Deferred (with_decision d x.request); pair = None; carried = None }) ≡ record { request = disabled_for reason.Deferred (with_decision d (untold_request x.request)); pair = None; carried = None }
+deferred-untold None x = ap {A = Request} {B = Held} (λ r. record { request = r; pair = None; carried = None }) (disabled-untold x.request.phase reason.Deferred x.request)
+deferred-untold (Some d) x = ap {A = Request} {B = Held} (λ r. record { request = r; pair = None; carried = None }) (disabled-untold x.request.phase reason.Deferred (decided d x.request))
+
+looked_with-untold : (d : Option Decision) (a : Answer) (es : List Event) (x : Held) → untold (looked_with d a es x) ≡ looked_with d a es (untold x)
+looked_with-untold d a es x =
+    either-held (is_deferral d) _ _ _ _ (deferred-untold d x)
+    (with-request x (visible x.request.valid_after (pair_of a)) _ _ (asked-untold false es (with_decision d x.request) ∙ ap (asked false es) (decision-untold d x.request)))
+
+looked-untold : (es : List Event) (x : Held) → untold (looked_by es x) ≡ looked_by es (untold x)
+looked-untold [] x = refl
+looked-untold (E.Look k a ∷ es) x = looked_with-untold (decides a x) a es x
+looked-untold (e ∷ es) x = refl
+
+looks_for-untold : (v : List ℕ) (p : Option (Meta × Reader)) (x : Request) → untold_request (looks_for v p x) ≡ looks_for v p (untold_request x)
+looks_for-untold v None x = refl
+looks_for-untold v (Some p) x = refl
+
+placed-untold : (s : HitStatus) (es : List Event) (x : Request) (p : Option (Meta × Reader)) → untold_request (placed_by s es x p) ≡ placed_by s es (untold_request x) p
+placed-untold s es x None = refl
+placed-untold s es x (Some p) = ap (placed s p.0 p.1) (asked-untold (asks_as_stale s x.phase) es x)
+
+began-untold : (joined : Bool) (es : List Event) (x : Request) → untold_request (began joined es x) ≡ began joined es (untold_request x)
+began-untold joined [] x = refl
+began-untold joined (E.Begin w k m ∷ es) x = refl
+began-untold joined (e ∷ es) x = refl
+
+ended-untold : (es : List Event) (x : Request) → untold_request (ended es x) ≡ ended es (untold_request x)
+ended-untold [] x = refl
+ended-untold (e ∷ es) x = refl
+
+read-untold : (es : List Event) (x : Request) → untold_request (has_read es x) ≡ has_read es (untold_request x)
+read-untold [] x = refl
+read-untold (E.Read a ∷ es) x = refl
+read-untold (e ∷ es) x = refl
+
+-- a lock that may be given up
+given_up : (b : Bool) (h : Option Locked) → option_map untold_lock (cond b None h) ≡ cond b None (option_map untold_lock h)
+given_up true h = refl
+given_up false h = refl
+
+varied-untold : (v : Option (List ℕ)) (x : Request) → untold_request (varied v x) ≡ varied v (untold_request x)
+varied-untold v x = ap {A = Option Locked} {B = Request} (λ h. holding h (varied v x)) (given_up (leaves_variant v x.key) x.held)
+
+-- a wait on a read lock with this watch
+read-waited : (answer : Poll LockWaitOutcome) (now n : ℕ) (w : Option Watch) (x : Request) → untold_request (waited_on answer now (Some (Read (record { number = n; watch = w }))) x) ≡ waited_on answer now (Some (Read (record { number = n; watch = option_map untold_watch w }))) (untold_request x)
+read-waited (Ready o) now n None x = refl
+read-waited (Ready o) now n (Some w) x = refl
+read-waited Pending now n None x = refl
+read-waited Pending now n (Some w) x = refl
+
+wait-untold : (answer : Poll LockWaitOutcome) (now : ℕ) (h : Option Locked) (x : Request) → untold_request (waited_on answer now h x) ≡ waited_on answer now (option_map untold_lock h) (untold_request x)
+wait-untold answer now None x = refl
+wait-untold answer now (Some (Write p)) x = refl
+wait-untold answer now (Some (Read rd)) x = read-waited answer now rd.number rd.watch x
+
+waited_by-untold : (o : Outcome) (now : ℕ) (x : Request) → untold_request (waited_by o now x) ≡ waited_by o now (untold_request x)
+waited_by-untold (was_waited answer) now x = wait-untold answer now x.held x
+waited_by-untold o now x = refl
+
+-- of an open request, and where a reply tells that it changes
+over : (f : Held → Held) → ((x : Held) → untold (f x) ≡ f (untold x)) → (q : Option Held) → option_map untold (option_map f q) ≡ option_map f (option_map untold q)
+over f alike None = refl
+over f alike (Some x) = ap Some (alike x)
+
+either : (b : Bool) (p q r s : Option Held) → option_map untold p ≡ r → option_map untold q ≡ s → option_map untold (cond b p q) ≡ cond b r s
+either true p q r s e f = e
+either false p q r s e f = f
+
+on : (f : Request → Request) → ((x : Request) → untold_request (f x) ≡ f (untold_request x)) → (q : Option Held) → option_map untold (option_map (on_request f) q) ≡ option_map (on_request f) (option_map untold q)
+on f alike q = over (on_request f) (λ x. with-request x x.pair _ _ (alike x.request)) q
+
+-- a row that changes the request where the call is done, and one that does where it was no wrong call
+where-done : (o : Outcome) (f : Held → Held) → ((x : Held) → untold (f x) ≡ f (untold x)) → (q : Option Held) → option_map untold (cond (is_done o) (option_map f q) q) ≡ cond (is_done o) (option_map f (option_map untold q)) (option_map untold q)
+where-done o f alike q = either (is_done o) _ _ _ _ (over f alike q) refl
+
+where-right : (o : Outcome) (f : Held → Held) → ((x : Held) → untold (f x) ≡ f (untold x)) → (q : Option Held) → option_map untold (cond (is_wrong o) q (option_map f q)) ≡ cond (is_wrong o) (option_map untold q) (option_map f (option_map untold q))
+where-right o f alike q = either (is_wrong o) _ _ _ _ refl (over f alike q)
+
+shut-untold : (why : NoCacheReason) (x : Held) → untold (shut_by (disabled_for why) x) ≡ shut_by (disabled_for why) (untold x)
+shut-untold why x = ap {A = Request} {B = Held} (λ r. record { request = record r { reader = None }; pair = None; carried = None }) (disabled-untold x.request.phase why x.request)
+
+turned-untold : (f : Request → Request) (leaves_pair : Bool) (x : Held) → untold_request (f x.request) ≡ f (untold_request x.request) → untold (turned_by f leaves_pair x) ≡ turned_by f leaves_pair (untold x)
+turned-untold f leaves_pair x alike = ap {A = Request} {B = Held} (λ r. record { request = record r { reader = x.request.reader }; pair = cond leaves_pair None x.pair; carried = x.carried }) alike
+
+pub row_by-untold : (call : Call) (o : Outcome) (events : List Event) (q : Option Held) → option_map untold (row_by call o events q) ≡ row_by call o events (option_map untold q)
+row_by-untold (C.Open r) o events q = either (is_done o) (Some opened) q _ _ refl refl
+row_by-untold (C.Enable r) o events q = where-done o _ (λ x. refl) q
+row_by-untold (C.Disable r why) o events q = where-done o _ (shut-untold why) q
+row_by-untold (C.Key r k) o events q = where-done o _ (λ x. refl) q
+row_by-untold (C.Look r t d) o events q = where-right o _ (λ x. looked-untold events (carrying d x)) q
+row_by-untold (C.Vary r v) o events q = where-done o _ (λ x. turned-untold (looks_for v x.pair) false x (looks_for-untold v x.pair x.request)) q
+row_by-untold (C.Found r s t) o events q =
+    either (is_taken o) _ _ _ _ (over (taken_by s events) (λ x. with-request x None _ _ (placed-untold s events x.request x.pair)) q)
+    (where-right o without_pair (λ x. refl) q)
+row_by-untold (C.Bypass r) o events q = where-done o _ (λ x. refl) q
+row_by-untold (C.Miss r) o events q = where-done o _ (λ x. refl) q
+row_by-untold (C.Meta r m) o events q = where-done o _ (λ x. refl) q
+row_by-untold (C.Begin r) o events q = on (began (is_done o) events) (began-untold (is_done o) events) q
+row_by-untold (C.Write r bs eof) o events q = refl
+row_by-untold (C.Finish r) o events q = on (ended events) (ended-untold events) q
+row_by-untold (C.Read r) o events q = on (has_read events) (read-untold events) q
+row_by-untold (C.Seek r start end) o events q = where-done o _ (λ x. refl) q
+row_by-untold (C.Done r) o events q = where-right o _ (λ x. refl) q
+row_by-untold (C.Purge r) o events q = refl
+row_by-untold (C.Expire r t) o events q = refl
+row_by-untold (C.Lock r is_used) o events q = where-done o _ (λ x. refl) q
+row_by-untold (C.Wait r t) o events q = on (waited_by o t) (waited_by-untold o t) q
+row_by-untold (C.Publish r tokens) o events q = refl
+row_by-untold (C.Release r why) o events q = where-done o _ (λ x. refl) q
+row_by-untold (C.Updating r) o events q = where-done o _ (λ x. refl) q
+row_by-untold (C.Uncacheable r h why) o events q = where-done o _ (λ x. refl) q
+row_by-untold (C.Variance r v) o events q = where-done o _ (λ x. turned-untold (varied v) false x (varied-untold v x.request)) q
+row_by-untold (C.Revalidate r m) o events q = where-right o _ (λ x. refl) q
+row_by-untold (C.Phase r) o events q = refl
+row_by-untold (C.End r) o events q = either (is_done o) None q _ _ refl refl
+
+pub row-untold : (call : Call) (reply : Reply) (events : List Event) (q : Option Held) → option_map untold (row call reply events q) ≡ row call reply events (option_map untold q)
+row-untold call reply events q = row_by-untold call (outcome reply) events q
+
+-- a request that a call left as its row has it
+pub row-at : (call : Call) (reply : Reply) (events : List Event) (q q' : Option Held) → IsRow call reply events q q' → option_map untold q' ≡ row call reply events (option_map untold q)
+row-at call reply events q q' now = now ∙ row-untold call reply events q
+
+-- ---- conditions and clauses
+
+none-told : (rd : permits.Reader) → Some (Read rd) ≡ None → ⊥
+none-told rd e = absurd (cc)
+
+-- a request that is open, and holds this
+abbrev open_with : Option Locked → Held → Held
+open_with h x = record { request = holding h x.request; pair = x.pair; carried = x.carried }
+
+may-alike : (f : Facts) (call : Call) (h : Option Locked) (x : Held) → MayBe f call (Some (open_with h x)) → MayBe f call (Some (untold (open_with h x)))
+may-alike f call None x m = m
+may-alike f call (Some (Write p)) x m = m
+may-alike f (C.Open r) (Some (Read rd)) x m = m
+may-alike f (C.Lock r is_used) (Some (Read rd)) x m = absurd (none-told rd m.1)
+may-alike f call (Some (Read rd)) x m = m
+
+may-back : (f : Facts) (call : Call) (h : Option Locked) (x : Held) → MayBe f call (Some (untold (open_with h x))) → MayBe f call (Some (open_with h x))
+may-back f call None x m = m
+may-back f call (Some (Write p)) x m = m
+may-back f (C.Open r) (Some (Read rd)) x m = m
+may-back f (C.Lock r is_used) (Some (Read rd)) x m = absurd (none-told (untold_reader rd) m.1)
+may-back f call (Some (Read rd)) x m = m
+
+pub may-untold : (f : Facts) (call : Call) (q : Option Held) → MayBe f call q → MayBe f call (option_map untold q)
+may-untold f call None m = m
+may-untold f call (Some x) m = may-alike f call x.request.held x m
+
+pub may-told : (f : Facts) (call : Call) (q : Option Held) → MayBe f call (option_map untold q) → MayBe f call q
+may-told f call None m = m
+may-told f call (Some x) m = may-back f call x.request.held x m
+
+-- a look-up asks alike: a read lock goes without an event
+asks-alike : (b : Bool) (k : ℕ) (rd : permits.Reader) (events : List Event) (l : Option LockKind) → AsksIf b k (Some (Read (untold_reader rd))) events l ≡ AsksIf b k (Some (Read rd)) events l
+asks-alike true k rd events l = refl
+asks-alike false k rd events l = refl
+
+misses-alike : (f : Facts) (k : ℕ) (a : Answer) (rd : permits.Reader) (x : Request) (reply : Reply) (events : List Event) → Misses f k a (untold_request (holding (Some (Read rd)) x)) reply events ≡ Misses f k a (holding (Some (Read rd)) x) reply events
+misses-alike f k a rd x reply events = λ i.
+    ((e : ErrorType) × (x.uses.lock ≡ true) × IsLockRefusal f true e × (events ≡ E.Look k a ∷ []) × (reply ≡ R.Refused e))
+    ⊎ ((more : List Event) × (l : Option LockKind) × asks-alike x.uses.lock k rd more l i × (events ≡ E.Look k a ∷ more) × (reply ≡ R.NotFound l))
+
+hands-alike : (unseen : Bool) (f : Facts) (k : ℕ) (a : Answer) (rd : permits.Reader) (x : Request) (reply : Reply) (events : List Event) → HandsOn unseen f k a (untold_request (holding (Some (Read rd)) x)) reply events ≡ HandsOn unseen f k a (holding (Some (Read rd)) x) reply events
+hands-alike true f k a rd x reply events = misses-alike f k a rd x reply events
+hands-alike false f k a rd x reply events = refl
+
+looks_on-alike : (defers : Bool) (f : Facts) (k : ℕ) (a : Answer) (rd : permits.Reader) (x : Request) (reply : Reply) (events : List Event) → LooksOn defers f k a (untold_request (holding (Some (Read rd)) x)) reply events ≡ LooksOn defers f k a (holding (Some (Read rd)) x) reply events
+looks_on-alike true f k a rd x reply events = refl
+looks_on-alike false f k a rd x reply events = hands-alike (is_unseen x.valid_after (pair_of a)) f k a rd x reply events
+
+looks-alike : (f : Facts) (rd : permits.Reader) (x : Held) (reply : Reply) (events : List Event) → Looks f (untold (open_with (Some (Read rd)) x)) reply events ≡ Looks f (open_with (Some (Read rd)) x) reply events
+looks-alike f rd x reply events = λ i.
+    IsStarved reply events
+    ⊎ ((k : Key) × (a : Answer) × (x.request.key ≡ Some k) × (pair_of a ≡ f.found) × looks_on-alike (is_deferral (decides a x)) f (slot k) a rd x.request reply events i)
+
+takes-alike : (f : Facts) (s : HitStatus) (rd : permits.Reader) (x : Request) (p : Option (Meta × Reader)) (reply : Reply) (events : List Event) → Takes f s (untold_request (holding (Some (Read rd)) x)) p reply events ≡ Takes f s (holding (Some (Read rd)) x) p reply events
+takes-alike f s rd x None reply events = refl
+takes-alike f s rd x (Some p) reply events = λ i.
+    IsStarved reply events
+    ⊎ ((k : Key) × (x.key ≡ Some k) × (((e : ErrorType) × IsLockRefusal f (x.uses.lock && not (is_fresh s)) e × (reply ≡ R.Refused e) × (events ≡ accesses s k p.1 x))
+    ⊎ ((more : List Event) × (l : Option LockKind) × asks-alike (x.uses.lock && not (is_fresh s)) (slot k) rd more l i
+    × (events ≡ accesses s k p.1 x ++ more) × (reply ≡ R.Taken (phase_found s x.phase) l))))
+
+finishes-alike : (f : Facts) (rd : permits.Reader) (x : Request) (w : Option ℕ) (reply : Reply) (events : List Event) → Finishes f (untold_request (holding (Some (Read rd)) x)) w reply events ≡ Finishes f (holding (Some (Read rd)) x) w reply events
+finishes-alike f rd x None reply events = refl
+finishes-alike f rd x (Some w) reply events = refl
+
+-- whether a read lock was polled stays known
+waits-alike : (f : Facts) (t n : ℕ) (w : Option Watch) (x : Request) (reply : Reply) (events : List Event) → Waits f t (holding (Some (Read (record { number = n; watch = option_map untold_watch w }))) x) reply events ≡ Waits f t (holding (Some (Read (record { number = n; watch = w }))) x) reply events
+waits-alike f t n None x reply events = refl
+waits-alike f t n (Some w) x reply events = refl
+
+does-read : (f : Facts) (call : Call) (rd : permits.Reader) (x : Held) (reply : Reply) (events : List Event) → Does f call (Some (untold (open_with (Some (Read rd)) x))) reply events ≡ Does f call (Some (open_with (Some (Read rd)) x)) reply events
+does-read f (C.Look r t d) rd x reply events = looks-alike f rd (carrying d x) reply events
+does-read f (C.Found r s t) rd x reply events = takes-alike f s rd x.request x.pair reply events
+does-read f (C.Finish r) rd x reply events = finishes-alike f rd x.request x.request.write reply events
+does-read f (C.Wait r t) rd x reply events = waits-alike f t rd.number rd.watch x.request reply events
+does-read f call rd x reply events = refl
+
+does-alike : (f : Facts) (call : Call) (h : Option Locked) (x : Held) (reply : Reply) (events : List Event) → Does f call (Some (untold (open_with h x))) reply events ≡ Does f call (Some (open_with h x)) reply events
+does-alike f call None x reply events = refl
+does-alike f call (Some (Write p)) x reply events = refl
+does-alike f call (Some (Read rd)) x reply events = does-read f call rd x reply events
+
+pub does-untold : (f : Facts) (call : Call) (q : Option Held) (reply : Reply) (events : List Event) → Does f call (option_map untold q) reply events ≡ Does f call q reply events
+does-untold f call None reply events = refl
+does-untold f call (Some x) reply events = does-alike f call x.request.held x reply events
+
+pub answers-untold : (f : Facts) (call : Call) (q : Option Held) (reply : Reply) (events : List Event) → Answers f call q reply events → Answers f call (option_map untold q) reply events
+answers-untold f call q reply events (inl (may, other, does)) = inl (may-untold f call q may, other, subst (λ (T : Type 0). T) (sym (does-untold f call q reply events)) does)
+answers-untold f call q reply events (inr (may_not, is)) = inr ((λ m. may_not (may-told f call q m)), is)
+
+pub told-answers : (f : Facts) (call : Call) (q : Option Held) (reply : Reply) (events : List Event) → Answers f call (option_map untold q) reply events → Answers f call q reply events
+told-answers f call q reply events (inl (may, other, does)) = inl (may-told f call q may, other, subst (λ (T : Type 0). T) (does-untold f call q reply events) does)
+told-answers f call q reply events (inr (may_not, is)) = inr ((λ m. may_not (may-untold f call q m)), is)
+
+-- ---- facts
+
+-- all facts but what a wait answers and whether it finds the permit too old
+pub record AreFacts (f g : Facts) : Type 0 where
+  pub next : g.next ≡ f.next
+  pub found : g.found ≡ f.found
+  pub there : g.there ≡ f.there
+  pub complete : g.complete ≡ f.complete
+  pub given : g.given ≡ f.given
+  pub told : g.told ≡ f.told
+  pub untouched : g.untouched ≡ f.untouched
+  pub size : g.size ≡ f.size
+  pub asked : g.asked ≡ f.asked
+
+pub facts-untold : (s : Store) (t : Locks) (q : Option Held) → AreFacts (facts_in s t (request_in q)) (facts_in s t (request_in (option_map untold q)))
+facts-untold s t None = record { next = refl; found = refl; there = refl; complete = refl; given = refl; told = refl; untouched = refl; size = refl; asked = refl }
+facts-untold s t (Some x) = record { next = refl; found = refl; there = refl; complete = refl; given = refl; told = refl; untouched = refl; size = refl; asked = refl }
+
+-- ---- what is made, named, read and said
+
+pub world-untold : (x : Request) → IsOfWorld x → IsOfWorld (untold_request x)
+world-untold x is = record { eviction = is.eviction; unnumbered = is.unnumbered; fills = is.fills }
+
+pub world-told : (x : Request) → IsOfWorld (untold_request x) → IsOfWorld x
+world-told x is = record { eviction = is.eviction; unnumbered = is.unnumbered; fills = is.fills }
+
+pub keeps-untold : (q q' : Option Held) → KeepsKey q q' → KeepsKey (option_map untold q) (option_map untold q')
+keeps-untold None None keeps = keeps
+keeps-untold (Some x) None keeps = keeps
+keeps-untold None (Some y) keeps = (world-untold y.request keeps.0, keeps.1)
+keeps-untold (Some x) (Some y) keeps = λ is. (world-untold y.request (keeps (world-told x.request is)).0, (keeps (world-told x.request is)).1)
+
+pub makes-untold : (q : Option Held) → makes_of (option_map untold q) ≡ makes_of q
+makes-untold None = refl
+makes-untold (Some x) = refl
+
+pub slot-untold : (q : Option Held) → slot_of (option_map untold q) ≡ slot_of q
+slot-untold None = refl
+slot-untold (Some x) = refl
+
+pub reader-untold : (q : Option Held) → reader_for (option_map untold q) ≡ reader_for q
+reader-untold None = refl
+reader-untold (Some x) = refl
+
+pub reads-untold : (q : Option Held) → reads_of (option_map untold q) ≡ reads_of q
+reads-untold None = refl
+reads-untold (Some x) = refl
+
+-- where tokens are published or a wait goes on
+said-alike : (call : Call) (o : Outcome) (h : Option Locked) → said_by call o (option_map untold_lock h) ≡ said_by call o h
+said-alike call o None = refl
+said-alike call o (Some (Write p)) = refl
+said-alike (C.Publish r tokens) was_done (Some (Read rd)) = refl
+said-alike (C.Wait r t) (was_waited Pending) (Some (Read rd)) = refl
+said-alike call o (Some (Read rd)) = refl
+
+held-untold : (q : Option Held) → held_in (option_map untold q) ≡ option_map untold_lock (held_in q)
+held-untold None = refl
+held-untold (Some x) = refl
+
+pub deeds-untold : (call : Call) (o : Outcome) (events : List Event) (q : Option Held) → deeds_in call o events (option_map untold q) ≡ deeds_in call o events q
+deeds-untold call o events q = ap (λ said. said ++ deeds_by (number_of call) (moment_of call) (status_left call events) events) (ap (said_by call o) (held-untold q) ∙ said-alike call o (held_in q))
+
+-- ---- waits: what a poll leaves of the read lock is, but for what it was told, what the row of a wait has
+
+told-alike : (s : LockStatus) (late : Bool) (since now : ℕ) (rd : permits.Reader) (fills : Option (List UnusableFill)) (w : Watch) (told : Option UnusableFill) (x : Request) → w.fills ≡ fills_of rd.watch fills →
+    untold_request (after_wait (answer_by s late (told_or_pending told)) since now (record { number = rd.number; watch = Some w }) x) ≡ untold_request (after_wait (answer_by s late (told_or_pending told)) since now (reader_watching rd fills) x)
+told-alike s late since now rd fills w (Some fill) x same = refl
+told-alike s true since now rd fills w None x same = refl
+told-alike s false since now rd fills w None x same = ap {A = List UnusableFill} {B = Request} (λ b. untold_request (after_wait Pending since now (record { number = rd.number; watch = Some (record { fills = b; seen = 0; told = None }) }) x)) same
+
+stage-alike : (s : LockStatus) (late : Bool) (since now : ℕ) (rd : permits.Reader) (fills : Option (List UnusableFill)) (w : Watch) (stage : Stage) (x : Request) → w.fills ≡ fills_of rd.watch fills →
+    untold_request (after_wait (answer_by s late (answer_at stage w)) since now (reader_at stage rd w) x) ≡ untold_request (after_wait (answer_by s late (answer_at stage w)) since now (reader_watching rd fills) x)
+stage-alike s late since now rd fills w Over x same = refl
+stage-alike s late since now rd fills w Old x same = refl
+stage-alike s late since now rd fills w stage.Held x same = told-alike s late since now rd fills w w.told x same
+
+watches-alike : (c : permits.Core) (fills : Option (List UnusableFill)) (w : Option Watch) → (looked c (watch_at c fills w)).fills ≡ fills_of w fills
+watches-alike c fills None = refl
+watches-alike c fills (Some w) = refl
+
+polled-alike : (s : LockStatus) (late : Bool) (since now : ℕ) (rd : permits.Reader) (fills : Option (List UnusableFill)) (c : Option permits.Core) (x : Request) →
+    untold_request (after_wait (answer_by s late (polled now fills rd.watch c)) since now (reader_polled now fills rd c) x) ≡ untold_request (after_wait (answer_by s late (polled now fills rd.watch c)) since now (reader_watching rd fills) x)
+polled-alike s late since now rd fills None x = refl
+polled-alike s late since now rd fills (Some c) x = stage-alike s late since now rd fills (looked c (watch_at c fills rd.watch)) (stage_of now c) x (watches-alike c fills rd.watch)
+
+-- of a request that holds this read lock
+pub waited-on-untold : (t : Locks) (now : ℕ) (rd : permits.Reader) (x : Request) → untold_request (waited t now (Some (Read rd)) x) ≡ untold_request (waited_on (wait_answer t now (Some (Read rd)) x) now (Some (Read rd)) x)
+waited-on-untold t now rd x =
+    polled-alike (status_seen now (get t.cores rd.number)) (is_late now rd x.wait_timeout x.digest.waits x.waits_since) (since_of now rd.watch x.waits_since) now rd (unusable_in x.key) (get t.cores rd.number) x
+
+pub waited-untold : (t : Locks) (now : ℕ) (rd : permits.Reader) (x : Request) → x.held ≡ Some (Read rd) → untold_request (waited t now (Some (Read rd)) x) ≡ untold_request (waited_with (wait_answer t now (Some (Read rd)) x) now x)
+waited-untold t now rd x holds = waited-on-untold t now rd x ∙ ap {A = Option Locked} {B = Request} (λ h. untold_request (waited_on (wait_answer t now (Some (Read rd)) x) now h x)) (sym holds)

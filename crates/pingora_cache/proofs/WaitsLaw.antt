@@ -1,0 +1,58 @@
+-- In a legal history a wait is answered by what the deeds before it say of its lock.
+use Rattle.std.proofs.Common.{◌≡◌, ℕ, ◌⊎◌, false, Option, None, Some, IsSome, is_some, List, refl, ap, sym, subst, ◌∙◌, inl, inr}
+use Rattle.pcache_base.specs.declared.error.ErrorType.TheVariants.{OutOfMemory}
+use Rattle.pcache_base.specs.declared.poll.Poll.{Poll}
+use Rattle.pcache_base.specs.declared.poll.Poll.TheVariants.{Ready, Pending}
+use Rattle.pcache_lock.specs.Permits.{Reader, Watch}
+use Rattle.pcache_lock.specs.declared.lock.outcome.LockWaitOutcome.{LockWaitOutcome}
+use Rattle.pcache_lock.specs.declared.lock.permit.Locked.{Locked}
+use Rattle.pcache_lock.specs.declared.lock.permit.Locked.TheVariants.{Read}
+use Rattle.pcache_request.specs.LockUse.{read_in}
+use Rattle.pcache_request.specs.LockWaits.{unusable_in}
+use Rattle.pingora_cache.specs.declared.world.call.Call.TheVariants as C
+use Rattle.pingora_cache.specs.declared.world.call.Reply.{Reply}
+use Rattle.pingora_cache.specs.declared.world.call.Reply.TheVariants as R
+use Rattle.pingora_cache.specs.declared.world.entry.Entry.{Entry}
+use Rattle.pingora_cache.specs.declared.world.entry.Event.{Event}
+use Rattle.pingora_cache.specs.Deeds.{Deed, deeds_of}
+use Rattle.pingora_cache.specs.Facts.{Facts}
+use Rattle.pingora_cache.specs.Headline.{WaitsAreTrue}
+use Rattle.pingora_cache.specs.Held.{Held, number_of, request_of}
+use Rattle.pingora_cache.specs.History.{events_of}
+use Rattle.pingora_cache.specs.Legal.{Gives}
+use Rattle.pingora_cache.specs.Rules.{Answers, IsCopy, wait_reply, was_polled}
+use Rattle.pingora_cache.specs.Waits.{wait_of}
+
+-- a reply to a wait has no bytes, so it is told as it is
+abbrev IsNoData : Reply → Type 0
+IsNoData (R.Data bytes) = ⊥
+IsNoData _ = Unit {0}
+
+wait-no-data : (a : Poll LockWaitOutcome) → IsNoData (wait_reply a)
+wait-no-data Pending = tt
+wait-no-data (Ready o) = tt
+
+told-as : (reply told : Reply) → IsNoData reply → IsCopy reply told → told ≡ reply
+told-as reply told none (inl same) = same
+told-as reply told none (inr (refused, given)) = absurd (subst IsNoData given.1 none)
+
+unwatched : (w : Option Watch) → is_some w ≡ false → w ≡ None
+unwatched None e = refl
+unwatched (Some w) e = absurd (cc)
+
+module _ (age : ℕ) (ds : List Deed) (r t : ℕ) (x : Held) (rd : Reader) (f : Facts) (held : x.request.held ≡ Some (Read rd)) (says : f.wait t ≡ wait_of age t r rd x.request ds) where
+  abbrev Told : Reply → Type 0
+  Told reply = (reply ≡ wait_reply (wait_of age t r rd x.request ds)) ⊎ ((reply ≡ R.Refused OutOfMemory) × (rd.watch ≡ None) × IsSome (unusable_in x.request.key))
+
+  by-answers : (reply told : Reply) (events : List Event) → IsCopy reply told → Answers f (C.Wait r t) (Some x) reply events → Told told
+  by-answers reply told events copy (inl (may, other, inl (first, fills, idle))) =
+      inr (told-as reply told (subst IsNoData (sym idle.0) tt) copy ∙ idle.0, unwatched rd.watch (sym (ap was_polled held) ∙ first), fills)
+  by-answers reply told events copy (inl (may, other, inr (is, noted))) = inl (told-as reply told (subst IsNoData (sym is) (wait-no-data (f.wait t))) copy ∙ is ∙ ap wait_reply says)
+  by-answers reply told events copy (inr (fails, idle)) = absurd (fails (subst (λ h. IsSome (read_in h)) (sym held) refl))
+
+pub waits_are_true : WaitsAreTrue
+waits_are_true age limits start before entry r t x rd l call has held =
+    let opened : request_of (number_of entry.call) before ≡ Some x = ap (λ c. request_of (number_of c) before) call ∙ has in
+    let at = subst (λ q. Gives age limits start (events_of before) (deeds_of before) q entry.call entry.reply entry.events) opened l.0 in
+    let g = subst (λ c. Gives age limits start (events_of before) (deeds_of before) (Some x) c entry.reply entry.events) call at in
+    by-answers age (deeds_of before) r t x rd g.facts held (g.says.wait rd t held) g.told entry.reply entry.events g.copy g.answers

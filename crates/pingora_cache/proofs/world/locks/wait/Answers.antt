@@ -1,0 +1,23 @@
+use Rattle.std.proofs.Common.{rules, Option, Some, IsSome, inl, option_map, subst}
+use Rattle.pcache_meta.specs.Meta.{Meta}
+use Rattle.pcache_request.specs.LockUse.{read_in}
+use Rattle.pcache_store.specs.Readers.{reader_of}
+use Rattle.pcache_store.specs.Store.{Reader}
+use Rattle.pingora_cache.specs.Facts.{facts_in}
+use Rattle.pingora_cache.specs.Held.{Held}
+use Rattle.pingora_cache.specs.Moved.{MovesStore}
+use Rattle.pingora_cache.specs.Rules.{Answers}
+use Rattle.pingora_cache.specs.declared.world.call.Call.TheVariants as calls
+use Rattle.pingora_cache.proofs.Noted.{held_with}
+use Rattle.pingora_cache.proofs.world.locks.wait.Goals as goal
+
+pub returns-clause-answers : goal.returns-clause-answers
+returns-clause-answers c s =
+    let may : IsSome (read_in c.request.inside.cache.held) = search rules in
+    subst (λ (x : Held). Answers (facts_in s c.args.lock.now x.request) (calls.Wait 0 c.args.now) (Some x) c.wait_on.result c.wait_on.new.events.items) c.request.view_is
+    (inl (may, c.wait_on.ensures.other, c.wait_on.ensures.answers s))
+
+pub returns-clause-moves : goal.returns-clause-moves
+returns-clause-moves c s =
+    let pair : Option (Meta × Reader) = option_map (λ p. (p.0, reader_of p.1)) c.request.inside.pair in
+    subst (λ (x : Held). MovesStore (Some x) s c.wait_on.new.events.items (Some (held_with c.request.inside.carried pair c.wait_on.new.cache)) s) c.request.view_is (c.wait_on.ensures.moves s pair c.request.inside.carried)
