@@ -1,10 +1,10 @@
 #!/usr/bin/env python3
-"""Says of each wrong body in must-fail/ by name whether the prover refuses it, and why.
+"""Says of each wrong body of a crate by name whether the prover refuses it, and why.
 
   bench/edits_seen.py [NAME..]      the crates named, or all
 
-The gate sees of a file with many edits only that the edited crate as a whole is refused. This checks the edited text once for
-each file, in a copy, and looks for the function that each edit turns:
+The gate tries the one file in must-fail/, and sees only that the edited crate as a whole is refused. This reads the files in
+wrong-bodies/ too, checks the edited text once for each file, in a copy, and looks for the function that each edit turns:
 
   by itself    a goal of this very function fails
   by callers   the function is still proved, but something that uses it is not, with this edit alone
@@ -85,6 +85,16 @@ def edits_in(path):
     if len(parts) == 1:
         return [Edit(os.path.basename(path).removesuffix(".edit"), parts[0])]
     return [Edit(*it.split("\n", 1)) for it in parts[1:]]
+
+
+def files_of(crate):
+    """The files of wrong bodies of a crate: the one that the gate tries, and those that only this script reads."""
+    found = []
+    for folder in ("must-fail", "wrong-bodies"):
+        at = f"{TOP}/crates/{crate}/{folder}"
+        if os.path.isdir(at):
+            found += sorted(f"{folder}/{it}" for it in os.listdir(at) if it.endswith(".edit"))
+    return found
 
 
 def link(old, new):
@@ -190,11 +200,10 @@ def alone(crate, edit):
 def main(names):
     bad = 0
     for crate in names or sorted(os.listdir(f"{TOP}/crates")):
-        folder = f"{TOP}/crates/{crate}/must-fail"
-        files = sorted(it for it in os.listdir(folder) if it.endswith(".edit")) if os.path.isdir(folder) else []
+        files = files_of(crate)
         count = refused = 0
         for file in files:
-            edits = edits_in(f"{folder}/{file}")
+            edits = edits_in(f"{TOP}/crates/{crate}/{file}")
             _, said, turned = checked(crate, edits)
             for edit, places in zip(edits, turned):
                 seen = outcome(said, places)
