@@ -3,7 +3,7 @@ ghost use Rattle.std.specs.Prelude.{◌<◌, IfOk};
 
 use bytes::Bytes;
 use http::StatusCode;
-use pingora_cache::NoCacheReason;
+use pingora_cache::{CacheOptionOverrides, NoCacheReason};
 use pingora_cache::header::ResponseHeader;
 use pingora_cache::key::{CacheKey, HashBinary, str2hex};
 use pingora_cache::lock::{UnusableFill, UnusableFills};
@@ -13,6 +13,7 @@ use pingora_cache::phase::HitStatus;
 use pingora_cache::world::call::Call;
 use pingora_cache::world::tokens::Tokens;
 use std::alloc::{AllocError, AllocFailed, Global};
+use std::time::Duration;
 
 /// What a line asks for.
 #[derive(Drop)]
@@ -121,8 +122,14 @@ fn read_call(
     now: Moment,
 ) -> Result<Call, Unread> {
     match word {
-        b"open" => Ok(Call::Open { request }),
-        b"enable" => Ok(Call::Enable { request }),
+        b"open" => Ok(Call::Open {
+            request,
+            options: options(words)?,
+        }),
+        b"enable" => Ok(Call::Enable {
+            request,
+            options: options(words)?,
+        }),
         b"disable" => Ok(Call::Disable {
             request,
             reason: reason(words.word()?)?,
@@ -257,6 +264,10 @@ fn read_lock_call(
             request,
             reason: reason(words.word()?)?,
         }),
+        b"give" => Ok(Call::Give {
+            request,
+            to: words.number()?,
+        }),
         b"uncacheable" => Ok(Call::Uncacheable {
             request,
             header: ResponseHeader::build(alloc, StatusCode::OK),
@@ -277,6 +288,17 @@ fn tokens(alloc: Global, words: &mut Words<'_>) -> Result<Vec<u64>, Unread> {
         tokens.push(number(token)?)?;
     }
     Ok(tokens)
+}
+
+// For how many seconds a request waits for locks, where that is limited.
+fn options(words: &mut Words<'_>) -> Result<Option<CacheOptionOverrides>, Unread> {
+    let Some(word) = words.option(b"w=") else {
+        return Ok(None);
+    };
+    Ok(Some(CacheOptionOverrides {
+        wait_timeout: Some(Duration::from_secs(number(word)?)),
+        max_lock_retries: None,
+    }))
 }
 
 fn is_on(word: &[u8]) -> Result<bool, Unread> {

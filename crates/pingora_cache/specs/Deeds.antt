@@ -25,6 +25,8 @@ pub data Deed : Type 0 where
   Released : (lock : ℕ) (status : LockStatus) → Deed
   LetGo : (lock : ℕ) → Deed
   Aged : (lock : ℕ) → Deed
+  -- a permit is handed to a request
+  Handed : (lock by : ℕ) → Deed
   -- who holds a permit publishes
   Published : (lock : ℕ) (tokens : List ℕ) → Deed
   -- a request looks at its read lock, and has to wait on
@@ -74,10 +76,17 @@ published_on tokens None = []
 published_on tokens (Some (Write p)) = Published p.number tokens ∷ []
 published_on tokens (Some (Read rd)) = []
 
--- what a call does to locks that no event tells: tokens are published, where a permit is held; a wait has to go on
+abbrev pub handed_on : ℕ → Option Locked → List Deed
+handed_on to None = []
+handed_on to (Some (Write p)) = Handed p.number to ∷ []
+handed_on to (Some (Read rd)) = []
+
+-- what a call does to locks that no event tells: tokens are published, where a permit is held; a wait has to go on; a permit is
+-- handed over
 abbrev pub said_by : Call → Outcome → Option Locked → List Deed
 said_by (C.Publish r tokens) was_done held = published_on tokens held
 said_by (C.Wait r t) (was_waited Pending) held = Polled r ∷ []
+said_by (C.Give r to) was_done held = handed_on to held
 said_by _ _ held = []
 
 abbrev pub deeds_in : Call → Outcome → List Event → Option Held → List Deed
@@ -100,6 +109,7 @@ abbrev pub holds_at : ℕ → Deed → Option ℕ → Option ℕ
 holds_at l (Asked r k n true t) before = if n == l then Some r else before
 holds_at l (Released n s) before = if n == l then None else before
 holds_at l (LetGo n) before = if n == l then None else before
+holds_at l (Handed n r) before = if n == l then Some r else before
 holds_at l _ before = before
 
 -- what a permit leaves to those who wait on it: waiting, too old, dangling once it is let go, else the status that it was

@@ -25,7 +25,7 @@ use Rattle.pingora_cache.specs.declared.world.entry.Event.{Event}
 use Rattle.pingora_cache.specs.declared.world.entry.Event.TheVariants.{Look, Ask, Finish, Admit, Read}
 use Rattle.pingora_cache.specs.Deeds.{deeds_of}
 use Rattle.pingora_cache.specs.Events.{is_of, begin_of, in_flight, was_stored, is_removed, last_finished, body_of, complete, names_slot, size_of, tracked, stored, slots}
-use Rattle.pingora_cache.specs.Held.{Held, number_of, pair_of, request_of}
+use Rattle.pingora_cache.specs.Held.{Held, number_of, pair_of, request_of, taker_in}
 use Rattle.pingora_cache.specs.Facts.{Facts, Says, request_in}
 use Rattle.pingora_cache.specs.History.{events_of, Finds, reads}
 use Rattle.pingora_cache.specs.Legal.{IsLegal}
@@ -38,7 +38,7 @@ use Rattle.pingora_cache.specs.ReadSoFar.{read_by, HasRead}
 -- a call is answered as a wrong one exactly where its condition fails, by the facts that the events before it say
 abbrev pub IsWrongExactly : Type 0
 IsWrongExactly = (age : ℕ) (limits : Limits) (start : Tracked) (before : List Entry) (entry : Entry) (f : Facts) → IsLegal age limits start (entry ∷ before) → Says age (events_of before) (deeds_of before) (number_of entry.call) (request_in (request_of (number_of entry.call) before)) f
-    → (entry.reply ≡ WrongCall) ↔ (MayBe f entry.call (request_of (number_of entry.call) before) → ⊥)
+    → f.taker ≡ taker_in entry.call before → (entry.reply ≡ WrongCall) ↔ (MayBe f entry.call (request_of (number_of entry.call) before) → ⊥)
 
 -- a look-up answers what the events before it say of its key: the earliest begun write that is in flight and untouched, else
 -- the complete body, else nothing; with the meta that the write began with, which of a complete body is altered by each expiry

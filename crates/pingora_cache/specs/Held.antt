@@ -7,19 +7,21 @@ use Rattle.pcache_meta.specs.Meta.{Meta}
 use Rattle.pcache_base.specs.declared.poll.Poll.{Poll}
 use Rattle.pcache_base.specs.declared.poll.Poll.TheVariants.{Ready, Pending}
 use Rattle.pcache_lock.specs.declared.lock.outcome.LockWaitOutcome.{LockWaitOutcome}
+use Rattle.pcache_lock.specs.Permits.{Permit}
 use Rattle.pcache_lock.specs.declared.lock.permit.Locked.{Locked}
 use Rattle.pcache_lock.specs.declared.lock.permit.Locked.TheVariants.{Write, Read}
 use Rattle.pcache_store.specs.Store.{Reader, Whole, Part, sought}
 use Rattle.pcache_base.specs.declared.reason.NoCacheReason.TheVariants.{Deferred}
 use Rattle.pcache_predict.specs.declared.admission.Decision.{Decision}
 use Rattle.pcache_request.specs.Admissions.{is_deferral, kept_if, observes, with_decision}
-use Rattle.pcache_request.specs.LockUse.{unheld, with_cache_lock}
+use Rattle.pcache_request.specs.LockUse.{enabled_waiting, handed, permit_in, unheld, with_cache_lock, with_options}
 use Rattle.pcache_request.specs.Phases.{is_key_phase}
 use Rattle.pcache_request.specs.Renewals.{renewed}
 use Rattle.pcache_request.specs.Releasing.{bypassed, disabled_for}
 use Rattle.pcache_request.specs.Stale.{updating, uncacheable}
 use Rattle.pcache_request.specs.Variants.{looks_for_variance, varied, visible}
-use Rattle.pcache_request.specs.Requests.{Request, fresh_request, enabled_with, with_key, missed, with_meta, without_reader, placed, asks_as_stale}
+use Rattle.pcache_request.specs.declared.cache.lock_use.CacheOptionOverrides.{CacheOptionOverrides}
+use Rattle.pcache_request.specs.Requests.{Request, fresh_request, with_key, missed, with_meta, without_reader, placed, asks_as_stale}
 use Rattle.pcache_request.specs.declared.phase.HitStatus.{HitStatus}
 use Rattle.pcache_request.specs.declared.phase.InUse.{InUse}
 use Rattle.pingora_cache.specs.declared.world.call.Call.{Call}
@@ -45,8 +47,8 @@ untold x = record { request = untold_request x.request; pair = x.pair; carried =
 
 -- the request that a call names
 abbrev pub number_of : Call → ℕ
-number_of (C.Open r) = r
-number_of (C.Enable r) = r
+number_of (C.Open r options) = r
+number_of (C.Enable r options) = r
 number_of (C.Disable r why) = r
 number_of (C.Key r k) = r
 number_of (C.Look r t d) = r
@@ -67,12 +69,18 @@ number_of (C.Lock r is_used) = r
 number_of (C.Wait r t) = r
 number_of (C.Publish r tokens) = r
 number_of (C.Release r why) = r
+number_of (C.Give r to) = r
 number_of (C.Updating r) = r
 number_of (C.Uncacheable r h why) = r
 number_of (C.Variance r v) = r
 number_of (C.Revalidate r m) = r
 number_of (C.Phase r) = r
 number_of (C.End r) = r
+
+-- the request that a call names besides, to which a permit is handed
+abbrev pub taker_of : Call → Option ℕ
+taker_of (C.Give r to) = Some to
+taker_of call = None
 
 -- what a request moves by of a reply
 pub data Outcome : Type 0 where
@@ -108,8 +116,8 @@ is_taken _ = false
 abbrev pub world_use : InUse
 world_use = record { eviction = true; predictor = false; lock = true }
 
-abbrev pub opened : Held
-opened = record { request = fresh_request world_use; pair = None; carried = None }
+abbrev pub opened : Option CacheOptionOverrides → Held
+opened options = record { request = with_options true options (fresh_request world_use); pair = None; carried = None }
 
 -- the pair of a look-up's answer
 abbrev pub pair_of : Answer → Option (Meta × Reader)
@@ -209,8 +217,8 @@ waited_by _ now x = x
 
 -- What a call makes of the request that it names, by the row of the phase table.
 pub data Change : Type 0 where
-  -- a request comes to be
-  opens : Change
+  -- a request comes to be, whose lock has these options
+  opens : (options : Option CacheOptionOverrides) → Change
   -- it goes
   closes : Change
   -- it stays as it is
@@ -237,8 +245,8 @@ pub data Change : Type 0 where
   waits : (now : ℕ) → Change
 
 abbrev pub change_of : Call → Change
-change_of (C.Open r) = opens
-change_of (C.Enable r) = turns (enabled_with world_use) false
+change_of (C.Open r options) = opens options
+change_of (C.Enable r options) = turns (enabled_waiting world_use options) false
 change_of (C.Disable r why) = shuts (disabled_for why)
 change_of (C.Key r k) = turns (with_key k) false
 change_of (C.Look r t d) = looks d
@@ -259,6 +267,7 @@ change_of (C.Lock r is_used) = turns (with_cache_lock is_used None) false
 change_of (C.Wait r t) = waits t
 change_of (C.Publish r tokens) = stays
 change_of (C.Release r why) = turns unheld false
+change_of (C.Give r to) = turns unheld false
 change_of (C.Updating r) = turns updating false
 change_of (C.Uncacheable r h why) = turns (uncacheable (shown h) why) false
 change_of (C.Variance r v) = turns (varied v) false
@@ -275,7 +284,7 @@ abbrev pub shut_by : (Request → Request) → Held → Held
 shut_by f x = record { request = record (f x.request) { reader = None }; pair = None; carried = None }
 
 abbrev pub changed : Change → Outcome → List Event → Option Held → Option Held
-changed opens o events q = cond (is_done o) (Some opened) q
+changed (opens options) o events q = cond (is_done o) (Some (opened options)) q
 changed closes o events q = cond (is_done o) None q
 changed stays o events q = q
 changed (turns f leaves_pair) o events q = cond (is_done o) (option_map (turned_by f leaves_pair) q) q
@@ -297,7 +306,26 @@ row_by call o events q = changed (change_of call) o events q
 abbrev pub row : Call → Reply → List Event → Option Held → Option Held
 row call reply events q = row_by call (outcome reply) events q
 
+-- a request that is handed a permit
+abbrev pub handed_by : Option Permit → Held → Held
+handed_by None x = x
+handed_by (Some p) x = on_request (handed p) x
+
+abbrev pub permit_held : Option Held → Option Permit
+permit_held None = None
+permit_held (Some x) = permit_in x.request.held
+
+-- the request r after a call that may hand it the permit of another, which was giver before the call, and q after it
+abbrev pub taken_over : Call → Outcome → ℕ → Option Held → Option Held → Option Held
+taken_over (C.Give from to) was_done r giver q = cond (to == r) (option_map (handed_by (permit_held giver)) q) q
+taken_over call o r giver q = q
+
 -- a request as the entries that name it leave it
 abbrev pub request_of : ℕ → List Entry → Option Held
 request_of r [] = None
-request_of r (e ∷ h) = if number_of e.call == r then row e.call e.reply e.events (request_of r h) else request_of r h
+request_of r (e ∷ h) = taken_over e.call (outcome e.reply) r (request_of (number_of e.call) h) (if number_of e.call == r then row e.call e.reply e.events (request_of r h) else request_of r h)
+
+-- the request to which a call hands a permit, once that is out of its giver's hands
+abbrev pub taker_in : Call → List Entry → Option Held
+taker_in (C.Give from to) h = cond (from == to) (option_map (on_request unheld) (request_of to h)) (request_of to h)
+taker_in call h = None

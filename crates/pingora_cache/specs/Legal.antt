@@ -1,5 +1,5 @@
 -- Which entries a history may have: each by what stands before it (own). Histories stand newest first.
-use Rattle.std.specs.Prelude.{ℕ, Option, None, List, [], ◌∷◌}
+use Rattle.std.specs.Prelude.{◌≡◌, ℕ, Option, None, List, [], ◌∷◌}
 use Rattle.pcache_evict.specs.Tracked.{Tracked, Limits}
 use Rattle.pingora_cache.specs.declared.world.call.Call.{Call}
 use Rattle.pingora_cache.specs.declared.world.call.Reply.{Reply}
@@ -8,7 +8,7 @@ use Rattle.pingora_cache.specs.declared.world.entry.Event.{Event}
 use Rattle.pingora_cache.specs.Deeds.{Deed, deeds_of}
 use Rattle.pingora_cache.specs.Due.{makes_of, AreDue, KeepsKey}
 use Rattle.pingora_cache.specs.Facts.{Facts, Says, request_in}
-use Rattle.pingora_cache.specs.Held.{Held, number_of, row, request_of}
+use Rattle.pingora_cache.specs.Held.{Held, number_of, row, request_of, taker_in}
 use Rattle.pingora_cache.specs.History.{events_of}
 use Rattle.pingora_cache.specs.Rules.{Answers, IsCopy}
 use Rattle.pingora_cache.specs.Waiting.{waiting_in, AreGiven}
@@ -26,7 +26,7 @@ pub record Gives (age : ℕ) (limits : Limits) (start : Tracked) (es : List Even
   pub keeps : KeepsKey q (row call reply events q)
   pub given : AreGiven (waiting_in es) events
 
--- a legal history: each entry is one that what stands before it gives
+-- a legal history: each entry is one that what stands before it gives; so is the request to which it hands a permit
 abbrev pub IsLegal : ℕ → Limits → Tracked → List Entry → Type 0
 IsLegal age limits start [] = Unit {0}
-IsLegal age limits start (e ∷ h) = Gives age limits start (events_of h) (deeds_of h) (request_of (number_of e.call) h) e.call e.reply e.events × IsLegal age limits start h
+IsLegal age limits start (e ∷ h) = (g : Gives age limits start (events_of h) (deeds_of h) (request_of (number_of e.call) h) e.call e.reply e.events) × IsLegal age limits start h × (g.facts.taker ≡ taker_in e.call h)

@@ -128,15 +128,22 @@ abbrev pub spare_of : Call → Option (Meta × Meta)
 spare_of (C.Revalidate r m) = Some (m, m)
 spare_of _ = None
 
+-- a call that names one request alone
+abbrev pub IsOfOne : Call → Type 0
+IsOfOne (C.Give r to) = ⊥
+IsOfOne _ = Unit {0}
+
 -- a call of a request that is open already, and stays so
 abbrev pub IsOfOpen : Call → Type 0
-IsOfOpen (C.Open r) = ⊥
+IsOfOpen (C.Open r options) = ⊥
+IsOfOpen (C.Give r to) = ⊥
 IsOfOpen (C.End r) = ⊥
 IsOfOpen _ = Unit {0}
 
 -- and is no wait
 abbrev pub IsTurned : Call → Type 0
-IsTurned (C.Open r) = ⊥
+IsTurned (C.Open r options) = ⊥
+IsTurned (C.Give r to) = ⊥
 IsTurned (C.End r) = ⊥
 IsTurned (C.Wait r t) = ⊥
 IsTurned _ = Unit {0}

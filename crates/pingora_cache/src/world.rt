@@ -5,6 +5,7 @@ pub mod call;
 mod call_copy;
 pub mod entry;
 mod fill;
+mod give;
 pub mod laws;
 mod locks;
 mod look;

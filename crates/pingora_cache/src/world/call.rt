@@ -14,18 +14,22 @@ use pcache_lock::lock::LockWaitOutcome;
 use pcache_meta::header::ResponseHeader;
 use pcache_meta::meta::CacheMeta;
 use pcache_predict::admission::Decision;
+use pcache_request::cache::CacheOptionOverrides;
 use pcache_request::phase::{CachePhase, HitStatus};
 
 /// A call of a request. Requests are named by numbers.
 #[derive(Drop)]
 pub enum Call {
-    /// Makes the request and turns caching on, with the manager and the lock in use.
+    /// Makes the request and turns caching on, with the manager and the lock in use, and these options
+    /// of its lock.
     Open {
         request: u64,
+        options: Option<CacheOptionOverrides>,
     },
-    /// Turns caching on again, with the manager and the lock in use.
+    /// Turns caching on again, with the manager and the lock in use, and these options of its lock.
     Enable {
         request: u64,
+        options: Option<CacheOptionOverrides>,
     },
     /// Turns caching off for a reason, and gives back what is held.
     Disable {
@@ -125,6 +129,12 @@ pub enum Call {
         request: u64,
         reason: NoCacheReason,
     },
+    /// Hands the permit over to another request. What that one held is let go; if it uses no lock, the
+    /// permit is let go.
+    Give {
+        request: u64,
+        to: u64,
+    },
     /// Serves the stale body while another request renews it.
     Updating {
         request: u64,
@@ -162,8 +172,14 @@ impl Call {
         ensures { result ≡ number_of self.now }
     {
         *match self {
-            Call::Open { request } => request,
-            Call::Enable { request } => request,
+            Call::Open {
+                request,
+                options: _,
+            } => request,
+            Call::Enable {
+                request,
+                options: _,
+            } => request,
             Call::Disable { request, reason: _ } => request,
             Call::Key { request, key: _ } => request,
             Call::Look {
@@ -206,6 +222,7 @@ impl Call {
             Call::Wait { request, now: _ } => request,
             Call::Publish { request, tokens: _ } => request,
             Call::Release { request, reason: _ } => request,
+            Call::Give { request, to: _ } => request,
             Call::Updating { request } => request,
             Call::Uncacheable {
                 request,

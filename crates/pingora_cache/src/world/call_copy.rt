@@ -12,8 +12,14 @@ impl Call {
         ensures kind { IfErr result (λ e. e ≡ OutOfMemory) }
     {
         Ok(match self {
-            Call::Open { request } => Call::Open { request: *request },
-            Call::Enable { request } => Call::Enable { request: *request },
+            Call::Open { request, options } => Call::Open {
+                request: *request,
+                options: *options,
+            },
+            Call::Enable { request, options } => Call::Enable {
+                request: *request,
+                options: *options,
+            },
             Call::Disable { request, reason } => Call::Disable {
                 request: *request,
                 reason: *reason,
@@ -92,6 +98,10 @@ impl Call {
             Call::Release { request, reason } => Call::Release {
                 request: *request,
                 reason: *reason,
+            },
+            Call::Give { request, to } => Call::Give {
+                request: *request,
+                to: *to,
             },
             Call::Updating { request } => Call::Updating { request: *request },
             Call::Uncacheable {

@@ -9,7 +9,7 @@ use crate::world::call::{Call, Reply};
 use crate::world::entry::{Entry, Event, Events};
 use crate::world::parts::Parts;
 use crate::world::request::OpenRequest;
-use crate::world::turn::apply;
+use crate::world::give::act;
 use crate::world::vary::spare_of;
 use pcache_base::error::{ErrorType, Result};
 use pcache_evict::eviction::{CacheEntryKey, EvictionManager};
@@ -170,7 +170,7 @@ impl<M: EvictionManager> World<M> {
         let mut events = Vec::with_capacity(self.alloc, MOST_EVENTS)?;
         let mut spare = spare_of(&call)?;
         make_ready(&mut self.history, &mut self.start, &self.parts.manager)?;
-        let reply = apply(
+        let reply = act(
             self.alloc,
             &mut self.requests,
             &mut self.parts,

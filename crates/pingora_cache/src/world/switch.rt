@@ -18,20 +18,21 @@ use crate::world::notes::note_shut;
 use crate::world::request::{OpenRequest, hold, permit_in, world_use, write_number};
 use pcache_base::reason::NoCacheReason;
 use pcache_lock::lock::CacheLock;
+use pcache_request::cache::CacheOptionOverrides;
 use pcache_store::memory::MemCache;
 
-/// Turns caching on again.
-pub(crate) fn enable(request: &mut OpenRequest) -> Reply
-    ensures answers { Answers no_facts (calls.Enable 0) (Some request.old) result [] }
+/// Turns caching on again, with these options of the lock.
+pub(crate) fn enable(request: &mut OpenRequest, options: Option<CacheOptionOverrides>) -> Reply
+    ensures answers { Answers no_facts (calls.Enable 0 options) (Some request.old) result [] }
     ensures moves { MovesRequest (Some request.old) (Some request.new) }
     ensures keeps { KeepsKey (Some request.old) (Some request.new) }
-    ensures row { Some request.new ≡ row (calls.Enable 0) result [] (Some request.old) }
+    ensures row { Some request.new ≡ row (calls.Enable 0 options) result [] (Some request.old) }
     ensures held { request.new.request.held ≡ request.old.request.held }
 {
     if !request.cache.phase().is_disabled() {
         return Reply::WrongCall;
     }
-    request.cache.enable(world_use());
+    request.cache.enable_with(world_use(), options);
     Reply::Done
 }
 

@@ -1,0 +1,60 @@
+-- A permit that one request hands to another, over the parts of a world (own).
+use Rattle.std.specs.Prelude.{◌≡◌, ℕ, ◌==◌, ◌⊎◌, cond, Option, None, Some, List}
+use Rattle.std.specs.Ordering.{nat_cmp}
+use Rattle.std.specs.Map.{lookup}
+use Rattle.std.specs.Option.{option_map}
+use Rattle.std.specs.BTreeMap.{is_at}
+use Rattle.pcache_evict.specs.Tracked.{Tracked, Limits}
+use Rattle.pcache_lock.specs.Locks.{Locks}
+use Rattle.pcache_lock.specs.Permits.{Permit}
+use Rattle.pcache_request.specs.LockUse.{table_handed, unheld}
+use Rattle.pcache_store.specs.Store.{Store}
+use Rattle.pingora_cache.specs.declared.world.call.Call.{Call}
+use Rattle.pingora_cache.specs.declared.world.call.Call.TheVariants as C
+use Rattle.pingora_cache.specs.declared.world.call.Reply.{Reply}
+use Rattle.pingora_cache.specs.declared.world.entry.Event.{Event}
+use Rattle.pingora_cache.specs.Facts.{facts_for, request_in}
+use Rattle.pingora_cache.specs.Held.{Held, Outcome, was_done, handed_by, number_of, on_request, outcome, permit_held, row, taken_over}
+use Rattle.pingora_cache.specs.Rules.{Answers}
+use Rattle.pingora_cache.specs.Step.{IsMoved, IsOfOne, IsOfWorldIn, Turn}
+
+-- the open request of a number
+abbrev pub open_at : ℕ → List (ℕ × Held) → Option Held
+open_at r all = lookup (is_at (nat_cmp r)) all
+
+-- a request out of whose hands its permit is, if it held one
+abbrev pub without_permit : Option Permit → Option Held → Option Held
+without_permit None q = q
+without_permit (Some p) q = option_map (on_request unheld) q
+
+-- only this request moves: its permit is taken out; it is handed one
+abbrev pub IsTaken : ℕ → List (ℕ × Held) → List (ℕ × Held) → Type 0
+IsTaken r all all' = (q : ℕ) → open_at q all' ≡ cond (is_at (nat_cmp r) q) (without_permit (permit_held (open_at r all)) (open_at r all)) (open_at q all)
+
+abbrev pub IsHandedTo : ℕ → Permit → List (ℕ × Held) → List (ℕ × Held) → Type 0
+IsHandedTo r p all all' = (q : ℕ) → open_at q all' ≡ cond (is_at (nat_cmp r) q) (option_map (handed_by (Some p)) (open_at r all)) (open_at q all)
+
+-- the taker, once the permit is out of its giver's hands
+abbrev pub taker_at : ℕ → ℕ → List (ℕ × Held) → Option Held
+taker_at from to all = cond (from == to) (option_map (on_request unheld) (open_at to all)) (open_at to all)
+
+-- the lock table then
+abbrev pub table_given : Option Permit → Option Held → Locks → Locks
+table_given None taker t = t
+table_given (Some p) None t = t
+table_given (Some p) (Some y) t = table_handed p y.request t
+
+abbrev pub table_given_by : Outcome → Option Permit → Option Held → Locks → Locks
+table_given_by was_done p taker t = table_given p taker t
+table_given_by o p taker t = t
+
+-- one request hands its permit to another, or the call is a wrong one
+pub record HandsOver (from to : ℕ) (all : List (ℕ × Held)) (t : Locks) (reply : Reply) (events : List Event) (all' : List (ℕ × Held)) (t' : Locks) : Type 0 where
+  pub answers : (s : Store) → Answers (facts_for s t (request_in (open_at from all)) (taker_at from to all)) (C.Give from to) (open_at from all) reply events
+  pub requests : (q : ℕ) → open_at q all' ≡ taken_over (C.Give from to) (outcome reply) q (open_at from all) (cond (is_at (nat_cmp from) q) (row (C.Give from to) reply events (open_at from all)) (open_at q all))
+  pub table : t' ≡ table_given_by (outcome reply) (permit_held (open_at from all)) (taker_at from to all) t
+
+-- a call that names one request moves that one, and one that hands a permit over moves two
+pub data Acts (limits : Limits) (call : Call) (all : List (ℕ × Held)) (s : Store) (m : Tracked) (t : Locks) (reply : Reply) (events : List Event) (all' : List (ℕ × Held)) (s' : Store) (m' : Tracked) (t' : Locks) : Type 0 where
+  of_one : IsOfOne call → (IsOfWorldIn (open_at (number_of call) all) → Turn limits call (open_at (number_of call) all) s m t reply events (open_at (number_of call) all') s' m' t') → IsMoved call all all' → Acts limits call all s m t reply events all' s' m' t'
+  of_two : (from to : ℕ) → call ≡ C.Give from to → HandsOver from to all t reply events all' t' → s' ≡ s → m' ≡ m → Acts limits call all s m t reply events all' s' m' t'

@@ -1,0 +1,108 @@
+//! A call that names two requests: one hands its permit to the other.
+ghost use Rattle.std.specs.Prelude.{◌≡◌, ◌≤◌, ◌⊎◌, ◌++◌, ◌+◌, [], cond, IsSome, IsTrue, ◌↔◌, Some, None, ℕ, vec_len};
+ghost use Rattle.std.specs.BTreeMap.{is_at};
+ghost use Rattle.std.specs.Map.{lookup};
+ghost use Rattle.std.specs.Ordering.{nat_cmp};
+ghost use Rattle.std.specs.Vec.{vec_capacity};
+ghost use Rattle.pingora_cache.specs.Handing.{Acts, HandsOver, IsHandedTo, IsTaken, table_given};
+ghost use Rattle.pingora_cache.specs.Held.{permit_held, handed_by};
+ghost use Rattle.pingora_cache.specs.Rules.{MayTake, each, given_up};
+ghost use Rattle.pingora_cache.specs.Step.{IsOfWorldIn, spare_of};
+ghost use Rattle.pingora_cache.specs.declared.world.entry.Event.TheVariants.{LetGo};
+
+use crate::world::call::{Call, Reply};
+use crate::world::entry::Event;
+use crate::world::parts::Parts;
+use crate::world::request::{OpenRequest, permit_in};
+use crate::world::turn::apply;
+use crate::world::vary::Spare;
+use pcache_evict::eviction::EvictionManager;
+use pcache_lock::lock::{CacheLock, Locked, WritePermit};
+use std::alloc::Global;
+use std::collections::BTreeMap;
+
+/// One call over the parts, of one request or of two.
+pub(crate) fn act<M: EvictionManager>(
+    alloc: Global,
+    requests: &mut BTreeMap<u64, OpenRequest>,
+    parts: &mut Parts<M>,
+    events: &mut Vec<Event>,
+    call: &Call,
+    spare: &mut Option<Spare>,
+) -> Reply
+    requires spare { spare.old ≡ spare_of call.now }
+    requires none { events.old.items ≡ [] }
+    requires room { 3 ≤ vec_capacity events.old }
+    ensures acts { Acts (M.limits parts.old.manager) call.now requests.old.entries parts.old.store (M.tracked parts.old.manager) parts.old.lock result events.new.items requests.new.entries parts.new.store (M.tracked parts.new.manager) parts.new.lock }
+    ensures limits { M.limits parts.new.manager ≡ M.limits parts.old.manager }
+{
+    match call {
+        Call::Give { request, to } => give(requests, &mut parts.lock, events, *request, *to),
+        _ => apply(alloc, requests, parts, events, call, spare),
+    }
+}
+
+// Hands the permit of one request to another.
+fn give(
+    requests: &mut BTreeMap<u64, OpenRequest>,
+    lock: &mut CacheLock,
+    events: &mut Vec<Event>,
+    from: u64,
+    to: u64,
+) -> Reply
+    requires none { events.old.items ≡ [] }
+    requires room { 3 ≤ vec_capacity events.old }
+    ensures { HandsOver from to requests.old.entries lock.old result events.new.items requests.new.entries lock.new }
+{
+    if !takes(requests, to) {
+        return Reply::WrongCall;
+    }
+    let Some(permit) = take(requests, from) else {
+        return Reply::WrongCall;
+    };
+    let let_go = hand(requests, lock, permit, to);
+    if let Some(lock) = let_go {
+        events.push_reserved(Event::LetGo { lock });
+    }
+    Reply::Done
+}
+
+// Whether a request is open, and on.
+fn takes(requests: &BTreeMap<u64, OpenRequest>, number: u64) -> bool
+    ensures { IsTrue result ↔ MayTake (lookup (is_at (nat_cmp number)) requests.now.entries) }
+{
+    match requests.get(&number) {
+        Some(request) => request.cache.phase().is_on(),
+        None => false,
+    }
+}
+
+// The permit of a request, which holds none then.
+fn take(requests: &mut BTreeMap<u64, OpenRequest>, number: u64) -> Option<WritePermit>
+    ensures permit { result ≡ permit_held (lookup (is_at (nat_cmp number)) requests.old.entries) }
+    ensures requests { IsTaken number requests.old.entries requests.new.entries }
+{
+    let request = requests.get_mut(&number)?;
+    let Some(Locked::Write(_)) = request.cache.held() else {
+        return None;
+    };
+    Some(request.cache.take_write_lock())
+}
+
+// Hands a permit to a request that is open, and on. Answers the number of a permit that is let go.
+fn hand(
+    requests: &mut BTreeMap<u64, OpenRequest>,
+    lock: &mut CacheLock,
+    permit: WritePermit,
+    to: u64,
+) -> Option<u64>
+    requires { MayTake (lookup (is_at (nat_cmp to)) requests.old.entries) }
+    ensures let_go { each LetGo result ≡ given_up (Some permit) (lookup (is_at (nat_cmp to)) requests.old.entries) }
+    ensures requests { IsHandedTo to permit requests.old.entries requests.new.entries }
+    ensures table { lock.new ≡ table_given (Some permit) (lookup (is_at (nat_cmp to)) requests.old.entries) lock.old }
+{
+    let Some(request) = requests.get_mut(&to) else {
+        unreachable!()
+    };
+    permit_in(request.cache.set_write_lock(lock, permit))
+}
