@@ -29,6 +29,7 @@ use Rattle.pingora_cache.specs.Held.{Held, Change, opens, closes, stays, turns, 
 use Rattle.pingora_cache.specs.History.{events_of}
 use Rattle.pingora_cache.specs.Legal.{IsLegal}
 use Rattle.pingora_cache.specs.Sound.{pair_reader}
+use Rattle.pingora_cache.proofs.Taken.{taken_keeps}
 use Rattle.pingora_cache.proofs.AnswersLaw.{looks_are_true}
 use Rattle.pingora_cache.proofs.Laws.{reads_the_last}
 use Rattle.pingora_cache.proofs.Promised.{legal-part}
@@ -120,7 +121,7 @@ module _ (P : List ℕ → Type 0) (events : List Event) (found : (k : ℕ) (m :
       elim (nat_lt start (length body) && is_forward start end) as (λ b. IsOf P (cond b (Some (Whole body start (end_or end (length body)) false)) None)) [ true ↦ h | false ↦ tt ]
 
   change-of : (change : Change) (q : Option Held) → AreOf P q → AreOf P (changed change o events q)
-  change-of opens q h = either P (is_done o) (Some opened) q (tt, tt) h
+  change-of (opens options) q h = either P (is_done o) (Some (opened options)) q (tt, tt) h
   change-of closes q h = either P (is_done o) None q tt h
   change-of stays q h = h
   change-of (turns f leaves_pair) None h = either P (is_done o) None None tt tt
@@ -160,10 +161,10 @@ held-found r (e ∷ h) =
     let q = request_of r h in
     let P = IsFoundBy (e ∷ h) r in
     let old : AreOf P q = are-of-more (IsFoundBy h r) P q (λ body f. found-more e h r body f) (held-found r h) in
-    elim (number_of e.call == r) as (λ b. (number_of e.call == r) ≡ b → AreOf P (if b then row e.call e.reply e.events q else q)) [
+    taken_keeps (AreOf P) (λ x l is. is) e.call (outcome e.reply) r (request_of (number_of e.call) h) (if number_of e.call == r then row e.call e.reply e.events q else q) (elim (number_of e.call == r) as (λ b. (number_of e.call == r) ≡ b → AreOf P (if b then row e.call e.reply e.events q else q)) [
       | true ↦ λ is. change-of P e.events (λ k m body rest all. ([], e, h, k, m, rest, refl, eqb-true (number_of e.call) r is, all)) (outcome e.reply) (change_of e.call) q old
       | false ↦ λ _. old
-    ] refl
+    ] refl)
 
 pub reads_what_was_found : ReadsWhatWasFound
 reads_what_was_found age limits start h r x body from to done l is has =

@@ -11,7 +11,7 @@ use Rattle.pingora_cache.specs.declared.world.entry.Entry.{Entry}
 use Rattle.pingora_cache.specs.declared.world.entry.Event.{Event}
 use Rattle.pingora_cache.specs.declared.world.entry.Event.TheVariants as E
 use Rattle.pingora_cache.specs.Events.{begin_of, is_removed, body_of, last_finished, meta_kept, complete, is_open}
-use Rattle.pingora_cache.specs.Held.{Held, number_of, row, request_of}
+use Rattle.pingora_cache.specs.Held.{Held, number_of, row, request_of, outcome}
 use Rattle.pingora_cache.specs.History.{events_of}
 use Rattle.pingora_cache.specs.Due.{makes_of, slot_of, AreDue, KeepsKey}
 use Rattle.pingora_cache.specs.Legal.{IsLegal}
@@ -22,6 +22,7 @@ use Rattle.pingora_cache.proofs.Steps.{unless_removed, body_with}
 use Rattle.pingora_cache.proofs.Tidy.{tidy-none}
 use Rattle.pingora_cache.proofs.Exact.{exact-none}
 use Rattle.pingora_cache.proofs.Bound.{bound-none}
+use Rattle.pingora_cache.proofs.Taken.{holding_world, taken_keeps}
 use Rattle.pingora_cache.proofs.Due.{AreMade, IsOn, with_one, at_one, due-keeps}
 
 -- Histories.
@@ -33,11 +34,20 @@ pub record IsKept (limits : Limits) (start : Tracked) (h : List Entry) : Type 0 
   pub bounded : IsBounded limits (events_of h)
   pub world : (r : ℕ) → IsOfWorldIn (request_of r h)
 
--- an entry moves the request that it names, and no other
-named : (e : Entry) (h : List Entry) (r : ℕ) → number_of e.call ≡ r → request_of r (e ∷ h) ≡ row e.call e.reply e.events (request_of (number_of e.call) h)
-named e h r is = subst (λ x. request_of x (e ∷ h) ≡ row e.call e.reply e.events (request_of (number_of e.call) h)) is (ap (λ b. if b then row e.call e.reply e.events (request_of (number_of e.call) h) else request_of (number_of e.call) h) (eq-eqb (number_of e.call) (number_of e.call) refl))
+-- an entry moves the request that it names, and no other, but for one that is handed a permit
+abbrev rowed : ℕ → Entry → List Entry → Option Held
+rowed r e h = if number_of e.call == r then row e.call e.reply e.events (request_of r h) else request_of r h
 
-unnamed : (e : Entry) (h : List Entry) (r : ℕ) → number_of e.call ≢ r → request_of r (e ∷ h) ≡ request_of r h
+makes-after : (e : Entry) (h : List Entry) (r : ℕ) → makes_of (request_of r (e ∷ h)) ≡ makes_of (rowed r e h)
+makes-after e h r = taken_keeps (λ p. makes_of p ≡ makes_of (rowed r e h)) (λ x l is. is) e.call (outcome e.reply) r (request_of (number_of e.call) h) (rowed r e h) refl
+
+slot-after : (e : Entry) (h : List Entry) (r : ℕ) → slot_of (request_of r (e ∷ h)) ≡ slot_of (rowed r e h)
+slot-after e h r = taken_keeps (λ p. slot_of p ≡ slot_of (rowed r e h)) (λ x l is. is) e.call (outcome e.reply) r (request_of (number_of e.call) h) (rowed r e h) refl
+
+named : (e : Entry) (h : List Entry) (r : ℕ) → number_of e.call ≡ r → rowed r e h ≡ row e.call e.reply e.events (request_of (number_of e.call) h)
+named e h r is = subst (λ x. rowed x e h ≡ row e.call e.reply e.events (request_of (number_of e.call) h)) is (ap (λ b. if b then row e.call e.reply e.events (request_of (number_of e.call) h) else request_of (number_of e.call) h) (eq-eqb (number_of e.call) (number_of e.call) refl))
+
+unnamed : (e : Entry) (h : List Entry) (r : ℕ) → number_of e.call ≢ r → rowed r e h ≡ request_of r h
 unnamed e h r ne = ap (λ b. if b then row e.call e.reply e.events (request_of r h) else request_of r h) (ne_eqb (number_of e.call) r ne)
 
 -- where a request keeps
@@ -56,10 +66,10 @@ legal_world age limits start [] l r = tt
 legal_world age limits start (e ∷ h) l r =
     let n = number_of e.call in
     let old = legal_world age limits start h l.1 in
-    elim (n == r) as (λ b. (n == r) ≡ b → IsOfWorldIn (request_of r (e ∷ h))) [
+    taken_keeps IsOfWorldIn holding_world e.call (outcome e.reply) r (request_of n h) (rowed r e h) (elim (n == r) as (λ b. (n == r) ≡ b → IsOfWorldIn (rowed r e h)) [
       | true ↦ λ t. subst IsOfWorldIn (sym (named e h r (eqb-true n r t))) (keeps-world (request_of n h) (row e.call e.reply e.events (request_of n h)) l.0.keeps (old n))
       | false ↦ λ f. subst IsOfWorldIn (sym (unnamed e h r (eqb-false n r f))) (old r)
-    ] refl
+    ] refl)
 
 pub legal_kept : (age : ℕ) (limits : Limits) (start : Tracked) (h : List Entry) → IsLegal age limits start h → IsKept limits start h
 legal_kept age limits start [] l = record {
@@ -84,7 +94,7 @@ legal_kept age limits start (e ∷ h) l =
     } in
     let done = due-keeps limits start n f slots q refl e.events es (makes_of q) (makes_of now) None on l.0.due in
     let to : (r : ℕ) → with_one n (makes_of now) f r ≡ makes_of (request_of r (e ∷ h)) =
-    at_one (λ r o. o ≡ makes_of (request_of r (e ∷ h))) n (makes_of now) f (ap makes_of (sym (named e h n refl))) (λ r ne. ap makes_of (sym (unnamed e h r ne))) in
+    at_one (λ r o. o ≡ makes_of (request_of r (e ∷ h))) n (makes_of now) f (ap makes_of (sym (named e h n refl)) ∙ sym (makes-after e h n)) (λ r ne. ap makes_of (sym (unnamed e h r ne)) ∙ sym (makes-after e h r)) in
     let made = subst (λ (g : ℕ → Option ℕ). AreMade g slots (reverse e.events ++ es)) (λ i r. to r i) done.made in
     record {
       tidy = done.tidy;
@@ -106,11 +116,11 @@ legal_kept age limits start (e ∷ h) l =
     kept-slot : (r w : ℕ) → makes_of (request_of r (e ∷ h)) ≡ Some w → slot_of (request_of r (e ∷ h)) ≡ slot_of (request_of r h)
     kept-slot r w is =
         let n = number_of e.call in
-        elim (n == r) as (λ b. (n == r) ≡ b → slot_of (request_of r (e ∷ h)) ≡ slot_of (request_of r h)) [
+        slot-after e h r ∙ elim (n == r) as (λ b. (n == r) ≡ b → slot_of (rowed r e h) ≡ slot_of (request_of r h)) [
           | true ↦ λ t.
               let same = eqb-true n r t in
               let moved = named e h r same in
-              ap slot_of moved ∙ keeps-slot (request_of n h) (row e.call e.reply e.events (request_of n h)) l.0.keeps (legal_world age limits start h l.1 n) w (sym (ap makes_of moved) ∙ is) ∙ ap (λ x. slot_of (request_of x h)) same
+              ap slot_of moved ∙ keeps-slot (request_of n h) (row e.call e.reply e.events (request_of n h)) l.0.keeps (legal_world age limits start h l.1 n) w (sym (ap makes_of moved) ∙ sym (makes-after e h r) ∙ is) ∙ ap (λ x. slot_of (request_of x h)) same
           | false ↦ λ f. ap slot_of (unnamed e h r (eqb-false n r f))
         ] refl
 

@@ -5,6 +5,7 @@ pub mod Counts
 pub mod Due
 pub mod Exact
 pub mod Found
+pub mod Handing
 pub mod History
 pub mod Keeps
 pub mod Laws
@@ -33,6 +34,7 @@ pub mod StateWrote
 pub mod States
 pub mod Steps
 pub mod Sums
+pub mod Taken
 pub mod Tidy
 pub mod TrackedLaws
 pub mod TurnOf

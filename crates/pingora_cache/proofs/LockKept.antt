@@ -101,7 +101,7 @@ still-shown q l gs f (Some x) same = same x
 
 -- ---- what is held is let go, or released
 
-go : (ds : List Deed) (n m : ℕ → ℕ) (t : Locks) (old : Option Locked) → IsTable ds n t → ((p : ℕ) → permit_of old ≡ Some p → is_held p ds ≡ true) → ((q : ℕ) → m q + locks_read q old ≡ n q) → Follows (each_deed LetGo (permit_of old) ++ ds) m t (let_go_by old t)
+pub go : (ds : List Deed) (n m : ℕ → ℕ) (t : Locks) (old : Option Locked) → IsTable ds n t → ((p : ℕ) → permit_of old ≡ Some p → is_held p ds ≡ true) → ((q : ℕ) → m q + locks_read q old ≡ n q) → Follows (each_deed LetGo (permit_of old) ++ ds) m t (let_go_by old t)
 go ds n m t None k held count = same-count ds n m t t (λ q. omega (arith, count q)) (table.rests ds n t k)
 go ds n m t (Some (Write p)) k held count = same-count (LetGo p.number ∷ ds) n m t _ (λ q. omega (arith, count q)) (table.lets_go ds n t k p (held p.number refl))
 go ds n m t (Some (Read rd)) k held count = table.leaves ds n t k m rd (λ q. sym (count q))
@@ -306,7 +306,7 @@ reversed-one : (f : ℕ → Deed) (o : Option ℕ) (ds : List Deed) → reverse 
 reversed-one f None ds = refl
 reversed-one f (Some x) ds = refl
 
-reversed-two : (d : Deed) (f : ℕ → Deed) (o : Option ℕ) (ds : List Deed) → reverse (d ∷ each_deed f o) ++ ds ≡ each_deed f o ++ d ∷ ds
+pub reversed-two : (d : Deed) (f : ℕ → Deed) (o : Option ℕ) (ds : List Deed) → reverse (d ∷ each_deed f o) ++ ds ≡ each_deed f o ++ d ∷ ds
 reversed-two d f None ds = refl
 reversed-two d f (Some x) ds = refl
 

@@ -62,7 +62,7 @@ released-deeds : (r at : ℕ) (s : LockStatus) (o : Option ℕ) → deeds_by r a
 released-deeds r at s None = refl
 released-deeds r at s (Some n) = refl
 
-let-go-deeds : (r at : ℕ) (s : LockStatus) (o : Option ℕ) → deeds_by r at s (each E.LetGo o) ≡ each_deed LetGo o
+pub let-go-deeds : (r at : ℕ) (s : LockStatus) (o : Option ℕ) → deeds_by r at s (each E.LetGo o) ≡ each_deed LetGo o
 let-go-deeds r at s None = refl
 let-go-deeds r at s (Some n) = refl
 

@@ -17,7 +17,7 @@ use Rattle.pcache_lock.specs.Locks.{Locks, no_locks, with_permit, with_read_lock
 use Rattle.pcache_lock.specs.Waiting.{after_poll, table_at, stage_of, is_old, aged}
 use Rattle.pcache_lock.specs.Waits.{is_old_at}
 use Rattle.pcache_lock.proofs.Calls.{reason_ends}
-use Rattle.pingora_cache.specs.Deeds.{Deed, Asked, Released, LetGo, Aged, Published, Polled, ask_of, who_holds, is_held, status_of, standing}
+use Rattle.pingora_cache.specs.Deeds.{Deed, Asked, Released, LetGo, Aged, Published, Polled, Handed, ask_of, who_holds, is_held, status_of, standing}
 use Rattle.pingora_cache.specs.LockTable.{plain, lock_as, lock_of, last_of, IsTable}
 use Rattle.pingora_cache.proofs.StateWrites.{get-set, get-unset}
 use Rattle.pingora_cache.proofs.Sums.{same-number}
@@ -33,6 +33,12 @@ still-held : (b : Bool) (w : Option ℕ) → is_some (if b then None else w) ≡
 still-held true w e = absurd (cc)
 still-held false w e = e
 
+-- a permit that is handed on is held as before
+pub held-handed : (b : Bool) (r : ℕ) (w : Option ℕ) → is_some (if b then option_map (λ _. r) w else w) ≡ is_some w
+held-handed true r None = refl
+held-handed true r (Some q) = refl
+held-handed false r w = refl
+
 pub held-asked : (l : ℕ) (ds : List Deed) → is_held l ds ≡ true → is_some (ask_of l ds) ≡ true
 held-asked l [] h = absurd (cc)
 held-asked l (Asked r k n true t ∷ ds) h = asked-by (n == l) r (k, t) (who_holds l ds) (ask_of l ds) (held-asked l ds) h
@@ -42,6 +48,7 @@ held-asked l (LetGo n ∷ ds) h = held-asked l ds (still-held (n == l) (who_hold
 held-asked l (Aged n ∷ ds) h = held-asked l ds h
 held-asked l (Published n ts ∷ ds) h = held-asked l ds h
 held-asked l (Polled r ∷ ds) h = held-asked l ds h
+held-asked l (Handed n r ∷ ds) h = held-asked l ds (sym (held-handed (n == l) r (who_holds l ds)) ∙ h)
 
 -- a permit that is held waits, or was found too old
 pending-by : (b : Bool) (r : ℕ) (w : Option ℕ) (s : LockStatus) → (is_some w ≡ true → is_pending s ≡ true) → is_some (if b then Some r else w) ≡ true → is_pending (if b then status.Waiting else s) ≡ true
@@ -65,6 +72,7 @@ held-pending l (LetGo n ∷ ds) h = gone-by (n == l) (who_holds l ds) (status_of
 held-pending l (Aged n ∷ ds) h = aged-by (n == l) (status_of l ds) (held-pending l ds h)
 held-pending l (Published n ts ∷ ds) h = held-pending l ds h
 held-pending l (Polled r ∷ ds) h = held-pending l ds h
+held-pending l (Handed n r ∷ ds) h = held-pending l ds (sym (held-handed (n == l) r (who_holds l ds)) ∙ h)
 
 -- a permit that is over does not wait: after each of the deeds that end it, and after the others
 over-by : (b : Bool) (w : Option ℕ) (s end : LockStatus) → is_waiting end ≡ false → (is_some w ≡ false → is_waiting s ≡ false) → is_some (if b then None else w) ≡ false → is_waiting (if b then end else s) ≡ false
@@ -401,6 +409,23 @@ module _ (ds : List Deed) (n : ℕ → ℕ) (t : Locks) (k : IsTable ds n t) whe
     next = omega arith;
     kept = λ l c _ is. record { core = c; is = is; same = refl };
   }
+
+  -- a permit that is handed on changes no lock
+  pub hands : (l r : ℕ) → Follows (Handed l r ∷ ds) n t t
+  hands l r =
+      let same : (q : ℕ) → is_held q (Handed l r ∷ ds) ≡ is_held q ds = λ q. held-handed (l == q) r (who_holds q ds) in
+      record {
+        table = record {
+          fresh = k.fresh;
+          locks = λ q. k.locks q ∙ sym (ap (λ b. locked t.age_timeout b (status_of q ds) (n q) (ask_of q ds)) (same q));
+          known = k.known;
+          over = λ q asked h. k.over q asked (sym (same q) ∙ h);
+          said = k.said;
+        };
+        age = refl;
+        next = omega arith;
+        kept = λ q c _ is. record { core = c; is = is; same = refl };
+      }
 
   pub rests : Follows ds n t t
   rests = record { table = k; age = refl; next = omega arith; kept = λ l c _ is. record { core = c; is = is; same = refl } }

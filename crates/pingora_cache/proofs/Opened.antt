@@ -4,7 +4,7 @@ use Rattle.std.specs.Ordering.{nat_cmp}
 use Rattle.std.specs.FinMap.{FinMap, empty, get, get-empty}
 use Rattle.std.proofs.lemmas.Bool.{eqb-true}
 use Rattle.pingora_cache.specs.declared.world.entry.Entry.{Entry}
-use Rattle.pingora_cache.specs.Held.{Held, number_of, row, request_of, untold}
+use Rattle.pingora_cache.specs.Held.{Held, number_of, outcome, row, request_of, taken_over, untold}
 use Rattle.pingora_cache.specs.Sound.{AreOpen}
 use Rattle.pingora_cache.proofs.MovedState.{set_to}
 use Rattle.pingora_cache.proofs.StateWrites.{get-set, get-unset}
@@ -17,12 +17,13 @@ pub get-set_to : (all : FinMap nat_cmp Held) (r : ℕ) (o : Option Held) (q : �
 get-set_to all r None q = get-unset all r q
 get-set_to all r (Some x) q = get-set all r x q
 
--- only the request that the call names moves, by its row
-pub open-after : (h : List Entry) (all : FinMap nat_cmp Held) (e : Entry) (now : Option Held) → AreOpen h all → option_map untold now ≡ row e.call e.reply e.events (request_of (number_of e.call) h) → AreOpen (e ∷ h) (set_to all (number_of e.call) now)
-open-after h all e now are is = λ q.
+-- only the request that the call names moves, by its row, where nothing is handed over
+pub open-after : (h : List Entry) (all : FinMap nat_cmp Held) (e : Entry) (now : Option Held) → ((r : ℕ) (giver q : Option Held) → taken_over e.call (outcome e.reply) r giver q ≡ q) → AreOpen h all → option_map untold now ≡ row e.call e.reply e.events (request_of (number_of e.call) h) → AreOpen (e ∷ h) (set_to all (number_of e.call) now)
+open-after h all e now none are is = λ q.
     let n = number_of e.call in
     ap (option_map untold) (get-set_to all n now q)
     ∙ elim (n == q) as (λ b. (n == q) ≡ b → option_map untold (cond b now (get all q)) ≡ (if b then row e.call e.reply e.events (request_of q h) else request_of q h)) [
       | true ↦ λ same. is ∙ ap (λ r. row e.call e.reply e.events (request_of r h)) (eqb-true n q same)
       | false ↦ λ _. are q
     ] refl
+    ∙ sym (none q (request_of n h) (if n == q then row e.call e.reply e.events (request_of q h) else request_of q h))

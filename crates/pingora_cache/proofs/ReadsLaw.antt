@@ -41,6 +41,7 @@ use Rattle.pingora_cache.specs.Rules.{IsIdle, release_of, Begins, Reads, Answers
 use Rattle.pingora_cache.specs.ReadSoFar.{given_in, read_on, read_by, HasRead}
 use Rattle.pingora_cache.specs.Headline.{ReadsABeginning}
 use Rattle.pingora_cache.specs.Untold.{waited_on}
+use Rattle.pingora_cache.proofs.Taken.{taken_keeps}
 use Rattle.pingora_cache.proofs.Copied.{outcome-copied}
 
 -- a reader that has given nothing
@@ -287,7 +288,7 @@ module _ (f : Facts) (es events : List Event) (reply : Reply) (got : List ℕ) w
   FollowsTo change q = Follows after (changed change o events q) (read_on change o events got)
 
   follow : (change : Change) (x : Held) → GivesRead es x.request f → Promises f change x reply events → FollowsIn es x got → FollowsIn after x got → FollowsTo change (Some x)
-  follow opens x says a old h = elim (is_done o) as (λ b. Follows after (cond b (Some opened) (Some x)) (cond b [] got)) [ true ↦ (tt, tt) | false ↦ h ]
+  follow (opens options) x says a old h = elim (is_done o) as (λ b. Follows after (cond b (Some (opened options)) (Some x)) (cond b [] got)) [ true ↦ (tt, tt) | false ↦ h ]
   follow closes x says a old h = on-done after got (is_done o) None (Some x) tt h
   follow stays x says a old h = h
   follow (turns g leaves_pair) x says a old h =
@@ -309,7 +310,7 @@ module _ (f : Facts) (es events : List Event) (reply : Reply) (got : List ℕ) w
 
   -- where no request is open
   follow-none : (change : Change) → FollowsTo change None
-  follow-none opens = elim (is_done o) as (λ b. Follows after (cond b (Some opened) None) (cond b [] got)) [ true ↦ (tt, tt) | false ↦ tt ]
+  follow-none (opens options) = elim (is_done o) as (λ b. Follows after (cond b (Some (opened options)) None) (cond b [] got)) [ true ↦ (tt, tt) | false ↦ tt ]
   follow-none closes = on-done after got (is_done o) None None tt tt
   follow-none stays = tt
   follow-none (turns g leaves_pair) = on-done after got (is_done o) None None tt tt
@@ -340,14 +341,14 @@ follows-at age limits start r (e ∷ h) l =
     let g = l.0 in
     let old = follows-at age limits start r h l.1 in
     let now = still (reverse e.events) es (request_of r h) (read_by r h) old in
-    elim (number_of e.call == r) as (λ b. (number_of e.call == r) ≡ b
+    taken_keeps (λ q. Follows (reverse e.events ++ es) q (read_by r (e ∷ h))) (λ x l is. is) e.call (outcome e.reply) r (request_of (number_of e.call) h) (if number_of e.call == r then row e.call e.reply e.events (request_of r h) else request_of r h) (elim (number_of e.call == r) as (λ b. (number_of e.call == r) ≡ b
     → Follows (reverse e.events ++ es) (if b then row e.call e.reply e.events (request_of r h) else request_of r h) (if b then read_on (change_of e.call) (outcome e.reply) e.events (read_by r h) else read_by r h)) [
       | true ↦ λ is.
           let named : request_of (number_of e.call) h ≡ request_of r h = ap (λ n. request_of n h) (eqb-true (number_of e.call) r is) in
           subst (λ o. Follows (reverse e.events ++ es) (row_by e.call o e.events (request_of r h)) (read_on (change_of e.call) o e.events (read_by r h))) (sym (outcome-copied g.told e.reply g.copy))
           (follow-call g.facts es e.call (request_of r h) g.told e.events (read_by r h) (subst (λ q. GivesRead es (request_in q) g.facts) named g.says.given) (subst (λ q. Answers g.facts e.call q g.told e.events) named g.answers) old now)
       | false ↦ λ _. now
-    ] refl
+    ] refl)
 
 pub reads_a_beginning : ReadsABeginning
 reads_a_beginning age limits start before r x reader l is has =

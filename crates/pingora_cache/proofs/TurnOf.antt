@@ -8,6 +8,7 @@ use Rattle.pcache_evict.specs.Tracked.{Tracked, Limits}
 use Rattle.pcache_lock.specs.Locks.{Locks}
 use Rattle.pcache_lock.specs.declared.lock.status.LockStatus.TheVariants.{Done}
 use Rattle.pcache_store.specs.Store.{Store}
+use Rattle.pcache_request.specs.declared.cache.lock_use.CacheOptionOverrides.{CacheOptionOverrides}
 use Rattle.pingora_cache.specs.declared.world.call.Call.{Call}
 use Rattle.pingora_cache.specs.declared.world.call.Call.TheVariants as C
 use Rattle.pingora_cache.specs.declared.world.call.Reply.{Reply}
@@ -58,11 +59,11 @@ moved-by-row call c reply events all all' same is =
 -- a call of a request that is not open
 
 none-may : (f : Facts) (call : Call) → IsOfOpen call → MayBe f call None → ⊥
-none-may f (C.Open n) known may = absurd known
+none-may f (C.Open n options) known may = absurd known
 none-may f call known may = absurd may
 
 none-row : (change : Change) → changed change was_wrong [] None ≡ None
-none-row opens = refl
+none-row (opens options) = refl
 none-row closes = refl
 none-row stays = refl
 none-row (turns f leaves_pair) = refl
@@ -100,15 +101,15 @@ end-answers : (f g : Facts) (n : ℕ) (q : Option Held) (reply : Reply) (events 
 end-answers f g n None reply events a = a
 end-answers f g n (Some x) reply events a = a
 
-open-answers : (f g : Facts) (n : ℕ) (q : Option Held) (reply : Reply) (events : List Event) → Answers f (C.Open n) q reply events → Answers g (C.Open n) q reply events
-open-answers f g n None reply events a = a
-open-answers f g n (Some x) reply events a = a
+open-answers : (f g : Facts) (n : ℕ) (options : Option CacheOptionOverrides) (q : Option Held) (reply : Reply) (events : List Event) → Answers f (C.Open n options) q reply events → Answers g (C.Open n options) q reply events
+open-answers f g n options None reply events a = a
+open-answers f g n options (Some x) reply events a = a
 
 -- a request that comes to be holds no lock
-open-held : (f : Facts) (n : ℕ) (q : Option Held) (reply : Reply) (events : List Event) → Answers f (C.Open n) q reply events → held_in (row (C.Open n) reply events q) ≡ held_in q
-open-held f n None reply events a = elim (is_done (outcome reply)) as (λ b. held_in (cond b (Some opened) None) ≡ None) [ true ↦ refl | false ↦ refl ]
-open-held f n (Some x) reply events (inl a) = absurd a.0
-open-held f n (Some x) reply events (inr a) = ap (λ z. held_in (row (C.Open n) z events (Some x))) a.1.0
+open-held : (f : Facts) (n : ℕ) (options : Option CacheOptionOverrides) (q : Option Held) (reply : Reply) (events : List Event) → Answers f (C.Open n options) q reply events → held_in (row (C.Open n options) reply events q) ≡ held_in q
+open-held f n options None reply events a = elim (is_done (outcome reply)) as (λ b. held_in (cond b (Some (opened options)) None) ≡ None) [ true ↦ refl | false ↦ refl ]
+open-held f n options (Some x) reply events (inl a) = absurd a.0
+open-held f n options (Some x) reply events (inr a) = ap (λ z. held_in (row (C.Open n options) z events (Some x))) a.1.0
 
 -- a call that ends a request
 pub end-of : (limits : Limits) (call : Call) (n : ℕ) (all all' : List (ℕ × Held)) (s s' : Store) (m : Tracked) (t t' : Locks) (reply : Reply) (events : List Event) → call ≡ C.End n → Answers no_facts (C.End n) (lookup (is_at (nat_cmp n)) all) reply events
@@ -126,19 +127,19 @@ end-of limits call n all all' s s' m t t' reply events is answers moves keeps lo
     }))
 
 -- a call that makes one
-pub open-of : (limits : Limits) (call : Call) (n : ℕ) (all all' : List (ℕ × Held)) (s : Store) (m : Tracked) (t : Locks) (reply : Reply) (events : List Event) → call ≡ C.Open n → events ≡ [] → Answers no_facts (C.Open n) (lookup (is_at (nat_cmp n)) all) reply []
-    → MovesRequest (lookup (is_at (nat_cmp n)) all) (row (C.Open n) reply [] (lookup (is_at (nat_cmp n)) all)) → KeepsKey (lookup (is_at (nat_cmp n)) all) (row (C.Open n) reply [] (lookup (is_at (nat_cmp n)) all)) → IsRowed (C.Open n) reply [] all all'
+pub open-of : (limits : Limits) (call : Call) (n : ℕ) (options : Option CacheOptionOverrides) (all all' : List (ℕ × Held)) (s : Store) (m : Tracked) (t : Locks) (reply : Reply) (events : List Event) → call ≡ C.Open n options → events ≡ [] → Answers no_facts (C.Open n options) (lookup (is_at (nat_cmp n)) all) reply []
+    → MovesRequest (lookup (is_at (nat_cmp n)) all) (row (C.Open n options) reply [] (lookup (is_at (nat_cmp n)) all)) → KeepsKey (lookup (is_at (nat_cmp n)) all) (row (C.Open n options) reply [] (lookup (is_at (nat_cmp n)) all)) → IsRowed (C.Open n options) reply [] all all'
     → Turn limits call (lookup (is_at (nat_cmp (number_of call))) all) s m t reply events (lookup (is_at (nat_cmp (number_of call))) all') s m t
-open-of limits call n all all' s m t reply events is none answers moves keeps rowed =
+open-of limits call n options all all' s m t reply events is none answers moves keeps rowed =
     let q = lookup (is_at (nat_cmp n)) all in
     subst (λ es. Turn limits call (lookup (is_at (nat_cmp (number_of call))) all) s m t reply es (lookup (is_at (nat_cmp (number_of call))) all') s m t) (sym none)
     (subst (λ (c : Call). Turn limits c (lookup (is_at (nat_cmp (number_of c))) all) s m t reply [] (lookup (is_at (nat_cmp (number_of c))) all') s m t) (sym is)
-    (subst (λ (p : Option Held). Turn limits (C.Open n) q s m t reply [] p s m t) (sym (row-at (C.Open n) reply [] all all' rowed)) (record {
-      answers = open-answers no_facts (facts_in s t (request_in q)) n q reply [] answers;
+    (subst (λ (p : Option Held). Turn limits (C.Open n options) q s m t reply [] p s m t) (sym (row-at (C.Open n options) reply [] all all' rowed)) (record {
+      answers = open-answers no_facts (facts_in s t (request_in q)) n options q reply [] answers;
       moves = moves s limits m;
       keeps = keeps;
       now = refl;
-      locks = no_locks_move n [] (held_in q) (held_in (row (C.Open n) reply [] q)) t t refl (open-held no_facts n q reply [] answers) refl;
+      locks = no_locks_move n [] (held_in q) (held_in (row (C.Open n options) reply [] q)) t t refl (open-held no_facts n options q reply [] answers) refl;
     })))
 
 -- a call that notes nothing

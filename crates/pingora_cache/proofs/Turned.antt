@@ -17,7 +17,7 @@ use Rattle.pingora_cache.specs.Held.{Held, number_of, untold}
 use Rattle.pingora_cache.specs.LockTable.{read_locks}
 use Rattle.pingora_cache.specs.Rules.{IsCopy}
 use Rattle.pingora_cache.specs.Sound.{IsSound}
-use Rattle.pingora_cache.specs.Step.{Turn, IsOfWorldIn, IsMoved}
+use Rattle.pingora_cache.specs.Step.{Turn, IsOfOne, IsOfWorldIn, IsMoved}
 use Rattle.pingora_cache.proofs.Laws.{legal_world}
 use Rattle.pingora_cache.proofs.MovedState.{set_to}
 use Rattle.pingora_cache.proofs.Opened.{get-set_to}
@@ -26,17 +26,17 @@ use Rattle.pingora_cache.proofs.Uniform.{call-age, each-call-keeps}
 use Rattle.pingora_cache.proofs.Untold.{world-told}
 
 -- the requests as entries, and as the map that the entries make
-find-lookup : (es : List (ℕ × Held)) (q : ℕ) → find nat_cmp q es ≡ lookup (is_at (nat_cmp q)) es
+pub find-lookup : (es : List (ℕ × Held)) (q : ℕ) → find nat_cmp q es ≡ lookup (is_at (nat_cmp q)) es
 find-lookup [] q = refl
 find-lookup (e ∷ es) q = ap (cond (is_at (nat_cmp q) e.0) (Some e.1)) (find-lookup es q)
 
-lookup-get : (es : List (ℕ × Held)) (q : ℕ) → lookup (is_at (nat_cmp q)) es ≡ get (from_entries {R = nat_cmp} es) q
+pub lookup-get : (es : List (ℕ × Held)) (q : ℕ) → lookup (is_at (nat_cmp q)) es ≡ get (from_entries {R = nat_cmp} es) q
 lookup-get es q = sym (get-from_entries nat_cmp_total es q ∙ find-lookup es q)
 
-at-number : (r q : ℕ) → (r == q) ≡ is_at (nat_cmp r) q
+pub at-number : (r q : ℕ) → (r == q) ≡ is_at (nat_cmp r) q
 at-number r q = grind (arith, nat_tests)
 
-set-at : (all : FinMap nat_cmp Held) (r : ℕ) (o : Option Held) (q : ℕ) → get (set_to all r o) q ≡ cond (is_at (nat_cmp r) q) o (get all q)
+pub set-at : (all : FinMap nat_cmp Held) (r : ℕ) (o : Option Held) (q : ℕ) → get (set_to all r o) q ≡ cond (is_at (nat_cmp r) q) o (get all q)
 set-at all r o q = get-set_to all r o q ∙ ap (λ b. cond b o (get all q)) (at-number r q)
 
 -- where only the request that a call names moves, the entries are the requests with what it is then
@@ -48,13 +48,13 @@ entries-after before after call is =
     sym (lookup-get after q) ∙ is q ∙ (λ i. cond (is_at (nat_cmp n) q) now (lookup-get before q i)) ∙ sym (set-at (from_entries {R = nat_cmp} before) n now q))
 
 -- a request of a world is one, whatever its read lock was told
-of-world : (q : Option Held) → IsOfWorldIn (option_map untold q) → IsOfWorldIn q
+pub of-world : (q : Option Held) → IsOfWorldIn (option_map untold q) → IsOfWorldIn q
 of-world None h = h
 of-world (Some x) h = world-told x.request h
 
 -- what a call of a sound world is, by the requests as a map
 module _ (limits : Limits) (start m m' : Tracked) (s s' : Store) (t t' : Locks) (before after : List (ℕ × Held)) (h : List Entry) (call : Call) (reply : Reply) (events : List Event) (k : IsSound limits start m s t (from_entries {R = nat_cmp} before) h) (small : length before < 2 ^ 64)
-    (turn : IsOfWorldIn (lookup (is_at (nat_cmp (number_of call))) before) → Turn limits call (lookup (is_at (nat_cmp (number_of call))) before) s m t reply events (lookup (is_at (nat_cmp (number_of call))) after) s' m' t') where
+    (one : IsOfOne call) (turn : IsOfWorldIn (lookup (is_at (nat_cmp (number_of call))) before) → Turn limits call (lookup (is_at (nat_cmp (number_of call))) before) s m t reply events (lookup (is_at (nat_cmp (number_of call))) after) s' m' t') where
   abbrev all : FinMap nat_cmp Held
   all = from_entries {R = nat_cmp} before
 
@@ -76,7 +76,7 @@ module _ (limits : Limits) (start m m' : Tracked) (s s' : Store) (t t' : Locks) 
   pub step_sound : (told : Reply) → IsMoved call before after → IsCopy reply told → IsSound limits start m' s' t' (from_entries {R = nat_cmp} after) (record { call = call; reply = told; events = events } ∷ h)
   step_sound told moved copy =
       subst (λ (x : FinMap nat_cmp Held). IsSound limits start m' s' t' x (record { call = call; reply = told; events = events } ∷ h)) (sym (entries-after before after call moved))
-      (each-call-keeps limits start m m' s s' t t' all h call reply told events q' k few made copy)
+      (each-call-keeps limits start m m' s s' t t' all h call reply told events q' k few made copy one)
 
   pub step_age : t'.age_timeout ≡ t.age_timeout
   step_age = call-age limits start m m' s s' t t' all h call reply events q' k few made

@@ -181,8 +181,8 @@ turned-untold : (f : Request → Request) (leaves_pair : Bool) (x : Held) → un
 turned-untold f leaves_pair x alike = ap {A = Request} {B = Held} (λ r. record { request = record r { reader = x.request.reader }; pair = cond leaves_pair None x.pair; carried = x.carried }) alike
 
 pub row_by-untold : (call : Call) (o : Outcome) (events : List Event) (q : Option Held) → option_map untold (row_by call o events q) ≡ row_by call o events (option_map untold q)
-row_by-untold (C.Open r) o events q = either (is_done o) (Some opened) q _ _ refl refl
-row_by-untold (C.Enable r) o events q = where-done o _ (λ x. refl) q
+row_by-untold (C.Open r options) o events q = either (is_done o) (Some (opened options)) q _ _ refl refl
+row_by-untold (C.Enable r options) o events q = where-done o _ (λ x. refl) q
 row_by-untold (C.Disable r why) o events q = where-done o _ (shut-untold why) q
 row_by-untold (C.Key r k) o events q = where-done o _ (λ x. refl) q
 row_by-untold (C.Look r t d) o events q = where-right o _ (λ x. looked-untold events (carrying d x)) q
@@ -205,6 +205,7 @@ row_by-untold (C.Lock r is_used) o events q = where-done o _ (λ x. refl) q
 row_by-untold (C.Wait r t) o events q = on (waited_by o t) (waited_by-untold o t) q
 row_by-untold (C.Publish r tokens) o events q = refl
 row_by-untold (C.Release r why) o events q = where-done o _ (λ x. refl) q
+row_by-untold (C.Give r to) o events q = where-done o _ (λ x. refl) q
 row_by-untold (C.Updating r) o events q = where-done o _ (λ x. refl) q
 row_by-untold (C.Uncacheable r h why) o events q = where-done o _ (λ x. refl) q
 row_by-untold (C.Variance r v) o events q = where-done o _ (λ x. turned-untold (varied v) false x (varied-untold v x.request)) q
@@ -231,14 +232,14 @@ open_with h x = record { request = holding h x.request; pair = x.pair; carried =
 may-alike : (f : Facts) (call : Call) (h : Option Locked) (x : Held) → MayBe f call (Some (open_with h x)) → MayBe f call (Some (untold (open_with h x)))
 may-alike f call None x m = m
 may-alike f call (Some (Write p)) x m = m
-may-alike f (C.Open r) (Some (Read rd)) x m = m
+may-alike f (C.Open r options) (Some (Read rd)) x m = m
 may-alike f (C.Lock r is_used) (Some (Read rd)) x m = absurd (none-told rd m.1)
 may-alike f call (Some (Read rd)) x m = m
 
 may-back : (f : Facts) (call : Call) (h : Option Locked) (x : Held) → MayBe f call (Some (untold (open_with h x))) → MayBe f call (Some (open_with h x))
 may-back f call None x m = m
 may-back f call (Some (Write p)) x m = m
-may-back f (C.Open r) (Some (Read rd)) x m = m
+may-back f (C.Open r options) (Some (Read rd)) x m = m
 may-back f (C.Lock r is_used) (Some (Read rd)) x m = absurd (none-told (untold_reader rd) m.1)
 may-back f call (Some (Read rd)) x m = m
 
@@ -368,6 +369,7 @@ said-alike call o None = refl
 said-alike call o (Some (Write p)) = refl
 said-alike (C.Publish r tokens) was_done (Some (Read rd)) = refl
 said-alike (C.Wait r t) (was_waited Pending) (Some (Read rd)) = refl
+said-alike (C.Give r to) was_done (Some (Read rd)) = refl
 said-alike call o (Some (Read rd)) = refl
 
 held-untold : (q : Option Held) → held_in (option_map untold q) ≡ option_map untold_lock (held_in q)

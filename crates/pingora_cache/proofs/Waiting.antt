@@ -35,7 +35,7 @@ use Rattle.pingora_cache.specs.declared.world.call.Call.TheVariants as C
 use Rattle.pingora_cache.specs.declared.world.entry.Entry.{Entry}
 use Rattle.pingora_cache.specs.declared.world.entry.Event.{Event}
 use Rattle.pingora_cache.specs.declared.world.entry.Event.TheVariants as E
-use Rattle.pingora_cache.specs.Deeds.{Deed, Asked, Released, LetGo, Aged, deed_of, deeds_by, deeds_in, held_in, moment_of, published_on, said_by, status_left}
+use Rattle.pingora_cache.specs.Deeds.{Deed, Asked, Released, LetGo, Aged, deed_of, deeds_by, deeds_in, held_in, moment_of, published_on, said_by, status_left, handed_on}
 use Rattle.pingora_cache.specs.Headline.{GivesThePermitExactly, OnePermitWaits}
 use Rattle.pingora_cache.specs.Held.{Held, Outcome, number_of, was_done, was_other, was_taken, was_waited, was_wrong}
 use Rattle.pingora_cache.specs.History.{events_of}
@@ -226,7 +226,7 @@ ages-one t l now old reached = record {
 
 -- ---- the rows of a request
 
-let-go-by : (t : Locks) (h : Option Locked) → Steps t (each E.LetGo (permit_of h)) (let_go_by h t)
+pub let-go-by : (t : Locks) (h : Option Locked) → Steps t (each E.LetGo (permit_of h)) (let_go_by h t)
 let-go-by t None = quiet t t [] tt refl
 let-go-by t (Some (Write p)) = lets-go t p
 let-go-by t (Some (Read r)) = leaves t r
@@ -276,6 +276,11 @@ spoken-published : (tokens : List ℕ) (h : Option Locked) → spoken (published
 spoken-published tokens None = refl
 spoken-published tokens (Some (Write p)) = refl
 spoken-published tokens (Some (Read rd)) = refl
+
+spoken-handed : (to : ℕ) (h : Option Locked) → spoken (handed_on to h) ≡ []
+spoken-handed to None = refl
+spoken-handed to (Some (Write p)) = refl
+spoken-handed to (Some (Read rd)) = refl
 
 -- a read lock is let go once its permit was found too old
 ages-by : (t : Locks) (fills : Option (List UnusableFill)) (at : ℕ) (mine : Option Locked) → too_old_for t at mine fills ≡ true → Steps t (spoken (each_deed Aged (number_read mine))) (let_go_by mine (table_polled at mine t))
@@ -351,6 +356,11 @@ all-given r at s (e ∷ events) w g =
 said-spoken : (call : Call) (o : Outcome) (h : Option Locked) → spoken (said_by call o h) ≡ []
 said-spoken (C.Publish r tokens) was_done h = spoken-published tokens h
 said-spoken (C.Wait r t) (was_waited Pending) h = refl
+said-spoken (C.Give r to) was_done h = spoken-handed to h
+said-spoken (C.Give r to) was_wrong h = refl
+said-spoken (C.Give r to) was_taken h = refl
+said-spoken (C.Give r to) was_other h = refl
+said-spoken (C.Give r to) (was_waited a) h = refl
 said-spoken (C.Publish r tokens) was_wrong h = refl
 said-spoken (C.Publish r tokens) was_taken h = refl
 said-spoken (C.Publish r tokens) was_other h = refl

@@ -11,16 +11,18 @@ use Rattle.pcache_evict.specs.declared.eviction.entry_key.CacheEntryKey.{CacheEn
 use Rattle.pcache_lock.specs.Locks.{Locks, no_locks}
 use Rattle.pcache_store.specs.Store.{Store}
 use Rattle.pingora_cache.specs.declared.world.call.Call.{Call}
+use Rattle.pingora_cache.specs.declared.world.call.Call.TheVariants as C
 use Rattle.pingora_cache.specs.declared.world.call.Reply.{Reply}
 use Rattle.pingora_cache.specs.declared.world.entry.Entry.{Entry}
 use Rattle.pingora_cache.specs.declared.world.entry.Event.{Event}
-use Rattle.pingora_cache.specs.Held.{Held, number_of}
+use Rattle.pingora_cache.specs.Handing.{Acts, of_one, of_two}
+use Rattle.pingora_cache.specs.Held.{Held}
 use Rattle.pingora_cache.specs.LockTable.{IsTable, read_locks}
 use Rattle.pingora_cache.specs.Log.{started}
 use Rattle.pingora_cache.specs.Rules.{IsCopy}
-use Rattle.pingora_cache.specs.Step.{Turn, IsOfWorldIn, IsMoved}
 use Rattle.pingora_cache.specs.Sound.{IsSound, readers}
 use Rattle.pingora_cache.proofs.Counts.{readers-none}
+use Rattle.pingora_cache.proofs.Handing.{give_age, give_sound}
 use Rattle.pingora_cache.proofs.LockTable.{table-none}
 use Rattle.pingora_cache.proofs.Opened.{open-none}
 use Rattle.pingora_cache.proofs.ReadLocks.{locks-none}
@@ -56,16 +58,25 @@ started-once f (Some all) m n some = refl
 pub not-both : {V A : Type 0} (o : Option V) → o ≡ None → IsSome o → A
 not-both o none some = absurd (both_ways (is_some o) (ap is_some none) some)
 
--- one call more, whose reply is told as it is copied
+-- one call more, of one request or of two, whose reply is told as it is copied
+acts-sound : (limits : Limits) (start m m' : Tracked) (s s' : Store) (t t' : Locks) (before after : List (ℕ × Held)) (h : List Entry) (call : Call) (reply told : Reply) (events : List Event)
+    → IsSound limits start m s t (from_entries {R = nat_cmp} before) h → length before < 2 ^ 64 → Acts limits call before s m t reply events after s' m' t' → IsCopy reply told
+    → IsSound limits start m' s' t' (from_entries {R = nat_cmp} after) (record { call = call; reply = told; events = events } ∷ h)
+acts-sound limits start m m' s s' t t' before after h call reply told events k small (of_one one turn moved) copy = step_sound limits start m m' s s' t t' before after h call reply events k small one turn told moved copy
+acts-sound limits start m m' s s' t t' before after h call reply told events k small (of_two from to is hands same kept) copy =
+    subst (λ (c : Call). IsSound limits start m' s' t' (from_entries {R = nat_cmp} after) (record { call = c; reply = told; events = events } ∷ h)) (sym is)
+    (subst (λ (x : Store). IsSound limits start m' x t' (from_entries {R = nat_cmp} after) (record { call = C.Give from to; reply = told; events = events } ∷ h)) (sym same)
+    (subst (λ (x : Tracked). IsSound limits start x s t' (from_entries {R = nat_cmp} after) (record { call = C.Give from to; reply = told; events = events } ∷ h)) (sym kept)
+    (give_sound limits start m s t t' before after h from to reply events k small hands told copy)))
+
 pub sound-step : (limits limits' : Limits) (start start' m m' : Tracked) (s s' : Store) (t t' : Locks) (before after : List (ℕ × Held)) (h h' : List Entry) (call : Call) (reply told : Reply) (events : List Event)
     → IsSound limits start m s t (from_entries {R = nat_cmp} before) (reverse h) → length before < 2 ^ 64
-    → (IsOfWorldIn (lookup (is_at (nat_cmp (number_of call))) before) → Turn limits call (lookup (is_at (nat_cmp (number_of call))) before) s m t reply events (lookup (is_at (nat_cmp (number_of call))) after) s' m' t')
-    → IsMoved call before after → IsCopy reply told
+    → Acts limits call before s m t reply events after s' m' t' → IsCopy reply told
     → limits' ≡ limits → start' ≡ start → h' ≡ h ++ record { call = call; reply = told; events = events } ∷ []
     → IsSound limits' start' m' s' t' (from_entries {R = nat_cmp} after) (reverse h')
-sound-step limits limits' start start' m m' s s' t t' before after h h' call reply told events k small turn moved copy same first is =
+sound-step limits limits' start start' m m' s s' t t' before after h h' call reply told events k small acts copy same first is =
     let entry : Entry = record { call = call; reply = told; events = events } in
-    let more = step_sound limits start m m' s s' t t' before after (reverse h) call reply events k small turn told moved copy in
+    let more = acts-sound limits start m m' s s' t t' before after (reverse h) call reply told events k small acts copy in
     let turned : reverse h' ≡ entry ∷ reverse h = ap reverse is ∙ reverse-append h (entry ∷ []) in
     subst (λ (l : Limits). IsSound l start' m' s' t' (from_entries {R = nat_cmp} after) (reverse h')) (sym same)
     (subst (λ (first : Tracked). IsSound limits first m' s' t' (from_entries {R = nat_cmp} after) (reverse h')) (sym first)
@@ -74,5 +85,6 @@ sound-step limits limits' start start' m m' s s' t t' before after h h' call rep
 -- after how long permits are too old stays as it is
 pub same-age : (limits : Limits) (start m m' : Tracked) (s s' : Store) (t t' : Locks) (before after : List (ℕ × Held)) (h : List Entry) (call : Call) (reply : Reply) (events : List Event)
     → IsSound limits start m s t (from_entries {R = nat_cmp} before) (reverse h) → length before < 2 ^ 64
-    → (IsOfWorldIn (lookup (is_at (nat_cmp (number_of call))) before) → Turn limits call (lookup (is_at (nat_cmp (number_of call))) before) s m t reply events (lookup (is_at (nat_cmp (number_of call))) after) s' m' t') → t'.age_timeout ≡ t.age_timeout
-same-age limits start m m' s s' t t' before after h call reply events k small turn = step_age limits start m m' s s' t t' before after (reverse h) call reply events k small turn
+    → Acts limits call before s m t reply events after s' m' t' → t'.age_timeout ≡ t.age_timeout
+same-age limits start m m' s s' t t' before after h call reply events k small (of_one one turn moved) = step_age limits start m m' s s' t t' before after (reverse h) call reply events k small one turn
+same-age limits start m m' s s' t t' before after h call reply events k small (of_two from to is hands same kept) = give_age limits start m s t t' before after (reverse h) from to reply events k small hands

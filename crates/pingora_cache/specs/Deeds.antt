@@ -3,6 +3,7 @@
 -- is then two clauses.
 use Rattle.std.specs.Prelude.{ℕ, ◌==◌, Bool, true, false, cond, if◌then◌else◌, Option, None, Some, is_some, List, [], ◌∷◌, ◌++◌, reverse}
 use Rattle.std.specs.List.{list_any}
+use Rattle.std.specs.Option.{option_map}
 use Rattle.pcache_base.specs.declared.poll.Poll.TheVariants.{Pending}
 use Rattle.pcache_lock.specs.Permits.{released_status, dropped_status}
 use Rattle.pcache_lock.specs.declared.lock.permit.Locked.{Locked}
@@ -25,7 +26,7 @@ pub data Deed : Type 0 where
   Released : (lock : ℕ) (status : LockStatus) → Deed
   LetGo : (lock : ℕ) → Deed
   Aged : (lock : ℕ) → Deed
-  -- a permit is handed to a request
+  -- a permit that is held is handed to a request
   Handed : (lock by : ℕ) → Deed
   -- who holds a permit publishes
   Published : (lock : ℕ) (tokens : List ℕ) → Deed
@@ -109,7 +110,7 @@ abbrev pub holds_at : ℕ → Deed → Option ℕ → Option ℕ
 holds_at l (Asked r k n true t) before = if n == l then Some r else before
 holds_at l (Released n s) before = if n == l then None else before
 holds_at l (LetGo n) before = if n == l then None else before
-holds_at l (Handed n r) before = if n == l then Some r else before
+holds_at l (Handed n r) before = if n == l then option_map (λ _. r) before else before
 holds_at l _ before = before
 
 -- what a permit leaves to those who wait on it: waiting, too old, dangling once it is let go, else the status that it was

@@ -35,8 +35,8 @@ abbrev pub IsHandedTo : ℕ → Permit → List (ℕ × Held) → List (ℕ × H
 IsHandedTo r p all all' = (q : ℕ) → open_at q all' ≡ cond (is_at (nat_cmp r) q) (option_map (handed_by (Some p)) (open_at r all)) (open_at q all)
 
 -- the taker, once the permit is out of its giver's hands
-abbrev pub taker_at : ℕ → ℕ → List (ℕ × Held) → Option Held
-taker_at from to all = cond (from == to) (option_map (on_request unheld) (open_at to all)) (open_at to all)
+abbrev pub taker_at : ℕ → ℕ → (ℕ → Option Held) → Option Held
+taker_at from to all = cond (from == to) (option_map (on_request unheld) (all to)) (all to)
 
 -- the lock table then
 abbrev pub table_given : Option Permit → Option Held → Locks → Locks
@@ -48,13 +48,13 @@ abbrev pub table_given_by : Outcome → Option Permit → Option Held → Locks 
 table_given_by was_done p taker t = table_given p taker t
 table_given_by o p taker t = t
 
--- one request hands its permit to another, or the call is a wrong one
-pub record HandsOver (from to : ℕ) (all : List (ℕ × Held)) (t : Locks) (reply : Reply) (events : List Event) (all' : List (ℕ × Held)) (t' : Locks) : Type 0 where
-  pub answers : (s : Store) → Answers (facts_for s t (request_in (open_at from all)) (taker_at from to all)) (C.Give from to) (open_at from all) reply events
-  pub requests : (q : ℕ) → open_at q all' ≡ taken_over (C.Give from to) (outcome reply) q (open_at from all) (cond (is_at (nat_cmp from) q) (row (C.Give from to) reply events (open_at from all)) (open_at q all))
-  pub table : t' ≡ table_given_by (outcome reply) (permit_held (open_at from all)) (taker_at from to all) t
+-- one request hands its permit to another, or the call is a wrong one; requests by number
+pub record HandsOver (from to : ℕ) (all : ℕ → Option Held) (t : Locks) (reply : Reply) (events : List Event) (all' : ℕ → Option Held) (t' : Locks) : Type 0 where
+  pub answers : (s : Store) → Answers (facts_for s t (request_in (all from)) (taker_at from to all)) (C.Give from to) (all from) reply events
+  pub requests : (q : ℕ) → all' q ≡ taken_over (C.Give from to) (outcome reply) q (all from) (cond (is_at (nat_cmp from) q) (row (C.Give from to) reply events (all from)) (all q))
+  pub table : t' ≡ table_given_by (outcome reply) (permit_held (all from)) (taker_at from to all) t
 
 -- a call that names one request moves that one, and one that hands a permit over moves two
 pub data Acts (limits : Limits) (call : Call) (all : List (ℕ × Held)) (s : Store) (m : Tracked) (t : Locks) (reply : Reply) (events : List Event) (all' : List (ℕ × Held)) (s' : Store) (m' : Tracked) (t' : Locks) : Type 0 where
   of_one : IsOfOne call → (IsOfWorldIn (open_at (number_of call) all) → Turn limits call (open_at (number_of call) all) s m t reply events (open_at (number_of call) all') s' m' t') → IsMoved call all all' → Acts limits call all s m t reply events all' s' m' t'
-  of_two : (from to : ℕ) → call ≡ C.Give from to → HandsOver from to all t reply events all' t' → s' ≡ s → m' ≡ m → Acts limits call all s m t reply events all' s' m' t'
+  of_two : (from to : ℕ) → call ≡ C.Give from to → HandsOver from to (λ q. open_at q all) t reply events (λ q. open_at q all') t' → s' ≡ s → m' ≡ m → Acts limits call all s m t reply events all' s' m' t'

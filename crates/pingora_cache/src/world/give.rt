@@ -1,10 +1,7 @@
 //! A call that names two requests: one hands its permit to the other.
 ghost use Rattle.std.specs.Prelude.{◌≡◌, ◌≤◌, ◌⊎◌, ◌++◌, ◌+◌, [], cond, IsSome, IsTrue, ◌↔◌, Some, None, ℕ, vec_len};
-ghost use Rattle.std.specs.BTreeMap.{is_at};
-ghost use Rattle.std.specs.Map.{lookup};
-ghost use Rattle.std.specs.Ordering.{nat_cmp};
 ghost use Rattle.std.specs.Vec.{vec_capacity};
-ghost use Rattle.pingora_cache.specs.Handing.{Acts, HandsOver, IsHandedTo, IsTaken, table_given};
+ghost use Rattle.pingora_cache.specs.Handing.{Acts, HandsOver, IsHandedTo, IsTaken, open_at, table_given};
 ghost use Rattle.pingora_cache.specs.Held.{permit_held, handed_by};
 ghost use Rattle.pingora_cache.specs.Rules.{MayTake, each, given_up};
 ghost use Rattle.pingora_cache.specs.Step.{IsOfWorldIn, spare_of};
@@ -52,7 +49,7 @@ fn give(
 ) -> Reply
     requires none { events.old.items ≡ [] }
     requires room { 3 ≤ vec_capacity events.old }
-    ensures { HandsOver from to requests.old.entries lock.old result events.new.items requests.new.entries lock.new }
+    ensures { HandsOver from to (λ q. open_at q requests.old.entries) lock.old result events.new.items (λ q. open_at q requests.new.entries) lock.new }
 {
     if !takes(requests, to) {
         return Reply::WrongCall;
@@ -69,7 +66,7 @@ fn give(
 
 // Whether a request is open, and on.
 fn takes(requests: &BTreeMap<u64, OpenRequest>, number: u64) -> bool
-    ensures { IsTrue result ↔ MayTake (lookup (is_at (nat_cmp number)) requests.now.entries) }
+    ensures { IsTrue result ↔ MayTake (open_at number requests.now.entries) }
 {
     match requests.get(&number) {
         Some(request) => request.cache.phase().is_on(),
@@ -79,7 +76,7 @@ fn takes(requests: &BTreeMap<u64, OpenRequest>, number: u64) -> bool
 
 // The permit of a request, which holds none then.
 fn take(requests: &mut BTreeMap<u64, OpenRequest>, number: u64) -> Option<WritePermit>
-    ensures permit { result ≡ permit_held (lookup (is_at (nat_cmp number)) requests.old.entries) }
+    ensures permit { result ≡ permit_held (open_at number requests.old.entries) }
     ensures requests { IsTaken number requests.old.entries requests.new.entries }
 {
     let request = requests.get_mut(&number)?;
@@ -96,10 +93,10 @@ fn hand(
     permit: WritePermit,
     to: u64,
 ) -> Option<u64>
-    requires { MayTake (lookup (is_at (nat_cmp to)) requests.old.entries) }
-    ensures let_go { each LetGo result ≡ given_up (Some permit) (lookup (is_at (nat_cmp to)) requests.old.entries) }
+    requires { MayTake (open_at to requests.old.entries) }
+    ensures let_go { each LetGo result ≡ given_up (Some permit) (open_at to requests.old.entries) }
     ensures requests { IsHandedTo to permit requests.old.entries requests.new.entries }
-    ensures table { lock.new ≡ table_given (Some permit) (lookup (is_at (nat_cmp to)) requests.old.entries) lock.old }
+    ensures table { lock.new ≡ table_given (Some permit) (open_at to requests.old.entries) lock.old }
 {
     let Some(request) = requests.get_mut(&to) else {
         unreachable!()

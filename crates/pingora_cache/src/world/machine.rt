@@ -7,9 +7,9 @@ ghost use Rattle.pingora_cache.specs.Rules.{IsCopy};
 
 use crate::world::call::{Call, Reply};
 use crate::world::entry::{Entry, Event, Events};
+use crate::world::give::act;
 use crate::world::parts::Parts;
 use crate::world::request::OpenRequest;
-use crate::world::give::act;
 use crate::world::vary::spare_of;
 use pcache_base::error::{ErrorType, Result};
 use pcache_evict::eviction::{CacheEntryKey, EvictionManager};

@@ -11,9 +11,9 @@ invariant_of-self g c = (
 
 pub invariant_of-self-2 : goal.invariant_of-self-2
 invariant_of-self-2 g c = (
-  sound-step _ _ _ _ _ _ _ _ _ _ _ _ c.self.inside.history.items _ c.args.call _ _ _ c.self.invariant.0 (search rules) c.apply-reply.ensures.turn c.apply-reply.ensures.requests c.doubled-noted.ensures.copy c.apply-reply.ensures.limits
+  sound-step _ _ _ _ _ _ _ _ _ _ _ _ c.self.inside.history.items _ c.args.call _ _ _ c.self.invariant.0 (search rules) c.act-reply.ensures.acts c.doubled-noted.ensures.copy c.act-reply.ensures.limits
       (started-once (λ v. v.items) _ _ _ c.in_ok-make_ready.ensures.known ∙ c.make_ready.ensures.same_start)
-      (c.note.ensures ∙ ap (λ xs. xs ++ record { call = c.args.call; reply = c.doubled-noted.result.0; events = c.apply-reply.new.events.items } ∷ []) c.make_ready.ensures.same_history),
+      (c.note.ensures ∙ ap (λ xs. xs ++ record { call = c.args.call; reply = c.doubled-noted.result.0; events = c.act-reply.new.events.items } ∷ []) c.make_ready.ensures.same_history),
   λ none. not-both _ none c.in_ok-make_ready.ensures.known,
 )
 
@@ -22,9 +22,9 @@ returns-clause-legal g c = (invariant_of-self-2 g c).0.legal
 
 pub returns-clause-ok : goal.returns-clause-ok
 returns-clause-ok g c = record {
-  events = c.apply-reply.new.events.items;
+  events = c.act-reply.new.events.items;
   history = search rules;
   start = search rules;
   limits = search rules;
-  age = same-age _ _ _ _ _ _ _ _ _ _ c.self.inside.history.items c.args.call _ _ c.self.invariant.0 (search rules) c.apply-reply.ensures.turn ∙ ap (λ (l : Log). l.age) c.self.view_is;
+  age = same-age _ _ _ _ _ _ _ _ _ _ c.self.inside.history.items c.args.call _ _ c.self.invariant.0 (search rules) c.act-reply.ensures.acts ∙ ap (λ (l : Log). l.age) c.self.view_is;
 }
