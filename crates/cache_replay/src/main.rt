@@ -22,6 +22,7 @@ fn main(rt: HostRuntime) -> ExitCode {
     let status = replay(
         rt.alloc(),
         args.as_slice(),
+        &rt,
         rt.reader(),
         io::writer(&rt),
         &mut errors,

@@ -7,6 +7,7 @@ use pingora_cache::moment::Moment;
 use pingora_cache::world::World;
 use pingora_cache::world::call::Reply;
 use std::alloc::Global;
+use std::fs::Files;
 use std::io::{BufRead, BufReader, BufWriter, Read, Write};
 use std::time::Duration;
 
@@ -31,15 +32,17 @@ struct Limits {
 }
 
 /// Runs the script that `input` has, with `LIMIT [WATERMARK]` as arguments, and writes one reply a
-/// line. Answers the status: 0, or 1 after a line to `errors` that says what was wrong.
-pub fn replay<R: Read + Drop, W: Write + Drop, E: Write>(
+/// line. Managers are saved in `files` and loaded from there. Answers the status: 0, or 1 after a line
+/// to `errors` that says what was wrong.
+pub fn replay<F: Files, R: Read + Drop, W: Write + Drop, E: Write>(
     alloc: Global,
     args: &[String],
+    files: &F,
     input: R,
     output: W,
     errors: &mut E,
 ) -> u8 {
-    let stop = match run(alloc, args, input, output) {
+    let stop = match run(alloc, args, files, input, output) {
         Ok(()) => return 0,
         Err(stop) => stop,
     };
@@ -53,9 +56,10 @@ pub fn replay<R: Read + Drop, W: Write + Drop, E: Write>(
     1
 }
 
-fn run<R: Read + Drop, W: Write + Drop>(
+fn run<F: Files, R: Read + Drop, W: Write + Drop>(
     alloc: Global,
     args: &[String],
+    files: &F,
     input: R,
     output: W,
 ) -> Result<(), Stop> {
@@ -70,15 +74,16 @@ fn run<R: Read + Drop, W: Write + Drop>(
         return Err(Stop::OutOfMemory);
     };
     let mut world = World::new(alloc, manager, Duration::from_secs(AGE_TIMEOUT_SECS));
-    let result = run_lines(alloc, &mut world, &mut reader, &mut writer);
+    let result = run_lines(alloc, files, &mut world, &mut reader, &mut writer);
     // The replies before a bad line are printed first.
     let flushed = writer.flush();
     result?;
     flushed.map_err(|_| Stop::OutputFailed)
 }
 
-fn run_lines<R: BufRead, W: Write>(
+fn run_lines<F: Files, R: BufRead, W: Write>(
     alloc: Global,
+    files: &F,
     world: &mut World<Manager>,
     reader: &mut R,
     writer: &mut W,
@@ -90,37 +95,63 @@ fn run_lines<R: BufRead, W: Write>(
         if !read_line(reader, &mut line)? {
             return Ok(());
         }
-        run_line(alloc, world, line.as_slice(), number, &mut now, writer)?;
+        let read = match read(alloc, line.as_slice(), now) {
+            Ok(read) => read,
+            Err(Unread::BadCall) => return Err(Stop::BadCall(number)),
+            Err(Unread::OutOfMemory) => return Err(Stop::OutOfMemory),
+        };
+        run_line(files, world, read, number, &mut now, writer)?;
     }
     Ok(())
 }
 
-fn run_line<W: Write>(
-    alloc: Global,
+// Does what a line with this number asks for, and writes the reply.
+fn run_line<F: Files, W: Write>(
+    files: &F,
     world: &mut World<Manager>,
-    line: &[u8],
+    line: Line,
     number: u64,
     now: &mut Moment,
     writer: &mut W,
 ) -> Result<(), Stop> {
-    let read = match read(alloc, line, *now) {
-        Ok(read) => read,
-        Err(Unread::BadCall) => return Err(Stop::BadCall(number)),
-        Err(Unread::OutOfMemory) => return Err(Stop::OutOfMemory),
-    };
-    let written = match read {
+    let written = match line {
         Line::Skip => Ok(()),
         Line::At(moment) => {
             *now = moment;
             write_reply(writer, &Reply::Done)
         }
         Line::Stat => write_stat(writer, world.stored_bytes(), world.slots(), world.totals()),
+        Line::Save(dir) => {
+            let saved = world.save(files, dir.as_str(), suffix_of(number));
+            write_reply(writer, &file_reply(saved.map(Some)))
+        }
+        Line::Load(dir) => {
+            let loaded = world.load(files, dir.as_str());
+            write_reply(
+                writer,
+                &file_reply(loaded.map(|skipped| skipped.map(|_| ()))),
+            )
+        }
         Line::Call(call) => match world.step(call) {
             Ok(reply) => write_reply(writer, &reply),
             Err(_) => return Err(Stop::OutOfMemory),
         },
     };
     written.map_err(|_| Stop::OutputFailed)
+}
+
+// The suffix of a saved file's temporary name: its line's number modulo 2^32.
+fn suffix_of(number: u64) -> u32 {
+    (number % (1 << 32)) as u32
+}
+
+// What saving or loading answers. Nothing stands for a load that comes too late.
+fn file_reply(done: pingora_cache::error::Result<Option<()>>) -> Reply {
+    match done {
+        Ok(Some(())) => Reply::Done,
+        Ok(None) => Reply::WrongCall,
+        Err(refused) => Reply::Refused(refused.etype()),
+    }
 }
 
 // Reads a line without its end, and answers whether there was one.

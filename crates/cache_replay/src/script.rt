@@ -3,7 +3,6 @@ ghost use Rattle.std.specs.Prelude.{◌<◌, IfOk};
 
 use bytes::Bytes;
 use http::StatusCode;
-use pingora_cache::{CacheOptionOverrides, NoCacheReason};
 use pingora_cache::header::ResponseHeader;
 use pingora_cache::key::{CacheKey, HashBinary, str2hex};
 use pingora_cache::lock::{UnusableFill, UnusableFills};
@@ -12,6 +11,7 @@ use pingora_cache::moment::Moment;
 use pingora_cache::phase::HitStatus;
 use pingora_cache::world::call::Call;
 use pingora_cache::world::tokens::Tokens;
+use pingora_cache::{CacheOptionOverrides, NoCacheReason};
 use std::alloc::{AllocError, AllocFailed, Global};
 use std::time::Duration;
 
@@ -24,6 +24,9 @@ pub enum Line {
     Stat,
     /// The moment of the lines that follow.
     At(Moment),
+    /// Save what the manager holds in this folder, or load it: no calls.
+    Save(String),
+    Load(String),
     /// A call of the world.
     Call(Call),
 }
@@ -107,6 +110,15 @@ pub fn read(alloc: Global, line: &[u8], now: Moment) -> Result<Line, Unread> {
         let seconds = words.number()?;
         words.end()?;
         return Ok(Line::At(Moment::from_secs(seconds)));
+    }
+    if word == b"save".as_slice() || word == b"load".as_slice() {
+        let dir = text_of(alloc, words.word()?)?;
+        words.end()?;
+        return Ok(if word == b"save".as_slice() {
+            Line::Save(dir)
+        } else {
+            Line::Load(dir)
+        });
     }
     let request = words.number()?;
     let call = read_call(alloc, word, request, &mut words, now)?;
@@ -331,11 +343,7 @@ fn reason(word: &[u8]) -> Result<NoCacheReason, Unread> {
 // A key, and behind it where they are given its variance and the fills that it cannot use.
 fn key(alloc: Global, words: &mut Words<'_>) -> Result<CacheKey, Unread> {
     let primary = text(alloc, words.word()?)?;
-    let tag = text(alloc, words.word()?)?;
-    let Ok(user_tag) = String::from_utf8(tag) else {
-        return Err(Unread::BadCall);
-    };
-    let mut key = CacheKey::new(primary, user_tag);
+    let mut key = CacheKey::new(primary, text_of(alloc, words.word()?)?);
     if let Some(word) = words.option(b"v=") {
         key.set_variance_key(hash(word)?);
     }
@@ -343,6 +351,11 @@ fn key(alloc: Global, words: &mut Words<'_>) -> Result<CacheKey, Unread> {
         key.unusable = Some(unusable(alloc, word)?);
     }
     Ok(key)
+}
+
+// A text in UTF-8.
+fn text_of(alloc: Global, word: &[u8]) -> Result<String, Unread> {
+    String::from_utf8(text(alloc, word)?).map_err(|_| Unread::BadCall)
 }
 
 fn hash(word: &[u8]) -> Result<HashBinary, Unread> {

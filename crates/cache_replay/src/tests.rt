@@ -1,15 +1,17 @@
 //! Whole scripts, each with the replies that are wanted.
+mod files;
 mod waits;
 
 use crate::replay::replay;
 use std::alloc::Global;
+use std::fs::Files;
 use std::process::Abort;
 use std::test::Fail;
 
 // Runs the calls of a row, in which a reply stands behind each call that has one, and compares the
 // replies, the status and what is said of errors.
-fn check(
-    rt: &impl Abort,
+fn check<R: Abort + Files>(
+    rt: &R,
     alloc: Global,
     args: &[&str],
     row: &str,
@@ -38,6 +40,7 @@ fn check(
     let ended = replay(
         alloc,
         words.as_slice(),
+        rt,
         script.as_bytes(),
         &mut output,
         &mut errors,

@@ -1,5 +1,5 @@
 //! The world itself.
-ghost use Rattle.std.specs.Prelude.{◌≡◌, ◌+◌, ◌<◌, ◌≤◌, ◌⊎◌, ◌++◌, ◌∷◌, [], Some, None, IsSome, IfSome, option_map, IfOk, IfErr, OnOk, OnErr, min, ◌^◌, ◌-◌, vec_len};
+ghost use Rattle.std.specs.Prelude.{◌≡◌, ◌≢◌, ◌+◌, ◌<◌, ◌≤◌, ◌⊎◌, ◌++◌, ◌∷◌, [], Some, None, IsSome, IfSome, option_map, IfOk, IfErr, OnOk, OnErr, min, ◌^◌, ◌-◌, vec_len};
 ghost use Rattle.pcache_base.specs.declared.error.ErrorType.TheVariants.{OutOfMemory};
 ghost use Rattle.std.specs.Vec.{vec_capacity};
 ghost use Rattle.pingora_cache.specs.Log.{started};
@@ -13,10 +13,12 @@ use crate::world::request::OpenRequest;
 use crate::world::vary::spare_of;
 use pcache_base::error::{ErrorType, Result};
 use pcache_evict::eviction::{CacheEntryKey, EvictionManager};
+use pcache_files::saved::SavedManager;
 use pcache_lock::lock::CacheLock;
 use pcache_store::memory::MemCache;
 use std::alloc::Global;
 use std::collections::BTreeMap;
+use std::fs::Files;
 use std::marker::Model;
 use std::time::Duration;
 
@@ -197,6 +199,43 @@ impl<M: EvictionManager> World<M> {
             replies.push_reserved(reply);
         }
         Ok(replies)
+    }
+}
+
+impl<M: SavedManager> World<M> {
+    ghost use Rattle.pingora_cache.specs.Log.{Log, HasLegal};
+    ghost use Rattle.pcache_base.specs.declared.error.ErrorType.TheVariants.{InternalError, Io, OutOfMemory};
+
+    /// Saves what the manager holds in a folder, which is made with its parents where it is missing.
+    /// Each file is written under a temporary name, which ends in the suffix, and then renamed. It is
+    /// no call, and stands in no history.
+    pub fn save<R: Files>(&self, files: &R, dir: &str, suffix: u32) -> Result<()>
+        ensures kinds { IfErr result (λ e. (e ≡ OutOfMemory) ⊎ (e ≡ InternalError) ⊎ (e ≡ Io)) }
+    {
+        self.parts.manager.save(self.alloc, files, dir, suffix)
+    }
+
+    /// Puts in what was saved in a folder, before the first call: the history then starts from what the
+    /// manager holds. Answers how many of several files were skipped, or nothing where a call was
+    /// made, and then changes nothing. Nothing is evicted. It is no call itself, and stands in no
+    /// history.
+    pub fn load<R: Files>(&mut self, files: &R, dir: &str) -> Result<Option<usize>>
+        ensures late { self.old.history ≢ [] → (IfOk result (λ skipped. skipped ≡ None) × IfErr result (λ e. ⊥) × (self.new ≡ self.old)) }
+        ensures first { self.old.history ≡ [] → IfOk result (λ skipped. IsSome skipped) }
+        ensures history { self.new.history ≡ self.old.history }
+        ensures limits { self.new.limits ≡ self.old.limits }
+        ensures evicted { self.new.evicted ≡ self.old.evicted }
+        ensures age { self.new.age ≡ self.old.age }
+        ensures legal { HasLegal self.new }
+        ensures err { OnErr result (self.new ≡ self.old) }
+        ensures kinds { IfErr result (λ e. (e ≡ OutOfMemory) ⊎ (e ≡ InternalError) ⊎ (e ≡ Io)) }
+    {
+        if !self.history.is_empty() {
+            return Ok(None);
+        }
+        let skipped = self.parts.manager.load(self.alloc, files, dir)?;
+        self.start = None;
+        Ok(Some(skipped))
     }
 }
 
