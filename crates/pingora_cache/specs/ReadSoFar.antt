@@ -18,7 +18,7 @@ given_in _ = []
 -- what one call makes of the bytes that its request's reader has given: none once a request opened, a hit was taken or a
 -- write began with a reader, or it was sent to another range; a read adds what it gave
 abbrev pub read_on : Change → Outcome → List Event → List ℕ → List ℕ
-read_on opens o events before = cond (is_done o) [] before
+read_on (opens options) o events before = cond (is_done o) [] before
 read_on (takes s) o events before = cond (is_taken o) [] before
 read_on begins o events before = cond (is_done o) [] before
 read_on reads_on o events before = before ++ given_in events
