@@ -212,7 +212,7 @@ module _ (limits : Limits) (start m : Tracked) (s : Store) (t : Locks) (all : Fi
     where
       by : (b : Bool) → (from == to) ≡ b → (to ≢ from) × (who_holds z ds ≡ Some to)
       by true same = let no : ◌≡◌ {A = Option ℕ} None (Some z) = sym (ap permit_of (taker-self same)) ∙ e in absurd (cc)
-      by false other = ((λ same. both_ways (from == to) (eq-eqb from to (sym same)) other), (k.holds to y (taker-other other)).permit z e)
+      by false other = ((λ same. both_ways (from == to) other (eq-eqb from to (sym same))), (k.holds to y (taker-other other)).permit z e)
 
   taker-held : (b : Bool) (z : ℕ) → permit_of (cond b y.request.held (Some (Write p))) ≡ Some z → is_held z ds ≡ true
   taker-held true z e = ap is_some (taker-permit z e).1
@@ -269,7 +269,7 @@ module _ (limits : Limits) (start m : Tracked) (s : Store) (t : Locks) (all : Fi
   taker-by false other a =
       let is = taker-other other in
       let old = k.holds to y is in
-      let apart : to ≢ from = λ same. both_ways (from == to) (eq-eqb from to (sym same)) other in
+      let apart : to ≢ from = λ same. both_ways (from == to) other (eq-eqb from to (sym same)) in
       holds-on to ds (Deeds p.number to (Some p.number) ds) n (read_locks after) t t' y.request.held k.table a
       (λ l e. let was = old.permit l e in who-still ds p.number to l (Some p.number) (not-this to l apart was) (λ w at. ap (λ z. z == l) (sym (some-same p.number w at)) ∙ not-this to l apart was) ∙ was)
       (λ q. shown-still ds p.number to to q (Some p.number)) (λ rd e. lock-counted all to y rd is e) old
@@ -290,7 +290,7 @@ module _ (limits : Limits) (start m : Tracked) (s : Store) (t : Locks) (all : Fi
         | false ↦ λ not-to e.
             elim (from == r) as (λ b. (from == r) ≡ b → cond b (Some x1) (get all r) ≡ Some z → Holds r (Deeds p.number to (permit_of g) ds) t' z.request.held) [
               | true ↦ λ _ a. subst (λ o. Holds r (Deeds p.number to (permit_of g) ds) t' o) (ap (λ (w : Held). w.request.held) (some-same x1 z a)) (holds-none r _ _)
-              | false ↦ λ not-from a. hold-others r z (λ same. both_ways (from == r) (eq-eqb from r (sym same)) not-from) (λ same. both_ways (to == r) (eq-eqb to r (sym same)) not-to) a
+              | false ↦ λ not-from a. hold-others r z (λ same. both_ways (from == r) not-from (eq-eqb from r (sym same))) (λ same. both_ways (to == r) not-to (eq-eqb to r (sym same))) a
             ] refl (sym (get-set_to all from (Some x1) r) ∙ e)
       ] refl (sym (get-set_to mid to (Some y2) r) ∙ is)
 
@@ -335,7 +335,7 @@ module _ (limits : Limits) (start m : Tracked) (s : Store) (t : Locks) (all : Fi
   may-give : MayBe (facts_for s t x.request (taker_in (C.Give from to) h)) (C.Give from to) (Some (untold x))
   may-give = (subst IsSome (sym permit-named) refl, subst MayTake (sym taker-named) may)
 
-  gives : Gives t.age_timeout limits start es ds (Some (untold x)) (C.Give from to) R.Done events
+  abbrev gives : Gives t.age_timeout limits start es ds (Some (untold x)) (C.Give from to) R.Done events
   gives = record {
     facts = facts_for s t x.request (taker_in (C.Give from to) h);
     says = facts-agree limits start m s t all h k from (taker_in (C.Give from to) h) (Some x) giver;

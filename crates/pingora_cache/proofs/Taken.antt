@@ -13,7 +13,7 @@ use Rattle.pingora_cache.specs.Held.{Held, Outcome, was_done, handed_by, permit_
 use Rattle.pingora_cache.specs.Step.{IsOfOne, IsOfWorldIn}
 
 -- a request that holds this
-pub holding_in : Option Locked → Held → Held
+abbrev pub holding_in : Option Locked → Held → Held
 holding_in h x = record { request = record x.request { held = h }; pair = x.pair; carried = x.carried }
 
 pub handed-keeps : (P : Option Held → Type 0) → ((x : Held) (h : Option Locked) → P (Some x) → P (Some (holding_in h x))) → (p : Option Permit) (x : Held) → P (Some x) → P (Some (handed_by p x))
