@@ -1,3 +1,4 @@
+pub mod HashMaps
 pub mod Least
 pub mod Seats
 pub mod ShardLists

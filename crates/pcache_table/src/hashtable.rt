@@ -4,6 +4,7 @@ ghost use Rattle.std.specs.FinMap as map;
 ghost use Rattle.pcache_table.specs.Sharding.{Part, part_of};
 
 pub mod concurrent;
+pub mod hashed_table;
 pub mod lru_lock;
 pub mod lru_shard;
 pub mod lru_shards;
@@ -13,6 +14,7 @@ pub mod table;
 pub mod write_guard;
 
 pub use concurrent::{ConcurrentHashTable, ConcurrentLruCache};
+pub use hashed_table::HashedTable;
 pub use lru_lock::LruLock;
 pub use lru_shard::LruShard;
 pub use lru_shards::LruShards;

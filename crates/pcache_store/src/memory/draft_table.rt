@@ -11,7 +11,7 @@ use crate::memory::draft::Draft;
 use crate::memory::slot_table::SHARDS;
 use pcache_base::error::{Error, ErrorType, Result};
 use pcache_meta::meta::CacheMeta;
-use pcache_table::hashtable::Table;
+use pcache_table::hashtable::HashedTable;
 use std::alloc::Global;
 use std::marker::Model;
 
@@ -26,7 +26,7 @@ const MOST_RECORDS: usize = (1 << 63) - 1;
 /// the logarithm of the number of records, and a slot of another store's write finds the same.
 #[derive(Drop)]
 pub(crate) struct DraftTable {
-    shards: [Table<Draft>; 16],
+    shards: [HashedTable<Draft>; 16],
     count: usize,
 }
 
@@ -54,9 +54,9 @@ impl DraftTable {
     {
         DraftTable {
             shards: std::array::from_fn(
-                |_place: usize| -> Table<Draft>
+                |_place: usize| -> HashedTable<Draft>
                     ensures { result ≡ map.empty }
-                { Table::new(alloc) },
+                { HashedTable::new(alloc) },
             ),
             count: 0,
         }
@@ -193,7 +193,7 @@ impl DraftTable {
 }
 
 // The place of the shard that has a number, where one has it. That of the slot comes first.
-fn place_of(shards: &[Table<Draft>; 16], slot: u128, number: u128) -> usize
+fn place_of(shards: &[HashedTable<Draft>; 16], slot: u128, number: u128) -> usize
     ensures within { result < 16 }
     ensures place { IsPlaceOf shards.now number result }
 {
@@ -209,7 +209,7 @@ fn place_of(shards: &[Table<Draft>; 16], slot: u128, number: u128) -> usize
 }
 
 // The place of a shard that has a number.
-fn place_with(shards: &[Table<Draft>; 16], number: u128) -> Option<usize>
+fn place_with(shards: &[HashedTable<Draft>; 16], number: u128) -> Option<usize>
     ensures within { IfSome result (λ i. i < 16) }
     ensures there { IfSome result (λ i. IsSome (map.get (table_at shards.now i) number)) }
     ensures none { IfNone result ((i : ℕ) → i < 16 → map.get (table_at shards.now i) number ≡ None) }
@@ -224,7 +224,7 @@ fn place_with(shards: &[Table<Draft>; 16], number: u128) -> Option<usize>
 }
 
 // One where a table has a record of a number, else none.
-fn held(table: &Table<Draft>, number: u128) -> usize
+fn held(table: &HashedTable<Draft>, number: u128) -> usize
     ensures { result ≡ cond (is_some (map.get table.now number)) 1 0 }
 {
     match table.get(number) {
@@ -234,7 +234,7 @@ fn held(table: &Table<Draft>, number: u128) -> usize
 }
 
 fn write_in(
-    writes: &mut Table<Draft>,
+    writes: &mut HashedTable<Draft>,
     alloc: Global,
     number: u128,
     bytes: &[u8],
@@ -250,7 +250,11 @@ fn write_in(
     draft.write(alloc, bytes, eof)
 }
 
-fn join_in(writes: &mut Table<Draft>, alloc: Global, number: u128) -> Result<Option<CacheMeta>>
+fn join_in(
+    writes: &mut HashedTable<Draft>,
+    alloc: Global,
+    number: u128,
+) -> Result<Option<CacheMeta>>
     ensures meta { IfOk result (λ m. m ≡ option_map (λ w. w.meta) (map.get writes.old number)) }
     ensures ok { OnOk result (writes.new ≡ joined_on writes.old number (map.get writes.old number)) }
     ensures something { OnErr result (IsSome (map.get writes.old number)) }
@@ -266,7 +270,7 @@ fn join_in(writes: &mut Table<Draft>, alloc: Global, number: u128) -> Result<Opt
     }
 }
 
-fn leave_in(writes: &mut Table<Draft>, number: u128)
+fn leave_in(writes: &mut HashedTable<Draft>, number: u128)
     ensures { writes.new ≡ left_on writes.old number (map.get writes.old number) }
 {
     let Some(draft) = writes.get_mut(number) else {
@@ -279,7 +283,7 @@ fn leave_in(writes: &mut Table<Draft>, number: u128)
     writes.remove(number);
 }
 
-fn land_in(writes: &mut Table<Draft>, number: u128)
+fn land_in(writes: &mut HashedTable<Draft>, number: u128)
     ensures { writes.new ≡ grounded_on writes.old number (map.get writes.old number) }
 {
     let Some(draft) = writes.get_mut(number) else {
@@ -293,7 +297,7 @@ fn land_in(writes: &mut Table<Draft>, number: u128)
 }
 
 // Where nobody reads the write its meta and bytes move into the body, and else the body shares them.
-fn end_in(writes: &mut Table<Draft>, alloc: Global, number: u128) -> Result<Body>
+fn end_in(writes: &mut HashedTable<Draft>, alloc: Global, number: u128) -> Result<Body>
     requires { IsSome (map.get writes.old number) }
     ensures body { IfOk result (λ b. IsBodyOf (map.get writes.old number) b) }
     ensures gone { writes.new ≡ grounded_on writes.old number (map.get writes.old number) }

@@ -10,7 +10,7 @@ use crate::memory::body::{Body, KeySlot};
 use pcache_base::error::{Error, ErrorType, Result};
 use pcache_base::moment::Moment;
 use pcache_meta::meta::spelled::SpelledMeta;
-use pcache_table::hashtable::Table;
+use pcache_table::hashtable::HashedTable;
 use std::alloc::Global;
 use std::marker::Model;
 
@@ -23,7 +23,7 @@ const MOST_KEYS: usize = (1 << 63) - 1;
 /// The slots by key, in 16 shards. A contract sees one map.
 #[derive(Drop)]
 pub(crate) struct SlotTable {
-    shards: [Table<KeySlot>; 16],
+    shards: [HashedTable<KeySlot>; 16],
     count: usize,
 }
 
@@ -51,9 +51,9 @@ impl SlotTable {
     {
         SlotTable {
             shards: std::array::from_fn(
-                |_place: usize| -> Table<KeySlot>
+                |_place: usize| -> HashedTable<KeySlot>
                     ensures { result ≡ map.empty }
-                { Table::new(alloc) },
+                { HashedTable::new(alloc) },
             ),
             count: 0,
         }
@@ -168,7 +168,7 @@ impl SlotTable {
 }
 
 // One where a key has a slot, else none.
-fn held(table: &Table<KeySlot>, key: u128) -> usize
+fn held(table: &HashedTable<KeySlot>, key: u128) -> usize
     ensures { result ≡ cond (is_some (map.get table.now key)) 1 0 }
 {
     match table.get(key) {
@@ -177,7 +177,7 @@ fn held(table: &Table<KeySlot>, key: u128) -> usize
     }
 }
 
-fn open_in(slots: &mut Table<KeySlot>, alloc: Global, key: u128, number: u128) -> Result<()>
+fn open_in(slots: &mut HashedTable<KeySlot>, alloc: Global, key: u128, number: u128) -> Result<()>
     ensures ok { OnOk result (slots.new ≡ opened slots.old key number) }
     ensures kind { IfErr result (λ e. e ≡ OutOfMemory) }
     ensures err { OnErr result (slots.new ≡ slots.old) }
@@ -191,7 +191,7 @@ fn open_in(slots: &mut Table<KeySlot>, alloc: Global, key: u128, number: u128) -
     Ok(())
 }
 
-fn shut_in(slots: &mut Table<KeySlot>, key: u128, number: u128)
+fn shut_in(slots: &mut HashedTable<KeySlot>, key: u128, number: u128)
     ensures { slots.new ≡ shut_on slots.old key number (map.get slots.old key) }
 {
     let Some(slot) = slots.get_mut(key) else {
@@ -204,7 +204,7 @@ fn shut_in(slots: &mut Table<KeySlot>, key: u128, number: u128)
 }
 
 // Answers the older body.
-fn store_in(slots: &mut Table<KeySlot>, key: u128, number: u128, body: Body) -> Option<Body>
+fn store_in(slots: &mut HashedTable<KeySlot>, key: u128, number: u128, body: Body) -> Option<Body>
     requires { IsSome (map.get slots.old key) }
     ensures older { result ≡ body_of (map.get slots.old key) }
     ensures slots { slots.new ≡ stored_on slots.old key number body (map.get slots.old key) }
@@ -215,7 +215,7 @@ fn store_in(slots: &mut Table<KeySlot>, key: u128, number: u128, body: Body) -> 
     slot.store(number, body)
 }
 
-fn set_meta_in(slots: &mut Table<KeySlot>, key: u128, meta: SpelledMeta) -> bool
+fn set_meta_in(slots: &mut HashedTable<KeySlot>, key: u128, meta: SpelledMeta) -> bool
     ensures there { result ≡ is_some (body_of (map.get slots.old key)) }
     ensures slots { slots.new ≡ meta_changed_on (λ _. meta) slots.old key (map.get slots.old key) }
 {
@@ -225,7 +225,12 @@ fn set_meta_in(slots: &mut Table<KeySlot>, key: u128, meta: SpelledMeta) -> bool
     slot.set_meta(meta)
 }
 
-fn expire_in(slots: &mut Table<KeySlot>, alloc: Global, key: u128, now: Moment) -> Result<bool>
+fn expire_in(
+    slots: &mut HashedTable<KeySlot>,
+    alloc: Global,
+    key: u128,
+    now: Moment,
+) -> Result<bool>
     ensures there { IfOk result (λ b. b ≡ is_some (body_of (map.get slots.old key))) }
     ensures slots { OnOk result (slots.new ≡ meta_changed_on (meta_of.expired_at now) slots.old key (map.get slots.old key)) }
     ensures something { OnErr result (is_some (body_of (map.get slots.old key)) ≡ true) }
