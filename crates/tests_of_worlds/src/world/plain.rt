@@ -1,10 +1,75 @@
 //! A long random script, against a plain slow reading of what its calls did.
-use super::Step::*;
-use super::{Step, call_of, moment_at, world_of};
+use crate::play::{Limits, world_of};
+use crate::script::{Clock, key, meta};
+use Step::*;
+use bytes::Bytes;
 use pcache_base::error::Result;
+use pcache_base::moment::Moment;
+use pcache_evict::eviction::simple_lru::Manager;
 use pcache_request::phase::{CachePhase, HitStatus};
+use pingora_cache::world::World;
+use pingora_cache::world::call::Call;
 use std::alloc::Global;
+use std::process::Abort;
 use std::test::Fail;
+
+// A call of a request, by its number.
+#[derive(Clone, Copy)]
+enum Step {
+    Open(u64),
+    Key(u64, &'static str),
+    Look(u64),
+    Found(u64, HitStatus),
+    Miss(u64),
+    Meta(u64),
+    Begin(u64),
+    Write(u64, &'static str),
+    WriteLast(u64, &'static str),
+    Finish(u64),
+    Read(u64),
+    Purge(u64),
+    End(u64),
+}
+
+fn written(request: u64, text: &'static str, eof: bool) -> Call {
+    Call::Write {
+        request,
+        bytes: Bytes::from_static(text.as_bytes()),
+        eof,
+    }
+}
+
+fn call_of(alloc: Global, step: Step, now: Moment) -> Result<Call> {
+    Ok(match step {
+        Open(request) => Call::Open { request },
+        Key(request, name) => Call::Key {
+            request,
+            key: key(alloc, name, "1")?,
+        },
+        Look(request) => Call::Look {
+            request,
+            now,
+            decision: None,
+        },
+        Found(request, status) => Call::Found {
+            request,
+            status,
+            now,
+        },
+        Miss(request) => Call::Miss { request },
+        Meta(request) => Call::Meta {
+            request,
+            meta: meta(alloc, 0),
+        },
+        Begin(request) => Call::Begin { request },
+        Write(request, text) => written(request, text, false),
+        WriteLast(request, text) => written(request, text, true),
+        Finish(request) => Call::Finish { request },
+        Read(request) => Call::Read { request },
+        Purge(request) => Call::Purge { request },
+        End(request) => Call::End { request },
+    })
+}
 
 const LIMIT: usize = 5;
 
@@ -70,6 +135,14 @@ struct Past {
 }
 
 impl Past {
+    fn new(alloc: Global) -> Past {
+        Past {
+            alloc,
+            facts: Vec::new(alloc),
+            used: Vec::new(alloc),
+        }
+    }
+
     fn began(&self) -> usize {
         let facts = self.facts.iter();
         facts
@@ -133,6 +206,20 @@ impl Past {
         } else {
             None
         }
+    }
+
+    // The lengths of the standing bodies, added up, and how many there are.
+    fn stored(&self) -> Result<(u128, usize)> {
+        let mut stored = 0u128;
+        let mut slots = 0usize;
+        for key in KEYS {
+            if let Some(write) = self.standing(key) {
+                let size = u128::try_from(self.body(write)?.len()).unwrap_or(0);
+                stored = stored.saturating_add(size);
+                slots = slots.saturating_add(1);
+            }
+        }
+        Ok((stored, slots))
     }
 
     // The earliest begun write of the key in flight that met no removal, else the standing body.
@@ -452,44 +539,63 @@ fn next(dice: &mut Dice, request: u64, one: &Asked) -> Step {
     }
 }
 
-#[test]
-fn a_random_script(rt: HostRuntime) -> std::result::Result<(), Fail> {
-    let alloc = rt.alloc();
-    let mut world = world_of(alloc, LIMIT)?;
-    let mut past = Past {
-        alloc,
-        facts: Vec::new(alloc),
-        used: Vec::new(alloc),
-    };
+// Makes a call, which answers what the past says.
+fn ask(
+    rt: &impl Abort,
+    alloc: Global,
+    world: &mut World<Manager>,
+    past: &mut Past,
+    one: &mut Asked,
+    step: Step,
+    now: Moment,
+) -> std::result::Result<(), Fail> {
+    let wanted = past.answer(one, step)?;
+    let told = told(alloc, world, step, now)?;
+    assert_eq!(rt; told, wanted, "at {now:?}");
+    Ok(())
+}
+
+fn told(alloc: Global, world: &mut World<Manager>, step: Step, now: Moment) -> Result<String> {
+    let call = call_of(alloc, step, now)?;
+    let reply = world.step(call)?;
+    Ok(format!(in alloc; "{reply:?}")?)
+}
+
+// Makes 4,000 calls of five requests.
+fn ask_all(
+    rt: &impl Abort,
+    alloc: Global,
+    world: &mut World<Manager>,
+    past: &mut Past,
+) -> std::result::Result<(), Fail> {
     let mut asked = [NOT_OPEN; 5];
     let mut dice = Dice(20261122);
-    for at in 0..4000usize {
+    let mut clock = Clock::new();
+    for _ in 0..4000usize {
         let place = dice.pick(&[0usize, 1, 2, 3, 4], 0);
         let Some(one) = asked.get_mut(place) else {
             continue;
         };
         let request = u64::try_from(place).unwrap_or(0);
         let step = next(&mut dice, request, one);
-        let wanted = past.answer(one, step)?;
-        let reply = world.step(call_of(alloc, step, moment_at(at))?)?;
-        let told = format!(in alloc; "{reply:?}")?;
-        assert_eq!(rt; told.as_str(), wanted.as_str(), "at {at}");
+        ask(rt, alloc, world, past, one, step, clock.next())?;
     }
+    Ok(())
+}
+
+#[test]
+fn a_random_script(rt: HostRuntime) -> std::result::Result<(), Fail> {
+    let alloc = rt.alloc();
+    let mut world = world_of(alloc, Limits::weight(LIMIT))?;
+    let mut past = Past::new(alloc);
+    ask_all(&rt, alloc, &mut world, &mut past)?;
     assert_eq!(rt; world.history().len(), 4000);
     let totals = world.totals();
     assert_eq!(rt;
         (totals.weight, totals.items),
         (past.weight(), past.used.len())
     );
-    let mut stored = 0u128;
-    let mut slots = 0usize;
-    for key in KEYS {
-        if let Some(write) = past.standing(key) {
-            let size = u128::try_from(past.body(write)?.len()).unwrap_or(0);
-            stored = stored.saturating_add(size);
-            slots = slots.saturating_add(1);
-        }
-    }
-    assert_eq!(rt; (world.stored_bytes(), world.slots()), (stored, slots));
+    let stored = past.stored()?;
+    assert_eq!(rt; (world.stored_bytes(), world.slots()), stored);
     Ok(())
 }
