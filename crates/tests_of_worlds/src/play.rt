@@ -1,4 +1,5 @@
 //! Playing texts on worlds: the calls of a text in one run, and one by one.
+ghost use Rattle.std.specs.Prelude.{◌<◌};
 
 use crate::script::{Clock, Line, asked_of, call_of, line_of};
 use pcache_base::error::Result;
@@ -180,7 +181,7 @@ fn tell_all<M: EvictionManager>(
         let asked = asked_of(line);
         match line_of(asked) {
             Line::Call => tell_reply(alloc, asked, rest.next(), &mut told)?,
-            Line::At(_) | Line::Stat => tell_other(alloc, asked, numbers(world), &mut told)?,
+            Line::At(_) | Line::Stat => tell_other(alloc, asked, numbers_of(world), &mut told)?,
         }
     }
     let noted = world.history().get(before..).unwrap_or(&[]);
@@ -226,12 +227,12 @@ fn step<M: EvictionManager>(
     clock: &mut Clock,
     told: &mut String,
 ) -> Result<()> {
-    let before = numbers(world);
+    let before = numbers_of(world);
     let Some(call) = next_call(alloc, asked, clock)? else {
         return tell_other(alloc, asked, before, told);
     };
     let reply = world.step(call)?;
-    if matches!(reply, Reply::WrongCall) && numbers(world) != before {
+    if matches!(reply, Reply::WrongCall) && numbers_of(world) != before {
         told.push_str("it changed a number: ")?;
     }
     tell_reply(alloc, asked, Some(&reply), told)
@@ -276,7 +277,7 @@ struct Numbers {
     start: usize,
 }
 
-fn numbers<M: EvictionManager>(world: &World<M>) -> Numbers {
+fn numbers_of<M: EvictionManager>(world: &World<M>) -> Numbers {
     Numbers {
         stored: world.stored_bytes(),
         slots: world.slots(),

@@ -84,14 +84,14 @@ pub fn asked_of(line: &'static str) -> &'static str {
     }
 }
 
-// The words of a call. Those that are not there are empty.
+/// The words of a call: which it is, of which request, and more. Those that are not there are empty.
 #[derive(Clone, Copy)]
-struct Words {
-    call: &'static str,
-    request: u64,
-    first: &'static str,
-    second: &'static str,
-    third: &'static str,
+pub struct Words {
+    pub call: &'static str,
+    pub request: u64,
+    pub first: &'static str,
+    pub second: &'static str,
+    pub third: &'static str,
 }
 
 fn number(word: &str) -> Option<u64> {
@@ -111,9 +111,14 @@ fn words_of(asked: &'static str) -> Option<Words> {
 
 /// The call that a line spells, without its reply; none where it spells none.
 pub fn call_of(alloc: Global, asked: &'static str, now: Moment) -> Result<Option<Call>> {
-    let Some(words) = words_of(asked) else {
-        return Ok(None);
-    };
+    match words_of(asked) {
+        Some(words) => call_with_words(alloc, words, now),
+        None => Ok(None),
+    }
+}
+
+/// The call that has these words; none where no call has them.
+pub fn call_with_words(alloc: Global, words: Words, now: Moment) -> Result<Option<Call>> {
     if let Some(call) = plain_call(words.call, words.request, now) {
         return Ok(Some(call));
     }
@@ -125,20 +130,20 @@ pub fn call_of(alloc: Global, asked: &'static str, now: Moment) -> Result<Option
 
 // A call that has nothing but its request and its moment.
 fn plain_call(word: &str, request: u64, now: Moment) -> Option<Call> {
-    Some(match word.as_bytes() {
-        b"open" => Call::Open { request },
-        b"enable" => Call::Enable { request },
-        b"bypass" => Call::Bypass { request },
-        b"miss" => Call::Miss { request },
-        b"begin" => Call::Begin { request },
-        b"finish" => Call::Finish { request },
-        b"read" => Call::Read { request },
-        b"done" => Call::Done { request },
-        b"purge" => Call::Purge { request },
-        b"expire" => Call::Expire { request, now },
-        b"updating" => Call::Updating { request },
-        b"phase" => Call::Phase { request },
-        b"end" => Call::End { request },
+    Some(match word {
+        "open" => Call::Open { request },
+        "enable" => Call::Enable { request },
+        "bypass" => Call::Bypass { request },
+        "miss" => Call::Miss { request },
+        "begin" => Call::Begin { request },
+        "finish" => Call::Finish { request },
+        "read" => Call::Read { request },
+        "done" => Call::Done { request },
+        "purge" => Call::Purge { request },
+        "expire" => Call::Expire { request, now },
+        "updating" => Call::Updating { request },
+        "phase" => Call::Phase { request },
+        "end" => Call::End { request },
         _ => return None,
     })
 }
@@ -146,32 +151,32 @@ fn plain_call(word: &str, request: u64, now: Moment) -> Option<Call> {
 // A call that has the same values in every text.
 fn set_call(alloc: Global, word: &str, request: u64) -> Option<Call> {
     let reason = NoCacheReason::InternalError;
-    Some(match word.as_bytes() {
-        b"disable" => Call::Disable { request, reason },
-        b"release" => Call::Release { request, reason },
-        b"uncacheable" => Call::Uncacheable {
+    Some(match word {
+        "disable" => Call::Disable { request, reason },
+        "release" => Call::Release { request, reason },
+        "uncacheable" => Call::Uncacheable {
             request,
             header: ResponseHeader::build(alloc, StatusCode::OK),
             reason,
         },
-        b"vary" => Call::Vary {
+        "vary" => Call::Vary {
             request,
             variance: VARIANCE,
         },
-        b"variance" => Call::Variance {
+        "variance" => Call::Variance {
             request,
             variance: None,
         },
-        b"seek" => Call::Seek {
+        "seek" => Call::Seek {
             request,
             start: 1,
             end: None,
         },
-        b"lock" => Call::Lock {
+        "lock" => Call::Lock {
             request,
             is_used: true,
         },
-        b"publish" => Call::Publish {
+        "publish" => Call::Publish {
             request,
             tokens: Tokens::new(Vec::new(alloc)),
         },
@@ -182,26 +187,26 @@ fn set_call(alloc: Global, word: &str, request: u64) -> Option<Call> {
 // A call that has words of its own.
 fn call_with(alloc: Global, words: Words, now: Moment) -> Result<Option<Call>> {
     let request = words.request;
-    Ok(match words.call.as_bytes() {
-        b"key" => Some(Call::Key {
+    Ok(match words.call {
+        "key" => Some(Call::Key {
             request,
             key: key_of(alloc, words)?,
         }),
-        b"look" => Some(Call::Look {
+        "look" => Some(Call::Look {
             request,
             now,
             decision: decision_of(words.first),
         }),
-        b"found" => found(request, words.first, now),
-        b"meta" => Some(Call::Meta {
+        "found" => found(request, words.first, now),
+        "meta" => Some(Call::Meta {
             request,
             meta: meta_of(alloc, words.first),
         }),
-        b"revalidate" => Some(Call::Revalidate {
+        "revalidate" => Some(Call::Revalidate {
             request,
             meta: meta_of(alloc, words.first),
         }),
-        b"write" => Some(Call::Write {
+        "write" => Some(Call::Write {
             request,
             bytes: Bytes::from_static(words.first.as_bytes()),
             eof: words.second == "last",
@@ -232,20 +237,20 @@ pub fn key(alloc: Global, name: &str, tag: &str) -> Result<CacheKey> {
 
 // `look R [defer | ready]`: with the decision of an admission policy.
 fn decision_of(word: &str) -> Option<Decision> {
-    match word.as_bytes() {
-        b"defer" => Some(Decision::Defer { observed: 1 }),
-        b"ready" => Some(Decision::Ready { observed: 2 }),
+    match word {
+        "defer" => Some(Decision::Defer { observed: 1 }),
+        "ready" => Some(Decision::Ready { observed: 2 }),
         _ => None,
     }
 }
 
 // `found R STATUS`.
 fn found(request: u64, word: &str, now: Moment) -> Option<Call> {
-    let status = match word.as_bytes() {
-        b"fresh" => HitStatus::Fresh,
-        b"expired" => HitStatus::Expired,
-        b"force_fresh" => HitStatus::ForceFresh,
-        b"force_miss" => HitStatus::ForceMiss,
+    let status = match word {
+        "fresh" => HitStatus::Fresh,
+        "expired" => HitStatus::Expired,
+        "force_fresh" => HitStatus::ForceFresh,
+        "force_miss" => HitStatus::ForceMiss,
         _ => return None,
     };
     Some(Call::Found {
