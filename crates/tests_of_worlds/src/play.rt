@@ -135,13 +135,18 @@ fn play_apart<M: EvictionManager>(
 /// The calls of a text, each at its moment.
 pub fn calls_of(alloc: Global, text: &'static str) -> Result<Vec<Call>> {
     let mut calls = Vec::new(alloc);
+    add_calls(alloc, text, &mut calls)?;
+    Ok(calls)
+}
+
+fn add_calls(alloc: Global, text: &'static str, calls: &mut Vec<Call>) -> Result<()> {
     let mut clock = Clock::new();
     for line in text.lines() {
         if let Some(call) = next_call(alloc, asked_of(line), &mut clock)? {
             calls.push(call)?;
         }
     }
-    Ok(calls)
+    Ok(())
 }
 
 /// The call of a line, where it is one. A line that tells the time sets the clock.

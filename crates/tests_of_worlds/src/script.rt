@@ -125,7 +125,13 @@ pub fn call_with_words(alloc: Global, words: Words, now: Moment) -> Result<Optio
     if let Some(call) = set_call(alloc, words.call, words.request) {
         return Ok(Some(call));
     }
-    call_with(alloc, words, now)
+    if words.call == "key" {
+        return Ok(Some(Call::Key {
+            request: words.request,
+            key: key_of(alloc, words)?,
+        }));
+    }
+    Ok(call_with(alloc, words, now))
 }
 
 // A call that has nothing but its request and its moment.
@@ -185,13 +191,9 @@ fn set_call(alloc: Global, word: &str, request: u64) -> Option<Call> {
 }
 
 // A call that has words of its own.
-fn call_with(alloc: Global, words: Words, now: Moment) -> Result<Option<Call>> {
+fn call_with(alloc: Global, words: Words, now: Moment) -> Option<Call> {
     let request = words.request;
-    Ok(match words.call {
-        "key" => Some(Call::Key {
-            request,
-            key: key_of(alloc, words)?,
-        }),
+    match words.call {
         "look" => Some(Call::Look {
             request,
             now,
@@ -212,7 +214,7 @@ fn call_with(alloc: Global, words: Words, now: Moment) -> Result<Option<Call>> {
             eof: words.second == "last",
         }),
         _ => None,
-    })
+    }
 }
 
 // `key R NAME [TAG [v]]`: a tag of the user that is not `1`, and with `v` the variance.

@@ -105,14 +105,17 @@ fn add(alloc: Global, calls: &mut Vec<Call>, asked: &'static str) -> error::Resu
     Ok(())
 }
 
-// The calls that lead a request to its state, and then a call of it.
-fn led_to(alloc: Global, state: &'static str, call: &'static str) -> error::Result<Vec<Call>> {
-    let mut calls = calls_of(alloc, STORING)?;
+// Adds the calls that lead a request to its state, and then a call of it.
+fn lead(
+    alloc: Global,
+    calls: &mut Vec<Call>,
+    state: &'static str,
+    call: &'static str,
+) -> error::Result<()> {
     for asked in asked_of(state).split(',') {
-        add(alloc, &mut calls, asked.trim())?;
+        add(alloc, calls, asked.trim())?;
     }
-    add(alloc, &mut calls, call)?;
-    Ok(calls)
+    add(alloc, calls, call)
 }
 
 // What a new world answers to the last of these calls.
@@ -131,7 +134,8 @@ fn last_reply_of(
     state: &'static str,
     call: &'static str,
 ) -> error::Result<Option<Reply>> {
-    let calls = led_to(alloc, state, call)?;
+    let mut calls = calls_of(alloc, STORING)?;
+    lead(alloc, &mut calls, state, call)?;
     let mut replies = world.run(calls)?;
     Ok(replies.pop())
 }

@@ -586,17 +586,17 @@ fn next(dice: &mut Dice, request: u64, one: &Asked) -> Words {
     } else {
         dice.word(likely(one))
     };
-    let first = match call {
-        "key" => dice.word(KEYS),
-        "found" => dice.word(STATUSES),
-        "write" => dice.word(TEXTS),
-        _ => "",
+    let (first, second) = match call {
+        "key" => (dice.word(KEYS), ""),
+        "found" => (dice.word(STATUSES), ""),
+        "write" => (dice.word(TEXTS), dice.word("- - last")),
+        _ => ("", ""),
     };
     Words {
         call,
         request,
         first,
-        second: dice.word("- - last"),
+        second,
         third: "",
     }
 }
