@@ -5,7 +5,6 @@ use pcache_base::error;
 use pcache_evict::eviction::simple_lru::Manager;
 use pingora_cache::world::World;
 use std::alloc::Global;
-use std::process::Abort;
 use std::sync::{Mutex, Wait};
 use std::test::Fail;
 
@@ -64,18 +63,13 @@ fn told(
     Ok(told)
 }
 
-fn tells(rt: &(impl Abort + Wait), alloc: Global, shared: &Shared) -> Result<(), Fail> {
-    let told = told(rt, alloc, shared, PURGED)?;
-    assert_eq!(rt; told.as_str(), PURGED);
-    Ok(())
-}
-
 // A reader follows a purged write to its end, by calls that take turns at a lock.
 #[test]
 fn nothing_is_left_of_ended_requests(rt: HostRuntime) -> Result<(), Fail> {
     let alloc = rt.alloc();
     let shared = Mutex::new(world_of(alloc, Limits::weight(9))?);
-    tells(&rt, alloc, &shared)?;
+    let told = told(&rt, alloc, &shared, PURGED)?;
+    assert_eq!(rt; told.as_str(), PURGED);
     let world = shared.into_inner();
     assert_eq!(rt; (world.slots(), world.history().len()), (0, 17));
     Ok(())
