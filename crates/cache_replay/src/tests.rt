@@ -546,6 +546,16 @@ fn a_key_is_passed_by(rt: HostRuntime) -> Result<(), Fail> {
     let row = "open 1 -> ok\n\
         key 1 k 1 -> ok\n\
         bypass 1 -> ok\n\
+        look 1 -> wrong call\n\
+        miss 1 -> ok\n";
+    check(&rt, rt.alloc(), &["9"], row, 0, "")
+}
+
+#[test]
+fn the_phase_of_a_key_that_is_passed_by(rt: HostRuntime) -> Result<(), Fail> {
+    let row = "open 1 -> ok\n\
+        key 1 k 1 -> ok\n\
+        bypass 1 -> ok\n\
         phase 1 -> bypass\n\
         look 1 -> wrong call\n\
         miss 1 -> ok\n";
@@ -589,6 +599,7 @@ fn a_forced_miss(rt: HostRuntime) -> Result<(), Fail> {
         begin 1 -> ok\n\
         write 1 x -> ok\n\
         finish 1 -> stored 1 evicted 0\n\
+        end 1 -> ok\n\
         open 2 -> ok\n\
         key 2 k 1 -> ok\n\
         look 2 -> hit 1\n\
@@ -715,6 +726,29 @@ fn keys_with_options(rt: HostRuntime) -> Result<(), Fail> {
 
 #[test]
 fn revalidated_as_uncacheable(rt: HostRuntime) -> Result<(), Fail> {
+    let row = "open 1 -> ok\n\
+        key 1 k 1 -> ok\n\
+        look 1 -> none write\n\
+        miss 1 -> ok\n\
+        meta 1 60 -> ok\n\
+        begin 1 -> ok\n\
+        write 1 x -> ok\n\
+        finish 1 -> stored 1 evicted 0\n\
+        end 1 -> ok\n\
+        open 2 -> ok\n\
+        key 2 k 1 -> ok\n\
+        look 2 -> hit 1\n\
+        found 2 expired -> stale write\n\
+        uncacheable 2 OriginNotCache -> ok\n\
+        phase 2 -> revalidated-nocache\n\
+        open 3 -> ok\n\
+        key 3 k 1 -> ok\n\
+        look 3 -> hit 1\n";
+    check(&rt, rt.alloc(), &["9"], row, 0, "")
+}
+
+#[test]
+fn only_a_stale_body_is_revalidated_as_uncacheable(rt: HostRuntime) -> Result<(), Fail> {
     let row = "open 1 -> ok\n\
         key 1 k 1 -> ok\n\
         look 1 -> none write\n\

@@ -1,8 +1,16 @@
 #![tactic(auto)]
-//! Tests of worlds, by tables of calls with their replies.
+//! Tests of worlds, by texts of calls with their replies.
 //! They stand apart from the library, so that it is proved once, and a test of its own does not prove it again.
+//!
+//! - `script`: a line of a text as a call
+//! - `play`: a text on a world
+//! - `world`, `behind_a_lock`: the tests
 
 #[cfg(test)]
 mod behind_a_lock;
+#[cfg(test)]
+mod play;
+#[cfg(test)]
+mod script;
 #[cfg(test)]
 mod world;

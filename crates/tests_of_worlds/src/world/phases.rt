@@ -1,202 +1,186 @@
-//! Each call in each phase: it is a wrong one exactly where the phase table does not have it.
-use super::{key_of, meta_of, world_of};
-use bytes::Bytes;
-use http::StatusCode;
-use pcache_base::error::Result;
+//! Each call in each phase, with its reply: a wrong call exactly where the phase table does not have
+//! it.
+use crate::play::{Limits, calls_of, tell_reply, world_of};
+use crate::script::{asked_of, call_of};
+use pcache_base::error;
 use pcache_base::moment::Moment;
-use pcache_base::reason::NoCacheReason;
-use pcache_meta::header::ResponseHeader;
-use pcache_request::phase::HitStatus;
+use pcache_evict::eviction::simple_lru::Manager;
+use pingora_cache::world::World;
 use pingora_cache::world::call::{Call, Reply};
-use pingora_cache::world::tokens::Tokens;
 use std::alloc::Global;
-use std::process::Abort;
 use std::test::Fail;
 
-// What another request calls to store a body under the key.
-const STORING: &str = "open key look miss meta begin write finish end";
+// What another request calls before, to store a body under the key `k`. Nothing stands under `l`.
+const STORING: &str = "open 2\n\
+    key 2 k\n\
+    look 2\n\
+    miss 2\n\
+    meta 2\n\
+    begin 2\n\
+    write 2 ab\n\
+    finish 2\n\
+    end 2\n";
 
-// Where a request stands, by the calls that lead there. `stored` comes first where a body is stored
-// before. In order: not open, disabled, uninitialized, passed by, with its key, with a pair that a
-// look-up gave, a hit, a miss, a miss with its meta, with its write, stale, stale while another
-// updates, expired, and revalidated, without a cacheable answer and with one.
-const STATES: [&str; 15] = [
-    "",
-    "open disable",
-    "open",
-    "open key bypass",
-    "open key",
-    "stored open key look",
-    "stored open key look fresh",
-    "open key look miss",
-    "open key look miss meta",
-    "open key look miss meta begin",
-    "stored open key look stale",
-    "stored open key look stale updating",
-    "stored open key look stale meta",
-    "stored open key look stale uncacheable",
-    "stored open key look stale revalidate",
-];
+// Where a request stands, by the calls that lead there, with its phase: not open, disabled, new,
+// passed by, with its key, with a pair that a look-up gave, a hit, a miss, a miss with its meta, with
+// its write, stale, stale while another updates, expired, and revalidated, without a cacheable answer
+// and with one.
+const STATES: &str = " -> WrongCall\n\
+    open 1, disable 1 -> Phase(Disabled(InternalError))\n\
+    open 1 -> Phase(Uninit)\n\
+    open 1, key 1 l, bypass 1 -> Phase(Bypass)\n\
+    open 1, key 1 l -> Phase(CacheKey)\n\
+    open 1, key 1 k, look 1 -> Phase(CacheKey)\n\
+    open 1, key 1 k, look 1, found 1 fresh -> Phase(Hit)\n\
+    open 1, key 1 l, look 1, miss 1 -> Phase(Miss)\n\
+    open 1, key 1 l, look 1, miss 1, meta 1 -> Phase(Miss)\n\
+    open 1, key 1 l, look 1, miss 1, meta 1, begin 1 -> Phase(Miss)\n\
+    open 1, key 1 k, look 1, found 1 expired -> Phase(Stale)\n\
+    open 1, key 1 k, look 1, found 1 expired, updating 1 -> Phase(StaleUpdating)\n\
+    open 1, key 1 k, look 1, found 1 expired, meta 1 -> Phase(Expired)\n\
+    open 1, key 1 k, look 1, found 1 expired, uncacheable 1 -> Phase(RevalidatedNoCache(InternalError))\n\
+    open 1, key 1 k, look 1, found 1 expired, revalidate 1 -> Phase(Revalidated)\n";
 
-// For each call, and for each state in the order above: `+` where it is answered, `-` where it is a
-// wrong one. Written by hand from the phase table. No other request holds the permit, so none waits.
-const ROWS: [(&str, &str); 28] = [
-    ("open", "+--------------"),
-    ("enable", "-+-------------"),
-    ("disable", "-++++++++++++++"),
-    ("key", "--+-++---------"),
-    ("look", "----++----+----"),
-    ("vary", "-----+---------"),
-    ("fresh", "-----+---------"),
-    ("bypass", "----++---------"),
-    ("miss", "---+++----+----"),
-    ("meta", "-------++++----"),
-    ("begin", "--------+---+--"),
-    ("write", "---------+-----"),
-    ("finish", "-------+++--+--"),
-    ("read", "------+--++++++"),
-    ("seek", "------+--++++++"),
-    ("done", "------+++++++++"),
-    ("purge", "----++---------"),
-    ("expire", "----++---------"),
-    ("lock", "----+++--------"),
-    ("wait", "---------------"),
-    ("publish", "-++++++++++++++"),
-    ("release", "-++++++++++++++"),
-    ("updating", "----------+----"),
-    ("uncacheable", "----------+----"),
-    ("variance", "--------+---+--"),
-    ("revalidate", "----------+----"),
-    ("phase", "-++++++++++++++"),
-    ("end", "-++++++++++++++"),
-];
+// For each call, what it answers in each of these states, in their order: `-` that it is a wrong
+// call, `+` that it is done, and a letter for another reply (`mark_of`). Written by hand from the
+// phase table. No other request holds the permit of its key, so none waits; where a look-up found
+// nothing, or what was found is stale, it holds the permit itself.
+const ROWS: &str = "+-------------- open 1\n\
+    -+------------- enable 1\n\
+    -++++++++++++++ disable 1\n\
+    --+-++--------- key 1 k\n\
+    ----nh----h---- look 1\n\
+    -----o--------- vary 1\n\
+    -----t--------- found 1 fresh\n\
+    ----++--------- bypass 1\n\
+    ---+++----+---- miss 1\n\
+    -------++++---- meta 1\n\
+    --------+---+-- begin 1\n\
+    ---------+----- write 1 ab\n\
+    -------00s--0-- finish 1\n\
+    ------d--pddddd read 1\n\
+    ------+--r+++++ seek 1\n\
+    ------+++++++++ done 1\n\
+    ----ag--------- purge 1\n\
+    ----ae--------- expire 1\n\
+    ----+++-------- lock 1\n\
+    --------------- wait 1\n\
+    -++++++++++++++ publish 1\n\
+    -++++++++++++++ release 1\n\
+    -------++-+++-- give 1\n\
+    ----------+---- updating 1\n\
+    ----------+---- uncacheable 1\n\
+    --------+---+-- variance 1\n\
+    ----------u---- revalidate 1\n\
+    -iiiiiiiiiiiiii phase 1\n\
+    -++++++++++++++ end 1\n";
 
-fn call_of(alloc: Global, request: u64, word: &str) -> Result<Call> {
-    let now = Moment::EPOCH;
-    let reason = NoCacheReason::InternalError;
-    Ok(match word.as_bytes() {
-        b"open" => Call::Open { request },
-        b"enable" => Call::Enable { request },
-        b"disable" => Call::Disable { request, reason },
-        b"key" => Call::Key {
-            request,
-            key: key_of(alloc, "k")?,
-        },
-        b"look" => Call::Look {
-            request,
-            now,
-            decision: None,
-        },
-        b"vary" => Call::Vary {
-            request,
-            variance: [0; 16],
-        },
-        b"variance" => Call::Variance {
-            request,
-            variance: None,
-        },
-        b"revalidate" => Call::Revalidate {
-            request,
-            meta: meta_of(alloc),
-        },
-        b"fresh" => Call::Found {
-            request,
-            status: HitStatus::Fresh,
-            now,
-        },
-        b"stale" => Call::Found {
-            request,
-            status: HitStatus::Expired,
-            now,
-        },
-        b"bypass" => Call::Bypass { request },
-        b"miss" => Call::Miss { request },
-        b"meta" => Call::Meta {
-            request,
-            meta: meta_of(alloc),
-        },
-        b"begin" => Call::Begin { request },
-        b"write" => Call::Write {
-            request,
-            bytes: Bytes::from_static(b"ab"),
-            eof: false,
-        },
-        b"finish" => Call::Finish { request },
-        b"read" => Call::Read { request },
-        b"seek" => Call::Seek {
-            request,
-            start: 1,
-            end: None,
-        },
-        b"done" => Call::Done { request },
-        b"purge" => Call::Purge { request },
-        b"expire" => Call::Expire { request, now },
-        b"lock" => Call::Lock {
-            request,
-            is_used: true,
-        },
-        b"wait" => Call::Wait { request, now },
-        b"publish" => Call::Publish {
-            request,
-            tokens: Tokens::new(Vec::new(alloc)),
-        },
-        b"release" => Call::Release { request, reason },
-        b"updating" => Call::Updating { request },
-        b"uncacheable" => Call::Uncacheable {
-            request,
-            header: ResponseHeader::build(alloc, StatusCode::OK),
-            reason,
-        },
-        b"end" => Call::End { request },
-        _ => Call::Phase { request },
-    })
+fn mark_of(reply: &Reply) -> char {
+    match reply {
+        Reply::WrongCall => '-',
+        Reply::Done => '+',
+        Reply::Refused(_) => 'r',
+        Reply::NotFound(_) => 'n',
+        Reply::Hit(_) => 'h',
+        Reply::Taken(_, _) => 't',
+        Reply::Stored {
+            size: _,
+            evicted: _,
+        } => 's',
+        Reply::Nothing => '0',
+        Reply::Data(_) => 'd',
+        Reply::Pending => 'p',
+        Reply::Purged => 'g',
+        Reply::Expired => 'e',
+        Reply::Absent => 'a',
+        Reply::Other => 'o',
+        Reply::Updated => 'u',
+        Reply::Phase(_) => 'i',
+        _ => '?',
+    }
 }
 
-// Adds the calls that these words name, of this request.
-fn add(alloc: Global, calls: &mut Vec<Call>, request: u64, words: &str) -> Result<()> {
-    for word in words.split(' ') {
-        if !word.is_empty() {
-            calls.push(call_of(alloc, request, word)?)?;
-        }
+// Adds a call of a line to others, where the line is one.
+fn add(alloc: Global, calls: &mut Vec<Call>, asked: &'static str) -> error::Result<()> {
+    if let Some(call) = call_of(alloc, asked, Moment::EPOCH)? {
+        calls.push(call)?;
     }
     Ok(())
 }
 
-// Whether a call is answered, of a request that these words led to its state.
-fn is_answered(alloc: Global, words: &str, call: &str) -> Result<bool> {
-    let mut calls = Vec::new(alloc);
-    let led = match words.strip_prefix("stored ") {
-        Some(rest) => {
-            add(alloc, &mut calls, 2, STORING)?;
-            rest
-        }
-        None => words,
-    };
-    add(alloc, &mut calls, 1, led)?;
-    add(alloc, &mut calls, 1, call)?;
-    let mut world = world_of(alloc, 100)?;
-    let replies = world.run(calls)?;
-    Ok(!matches!(replies.as_slice().last(), None | Some(Reply::WrongCall)))
+// Adds the calls that lead a request to its state, and then a call of it.
+fn lead(
+    alloc: Global,
+    calls: &mut Vec<Call>,
+    state: &'static str,
+    call: &'static str,
+) -> error::Result<()> {
+    for asked in asked_of(state).split(',') {
+        add(alloc, calls, asked.trim())?;
+    }
+    add(alloc, calls, call)
 }
 
-fn row_of(alloc: Global, call: &str) -> Result<String> {
-    let mut row = String::new(alloc);
-    for words in STATES {
-        let mark = if is_answered(alloc, words, call)? {
-            '+'
-        } else {
-            '-'
+// What a new world answers to the last of these calls.
+fn last_reply(
+    alloc: Global,
+    state: &'static str,
+    call: &'static str,
+) -> error::Result<Option<Reply>> {
+    let mut world = world_of(alloc, Limits::weight(100))?;
+    last_reply_of(alloc, &mut world, state, call)
+}
+
+fn last_reply_of(
+    alloc: Global,
+    world: &mut World<Manager>,
+    state: &'static str,
+    call: &'static str,
+) -> error::Result<Option<Reply>> {
+    let mut calls = calls_of(alloc, STORING)?;
+    lead(alloc, &mut calls, state, call)?;
+    let mut replies = world.run(calls)?;
+    Ok(replies.pop())
+}
+
+// Tells what a call answers in each state.
+fn tell_row(alloc: Global, call: &'static str, told: &mut String) -> error::Result<()> {
+    for state in STATES.lines() {
+        let mark = match last_reply(alloc, state, call)? {
+            Some(reply) => mark_of(&reply),
+            None => '?',
         };
-        row.push(mark)?;
+        told.push(mark)?;
     }
-    Ok(row)
+    told.push(' ')?;
+    told.push_str(call)?;
+    told.push('\n')?;
+    Ok(())
 }
 
 #[test]
-fn each_call_in_each_phase(rt: HostRuntime) -> std::result::Result<(), Fail> {
-    for (call, marks) in ROWS {
-        let row = row_of(rt.alloc(), call)?;
-        assert!(rt; row.as_str() == marks, "{call}: {row}");
+fn each_call_in_each_phase(rt: HostRuntime) -> Result<(), Fail> {
+    let mut told = String::new(rt.alloc());
+    for row in ROWS.lines() {
+        if let Some((_marks, call)) = row.split_once(' ') {
+            tell_row(rt.alloc(), call, &mut told)?;
+        }
     }
+    assert_eq!(rt; told.as_str(), ROWS);
+    Ok(())
+}
+
+fn tell_phase(alloc: Global, state: &'static str, told: &mut String) -> error::Result<()> {
+    let reply = last_reply(alloc, state, "phase 1")?;
+    tell_reply(alloc, asked_of(state), reply.as_ref(), told)
+}
+
+#[test]
+fn the_phase_of_each_state(rt: HostRuntime) -> Result<(), Fail> {
+    let mut told = String::new(rt.alloc());
+    for state in STATES.lines() {
+        tell_phase(rt.alloc(), state, &mut told)?;
+    }
+    assert_eq!(rt; told.as_str(), STATES);
     Ok(())
 }

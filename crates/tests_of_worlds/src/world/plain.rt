@@ -1,23 +1,26 @@
 //! A long random script, against a plain slow reading of what its calls did.
-use super::Step::*;
-use super::{Step, call_of, moment_at, world_of};
+use crate::play::{Limits, world_of};
+use crate::script::{Clock, Words, call_with_words};
 use pcache_base::error::Result;
-use pcache_request::phase::{CachePhase, HitStatus};
+use pcache_base::moment::Moment;
+use pcache_evict::eviction::simple_lru::Manager;
+use pingora_cache::world::World;
 use std::alloc::Global;
+use std::process::Abort;
 use std::test::Fail;
 
 const LIMIT: usize = 5;
 
-const KEYS: [&str; 4] = ["a", "b", "c", "d"];
+const KEYS: &str = "a b c d";
 
-const TEXTS: [&str; 4] = ["x", "yy", "zzz", ""];
+const KEY_COUNT: usize = 4;
 
-const STATUSES: [HitStatus; 4] = [
-    HitStatus::Fresh,
-    HitStatus::Fresh,
-    HitStatus::Expired,
-    HitStatus::ForceMiss,
-];
+// the last one is empty
+const TEXTS: &str = "x yy zzz ";
+
+const STATUSES: &str = "fresh fresh expired force_miss";
+
+const CALLS: &str = "open key look found miss meta begin write write finish read purge end";
 
 // One thing that was done. A write is named by its place among those that began.
 #[derive(Clone, Copy)]
@@ -32,17 +35,47 @@ enum Fact {
     Freed(&'static str),
 }
 
-// A write, with what was read of it.
+// A body, with whether it was read, or a write, with how far it was read.
 #[derive(Clone, Copy)]
 enum Reader {
     Body(usize, bool),
     Write(usize, usize),
 }
 
+// Where a request stands, as far as the calls of the script lead.
+#[derive(Clone, Copy)]
+enum Phase {
+    NotOpen,
+    Uninit,
+    CacheKey,
+    Hit,
+    Miss,
+    Stale,
+    Expired,
+}
+
+impl Phase {
+    fn name(self) -> &'static str {
+        match self {
+            Phase::Hit => "Hit",
+            Phase::Stale => "Stale",
+            _ => "CacheKey",
+        }
+    }
+
+    fn is_asking(self) -> bool {
+        matches!(self, Phase::CacheKey | Phase::Stale)
+    }
+
+    fn is_filling(self) -> bool {
+        matches!(self, Phase::Miss | Phase::Expired)
+    }
+}
+
 // A request as its calls tell.
 #[derive(Clone, Copy)]
 struct Asked {
-    phase: Option<CachePhase>,
+    phase: Phase,
     key: &'static str,
     has_meta: bool,
     pair: Option<Reader>,
@@ -52,7 +85,7 @@ struct Asked {
 }
 
 const NOT_OPEN: Asked = Asked {
-    phase: None,
+    phase: Phase::NotOpen,
     key: "",
     has_meta: false,
     pair: None,
@@ -70,11 +103,27 @@ struct Past {
 }
 
 impl Past {
+    fn new(alloc: Global) -> Past {
+        Past {
+            alloc,
+            facts: Vec::new(alloc),
+            used: Vec::new(alloc),
+        }
+    }
+
+    fn note(&mut self, fact: Fact) -> Result<()> {
+        self.facts.push(fact)?;
+        Ok(())
+    }
+
     fn began(&self) -> usize {
-        let facts = self.facts.iter();
-        facts
-            .filter(|fact| matches!(fact, Fact::Began(_, _)))
-            .count()
+        let mut began = 0usize;
+        for fact in &self.facts {
+            if matches!(fact, Fact::Began(_, _)) {
+                began = began.saturating_add(1);
+            }
+        }
+        began
     }
 
     // Whether the write is of the key, and met no removal of it since it began.
@@ -91,31 +140,46 @@ impl Past {
     }
 
     fn is_in_flight(&self, write: usize) -> bool {
-        !self.facts.iter().any(
-            |fact| matches!(fact, Fact::Finished(ended) | Fact::GivenUp(ended) if *ended == write),
-        )
-    }
-
-    fn is_last_said(&self, write: usize) -> bool {
-        let mut facts = self.facts.iter();
-        facts.any(|fact| matches!(fact, Fact::SaidLast(told) if *told == write))
-    }
-
-    fn body(&self, write: usize) -> Result<String> {
-        let mut body = String::new(self.alloc);
         for fact in &self.facts {
             match fact {
-                Fact::Wrote(into, text) if *into == write => body.push_str(text)?,
+                Fact::Finished(ended) | Fact::GivenUp(ended) if *ended == write => return false,
                 _ => {}
             }
         }
-        Ok(body)
+        true
     }
 
-    // The key that the write fills.
-    fn is_of(&self, write: usize, key: &str) -> bool {
-        let mut facts = self.facts.iter();
-        facts.any(|fact| matches!(fact, Fact::Began(begun, of) if *begun == write && *of == key))
+    fn is_last_said(&self, write: usize) -> bool {
+        for fact in &self.facts {
+            match fact {
+                Fact::SaidLast(told) if *told == write => return true,
+                _ => {}
+            }
+        }
+        false
+    }
+
+    fn body_len(&self, write: usize) -> usize {
+        let mut len = 0usize;
+        for fact in &self.facts {
+            len = len.saturating_add(written(fact, write).len());
+        }
+        len
+    }
+
+    // Tells the body of a write from this place on, at which a text begins.
+    fn tell_body(&self, write: usize, from: usize, told: &mut String) -> Result<()> {
+        told.push_str("Data(b\"")?;
+        let mut place = 0usize;
+        for fact in &self.facts {
+            let text = written(fact, write);
+            if from <= place {
+                told.push_str(text)?;
+            }
+            place = place.saturating_add(text.len());
+        }
+        told.push_str("\")")?;
+        Ok(())
     }
 
     // The last finished write of the key, where it met no removal.
@@ -133,6 +197,31 @@ impl Past {
         } else {
             None
         }
+    }
+
+    // Whether the write fills the key.
+    fn is_of(&self, write: usize, key: &str) -> bool {
+        for fact in &self.facts {
+            match fact {
+                Fact::Began(begun, of) if *begun == write => return *of == key,
+                _ => {}
+            }
+        }
+        false
+    }
+
+    // The lengths of the standing bodies, added up, and how many there are.
+    fn stored(&self) -> (u128, usize) {
+        let mut stored = 0u128;
+        let mut slots = 0usize;
+        for key in KEYS.split(' ') {
+            if let Some(write) = self.standing(key) {
+                let len = u128::try_from(self.body_len(write)).unwrap_or(0);
+                stored = stored.saturating_add(len);
+                slots = slots.saturating_add(1);
+            }
+        }
+        (stored, slots)
     }
 
     // The earliest begun write of the key in flight that met no removal, else the standing body.
@@ -158,19 +247,11 @@ impl Past {
         is_permitted
     }
 
-    fn weight(&self) -> usize {
-        let mut weight = 0usize;
-        for (_key, size) in &self.used {
-            weight = weight.saturating_add(*size);
-        }
-        weight
-    }
-
     fn let_go(&mut self, permit: Option<&'static str>) -> Result<()> {
-        if let Some(key) = permit {
-            self.facts.push(Fact::Freed(key))?;
+        match permit {
+            Some(key) => self.note(Fact::Freed(key)),
+            None => Ok(()),
         }
-        Ok(())
     }
 
     // The permit goes to a request whose key has none; an older one is let go then.
@@ -182,210 +263,299 @@ impl Past {
             return Ok("Some(Read)");
         }
         one.permit = Some(one.key);
-        self.facts.push(Fact::Permitted(one.key))?;
+        self.note(Fact::Permitted(one.key))?;
         Ok("Some(Write)")
     }
 
-    fn look(&mut self, one: &mut Asked) -> Result<String> {
-        one.pair = self.find(one.key);
-        match one.pair {
-            Some(Reader::Body(write, _)) => {
-                let len = self.body(write)?.len();
-                Ok(format!(in self.alloc; "Hit({len})")?)
-            }
-            Some(Reader::Write(_, _)) => said(self.alloc, "Part"),
-            None => {
-                let lock = self.ask(one)?;
-                Ok(format!(in self.alloc; "NotFound({lock})")?)
-            }
+    fn weight(&self) -> usize {
+        let mut weight = 0usize;
+        for (_key, size) in &self.used {
+            weight = weight.saturating_add(*size);
         }
+        weight
     }
 
-    fn access(&mut self, key: &'static str, weight: usize) -> Result<()> {
-        let present = self.used.iter().find(|entry| entry.0 == key).copied();
-        let (_key, weight) = present.unwrap_or((key, weight));
+    fn weight_of(&self, key: &str) -> Option<usize> {
+        for (of, size) in &self.used {
+            if *of == key {
+                return Some(*size);
+            }
+        }
+        None
+    }
+
+    fn forget(&mut self, key: &str) {
         self.used.retain(|entry| entry.0 != key);
+    }
+
+    // The key was used last, and has this weight.
+    fn use_now(&mut self, key: &'static str, weight: usize) -> Result<()> {
+        self.forget(key);
         self.used.push((key, weight))?;
         Ok(())
     }
 
-    fn found(&mut self, one: &mut Asked, status: HitStatus) -> Result<String> {
-        let Some(pair) = one.pair.take() else {
-            return said(self.alloc, "WrongCall");
-        };
-        let is_passed_over = status == HitStatus::ForceMiss;
-        if let Reader::Body(write, _) = pair {
-            if !is_passed_over {
-                let len = self.body(write)?.len();
-                self.access(one.key, len)?;
+    fn evict_oldest(&mut self) -> Result<()> {
+        match self.used.first().copied() {
+            Some((key, _weight)) => {
+                self.forget(key);
+                self.note(Fact::Removed(key))
             }
+            None => Ok(()),
         }
-        let lock = match status {
-            HitStatus::Fresh => "None",
-            _ => self.ask(one)?,
-        };
-        one.has_meta = !is_passed_over;
-        one.reader = if is_passed_over { None } else { Some(pair) };
-        let phase = match status {
-            HitStatus::Fresh => "Hit",
-            HitStatus::Expired => "Stale",
-            _ if matches!(one.phase, Some(CachePhase::Stale)) => "Stale",
-            _ => "CacheKey",
-        };
-        match status {
-            HitStatus::Fresh => one.phase = Some(CachePhase::Hit),
-            HitStatus::Expired => one.phase = Some(CachePhase::Stale),
-            _ => {}
-        }
-        Ok(format!(in self.alloc; "Taken({phase}, {lock})")?)
-    }
-
-    fn begin(&mut self, one: &mut Asked) -> Result<String> {
-        if !one.has_meta || one.write.is_some() {
-            return said(self.alloc, "WrongCall");
-        }
-        let write = self.began();
-        self.facts.push(Fact::Began(write, one.key))?;
-        self.let_go(one.permit.take())?;
-        one.write = Some(write);
-        one.reader = Some(Reader::Write(write, 0));
-        said(self.alloc, "Done")
-    }
-
-    fn write(&mut self, one: &Asked, text: &'static str, is_last: bool) -> Result<String> {
-        let Some(write) = one.write else {
-            return said(self.alloc, "WrongCall");
-        };
-        if self.is_last_said(write) {
-            return said(self.alloc, "WrongCall");
-        }
-        self.facts.push(Fact::Wrote(write, text))?;
-        if is_last {
-            self.facts.push(Fact::SaidLast(write))?;
-        }
-        said(self.alloc, "Done")
-    }
-
-    fn finish(&mut self, one: &mut Asked) -> Result<String> {
-        let Some(write) = one.write.take() else {
-            return said(self.alloc, "Nothing");
-        };
-        if !self.is_untouched(write, one.key) {
-            self.facts.push(Fact::GivenUp(write))?;
-            return said(self.alloc, "Refused(WriteRemoved)");
-        }
-        let size = self.body(write)?.len();
-        self.facts.push(Fact::Finished(write))?;
-        let key = one.key;
-        self.used.retain(|entry| entry.0 != key);
-        self.used.push((key, size))?;
-        let evicted = self.evict()?;
-        Ok(format!(in self.alloc; "Stored {{ size: {size}, evicted: {evicted} }}")?)
     }
 
     // The oldest go until the rest is within the limit.
     fn evict(&mut self) -> Result<usize> {
-        let mut weight = self.weight();
         let mut evicted = 0usize;
-        let mut rest = Vec::new(self.alloc);
-        for (key, size) in &self.used {
-            if weight > LIMIT {
-                weight = weight.saturating_sub(*size);
+        for _ in 0..KEY_COUNT {
+            if self.weight() > LIMIT {
+                self.evict_oldest()?;
                 evicted = evicted.saturating_add(1);
-                self.facts.push(Fact::Removed(key))?;
-            } else {
-                rest.push((*key, *size))?;
             }
         }
-        self.used = rest;
         Ok(evicted)
     }
 
-    fn read(&mut self, one: &mut Asked) -> Result<String> {
-        let Some(reader) = one.reader else {
-            return said(self.alloc, "WrongCall");
-        };
-        let (write, place) = match reader {
-            Reader::Body(write, false) => {
-                one.reader = Some(Reader::Body(write, true));
-                let text = self.body(write)?;
-                return Ok(format!(in self.alloc; "Data(b\"{text}\")")?);
+    fn look(&mut self, one: &mut Asked, told: &mut String) -> Result<()> {
+        one.pair = self.find(one.key);
+        match one.pair {
+            Some(Reader::Body(write, _)) => {
+                tell_number(self.alloc, "Hit(", self.body_len(write), ")", told)
             }
-            Reader::Body(_, true) => return said(self.alloc, "Finished"),
-            Reader::Write(write, place) => (write, place),
+            Some(Reader::Write(_, _)) => tell(&["Part"], told),
+            None => {
+                let lock = self.ask(one)?;
+                tell(&["NotFound(", lock, ")"], told)
+            }
+        }
+    }
+
+    // A complete body is used.
+    fn access(&mut self, key: &'static str, pair: Option<Reader>) -> Result<()> {
+        match pair {
+            Some(Reader::Body(write, _)) => {
+                let weight = self.weight_of(key).unwrap_or(self.body_len(write));
+                self.use_now(key, weight)
+            }
+            _ => Ok(()),
+        }
+    }
+
+    fn found(&mut self, one: &mut Asked, status: &str, told: &mut String) -> Result<()> {
+        let pair = one.pair.take();
+        let is_kept = status != "force_miss";
+        if is_kept {
+            self.access(one.key, pair)?;
+        }
+        let lock = if status == "fresh" {
+            "None"
+        } else {
+            self.ask(one)?
         };
-        let text = self.body(write)?;
-        let unread = text.as_str().get(place..).unwrap_or("");
-        if !unread.is_empty() {
-            one.reader = Some(Reader::Write(write, text.len()));
-            return Ok(format!(in self.alloc; "Data(b\"{unread}\")")?);
+        one.has_meta = is_kept;
+        one.reader = if is_kept { pair } else { None };
+        one.phase = phase_of(status, one.phase);
+        tell(&["Taken(", one.phase.name(), ", ", lock, ")"], told)
+    }
+
+    fn begin(&mut self, one: &mut Asked) -> Result<()> {
+        let write = self.began();
+        self.note(Fact::Began(write, one.key))?;
+        self.let_go(one.permit.take())?;
+        one.write = Some(write);
+        one.reader = Some(Reader::Write(write, 0));
+        Ok(())
+    }
+
+    fn write(&mut self, write: usize, step: Words) -> Result<()> {
+        self.note(Fact::Wrote(write, step.first))?;
+        if step.second == "last" {
+            self.note(Fact::SaidLast(write))?;
+        }
+        Ok(())
+    }
+
+    fn finish(&mut self, one: &mut Asked, told: &mut String) -> Result<()> {
+        let Some(write) = one.write.take() else {
+            return tell(&["Nothing"], told);
+        };
+        if !self.is_untouched(write, one.key) {
+            self.note(Fact::GivenUp(write))?;
+            return tell(&["Refused(WriteRemoved)"], told);
+        }
+        let size = self.body_len(write);
+        self.note(Fact::Finished(write))?;
+        self.use_now(one.key, size)?;
+        let evicted = self.evict()?;
+        tell_number(self.alloc, "Stored { size: ", size, "", told)?;
+        tell_number(self.alloc, ", evicted: ", evicted, " }", told)
+    }
+
+    fn read(&self, one: &mut Asked, told: &mut String) -> Result<()> {
+        match one.reader {
+            Some(Reader::Body(write, false)) => {
+                one.reader = Some(Reader::Body(write, true));
+                self.tell_body(write, 0, told)
+            }
+            Some(Reader::Write(write, place)) => self.read_on(one, write, place, told),
+            _ => tell(&["Finished"], told),
+        }
+    }
+
+    fn read_on(
+        &self,
+        one: &mut Asked,
+        write: usize,
+        place: usize,
+        told: &mut String,
+    ) -> Result<()> {
+        let len = self.body_len(write);
+        if place < len {
+            one.reader = Some(Reader::Write(write, len));
+            return self.tell_body(write, place, told);
         }
         if self.is_in_flight(write) && !self.is_last_said(write) {
-            return said(self.alloc, "Pending");
+            return tell(&["Pending"], told);
         }
-        said(self.alloc, "Finished")
+        tell(&["Finished"], told)
     }
 
-    fn purge(&mut self, one: &Asked) -> Result<String> {
-        if self.find(one.key).is_none() {
-            return said(self.alloc, "Absent");
+    fn purge(&mut self, key: &'static str, told: &mut String) -> Result<()> {
+        if self.find(key).is_none() {
+            return tell(&["Absent"], told);
         }
-        let key = one.key;
-        self.facts.push(Fact::Removed(key))?;
-        self.used.retain(|entry| entry.0 != key);
-        said(self.alloc, "Purged")
+        self.note(Fact::Removed(key))?;
+        self.forget(key);
+        tell(&["Purged"], told)
     }
 
-    fn end(&mut self, one: &mut Asked) -> Result<String> {
+    fn end(&mut self, one: &mut Asked) -> Result<()> {
         if let Some(write) = one.write {
-            self.facts.push(Fact::GivenUp(write))?;
+            self.note(Fact::GivenUp(write))?;
         }
         self.let_go(one.permit)?;
         *one = NOT_OPEN;
-        said(self.alloc, "Done")
+        Ok(())
     }
 
-    // What a call answers.
-    fn answer(&mut self, one: &mut Asked, step: Step) -> Result<String> {
-        let alloc = self.alloc;
-        match (step, one.phase) {
-            (Open(_), None) => one.phase = Some(CachePhase::Uninit),
-            (Key(_, name), Some(CachePhase::Uninit | CachePhase::CacheKey)) => {
-                one.key = name;
-                one.phase = Some(CachePhase::CacheKey);
+    // Whether the request may make the call.
+    fn may(&self, one: &Asked, call: &str) -> bool {
+        let phase = one.phase;
+        match call {
+            "open" => matches!(phase, Phase::NotOpen),
+            "key" => matches!(phase, Phase::Uninit | Phase::CacheKey),
+            "look" => phase.is_asking(),
+            "found" => phase.is_asking() && one.pair.is_some(),
+            "miss" => phase.is_asking(),
+            "meta" => may_take_meta(phase, one.has_meta),
+            "begin" => phase.is_filling() && one.has_meta && one.write.is_none(),
+            "write" => phase.is_filling() && self.is_writable(one.write),
+            "finish" => phase.is_filling(),
+            "read" => one.reader.is_some(),
+            "purge" => matches!(phase, Phase::CacheKey),
+            _ => !matches!(phase, Phase::NotOpen),
+        }
+    }
+
+    fn is_writable(&self, write: Option<usize>) -> bool {
+        match write {
+            Some(write) => !self.is_last_said(write),
+            None => false,
+        }
+    }
+
+    // Tells what a call answers.
+    fn answer(&mut self, one: &mut Asked, step: Words, told: &mut String) -> Result<()> {
+        if !self.may(one, step.call) {
+            return tell(&["WrongCall"], told);
+        }
+        match step.call {
+            "look" => self.look(one, told),
+            "found" => self.found(one, step.first, told),
+            "finish" => self.finish(one, told),
+            "read" => self.read(one, told),
+            "purge" => self.purge(one.key, told),
+            _ => {
+                self.do_it(one, step)?;
+                tell(&["Done"], told)
             }
-            (Miss(_), Some(CachePhase::CacheKey | CachePhase::Stale)) => {
-                one.phase = Some(CachePhase::Miss);
+        }
+    }
+
+    // Makes a call that answers nothing.
+    fn do_it(&mut self, one: &mut Asked, step: Words) -> Result<()> {
+        match step.call {
+            "begin" => return self.begin(one),
+            "write" => return self.write(one.write.unwrap_or(0), step),
+            "end" => return self.end(one),
+            "open" => one.phase = Phase::Uninit,
+            "key" => {
+                one.key = step.first;
+                one.phase = Phase::CacheKey;
+            }
+            "miss" => {
+                one.phase = Phase::Miss;
                 one.has_meta = false;
                 one.pair = None;
             }
-            (Meta(_), Some(CachePhase::Miss)) => one.has_meta = true,
-            (Meta(_), Some(CachePhase::Stale)) if one.has_meta => {
-                one.phase = Some(CachePhase::Expired);
+            _ => {
+                one.has_meta = true;
+                one.phase = phase_with_meta(one.phase);
             }
-            (Look(_), Some(CachePhase::CacheKey | CachePhase::Stale)) => return self.look(one),
-            (Found(_, status), Some(CachePhase::CacheKey | CachePhase::Stale)) => {
-                return self.found(one, status);
-            }
-            (Begin(_), Some(CachePhase::Miss | CachePhase::Expired)) => return self.begin(one),
-            (Write(_, text), Some(CachePhase::Miss | CachePhase::Expired)) => return self.write(
-                one, text, false,
-            ),
-            (WriteLast(_, text), Some(CachePhase::Miss | CachePhase::Expired)) => return self.write(
-                one, text, true,
-            ),
-            (Finish(_), Some(CachePhase::Miss | CachePhase::Expired)) => return self.finish(one),
-            (Read(_), Some(_)) => return self.read(one),
-            (Purge(_), Some(CachePhase::CacheKey)) => return self.purge(one),
-            (End(_), Some(_)) => return self.end(one),
-            _ => return said(alloc, "WrongCall"),
         }
-        said(alloc, "Done")
+        Ok(())
     }
 }
 
-fn said(alloc: Global, word: &str) -> Result<String> {
-    Ok(String::from_str(alloc, word)?)
+// The text that was written, where the fact is that something was written in this write.
+fn written(fact: &Fact, write: usize) -> &'static str {
+    match fact {
+        Fact::Wrote(into, text) if *into == write => text,
+        _ => "",
+    }
+}
+
+fn phase_of(status: &str, before: Phase) -> Phase {
+    match status {
+        "fresh" => Phase::Hit,
+        "expired" => Phase::Stale,
+        _ => before,
+    }
+}
+
+fn phase_with_meta(before: Phase) -> Phase {
+    match before {
+        Phase::Stale => Phase::Expired,
+        _ => before,
+    }
+}
+
+fn may_take_meta(phase: Phase, has_meta: bool) -> bool {
+    match phase {
+        Phase::Miss => true,
+        Phase::Stale => has_meta,
+        _ => false,
+    }
+}
+
+fn tell(words: &[&str], told: &mut String) -> Result<()> {
+    for word in words {
+        told.push_str(word)?;
+    }
+    Ok(())
+}
+
+fn tell_number(
+    alloc: Global,
+    before: &str,
+    number: usize,
+    behind: &str,
+    told: &mut String,
+) -> Result<()> {
+    let text = format!(in alloc; "{before}{number}{behind}")?;
+    told.push_str(text.as_str())?;
+    Ok(())
 }
 
 // A linear congruential generator (Knuth's multiplier), of which the high bits are used.
@@ -393,103 +563,132 @@ fn said(alloc: Global, word: &str) -> Result<String> {
 struct Dice(u64);
 
 impl Dice {
-    fn pick<T: Copy>(&mut self, of: &[T], other: T) -> T {
+    fn below(&mut self, count: usize) -> usize {
         self.0 = self
             .0
             .wrapping_mul(6364136223846793005)
             .wrapping_add(1442695040888963407);
         let high = usize::try_from(self.0 >> 33).unwrap_or(0);
-        let place = high.checked_rem(of.len()).unwrap_or(0);
-        of.get(place).copied().unwrap_or(other)
+        high.checked_rem(count).unwrap_or(0)
+    }
+
+    // One of these words, which stand between spaces.
+    fn word(&mut self, of: &'static str) -> &'static str {
+        let place = self.below(of.split(' ').count());
+        of.split(' ').nth(place).unwrap_or("")
     }
 }
 
 // The next call of a request: mostly one that its phase allows, and else any.
-fn next(dice: &mut Dice, request: u64, one: &Asked) -> Step {
-    let key = Key(request, dice.pick(&KEYS, "a"));
-    let look = Look(request);
-    let found = Found(request, dice.pick(&STATUSES, HitStatus::Fresh));
-    let miss = Miss(request);
-    let meta = Meta(request);
-    let begin = Begin(request);
-    let text = dice.pick(&TEXTS, "x");
-    let write = Write(request, text);
-    let last = WriteLast(request, text);
-    let finish = Finish(request);
-    let read = Read(request);
-    let purge = Purge(request);
-    let open = Open(request);
-    let end = End(request);
-    let any = [
-        open, key, look, found, miss, meta, begin, write, last, finish, read, purge, end,
-    ];
-    if dice.pick(
-        &[true, false, false, false, false, false, false, false],
-        false,
-    ) {
-        return dice.pick(&any, end);
-    }
-    match one.phase {
-        None => open,
-        Some(CachePhase::Uninit) => key,
-        Some(CachePhase::CacheKey) if one.pair.is_some() => {
-            dice.pick(&[found, found, found, found, miss, look], found)
-        }
-        Some(CachePhase::CacheKey) => dice.pick(
-            &[look, look, look, look, miss, miss, miss, key, purge],
-            look,
-        ),
-        Some(CachePhase::Stale) => dice.pick(&[look, found, read, miss, meta, end], miss),
-        Some(CachePhase::Miss | CachePhase::Expired) if one.write.is_some() => dice.pick(
-            &[write, write, last, read, read, finish, finish, end],
-            write,
-        ),
-        Some(CachePhase::Miss | CachePhase::Expired) if one.has_meta => {
-            dice.pick(&[begin, begin, begin, read, end], end)
-        }
-        Some(CachePhase::Miss) => meta,
-        Some(_) => dice.pick(&[read, read, end], read),
+fn next(dice: &mut Dice, request: u64, one: &Asked) -> Words {
+    let call = if dice.below(8) == 0 {
+        dice.word(CALLS)
+    } else {
+        dice.word(likely(one))
+    };
+    let (first, second) = match call {
+        "key" => (dice.word(KEYS), ""),
+        "found" => (dice.word(STATUSES), ""),
+        "write" => (dice.word(TEXTS), dice.word("- - last")),
+        _ => ("", ""),
+    };
+    Words {
+        call,
+        request,
+        first,
+        second,
+        third: "",
     }
 }
 
-#[test]
-fn a_random_script(rt: HostRuntime) -> std::result::Result<(), Fail> {
-    let alloc = rt.alloc();
-    let mut world = world_of(alloc, LIMIT)?;
-    let mut past = Past {
-        alloc,
-        facts: Vec::new(alloc),
-        used: Vec::new(alloc),
-    };
+fn likely(one: &Asked) -> &'static str {
+    match one.phase {
+        Phase::NotOpen => "open",
+        Phase::Uninit => "key",
+        Phase::CacheKey => likely_with_key(one.pair.is_some()),
+        Phase::Stale => "look found read miss meta end",
+        Phase::Miss | Phase::Expired => likely_to_fill(one.has_meta, one.write.is_some()),
+        Phase::Hit => "read read end",
+    }
+}
+
+fn likely_with_key(has_pair: bool) -> &'static str {
+    if has_pair {
+        "found found found found miss look"
+    } else {
+        "look look look look miss miss miss key purge"
+    }
+}
+
+fn likely_to_fill(has_meta: bool, has_write: bool) -> &'static str {
+    if has_write {
+        "write write write read read finish finish end"
+    } else if has_meta {
+        "begin begin begin read end"
+    } else {
+        "meta"
+    }
+}
+
+// Makes a call, which answers what the past says.
+fn ask(
+    rt: &impl Abort,
+    world: &mut World<Manager>,
+    past: &mut Past,
+    one: &mut Asked,
+    step: Words,
+    now: Moment,
+) -> std::result::Result<(), Fail> {
+    let told = told(past.alloc, world, step, now)?;
+    let mut wanted = String::new(past.alloc);
+    past.answer(one, step, &mut wanted)?;
+    assert_eq!(rt; told, wanted, "at {now:?}");
+    Ok(())
+}
+
+fn told(alloc: Global, world: &mut World<Manager>, step: Words, now: Moment) -> Result<String> {
+    match call_with_words(alloc, step, now)? {
+        Some(call) => {
+            let reply = world.step(call)?;
+            Ok(format!(in alloc; "{reply:?}")?)
+        }
+        None => Ok(String::new(alloc)),
+    }
+}
+
+// Makes 4,000 calls of five requests.
+fn ask_all(
+    rt: &impl Abort,
+    world: &mut World<Manager>,
+    past: &mut Past,
+) -> std::result::Result<(), Fail> {
     let mut asked = [NOT_OPEN; 5];
     let mut dice = Dice(20261122);
-    for at in 0..4000usize {
-        let place = dice.pick(&[0usize, 1, 2, 3, 4], 0);
+    let mut clock = Clock::new();
+    for _ in 0..4000usize {
+        let place = dice.below(5);
         let Some(one) = asked.get_mut(place) else {
             continue;
         };
         let request = u64::try_from(place).unwrap_or(0);
         let step = next(&mut dice, request, one);
-        let wanted = past.answer(one, step)?;
-        let reply = world.step(call_of(alloc, step, moment_at(at))?)?;
-        let told = format!(in alloc; "{reply:?}")?;
-        assert_eq!(rt; told.as_str(), wanted.as_str(), "at {at}");
+        ask(rt, world, past, one, step, clock.next())?;
     }
+    Ok(())
+}
+
+#[test]
+fn a_random_script(rt: HostRuntime) -> std::result::Result<(), Fail> {
+    let alloc = rt.alloc();
+    let mut world = world_of(alloc, Limits::weight(LIMIT))?;
+    let mut past = Past::new(alloc);
+    ask_all(&rt, &mut world, &mut past)?;
     assert_eq!(rt; world.history().len(), 4000);
     let totals = world.totals();
     assert_eq!(rt;
         (totals.weight, totals.items),
         (past.weight(), past.used.len())
     );
-    let mut stored = 0u128;
-    let mut slots = 0usize;
-    for key in KEYS {
-        if let Some(write) = past.standing(key) {
-            let size = u128::try_from(past.body(write)?.len()).unwrap_or(0);
-            stored = stored.saturating_add(size);
-            slots = slots.saturating_add(1);
-        }
-    }
-    assert_eq!(rt; (world.stored_bytes(), world.slots()), (stored, slots));
+    assert_eq!(rt; (world.stored_bytes(), world.slots()), past.stored());
     Ok(())
 }

@@ -1,0 +1,286 @@
+//! Reading the lines of a text: each is a call, with the reply that is wanted behind ` -> `.
+//!
+//! A line `at S` says that it is second `S` from then on; as long as there is none, each call comes
+//! three seconds after the one before. A line `stat`, behind the calls, asks for the numbers.
+
+use bytes::Bytes;
+use http::StatusCode;
+use pcache_base::error::Result;
+use pcache_base::key::{CacheKey, HashBinary};
+use pcache_base::moment::Moment;
+use pcache_base::reason::NoCacheReason;
+use pcache_meta::header::ResponseHeader;
+use pcache_meta::meta::CacheMeta;
+use pcache_request::phase::HitStatus;
+use pingora_cache::admission::Decision;
+use pingora_cache::world::call::Call;
+use pingora_cache::world::tokens::Tokens;
+use std::alloc::Global;
+
+// The variance of a key that has one.
+const VARIANCE: HashBinary = [0; 16];
+
+// So many seconds lie between two calls of a text: it soon goes past the age of ten seconds at which
+// a permit is too old.
+const BETWEEN: u64 = 3;
+
+/// What time it is in a text.
+#[derive(Clone, Copy)]
+pub struct Clock {
+    seconds: u64,
+    step: u64,
+}
+
+impl Clock {
+    /// The clock at the beginning of a text.
+    pub fn new() -> Clock {
+        Clock {
+            seconds: 0,
+            step: BETWEEN,
+        }
+    }
+
+    /// Stands at this second from now on.
+    pub fn set(&mut self, seconds: u64) {
+        self.seconds = seconds;
+        self.step = 0;
+    }
+
+    /// The moment of the next call.
+    pub fn next(&mut self) -> Moment {
+        let now = Moment::from_secs(self.seconds);
+        self.seconds = self.seconds.saturating_add(self.step);
+        now
+    }
+}
+
+/// What a line asks for.
+#[derive(Clone, Copy)]
+pub enum Line {
+    /// A call, or nothing that can be read.
+    Call,
+    /// That it is this second.
+    At(u64),
+    /// The numbers of the world.
+    Stat,
+}
+
+/// What a line asks for, by its first word.
+pub fn line_of(asked: &str) -> Line {
+    if asked == "stat" {
+        return Line::Stat;
+    }
+    match asked.strip_prefix("at ").and_then(number) {
+        Some(seconds) => Line::At(seconds),
+        None => Line::Call,
+    }
+}
+
+/// A line without the reply that is wanted.
+pub fn asked_of(line: &'static str) -> &'static str {
+    match line.split_once(" -> ") {
+        Some((asked, _wanted)) => asked,
+        None => line,
+    }
+}
+
+/// The words of a call: which it is, of which request, and more. Those that are not there are empty.
+#[derive(Clone, Copy)]
+pub struct Words {
+    pub call: &'static str,
+    pub request: u64,
+    pub first: &'static str,
+    pub second: &'static str,
+    pub third: &'static str,
+}
+
+fn number(word: &str) -> Option<u64> {
+    word.parse::<u64>().ok()
+}
+
+fn words_of(asked: &'static str) -> Option<Words> {
+    let mut words = asked.split(' ');
+    Some(Words {
+        call: words.next()?,
+        request: number(words.next()?)?,
+        first: words.next().unwrap_or(""),
+        second: words.next().unwrap_or(""),
+        third: words.next().unwrap_or(""),
+    })
+}
+
+/// The call that a line spells, without its reply; none where it spells none.
+pub fn call_of(alloc: Global, asked: &'static str, now: Moment) -> Result<Option<Call>> {
+    match words_of(asked) {
+        Some(words) => call_with_words(alloc, words, now),
+        None => Ok(None),
+    }
+}
+
+/// The call that has these words; none where no call has them.
+pub fn call_with_words(alloc: Global, words: Words, now: Moment) -> Result<Option<Call>> {
+    if let Some(call) = plain_call(words.call, words.request, now) {
+        return Ok(Some(call));
+    }
+    if let Some(call) = set_call(alloc, words.call, words.request) {
+        return Ok(Some(call));
+    }
+    if words.call == "key" {
+        return Ok(Some(Call::Key {
+            request: words.request,
+            key: key_of(alloc, words)?,
+        }));
+    }
+    Ok(call_with(alloc, words, now))
+}
+
+// A call that has nothing but its request and its moment.
+fn plain_call(word: &str, request: u64, now: Moment) -> Option<Call> {
+    Some(match word {
+        "open" => Call::Open {
+            request,
+            options: None,
+        },
+        "enable" => Call::Enable {
+            request,
+            options: None,
+        },
+        "bypass" => Call::Bypass { request },
+        "miss" => Call::Miss { request },
+        "begin" => Call::Begin { request },
+        "finish" => Call::Finish { request },
+        "read" => Call::Read { request },
+        "done" => Call::Done { request },
+        "purge" => Call::Purge { request },
+        "expire" => Call::Expire { request, now },
+        "wait" => Call::Wait { request, now },
+        "give" => Call::Give {
+            request,
+            to: request,
+        },
+        "updating" => Call::Updating { request },
+        "phase" => Call::Phase { request },
+        "end" => Call::End { request },
+        _ => return None,
+    })
+}
+
+// A call that has the same values in every text.
+fn set_call(alloc: Global, word: &str, request: u64) -> Option<Call> {
+    let reason = NoCacheReason::InternalError;
+    Some(match word {
+        "disable" => Call::Disable { request, reason },
+        "release" => Call::Release { request, reason },
+        "uncacheable" => Call::Uncacheable {
+            request,
+            header: ResponseHeader::build(alloc, StatusCode::OK),
+            reason,
+        },
+        "vary" => Call::Vary {
+            request,
+            variance: VARIANCE,
+        },
+        "variance" => Call::Variance {
+            request,
+            variance: None,
+        },
+        "seek" => Call::Seek {
+            request,
+            start: 1,
+            end: None,
+        },
+        "lock" => Call::Lock {
+            request,
+            is_used: true,
+        },
+        "publish" => Call::Publish {
+            request,
+            tokens: Tokens::new(Vec::new(alloc)),
+        },
+        _ => return None,
+    })
+}
+
+// A call that has words of its own.
+fn call_with(alloc: Global, words: Words, now: Moment) -> Option<Call> {
+    let request = words.request;
+    match words.call {
+        "look" => Some(Call::Look {
+            request,
+            now,
+            decision: decision_of(words.first),
+        }),
+        "found" => found(request, words.first, now),
+        "meta" => Some(Call::Meta {
+            request,
+            meta: meta_of(alloc, words.first),
+        }),
+        "revalidate" => Some(Call::Revalidate {
+            request,
+            meta: meta_of(alloc, words.first),
+        }),
+        "write" => Some(Call::Write {
+            request,
+            bytes: Bytes::from_static(words.first.as_bytes()),
+            eof: words.second == "last",
+        }),
+        _ => None,
+    }
+}
+
+// `key R NAME [TAG [v]]`: a tag of the user that is not `1`, and with `v` the variance.
+fn key_of(alloc: Global, words: Words) -> Result<CacheKey> {
+    let tag = if words.second.is_empty() {
+        "1"
+    } else {
+        words.second
+    };
+    let mut key = key(alloc, words.first, tag)?;
+    if words.third == "v" {
+        key.set_variance_key(VARIANCE);
+    }
+    Ok(key)
+}
+
+/// A key with this name, and this tag of the user.
+pub fn key(alloc: Global, name: &str, tag: &str) -> Result<CacheKey> {
+    let primary = name.as_bytes().to_vec(alloc)?;
+    Ok(CacheKey::new(primary, String::from_str(alloc, tag)?))
+}
+
+// `look R [defer | ready]`: with the decision of an admission policy.
+fn decision_of(word: &str) -> Option<Decision> {
+    match word {
+        "defer" => Some(Decision::Defer { observed: 1 }),
+        "ready" => Some(Decision::Ready { observed: 2 }),
+        _ => None,
+    }
+}
+
+// `found R STATUS`.
+fn found(request: u64, word: &str, now: Moment) -> Option<Call> {
+    let status = match word {
+        "fresh" => HitStatus::Fresh,
+        "expired" => HitStatus::Expired,
+        "force_fresh" => HitStatus::ForceFresh,
+        "force_miss" => HitStatus::ForceMiss,
+        _ => return None,
+    };
+    Some(Call::Found {
+        request,
+        status,
+        now,
+    })
+}
+
+// `meta R [S]`: of a response that is fresh until second 60, made at the first moment or at second `S`.
+fn meta_of(alloc: Global, word: &str) -> CacheMeta {
+    meta(alloc, number(word).unwrap_or(0))
+}
+
+/// The meta of a response that was made at this second, and is fresh until second 60.
+pub fn meta(alloc: Global, seconds: u64) -> CacheMeta {
+    let header = ResponseHeader::build(alloc, StatusCode::OK);
+    let created = Moment::from_secs(seconds);
+    CacheMeta::new(Moment::from_secs(60), created, 0, 0, header)
+}
