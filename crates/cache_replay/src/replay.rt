@@ -1,5 +1,6 @@
 //! Running a script.
 
+use crate::policy::OneSecond;
 use crate::reply::{write_reply, write_stat};
 use crate::script::{Line, Unread, read};
 use pingora_cache::eviction::simple_lru::Manager;
@@ -69,7 +70,11 @@ fn run<R: Read + Drop, W: Write + Drop>(
     let Ok(mut writer) = BufWriter::new(alloc, output) else {
         return Err(Stop::OutOfMemory);
     };
-    let mut world = World::new(alloc, manager, Duration::from_secs(AGE_TIMEOUT_SECS));
+    let mut world: World<Manager, OneSecond> = World::new(
+        alloc,
+        manager,
+        Duration::from_secs(AGE_TIMEOUT_SECS),
+    );
     let result = run_lines(alloc, &mut world, &mut reader, &mut writer);
     // The replies before a bad line are printed first.
     let flushed = writer.flush();
@@ -79,7 +84,7 @@ fn run<R: Read + Drop, W: Write + Drop>(
 
 fn run_lines<R: BufRead, W: Write>(
     alloc: Global,
-    world: &mut World<Manager>,
+    world: &mut World<Manager, OneSecond>,
     reader: &mut R,
     writer: &mut W,
 ) -> Result<(), Stop> {
@@ -97,7 +102,7 @@ fn run_lines<R: BufRead, W: Write>(
 
 fn run_line<W: Write>(
     alloc: Global,
-    world: &mut World<Manager>,
+    world: &mut World<Manager, OneSecond>,
     line: &[u8],
     number: u64,
     now: &mut Moment,

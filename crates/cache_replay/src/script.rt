@@ -155,6 +155,7 @@ fn read_call(
         b"begin" | b"write" | b"finish" | b"read" | b"seek" | b"done" => {
             read_body_call(alloc, word, request, words)
         }
+        b"put" | b"feed" | b"drop" | b"close" => read_put_call(alloc, word, request, words, now),
         b"vary" | b"variance" | b"revalidate" => {
             read_variant_call(alloc, word, request, words, now)
         }
@@ -188,6 +189,31 @@ fn read_body_call(
             end: words.next().map(place).transpose()?,
         }),
         b"done" => Ok(Call::Done { request }),
+        _ => Err(Unread::BadCall),
+    }
+}
+
+// A line about a put.
+fn read_put_call(
+    alloc: Global,
+    word: &[u8],
+    request: u64,
+    words: &mut Words<'_>,
+    now: Moment,
+) -> Result<Call, Unread> {
+    match word {
+        b"put" => Ok(Call::Put {
+            request,
+            key: plain_key(alloc, words)?,
+            limit: words.next().map(place).transpose()?,
+        }),
+        b"feed" => Ok(Call::Feed {
+            request,
+            bytes: Bytes::from_vec(text(alloc, words.word()?)?)?,
+            now,
+        }),
+        b"drop" => Ok(Call::Drop { request }),
+        b"close" => Ok(Call::Close { request }),
         _ => Err(Unread::BadCall),
     }
 }
@@ -306,14 +332,19 @@ fn reason(word: &[u8]) -> Result<NoCacheReason, Unread> {
     }
 }
 
-// A key, and behind it where they are given its variance and the fills that it cannot use.
-fn key(alloc: Global, words: &mut Words<'_>) -> Result<CacheKey, Unread> {
+// A key by its primary and its tag.
+fn plain_key(alloc: Global, words: &mut Words<'_>) -> Result<CacheKey, Unread> {
     let primary = text(alloc, words.word()?)?;
     let tag = text(alloc, words.word()?)?;
     let Ok(user_tag) = String::from_utf8(tag) else {
         return Err(Unread::BadCall);
     };
-    let mut key = CacheKey::new(primary, user_tag);
+    Ok(CacheKey::new(primary, user_tag))
+}
+
+// A key, and behind it where they are given its variance and the fills that it cannot use.
+fn key(alloc: Global, words: &mut Words<'_>) -> Result<CacheKey, Unread> {
+    let mut key = plain_key(alloc, words)?;
     if let Some(word) = words.option(b"v=") {
         key.set_variance_key(hash(word)?);
     }

@@ -1,4 +1,5 @@
 //! Whole scripts, each with the replies that are wanted.
+mod puts;
 mod waits;
 
 use crate::replay::replay;

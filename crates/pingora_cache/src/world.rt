@@ -1,5 +1,5 @@
-//! Requests over one store, one eviction manager and one lock table, with the history of what was
-//! asked.
+//! Requests and puts over one store, one eviction manager and one lock table, with the history of
+//! what was asked.
 
 pub mod call;
 mod call_copy;
@@ -10,7 +10,10 @@ mod locks;
 mod look;
 mod machine;
 mod notes;
+mod open;
 mod parts;
+pub mod policy;
+mod puts;
 mod reads;
 mod remove;
 mod request;

@@ -16,7 +16,7 @@ use pcache_meta::meta::CacheMeta;
 use pcache_predict::admission::Decision;
 use pcache_request::phase::{CachePhase, HitStatus};
 
-/// A call of a request. Requests are named by numbers.
+/// A call of a request or a put. They are named by numbers, which they share.
 #[derive(Drop)]
 pub enum Call {
     /// Makes the request and turns caching on, with the manager and the lock in use.
@@ -154,10 +154,31 @@ pub enum Call {
     End {
         request: u64,
     },
+    /// Makes a put of the key, whose body may have so many bytes where there is a limit.
+    Put {
+        request: u64,
+        key: CacheKey,
+        limit: Option<usize>,
+    },
+    /// Takes in the next piece of the put's response, at a moment.
+    Feed {
+        request: u64,
+        bytes: Bytes,
+        now: Moment,
+    },
+    /// Ends the put before its response has come, and drops its write. Its number is free then.
+    Drop {
+        request: u64,
+    },
+    /// Ends the put where its response has come, and stores the body. Its number is free then, also
+    /// where it is refused.
+    Close {
+        request: u64,
+    },
 }
 
 impl Call {
-    /// The number of the request that the call names.
+    /// The number of the request or the put that the call names.
     pub fn request(&self) -> u64
         ensures { result ≡ number_of self.now }
     {
@@ -219,6 +240,18 @@ impl Call {
             Call::Revalidate { request, meta: _ } => request,
             Call::Phase { request } => request,
             Call::End { request } => request,
+            Call::Put {
+                request,
+                key: _,
+                limit: _,
+            } => request,
+            Call::Feed {
+                request,
+                bytes: _,
+                now: _,
+            } => request,
+            Call::Drop { request } => request,
+            Call::Close { request } => request,
         }
     }
 }
@@ -253,6 +286,8 @@ pub enum Reply {
     Stored { size: usize, evicted: usize },
     /// There was nothing to be finished.
     Nothing,
+    /// Nothing is stored of the put, for this reason.
+    NotCached(NoCacheReason),
     /// Bytes were read.
     Data(Bytes),
     /// There is nothing to read yet.
@@ -302,6 +337,7 @@ impl Reply {
                 evicted: *evicted,
             },
             Reply::Nothing => Reply::Nothing,
+            Reply::NotCached(reason) => Reply::NotCached(*reason),
             Reply::Data(bytes) => Reply::Data(bytes.clone()?),
             Reply::Pending => Reply::Pending,
             Reply::Finished => Reply::Finished,

@@ -113,6 +113,26 @@ impl Call {
             },
             Call::Phase { request } => Call::Phase { request: *request },
             Call::End { request } => Call::End { request: *request },
+            Call::Put {
+                request,
+                key,
+                limit,
+            } => Call::Put {
+                request: *request,
+                key: key.copied()?,
+                limit: *limit,
+            },
+            Call::Feed {
+                request,
+                bytes,
+                now,
+            } => Call::Feed {
+                request: *request,
+                bytes: bytes.clone()?,
+                now: *now,
+            },
+            Call::Drop { request } => Call::Drop { request: *request },
+            Call::Close { request } => Call::Close { request: *request },
         })
     }
 }

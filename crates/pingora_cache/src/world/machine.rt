@@ -7,8 +7,9 @@ ghost use Rattle.pingora_cache.specs.Rules.{IsCopy};
 
 use crate::world::call::{Call, Reply};
 use crate::world::entry::{Entry, Event, Events};
+use crate::world::open::Open;
 use crate::world::parts::Parts;
-use crate::world::request::OpenRequest;
+use crate::world::policy::PutPolicy;
 use crate::world::turn::apply;
 use crate::world::vary::spare_of;
 use pcache_base::error::{ErrorType, Result};
@@ -32,19 +33,20 @@ pub struct Totals {
     pub evicted_items: usize,
 }
 
-/// Requests over one store, one eviction manager and one lock table, with the history of what was
-/// asked. Each call is whole: it is asked, answered and noted before the next.
+/// Requests and puts over one store, one eviction manager and one lock table, with the history of what
+/// was asked. Each call is whole: it is asked, answered and noted before the next.
 ///
-/// The history is legal at all times: each entry is one that the entries before it give.
-pub struct World<M: EvictionManager> {
+/// The history is legal at all times: each entry is one that the entries before it give. All puts go by
+/// the policy `P`.
+pub struct World<M: EvictionManager, P: PutPolicy> {
     alloc: Global,
     parts: Parts<M>,
-    requests: BTreeMap<u64, OpenRequest>,
+    requests: BTreeMap<u64, Open<P>>,
     start: Option<Vec<(CacheEntryKey, usize)>>,
     history: Vec<Entry>,
 }
 
-impl<M: EvictionManager> Model for World<M> {
+impl<M: EvictionManager, P: PutPolicy> Model for World<M, P> {
     ghost use Rattle.std.specs.Prelude.{◌≡◌, None, [], reverse};
     ghost use Rattle.std.specs.Option.{option_map};
     ghost use Rattle.std.specs.FinMap as map;
@@ -61,7 +63,7 @@ impl<M: EvictionManager> Model for World<M> {
     ghost invariant = { λ w. IsSound (M.limits w.parts.manager) (started (option_map (λ v. v.items) w.start) (M.tracked w.parts.manager)) (M.tracked w.parts.manager) w.parts.store w.parts.lock (map.from_entries w.requests.entries) (reverse w.history.items) × (w.start ≡ None → w.history.items ≡ []) };
 }
 
-impl<M: EvictionManager> World<M> {
+impl<M: EvictionManager, P: PutPolicy> World<M, P> {
     ghost use Rattle.std.specs.Duration.{as_nanos};
     ghost use Rattle.std.specs.FinMap as map;
     ghost use Rattle.pingora_cache.specs.Events.{stored, slots, tracked};
@@ -72,7 +74,7 @@ impl<M: EvictionManager> World<M> {
 
     /// A world with no requests, nothing stored and an empty history. Permits age out after
     /// `age_timeout`.
-    pub fn new(alloc: Global, manager: M, age_timeout: Duration) -> World<M>
+    pub fn new(alloc: Global, manager: M, age_timeout: Duration) -> World<M, P>
         ensures { result ≡ record { history = []; start = M.tracked manager; limits = M.limits manager; evicted = M.evicted manager; age = as_nanos age_timeout } }
     {
         World {
@@ -200,7 +202,7 @@ impl<M: EvictionManager> World<M> {
     }
 }
 
-impl<M: EvictionManager> Drop for World<M> {
+impl<M: EvictionManager, P: PutPolicy> Drop for World<M, P> {
     // Ends what is open.
     fn drop(self) {
         let World {
@@ -215,8 +217,8 @@ impl<M: EvictionManager> Drop for World<M> {
             manager,
             mut lock,
         } = parts;
-        while let Some((_number, request)) = requests.pop_first() {
-            let _ = request.end(&mut store, &mut lock);
+        while let Some((_number, open)) = requests.pop_first() {
+            open.end(&mut store, &mut lock);
         }
         requests.destroy_empty();
         drop(manager);

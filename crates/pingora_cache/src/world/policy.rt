@@ -1,0 +1,55 @@
+//! What decides which pushed responses a world stores.
+ghost use Rattle.std.specs.Prelude.{ℕ, IfErr, IfOk};
+ghost use Rattle.pcache_base.specs.declared.error.ErrorType.TheVariants.{OutOfMemory};
+ghost use Rattle.pcache_control.specs.declared.response.RespCacheable.{RespCacheable};
+ghost use Rattle.pcache_meta.specs.declared.header.ResponseHeader.{ResponseHeader};
+
+use pcache_base::error::Result;
+use pcache_base::moment::Moment;
+use pcache_control::RespCacheable;
+use pcache_meta::header::ResponseHeader;
+use pcache_put_ctx::policy::CachePut;
+use std::alloc::Global;
+use std::marker::PhantomData;
+
+/// Decides whether a response that is pushed into a world is stored. All puts of a world go by one
+/// policy, which its type names.
+pub trait PutPolicy {
+    ghost use Rattle.std.specs.Prelude.{ℕ};
+    ghost use Rattle.pcache_control.specs.declared.response.RespCacheable.{RespCacheable};
+    ghost use Rattle.pcache_meta.specs.declared.header.ResponseHeader.{ResponseHeader};
+
+    /// What it may answer of a head at a moment. Nothing else decides.
+    ghost says: { ResponseHeader → ℕ → RespCacheable → Type 0 };
+
+    /// Whether the response with this head is stored, and with what meta. Most answer by
+    /// `default_cacheable`. It is refused for want of memory alone.
+    fn cacheable(alloc: Global, header: ResponseHeader, now: Moment) -> Result<RespCacheable>
+        ensures says { IfOk result (says header now) }
+        ensures kind { IfErr result (λ e. e ≡ OutOfMemory) };
+}
+
+/// The policy of a world, as its puts carry it.
+#[derive(Drop)]
+pub struct ByType<P> {
+    of: PhantomData<P>,
+}
+
+impl<P: PutPolicy> ByType<P> {
+    pub(crate) fn new() -> ByType<P> {
+        ByType { of: PhantomData }
+    }
+}
+
+impl<P: PutPolicy> CachePut for ByType<P> {
+    ghost says = { λ _. P.says };
+
+    fn cacheable(
+        &self,
+        alloc: Global,
+        header: ResponseHeader,
+        now: Moment,
+    ) -> Result<RespCacheable> {
+        P::cacheable(alloc, header, now)
+    }
+}
