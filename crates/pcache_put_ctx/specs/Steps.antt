@@ -89,6 +89,11 @@ AnswersAgain (InBody w id fresh_until) end = Unit {0}
 AnswersAgain (HasDeclined reason) end = end ≡ piece.NotCached reason
 AnswersAgain (IsOver kind) end = end ≡ piece.Refused kind None
 
+-- a write begins only where the head ends
+abbrev pub BeginsAtHead : Stage → Option Meta → Type 0
+BeginsAtHead InHead began = Unit {0}
+BeginsAtHead stage began = began ≡ None
+
 -- what the put's write was given, behind a piece
 abbrev pub filled_begun : Option Meta → Option Filled → Option Filled
 filled_begun None f = f

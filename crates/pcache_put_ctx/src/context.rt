@@ -86,7 +86,7 @@ impl<C: CachePut, S: Storage> CachePutCtx<C, S> {
     ghost use Rattle.pcache_request.specs.Requests.{dropped_by};
     ghost use Rattle.pcache_put_ctx.specs.Puts.{Piece, IsResult};
     ghost use Rattle.pcache_put_ctx.specs.State.{InHead, Filled, HasTaken, limit_of, write_in};
-    ghost use Rattle.pcache_put_ctx.specs.Steps.{Done, store_after, store_left, stage_begun, filled_on, EndsPiece, TakesPiece, StandsAnswered, RepeatsAnswer, AnswersAgain, IfRefused, MayRefusePiece, is_done, EndsPut, EndsAs, stage_ended, entry_told, evicted_ended, TellsResult};
+    ghost use Rattle.pcache_put_ctx.specs.Steps.{Done, store_after, store_left, stage_begun, filled_on, BeginsAtHead, EndsPiece, TakesPiece, StandsAnswered, RepeatsAnswer, AnswersAgain, IfRefused, MayRefusePiece, is_done, EndsPut, EndsAs, stage_ended, entry_told, evicted_ended, TellsResult};
 
     /// A put of a key, with no limit on its body.
     pub fn new(alloc: Global, policy: C, key: CacheKey) -> CachePutCtx<C, S>
@@ -169,6 +169,7 @@ impl<C: CachePut, S: Storage> CachePutCtx<C, S> {
 
         // What the piece did: a write began, and bytes were written.
         ensures store { S.state storage.new ≡ store_after self.old.key self.old.stage result.began result.wrote (S.next_entry storage.old) (S.state storage.old) }
+        ensures began { BeginsAtHead self.old.stage result.began }
         ensures ends { EndsPiece S.Miss.write result.end (stage_begun self.old.stage result.began (S.state storage.old).next (S.next_entry storage.old)) self.new.stage }
 
         // What the put has taken in, with this piece; and the end is said of the bytes that complete a body.

@@ -242,6 +242,7 @@ impl<C: CachePut> Intake<C> {
         ensures same { self.new ≡ record self.old { size = self.new.size; parser = self.new.parser } }
         ensures limit { limit_of self.new.size ≡ limit_of self.old.size }
         ensures store { S.state storage.new ≡ store_after self.old.key (InBody (S.Miss.write filling.writer) (S.Miss.entry_number filling.writer) filling.fresh_until) result.report.began result.report.wrote (S.next_entry storage.old) (S.state storage.old) }
+        ensures began { result.report.began ≡ None }
         ensures ends { EndsPiece S.Miss.write result.report.end (stage_begun (InBody (S.Miss.write filling.writer) (S.Miss.entry_number filling.writer) filling.fresh_until) result.report.began (S.state storage.old).next (S.next_entry storage.old)) (stage_of S.Miss.write S.Miss.entry_number result.stage) }
         ensures last { (pieces : List Piece) (f : Option Filled) → TakenBy (C.says self.old.policy) self.old.size self.old.parser (InBody (S.Miss.write filling.writer) (S.Miss.entry_number filling.writer) filling.fresh_until) pieces f → IfSome result.report.wrote (λ w. w.eof ≡ is_done self.new.parser) }
         ensures taken { (pieces : List Piece) (f : Option Filled) → TakenBy (C.says self.old.policy) self.old.size self.old.parser (InBody (S.Miss.write filling.writer) (S.Miss.entry_number filling.writer) filling.fresh_until) pieces f

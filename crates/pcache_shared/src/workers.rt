@@ -7,6 +7,7 @@ use crate::mark::Mark;
 use crate::share::Share;
 use crate::shared_world::SharedWorld;
 use pcache_evict::eviction::EvictionManager;
+use pingora_cache::world::policy::PutPolicy;
 use pingora_cache::world::call::Call;
 use std::alloc::{AllocError, Global};
 use std::sync::Wait;
@@ -28,12 +29,13 @@ pub trait Gate {
 /// what was called stands in the shares.
 pub fn run_workers<
     M: EvictionManager + Send,
+    P: PutPolicy + Send,
     K: Mark + Send + Sync,
     G: Gate + Sync,
     R: Threads + Wait + Sync,
 >(
     rt: &R,
-    shared: &SharedWorld<M, K>,
+    shared: &SharedWorld<M, P, K>,
     scripts: &[Vec<Call>],
     shares: &mut [Share<K>],
     gate: &G,
@@ -66,9 +68,9 @@ pub fn run_workers<
 }
 
 // Makes the calls of a script, up to one for which memory is refused.
-fn run_script<M: EvictionManager, K: Mark, G: Gate, R: Wait>(
+fn run_script<M: EvictionManager, P: PutPolicy, K: Mark, G: Gate, R: Wait>(
     rt: &R,
-    shared: &SharedWorld<M, K>,
+    shared: &SharedWorld<M, P, K>,
     worker: usize,
     script: &[Call],
     share: &mut Share<K>,

@@ -18,6 +18,11 @@ pub mod MovesOf
 pub mod Noted
 pub mod Opened
 pub mod Promised
+pub mod PutClosed
+pub mod PutFed
+pub mod PutShape
+pub mod PutSound
+pub mod PutTurns
 pub mod ReadLocks
 pub mod ReadsLaw
 pub mod Runs

@@ -43,7 +43,7 @@ quiet-first : (r at : ℕ) (s : LockStatus) (xs ys : List Event) → AreOfNoLock
 quiet-first r at s [] ys h = refl
 quiet-first r at s (e ∷ xs) ys h = ap (λ ds. ds ++ deeds_by r at s (xs ++ ys)) (quiet-deed r at s e h.0) ∙ quiet-first r at s xs ys h.1
 
-quiet-deeds : (r at : ℕ) (s : LockStatus) (xs : List Event) → AreOfNoLock xs → deeds_by r at s xs ≡ []
+pub quiet-deeds : (r at : ℕ) (s : LockStatus) (xs : List Event) → AreOfNoLock xs → deeds_by r at s xs ≡ []
 quiet-deeds r at s [] h = refl
 quiet-deeds r at s (e ∷ xs) h = ap (λ ds. ds ++ deeds_by r at s xs) (quiet-deed r at s e h.0) ∙ quiet-deeds r at s xs h.1
 

@@ -158,7 +158,7 @@ read-moved s x a h = ap (λ r. record x { reader = r }) (elim x.reader as (λ o.
 
 -- a request with this, and a pair
 abbrev pub held_with : Option Decision → Option (Meta × Reader) → Request → Held
-held_with d p x = record { request = x; pair = p; carried = d }
+held_with d p x = record { request = x; pair = p; carried = d; put = None }
 
 -- a write that began is held, the permit is released, and the reader follows it
 

@@ -18,7 +18,7 @@ use Rattle.pingora_cache.specs.Held.{Held, number_of}
 use Rattle.pingora_cache.specs.LockTable.{IsTable, read_locks}
 use Rattle.pingora_cache.specs.Log.{started}
 use Rattle.pingora_cache.specs.Rules.{IsCopy}
-use Rattle.pingora_cache.specs.Step.{Turn, IsOfWorldIn, IsMoved}
+use Rattle.pingora_cache.specs.Step.{Turn, IsOfWorldIn, IsMoved, IsRow}
 use Rattle.pingora_cache.specs.Sound.{IsSound, readers}
 use Rattle.pingora_cache.proofs.Counts.{readers-none}
 use Rattle.pingora_cache.proofs.LockTable.{table-none}
@@ -26,7 +26,7 @@ use Rattle.pingora_cache.proofs.Opened.{open-none}
 use Rattle.pingora_cache.proofs.ReadLocks.{locks-none}
 use Rattle.pingora_cache.proofs.SoundOf.{sound-of}
 use Rattle.pingora_cache.proofs.States.{state-none, state-same}
-use Rattle.pingora_cache.proofs.Turned.{step_age, step_sound}
+use Rattle.pingora_cache.proofs.Turned.{lookup-get, made, step_age, step_sound}
 use Rattle.pingora_cache.proofs.Waiting.{locked-none}
 
 -- with an empty history, no requests and an empty store a world is sound, whatever the manager holds
@@ -70,6 +70,14 @@ sound-step limits limits' start start' m m' s s' t t' before after h h' call rep
     subst (λ (l : Limits). IsSound l start' m' s' t' (from_entries {R = nat_cmp} after) (reverse h')) (sym same)
     (subst (λ (first : Tracked). IsSound limits first m' s' t' (from_entries {R = nat_cmp} after) (reverse h')) (sym first)
     (subst (λ (xs : List Entry). IsSound limits start m' s' t' (from_entries {R = nat_cmp} after) xs) (sym turned) more))
+
+-- the request that it names is as its row has it
+pub row-of : (limits : Limits) (start m m' : Tracked) (s s' : Store) (t t' : Locks) (before after : List (ℕ × Held)) (h : List Entry) (call : Call) (reply : Reply) (events : List Event)
+    → IsSound limits start m s t (from_entries {R = nat_cmp} before) (reverse h) → length before < 2 ^ 64
+    → (IsOfWorldIn (lookup (is_at (nat_cmp (number_of call))) before) → Turn limits call (lookup (is_at (nat_cmp (number_of call))) before) s m t reply events (lookup (is_at (nat_cmp (number_of call))) after) s' m' t')
+    → IsRow call reply events (lookup (is_at (nat_cmp (number_of call))) before) (lookup (is_at (nat_cmp (number_of call))) after)
+row-of limits start m m' s s' t t' before after h call reply events k small turn =
+    subst (λ p. IsRow call reply events p (lookup (is_at (nat_cmp (number_of call))) after)) (sym (lookup-get before (number_of call))) (made limits start m m' s s' t t' before after (reverse h) call reply events k small turn).now
 
 -- after how long permits are too old stays as it is
 pub same-age : (limits : Limits) (start m m' : Tracked) (s s' : Store) (t t' : Locks) (before after : List (ℕ × Held)) (h : List Entry) (call : Call) (reply : Reply) (events : List Event)

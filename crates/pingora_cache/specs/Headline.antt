@@ -30,15 +30,15 @@ use Rattle.pingora_cache.specs.Facts.{Facts, Says, request_in}
 use Rattle.pingora_cache.specs.History.{events_of, Finds, reads}
 use Rattle.pingora_cache.specs.Legal.{IsLegal}
 use Rattle.pingora_cache.specs.Log.{Log, events_in}
-use Rattle.pingora_cache.specs.Rules.{MayBe, wait_reply}
+use Rattle.pingora_cache.specs.Rules.{FindsKind, MayBe, wait_reply}
 use Rattle.pingora_cache.specs.Waiting.{NoneWaits, waiting_in}
 use Rattle.pingora_cache.specs.Waits.{wait_of}
 use Rattle.pingora_cache.specs.ReadSoFar.{read_by, HasRead}
 
--- a call is answered as a wrong one exactly where its condition fails, by the facts that the events before it say
+-- a call is answered as a wrong one exactly where what stands under its number is of another kind, or its condition fails, by the facts that the events before it say
 abbrev pub IsWrongExactly : Type 0
 IsWrongExactly = (age : ℕ) (limits : Limits) (start : Tracked) (before : List Entry) (entry : Entry) (f : Facts) → IsLegal age limits start (entry ∷ before) → Says age (events_of before) (deeds_of before) (number_of entry.call) (request_in (request_of (number_of entry.call) before)) f
-    → (entry.reply ≡ WrongCall) ↔ (MayBe f entry.call (request_of (number_of entry.call) before) → ⊥)
+    → (entry.reply ≡ WrongCall) ↔ (FindsKind entry.call (request_of (number_of entry.call) before) × MayBe f entry.call (request_of (number_of entry.call) before) → ⊥)
 
 -- a look-up answers what the events before it say of its key: the earliest begun write that is in flight and untouched, else
 -- the complete body, else nothing; with the meta that the write began with, which of a complete body is altered by each expiry

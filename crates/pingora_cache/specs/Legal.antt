@@ -10,7 +10,7 @@ use Rattle.pingora_cache.specs.Due.{makes_of, AreDue, KeepsKey}
 use Rattle.pingora_cache.specs.Facts.{Facts, Says, request_in}
 use Rattle.pingora_cache.specs.Held.{Held, number_of, row, request_of}
 use Rattle.pingora_cache.specs.History.{events_of}
-use Rattle.pingora_cache.specs.Rules.{Answers, IsCopy}
+use Rattle.pingora_cache.specs.Rules.{Replies, IsCopy}
 use Rattle.pingora_cache.specs.Waiting.{waiting_in, AreGiven}
 
 -- what a call answers and does after a history that leaves its request as q, where permits are too old after this time, for a
@@ -20,7 +20,7 @@ pub record Gives (age : ℕ) (limits : Limits) (start : Tracked) (es : List Even
   pub facts : Facts
   pub says : Says age es ds (number_of call) (request_in q) facts
   pub told : Reply
-  pub answers : Answers facts call q told events
+  pub answers : Replies facts call q told events
   pub copy : IsCopy told reply
   pub due : AreDue limits start es q (makes_of q) None events (makes_of (row call reply events q))
   pub keeps : KeepsKey q (row call reply events q)

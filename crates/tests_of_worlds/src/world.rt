@@ -14,6 +14,7 @@ use pcache_meta::header::ResponseHeader;
 use pcache_meta::meta::CacheMeta;
 use pcache_request::phase::HitStatus;
 use pingora_cache::admission::Decision;
+use pingora_cache::world::policy::BySelf;
 use pingora_cache::world::World;
 use pingora_cache::world::call::{Call, Reply};
 use std::alloc::Global;
@@ -144,13 +145,13 @@ fn moment_at(place: usize) -> Moment {
     Moment::from_secs((place as u64).saturating_mul(3))
 }
 
-fn world_of(alloc: Global, limit: usize) -> Result<World<Manager>> {
+fn world_of(alloc: Global, limit: usize) -> Result<World<Manager, BySelf>> {
     let manager = Manager::new(alloc, limit)?;
     Ok(World::new(alloc, manager, Duration::from_secs(10)))
 }
 
 // What is stored, what is tracked and what was evicted, with the number of entries at the start.
-fn numbers(alloc: Global, world: &World<Manager>) -> Result<String> {
+fn numbers(alloc: Global, world: &World<Manager, BySelf>) -> Result<String> {
     let stored = world.stored_bytes();
     let slots = world.slots();
     let totals = world.totals();
@@ -163,7 +164,7 @@ fn numbers(alloc: Global, world: &World<Manager>) -> Result<String> {
 fn check(
     rt: &impl Abort,
     alloc: Global,
-    world: &mut World<Manager>,
+    world: &mut World<Manager, BySelf>,
     rows: &[(Step, &str)],
 ) -> std::result::Result<(), Fail> {
     let before = world.history().len();
@@ -193,7 +194,7 @@ fn check(
 fn step_by_step(
     rt: &impl Abort,
     alloc: Global,
-    world: &mut World<Manager>,
+    world: &mut World<Manager, BySelf>,
     rows: &[(Step, &str)],
 ) -> std::result::Result<(), Fail> {
     for (at, (step, wanted)) in rows.iter().enumerate() {
@@ -663,7 +664,7 @@ fn a_manager_that_held_something(rt: HostRuntime) -> std::result::Result<(), Fai
     let entry = CacheEntryKey::key_only(key_of(alloc, "old")?.to_compact()?);
     let copy = entry.copied()?;
     manager.load_entry(copy, 4)?;
-    let mut world = World::new(alloc, manager, Duration::from_secs(10));
+    let mut world: World<Manager, BySelf> = World::new(alloc, manager, Duration::from_secs(10));
     assert!(rt; world.start().is_empty() && world.history().is_empty());
     check(&rt, alloc, &mut world, &FILLED)?;
     assert_eq!(rt; world.start().len(), 1);

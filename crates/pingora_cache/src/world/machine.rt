@@ -52,6 +52,7 @@ impl<M: EvictionManager, P: PutPolicy> Model for World<M, P> {
     ghost use Rattle.std.specs.FinMap as map;
     ghost use Rattle.pingora_cache.specs.Log.{Log, started};
     ghost use Rattle.pingora_cache.specs.LogCode.{log_code};
+    ghost use Rattle.pingora_cache.specs.PutHistory.{PutsSound};
     ghost use Rattle.pingora_cache.specs.Sound.{IsSound};
 
     ghost Value = { Log };
@@ -60,7 +61,7 @@ impl<M: EvictionManager, P: PutPolicy> Model for World<M, P> {
 
     ghost view = { λ w. record { history = w.history.items; start = started (option_map (λ v. v.items) w.start) (M.tracked w.parts.manager); limits = M.limits w.parts.manager; evicted = M.evicted w.parts.manager; age = w.parts.lock.age_timeout } };
 
-    ghost invariant = { λ w. IsSound (M.limits w.parts.manager) (started (option_map (λ v. v.items) w.start) (M.tracked w.parts.manager)) (M.tracked w.parts.manager) w.parts.store w.parts.lock (map.from_entries w.requests.entries) (reverse w.history.items) × (w.start ≡ None → w.history.items ≡ []) };
+    ghost invariant = { λ w. IsSound (M.limits w.parts.manager) (started (option_map (λ v. v.items) w.start) (M.tracked w.parts.manager)) (M.tracked w.parts.manager) w.parts.store w.parts.lock (map.from_entries w.requests.entries) (reverse w.history.items) × (w.start ≡ None → w.history.items ≡ []) × PutsSound P.says (map.from_entries w.requests.entries) (reverse w.history.items) };
 }
 
 impl<M: EvictionManager, P: PutPolicy> World<M, P> {
@@ -68,6 +69,8 @@ impl<M: EvictionManager, P: PutPolicy> World<M, P> {
     ghost use Rattle.std.specs.FinMap as map;
     ghost use Rattle.pingora_cache.specs.Events.{stored, slots, tracked};
     ghost use Rattle.pingora_cache.specs.Log.{Log, Adds, AddsAll, AddsSome, HasLegal, events_in};
+    ghost use Rattle.pingora_cache.specs.PutHistory.{AreTold};
+    ghost use Rattle.std.specs.Prelude.{reverse};
     ghost use Rattle.pcache_base.specs.declared.error.ErrorType.TheVariants.{OutOfMemory};
     ghost use Rattle.pcache_evict.specs.Tracked.{weight};
     ghost use Rattle.pingora_cache.specs.Headline.{EvictsNothingWithin, FindsUntouched, FinishesUntouched, GivesWhereNoneWaits, HandsOnUnhidden, HitsTheLast, StaysWithin};
@@ -94,6 +97,7 @@ impl<M: EvictionManager, P: PutPolicy> World<M, P> {
     pub fn history(&self) -> &[Entry]
         ensures entries { result.now ≡ self.now.history }
         ensures legal { HasLegal self.now }
+        ensures puts { AreTold P.says (reverse self.now.history) }
     {
         self.history.as_slice()
     }
@@ -164,6 +168,7 @@ impl<M: EvictionManager, P: PutPolicy> World<M, P> {
     pub fn step(&mut self, call: Call) -> Result<Reply>
         ensures ok { IfOk result (λ reply. Adds self.old call reply self.new) }
         ensures legal { HasLegal self.new }
+        ensures puts { AreTold P.says (reverse self.new.history) }
         ensures err { OnErr result (self.new ≡ self.old) }
         ensures kind { IfErr result (λ e. e ≡ OutOfMemory) }
     {

@@ -1,16 +1,19 @@
 //! What decides which pushed responses a world stores.
-ghost use Rattle.std.specs.Prelude.{ℕ, IfErr, IfOk};
+ghost use Rattle.std.specs.Prelude.{◌≡◌, ℕ, None, IfErr, IfOk};
 ghost use Rattle.pcache_base.specs.declared.error.ErrorType.TheVariants.{OutOfMemory};
 ghost use Rattle.pcache_control.specs.declared.response.RespCacheable.{RespCacheable};
 ghost use Rattle.pcache_meta.specs.declared.header.ResponseHeader.{ResponseHeader};
+ghost use Rattle.pcache_put_ctx.specs.Policies.{SaysByDefault};
 
 use pcache_base::error::Result;
 use pcache_base::moment::Moment;
-use pcache_control::RespCacheable;
+use http::StatusCode;
+use pcache_control::{CacheMetaDefaults, RespCacheable};
 use pcache_meta::header::ResponseHeader;
-use pcache_put_ctx::policy::CachePut;
+use pcache_put_ctx::policy::{CachePut, default_cacheable};
 use std::alloc::Global;
 use std::marker::PhantomData;
+use std::time::Duration;
 
 /// Decides whether a response that is pushed into a world is stored. All puts of a world go by one
 /// policy, which its type names.
@@ -51,5 +54,23 @@ impl<P: PutPolicy> CachePut for ByType<P> {
         now: Moment,
     ) -> Result<RespCacheable> {
         P::cacheable(alloc, header, now)
+    }
+}
+
+/// The policy that goes by what a response says of itself alone: none is fresh by default, or served
+/// stale.
+pub struct BySelf;
+
+// No status has a default lifetime.
+fn no_default(_status: StatusCode) -> Option<Duration> {
+    None
+}
+
+impl PutPolicy for BySelf {
+    ghost says = { λ header now answer. SaysByDefault (0, 0) (λ status lifetime. lifetime ≡ None) header now answer };
+
+    fn cacheable(alloc: Global, header: ResponseHeader, now: Moment) -> Result<RespCacheable> {
+        let defaults = CacheMetaDefaults::new(no_default, 0, 0);
+        default_cacheable(alloc, header, &defaults, now)
     }
 }

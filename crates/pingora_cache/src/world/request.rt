@@ -35,18 +35,25 @@ impl Model for OpenRequest {
 
     ghost Value = { Held };
 
-    ghost view = { λ a. record { request = a.cache; pair = option_map (λ p. (p.0, reader_of p.1)) a.pair; carried = a.carried } };
+    ghost view = { λ a. record { request = a.cache; pair = option_map (λ p. (p.0, reader_of p.1)) a.pair; carried = a.carried; put = None } };
 }
 
 impl OpenRequest {
     pub(crate) fn new(cache: HttpCache<MemCache>) -> OpenRequest
-        ensures { result ≡ record { request = cache; pair = None; carried = None } }
+        ensures { result ≡ record { request = cache; pair = None; carried = None; put = None } }
     {
         OpenRequest {
             cache,
             pair: None,
             carried: None,
         }
+    }
+
+    /// This is no put. It does nothing.
+    pub(crate) fn is_plain(&self)
+        ensures { self.now.put ≡ None }
+    {
+        let _ = &self.carried;
     }
 
     /// Gives back all that is held, and answers the number of a permit that is let go.

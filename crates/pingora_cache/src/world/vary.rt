@@ -133,7 +133,7 @@ fn renew(
     ensures answers { Renews (facts_in store.old lock.old cache.old) meta cache.old result events.new.items }
     ensures other { IsOther result }
     ensures request { cache.new ≡ renewed meta cache.old }
-    ensures moves { (p : Option (Meta × Reader)) (d : Option Decision) → MovesStore (Some (record { request = cache.old; pair = p; carried = d })) store.old events.new.items (Some (record { request = cache.new; pair = p; carried = d })) store.new }
+    ensures moves { (p : Option (Meta × Reader)) (d : Option Decision) → MovesStore (Some (record { request = cache.old; pair = p; carried = d; put = None })) store.old events.new.items (Some (record { request = cache.new; pair = p; carried = d; put = None })) store.new }
     ensures locks { (r : ℕ) → MovesLocks r (deeds_by r 0 Done events.new.items) cache.old.held lock.old cache.new.held lock.new }
 {
     let Some(key) = cache.key() else {

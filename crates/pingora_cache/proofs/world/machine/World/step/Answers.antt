@@ -1,24 +1,32 @@
 use Rattle.std.proofs.Common.{rules, ◌++◌, ◌∷◌, [], ◌∙◌, ap}
 use Rattle.pingora_cache.specs.Log.{Log}
-use Rattle.pingora_cache.proofs.Worlds.{not-both, same-age, sound-same, sound-step, started-once}
+use Rattle.pingora_cache.proofs.PutSound.{has-some, puts-same, puts-step}
+use Rattle.pingora_cache.proofs.Worlds.{not-both, row-of, same-age, sound-same, sound-step, started-once}
 use Rattle.pingora_cache.proofs.world.machine.World.step.Goals as goal
 
 pub invariant_of-self : goal.invariant_of-self
 invariant_of-self g c = (
   sound-same _ _ _ _ _ _ _ c.self.inside.history.items _ c.self.invariant.0 c.make_ready.ensures.same_start c.make_ready.ensures.same_history,
   λ none. c.make_ready.ensures.same_history ∙ c.self.invariant.1 (c.make_ready.ensures.kept none),
+  puts-same _ _ c.self.inside.history.items _ c.self.invariant.2 c.make_ready.ensures.same_history,
 )
 
 pub invariant_of-self-2 : goal.invariant_of-self-2
 invariant_of-self-2 g c = (
-  sound-step _ _ _ _ _ _ _ _ _ _ _ _ c.self.inside.history.items _ c.args.call _ _ _ c.self.invariant.0 (search rules) c.apply-reply.ensures.turn c.apply-reply.ensures.requests c.doubled-noted.ensures.copy c.apply-reply.ensures.limits
+  sound-step _ _ _ _ _ _ _ _ _ _ _ _ c.self.inside.history.items _ c.args.call _ _ _ c.self.invariant.0 (search rules) (λ world. c.apply-reply.ensures.turn world (has-some _ _ _ _ c.self.invariant.2)) c.apply-reply.ensures.requests c.doubled-noted.ensures.copy c.apply-reply.ensures.limits
       (started-once (λ v. v.items) _ _ _ c.in_ok-make_ready.ensures.known ∙ c.make_ready.ensures.same_start)
       (c.note.ensures ∙ ap (λ xs. xs ++ record { call = c.args.call; reply = c.doubled-noted.result.0; events = c.apply-reply.new.events.items } ∷ []) c.make_ready.ensures.same_history),
   λ none. not-both _ none c.in_ok-make_ready.ensures.known,
+  puts-step _ _ _ c.self.inside.history.items _ c.args.call _ _ _ c.self.invariant.2 c.self.invariant.0.requests c.apply-reply.ensures.puts
+      (row-of _ _ _ _ _ _ _ _ _ _ c.self.inside.history.items c.args.call _ _ c.self.invariant.0 (search rules) (λ world. c.apply-reply.ensures.turn world (has-some _ _ _ _ c.self.invariant.2)))
+      c.apply-reply.ensures.requests c.doubled-noted.ensures.copy (c.note.ensures ∙ ap (λ xs. xs ++ record { call = c.args.call; reply = c.doubled-noted.result.0; events = c.apply-reply.new.events.items } ∷ []) c.make_ready.ensures.same_history),
 )
 
 pub returns-clause-legal : goal.returns-clause-legal
 returns-clause-legal g c = (invariant_of-self-2 g c).0.legal
+
+pub returns-clause-puts : goal.returns-clause-puts
+returns-clause-puts g c = (invariant_of-self-2 g c).2.told
 
 pub returns-clause-ok : goal.returns-clause-ok
 returns-clause-ok g c = record {
@@ -26,5 +34,5 @@ returns-clause-ok g c = record {
   history = search rules;
   start = search rules;
   limits = search rules;
-  age = same-age _ _ _ _ _ _ _ _ _ _ c.self.inside.history.items c.args.call _ _ c.self.invariant.0 (search rules) c.apply-reply.ensures.turn ∙ ap (λ (l : Log). l.age) c.self.view_is;
+  age = same-age _ _ _ _ _ _ _ _ _ _ c.self.inside.history.items c.args.call _ _ c.self.invariant.0 (search rules) (λ world. c.apply-reply.ensures.turn world (has-some _ _ _ _ c.self.invariant.2)) ∙ ap (λ (l : Log). l.age) c.self.view_is;
 }
