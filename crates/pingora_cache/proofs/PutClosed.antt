@@ -14,13 +14,13 @@ use Rattle.pcache_lock.specs.Locks.{Locks, no_locks}
 use Rattle.pcache_lock.specs.declared.lock.status.LockStatus.{LockStatus}
 use Rattle.pcache_put.specs.Progress.{Parsed, HasFailed}
 use Rattle.pcache_put.specs.Tracked.{Tracked as Counted}
-use Rattle.pcache_put_ctx.specs.Puts.{Piece, Says, Outcome as Comes}
-use Rattle.pcache_put_ctx.specs.State.{Stage, InHead, InBody, HasDeclined, IsOver, Filled, TakenBy, write_in}
-use Rattle.pcache_put_ctx.specs.Steps.{EndsEarly, EndsPut, TellsResult, entry_told, write_end}
+use Rattle.pcache_put_ctx.specs.Puts.{Piece, Says, Outcome as Comes, IsResult}
+use Rattle.pcache_put_ctx.specs.State.{Stage, InHead, InBody, HasDeclined, IsOver, Filled, TakenBy, limit_of, write_in}
+use Rattle.pcache_put_ctx.specs.Steps.{EndsEarly, EndsPut, TellsResult, entry_told, stage_ended, write_end}
 use Rattle.pcache_put_ctx.specs.declared.report.PutEnd.{PutEnd}
 use Rattle.pcache_put_ctx.specs.declared.report.PutEnd.TheVariants as end
 use Rattle.pcache_request.specs.Finishing.{Stores, Drops, Withdraws, after_finish}
-use Rattle.pcache_request.specs.Requests.{Request, entry_of, settled}
+use Rattle.pcache_request.specs.Requests.{Request, dropped_by, entry_of}
 use Rattle.pcache_request.specs.WriteEnds.{EndsBody, EndsWrite as EndsIn, HoldsNoLock}
 use Rattle.pcache_request.specs.declared.cache.finish.WriteEnd.{WriteEnd}
 use Rattle.pcache_request.specs.declared.cache.finish.WriteEnd.TheVariants as writes
@@ -263,6 +263,37 @@ module _ (p : Taking) (s u : Store) (limits : Limits) (m m' : Tracked) (how : Pu
 
   pub tells-end : (comes : Comes → Type 0) (f : Option Filled) → TellsResult comes f how → Tells comes f (end_reply how)
   tells-end comes f tells = tells-as comes f how (withdrawn-why p.stage ends) tells
+
+-- the store once the put itself ended: no write was left
+ended-still : (how : PutEnd) (stage : Stage) (s u : Store) → stage ≡ stage_ended how → u ≡ dropped_by (write_in stage) s → u ≡ s
+ended-still how stage s u is to = to ∙ ap (λ z. dropped_by (write_in z) s) is ∙ by how
+  where
+    by : (how : PutEnd) → dropped_by (write_in (stage_ended how)) s ≡ s
+    by (end.NotCached reason) = refl
+    by (end.Refused e) = refl
+    by (end.Dropped e) = refl
+    by (end.Stored f) = refl
+    by (end.Withdrawn e) = refl
+
+module _ (p : Taking) (s u : Store) (limits : Limits) (m m' : Tracked) (how : PutEnd) (entry : Option CacheEntryKey) (told : entry ≡ entry_told p.key p.stage how) (ends : EndsPut true p.key p.parser (created s) limits p.stage how s u m m') where
+  pub written-answers-as : (says : Says) (pieces : List Piece) (f : Option Filled) (taken : TakenBy says p.size p.parser p.stage pieces f) (t : Locks) (w j : ℕ) (reply : Reply) (events : List Event) → write_in p.stage ≡ Some w → j ≡ slot p.key → reply ≡ end_reply how → events ≡ end_noted w j how entry → Closes (facts_in s t (held_put p).request) (Some p) reply events
+  written-answers-as says pieces f taken t w j reply events has at is noted =
+      subst (λ z. Closes (facts_in s t (held_put p).request) (Some p) z events) (sym is) (written-answers p s u limits m m' how entry told ends says p.size pieces f taken t w events has (noted ∙ ap (λ k. end_noted w k how entry) at))
+
+  pub written-moves-as : (says : Says) (pieces : List Piece) (f : Option Filled) (taken : TakenBy says p.size p.parser p.stage pieces f) (v : Store) (stage : Stage) (w j : ℕ) (events : List Event) → IsOfWorld (held_put p).request → write_in p.stage ≡ Some w → j ≡ slot p.key → events ≡ end_noted w j how entry → stage ≡ stage_ended how → v ≡ dropped_by (write_in stage) u
+      → Moves limits (Some (held_put p)) s m events None v m'
+  written-moves-as says pieces f taken v stage w j events world has at noted stands to =
+      subst (λ (z : Store). Moves limits (Some (held_put p)) s m events None z m') (sym (ended-still how stage u v stands to)) (written-moves p s u limits m m' how entry told ends says p.size pieces f taken w events world has (noted ∙ ap (λ k. end_noted w k how entry) at))
+
+  pub unwritten-answers-as : (f : Facts) (reply : Reply) (events : List Event) → events ≡ [] → write_in p.stage ≡ None → reply ≡ end_reply how → Closes f (Some p) reply events
+  unwritten-answers-as f reply events none at is = subst (λ z. Closes f (Some p) z events) (sym is) (unwritten-answers p s u limits m m' how entry told ends f events none at)
+
+  pub unwritten-moves-as : (v : Store) (stage : Stage) (events : List Event) → events ≡ [] → write_in p.stage ≡ None → stage ≡ stage_ended how → v ≡ dropped_by (write_in stage) u → Moves limits (Some (held_put p)) s m events None v m'
+  unwritten-moves-as v stage events none at stands to =
+      subst (λ (z : Store). Moves limits (Some (held_put p)) s m events None z m') (sym (ended-still how stage u v stands to)) (unwritten-moves p s u limits m m' how entry told ends events none at)
+
+  pub tells-as-answered : (says : Says) (pieces : List Piece) (f : Option Filled) (reply : Reply) → reply ≡ end_reply how → TellsResult (IsResult says (limit_of p.size) pieces) f how → Tells (IsResult says (limit_of p.size) pieces) f reply
+  tells-as-answered says pieces f reply is tells = subst (Tells (IsResult says (limit_of p.size) pieces) f) (sym is) (tells-end p s u limits m m' how entry told ends (IsResult says (limit_of p.size) pieces) f tells)
 
 -- ---- no lock is spoken of
 

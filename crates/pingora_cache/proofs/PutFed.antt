@@ -221,30 +221,12 @@ refused-puts says p p' bytes t began b e kind events taken stands = record {
 
 -- ---- what is answered
 
-module _ {M : Type 0} (s : Store) (t : Locks) where
+module _ (s : Store) (t : Locks) where
   abbrev pub facts : Key → Stage → Facts
   facts k stage = facts_in s t (held_put (record { key = k; size = None; parser = AtHead []; stage = stage })).request
 
   abbrev pub AtStage : Key → Stage → Reply → List Event → Type 0
   AtStage k stage reply events = FeedsAt (facts k stage) (slot k) stage reply events
-
-  pub not-over : (stage : Stage) (end : PieceEnd M) → AnswersAgain stage end → end ≡ piece.GoesOn → (kind : ErrorType) → stage ≡ IsOver kind → ⊥
-  not-over stage end again on kind is = let g : piece.GoesOn ≡ piece.Refused kind None = sym on ∙ subst (λ (z : Stage). AnswersAgain z end) is again in cc
-
-  pub goes-answers : (k : Key) (stage : Stage) (end : PieceEnd M) (began : Option Meta) (b : Option Written) (events : List Event) → AnswersAgain stage end → end ≡ piece.GoesOn → BeginsAtHead stage began → events ≡ piece_noted (slot k) (write_in (stage_begun stage began s.next None)) began b → AtStage k stage R.Done events
-  goes-answers k InHead end began b events again on begins is = (began, b, inl (refl, is))
-  goes-answers k (InBody w id until) end None b events again on begins is = (b, inl (refl, is))
-  goes-answers k (InBody w id until) end (Some m) b events again on begins is = none-some m begins
-  goes-answers k (HasDeclined reason) end began b events again on begins is = absurd (let g : piece.GoesOn ≡ piece.NotCached reason = sym on ∙ again in cc)
-  goes-answers k (IsOver kind) end began b events again on begins is = absurd (let g : piece.GoesOn ≡ piece.Refused kind None = sym on ∙ again in cc)
-
-  pub declined-answers : (k : Key) (stage : Stage) (end : PieceEnd M) (began : Option Meta) (b : Option Written) (reason : NoCacheReason) (events : List Event) → AnswersAgain stage end → end ≡ piece.NotCached reason → BeginsAtHead stage began → write_in (stage_begun stage began s.next None) ≡ None → events ≡ []
-      → AtStage k stage (R.NotCached reason) events
-  declined-answers k InHead end began b reason events again on begins none is = (began, b, inr (inl (reason, none, (refl, is))))
-  declined-answers k (InBody w id until) end None b reason events again on begins none is = none-some w none
-  declined-answers k (InBody w id until) end (Some m) b reason events again on begins none is = none-some m begins
-  declined-answers k (HasDeclined why) end began b reason events again on begins none is = let g : ◌≡◌ {A = PieceEnd M} (piece.NotCached reason) (piece.NotCached why) = sym on ∙ again in let same : reason ≡ why = cc in (ap R.NotCached same, is)
-  declined-answers k (IsOver kind) end began b reason events again on begins none is = absurd (let g : ◌≡◌ {A = PieceEnd M} (piece.NotCached reason) (piece.Refused kind None) = sym on ∙ again in cc)
 
   head-refusal : (f : Facts) (e : ErrorType) → f.next ≡ s.next → MayRefusePiece InHead s e → IsFeedRefusal f InHead e
   head-refusal f error.OutOfMemory is may = tt
@@ -261,28 +243,47 @@ module _ {M : Type 0} (s : Store) (t : Locks) where
   body-refusal f w id until e is may = absurd may
 
   -- a parser that has failed takes in nothing more
-  not-failed : (says : Says) (size : Option Counted) (parser : Parsed) (stage : Stage) (pieces : List Piece) (f : Option Filled) (e : ErrorType) → TakenBy says size parser stage pieces f → ((kind : ErrorType) → stage ≡ IsOver kind → ⊥) → ((reason : NoCacheReason) → stage ≡ HasDeclined reason → ⊥) → parser ≡ HasFailed e → ⊥
+  pub not-failed : (says : Says) (size : Option Counted) (parser : Parsed) (stage : Stage) (pieces : List Piece) (f : Option Filled) (e : ErrorType) → TakenBy says size parser stage pieces f → ((kind : ErrorType) → stage ≡ IsOver kind → ⊥) → ((reason : NoCacheReason) → stage ≡ HasDeclined reason → ⊥) → parser ≡ HasFailed e → ⊥
   not-failed says size parser InHead pieces f e taken on off is = let g : ◌≡◌ {A = Parsed} (HasFailed e) (AtHead (joined pieces)) = sym is ∙ taken.0.stands in cc
   not-failed says size parser (InBody w id until) pieces None e taken on off is = taken
   not-failed says size parser (InBody w id until) pieces (Some f) e taken on off is = let r = taken.0 in let g : ◌≡◌ {A = Parsed} (HasFailed e) (AtBody (left_behind r.r.size (length r.r.behind))) = sym is ∙ r.stands in cc
   not-failed says size parser (HasDeclined reason) pieces f e taken on off is = off reason refl
   not-failed says size parser (IsOver kind) pieces f e taken on off is = on kind refl
 
+module _ {M : Type 0} (s : Store) (t : Locks) where
+  pub not-over : (stage : Stage) (end : PieceEnd M) → AnswersAgain stage end → end ≡ piece.GoesOn → (kind : ErrorType) → stage ≡ IsOver kind → ⊥
+  not-over stage end again on kind is = let g : piece.GoesOn ≡ piece.Refused kind None = sym on ∙ subst (λ (z : Stage). AnswersAgain z end) is again in cc
+
+  pub goes-answers : (k : Key) (stage : Stage) (end : PieceEnd M) (began : Option Meta) (b : Option Written) (events : List Event) → AnswersAgain stage end → end ≡ piece.GoesOn → BeginsAtHead stage began → events ≡ piece_noted (slot k) (write_in (stage_begun stage began s.next None)) began b → AtStage s t k stage R.Done events
+  goes-answers k InHead end began b events again on begins is = (began, b, inl (refl, is))
+  goes-answers k (InBody w id until) end None b events again on begins is = (b, inl (refl, is))
+  goes-answers k (InBody w id until) end (Some m) b events again on begins is = none-some m begins
+  goes-answers k (HasDeclined reason) end began b events again on begins is = absurd (let g : piece.GoesOn ≡ piece.NotCached reason = sym on ∙ again in cc)
+  goes-answers k (IsOver kind) end began b events again on begins is = absurd (let g : piece.GoesOn ≡ piece.Refused kind None = sym on ∙ again in cc)
+
+  pub declined-answers : (k : Key) (stage : Stage) (end : PieceEnd M) (began : Option Meta) (b : Option Written) (reason : NoCacheReason) (events : List Event) → AnswersAgain stage end → end ≡ piece.NotCached reason → BeginsAtHead stage began → write_in (stage_begun stage began s.next None) ≡ None → events ≡ []
+      → AtStage s t k stage (R.NotCached reason) events
+  declined-answers k InHead end began b reason events again on begins none is = (began, b, inr (inl (reason, none, (refl, is))))
+  declined-answers k (InBody w id until) end None b reason events again on begins none is = none-some w none
+  declined-answers k (InBody w id until) end (Some m) b reason events again on begins none is = none-some m begins
+  declined-answers k (HasDeclined why) end began b reason events again on begins none is = let g : ◌≡◌ {A = PieceEnd M} (piece.NotCached reason) (piece.NotCached why) = sym on ∙ again in let same : reason ≡ why = cc in (ap R.NotCached same, is)
+  declined-answers k (IsOver kind) end began b reason events again on begins none is = absurd (let g : ◌≡◌ {A = PieceEnd M} (piece.NotCached reason) (piece.Refused kind None) = sym on ∙ again in cc)
+
   pub refused-answers : (says : Says) (size : Option Counted) (parser : Parsed) (pieces : List Piece) (f : Option Filled) (k : Key) (stage : Stage) (end : PieceEnd M) (began : Option Meta) (b : Option Written) (e kind : ErrorType) (writer : Option M) (w : Option ℕ) (events : List Event)
       → TakenBy says size parser stage pieces f → AnswersAgain stage end → end ≡ piece.Refused e writer → kind ≡ e → BeginsAtHead stage began → MayRefusePiece stage s e ⊎ (parser ≡ HasFailed e) → w ≡ write_in (stage_begun stage began s.next None) → events ≡ piece_noted (slot k) w began b ++ drop_of w
-      → AtStage k stage (R.Refused kind) events
+      → AtStage s t k stage (R.Refused kind) events
   refused-answers says size parser pieces f k InHead end began b e kind writer w events taken again on same begins why has is =
-      let may : MayRefusePiece InHead s e = elim why [ inl may ↦ may | inr failed ↦ absurd (not-failed says size parser InHead pieces f e taken (λ z h. absurd (cc)) (λ z h. absurd (cc)) failed) ] in
-      (began, b, inr (inr (e, head-refusal (facts k InHead) e refl may, ap R.Refused same, is ∙ ap (λ o. piece_noted (slot k) o began b ++ drop_of o) has)))
+      let may : MayRefusePiece InHead s e = elim why [ inl may ↦ may | inr failed ↦ absurd (not-failed s t says size parser InHead pieces f e taken (λ z h. absurd (cc)) (λ z h. absurd (cc)) failed) ] in
+      (began, b, inr (inr (e, head-refusal s t (facts s t k InHead) e refl may, ap R.Refused same, is ∙ ap (λ o. piece_noted (slot k) o began b ++ drop_of o) has)))
   refused-answers says size parser pieces f k (InBody v id until) end None b e kind writer w events taken again on same begins why has is =
-      let may : MayRefusePiece (InBody v id until) s e = elim why [ inl may ↦ may | inr failed ↦ absurd (not-failed says size parser (InBody v id until) pieces f e taken (λ z h. absurd (cc)) (λ z h. absurd (cc)) failed) ] in
-      (b, inr (inr (e, body-refusal (facts k (InBody v id until)) v id until e refl may, ap R.Refused same, is ∙ ap (λ o. piece_noted (slot k) o None b ++ drop_of o) has)))
+      let may : MayRefusePiece (InBody v id until) s e = elim why [ inl may ↦ may | inr failed ↦ absurd (not-failed s t says size parser (InBody v id until) pieces f e taken (λ z h. absurd (cc)) (λ z h. absurd (cc)) failed) ] in
+      (b, inr (inr (e, body-refusal s t (facts s t k (InBody v id until)) v id until e refl may, ap R.Refused same, is ∙ ap (λ o. piece_noted (slot k) o None b ++ drop_of o) has)))
   refused-answers says size parser pieces f k (InBody v id until) end (Some m) b e kind writer w events taken again on same begins why has is = none-some m begins
   refused-answers says size parser pieces f k (HasDeclined reason) end began b e kind writer w events taken again on same begins why has is = absurd (let g : ◌≡◌ {A = PieceEnd M} (piece.Refused e writer) (piece.NotCached reason) = sym on ∙ again in cc)
   refused-answers says size parser pieces f k (IsOver over) end None b e kind writer w events taken again on same begins why has is =
       let g : ◌≡◌ {A = PieceEnd M} (piece.Refused e writer) (piece.Refused over None) = sym on ∙ again in
-      let as : e ≡ over = cc in
-      (ap R.Refused (same ∙ as), is ∙ ap (λ o. piece_noted (slot k) o None b ++ drop_of o) has)
+      let which : e ≡ over = cc in
+      (ap R.Refused (same ∙ which), is ∙ ap (λ o. piece_noted (slot k) o None b ++ drop_of o) has)
   refused-answers says size parser pieces f k (IsOver over) end (Some m) b e kind writer w events taken again on same begins why has is = none-some m begins
 
 -- ---- no lock is spoken of
@@ -310,3 +311,27 @@ quiet-piece k w m b old events none is = subst AreOfNoLock (sym (is ∙ ap (λ e
 
 pub quiet-refused-piece : (k : ℕ) (w : Option ℕ) (m : Option Meta) (b : Option Written) (old mid events : List Event) → old ≡ [] → mid ≡ old ++ piece_noted k w m b → events ≡ mid ++ drop_of w → AreOfNoLock events
 quiet-refused-piece k w m b old mid events none one is = subst AreOfNoLock (sym is) (quiet-both mid (drop_of w) (quiet-piece k w m b old mid none one) (quiet-dropped w))
+
+-- ---- how a piece ended, as it is known
+
+pub ends-on : {M : Type 0} (write : M → ℕ) (end : PieceEnd M) (before after : Stage) → end ≡ piece.GoesOn → EndsPiece write end before after → after ≡ before
+ends-on write end before after is ends = subst (λ z. EndsPiece write z before after) is ends
+
+pub ends-declined : {M : Type 0} (write : M → ℕ) (end : PieceEnd M) (reason : NoCacheReason) (before after : Stage) → end ≡ piece.NotCached reason → EndsPiece write end before after → (after ≡ HasDeclined reason) × (write_in before ≡ None)
+ends-declined write end reason before after is ends = subst (λ z. EndsPiece write z before after) is ends
+
+pub ends-refused : {M : Type 0} (write : M → ℕ) (end : PieceEnd M) (e : ErrorType) (writer : Option M) (before after : Stage) → end ≡ piece.Refused e writer → EndsPiece write end before after → (after ≡ IsOver e) × (option_map write writer ≡ write_in before)
+ends-refused write end e writer before after is ends = subst (λ z. EndsPiece write z before after) is ends
+
+pub noted-drop : (w v : Option ℕ) (mid events : List Event) → w ≡ v → events ≡ mid ++ drop_of v → events ≡ mid ++ drop_of w
+noted-drop w v mid events same is = is ∙ ap (λ o. mid ++ drop_of o) (sym same)
+
+pub left-drop : (w v : Option ℕ) (s u : Store) → w ≡ v → u ≡ dropped_by v s → u ≡ dropped_by w s
+left-drop w v s u same is = is ∙ ap (λ o. dropped_by o s) (sym same)
+
+pub refused-answers-of : {M : Type 0} (s : Store) (t : Locks) (says : Says) (p : Taking) (pieces : List Piece) (f : Option Filled) (end : PieceEnd M) (began : Option Meta) (b : Option Written) (e kind : ErrorType) (writer : Option M) (w : Option ℕ) (j : ℕ) (old mid events : List Event)
+    → TakenBy says p.size p.parser p.stage pieces f → AnswersAgain p.stage end → end ≡ piece.Refused e writer → kind ≡ e → BeginsAtHead p.stage began → IfRefused end (λ z. MayRefusePiece p.stage s z ⊎ (p.parser ≡ HasFailed z)) → w ≡ write_in (stage_begun p.stage began s.next None) → j ≡ slot p.key
+    → old ≡ [] → mid ≡ old ++ piece_noted j w began b → events ≡ mid ++ drop_of w → Feeds (facts_in s t (held_put p).request) (Some p) (R.Refused kind) events
+refused-answers-of s t says p pieces f end began b e kind writer w j old mid events taken again on same begins why has at none one is =
+    refused-answers s t says p.size p.parser pieces f p.key p.stage end began b e kind writer w events taken again on same begins
+    (subst (λ z. IfRefused z (λ y. MayRefusePiece p.stage s y ⊎ (p.parser ≡ HasFailed y))) on why) has (is ∙ ap (λ es. es ++ drop_of w) (one ∙ (λ i. none i ++ piece_noted (at i) w began b)))

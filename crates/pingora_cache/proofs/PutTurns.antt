@@ -21,9 +21,9 @@ use Rattle.pingora_cache.specs.Held.{Held, Outcome, was_wrong, held_put, is_done
 use Rattle.pingora_cache.specs.LockMoves.{MovesLocks}
 use Rattle.pingora_cache.specs.Moved.{Moves, MovesRequest, MovesStore}
 use Rattle.pingora_cache.specs.PutHistory.{ClosesBy, HasSome, PutTurn, TakenIn, filled_after, pieces_on}
-use Rattle.pingora_cache.specs.Rules.{Answers, Closes, FindsKind, IsIdle, IsOfKind, IsOther, Replies, drop_of, let_go_of}
+use Rattle.pingora_cache.specs.Rules.{Answers, Closes, FindsKind, IsDone, IsIdle, IsOfKind, IsOther, Replies, drop_of, let_go_of}
 use Rattle.pingora_cache.specs.Step.{IsOfWorldIn, IsPutIn, IsRequestIn, IsRow, IsRowed, IsTurned, Turn}
-use Rattle.pingora_cache.specs.Taking.{new_put}
+use Rattle.pingora_cache.specs.Taking.{Taking, new_put}
 use Rattle.pingora_cache.specs.Waiting.{AreOfNoLock}
 use Rattle.pingora_cache.proofs.LockSteps.{no_locks_move, quiet-deeds}
 use Rattle.pingora_cache.proofs.TurnOf.{row-at}
@@ -224,3 +224,22 @@ close-turn-named limits call n all all' says s s' m m' t t' reply events is worl
     let w = subst (λ (c : Call). IsOfWorldIn (lookup (is_at (nat_cmp (number_of c))) all)) is world in
     let h = subst (λ (c : Call). HasSome says (lookup (is_at (nat_cmp (number_of c))) all)) is some in
     close-turn limits call n all all' s s' m m' t t' reply events is (replies h) (moves w h) keeps rowed quiet held locks
+
+-- a number that is not free, and one that is
+by-put : (P : Type 0) (o : Option Taking) → (o ≡ None → P) → ((o ≡ None → ⊥) → P) → P
+by-put P None a b = a refl
+by-put P (Some p) a b = b (λ is. cc)
+
+pub taken-open : (n : ℕ) (q : Option Held) (reply : Reply) (events : List Event) → (q ≡ None → ⊥) → IsIdle R.WrongCall reply events → Replies no_facts (C.Open n) q reply events
+taken-open n None reply events there idle = absurd (there refl)
+taken-open n (Some x) reply events there idle = by-put (Replies no_facts (C.Open n) (Some x) reply events) x.put (λ plain. inl (plain, inr (λ m. m, idle))) (λ put. inr (put, idle))
+
+pub taken-put : (n : ℕ) (k : Key) (limit : Option ℕ) (q : Option Held) (reply : Reply) (events : List Event) → (q ≡ None → ⊥) → IsIdle R.WrongCall reply events → Replies no_facts (C.Put n k limit) q reply events
+taken-put n k limit None reply events there idle = absurd (there refl)
+taken-put n k limit (Some x) reply events there idle = by-put (Replies no_facts (C.Put n k limit) (Some x) reply events) x.put (λ plain. inl (plain, inr (λ m. m, idle))) (λ put. inr (put, idle))
+
+pub free-open : (n : ℕ) (q : Option Held) (reply : Reply) (events : List Event) → q ≡ None → IsOther reply → IsDone reply events → Replies no_facts (C.Open n) q reply events
+free-open n q reply events free other done = subst (λ (p : Option Held). Replies no_facts (C.Open n) p reply events) (sym free) (inl (tt, inl (tt, other, done)))
+
+pub free-put : (n : ℕ) (k : Key) (limit : Option ℕ) (q : Option Held) (reply : Reply) (events : List Event) → q ≡ None → IsOther reply → IsDone reply events → Replies no_facts (C.Put n k limit) q reply events
+free-put n k limit q reply events free other done = subst (λ (p : Option Held). Replies no_facts (C.Put n k limit) p reply events) (sym free) (inl (tt, inl (tt, other, done)))

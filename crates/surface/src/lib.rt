@@ -141,5 +141,6 @@ pub mod world {
         finds_exactly, finishes_exactly, hands_on_exactly, hits_read_the_last, is_wrong_exactly,
         looks_are_true, reads_a_beginning, reads_are_true, stored_is_within_limits,
     };
+    pub use pingora_cache::world::policy::{BySelf, PutPolicy};
     pub use pingora_cache::world::{Totals, World};
 }

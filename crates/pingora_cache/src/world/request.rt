@@ -29,7 +29,7 @@ pub struct OpenRequest {
 }
 
 impl Model for OpenRequest {
-    ghost use Rattle.std.specs.Prelude.{option_map};
+    ghost use Rattle.std.specs.Prelude.{None, option_map};
     ghost use Rattle.pcache_store.specs.Readers.{reader_of};
     ghost use Rattle.pingora_cache.specs.Held.{Held};
 
