@@ -80,10 +80,10 @@ module _ (p : Taking) (s u : Store) (limits : Limits) (m m' : Tracked) (w : ℕ)
   abbrev y : Request
   y = after_finish x
 
-  abbrev no : Locks
-  no = no_locks 0
+  abbrev nowhere : Locks
+  nowhere = no_locks 0
 
-  lets : (how : WriteEnd) → EndsBody true true id HoldsNoLock p.key w (created s w) limits how s u m m' → EndsIn true x p.key w (created s w) limits how s u m m' no no
+  lets : (how : WriteEnd) → EndsBody true true id HoldsNoLock p.key w (created s w) limits how s u m m' → EndsIn true x p.key w (created s w) limits how s u m m' nowhere nowhere
   lets writes.Nothing h = h
   lets (writes.Stored f) h = record { untouched = h.untouched; size_is = h.size_is; admitted = h.admitted; purges = h.purges; sure = h.sure; released = refl }
   lets (writes.Dropped e) h = record { why = h.why; dropped = h.dropped; tracked = h.tracked; released = refl }
@@ -112,13 +112,13 @@ module _ (p : Taking) (s u : Store) (limits : Limits) (m m' : Tracked) (w : ℕ)
   body-moves (end.NotCached reason) entry events world told h is = absurd h
   body-moves (end.Refused e) entry events world told h is = absurd h
   body-moves (end.Stored f) entry events world told h is =
-      of-put events (finish-stored None x y None s u p.key w limits m m' no no None [] refl refl refl refl
+      of-put events (finish-stored None x y None s u p.key w limits m m' nowhere nowhere None [] refl refl refl refl
       (writes.Stored f) f (entry_of p.key None) (E.Finish w true ∷ []) events refl world refl (lets (writes.Stored f) h) refl (is ∙ noted-entry f entry told))
   body-moves (end.Withdrawn e) entry events world told h is =
-      of-put events (finish-withdrawn None x y None s u p.key w limits m m' no no None [] refl refl refl refl
+      of-put events (finish-withdrawn None x y None s u p.key w limits m m' nowhere nowhere None [] refl refl refl refl
       (writes.Withdrawn e) e (slot p.key) (E.Finish w true ∷ []) events refl refl (lets (writes.Withdrawn e) h) refl is)
   body-moves (end.Dropped e) entry events world told h is =
-      of-put events (finish-dropped None x y None s u p.key w limits m m' no no None [] refl refl refl refl
+      of-put events (finish-dropped None x y None s u p.key w limits m m' nowhere nowhere None [] refl refl refl refl
       (writes.Dropped e) e e (refused_end w e) events refl refl refl (lets (writes.Dropped e) h) is)
 
   -- the response ended too early

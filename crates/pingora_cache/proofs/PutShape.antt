@@ -90,37 +90,37 @@ IsNoPush change = Unit {0}
 
 -- unless a put comes to be
 plain-kept : (change : Change) (o : Outcome) (events : List Event) (q : Option Held) → HasPut None q → IsNoPush change → HasPut None (changed change o events q)
-plain-kept opens o events q h no = one-of (HasPut None) (is_done o) _ q refl h
-plain-kept closes o events q h no = one-of (HasPut None) (is_done o) None q tt h
-plain-kept stays o events q h no = h
-plain-kept (turns f leaves_pair) o events None h no = one-of (HasPut None) (is_done o) None None tt tt
-plain-kept (turns f leaves_pair) o events (Some x) h no = one-of (HasPut None) (is_done o) _ (Some x) h h
-plain-kept (turns_by f) o events None h no = one-of (HasPut None) (is_done o) None None tt tt
-plain-kept (turns_by f) o events (Some x) h no = one-of (HasPut None) (is_done o) _ (Some x) h h
-plain-kept (shuts f) o events None h no = one-of (HasPut None) (is_done o) None None tt tt
-plain-kept (shuts f) o events (Some x) h no = one-of (HasPut None) (is_done o) _ (Some x) h h
-plain-kept (looks d) o events None h no = one-of (HasPut None) (is_wrong o) None None tt tt
-plain-kept (looks d) o events (Some x) h no = one-of (HasPut None) (is_wrong o) (Some x) (Some (looked_by events (carrying d x))) h (looked-put events (carrying d x) ∙ h)
-plain-kept (takes s) o events None h no = one-of (HasPut None) (is_taken o) None _ tt (one-of (HasPut None) (is_wrong o) None None tt tt)
-plain-kept (takes s) o events (Some x) h no = one-of (HasPut None) (is_taken o) _ _ h (one-of (HasPut None) (is_wrong o) (Some x) _ h h)
-plain-kept begins o events None h no = tt
-plain-kept begins o events (Some x) h no = h
-plain-kept ends o events None h no = tt
-plain-kept ends o events (Some x) h no = h
-plain-kept reads_on o events None h no = tt
-plain-kept reads_on o events (Some x) h no = h
-plain-kept (seeks start end) o events None h no = one-of (HasPut None) (is_done o) None None tt tt
-plain-kept (seeks start end) o events (Some x) h no = one-of (HasPut None) (is_done o) _ (Some x) h h
-plain-kept reads_no_more o events None h no = one-of (HasPut None) (is_wrong o) None None tt tt
-plain-kept reads_no_more o events (Some x) h no = one-of (HasPut None) (is_wrong o) (Some x) _ h h
-plain-kept (renews m) o events None h no = one-of (HasPut None) (is_wrong o) None None tt tt
-plain-kept (renews m) o events (Some x) h no = one-of (HasPut None) (is_wrong o) (Some x) _ h h
-plain-kept (waits now) o events None h no = tt
-plain-kept (waits now) o events (Some x) h no = h
-plain-kept (pushes k limit) o events q h no = absurd no
-plain-kept feeds o events None h no = tt
-plain-kept feeds o events (Some x) h no = elim (is_wrong o) as (λ b. (cond b x (fed_in o events x x.put)).put ≡ None) [ true ↦ h | false ↦ fed-put o events x x.put h h ]
-plain-kept goes o events q h no = one-of (HasPut None) (is_wrong o) q None h tt
+plain-kept opens o events q h p = one-of (HasPut None) (is_done o) _ q refl h
+plain-kept closes o events q h p = one-of (HasPut None) (is_done o) None q tt h
+plain-kept stays o events q h p = h
+plain-kept (turns f leaves_pair) o events None h p = one-of (HasPut None) (is_done o) None None tt tt
+plain-kept (turns f leaves_pair) o events (Some x) h p = one-of (HasPut None) (is_done o) _ (Some x) h h
+plain-kept (turns_by f) o events None h p = one-of (HasPut None) (is_done o) None None tt tt
+plain-kept (turns_by f) o events (Some x) h p = one-of (HasPut None) (is_done o) _ (Some x) h h
+plain-kept (shuts f) o events None h p = one-of (HasPut None) (is_done o) None None tt tt
+plain-kept (shuts f) o events (Some x) h p = one-of (HasPut None) (is_done o) _ (Some x) h h
+plain-kept (looks d) o events None h p = one-of (HasPut None) (is_wrong o) None None tt tt
+plain-kept (looks d) o events (Some x) h p = one-of (HasPut None) (is_wrong o) (Some x) (Some (looked_by events (carrying d x))) h (looked-put events (carrying d x) ∙ h)
+plain-kept (takes s) o events None h p = one-of (HasPut None) (is_taken o) None _ tt (one-of (HasPut None) (is_wrong o) None None tt tt)
+plain-kept (takes s) o events (Some x) h p = one-of (HasPut None) (is_taken o) _ _ h (one-of (HasPut None) (is_wrong o) (Some x) _ h h)
+plain-kept begins o events None h p = tt
+plain-kept begins o events (Some x) h p = h
+plain-kept ends o events None h p = tt
+plain-kept ends o events (Some x) h p = h
+plain-kept reads_on o events None h p = tt
+plain-kept reads_on o events (Some x) h p = h
+plain-kept (seeks start end) o events None h p = one-of (HasPut None) (is_done o) None None tt tt
+plain-kept (seeks start end) o events (Some x) h p = one-of (HasPut None) (is_done o) _ (Some x) h h
+plain-kept reads_no_more o events None h p = one-of (HasPut None) (is_wrong o) None None tt tt
+plain-kept reads_no_more o events (Some x) h p = one-of (HasPut None) (is_wrong o) (Some x) _ h h
+plain-kept (renews m) o events None h p = one-of (HasPut None) (is_wrong o) None None tt tt
+plain-kept (renews m) o events (Some x) h p = one-of (HasPut None) (is_wrong o) (Some x) _ h h
+plain-kept (waits now) o events None h p = tt
+plain-kept (waits now) o events (Some x) h p = h
+plain-kept (pushes k limit) o events q h p = absurd p
+plain-kept feeds o events None h p = tt
+plain-kept feeds o events (Some x) h p = elim (is_wrong o) as (λ b. (cond b x (fed_in o events x x.put)).put ≡ None) [ true ↦ h | false ↦ fed-put o events x x.put h h ]
+plain-kept goes o events q h p = one-of (HasPut None) (is_wrong o) q None h tt
 
 -- what is no put is shaped
 shaped-plain : (q : Option Held) → HasPut None q → IsShaped q
@@ -143,7 +143,7 @@ shaped-change call o events (Some x) finds h = shaped-plain (changed (change_of 
 
 shaped-row : (f : Facts) (call : Call) (reply : Reply) (events : List Event) (q : Option Held) → Replies f call q reply events → IsShaped q → IsShaped (row call reply events q)
 shaped-row f call reply events q (inl (finds, a)) h = shaped-change call (outcome reply) events q finds h
-shaped-row f call reply events q (inr (no, idle)) h = subst IsShaped (sym (wrong-row call reply events q idle)) h
+shaped-row f call reply events q (inr (why, idle)) h = subst IsShaped (sym (wrong-row call reply events q idle)) h
 
 pub legal_shaped : (age : ℕ) (limits : Limits) (start : Tracked) (h : List Entry) → IsLegal age limits start h → (r : ℕ) → IsShaped (request_of r h)
 legal_shaped age limits start [] l r = tt

@@ -192,16 +192,16 @@ close-turn limits call n all all' s s' m m' t t' reply events is replies moves k
 
 -- what stands under a number that is taken out, and where nothing of the kind does
 pub none-dropped : (n : ℕ) (q : Option Held) (reply : Reply) (events : List Event) → (IsPutIn q → ⊥) → IsIdle R.WrongCall reply events → Replies no_facts (C.Drop n) q reply events
-none-dropped n None reply events no idle = inl (tt, inr (λ m. m, idle))
-none-dropped n (Some x) reply events no idle = inr (no, idle)
+none-dropped n None reply events why idle = inl (tt, inr (λ m. m, idle))
+none-dropped n (Some x) reply events why idle = inr (why, idle)
 
 pub none-closed : (f : Facts) (n : ℕ) (q : Option Held) (reply : Reply) (events : List Event) → (IsPutIn q → ⊥) → IsIdle R.WrongCall reply events → Replies f (C.Close n) q reply events
-none-closed f n None reply events no idle = inl (tt, inr (λ m. m, idle))
-none-closed f n (Some x) reply events no idle = inr (no, idle)
+none-closed f n None reply events why idle = inl (tt, inr (λ m. m, idle))
+none-closed f n (Some x) reply events why idle = inr (why, idle)
 
 pub none-ended : (n : ℕ) (q : Option Held) (reply : Reply) (events : List Event) → (IsRequestIn q → ⊥) → IsIdle R.WrongCall reply events → Replies no_facts (C.End n) q reply events
-none-ended n None reply events no idle = inl (tt, inr (λ m. m, idle))
-none-ended n (Some x) reply events no idle = inr (no, idle)
+none-ended n None reply events why idle = inl (tt, inr (λ m. m, idle))
+none-ended n (Some x) reply events why idle = inr (why, idle)
 
 pub right-dropped : (n : ℕ) (q : Option Held) (x : Held) (reply : Reply) (events : List Event) → q ≡ Some x → IsSome x.put → reply ≡ R.Done → events ≡ drop_of x.request.write → Replies no_facts (C.Drop n) q reply events
 right-dropped n q x reply events is put done noted = subst (λ (p : Option Held). Replies no_facts (C.Drop n) p reply events) (sym is) (inl (put, inl (tt, subst IsOther (sym done) tt, (done, noted))))

@@ -33,12 +33,12 @@ use Rattle.pingora_cache.specs.declared.world.entry.Entry.{Entry}
 use Rattle.pingora_cache.specs.declared.world.entry.Event.{Event}
 use Rattle.pingora_cache.specs.declared.world.entry.Event.TheVariants as E
 use Rattle.pingora_cache.specs.Events.{begin_of, in_flight, body_of, is_told}
-use Rattle.pingora_cache.specs.Held.{Held, Change, fed_in, held_put, opens, closes, stays, turns, turns_by, shuts, looks, takes, begins, ends, reads_on, seeks, reads_no_more, renews, waits, pushes, feeds, goes, change_of, changed, turned_by, shut_by, sought_in, with_sought, number_of, Outcome, outcome, was_wrong, was_done, was_taken, was_waited, was_other, waited_by, is_wrong, is_done, is_taken, opened, with_given, asked, pair_of, carrying, decides, looked_by, looked_with, placed_by, taken_by, without_pair, began, ended, read_past, has_read, on_request, row_by, row, request_of}
+use Rattle.pingora_cache.specs.Held.{Held, Change, fed_in, held_put, opens, closes, stays, turns, turns_by, shuts, looks, takes, begins, ends, reads_on, seeks, reads_no_more, renews, waits, pushes, feeds, goes, change_of, changed, turned_by, shut_by, sought_in, with_sought, number_of, Outcome, outcome, was_wrong, was_done, was_taken, was_waited, was_refused, was_declined, was_other, waited_by, is_wrong, is_done, is_taken, opened, with_given, asked, pair_of, carrying, decides, looked_by, looked_with, placed_by, taken_by, without_pair, began, ended, read_past, has_read, on_request, row_by, row, request_of}
 use Rattle.pingora_cache.specs.Taking.{Taking, new_put}
 use Rattle.pingora_cache.specs.History.{events_of, reads}
 use Rattle.pingora_cache.specs.Facts.{Facts, request_in}
 use Rattle.pingora_cache.specs.Legal.{IsLegal}
-use Rattle.pingora_cache.specs.Rules.{IsIdle, release_of, Begins, Reads, Answers}
+use Rattle.pingora_cache.specs.Rules.{IsIdle, release_of, Begins, Reads, Answers, Replies}
 use Rattle.pingora_cache.specs.ReadSoFar.{given_in, read_on, read_by, HasRead}
 use Rattle.pingora_cache.specs.Headline.{ReadsABeginning}
 use Rattle.pingora_cache.specs.Untold.{waited_on}
@@ -253,6 +253,8 @@ waited-reader was_wrong now x = refl
 waited-reader was_done now x = refl
 waited-reader was_taken now x = refl
 waited-reader was_other now x = refl
+waited-reader (was_declined reason) now x = refl
+waited-reader (was_refused kind) now x = refl
 waited-reader (was_waited a) now x = by x.held
   where
     by : (h : Option Locked) → (waited_on a now h x).reader ≡ x.reader
