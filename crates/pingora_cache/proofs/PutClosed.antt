@@ -1,7 +1,8 @@
 -- What the end of a put does, by what its context promises.
 use Rattle.std.proofs.Common.{◌≡◌, ℕ, ◌⊎◌, length, true, false, cond, is_some, Option, None, Some, IsSome, List, [], ◌∷◌, ◌++◌, refl, ap, sym, subst, ◌∙◌, inl, inr, option_map}
 use Rattle.std.specs.FinMap.{get}
-use Rattle.pcache_base.specs.Key.{Key, compact_of, slot}
+use Rattle.pcache_base.specs.CompactKey.{compact_of}
+use Rattle.pcache_base.specs.Key.{Key, slot}
 use Rattle.pcache_base.specs.declared.error.ErrorType.{ErrorType}
 use Rattle.pcache_base.specs.declared.error.ErrorType.TheVariants as error
 use Rattle.pcache_base.specs.declared.error.ErrorType.TheVariants.{OutOfMemory, IncompleteHttpBody}
@@ -187,7 +188,7 @@ module _ (p : Taking) (s u : Store) (limits : Limits) (m m' : Tracked) (how : Pu
 
   -- one that made a write
   written-as : (w : ℕ) (id : Option ℕ) (until : ℕ) → entry ≡ entry_told p.key (InBody w id until) how → EndsAt (InBody w id until) → IsWritten how entry
-  written-as w id until own (inl (e, why, is, rest)) = subst (λ z. IsWritten z entry) (sym is) tt
+  written-as w id until own (inl (e, why, is, to, same)) = subst (λ z. IsWritten z entry) (sym is) tt
   written-as w id until own (inr h) = by how own h
     where
       by : (how : PutEnd) → entry ≡ entry_told p.key (InBody w id until) how → EndsBody true true id HoldsNoLock p.key w (created s w) limits (write_end how) s u m m' → IsWritten how entry
@@ -251,7 +252,7 @@ module _ (p : Taking) (s u : Store) (limits : Limits) (m m' : Tracked) (how : Pu
   withdrawn-why InHead h e is = let no : ◌≡◌ {A = PutEnd} (end.Refused IncompleteHttpBody) (end.Withdrawn e) = sym h.0 ∙ is in absurd (cc)
   withdrawn-why (HasDeclined reason) h e is = let no : ◌≡◌ {A = PutEnd} (end.NotCached reason) (end.Withdrawn e) = sym h.0 ∙ is in absurd (cc)
   withdrawn-why (IsOver kind) h e is = let no : ◌≡◌ {A = PutEnd} (end.Refused kind) (end.Withdrawn e) = sym h.0 ∙ is in absurd (cc)
-  withdrawn-why (InBody w id until) (inl (d, why, so, rest)) e is = let no : ◌≡◌ {A = PutEnd} (end.Dropped d) (end.Withdrawn e) = sym so ∙ is in absurd (cc)
+  withdrawn-why (InBody w id until) (inl (d, why, so, to, same)) e is = let no : ◌≡◌ {A = PutEnd} (end.Dropped d) (end.Withdrawn e) = sym so ∙ is in absurd (cc)
   withdrawn-why (InBody w id until) (inr h) e is = (subst (λ z. EndsBody true true id HoldsNoLock p.key w (created s w) limits (write_end z) s u m m') is h).why
 
   tells-as : (comes : Comes → Type 0) (f : Option Filled) (z : PutEnd) → ((e : ErrorType) → z ≡ end.Withdrawn e → e ≡ OutOfMemory) → TellsResult comes f z → Tells comes f (end_reply z)
@@ -305,5 +306,14 @@ quiet-end w k how entry events is = subst AreOfNoLock (sym is) (by how entry)
     by (end.Refused e) entry = tt
     by (end.Dropped e) entry = (quiet-refused w e, tt)
     by (end.Stored f) None = (tt, tt)
-    by (end.Stored f) (Some e) = (tt, tt, tt)
-    by (end.Withdrawn e) entry = (tt, tt, tt)
+    by (end.Stored f) (Some e) = (tt, (tt, tt))
+    by (end.Withdrawn e) entry = (tt, (tt, tt))
+
+-- ---- a put that is dropped
+
+pub drop-moves : (x : Held) (p : Taking) (s u : Store) (w : ℕ) (old events : List Event) → held_put p ≡ x → write_in p.stage ≡ Some w → old ≡ [] → events ≡ old ++ E.Dropped w ∷ [] → u ≡ dropped_by (write_in p.stage) s → (limits : Limits) (m : Tracked) → Moves limits (Some x) s m events None u m
+drop-moves x p s u w old events held has none is to limits m =
+    subst (λ (y : Held). Moves limits (Some y) s m events None u m) held
+    (subst (λ es. Moves limits (Some (held_put p)) s m es None u m) (sym (is ∙ ap (λ es. es ++ E.Dropped w ∷ []) none))
+    (does limits (Some (held_put p)) (E.Dropped w) [] (at_call (Some (held_put p)) s m) (at_call None u m) has
+    (stop limits (Some (held_put p)) (after_event (E.Dropped w) (at_call (Some (held_put p)) s m)) (at_call None u m) (record { count = λ v. refl; write = refl; owed = refl; store = to ∙ ap (λ o. dropped_by o s) has; tracked = refl }))))

@@ -35,7 +35,7 @@ use Rattle.pingora_cache.specs.Taking.{Taking, counted_none, uncounted}
 use Rattle.pingora_cache.specs.Waiting.{AreOfNoLock}
 use Rattle.pingora_cache.proofs.MovesOf.{does, drops, stop}
 
-none-some : {A B : Type 0} (a : A) → ◌≡◌ {A = Option A} (Some a) None → B
+pub none-some : {A B : Type 0} (a : A) → ◌≡◌ {A = Option A} (Some a) None → B
 none-some a is = absurd (cc)
 
 append-nil : (xs : List Event) → xs ++ [] ≡ xs
