@@ -52,8 +52,14 @@ impl<P: PutPolicy> Open<P> {
         ensures { result ≡ is_some self.now.put }
     {
         match &self.kind {
-            Kind::Request(_) => false,
-            Kind::Put(_) => true,
+            Kind::Request(request) => {
+                request.is_plain();
+                false
+            }
+            Kind::Put(put) => {
+                put.is_held();
+                true
+            }
         }
     }
 
@@ -65,7 +71,10 @@ impl<P: PutPolicy> Open<P> {
         let Open { kind } = self;
         match kind {
             Kind::Request(request) => request,
-            Kind::Put(_put) => unreachable!(),
+            Kind::Put(put) => {
+                put.is_held();
+                unreachable!()
+            }
         }
     }
 
@@ -76,7 +85,10 @@ impl<P: PutPolicy> Open<P> {
     {
         let Open { kind } = self;
         match kind {
-            Kind::Request(_request) => unreachable!(),
+            Kind::Request(request) => {
+                request.is_plain();
+                unreachable!()
+            }
             Kind::Put(put) => put,
         }
     }

@@ -1,5 +1,5 @@
 //! Calls of puts: responses that are pushed in, in pieces.
-ghost use Rattle.std.specs.Prelude.{◌≡◌, ◌+◌, ◌≤◌, ◌++◌, [], Some, None, List, Option, option_map, vec_len};
+ghost use Rattle.std.specs.Prelude.{◌≡◌, ◌+◌, ◌≤◌, ◌++◌, [], Some, None, IsSome, List, Option, option_map, vec_len};
 ghost use Rattle.std.specs.Vec.{vec_capacity};
 ghost use Rattle.pcache_lock.specs.Locks.{Locks};
 ghost use Rattle.pcache_put_ctx.specs.Puts.{Piece};
@@ -63,7 +63,8 @@ impl<P: PutPolicy> OpenPut<P> {
 
     /// This is a put. It does nothing.
     pub(crate) fn is_held(&self)
-        ensures { IsHeldPut self.now }
+        ensures held { IsHeldPut self.now }
+        ensures some { IsSome self.now.put }
     {
         let _ = &self.ctx;
     }
