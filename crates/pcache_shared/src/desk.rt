@@ -13,10 +13,10 @@ use crate::view::{Adding, Dealing, Moving, Room, View};
 use atomic_table::Seat;
 use pcache_base::error::Result;
 use pcache_evict::eviction::EvictionManager;
-use pingora_cache::world::policy::PutPolicy;
 use pingora_cache::world::World;
 use pingora_cache::world::call::Call;
 use pingora_cache::world::entry::Entry;
+use pingora_cache::world::policy::PutPolicy;
 use std::marker::{Model, PhantomData};
 
 /// What lies under the lock: the world, beside the seat that knows all that was added to it.

@@ -4,9 +4,9 @@ ghost use Rattle.std.specs.Prelude.{◌≡◌, IfOk};
 use crate::view::{Room, View};
 use atomic_table::{Seat, Table};
 use pcache_evict::eviction::EvictionManager;
-use pingora_cache::world::policy::PutPolicy;
 use pingora_cache::world::World;
 use pingora_cache::world::entry::Entry;
+use pingora_cache::world::policy::PutPolicy;
 use std::alloc::{AllocError, Global};
 use std::marker::Model;
 
@@ -35,7 +35,11 @@ impl<M: EvictionManager, P: PutPolicy> Model for Opening<M, P> {
 
 impl<M: EvictionManager, P: PutPolicy> Opening<M, P> {
     /// Makes the table for a world with this number of shares. Refused, the world is gone.
-    pub fn new(alloc: Global, world: World<M, P>, shares: usize) -> Result<Opening<M, P>, AllocError>
+    pub fn new(
+        alloc: Global,
+        world: World<M, P>,
+        shares: usize,
+    ) -> Result<Opening<M, P>, AllocError>
         ensures world { IfOk result (λ o. o.log ≡ world) }
         ensures shares { IfOk result (λ o. o.shares ≡ shares) }
     {

@@ -190,9 +190,9 @@ pub goes-puts : (says : Says) (p p' : Taking) (bytes : List ℕ) (t n j : ℕ) (
     → events ≡ old ++ piece_noted j w began b → PutTurn says (C.Feed 0 bytes t) R.Done events (Some (held_put p)) (Some (held_put p'))
 goes-puts says p p' bytes t n j began b w old events begins on taken none has stands is = record {
   taken = λ pieces f got.
-    let noted-as : events ≡ piece_noted j (write_in (stage_begun p.stage began n None)) began b = is ∙ (λ i. none i ++ piece_noted j ((has ∙ ap write_in stands) i) began b) in
-    let same : filled_by events f ≡ filled_on began b f = ap (λ es. filled_by es f) noted-as ∙ begun-filled says p.size p.parser pieces j n p.stage began b f begins got (λ z. head-filled says p.size p.parser pieces p.stage f got on (none-before p.stage began n begins z)) in
-    subst (TakenBy says p'.size p'.parser p'.stage (pieces ++ record { bytes = bytes; now = t } ∷ [])) (sym same) (taken pieces f got);
+      let noted-as : events ≡ piece_noted j (write_in (stage_begun p.stage began n None)) began b = is ∙ (λ i. none i ++ piece_noted j ((has ∙ ap write_in stands) i) began b) in
+      let same : filled_by events f ≡ filled_on began b f = ap (λ es. filled_by es f) noted-as ∙ begun-filled says p.size p.parser pieces j n p.stage began b f begins got (λ z. head-filled says p.size p.parser pieces p.stage f got on (none-before p.stage began n begins z)) in
+      subst (TakenBy says p'.size p'.parser p'.stage (pieces ++ record { bytes = bytes; now = t } ∷ [])) (sym same) (taken pieces f got);
   closes = λ pieces f got. tt;
 }
 
@@ -204,8 +204,8 @@ pub declined-puts : (says : Says) (p p' : Taking) (bytes : List ℕ) (t : ℕ) (
     → p'.stage ≡ HasDeclined reason → PutTurn says (C.Feed 0 bytes t) (R.NotCached reason) events (Some (held_put p)) (Some (held_put p'))
 declined-puts says p p' bytes t began b reason events on unwritten taken none stands = record {
   taken = λ pieces f got.
-    let nothing : f ≡ None = head-filled says p.size p.parser pieces p.stage f got on unwritten in
-    declined-as says p'.size p'.parser p'.stage reason (pieces ++ record { bytes = bytes; now = t } ∷ []) (filled_by events f) (filled_on began b f) stands (ap (λ es. filled_by es f) none ∙ nothing) (taken pieces f got);
+      let nothing : f ≡ None = head-filled says p.size p.parser pieces p.stage f got on unwritten in
+      declined-as says p'.size p'.parser p'.stage reason (pieces ++ record { bytes = bytes; now = t } ∷ []) (filled_by events f) (filled_on began b f) stands (ap (λ es. filled_by es f) none ∙ nothing) (taken pieces f got);
   closes = λ pieces f got. tt;
 }
 

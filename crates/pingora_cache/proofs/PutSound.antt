@@ -94,15 +94,18 @@ puts-after says all h call reply told events q' k are turn now copy =
     let row-is : option_map untold q' ≡ row call told events (request_of n h) = row-at call reply events q q' now ∙ ap (row call reply events) (are n) ∙ sym (row-copied call reply told events (request_of n h) copy) in
     let taken : TakenIn says q' (pieces_on call (outcome told) pieces) (filled_after call (outcome told) events f) = subst (λ o. TakenIn says q' (pieces_on call o pieces) (filled_after call o events f)) (sym same) got in
     record {
-      told = (record {
-        stands = subst (λ p. StoodBy says p (pieces_on call (outcome told) pieces) (filled_after call (outcome told) events f)) row-is (stood-in says q' (pieces_on call (outcome told) pieces) (filled_after call (outcome told) events f) taken);
-        closes = subst (λ p. ClosesBy says call p pieces f told) (are n) (closes-untold says call q pieces f told (copied-closes says call q pieces f reply told copy (turn.closes pieces f (k.taken n))));
-      }, k.told);
+      told = (
+        record {
+          stands = subst (λ p. StoodBy says p (pieces_on call (outcome told) pieces) (filled_after call (outcome told) events f)) row-is (stood-in says q' (pieces_on call (outcome told) pieces) (filled_after call (outcome told) events f) taken);
+          closes = subst (λ p. ClosesBy says call p pieces f told) (are n) (closes-untold says call q pieces f told (copied-closes says call q pieces f reply told copy (turn.closes pieces f (k.taken n))));
+        },
+        k.told,
+      );
       taken = λ r. subst (λ p. TakenIn says p (pieces_of r (record { call = call; reply = told; events = events } ∷ h)) (filled_of r (record { call = call; reply = told; events = events } ∷ h))) (sym (get-set_to all n q' r))
-      (elim (n == r) as (λ b. (n == r) ≡ b → TakenIn says (cond b q' (get all r)) (if b then pieces_on call (outcome told) (pieces_of r h) else pieces_of r h) (if b then filled_after call (outcome told) events (filled_of r h) else filled_of r h)) [
-        | true ↦ λ is. subst (λ x. TakenIn says q' (pieces_on call (outcome told) (pieces_of x h)) (filled_after call (outcome told) events (filled_of x h))) (eqb-true n r is) taken
-        | false ↦ λ _. k.taken r
-      ] refl);
+          (elim (n == r) as (λ b. (n == r) ≡ b → TakenIn says (cond b q' (get all r)) (if b then pieces_on call (outcome told) (pieces_of r h) else pieces_of r h) (if b then filled_after call (outcome told) events (filled_of r h) else filled_of r h)) [
+            | true ↦ λ is. subst (λ x. TakenIn says q' (pieces_on call (outcome told) (pieces_of x h)) (filled_after call (outcome told) events (filled_of x h))) (eqb-true n r is) taken
+            | false ↦ λ _. k.taken r
+          ] refl);
     }
 
 -- and of the entries that make the map

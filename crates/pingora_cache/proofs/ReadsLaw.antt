@@ -320,7 +320,6 @@ module _ (f : Facts) (es events : List Event) (reply : Reply) (got : List ℕ) w
   follow reads_no_more x says a old h = on-done after got (is_wrong o) (Some x) (Some (on_request without_reader x)) h (tt, h.1)
   follow (renews m) x says a old h = on-done after got (is_wrong o) (Some x) (Some (on_request (renewed m) x)) h (h.0, h.1)
   follow (waits now) x says a old h = (subst (λ r. IfSome r (λ y. HasRead after y got)) (sym (waited-reader o now x.request)) h.0, h.1)
-
   follow (pushes k limit) x says a old h = on-done after got (is_done o) (Some (held_put (new_put k limit))) (Some x) (tt, tt) h
   follow feeds x says a old h = fed-follows x.put
     where

@@ -6,9 +6,9 @@ use pcache_base::moment::Moment;
 use pcache_evict::eviction::simple_lru::Manager;
 use pcache_meta::header::ResponseHeader;
 use pcache_meta::meta::CacheMeta;
-use pingora_cache::world::policy::BySelf;
 use pingora_cache::world::World;
 use pingora_cache::world::call::{Call, Reply};
+use pingora_cache::world::policy::BySelf;
 use std::alloc::Global;
 use std::sync::{Mutex, Wait};
 use std::test::Fail;
@@ -58,7 +58,11 @@ fn begin(rt: &impl Wait, alloc: Global, shared: &Shared, request: u64) -> Result
 fn nothing_is_left_of_ended_requests(rt: HostRuntime) -> std::result::Result<(), Fail> {
     let alloc = rt.alloc();
     let now = Moment::EPOCH;
-    let shared: Shared = Mutex::new(World::new(alloc, Manager::new(alloc, 9)?, Duration::from_secs(10)));
+    let shared: Shared = Mutex::new(World::new(
+        alloc,
+        Manager::new(alloc, 9)?,
+        Duration::from_secs(10),
+    ));
     assert!(rt; matches!(begin(&rt, alloc, &shared, 1)?, Reply::Done));
     for request in [2u64, 3] {
         ask(&rt, &shared, Call::Open { request })?;

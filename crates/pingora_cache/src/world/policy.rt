@@ -5,9 +5,9 @@ ghost use Rattle.pcache_control.specs.declared.response.RespCacheable.{RespCache
 ghost use Rattle.pcache_meta.specs.declared.header.ResponseHeader.{ResponseHeader};
 ghost use Rattle.pcache_put_ctx.specs.Policies.{SaysByDefault};
 
+use http::StatusCode;
 use pcache_base::error::Result;
 use pcache_base::moment::Moment;
-use http::StatusCode;
 use pcache_control::{CacheMetaDefaults, RespCacheable};
 use pcache_meta::header::ResponseHeader;
 use pcache_put_ctx::policy::{CachePut, default_cacheable};

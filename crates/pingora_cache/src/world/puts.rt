@@ -191,11 +191,7 @@ fn drop_write(writer: Option<MemMissHandler>, store: &mut MemCache, events: &mut
 }
 
 /// Ends a put before its response has come.
-pub(crate) fn drop_put<P: PutPolicy>(
-    put: OpenPut<P>,
-    store: &mut MemCache,
-    events: &mut Vec<Event>,
-)
+pub(crate) fn drop_put<P: PutPolicy>(put: OpenPut<P>, store: &mut MemCache, events: &mut Vec<Event>)
     requires none { events.old.items ≡ [] }
     requires room { 3 ≤ vec_capacity events.old }
     ensures events { events.new.items ≡ drop_of put.request.write }
