@@ -17,6 +17,8 @@ mod random_locks;
 #[cfg(test)]
 mod request;
 #[cfg(test)]
+mod rows;
+#[cfg(test)]
 mod sharded_lru;
 #[cfg(test)]
 mod simple_lru;
