@@ -9,6 +9,8 @@ mod hashtable;
 #[cfg(test)]
 mod lock;
 #[cfg(test)]
+mod managers;
+#[cfg(test)]
 mod memory;
 #[cfg(test)]
 mod puts;

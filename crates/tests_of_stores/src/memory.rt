@@ -1,43 +1,20 @@
-use Step::*;
+//! The store in memory, call by call.
+use crate::rows::{Desk, Tested, play, say, size, some_number, some_size, word};
 use bytes::Bytes;
 use http::StatusCode;
-use http_header::{HeaderName, HeaderValue};
-use pcache_base::error::{Error, ErrorType, Result};
-use pcache_base::key::{CacheHashKey, CacheKey};
+use pcache_base::error::Result;
+use pcache_base::key::{CacheKey, CompactCacheKey};
 use pcache_base::moment::Moment;
 use pcache_base::poll::Poll;
 use pcache_evict::eviction::{CacheEntryId, CacheEntryKey};
 use pcache_meta::header::ResponseHeader;
 use pcache_meta::meta::CacheMeta;
 use pcache_store::memory::*;
-use pcache_store::storage::{
-    HandleHit, HandleMiss, MissFinishType, PurgeOutcome, PurgeTarget, PurgeType, Storage,
-};
+use pcache_store::storage::{HandleHit, HandleMiss, PurgeTarget, PurgeType, Storage};
 use std::alloc::Global;
-use std::collections::BTreeMap;
 use std::process::Abort;
-use std::test::Fail;
 
-// A call on a store. Writers and readers have numbers of their own, keys have names.
-#[derive(Clone, Copy)]
-enum Step {
-    Begin(u8, &'static str),
-    Write(u8, &'static str),
-    WriteLast(u8, &'static str),
-    Finish(u8),
-    GiveUp(u8),
-    Look(u8, &'static str),
-    // by the tag of a writer
-    Join(u8, &'static str, u8),
-    Read(u8),
-    Seek(u8, usize, Option<usize>),
-    LetGo(u8),
-    Purge(&'static str),
-    // the entry of this number, or the key's only one
-    PurgeExact(&'static str, Option<u64>),
-    Expire(&'static str, u64),
-    Update(&'static str, u64),
-}
+mod handlers;
 
 fn key_of(alloc: Global, name: &str) -> Result<CacheKey> {
     let primary = name.as_bytes().to_vec(alloc)?;
@@ -46,760 +23,614 @@ fn key_of(alloc: Global, name: &str) -> Result<CacheKey> {
 
 fn meta_until(alloc: Global, fresh_until: u64) -> CacheMeta {
     let header = ResponseHeader::build(alloc, StatusCode::OK);
-    CacheMeta::new(
-        Moment::from_secs(fresh_until),
-        Moment::EPOCH,
-        30,
-        30,
-        header,
-    )
+    let until = Moment::from_secs(fresh_until);
+    CacheMeta::new(until, Moment::EPOCH, 30, 30, header)
 }
 
-// A store with the writers and readers that are open.
-struct Desk {
+// A key with its compact form.
+#[derive(Drop)]
+struct Named {
+    key: CacheKey,
+    compact: CompactCacheKey,
+}
+
+fn named(alloc: Global, name: &str) -> Result<Named> {
+    let key = key_of(alloc, name)?;
+    let compact = key.to_compact()?;
+    Ok(Named { key, compact })
+}
+
+// The store, and two keys by their names.
+#[derive(Drop)]
+struct Parts {
     alloc: Global,
     store: MemCache,
-    writers: BTreeMap<u8, MemMissHandler>,
-    readers: BTreeMap<u8, MemHitHandler>,
+    a: Named,
+    b: Named,
 }
 
-impl Desk {
-    fn new(alloc: Global) -> Desk {
-        Desk {
+impl Parts {
+    fn new(alloc: Global) -> Result<Parts> {
+        Ok(Parts {
             alloc,
             store: MemCache::new(alloc),
-            writers: BTreeMap::new(alloc),
-            readers: BTreeMap::new(alloc),
+            a: named(alloc, "a")?,
+            b: named(alloc, "b")?,
+        })
+    }
+
+    // The store, and a key by its name.
+    fn with(&mut self, name: &str) -> (&mut MemCache, &Named) {
+        let named = if name == "b" { &self.b } else { &self.a };
+        (&mut self.store, named)
+    }
+}
+
+type Writer = Option<MemMissHandler>;
+
+type Reader = Option<MemHitHandler>;
+
+// A store with the writers and readers that are open, by their numbers.
+struct Counter {
+    parts: Parts,
+    writer_1: Writer,
+    writer_2: Writer,
+    writer_3: Writer,
+    reader_1: Reader,
+    reader_2: Reader,
+    reader_3: Reader,
+    reader_4: Reader,
+}
+
+impl Counter {
+    fn new(parts: Parts) -> Counter {
+        Counter {
+            parts,
+            writer_1: None,
+            writer_2: None,
+            writer_3: None,
+            reader_1: None,
+            reader_2: None,
+            reader_3: None,
+            reader_4: None,
         }
     }
 
-    // Ends what is open, and answers the store.
-    fn close(self) -> MemCache {
-        let Desk {
-            alloc: _,
-            mut store,
-            mut writers,
-            mut readers,
+    fn writer(&mut self, number: u64) -> (&mut Parts, &mut Writer) {
+        let parts = &mut self.parts;
+        match number {
+            1 => (parts, &mut self.writer_1),
+            2 => (parts, &mut self.writer_2),
+            _ => (parts, &mut self.writer_3),
+        }
+    }
+
+    fn reader(&mut self, number: u64) -> (&mut Parts, &mut Reader) {
+        let parts = &mut self.parts;
+        match number {
+            1 => (parts, &mut self.reader_1),
+            2 => (parts, &mut self.reader_2),
+            3 => (parts, &mut self.reader_3),
+            _ => (parts, &mut self.reader_4),
+        }
+    }
+
+    // Ends what is open.
+    fn close(&mut self) {
+        for number in 1..=3u64 {
+            let (parts, writer) = self.writer(number);
+            give_up(parts, writer);
+        }
+        for number in 1..=4u64 {
+            let (parts, reader) = self.reader(number);
+            leave(parts, reader);
+        }
+    }
+
+    fn end(self) {
+        let Counter {
+            mut parts,
+            mut writer_1,
+            mut writer_2,
+            mut writer_3,
+            mut reader_1,
+            mut reader_2,
+            mut reader_3,
+            mut reader_4,
         } = self;
-        while let Some((_number, writer)) = writers.pop_first() {
-            writer.drop_write(&mut store);
+        drop_writer(&mut parts, writer_1);
+        drop_writer(&mut parts, writer_2);
+        drop_writer(&mut parts, writer_3);
+        drop_reader(&mut parts, reader_1);
+        drop_reader(&mut parts, reader_2);
+        drop_reader(&mut parts, reader_3);
+        drop_reader(&mut parts, reader_4);
+    }
+}
+
+fn drop_writer(parts: &mut Parts, writer: Writer) {
+    if let Some(writer) = writer {
+        writer.drop_write(&mut parts.store);
+    }
+}
+
+fn drop_reader(parts: &mut Parts, reader: Reader) {
+    if let Some(reader) = reader {
+        reader.let_go(&mut parts.store);
+    }
+}
+
+impl Desk for Counter {
+    fn tell(&mut self, call: &'static str, told: &mut String) -> Tested<()> {
+        if word(call, 1) == "joins" {
+            return join(self, call, told);
         }
-        writers.destroy_empty();
-        while let Some((_number, reader)) = readers.pop_first() {
-            reader.let_go(&mut store);
-        }
-        readers.destroy_empty();
-        store
-    }
-
-    fn begin(&mut self, number: u8, name: &str) -> Result<()> {
-        let key = key_of(self.alloc, name)?;
-        let meta = meta_until(self.alloc, 300);
-        let writer = self.store.get_miss_handler(self.alloc, &key, &meta)?;
-        match self.writers.insert(number, writer) {
-            Ok(None) => Ok(()),
-            Ok(Some(older)) => {
-                older.drop_write(&mut self.store);
-                Ok(())
-            }
-            Err(refused) => {
-                let (_number, writer) = refused.value;
-                writer.drop_write(&mut self.store);
-                Err(Error::new(ErrorType::OutOfMemory))
-            }
-        }
-    }
-
-    fn keep(&mut self, number: u8, reader: MemHitHandler) -> Result<()> {
-        match self.readers.insert(number, reader) {
-            Ok(None) => Ok(()),
-            Ok(Some(older)) => {
-                older.let_go(&mut self.store);
-                Ok(())
-            }
-            Err(refused) => {
-                let (_number, reader) = refused.value;
-                reader.let_go(&mut self.store);
-                Err(Error::new(ErrorType::OutOfMemory))
-            }
-        }
-    }
-
-    // What a look-up found: the end of freshness, and of a complete body the weight.
-    fn found(
-        &mut self,
-        number: u8,
-        found: Option<(CacheMeta, MemHitHandler)>,
-        told: &mut String,
-    ) -> Result<()> {
-        let Some((meta, reader)) = found else {
-            return say(told, "none");
-        };
-        let text = if reader.should_count_access() && reader.can_seek() {
-            let weight = reader.get_eviction_weight();
-            format!(in self.alloc; "hit {weight} until {}", meta.fresh_until().secs())
-        } else {
-            format!(in self.alloc; "part until {}", meta.fresh_until().secs())
-        };
-        self.keep(number, reader)?;
-        say(told, text?.as_str())
-    }
-
-    fn write(
-        &mut self,
-        number: u8,
-        text: &'static str,
-        eof: bool,
-        told: &mut String,
-    ) -> Result<()> {
-        let Some(writer) = self.writers.get_mut(&number) else {
-            return say(told, "no writer");
-        };
-        if writer.at_eof(&self.store) {
-            return say(told, "at eof");
-        }
-        let bytes = Bytes::from_static(text.as_bytes());
-        writer.write_body(&mut self.store, bytes, eof)?;
-        say(told, "ok")
-    }
-
-    fn finish(&mut self, number: u8, told: &mut String) -> Result<()> {
-        let Some(writer) = self.writers.remove(&number) else {
-            return say(told, "no writer");
-        };
-        match writer.finish(&mut self.store) {
-            Ok(end) => say(told, format!(in self.alloc; "{end:?}")?.as_str()),
-            Err(refused) => say(told, refused.etype().as_str()),
-        }
-    }
-
-    fn give_up(&mut self, number: u8, told: &mut String) -> Result<()> {
-        let Some(writer) = self.writers.remove(&number) else {
-            return say(told, "no writer");
-        };
-        writer.drop_write(&mut self.store);
-        say(told, "ok")
-    }
-
-    fn join(&mut self, number: u8, name: &str, writer: u8, told: &mut String) -> Result<()> {
-        let key = key_of(self.alloc, name)?;
-        let tag = match self.writers.get(&writer) {
-            Some(writer) => writer.streaming_write_tag(),
-            None => None,
-        };
-        let found = self.store.lookup_streaming_write(self.alloc, &key, tag)?;
-        self.found(number, found, told)
-    }
-
-    fn look(&mut self, number: u8, name: &str, told: &mut String) -> Result<()> {
-        let key = key_of(self.alloc, name)?;
-        let found = self.store.lookup(self.alloc, &key)?;
-        self.found(number, found, told)
-    }
-
-    fn read(&mut self, number: u8, told: &mut String) -> Result<()> {
-        let Some(reader) = self.readers.get_mut(&number) else {
-            return say(told, "no reader");
-        };
-        match reader.read_body(self.alloc, &mut self.store)? {
-            Poll::Ready(Some(bytes)) => {
-                say(told, "data ")?;
-                for byte in bytes.as_slice() {
-                    told.push(char::from(*byte))?;
-                }
-                Ok(())
-            }
-            Poll::Ready(None) => say(told, "end"),
-            Poll::Pending => say(told, "pending"),
-        }
-    }
-
-    fn seek(
-        &mut self,
-        number: u8,
-        start: usize,
-        end: Option<usize>,
-        told: &mut String,
-    ) -> Result<()> {
-        let Some(reader) = self.readers.get_mut(&number) else {
-            return say(told, "no reader");
-        };
-        match reader.seek(start, end) {
-            Ok(()) => say(told, "ok"),
-            Err(refused) => say(told, refused.etype().as_str()),
-        }
-    }
-
-    fn let_go(&mut self, number: u8, told: &mut String) -> Result<()> {
-        let Some(reader) = self.readers.remove(&number) else {
-            return say(told, "no reader");
-        };
-        reader.finish(&mut self.store)?;
-        say(told, "ok")
-    }
-
-    fn purge(&mut self, name: &str, told: &mut String) -> Result<()> {
-        let key = key_of(self.alloc, name)?.to_compact()?;
-        let outcome = self
-            .store
-            .purge(PurgeTarget::Active(&key), PurgeType::Invalidation)?;
-        say(told, format!(in self.alloc; "{outcome:?}")?.as_str())
-    }
-
-    fn purge_exact(&mut self, name: &str, id: Option<u64>, told: &mut String) -> Result<()> {
-        let key = key_of(self.alloc, name)?.to_compact()?;
-        let entry = CacheEntryKey::from_entry_id(key, id.map(CacheEntryId::new));
-        let outcome = self
-            .store
-            .purge(PurgeTarget::Exact(&entry), PurgeType::Eviction)?;
-        say(told, format!(in self.alloc; "{outcome:?}")?.as_str())
-    }
-
-    fn expire(&mut self, name: &str, now: u64, told: &mut String) -> Result<()> {
-        let key = key_of(self.alloc, name)?.to_compact()?;
-        let now = Moment::from_secs(now);
-        let outcome = self
-            .store
-            .expire(self.alloc, PurgeTarget::Active(&key), now)?;
-        say(told, format!(in self.alloc; "{outcome:?}")?.as_str())
-    }
-
-    fn update(&mut self, name: &str, fresh_until: u64, told: &mut String) -> Result<()> {
-        let key = key_of(self.alloc, name)?;
-        let meta = meta_until(self.alloc, fresh_until);
-        let there = self.store.update_meta(self.alloc, &key, &meta)?;
-        say(told, if there { "updated" } else { "absent" })
-    }
-
-    fn take(&mut self, step: Step, told: &mut String) -> Result<()> {
-        if !told.is_empty() {
-            told.push_str(", ")?;
-        }
-        match step {
-            Begin(writer, name) => {
-                self.begin(writer, name)?;
+        match some_number(call, 0) {
+            Some(number) => tell_of_open(self, number, call, told),
+            None if word(call, 0) == "close" => {
+                self.close();
                 say(told, "ok")
             }
-            Write(writer, text) => self.write(writer, text, false, told),
-            WriteLast(writer, text) => self.write(writer, text, true, told),
-            Finish(writer) => self.finish(writer, told),
-            GiveUp(writer) => self.give_up(writer, told),
-            Look(reader, name) => self.look(reader, name, told),
-            Join(reader, name, writer) => self.join(reader, name, writer, told),
-            Read(reader) => self.read(reader, told),
-            Seek(reader, start, end) => self.seek(reader, start, end, told),
-            LetGo(reader) => self.let_go(reader, told),
-            Purge(name) => self.purge(name, told),
-            PurgeExact(name, id) => self.purge_exact(name, id, told),
-            Expire(name, now) => self.expire(name, now, told),
-            Update(name, fresh_until) => self.update(name, fresh_until, told),
+            None => tell_of_store(&mut self.parts, call, told),
         }
     }
 }
 
-fn say(told: &mut String, text: &str) -> Result<()> {
-    told.push_str(text)?;
+fn tell_of_open(
+    counter: &mut Counter,
+    number: u64,
+    call: &'static str,
+    told: &mut String,
+) -> Tested<()> {
+    let (parts, writer) = counter.writer(number);
+    let text = word(call, 2);
+    match word(call, 1) {
+        "begins" => begin(parts, writer, text, told),
+        "writes" => write(parts, writer, text, false, told),
+        "writes-last" => write(parts, writer, text, true, told),
+        "finishes" => finish(parts, writer, told),
+        "gives-up" => say_ok(told, give_up(parts, writer)),
+        _ => {
+            let (parts, reader) = counter.reader(number);
+            tell_of_reader(parts, reader, call, told)
+        }
+    }
+}
+
+fn tell_of_reader(
+    parts: &mut Parts,
+    reader: &mut Reader,
+    call: &'static str,
+    told: &mut String,
+) -> Tested<()> {
+    match word(call, 1) {
+        "looks" => look(parts, reader, word(call, 2), told),
+        "reads" => read(parts, reader, told),
+        "seeks" => seek(reader, size(call, 2), some_size(call, 3), told),
+        "ends" => end_reader(parts, reader, told),
+        _ => say(told, "no such call"),
+    }
+}
+
+fn tell_of_store(parts: &mut Parts, call: &'static str, told: &mut String) -> Tested<()> {
+    let name = word(call, 1);
+    let number = some_number(call, 2);
+    match word(call, 0) {
+        "purge" => purge(parts, name, told),
+        "purge-exact" => purge_exact(parts, name, number, told),
+        "expire" => expire(parts, name, number.unwrap_or(0), told),
+        "update" => update(parts, name, number.unwrap_or(0), told),
+        "writes" => Ok(write!(told, "{}", parts.store.write_records())?),
+        "total" => totals(&parts.store, told),
+        _ => say(told, "no such call"),
+    }
+}
+
+fn say_ok(told: &mut String, was_open: bool) -> Tested<()> {
+    say(told, if was_open { "ok" } else { "none open" })
+}
+
+fn begin(parts: &mut Parts, writer: &mut Writer, name: &str, told: &mut String) -> Tested<()> {
+    let alloc = parts.alloc;
+    let meta = meta_until(alloc, 300);
+    let (store, named) = parts.with(name);
+    let begun = store.get_miss_handler(alloc, &named.key, &meta)?;
+    if let Some(older) = writer.replace(begun) {
+        older.drop_write(store);
+    }
+    say(told, "ok")
+}
+
+fn write(
+    parts: &mut Parts,
+    writer: &mut Writer,
+    text: &'static str,
+    eof: bool,
+    told: &mut String,
+) -> Tested<()> {
+    let Some(writer) = writer else {
+        return say(told, "none open");
+    };
+    if writer.at_eof(&parts.store) {
+        return say(told, "at eof");
+    }
+    let bytes = Bytes::from_static(text.as_bytes());
+    writer.write_body(&mut parts.store, bytes, eof)?;
+    say(told, "ok")
+}
+
+fn finish(parts: &mut Parts, writer: &mut Writer, told: &mut String) -> Tested<()> {
+    let Some(writer) = writer.take() else {
+        return say(told, "none open");
+    };
+    match writer.finish(&mut parts.store) {
+        Ok(end) => Ok(write!(told, "{end:?}")?),
+        Err(refused) => say(told, refused.etype().as_str()),
+    }
+}
+
+// Whether there was a writer, which is gone.
+fn give_up(parts: &mut Parts, writer: &mut Writer) -> bool {
+    match writer.take() {
+        Some(writer) => {
+            writer.drop_write(&mut parts.store);
+            true
+        }
+        None => false,
+    }
+}
+
+fn leave(parts: &mut Parts, reader: &mut Reader) {
+    if let Some(reader) = reader.take() {
+        reader.let_go(&mut parts.store);
+    }
+}
+
+fn keep(parts: &mut Parts, place: &mut Reader, reader: MemHitHandler) {
+    if let Some(older) = place.replace(reader) {
+        older.let_go(&mut parts.store);
+    }
+}
+
+// What a look-up found: of a complete body the weight, and the end of freshness.
+fn found(
+    parts: &mut Parts,
+    place: &mut Reader,
+    found: Option<(CacheMeta, MemHitHandler)>,
+    told: &mut String,
+) -> Tested<()> {
+    let Some((meta, reader)) = found else {
+        return say(told, "none");
+    };
+    let until = meta.fresh_until().secs();
+    let is_whole = reader.should_count_access() && reader.can_seek();
+    let weight = reader.get_eviction_weight();
+    keep(parts, place, reader);
+    if is_whole {
+        Ok(write!(told, "hit {weight} until {until}")?)
+    } else {
+        Ok(write!(told, "part until {until}")?)
+    }
+}
+
+fn look(parts: &mut Parts, place: &mut Reader, name: &str, told: &mut String) -> Tested<()> {
+    let alloc = parts.alloc;
+    let (store, named) = parts.with(name);
+    let it = store.lookup(alloc, &named.key)?;
+    found(parts, place, it, told)
+}
+
+// A reader joins a write by the tag of its writer.
+fn join(counter: &mut Counter, call: &'static str, told: &mut String) -> Tested<()> {
+    let (parts, writer) = counter.writer(some_number(call, 3).unwrap_or(0));
+    let alloc = parts.alloc;
+    let tag = match writer {
+        Some(writer) => writer.streaming_write_tag(),
+        None => None,
+    };
+    let (store, named) = parts.with(word(call, 2));
+    let it = store.lookup_streaming_write(alloc, &named.key, tag)?;
+    let (parts, place) = counter.reader(some_number(call, 0).unwrap_or(0));
+    found(parts, place, it, told)
+}
+
+fn read(parts: &mut Parts, reader: &mut Reader, told: &mut String) -> Tested<()> {
+    let Some(reader) = reader else {
+        return say(told, "none open");
+    };
+    match reader.read_body(parts.alloc, &mut parts.store)? {
+        Poll::Ready(Some(bytes)) => tell_bytes(told, bytes.as_slice()),
+        Poll::Ready(None) => say(told, "end"),
+        Poll::Pending => say(told, "pending"),
+    }
+}
+
+fn tell_bytes(told: &mut String, bytes: &[u8]) -> Tested<()> {
+    say(told, if bytes.is_empty() { "data" } else { "data " })?;
+    for byte in bytes {
+        told.push(char::from(*byte))?;
+    }
     Ok(())
 }
 
-// What the steps answered, then what is stored and which writes were kept.
-fn told(alloc: Global, steps: &[Step]) -> Result<String> {
-    let mut told = String::new(alloc);
-    let mut desk = Desk::new(alloc);
-    let mut outcome = Ok(());
-    for step in steps {
-        if outcome.is_ok() {
-            outcome = desk.take(*step, &mut told);
-        }
+fn seek(reader: &mut Reader, start: usize, end: Option<usize>, told: &mut String) -> Tested<()> {
+    let Some(reader) = reader else {
+        return say(told, "none open");
+    };
+    match reader.seek(start, end) {
+        Ok(()) => say(told, "ok"),
+        Err(refused) => say(told, refused.etype().as_str()),
     }
-    let open = desk.store.write_records();
-    let store = desk.close();
-    outcome?;
+}
+
+fn end_reader(parts: &mut Parts, reader: &mut Reader, told: &mut String) -> Tested<()> {
+    let Some(reader) = reader.take() else {
+        return say(told, "none open");
+    };
+    reader.finish(&mut parts.store)?;
+    say(told, "ok")
+}
+
+fn purge(parts: &mut Parts, name: &str, told: &mut String) -> Tested<()> {
+    let (store, named) = parts.with(name);
+    let outcome = store.purge(PurgeTarget::Active(&named.compact), PurgeType::Invalidation)?;
+    Ok(write!(told, "{outcome:?}")?)
+}
+
+// Removes the entry of this number, or the key's only one.
+fn purge_exact(parts: &mut Parts, name: &str, id: Option<u64>, told: &mut String) -> Tested<()> {
+    let (store, named) = parts.with(name);
+    let key = named.compact.copied()?;
+    let entry = CacheEntryKey::from_entry_id(key, id.map(CacheEntryId::new));
+    let outcome = store.purge(PurgeTarget::Exact(&entry), PurgeType::Eviction)?;
+    Ok(write!(told, "{outcome:?}")?)
+}
+
+fn expire(parts: &mut Parts, name: &str, now: u64, told: &mut String) -> Tested<()> {
+    let alloc = parts.alloc;
+    let (store, named) = parts.with(name);
+    let now = Moment::from_secs(now);
+    let outcome = store.expire(alloc, PurgeTarget::Active(&named.compact), now)?;
+    Ok(write!(told, "{outcome:?}")?)
+}
+
+fn update(parts: &mut Parts, name: &str, fresh_until: u64, told: &mut String) -> Tested<()> {
+    let alloc = parts.alloc;
+    let meta = meta_until(alloc, fresh_until);
+    let (store, named) = parts.with(name);
+    let there = store.update_meta(alloc, &named.key, &meta)?;
+    say(told, if there { "updated" } else { "absent" })
+}
+
+fn totals(store: &MemCache, told: &mut String) -> Tested<()> {
     let bytes = store.stored_bytes();
     let slots = store.slots();
-    let left = store.write_records();
-    let totals = format!(in alloc; " | {bytes} bytes in {slots}, writes {open} then {left}")?;
-    told.push_str(totals.as_str())?;
-    Ok(told)
+    let writes = store.write_records();
+    Ok(write!(told, "{bytes} bytes in {slots}, {writes} writes")?)
 }
 
-fn tells(alloc: Global, steps: &[Step], wanted: &str) -> Result<bool> {
-    let text = told(alloc, steps)?;
-    Ok(text.as_str() == wanted)
+// Plays the rows over a store of their own.
+fn run(rt: &impl Abort, alloc: Global, rows: &'static str) -> Tested<()> {
+    let mut counter = Counter::new(Parts::new(alloc)?);
+    let done = play(rt, alloc, &mut counter, rows);
+    counter.end();
+    done
 }
 
-fn check(rt: &impl Abort, alloc: Global, steps: &[Step], wanted: &str) -> Result<()> {
-    assert!(rt; tells(alloc, steps, wanted)?, "{wanted}");
-    Ok(())
-}
-
-#[test]
-fn a_body_that_was_written_is_read(rt: HostRuntime) -> std::result::Result<(), Fail> {
-    let steps = [
-        Look(1, "a"),
-        Begin(1, "a"),
-        Write(1, "test1"),
-        WriteLast(1, "test2"),
-        Write(1, "more"),
-        Finish(1),
-        Look(2, "a"),
-        Read(2),
-        Read(2),
-        LetGo(2),
-    ];
-    let wanted =
-        "none, ok, ok, ok, at eof, Created(10), hit 10 until 300, data test1test2, end, ok | 10 bytes in 1, writes 0 then 0";
-    check(&rt, rt.alloc(), &steps, wanted)?;
-    Ok(())
-}
+const A_BODY_THAT_WAS_WRITTEN_IS_READ: &str = "
+    1 looks a -> none
+    1 begins a
+    1 writes test1
+    1 writes-last test2
+    1 writes more -> at eof
+    1 finishes -> Created(10)
+    2 looks a -> hit 10 until 300
+    2 reads -> data test1test2
+    2 reads -> end
+    2 ends
+    writes -> 0
+    close
+    total -> 10 bytes in 1, 0 writes";
 
 #[test]
-fn ranges_of_a_body_are_read(rt: HostRuntime) -> std::result::Result<(), Fail> {
-    let steps = [
-        Begin(1, "a"),
-        Write(1, "test1test2"),
-        Look(2, "a"),
-        Seek(2, 0, None),
-        Finish(1),
-        Look(1, "a"),
-        Seek(1, 10000, None),
-        Seek(1, 10, None),
-        Seek(1, 5, None),
-        Read(1),
-        Read(1),
-        Seek(1, 4, Some(5)),
-        Read(1),
-        Read(1),
-        Seek(1, 5, Some(4)),
-        Seek(1, 8, Some(99)),
-        Read(1),
-        Seek(1, 3, Some(3)),
-        Read(1),
-        Read(1),
-    ];
-    let wanted =
-        "ok, ok, part until 300, InternalError, Created(10), hit 10 until 300, InternalError, InternalError, ok, data test2, end, ok, data 1, end, InternalError, ok, data t2, ok, data , end | 10 bytes in 1, writes 1 then 0";
-    check(&rt, rt.alloc(), &steps, wanted)?;
-    Ok(())
+fn a_body_that_was_written_is_read(rt: HostRuntime) -> Tested<()> {
+    run(&rt, rt.alloc(), A_BODY_THAT_WAS_WRITTEN_IS_READ)
 }
+
+const RANGES_OF_A_BODY_ARE_READ: &str = "
+    1 begins a
+    1 writes test1test2
+    2 looks a -> part until 300
+    2 seeks 0 -> InternalError
+    1 finishes -> Created(10)
+    1 looks a -> hit 10 until 300
+    1 seeks 10000 -> InternalError
+    1 seeks 10 -> InternalError
+    1 seeks 5
+    1 reads -> data test2
+    1 reads -> end
+    1 seeks 4 5
+    1 reads -> data 1
+    1 reads -> end
+    1 seeks 5 4 -> InternalError
+    1 seeks 8 99
+    1 reads -> data t2
+    1 seeks 3 3
+    1 reads -> data
+    1 reads -> end
+    writes -> 1
+    close
+    total -> 10 bytes in 1, 0 writes";
 
 #[test]
-fn a_write_is_read_while_it_is_made(rt: HostRuntime) -> std::result::Result<(), Fail> {
-    let steps = [
-        Begin(1, "a"),
-        Look(1, "a"),
-        Read(1),
-        Write(1, "test1"),
-        Read(1),
-        Read(1),
-        Write(1, "test2"),
-        Read(1),
-        Look(2, "a"),
-        Read(2),
-        Read(1),
-        Read(2),
-        Look(3, "a"),
-        Finish(1),
-        Read(1),
-        Read(2),
-        Read(3),
-        Read(3),
-    ];
-    let wanted =
-        "ok, part until 300, pending, ok, data test1, pending, ok, data test2, part until 300, data test1test2, pending, pending, part until 300, Created(10), end, end, data test1test2, end | 10 bytes in 1, writes 1 then 0";
-    check(&rt, rt.alloc(), &steps, wanted)?;
-    Ok(())
+fn ranges_of_a_body_are_read(rt: HostRuntime) -> Tested<()> {
+    run(&rt, rt.alloc(), RANGES_OF_A_BODY_ARE_READ)
 }
+
+const A_WRITE_IS_READ_WHILE_IT_IS_MADE: &str = "
+    1 begins a
+    1 looks a -> part until 300
+    1 reads -> pending
+    1 writes test1
+    1 reads -> data test1
+    1 reads -> pending
+    1 writes test2
+    1 reads -> data test2
+    2 looks a -> part until 300
+    2 reads -> data test1test2
+    1 reads -> pending
+    2 reads -> pending
+    3 looks a -> part until 300
+    1 finishes -> Created(10)
+    1 reads -> end
+    2 reads -> end
+    3 reads -> data test1test2
+    3 reads -> end
+    writes -> 1
+    close
+    total -> 10 bytes in 1, 0 writes";
 
 #[test]
-fn a_reader_goes_on_past_a_purge(rt: HostRuntime) -> std::result::Result<(), Fail> {
-    let steps = [
-        Begin(1, "k"),
-        Look(2, "k"),
-        Read(2),
-        Write(1, "ab"),
-        Read(2),
-        Purge("k"),
-        Write(1, "cd"),
-        GiveUp(1),
-        Read(2),
-        Read(2),
-        Look(4, "k"),
-        LetGo(2),
-    ];
-    let wanted =
-        "ok, part until 300, pending, ok, data ab, Purged(None), ok, ok, data cd, end, none, ok | 0 bytes in 0, writes 0 then 0";
-    check(&rt, rt.alloc(), &steps, wanted)?;
-    Ok(())
+fn a_write_is_read_while_it_is_made(rt: HostRuntime) -> Tested<()> {
+    run(&rt, rt.alloc(), A_WRITE_IS_READ_WHILE_IT_IS_MADE)
 }
+
+const A_READER_GOES_ON_PAST_A_PURGE: &str = "
+    1 begins a
+    2 looks a -> part until 300
+    2 reads -> pending
+    1 writes ab
+    2 reads -> data ab
+    purge a -> Purged(None)
+    1 writes cd
+    1 gives-up
+    2 reads -> data cd
+    2 reads -> end
+    4 looks a -> none
+    2 ends
+    writes -> 0
+    close
+    total -> 0 bytes in 0, 0 writes";
 
 #[test]
-fn a_removed_write_is_not_stored(rt: HostRuntime) -> std::result::Result<(), Fail> {
-    let steps = [
-        Begin(1, "k"),
-        Write(1, "x"),
-        Purge("k"),
-        Look(3, "k"),
-        Begin(3, "k"),
-        Write(3, "yy"),
-        Finish(1),
-        Finish(3),
-        Look(4, "k"),
-        Read(4),
-        Read(4),
-    ];
-    let wanted =
-        "ok, ok, Purged(None), none, ok, ok, WriteRemoved, Created(2), hit 2 until 300, data yy, end | 2 bytes in 1, writes 0 then 0";
-    check(&rt, rt.alloc(), &steps, wanted)?;
-    Ok(())
+fn a_reader_goes_on_past_a_purge(rt: HostRuntime) -> Tested<()> {
+    run(&rt, rt.alloc(), A_READER_GOES_ON_PAST_A_PURGE)
 }
+
+const A_REMOVED_WRITE_IS_NOT_STORED: &str = "
+    1 begins a
+    1 writes x
+    purge a -> Purged(None)
+    3 looks a -> none
+    3 begins a
+    3 writes yy
+    1 finishes -> WriteRemoved
+    3 finishes -> Created(2)
+    4 looks a -> hit 2 until 300
+    4 reads -> data yy
+    4 reads -> end
+    writes -> 0
+    close
+    total -> 2 bytes in 1, 0 writes";
 
 #[test]
-fn the_earliest_write_is_found_and_the_last_finish_stays(
-    rt: HostRuntime,
-) -> std::result::Result<(), Fail> {
-    let steps = [
-        Begin(1, "a"),
-        Begin(2, "a"),
-        Write(1, "one"),
-        Write(2, "second"),
-        Look(1, "a"),
-        Read(1),
-        Finish(1),
-        Look(2, "a"),
-        Read(2),
-        Finish(2),
-        Look(3, "a"),
-        Begin(3, "a"),
-        Finish(3),
-        Read(3),
-    ];
-    let wanted =
-        "ok, ok, ok, ok, part until 300, data one, Created(3), part until 300, data second, Created(6), hit 6 until 300, ok, Created(0), data second | 0 bytes in 1, writes 2 then 0";
-    check(&rt, rt.alloc(), &steps, wanted)?;
-    Ok(())
+fn a_removed_write_is_not_stored(rt: HostRuntime) -> Tested<()> {
+    run(&rt, rt.alloc(), A_REMOVED_WRITE_IS_NOT_STORED)
 }
+
+const THE_EARLIEST_WRITE_IS_FOUND_AND_THE_LAST_FINISH_STAYS: &str = "
+    1 begins a
+    2 begins a
+    1 writes one
+    2 writes second
+    1 looks a -> part until 300
+    1 reads -> data one
+    1 finishes -> Created(3)
+    2 looks a -> part until 300
+    2 reads -> data second
+    2 finishes -> Created(6)
+    3 looks a -> hit 6 until 300
+    3 begins a
+    3 finishes -> Created(0)
+    3 reads -> data second
+    writes -> 2
+    close
+    total -> 0 bytes in 1, 0 writes";
 
 #[test]
-fn removals_name_what_they_remove(rt: HostRuntime) -> std::result::Result<(), Fail> {
-    let steps = [
-        Purge("a"),
-        Begin(1, "a"),
-        Purge("a"),
-        Purge("a"),
-        GiveUp(1),
-        Purge("a"),
-        Begin(1, "a"),
-        Write(1, "x"),
-        Finish(1),
-        PurgeExact("a", Some(1)),
-        Look(1, "a"),
-        PurgeExact("a", None),
-        Look(1, "a"),
-    ];
-    let wanted =
-        "NotFound, ok, Purged(None), NotFound, ok, NotFound, ok, ok, Created(1), NotFound, hit 1 until 300, Purged(None), none | 0 bytes in 0, writes 0 then 0";
-    check(&rt, rt.alloc(), &steps, wanted)?;
-    Ok(())
-}
-
-#[test]
-fn expiries_and_metas_are_of_bodies(rt: HostRuntime) -> std::result::Result<(), Fail> {
-    let steps = [
-        Expire("a", 100),
-        Update("a", 900),
-        Begin(1, "a"),
-        Expire("a", 100),
-        Update("a", 900),
-        Write(1, "123"),
-        Finish(1),
-        Expire("a", 100),
-        Look(1, "a"),
-        Expire("a", 200),
-        Look(2, "a"),
-        Update("a", 900),
-        Look(3, "a"),
-        Read(3),
-    ];
-    let wanted =
-        "NotFound, absent, ok, NotFound, absent, ok, Created(3), Expired, hit 3 until 100, Expired, hit 3 until 100, updated, hit 3 until 900, data 123 | 3 bytes in 1, writes 0 then 0";
-    check(&rt, rt.alloc(), &steps, wanted)?;
-    Ok(())
-}
-
-#[test]
-fn a_write_is_joined_by_its_tag(rt: HostRuntime) -> std::result::Result<(), Fail> {
-    let steps = [
-        Begin(1, "a"),
-        Begin(2, "a"),
-        Write(2, "xy"),
-        Join(1, "a", 2),
-        Read(1),
-        Join(2, "b", 2),
-        Join(2, "a", 9),
-        Purge("a"),
-        Join(2, "a", 2),
-        Read(2),
-        GiveUp(2),
-        Join(3, "a", 2),
-    ];
-    let wanted =
-        "ok, ok, ok, part until 300, data xy, none, none, Purged(None), part until 300, data xy, ok, none | 0 bytes in 0, writes 2 then 0";
-    check(&rt, rt.alloc(), &steps, wanted)?;
-    Ok(())
-}
-
-// Whether a look-up gives this meta.
-fn finds(alloc: Global, store: &mut MemCache, key: &CacheKey, meta: &CacheMeta) -> Result<bool> {
-    let Some((found, reader)) = store.lookup(alloc, key)? else {
-        return Ok(false);
-    };
-    reader.let_go(store);
-    Ok(
-        found.fresh_until() == meta.fresh_until()
-            && found.updated() == meta.updated()
-            && found.epoch() == meta.epoch()
-            && found.stale_if_error_sec() == meta.stale_if_error_sec()
-            && found.variance() == meta.variance()
-            && *found.headers() == *meta.headers(),
+fn the_earliest_write_is_found_and_the_last_finish_stays(rt: HostRuntime) -> Tested<()> {
+    run(
+        &rt,
+        rt.alloc(),
+        THE_EARLIEST_WRITE_IS_FOUND_AND_THE_LAST_FINISH_STAYS,
     )
 }
 
-fn meta_with_fields(alloc: Global) -> std::result::Result<CacheMeta, Fail> {
-    let fields = [
-        ("foo1", "pingora"),
-        ("foo2", "pingora"),
-        ("server", "pingora"),
-        ("set-cookie", "a=1"),
-        ("set-cookie", "b=2"),
-    ];
-    let mut header = ResponseHeader::build(alloc, StatusCode::OK);
-    for (name, value) in fields {
-        let name = HeaderName::from_bytes(alloc, name.as_bytes())?;
-        let value = HeaderValue::from_bytes(alloc, value.as_bytes())?;
-        header.headers.append(name, value)?;
-    }
-    let mut meta = CacheMeta::new(Moment::from_secs(70), Moment::from_secs(1), 10, 20, header);
-    meta.set_variance_key([0xac; 16]);
-    meta.set_epoch_override(Moment::from_secs(3));
-    Ok(meta)
-}
-
-// The meta that was given at the beginning is found with its fields, of a write and of a body;
-// an expired one has another end.
-#[test]
-fn a_meta_reads_back_equal(rt: HostRuntime) -> std::result::Result<(), Fail> {
-    let alloc = rt.alloc();
-    let mut store = MemCache::new(alloc);
-    let key = key_of(alloc, "a")?;
-    let mut meta = meta_with_fields(alloc)?;
-    is_kept(&rt, alloc, &mut store, &key, &mut meta)
-}
-
-fn is_found_while_written(
-    alloc: Global,
-    store: &mut MemCache,
-    key: &CacheKey,
-    meta: &CacheMeta,
-) -> std::result::Result<bool, Fail> {
-    let writer = store.get_miss_handler(alloc, key, meta)?;
-    let in_flight = finds(alloc, store, key, meta);
-    writer.finish(store)?;
-    Ok(in_flight?)
-}
-
-fn is_expired(
-    alloc: Global,
-    store: &mut MemCache,
-    key: &CacheKey,
-) -> std::result::Result<bool, Fail> {
-    let compact = key.to_compact()?;
-    Ok(
-        store.expire(alloc, PurgeTarget::Active(&compact), Moment::from_secs(5))?
-            == PurgeOutcome::Expired,
-    )
-}
-
-fn is_kept(
-    rt: &impl Abort,
-    alloc: Global,
-    store: &mut MemCache,
-    key: &CacheKey,
-    meta: &mut CacheMeta,
-) -> std::result::Result<(), Fail> {
-    assert!(rt; is_found_while_written(alloc, store, key, meta)?);
-    assert!(rt; finds(alloc, store, key, meta)?);
-    assert!(rt; is_expired(alloc, store, key)?);
-    assert!(rt; !finds(alloc, store, key, meta)?);
-    meta.expire_at(Moment::from_secs(5));
-    assert!(rt; finds(alloc, store, key, meta)?);
-    Ok(())
-}
-
-// By any store.
-fn is_streamed<S: Storage>(alloc: Global, store: &mut S, key: &CacheKey) -> Result<bool> {
-    let meta = meta_until(alloc, 300);
-    let writer = store.get_miss_handler(alloc, key, &meta)?;
-    let found = store.lookup_streaming_write(alloc, key, writer.streaming_write_tag());
-    let id = writer.entry_id();
-    writer.drop_write(store);
-    match found {
-        Ok(Some((_meta, reader))) => {
-            let same = reader.entry_id() == id;
-            let can = reader.can_seek_multipart();
-            reader.let_go(store);
-            Ok(same && !can)
-        }
-        Ok(None) => Ok(false),
-        Err(refused) => Err(refused),
-    }
-}
+const REMOVALS_NAME_WHAT_THEY_REMOVE: &str = "
+    purge a -> NotFound
+    1 begins a
+    purge a -> Purged(None)
+    purge a -> NotFound
+    1 gives-up
+    purge a -> NotFound
+    1 begins a
+    1 writes x
+    1 finishes -> Created(1)
+    purge-exact a 1 -> NotFound
+    1 looks a -> hit 1 until 300
+    purge-exact a -> Purged(None)
+    1 looks a -> none
+    writes -> 0
+    close
+    total -> 0 bytes in 0, 0 writes";
 
 #[test]
-fn any_store_streams_by_its_traits(rt: HostRuntime) -> std::result::Result<(), Fail> {
-    let alloc = rt.alloc();
-    let mut store = MemCache::new(alloc);
-    let key = key_of(alloc, "a")?;
-    assert!(rt; store.support_streaming_partial_write());
-    assert!(rt; is_streamed(alloc, &mut store, &key)?);
-    assert_eq!(rt; store.write_records(), 0);
-    Ok(())
+fn removals_name_what_they_remove(rt: HostRuntime) -> Tested<()> {
+    run(&rt, rt.alloc(), REMOVALS_NAME_WHAT_THEY_REMOVE)
 }
 
-// The key `aa`, with this variance.
-fn aa(alloc: Global, variance: Option<[u8; 16]>) -> Result<CacheKey> {
-    let mut key = key_of(alloc, "aa")?;
-    if let Some(hash) = variance {
-        key.set_variance_key(hash);
-    }
-    Ok(key)
-}
-
-fn store_nothing(alloc: Global, store: &mut MemCache, key: &CacheKey) -> Result<()> {
-    let writer = store.get_miss_handler(alloc, key, &meta_until(alloc, 300))?;
-    writer.finish(store)?;
-    Ok(())
-}
-
-// Whether so many slots stand in shard 14, and none in another.
-fn shards_have(store: &MemCache, slots: usize) -> bool {
-    for shard in 0..16usize {
-        let wanted = if shard == 14 { slots } else { 0 };
-        if store.shard_slots(shard) != wanted {
-            return false;
-        }
-    }
-    true
-}
-
-fn two_in_a_shard(
-    rt: &impl Abort,
-    alloc: Global,
-    store: &mut MemCache,
-    plain: &CacheKey,
-    varied: &CacheKey,
-) -> Result<()> {
-    store_nothing(alloc, store, plain)?;
-    store_nothing(alloc, store, varied)?;
-    assert!(rt; shards_have(store, 2));
-    let entry = CacheEntryKey::key_only(plain.to_compact()?);
-    store.purge(PurgeTarget::Exact(&entry), PurgeType::Invalidation)?;
-    assert!(rt; shards_have(store, 1));
-    assert_eq!(rt; store.slots(), 1);
-    Ok(())
-}
+const EXPIRIES_AND_METAS_ARE_OF_BODIES: &str = "
+    expire a 100 -> NotFound
+    update a 900 -> absent
+    1 begins a
+    expire a 100 -> NotFound
+    update a 900 -> absent
+    1 writes 123
+    1 finishes -> Created(3)
+    expire a 100 -> Expired
+    1 looks a -> hit 3 until 100
+    expire a 200 -> Expired
+    2 looks a -> hit 3 until 100
+    update a 900 -> updated
+    3 looks a -> hit 3 until 900
+    3 reads -> data 123
+    writes -> 0
+    close
+    total -> 3 bytes in 1, 0 writes";
 
 #[test]
-fn bodies_stand_in_the_shard_of_their_key(rt: HostRuntime) -> std::result::Result<(), Fail> {
-    let alloc = rt.alloc();
-    let mut store = MemCache::new(alloc);
-    let (plain, varied) = (aa(alloc, None)?, aa(alloc, Some([0; 16]))?);
-    two_in_a_shard(&rt, alloc, &mut store, &plain, &varied)?;
-    Ok(())
+fn expiries_and_metas_are_of_bodies(rt: HostRuntime) -> Tested<()> {
+    run(&rt, rt.alloc(), EXPIRIES_AND_METAS_ARE_OF_BODIES)
 }
 
-// Whether so many writes are kept in shard 14, and none in another.
-fn records_are(store: &MemCache, records: usize) -> bool {
-    for shard in 0..16usize {
-        let wanted = if shard == 14 { records } else { 0 };
-        if store.shard_write_records(shard) != wanted {
-            return false;
-        }
-    }
-    true
-}
-
-// A write of the plain key and one of the varied are kept in their shard, the first as long as its
-// reader names it.
-fn records_stand(
-    alloc: Global,
-    store: &mut MemCache,
-    plain: &CacheKey,
-    varied: &CacheKey,
-) -> Result<bool> {
-    let meta = meta_until(alloc, 300);
-    let first = store.get_miss_handler(alloc, plain, &meta)?;
-    let one = records_are(store, 1);
-    let found = store.lookup(alloc, plain);
-    first.drop_write(store);
-    let Some((_meta, reader)) = found? else {
-        return Ok(false);
-    };
-    let second = store.get_miss_handler(alloc, varied, &meta);
-    let two = records_are(store, 2);
-    reader.let_go(store);
-    let left = records_are(store, 1);
-    second?.drop_write(store);
-    Ok(one && two && left && records_are(store, 0))
-}
+const A_WRITE_IS_JOINED_BY_ITS_TAG: &str = "
+    1 begins a
+    2 begins a
+    2 writes xy
+    1 joins a 2 -> part until 300
+    1 reads -> data xy
+    2 joins b 2 -> none
+    2 joins a 9 -> none
+    purge a -> Purged(None)
+    2 joins a 2 -> part until 300
+    2 reads -> data xy
+    2 gives-up
+    3 joins a 2 -> none
+    writes -> 2
+    close
+    total -> 0 bytes in 0, 0 writes";
 
 #[test]
-fn writes_are_kept_in_the_shard_of_their_key(rt: HostRuntime) -> std::result::Result<(), Fail> {
-    let alloc = rt.alloc();
-    let mut store = MemCache::new(alloc);
-    let (plain, varied) = (aa(alloc, None)?, aa(alloc, Some([0; 16]))?);
-    let stand = records_stand(alloc, &mut store, &plain, &varied)?;
-    assert!(rt; stand);
-    Ok(())
-}
-
-// Writes the last bytes, where they are not yet said.
-fn write_last(writer: &mut MemMissHandler, store: &mut MemCache) -> Result<bool> {
-    if writer.at_eof(store) {
-        return Ok(false);
-    }
-    writer.write_body(store, Bytes::from_static(b"ab".as_slice()), true)?;
-    Ok(writer.at_eof(store))
-}
-
-// The first write of one store and the first of another, under keys of different shards. Lent the
-// other's store, the handler of the one names the write of its number there.
-fn is_named_by_number(
-    alloc: Global,
-    here: &mut MemCache,
-    there: &mut MemCache,
-    key: &CacheKey,
-    other: &CacheKey,
-) -> Result<bool> {
-    let meta = meta_until(alloc, 300);
-    let mut first = here.get_miss_handler(alloc, key, &meta)?;
-    let second = there.get_miss_handler(alloc, other, &meta);
-    let wrote = write_last(&mut first, there);
-    let untold = !first.at_eof(here);
-    first.drop_write(here);
-    let second = second?;
-    let told = second.at_eof(there);
-    second.drop_write(there);
-    Ok(wrote? && untold && told)
-}
-
-#[test]
-fn a_handler_names_its_write_by_the_number(rt: HostRuntime) -> std::result::Result<(), Fail> {
-    let alloc = rt.alloc();
-    let (mut here, mut there) = (MemCache::new(alloc), MemCache::new(alloc));
-    let (key, other) = (aa(alloc, None)?, key_of(alloc, "b")?);
-    assert!(rt; key.slot() % 16 != other.slot() % 16);
-    let named = is_named_by_number(alloc, &mut here, &mut there, &key, &other)?;
-    assert!(rt; named);
-    Ok(())
+fn a_write_is_joined_by_its_tag(rt: HostRuntime) -> Tested<()> {
+    run(&rt, rt.alloc(), A_WRITE_IS_JOINED_BY_ITS_TAG)
 }

@@ -48,7 +48,7 @@ fn play_row<D: Desk>(
     let (call, wanted) = row.split_once(" -> ").unwrap_or((row, "ok"));
     told.clear();
     desk.tell(call, told)?;
-    assert!(rt; told.as_str() == wanted, "{row}, and not {told}");
+    assert!(rt; told.as_str().trim() == wanted, "{row}, and not {told}");
     Ok(())
 }
 
@@ -65,6 +65,11 @@ pub fn number(call: &'static str, place: usize) -> u64 {
 /// The size at this place, or 0.
 pub fn size(call: &'static str, place: usize) -> usize {
     word(call, place).parse::<usize>().unwrap_or(0)
+}
+
+/// The size at this place, where there is one.
+pub fn some_size(call: &'static str, place: usize) -> Option<usize> {
+    word(call, place).parse::<usize>().ok()
 }
 
 /// The byte at this place, where there is one.
@@ -84,4 +89,31 @@ pub fn say(told: &mut String, text: &str) -> Tested<()> {
 
 pub fn yes_or_no(told: &mut String, fact: bool) -> Tested<()> {
     say(told, if fact { "yes" } else { "no" })
+}
+
+/// Puts the bytes that a text means in place of what is there: behind a `\`, `r` and `n` end a line, and `0` is the
+/// byte 0.
+pub fn unescape(text: &'static str, bytes: &mut Vec<u8>) -> Tested<()> {
+    bytes.clear();
+    let mut escaped = false;
+    for byte in text.as_bytes() {
+        if escaped {
+            bytes.push(meant(*byte))?;
+            escaped = false;
+        } else if *byte == b'\\' {
+            escaped = true;
+        } else {
+            bytes.push(*byte)?;
+        }
+    }
+    Ok(())
+}
+
+fn meant(byte: u8) -> u8 {
+    match byte {
+        b'r' => b'\r',
+        b'n' => b'\n',
+        b'0' => 0,
+        other => other,
+    }
 }

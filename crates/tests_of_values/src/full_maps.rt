@@ -1,5 +1,6 @@
 //! Maps with as many names as a header map holds: 24,576, of the library's `MAX_KEYS`.
 
+use crate::rows::{Tested, say};
 use http::{Method, StatusCode};
 use http_header::{HeaderMap, HeaderName, HeaderValue};
 use pcache_base::error::ErrorType;
@@ -9,37 +10,43 @@ use pcache_meta::header::{RequestHeader, ResponseHeader};
 use pcache_meta::header_text::reader::header_deserialize;
 use pcache_meta::meta::CacheMeta;
 use std::alloc::Global;
-use std::process::Abort;
-use std::test::Fail;
 
 const NAMES: u32 = 24_576;
 
-// A map with so many names.
-fn with_names(alloc: Global, names: u32) -> Result<HeaderMap, Fail> {
-    let mut headers = HeaderMap::new(alloc);
-    for number in 0..names {
-        let name = format!(in alloc; "x{number}")?;
-        let name = HeaderName::from_bytes(alloc, name.as_bytes())?;
-        let value = HeaderValue::from_bytes(alloc, b"1")?;
-        headers.insert(name, value)?;
-    }
-    Ok(headers)
+// Adds a name by its number.
+fn add(alloc: Global, headers: &mut HeaderMap, name: &mut String, number: u32) -> Tested<()> {
+    name.clear();
+    write!(name, "x{number}")?;
+    put(alloc, headers, name.as_str(), "1")
 }
 
-fn request(alloc: Global, names: u32) -> Result<RequestHeader, Fail> {
+fn put(alloc: Global, headers: &mut HeaderMap, name: &str, value: &str) -> Tested<()> {
+    let name = HeaderName::from_bytes(alloc, name.as_bytes())?;
+    let value = HeaderValue::from_bytes(alloc, value.as_bytes())?;
+    headers.insert(name, value)?;
+    Ok(())
+}
+
+fn fill(alloc: Global, headers: &mut HeaderMap, name: &mut String, names: u32) -> Tested<()> {
+    for number in 0..names {
+        add(alloc, headers, name, number)?;
+    }
+    Ok(())
+}
+
+fn request(alloc: Global) -> Tested<RequestHeader> {
     Ok(RequestHeader {
         method: Method::GET,
         target: Vec::from_slice(alloc, b"/")?,
-        headers: with_names(alloc, names)?,
+        headers: HeaderMap::new(alloc),
     })
 }
 
-fn stored(alloc: Global) -> Result<CacheMeta, Fail> {
+fn stored(alloc: Global) -> Tested<CacheMeta> {
     let mut header = ResponseHeader::build(alloc, StatusCode::OK);
-    let tag = HeaderValue::from_bytes(alloc, b"\"a\"")?;
-    header.headers.insert("etag", tag)?;
-    let date = HeaderValue::from_bytes(alloc, b"Thu, 01 Jan 1970 01:00:00 GMT")?;
-    header.headers.insert("last-modified", date)?;
+    put(alloc, &mut header.headers, "etag", "\"a\"")?;
+    let date = "Thu, 01 Jan 1970 01:00:00 GMT";
+    put(alloc, &mut header.headers, "last-modified", date)?;
     let now = Moment::from_secs(1000);
     Ok(CacheMeta::new(now, now, 0, 0, header))
 }
@@ -53,80 +60,58 @@ fn asked(request: &mut RequestHeader, meta: &CacheMeta) -> (Option<ErrorType>, u
     (kind, request.headers.keys_len())
 }
 
-fn has_no_room(rt: &impl Abort, request: &mut RequestHeader, meta: &CacheMeta, left: usize) {
-    let found = asked(request, meta);
-    assert!(rt; found == (Some(ErrorType::InternalError), left));
+// What comes of a request with so many names that asks whether what is stored is still good.
+fn asks_with(alloc: Global, names: u32) -> Tested<(Option<ErrorType>, usize)> {
+    let mut request = request(alloc)?;
+    fill(alloc, &mut request.headers, &mut String::new(alloc), names)?;
+    Ok(asked(&mut request, &stored(alloc)?))
 }
 
 #[test]
-fn a_full_request_has_no_room_to_ask(rt: HostRuntime) -> Result<(), Fail> {
-    let meta = stored(rt.alloc())?;
-    has_no_room(&rt, &mut request(rt.alloc(), NAMES)?, &meta, 24_576);
+fn a_full_request_has_no_room_to_ask(rt: HostRuntime) -> Tested<()> {
+    assert!(rt; asks_with(rt.alloc(), NAMES)? == (Some(ErrorType::InternalError), 24_576));
     Ok(())
 }
 
 #[test]
-fn a_request_with_room_for_one_field_asks_in_part(rt: HostRuntime) -> Result<(), Fail> {
-    let meta = stored(rt.alloc())?;
-    has_no_room(&rt, &mut request(rt.alloc(), NAMES - 1)?, &meta, 24_576);
+fn a_request_with_room_for_one_field_asks_in_part(rt: HostRuntime) -> Tested<()> {
+    assert!(rt; asks_with(rt.alloc(), NAMES - 1)? == (Some(ErrorType::InternalError), 24_576));
     Ok(())
 }
 
-fn has_room(rt: &impl Abort, request: &mut RequestHeader, meta: &CacheMeta) {
-    let found = asked(request, meta);
-    assert!(rt; found == (None, 24_576));
-}
-
 #[test]
-fn a_request_with_room_for_two_fields_asks(rt: HostRuntime) -> Result<(), Fail> {
-    let meta = stored(rt.alloc())?;
-    has_room(&rt, &mut request(rt.alloc(), NAMES - 2)?, &meta);
+fn a_request_with_room_for_two_fields_asks(rt: HostRuntime) -> Tested<()> {
+    assert!(rt; asks_with(rt.alloc(), NAMES - 2)? == (None, 24_576));
     Ok(())
 }
 
 // The text of a head with so many names.
-fn text(alloc: Global, names: u32) -> Result<String, Fail> {
-    let mut text = String::from_str(alloc, "HTTP/1.1 200\r\n")?;
+fn write_text(text: &mut String, names: u32) -> Tested<()> {
+    say(text, "HTTP/1.1 200\r\n")?;
     for number in 0..names {
-        let line = format!(in alloc; "x{number}: 1\r\n")?;
-        text.push_str(line.as_str())?;
+        write!(text, "x{number}: 1\r\n")?;
     }
-    text.push_str("\r\n")?;
-    Ok(text)
+    say(text, "\r\n")
 }
 
-// How many names were read, or the kind of the refusal.
-fn names_read(alloc: Global, text: &str) -> Result<usize, ErrorType> {
-    match header_deserialize(alloc, text.as_bytes()) {
+// How many names are read of such a text, or the kind of the refusal.
+fn names_read(alloc: Global, names: u32) -> Tested<Result<usize, ErrorType>> {
+    let mut text = String::new(alloc);
+    write_text(&mut text, names)?;
+    Ok(match header_deserialize(alloc, text.as_bytes()) {
         Ok(header) => Ok(header.headers.keys_len()),
         Err(refused) => Err(refused.etype()),
-    }
-}
-
-fn reads(rt: &impl Abort, alloc: Global, text: &str, names: Result<usize, ErrorType>) {
-    let found = names_read(alloc, text);
-    assert!(rt; found == names);
+    })
 }
 
 #[test]
-fn a_text_of_as_many_names_is_read(rt: HostRuntime) -> Result<(), Fail> {
-    reads(
-        &rt,
-        rt.alloc(),
-        text(rt.alloc(), NAMES)?.as_str(),
-        Ok(24_576),
-    );
+fn a_text_of_as_many_names_is_read(rt: HostRuntime) -> Tested<()> {
+    assert!(rt; names_read(rt.alloc(), NAMES)? == Ok(24_576));
     Ok(())
 }
 
 #[test]
-fn a_text_of_one_name_more_is_unreadable(rt: HostRuntime) -> Result<(), Fail> {
-    let many = text(rt.alloc(), NAMES + 1)?;
-    reads(
-        &rt,
-        rt.alloc(),
-        many.as_str(),
-        Err(ErrorType::InternalError),
-    );
+fn a_text_of_one_name_more_is_unreadable(rt: HostRuntime) -> Tested<()> {
+    assert!(rt; names_read(rt.alloc(), NAMES + 1)? == Err(ErrorType::InternalError));
     Ok(())
 }

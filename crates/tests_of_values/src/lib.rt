@@ -26,8 +26,6 @@ mod max_file_size;
 #[cfg(test)]
 mod meta;
 #[cfg(test)]
-mod meta_bytes;
-#[cfg(test)]
 mod moment;
 #[cfg(test)]
 mod msgpack;
@@ -35,6 +33,8 @@ mod msgpack;
 mod predictor;
 #[cfg(test)]
 mod response_parse;
+#[cfg(test)]
+mod rows;
 #[cfg(test)]
 mod small_types;
 #[cfg(test)]

@@ -1,0 +1,177 @@
+//! Tests as rows of text: a call on the left of an arrow, and on the right what it tells.
+//!
+//! A row of text costs nothing to prove, and the functions behind the calls are proved once for all rows.
+use std::alloc::Global;
+use std::process::Abort;
+use std::test::Fail;
+
+pub type Tested<T> = Result<T, Fail>;
+
+/// What makes the calls of rows.
+pub trait Desk {
+    /// Makes a call, and tells what it answered.
+    fn tell(&mut self, call: &'static str, told: &mut String) -> Tested<()>;
+}
+
+/// Plays the rows. One that begins with `#` says what those behind it are about.
+pub fn play<D: Desk>(
+    rt: &impl Abort,
+    alloc: Global,
+    desk: &mut D,
+    rows: &'static str,
+) -> Tested<()> {
+    let mut told = String::new(alloc);
+    play_all(rt, desk, &mut told, rows)
+}
+
+fn play_all<D: Desk>(
+    rt: &impl Abort,
+    desk: &mut D,
+    told: &mut String,
+    rows: &'static str,
+) -> Tested<()> {
+    for row in rows.lines() {
+        let row = row.trim();
+        if !row.is_empty() && !row.starts_with('#') {
+            play_row(rt, desk, told, row)?;
+        }
+    }
+    Ok(())
+}
+
+fn play_row<D: Desk>(
+    rt: &impl Abort,
+    desk: &mut D,
+    told: &mut String,
+    row: &'static str,
+) -> Tested<()> {
+    let (call, wanted) = row.split_once(" -> ").unwrap_or((row, "ok"));
+    told.clear();
+    desk.tell(call, told)?;
+    assert!(rt; told.as_str().trim() == wanted, "{row}, and not {told}");
+    Ok(())
+}
+
+/// The word at this place, counted from 0; the empty one behind the last.
+pub fn word(call: &'static str, place: usize) -> &'static str {
+    call.split(' ').nth(place).unwrap_or("")
+}
+
+/// The number at this place, or 0.
+pub fn number(call: &'static str, place: usize) -> u64 {
+    word(call, place).parse::<u64>().unwrap_or(0)
+}
+
+/// The size at this place, or 0.
+pub fn size(call: &'static str, place: usize) -> usize {
+    word(call, place).parse::<usize>().unwrap_or(0)
+}
+
+/// The size at this place, where there is one.
+pub fn some_size(call: &'static str, place: usize) -> Option<usize> {
+    word(call, place).parse::<usize>().ok()
+}
+
+/// The byte at this place, where there is one.
+pub fn some_byte(call: &'static str, place: usize) -> Option<u8> {
+    word(call, place).parse::<u8>().ok()
+}
+
+/// The number at this place, where there is one.
+pub fn some_number(call: &'static str, place: usize) -> Option<u64> {
+    word(call, place).parse::<u64>().ok()
+}
+
+pub fn say(told: &mut String, text: &str) -> Tested<()> {
+    told.push_str(text)?;
+    Ok(())
+}
+
+pub fn yes_or_no(told: &mut String, fact: bool) -> Tested<()> {
+    say(told, if fact { "yes" } else { "no" })
+}
+
+/// Puts the bytes that a text means in place of what is there. Behind a `\`, `r` and `n` end a line, `t` is a tab, a
+/// digit is the byte of that number, and `d` and `f` are the bytes 127 and 255.
+pub fn unescape(text: &'static str, bytes: &mut Vec<u8>) -> Tested<()> {
+    bytes.clear();
+    let mut escaped = false;
+    for byte in text.as_bytes() {
+        if escaped {
+            bytes.push(meant(*byte))?;
+            escaped = false;
+        } else if *byte == b'\\' {
+            escaped = true;
+        } else {
+            bytes.push(*byte)?;
+        }
+    }
+    Ok(())
+}
+
+fn meant(byte: u8) -> u8 {
+    match byte {
+        b'r' => b'\r',
+        b'n' => b'\n',
+        b't' => b'\t',
+        b'0'..=b'9' => byte.saturating_sub(b'0'),
+        b'd' => 127,
+        b'f' => 255,
+        other => other,
+    }
+}
+
+/// Puts the bytes of pairs of hexadecimal digits in place of what is there.
+pub fn unhex(text: &'static str, bytes: &mut Vec<u8>) -> Tested<()> {
+    bytes.clear();
+    let mut first = None;
+    for letter in text.as_bytes() {
+        let value = value_of(*letter);
+        if value > 15 {
+            first = None;
+        } else if let Some(high) = first {
+            bytes.push((high << 4) | value)?;
+            first = None;
+        } else {
+            first = Some(value);
+        }
+    }
+    Ok(())
+}
+
+fn value_of(letter: u8) -> u8 {
+    match letter {
+        b'0'..=b'9' => letter.saturating_sub(b'0'),
+        b'a'..=b'f' => letter.saturating_sub(b'a').saturating_add(10),
+        _ => 16,
+    }
+}
+
+/// Tells bytes in pairs of hexadecimal digits.
+pub fn tell_hex(told: &mut String, bytes: &[u8]) -> Tested<()> {
+    for byte in bytes {
+        write!(told, "{byte:02x}")?;
+    }
+    Ok(())
+}
+
+/// Tells bytes as letters of the same numbers, and the ends of lines as `unescape` reads them.
+pub fn tell_bytes(told: &mut String, bytes: &[u8]) -> Tested<()> {
+    for byte in bytes {
+        match *byte {
+            b'\r' => told.push_str("\\r")?,
+            b'\n' => told.push_str("\\n")?,
+            b'\t' => told.push_str("\\t")?,
+            other => told.push(char::from(other))?,
+        }
+    }
+    Ok(())
+}
+
+/// What stands behind the first word.
+pub fn rest(call: &'static str) -> &'static str {
+    match call.split_once(' ') {
+        Some((_word, rest)) => rest,
+        None => "",
+    }
+}
