@@ -1,7 +1,7 @@
 //! Lines of Cache-Control: worked rows. A row's lines stand between bars.
 use crate::rows::{Desk, Tested, play, rest, say, tell_bytes, unescape, word, yes_or_no};
 use http::StatusCode;
-use http_header::HeaderValue;
+use http_header::{HeaderName, HeaderValue};
 use pcache_base::error::{ErrorType, Result};
 use pcache_control::cache_control::{
     CacheControl, Cacheable, DELTA_SECONDS_OVERFLOW_VALUE, DirectiveKey, DirectiveValue,
@@ -51,8 +51,9 @@ impl Desk for Lines {
 }
 
 fn append(alloc: Global, header: &mut ResponseHeader, line: &[u8]) -> Tested<()> {
+    let name = HeaderName::from_bytes(alloc, b"cache-control")?;
     let value = HeaderValue::from_bytes(alloc, line)?;
-    let _found = header.headers.append("cache-control", value)?;
+    let _found = header.headers.append(name, value)?;
     Ok(())
 }
 
@@ -77,13 +78,13 @@ fn tell_of(cc: &CacheControl, what: &str, told: &mut String) -> Tested<()> {
         "says" => says(cc, told),
         "private" => yes_or_no(told, cc.private()),
         "no-cache" => yes_or_no(told, cc.no_cache()),
-        "max-age" => has_max_age(cc, told),
-        "own-name" => yes_or_no(told, cc.has_key("own-name")),
+        "has-max-age" => yes_or_no(told, cc.has_directive(&DirectiveKey::MaxAge)),
+        "only-if-cached" => yes_or_no(told, cc.only_if_cached()),
         "no-cache-names" => join(cc.no_cache_field_names(), told),
         "private-names" => join(cc.private_field_names(), told),
         "flags" => flags(cc, told),
         "windows" => windows(cc, told),
-        _ => say(told, "no such call"),
+        _ => has(cc, what, told),
     }
 }
 
@@ -120,13 +121,12 @@ fn tell_seconds(told: &mut String, time: Option<Duration>) -> Tested<()> {
     }
 }
 
-// Directives are found by their lower-case names.
-fn has_max_age(cc: &CacheControl, told: &mut String) -> Tested<()> {
-    yes_or_no(
-        told,
-        cc.has_key("max-age") && cc.has_directive(&DirectiveKey::MaxAge),
-    )?;
-    yes_or_no(told, cc.has_key("Max-Age") || cc.only_if_cached())
+// Whether the directive that the call names behind a colon is there.
+fn has(cc: &CacheControl, what: &str, told: &mut String) -> Tested<()> {
+    match what.split_once(':') {
+        Some((_verb, name)) => yes_or_no(told, cc.has_key(name)),
+        None => say(told, "no such call"),
+    }
 }
 
 // The items, each behind a slash.
@@ -254,8 +254,11 @@ const DIRECTIVES: &str = r#"
     says private="x"|private -> no none
     private private, private="x" -> no
     # directives are found by their lower-case names
-    max-age max-age=1 -> yesno
-    own-name Own-Name=1 -> yes
+    has:max-age max-age=1 -> yes
+    has:Max-Age max-age=1 -> no
+    has-max-age max-age=1 -> yes
+    only-if-cached max-age=1 -> no
+    has:own-name Own-Name=1 -> yes
     # listed field names
     no-cache no-cache="meta1, SeT-Cookie ,meta2", private=a -> no
     no-cache-names no-cache="meta1, SeT-Cookie ,meta2", private=a -> /meta1/SeT-Cookie/meta2

@@ -81,10 +81,10 @@ fn response(alloc: Global, text: &'static str) -> Tested<ResponseHeader> {
 
 // The first text is that of Cache-Control, and those behind it of Expires.
 fn set_fields(alloc: Global, header: &mut ResponseHeader, fields: &'static str) -> Tested<()> {
-    let mut name = "cache-control";
-    for text in fields.split('|') {
-        set(header, alloc, name, text)?;
-        name = "expires";
+    let (line, expires) = fields.split_once('|').unwrap_or((fields, ""));
+    set(header, alloc, "cache-control", line)?;
+    for text in expires.split('|') {
+        set(header, alloc, "expires", text)?;
     }
     Ok(())
 }
@@ -120,7 +120,12 @@ fn until(
     defaults: &CacheMetaDefaults,
     told: &mut String,
 ) -> Tested<()> {
-    match outcome(alloc, header, authorized, defaults)? {
+    let outcome = outcome(alloc, header, authorized, defaults)?;
+    tell_until(&outcome, told)
+}
+
+fn tell_until(outcome: &RespCacheable, told: &mut String) -> Tested<()> {
+    match outcome {
         RespCacheable::Cacheable(meta) => Ok(write!(told, "{}", meta.fresh_until().secs())?),
         RespCacheable::Uncacheable(_) => say(told, "not stored"),
     }
@@ -150,7 +155,12 @@ fn kept(alloc: Global, header: ResponseHeader, told: &mut String) -> Tested<()> 
         set(&mut header, alloc, name, "x")?;
     }
     let defaults = CacheMetaDefaults::new(by_status, 0, 0);
-    match outcome(alloc, header, false, &defaults)? {
+    let outcome = outcome(alloc, header, false, &defaults)?;
+    tell_kept(&outcome, told)
+}
+
+fn tell_kept(outcome: &RespCacheable, told: &mut String) -> Tested<()> {
+    match outcome {
         RespCacheable::Cacheable(meta) => tell_fields(meta.headers(), told),
         RespCacheable::Uncacheable(_) => say(told, "not stored"),
     }

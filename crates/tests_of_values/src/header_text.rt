@@ -30,7 +30,9 @@ impl Desk for Heads {
             }
             "head" => {
                 self.header = ResponseHeader::build(self.alloc, status(word(call, 1)));
-                self.header.version = version(word(call, 2));
+                if let Some(version) = version(word(call, 2)) {
+                    self.header.version = version;
+                }
                 say(told, "ok")
             }
             "add" => {
@@ -38,6 +40,8 @@ impl Desk for Heads {
                 add(self.alloc, &mut self.header, name, value)?;
                 say(told, "ok")
             }
+            "copied" => tell_head(&self.header.copied()?, told),
+            "shown" => tell_head(&self.header, told),
             "write" => write_head(self.alloc, &self.header, told),
             _ => {
                 let is_one = are_told(self.alloc, number(call, 1), word(call, 2));
@@ -59,13 +63,14 @@ fn status(word: &str) -> StatusCode {
     }
 }
 
-fn version(word: &str) -> HttpVersion {
+fn version(word: &str) -> Option<HttpVersion> {
     match word {
-        "0.9" => HttpVersion::Http09,
-        "1.0" => HttpVersion::Http10,
-        "1.1" => HttpVersion::Http11,
-        "2.0" => HttpVersion::Http2,
-        _ => HttpVersion::Http3,
+        "0.9" => Some(HttpVersion::Http09),
+        "1.0" => Some(HttpVersion::Http10),
+        "1.1" => Some(HttpVersion::Http11),
+        "2.0" => Some(HttpVersion::Http2),
+        "3.0" => Some(HttpVersion::Http3),
+        _ => None,
     }
 }
 
@@ -139,6 +144,10 @@ fn no_heads(alloc: Global) -> Heads {
 }
 
 const READ: &str = r"
+    # a head that was just made, and its copy
+    head 404
+    shown -> Http11 404
+    copied -> Http11 404
     # a head is written and read
     head 200 1.1
     add foo1 bar1

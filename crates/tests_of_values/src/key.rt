@@ -5,7 +5,6 @@ use pcache_base::key::{
     CacheHashKey, CacheKey, CompactCacheKey, HashBinary, hash_key, hash_u8, str2hex,
 };
 use std::alloc::Global;
-use std::process::Abort;
 
 // A key with the tag `1`, and its compact form.
 #[derive(Drop)]
@@ -89,6 +88,14 @@ fn tell_of(
                 "no"
             },
         ),
+        "told-apart" => say(
+            told,
+            if is_told_apart(key, compact)? {
+                "yes"
+            } else {
+                "no"
+            },
+        ),
         "first-byte" => Ok(write!(told, "{:x}", hash_u8(word(call, 1)))?),
         "read" => tell_hash(told, str2hex(word(call, 1))),
         "hash-of" => tell_hash(told, hash_of(size(call, 1))),
@@ -130,6 +137,14 @@ fn copies_are_equal(key: &CacheKey, compact: &CompactCacheKey) -> Result<bool> {
     Ok(copy == *compact && again.combined_bin() == compact.combined_bin())
 }
 
+// Whether the compact form of the key without its variance is another one.
+fn is_told_apart(key: &CacheKey, compact: &CompactCacheKey) -> Result<bool> {
+    let mut plain = key.copied()?;
+    plain.remove_variance_key();
+    let plain = plain.to_compact()?;
+    Ok(plain != *compact)
+}
+
 const HASHED: &str = r"
     hash-of 0 -> cae66941d9efbd404e4d88758ea67670
     hash-of 127 -> 28b1296c7d4807883de6ee4ec04dcc0a
@@ -156,6 +171,7 @@ const KEYS: &str = r"
     tag -> 1
     compact -> ac10f2aef117729f8dad056b3059eb7e, user_tag: 1
     copies -> yes
+    told-apart -> no
     # with sixteen zero bytes of variance
     variance-is 00000000000000000000000000000000
     hashes -> ac10f2aef117729f8dad056b3059eb7e 00000000000000000000000000000000 004174d3e75a811a5b44c46b3856f3ee
@@ -163,6 +179,7 @@ const KEYS: &str = r"
     set-variance -> 00000000000000000000000000000000
     compact -> ac10f2aef117729f8dad056b3059eb7e, variance: 00000000000000000000000000000000, user_tag: 1
     copies -> yes
+    told-apart -> yes
     no-variance
     hashes -> ac10f2aef117729f8dad056b3059eb7e none ac10f2aef117729f8dad056b3059eb7e
     compact-hashes -> ac10f2aef117729f8dad056b3059eb7e none ac10f2aef117729f8dad056b3059eb7e
@@ -205,16 +222,4 @@ const PRIMARIES: &str = r"
 #[test]
 fn primary_bytes_as_text_and_framed_parts(rt: HostRuntime) -> Tested<()> {
     play(&rt, rt.alloc(), &mut key_aa(rt.alloc())?, PRIMARIES)
-}
-
-fn are_told_apart(rt: &impl Abort, keyed: &mut Keyed) {
-    let plain = &keyed.compact;
-    keyed.key.set_variance_key([0; 16]);
-    assert!(rt; keyed.key.to_compact().is_ok_and(|varied| varied != *plain));
-}
-
-#[test]
-fn compact_keys_are_told_apart(rt: HostRuntime) -> Tested<()> {
-    are_told_apart(&rt, &mut key_aa(rt.alloc())?);
-    Ok(())
 }

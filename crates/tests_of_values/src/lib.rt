@@ -14,8 +14,6 @@ mod freshness;
 #[cfg(test)]
 mod full_maps;
 #[cfg(test)]
-mod header;
-#[cfg(test)]
 mod header_text;
 #[cfg(test)]
 mod internal_meta;

@@ -128,11 +128,17 @@ fn see_head(seen: &mut String, head: &ResponseHeader) -> Tested<()> {
     let status = head.status.as_u16();
     let fields = head.headers.len();
     write!(seen, "{:?} {status} of {fields}", head.version)?;
-    if let Some(server) = head.headers.get("server") {
-        say(seen, " by ")?;
-        tell_bytes(seen, server.as_bytes())?;
+    see_field(seen, head, "server")
+}
+
+fn see_field(seen: &mut String, head: &ResponseHeader, name: &str) -> Tested<()> {
+    match head.headers.get(name) {
+        Some(value) => {
+            say(seen, " by ")?;
+            tell_bytes(seen, value.as_bytes())
+        }
+        None => Ok(()),
     }
-    Ok(())
 }
 
 // The last head, how many heads and bodies came, whether the end is known to have come, and the body.

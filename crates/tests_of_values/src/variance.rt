@@ -1,6 +1,7 @@
 //! Which values of which names a variance depends on: upstream's tests in our own words.
 use crate::rows::{Desk, Tested, play, rest, say, tell_hex, word};
 use pcache_base::error::Result;
+use pcache_base::key::HashBinary;
 use pcache_base::variance::VarianceBuilder;
 use std::alloc::Global;
 
@@ -12,19 +13,32 @@ struct Builds {
 impl Desk for Builds {
     fn tell(&mut self, call: &'static str, told: &mut String) -> Tested<()> {
         let mut builder = VarianceBuilder::new(self.alloc);
-        let kind = word(call, 0);
-        for pair in rest(call).split(' ') {
-            if let Some((name, value)) = pair.split_once('=') {
-                add(self.alloc, &mut builder, kind, name, value.as_bytes())?;
-            }
-        }
+        add_all(self.alloc, &mut builder, call)?;
         let varies = builder.has_variance();
-        match builder.finalize() {
-            Some(hash) if varies => tell_hex(told, hash.as_slice()),
-            None if !varies => say(told, "none"),
-            _ => say(told, "a hash, or a variance"),
+        tell_hash(told, varies, builder.finalize())
+    }
+}
+
+// There is a hash where there is a variance.
+fn tell_hash(told: &mut String, varies: bool, hash: Option<HashBinary>) -> Tested<()> {
+    match hash {
+        Some(hash) if varies => tell_hex(told, hash.as_slice()),
+        None if !varies => say(told, "none"),
+        _ => say(told, "a hash, or a variance"),
+    }
+}
+
+fn add_all(
+    alloc: Global,
+    builder: &mut VarianceBuilder<'static>,
+    call: &'static str,
+) -> Tested<()> {
+    for pair in rest(call).split(' ') {
+        if let Some((name, value)) = pair.split_once('=') {
+            add(alloc, builder, word(call, 0), name, value.as_bytes())?;
         }
     }
+    Ok(())
 }
 
 // Lends name and value, or gives the value away, or both.
