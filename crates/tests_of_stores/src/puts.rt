@@ -300,7 +300,7 @@ fn is_stored(alloc: Global, cut: Option<usize>) -> Result<bool> {
 
 fn is_fed(parts: &mut Parts, put: &mut Put, piece: &[u8]) -> bool {
     let answer = put.cache_put(piece, &mut parts.store, Moment::EPOCH);
-    answer.is_ok_and(|reason| reason.is_none())
+    matches!(answer, Ok(None))
 }
 
 fn finished(parts: &mut Parts, put: &mut Put) -> Option<usize> {

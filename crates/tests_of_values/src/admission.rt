@@ -1,8 +1,11 @@
+use crate::rows::Tested;
+use pcache_base::error::Result;
 use pcache_base::key::CacheKey;
 use pcache_predict::admission::{AdmissionPolicy, Decision};
-use std::test::Fail;
+use std::alloc::Global;
 
 // Stores from the third time on.
+#[derive(Drop)]
 struct ThirdTime {
     observed: u32,
 }
@@ -19,25 +22,28 @@ impl AdmissionPolicy for ThirdTime {
     }
 }
 
-// Whether a key is deferred, and how often it was observed.
-fn asked<P: AdmissionPolicy>(policy: &mut P, key: &CacheKey) -> (bool, u32) {
+// How often a key was observed, and ten more where it is deferred.
+fn asked<P: AdmissionPolicy>(policy: &mut P, key: &CacheKey) -> u32 {
     let decision = policy.observe(key);
-    (decision.is_deferred(), decision.observed())
+    let more = if decision.is_deferred() { 10 } else { 0 };
+    decision.observed().saturating_add(more)
 }
 
 fn third_is_ready(policy: &mut ThirdTime, key: &CacheKey) -> bool {
     let first = asked(policy, key);
     let second = asked(policy, key);
     let third = asked(policy, key);
-    first == (true, 1) && second == (true, 2) && third == (false, 3)
+    [first, second, third] == [11, 12, 3]
+}
+
+fn key(alloc: Global) -> Result<CacheKey> {
+    let primary = b"a".to_vec(alloc)?;
+    Ok(CacheKey::new(primary, String::from_str(alloc, "1")?))
 }
 
 #[test]
-fn decisions(rt: HostRuntime) -> Result<(), Fail> {
-    let primary = b"a".to_vec(rt.alloc())?;
-    let key = CacheKey::new(primary, String::from_str(rt.alloc(), "1")?);
-    let mut policy = ThirdTime { observed: 0 };
-    assert!(rt; third_is_ready(&mut policy, &key));
-    let ThirdTime { observed: _ } = policy;
+fn decisions(rt: HostRuntime) -> Tested<()> {
+    let key = key(rt.alloc())?;
+    assert!(rt; third_is_ready(&mut ThirdTime { observed: 0 }, &key));
     Ok(())
 }

@@ -42,7 +42,12 @@ impl Desk for Lines {
                 self.header = ResponseHeader::build(self.alloc, StatusCode::OK);
                 for line in rest(call).split('|') {
                     unescape(line, &mut self.line)?;
-                    append(self.alloc, &mut self.header, self.line.as_slice())?;
+                    append(
+                        self.alloc,
+                        &mut self.header,
+                        "cache-control",
+                        self.line.as_slice(),
+                    )?;
                 }
                 tell_lines(self.alloc, &self.header, call, told)
             }
@@ -50,8 +55,8 @@ impl Desk for Lines {
     }
 }
 
-fn append(alloc: Global, header: &mut ResponseHeader, line: &[u8]) -> Tested<()> {
-    let name = HeaderName::from_bytes(alloc, b"cache-control")?;
+fn append(alloc: Global, header: &mut ResponseHeader, name: &str, line: &[u8]) -> Tested<()> {
+    let name = HeaderName::from_bytes(alloc, name.as_bytes())?;
     let value = HeaderValue::from_bytes(alloc, line)?;
     let _found = header.headers.append(name, value)?;
     Ok(())

@@ -48,7 +48,7 @@ impl Desk for Told {
         }
         match verb {
             "new" => self.meta = meta(self.alloc),
-            "field" => add_field(self.alloc, &mut self.meta)?,
+            "field" => add_field(self.alloc, &mut self.meta, word(call, 1), word(call, 2))?,
             "internal" => unhex(rest(call), &mut self.internal)?,
             "header" => unescape(rest(call), &mut self.header)?,
             "header-bytes" => unhex(rest(call), &mut self.header)?,
@@ -134,9 +134,9 @@ fn head(header: &ResponseHeader, told: &mut String) -> Tested<()> {
     Ok(write!(told, "{:?} {status}", header.version)?)
 }
 
-fn add_field(alloc: Global, meta: &mut CacheMeta) -> Tested<()> {
-    let name = HeaderName::from_bytes(alloc, b"cache-control")?;
-    let value = HeaderValue::from_bytes(alloc, b"max-age=5")?;
+fn add_field(alloc: Global, meta: &mut CacheMeta, name: &str, value: &str) -> Tested<()> {
+    let name = HeaderName::from_bytes(alloc, name.as_bytes())?;
+    let value = HeaderValue::from_bytes(alloc, value.as_bytes())?;
     let _found = meta.response_header_mut().headers.append(name, value)?;
     Ok(())
 }
@@ -279,7 +279,7 @@ const STRINGS: &str = r"
     # a meta reads back
     variance-key-is 172
     epoch-is 7
-    field
+    field cache-control max-age=5
     again -> 300 1 1 1 7!, 30 60 acacacacacacacacacacacacacacacac, the same fields
     # each shorter beginning is refused
     internal 99 02 92 cd 01 2c 00 92 01 00 92 01 00 1e 3c c0 c0 92 01 00

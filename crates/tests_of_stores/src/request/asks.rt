@@ -22,7 +22,10 @@ pub fn tell(
         "wait" => wait(parts, cache, told)?,
         "waits" => yes_or_no(told, waits(parts, cache)?)?,
         "asks" => asked(parts, cache, told)?,
-        "merges" => yes_or_no(told, is_merged(parts.alloc, cache)?)?,
+        "merges" => yes_or_no(
+            told,
+            is_merged(parts.alloc, cache, choices::ANSWER, choices::MERGED)?,
+        )?,
         "finds-times" => found_times(parts, cache, told)?,
         "total" => totals(parts, told)?,
         other => return shows(parts, cache, other, told),
@@ -257,14 +260,14 @@ fn name(told: &mut String, name: LockName) -> Tested<()> {
 }
 
 // Whether the head that a revalidation makes is that text.
-fn is_merged(alloc: Global, cache: &Request) -> Tested<bool> {
+fn is_merged(alloc: Global, cache: &Request, answer: &str, wanted: &str) -> Tested<bool> {
     if !cache.may_revalidate() {
         return Ok(false);
     }
-    let answer = header_deserialize(alloc, choices::ANSWER.as_bytes())?;
+    let answer = header_deserialize(alloc, answer.as_bytes())?;
     let merged = cache.revalidate_merge_header(&answer)?;
     let text = header_serialize(alloc, &merged)?;
-    Ok(text.as_slice() == choices::MERGED.as_bytes())
+    Ok(text.as_slice() == wanted.as_bytes())
 }
 
 // Looks the key up, and tells the times of the meta that it finds.

@@ -12,7 +12,7 @@ pub fn make(parts: &mut Parts, cache: &mut Request, call: &'static str) -> Teste
     match word(call, 1) {
         "miss" => Ok(miss(cache)),
         "meta" => Ok(set_meta(parts, cache, number(call, 2))),
-        "stored-meta" => stored_meta(parts, cache),
+        "stored-meta" => stored_meta(parts, cache, choices::STORED),
         "variance" => Ok(set_variance(parts, cache, some_byte(call, 2))),
         "begin" => Ok(begin(parts, cache)?),
         "begin-telling" => Ok(begin_telling(parts, cache)?),
@@ -136,10 +136,10 @@ fn set_meta(parts: &mut Parts, cache: &mut Request, fresh_until: u64) -> Said {
 }
 
 // A meta whose head is that of the revalidation below.
-fn stored_meta(parts: &mut Parts, cache: &mut Request) -> Tested<Said> {
+fn stored_meta(parts: &mut Parts, cache: &mut Request, head: &str) -> Tested<Said> {
     let may = cache.may_take_meta();
     if may {
-        let head = header_deserialize(parts.alloc, choices::STORED.as_bytes())?;
+        let head = header_deserialize(parts.alloc, head.as_bytes())?;
         let until = Moment::from_secs(60);
         cache.set_cache_meta(CacheMeta::new(until, parts.now, 0, 0, head));
     }
