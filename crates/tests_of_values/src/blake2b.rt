@@ -27,14 +27,21 @@ fn vectors(rt: HostRuntime) {
     }
 }
 
+// Whether the hash of the text in two pieces is that of so many letters.
+fn is_hashed_cut(text: &[u8], cut: usize) -> bool {
+    let Some((first, second)) = text.split_at_checked(cut) else {
+        return false;
+    };
+    let mut hasher = Hasher::new();
+    hasher.update(first);
+    hasher.update(second);
+    Some(hasher.finish()) == str2hex("29e452ed1a672b027a1cd3f5ac4849c6")
+}
+
 #[test]
 fn pieces(rt: HostRuntime) {
     let text = [97u8; 257];
     for cut in 0..257 {
-        let mut hasher = Hasher::new();
-        hasher.update(&text[..cut]);
-        hasher.update(&text[cut..]);
-        let wanted = "29e452ed1a672b027a1cd3f5ac4849c6";
-        assert_eq!(rt; Some(hasher.finish()), str2hex(wanted), "at {cut}");
+        assert!(rt; is_hashed_cut(text.as_slice(), cut), "at {cut}");
     }
 }

@@ -83,8 +83,17 @@ fn response(alloc: Global, text: &'static str) -> Tested<ResponseHeader> {
 fn set_fields(alloc: Global, header: &mut ResponseHeader, fields: &'static str) -> Tested<()> {
     let (line, expires) = fields.split_once('|').unwrap_or((fields, ""));
     set(header, alloc, "cache-control", line)?;
-    for text in expires.split('|') {
-        set(header, alloc, "expires", text)?;
+    set_all(header, alloc, "expires", expires)
+}
+
+fn set_all(
+    header: &mut ResponseHeader,
+    alloc: Global,
+    name: &str,
+    texts: &'static str,
+) -> Tested<()> {
+    for text in texts.split('|') {
+        set(header, alloc, name, text)?;
     }
     Ok(())
 }
@@ -137,14 +146,22 @@ fn expires(header: &ResponseHeader, told: &mut String) -> Tested<()> {
 }
 
 // The two windows.
+fn windows_of(
+    alloc: Global,
+    header: &ResponseHeader,
+    defaults: &CacheMetaDefaults,
+) -> Result<(u32, u32)> {
+    let cc = CacheControl::from_resp_headers(alloc, header)?;
+    Ok(calculate_serve_stale_durations(cc.as_ref(), defaults))
+}
+
 fn windows(
     alloc: Global,
     header: &ResponseHeader,
     defaults: &CacheMetaDefaults,
     told: &mut String,
 ) -> Tested<()> {
-    let cc = CacheControl::from_resp_headers(alloc, header)?;
-    let (while_updating, in_error) = calculate_serve_stale_durations(cc.as_ref(), defaults);
+    let (while_updating, in_error) = windows_of(alloc, header, defaults)?;
     Ok(write!(told, "{while_updating} {in_error}")?)
 }
 

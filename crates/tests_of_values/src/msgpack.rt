@@ -1,12 +1,11 @@
 //! The forms of the MessagePack specification.
 use crate::rows::{Desk, Tested, number, play, rest, say, size, tell_hex, unhex, word};
-use pcache_base::error::{Error, ErrorType, Result};
+use pcache_base::error::{ErrorType, Result};
 use pcache_meta::msgpack::reader::Reader;
 use pcache_meta::msgpack::writer::{
     put_array, put_hash, put_nil, put_number, put_optional_hash, put_text,
 };
 use std::alloc::Global;
-use std::process::Abort;
 
 // The bytes that are read, or were written.
 #[derive(Drop)]
@@ -31,6 +30,8 @@ impl Desk for Spelled {
             "array" => tell_number(told, reader.array()),
             "six-items" => say(told, if reader.items(6).is_ok() { "yes" } else { "no" }),
             "five-items" => say(told, if reader.items(5).is_ok() { "yes" } else { "no" }),
+            "read-hashes" => read_nil_and_hashes(&mut reader, told),
+            "marks" => read_marks(&mut reader, told),
             "hash" => say(told, if reader.hash().is_ok() { "yes" } else { "no" }),
             _ => say(told, reader.text().unwrap_or("refused")),
         }
@@ -40,7 +41,7 @@ impl Desk for Spelled {
 fn tell_number(told: &mut String, number: Result<u64>) -> Tested<()> {
     match number {
         Ok(number) => Ok(write!(told, "{number}")?),
-        Err(_) => say(told, "refused"),
+        Err(refused) => say(told, refused.etype().as_str()),
     }
 }
 
@@ -62,9 +63,9 @@ const FORMS: &str = "
     number ce 3b 9a c9 ff -> 999999999
     number cf 00 00 00 01 00 00 00 00 -> 4294967296
     # nothing, a negative number, too few bytes
-    number -> refused
-    number ff -> refused
-    number cd 01 -> refused
+    number -> InternalError
+    number ff -> InternalError
+    number cd 01 -> InternalError
     # numbers are written short
     put-number 0 -> 00
     put-number 127 -> 7f
@@ -79,7 +80,7 @@ const FORMS: &str = "
     array 96 -> 6
     array dc 00 06 -> 6
     array dd 00 00 00 06 -> 6
-    array a6 -> refused
+    array a6 -> InternalError
     six-items 96 -> yes
     five-items 96 -> no
     put-array 0 -> 90
@@ -101,11 +102,14 @@ const FORMS: &str = "
     put-text aaaaaaaaaaaaaaaaaaaaaaaaaaaaaaaa -> d9206161616161616161616161616161616161616161616161616161616161616161
     # nil, a hash and none
     put-hashes -> c0dc001000ccac0000000000000000000000000000c0
+    read-hashes c0 dc 00 10 00 cc ac 00 00 00 00 00 00 00 00 00 00 00 00 00 00 c0 -> 22 true false 00ac0000000000000000000000000000 true true
+    # a mark, and numbers with limits
+    marks 02 09 09 -> 9 InternalError
     # a hash with a number of more than a byte
     hash dc 00 10 cd 01 00 00 00 00 00 00 00 00 00 00 00 00 00 00 00 00 -> no";
 
 #[test]
-fn numbers_arrays_and_texts(rt: HostRuntime) -> Tested<()> {
+fn numbers_arrays_texts_hashes_and_marks(rt: HostRuntime) -> Tested<()> {
     let bytes = Vec::new(rt.alloc());
     play(&rt, rt.alloc(), &mut Spelled { bytes }, FORMS)
 }
@@ -116,14 +120,23 @@ fn put_nil_and_hashes(out: &mut Vec<u8>, hash: &[u8; 16]) -> Result<()> {
     put_optional_hash(out, None)
 }
 
-fn nil_and_hashes_are_read(rt: &impl Abort, out: &[u8], hash: &[u8; 16]) {
-    let mut reader = Reader::new(out);
-    assert!(rt; reader.remaining() == 22);
-    assert!(rt; reader.skip_nil());
-    assert!(rt; !reader.skip_nil());
-    assert!(rt; reader.hash().is_ok_and(|read| read == *hash));
-    assert!(rt; reader.optional_hash().is_ok_and(|read| read.is_none()));
-    assert!(rt; reader.is_empty());
+// What stands where nil, a hash and a hash or none were put.
+fn read_nil_and_hashes(reader: &mut Reader<'_>, told: &mut String) -> Tested<()> {
+    let size = reader.remaining();
+    let is_nil = reader.skip_nil();
+    let is_nil_again = reader.skip_nil();
+    write!(told, "{size} {is_nil} {is_nil_again} ")?;
+    tell_hex(told, reader.hash()?.as_slice())?;
+    let is_none = reader.optional_hash()?.is_none();
+    Ok(write!(told, " {is_none} {}", reader.is_empty())?)
+}
+
+// A mark and two numbers, of which only the first is below 10 and only the second not below 9.
+fn read_marks(reader: &mut Reader<'_>, told: &mut String) -> Tested<()> {
+    reader.mark(2)?;
+    tell_number(told, reader.number_below(10))?;
+    say(told, " ")?;
+    tell_number(told, reader.number_below(9))
 }
 
 fn hash() -> [u8; 16] {
@@ -132,7 +145,7 @@ fn hash() -> [u8; 16] {
     hash
 }
 
-// A refused array leaves what stands before it.
+// The kind of the refusal of an array that is too long, where what stands before it is left.
 fn refused_array(out: &mut Vec<u8>) -> Option<ErrorType> {
     let len = out.len();
     let refused = put_array(out, 1 << 32).err()?;
@@ -144,22 +157,8 @@ fn refused_array(out: &mut Vec<u8>) -> Option<ErrorType> {
 }
 
 #[test]
-fn nil_and_hashes(rt: HostRuntime) {
+fn a_refused_array_leaves_what_stands_before_it(rt: HostRuntime) {
     let mut out = Vec::new(rt.alloc());
-    assert!(rt; put_nil_and_hashes(&mut out, &hash()).is_ok());
+    assert!(rt; put_array(&mut out, 15).is_ok());
     assert!(rt; refused_array(&mut out) == Some(ErrorType::InternalError));
-    nil_and_hashes_are_read(&rt, out.as_slice(), &hash());
-}
-
-fn marks(rt: &impl Abort, reader: &mut Reader<'_>) {
-    assert!(rt; reader.mark(2).is_ok());
-    assert!(rt; reader.number_below(10).is_ok_and(|number| number == 9));
-    assert!(rt; reader.number_below(9).is_err());
-    let refusal = Reader::new(b"").number().err();
-    assert!(rt; refusal.is_some_and(|e| e.etype() == ErrorType::InternalError));
-}
-
-#[test]
-fn marks_and_limits(rt: HostRuntime) {
-    marks(&rt, &mut Reader::new(&[2, 9, 9]));
 }
