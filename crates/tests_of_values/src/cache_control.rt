@@ -33,26 +33,30 @@ impl Desk for Lines {
         match word(call, 0) {
             "items" | "seconds" | "unquoted" => {
                 unescape(rest(call), &mut self.line)?;
-                let value = DirectiveValue(Vec::from_slice(self.alloc, self.line.as_slice())?);
-                tell_value(&value, word(call, 0), told)
+                tell_of_text(self.alloc, self.line.as_slice(), word(call, 0), told)
             }
             "key" => tell_key(self.alloc, word(call, 1), told),
             "owned-key" => tell_owned_key(self.alloc, word(call, 1), told),
             _ => {
                 self.header = ResponseHeader::build(self.alloc, StatusCode::OK);
-                for line in rest(call).split('|') {
-                    unescape(line, &mut self.line)?;
-                    append(
-                        self.alloc,
-                        &mut self.header,
-                        "cache-control",
-                        self.line.as_slice(),
-                    )?;
-                }
+                append_all(self.alloc, &mut self.header, &mut self.line, rest(call))?;
                 tell_lines(self.alloc, &self.header, call, told)
             }
         }
     }
+}
+
+fn append_all(
+    alloc: Global,
+    header: &mut ResponseHeader,
+    bytes: &mut Vec<u8>,
+    lines: &'static str,
+) -> Tested<()> {
+    for line in lines.split('|') {
+        unescape(line, bytes)?;
+        append(alloc, header, "cache-control", bytes.as_slice())?;
+    }
+    Ok(())
 }
 
 fn append(alloc: Global, header: &mut ResponseHeader, name: &str, line: &[u8]) -> Tested<()> {
@@ -85,6 +89,12 @@ fn tell_of(cc: &CacheControl, what: &str, told: &mut String) -> Tested<()> {
         "no-cache" => yes_or_no(told, cc.no_cache()),
         "has-max-age" => yes_or_no(told, cc.has_directive(&DirectiveKey::MaxAge)),
         "only-if-cached" => yes_or_no(told, cc.only_if_cached()),
+        _ => tell_more_of(cc, what, told),
+    }
+}
+
+fn tell_more_of(cc: &CacheControl, what: &str, told: &mut String) -> Tested<()> {
+    match what {
         "no-cache-names" => join(cc.no_cache_field_names(), told),
         "private-names" => join(cc.private_field_names(), told),
         "flags" => flags(cc, told),
@@ -95,15 +105,22 @@ fn tell_of(cc: &CacheControl, what: &str, told: &mut String) -> Tested<()> {
 
 // The directives in order.
 fn list(cc: &CacheControl, told: &mut String) -> Tested<()> {
-    for (key, value) in &cc.directives {
-        say(told, key.as_str())?;
-        if let Some(value) = value {
-            say(told, "=")?;
-            tell_bytes(told, value.0.as_slice())?;
-        }
-        say(told, ";")?;
+    if cc.directives.is_empty() {
+        return say(told, "empty");
     }
-    say(told, if told.is_empty() { "empty" } else { "" })
+    for (key, value) in &cc.directives {
+        list_one(key.as_str(), value.as_ref(), told)?;
+    }
+    Ok(())
+}
+
+fn list_one(key: &str, value: Option<&DirectiveValue>, told: &mut String) -> Tested<()> {
+    say(told, key)?;
+    if let Some(value) = value {
+        say(told, "=")?;
+        tell_bytes(told, value.0.as_slice())?;
+    }
+    say(told, ";")
 }
 
 // What is said of storing, and for how many seconds.
@@ -180,6 +197,11 @@ fn windows(cc: &CacheControl, told: &mut String) -> Tested<()> {
     tell_number(told, cc.stale_if_error())?;
     tell_seconds(told, cc.serve_stale_while_revalidate_duration())?;
     tell_seconds(told, cc.serve_stale_if_error_duration())
+}
+
+fn tell_of_text(alloc: Global, text: &[u8], what: &str, told: &mut String) -> Tested<()> {
+    let value = DirectiveValue(Vec::from_slice(alloc, text)?);
+    tell_value(&value, what, told)
 }
 
 // Whole seconds and seconds whose parts are cut off, or the items, or what stands between quotes.
