@@ -1,6 +1,9 @@
 use crate::parts::{AA, aa, answered, holds, key, letter, node, with_aa, with_z};
 use pcache_base::error::Result;
-use pcache_evict::eviction::{CacheEntryId, sharded_lru, simple_lru};
+use pcache_base::key::CompactCacheKey;
+use pcache_base::moment::Moment;
+use pcache_base::text::Text;
+use pcache_evict::eviction::{CacheEntryId, CacheEntryKey, sharded_lru, simple_lru};
 use pcache_files::sharded_lru::{deserialize_shard, serialize_shard};
 use pcache_files::simple_lru::{deserialize, serialize};
 use std::alloc::Global;
@@ -138,6 +141,12 @@ fn other_forms_are_read(rt: HostRuntime) -> std::result::Result<(), Fail> {
             &[0xCF, 0, 0, 0, 0, 0, 0, 0, 3],
             " z1 a3",
         )?,
+        other_loads(
+            alloc,
+            &[0x91, 0x92],
+            &[0xCF, 255, 255, 255, 255, 255, 255, 255, 255],
+            " z1 a18446744073709551615",
+        )?,
     ];
     assert!(rt; rows.iter().all(|row| *row));
     Ok(())
@@ -149,6 +158,7 @@ fn other_bytes_are_refused(rt: HostRuntime) -> std::result::Result<(), Fail> {
     let rows = [
         // no room is made for a number of nodes that is only stated
         other_refused(alloc, &[0xDD, 0xFF, 0xFF, 0xFF, 0xFF], false, &[])?,
+        other_refused(alloc, &[0xDD, 0xFF, 0xFF, 0xFF, 0xFF, 0x92], true, &[3])?,
         // no number, another number of items, a byte behind
         other_refused(alloc, &[0x91, 0x92], true, &[0xFF])?,
         other_refused(alloc, &[0x91, 0x92, 0x92], true, &[0xFF, 3])?,
@@ -158,6 +168,7 @@ fn other_bytes_are_refused(rt: HostRuntime) -> std::result::Result<(), Fail> {
         other_refused(alloc, &[0x90, 0x00], false, &[])?,
         // the first node is good
         other_refused(alloc, &[0x92, 0x92], true, &[3, 0xFF])?,
+        other_refused(alloc, &[0x92, 0x92], true, &[3])?,
         // a tag that is not UTF-8
         tag_refused(alloc)?,
     ];
@@ -190,4 +201,99 @@ fn numbered(alloc: Global) -> Result<bool> {
     let mut wanted = other(alloc, &[0x92, 0x92, 0x92], true, &[0xCC, 0xFF, 3])?;
     node(&mut wanted, b'b', 2)?;
     Ok(bytes.as_slice() == wanted.as_slice())
+}
+
+// Whether a file that states so many nodes, and has `nodes` of them, answers this and leaves this many
+// entries. Each node has a number and the weight 1.
+fn long_file(alloc: Global, stated: u16, nodes: u16, answer: &str, items: usize) -> Result<bool> {
+    let [high, low] = stated.to_be_bytes();
+    let mut bytes = Vec::new(alloc);
+    bytes.extend_from_slice(&[0xDC, high, low])?;
+    for number in 0..nodes {
+        bytes.extend_from_slice(&[0x92, 0x92])?;
+        key(&mut bytes, b'a')?;
+        let [high, low] = number.to_be_bytes();
+        bytes.extend_from_slice(&[0xCD, high, low, 1])?;
+    }
+    let mut manager = simple_lru::Manager::new(alloc, 4)?;
+    let result = deserialize(alloc, &mut manager, &bytes);
+    Ok(
+        answered(&result) == answer
+            && manager.total_items() == items
+            && manager.total_size() == items,
+    )
+}
+
+#[test]
+fn long_files(rt: HostRuntime) -> std::result::Result<(), Fail> {
+    let alloc = rt.alloc();
+    let rows = [
+        long_file(alloc, 1000, 1000, "ok", 1000)?,
+        long_file(alloc, 1000, 2000, "InternalError", 0)?,
+        long_file(alloc, 2000, 1000, "InternalError", 0)?,
+    ];
+    assert!(rt; rows.iter().all(|row| *row));
+    Ok(())
+}
+
+// An entry `a` with a variance of which each byte is 200.
+fn varied(alloc: Global) -> Result<CacheEntryKey> {
+    let key = CompactCacheKey {
+        primary: [b'a'; 16],
+        variance: Some([200; 16]),
+        user_tag: Text::new(String::from_str(alloc, "1")?),
+    };
+    Ok(CacheEntryKey::key_only(key))
+}
+
+// The file of that entry, of weight 300.
+fn varied_file(alloc: Global) -> Result<Vec<u8>> {
+    let mut bytes = Vec::new(alloc);
+    bytes.extend_from_slice(&[0x91, 0x92, 0x93, 0xDC, 0x00, 0x10])?;
+    bytes.extend_from_slice(&[b'a'; 16])?;
+    bytes.extend_from_slice(&[0xDC, 0x00, 0x10])?;
+    for _ in 0..16u32 {
+        bytes.extend_from_slice(&[0xCC, 200])?;
+    }
+    bytes.extend_from_slice(&[0xA1, b'1', 0xCD, 0x01, 0x2C])?;
+    Ok(bytes)
+}
+
+// Whether that entry is written as that file, and read from it.
+fn varied_goes_round(alloc: Global) -> Result<bool> {
+    let wanted = varied_file(alloc)?;
+    let mut manager = simple_lru::Manager::new(alloc, 9)?;
+    manager.load_entry(varied(alloc)?, 300)?;
+    let bytes = serialize(alloc, &manager)?;
+    let mut loaded = simple_lru::Manager::new(alloc, 9)?;
+    deserialize(alloc, &mut loaded, &wanted)?;
+    Ok(
+        bytes.as_slice() == wanted.as_slice()
+            && loaded.peek(&varied(alloc)?)
+            && loaded.total_size() == 300,
+    )
+}
+
+#[test]
+fn variances_go_round(rt: HostRuntime) -> std::result::Result<(), Fail> {
+    let does = varied_goes_round(rt.alloc())?;
+    assert!(rt; does);
+    Ok(())
+}
+
+// Whether loading over the limit evicts nothing, and the next admission evicts what was loaded.
+fn goes_at_the_next(alloc: Global) -> Result<bool> {
+    let mut manager = simple_lru::Manager::new(alloc, 4)?;
+    deserialize(alloc, &mut manager, &AA)?;
+    let is_kept = manager.total_size() == 9 && manager.evicted_items() == 0;
+    let gone = manager.admit(letter(alloc, b'b', None)?, 1, Moment::EPOCH)?;
+    let is_gone = gone.len() == 1 && gone.first() == Some(&aa(alloc)?);
+    Ok(is_kept && is_gone && holds(alloc, &manager, " b1")?)
+}
+
+#[test]
+fn what_was_loaded_goes_at_the_next_admission(rt: HostRuntime) -> std::result::Result<(), Fail> {
+    let does = goes_at_the_next(rt.alloc())?;
+    assert!(rt; does);
+    Ok(())
 }
