@@ -39,6 +39,7 @@ pub fn run_workers<
     gate: &G,
 ) -> Result<(), AllocError>
     requires { length scripts.now ≡ length shares.old }
+    ensures count { length shares.new ≡ length shares.old }
     ensures runs { EachRuns Runs scripts.now shares.old shares.new }
     ensures ok { IfOk result (λ _. EachRuns RunsWhole scripts.now shares.old shares.new) }
 {

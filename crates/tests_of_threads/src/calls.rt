@@ -1,4 +1,6 @@
 //! Calls of a world, written in words.
+ghost use Rattle.std.specs.Prelude.{◌≡◌, IfOk};
+
 use bytes::Bytes;
 use http::StatusCode;
 use pcache_base::error::Result;
@@ -102,6 +104,8 @@ pub fn world_of(alloc: Global) -> Result<World<Manager>> {
 }
 
 /// The same, to be shared by two.
-pub fn opening_of(alloc: Global) -> Result<Opening<Manager>> {
+pub fn opening_of(alloc: Global) -> Result<Opening<Manager>>
+    ensures { IfOk result (λ opening. opening.shares ≡ 2) }
+{
     Ok(Opening::new(alloc, world_of(alloc)?, 2)?)
 }

@@ -1,5 +1,5 @@
 //! Two shares that call one world in turn.
-ghost use Rattle.std.specs.Prelude.{◌≡◌};
+ghost use Rattle.std.specs.Prelude.{◌≡◌, length};
 
 use crate::calls::{opening_of, read_call, world_of};
 use pcache_base::error::Result;
@@ -56,7 +56,9 @@ fn ask<K: Mark, R: Wait>(
     shares: &mut [Share<K>],
     table: &'static str,
     told: &mut String,
-) -> Result<()> {
+) -> Result<()>
+    ensures { length shares.new ≡ length shares.old }
+{
     let mut place = 0usize;
     for line in table.lines() {
         let Some((words, _reply)) = line.split_once(" -> ") else {

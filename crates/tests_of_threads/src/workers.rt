@@ -55,10 +55,18 @@ fn are_the_places(receipts: &[Vec<Receipt>], count: usize) -> bool {
                 return false;
             }
             seen = seen.wrapping_add(1);
-            places |= 1u64.wrapping_shl(receipt.place as u32);
+            places |= bit(receipt.place);
         }
     }
-    seen == count && places == 1u64.wrapping_shl(count as u32).wrapping_sub(1)
+    seen == count && places == bit(count).wrapping_sub(1)
+}
+
+// The number with this bit alone.
+fn bit(place: usize) -> u64 {
+    match u32::try_from(place) {
+        Ok(place) => 1u64.wrapping_shl(place),
+        Err(_) => 0,
+    }
 }
 
 // Whether an entry has a receipt's request and reply.
