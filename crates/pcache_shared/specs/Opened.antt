@@ -17,7 +17,7 @@ abbrev pub unopened : Opened
 unopened =
     record {
       table = record { words = 0; slots = 0; views_name = 0; atom = 0; block = 0; offset = 0; slot_names = [] };
-      log = record { history = []; start = map.empty; limits = record { weight = 0; watermark = None }; evicted = record { weight = 0; count = 0 } };
+      log = record { history = []; start = map.empty; limits = record { weight = 0; watermark = None }; evicted = record { weight = 0; count = 0 }; age = 0 };
       shares = 0;
     }
 
