@@ -58,7 +58,7 @@ def function_at(path, text, start, end):
     """The function that stands at a place of a file: its module, the type of its impl or None, and its name or None."""
     module = re.sub(r"^src/|\.rt$", "", path).replace("/", "::")
     module = re.sub(r"(^|::)(lib|main|mod)$", "", module)
-    # a text that begins a function turns that one, also where the old function goes on under another name behind it
+    # a text that begins a function turns that one, also if the old function goes on under another name after it
     begun = [it for it in re.finditer(r"\bfn (\w+)", text) if start <= it.start() < end]
     before = [it for it in re.finditer(r"\bfn (\w+)", text) if it.start() < start]
     name = None

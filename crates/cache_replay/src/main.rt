@@ -1,6 +1,7 @@
 #![tactic(auto)]
 //! `cache_replay LIMIT [WATERMARK]`: runs a script of cache calls from standard input.
 
+mod policy;
 mod replay;
 mod reply;
 mod script;

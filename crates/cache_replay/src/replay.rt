@@ -1,6 +1,8 @@
 //! Running a script.
 
+use crate::policy::OneSecond;
 use crate::reply::{write_reply, write_stat};
+use crate::script;
 use crate::script::{Line, Unread, read};
 use pingora_cache::eviction::simple_lru::Manager;
 use pingora_cache::moment::Moment;
@@ -73,7 +75,11 @@ fn run<F: Files, R: Read + Drop, W: Write + Drop>(
     let Ok(mut writer) = BufWriter::new(alloc, output) else {
         return Err(Stop::OutOfMemory);
     };
-    let mut world = World::new(alloc, manager, Duration::from_secs(AGE_TIMEOUT_SECS));
+    let mut world: World<Manager, OneSecond> = World::new(
+        alloc,
+        manager,
+        Duration::from_secs(AGE_TIMEOUT_SECS),
+    );
     let result = run_lines(alloc, files, &mut world, &mut reader, &mut writer);
     // The replies before a bad line are printed first.
     let flushed = writer.flush();
@@ -84,7 +90,7 @@ fn run<F: Files, R: Read + Drop, W: Write + Drop>(
 fn run_lines<F: Files, R: BufRead, W: Write>(
     alloc: Global,
     files: &F,
-    world: &mut World<Manager>,
+    world: &mut World<Manager, OneSecond>,
     reader: &mut R,
     writer: &mut W,
 ) -> Result<(), Stop> {
@@ -108,7 +114,7 @@ fn run_lines<F: Files, R: BufRead, W: Write>(
 // Does what a line with this number asks for, and writes the reply.
 fn run_line<F: Files, W: Write>(
     files: &F,
-    world: &mut World<Manager>,
+    world: &mut World<Manager, OneSecond>,
     line: Line,
     number: u64,
     now: &mut Moment,
@@ -198,9 +204,10 @@ fn read_limits(args: &[String]) -> Option<Limits> {
     }
 }
 
+// A decimal number, as those of scripts are.
 fn number(word: &String) -> Option<usize> {
-    if word.is_empty() || !word.as_bytes().iter().all(|byte| byte.is_ascii_digit()) {
-        return None;
+    match script::number(word.as_bytes()) {
+        Ok(number) => usize::try_from(number).ok(),
+        Err(_) => None,
     }
-    word.as_str().parse::<usize>().ok()
 }

@@ -22,6 +22,7 @@ pub fn write_reply<W: Write>(output: &mut W, reply: &Reply) -> io::Result<()> {
         Reply::Taken(phase, lock) => write_with_lock(output, phase.as_str(), *lock),
         Reply::Stored { size, evicted } => writeln!(output, "stored {size} evicted {evicted}"),
         Reply::Nothing => writeln!(output, "nothing"),
+        Reply::NotCached(reason) => writeln!(output, "no cache {}", reason.as_str()),
         Reply::Data(bytes) => {
             write!(output, "data ")?;
             write_text(output, bytes.as_slice())?;

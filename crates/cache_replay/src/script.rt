@@ -9,6 +9,7 @@ use pingora_cache::lock::{UnusableFill, UnusableFills};
 use pingora_cache::meta::CacheMeta;
 use pingora_cache::moment::Moment;
 use pingora_cache::phase::HitStatus;
+use pingora_cache::world::boxed::Boxed;
 use pingora_cache::world::call::Call;
 use pingora_cache::world::tokens::Tokens;
 use pingora_cache::{CacheOptionOverrides, NoCacheReason};
@@ -75,7 +76,7 @@ impl<'a> Words<'a> {
         number(self.word()?)
     }
 
-    // What stands behind this prefix, where the next word begins with it.
+    // What stands after this prefix, where the next word begins with it.
     fn option(&mut self, prefix: &[u8]) -> Option<&'a [u8]> {
         let before = self.0;
         let word = self.next()?;
@@ -148,7 +149,7 @@ fn read_call(
         }),
         b"key" => Ok(Call::Key {
             request,
-            key: key(alloc, words)?,
+            key: boxed(alloc, key(alloc, words)?)?,
         }),
         b"look" => Ok(Call::Look {
             request,
@@ -164,7 +165,7 @@ fn read_call(
         b"miss" => Ok(Call::Miss { request }),
         b"meta" => Ok(Call::Meta {
             request,
-            meta: meta(alloc, words, now)?,
+            meta: boxed(alloc, meta(alloc, words, now)?)?,
         }),
         b"purge" => Ok(Call::Purge { request }),
         b"expire" => Ok(Call::Expire { request, now }),
@@ -174,6 +175,7 @@ fn read_call(
         b"begin" | b"write" | b"finish" | b"read" | b"seek" | b"done" => {
             read_body_call(alloc, word, request, words)
         }
+        b"put" | b"feed" | b"drop" | b"close" => read_put_call(alloc, word, request, words, now),
         b"vary" | b"variance" | b"revalidate" => {
             read_variant_call(alloc, word, request, words, now)
         }
@@ -211,6 +213,31 @@ fn read_body_call(
     }
 }
 
+// A line about a put.
+fn read_put_call(
+    alloc: Global,
+    word: &[u8],
+    request: u64,
+    words: &mut Words<'_>,
+    now: Moment,
+) -> Result<Call, Unread> {
+    match word {
+        b"put" => Ok(Call::Put {
+            request,
+            key: boxed(alloc, plain_key(alloc, words)?)?,
+            limit: words.next().map(place).transpose()?,
+        }),
+        b"feed" => Ok(Call::Feed {
+            request,
+            bytes: Bytes::from_vec(text(alloc, words.word()?)?)?,
+            now,
+        }),
+        b"drop" => Ok(Call::Drop { request }),
+        b"close" => Ok(Call::Close { request }),
+        _ => Err(Unread::BadCall),
+    }
+}
+
 // A line about the variants of a key, or the meta of a stale body that is good.
 fn read_variant_call(
     alloc: Global,
@@ -230,7 +257,7 @@ fn read_variant_call(
         }),
         b"revalidate" => Ok(Call::Revalidate {
             request,
-            meta: fresh_until(alloc, words.number()?, now),
+            meta: boxed(alloc, fresh_until(alloc, words.number()?, now))?,
         }),
         _ => Err(Unread::BadCall),
     }
@@ -282,7 +309,7 @@ fn read_lock_call(
         }),
         b"uncacheable" => Ok(Call::Uncacheable {
             request,
-            header: ResponseHeader::build(alloc, StatusCode::OK),
+            header: boxed(alloc, ResponseHeader::build(alloc, StatusCode::OK))?,
             reason: reason(words.word()?)?,
         }),
         _ => Err(Unread::BadCall),
@@ -302,7 +329,7 @@ fn tokens(alloc: Global, words: &mut Words<'_>) -> Result<Vec<u64>, Unread> {
     Ok(tokens)
 }
 
-// For how many seconds a request waits for locks, where that is limited.
+// For how many seconds a request waits for locks, if that is limited.
 fn options(words: &mut Words<'_>) -> Result<Option<CacheOptionOverrides>, Unread> {
     let Some(word) = words.option(b"w=") else {
         return Ok(None);
@@ -340,10 +367,15 @@ fn reason(word: &[u8]) -> Result<NoCacheReason, Unread> {
     }
 }
 
-// A key, and behind it where they are given its variance and the fills that it cannot use.
-fn key(alloc: Global, words: &mut Words<'_>) -> Result<CacheKey, Unread> {
+// A key by its primary and its tag.
+fn plain_key(alloc: Global, words: &mut Words<'_>) -> Result<CacheKey, Unread> {
     let primary = text(alloc, words.word()?)?;
-    let mut key = CacheKey::new(primary, text_of(alloc, words.word()?)?);
+    Ok(CacheKey::new(primary, text_of(alloc, words.word()?)?))
+}
+
+// A key, and after it if they are given its variance and the fills that it cannot use.
+fn key(alloc: Global, words: &mut Words<'_>) -> Result<CacheKey, Unread> {
+    let mut key = plain_key(alloc, words)?;
     if let Some(word) = words.option(b"v=") {
         key.set_variance_key(hash(word)?);
     }
@@ -351,6 +383,11 @@ fn key(alloc: Global, words: &mut Words<'_>) -> Result<CacheKey, Unread> {
         key.unusable = Some(unusable(alloc, word)?);
     }
     Ok(key)
+}
+
+// A value that a call has behind a box.
+fn boxed<T: Drop>(alloc: Global, value: T) -> Result<Boxed<T>, Unread> {
+    Boxed::new(alloc, value).map_err(|_| Unread::OutOfMemory)
 }
 
 // A text in UTF-8.
@@ -391,7 +428,7 @@ fn status(word: &[u8]) -> Result<HitStatus, Unread> {
 }
 
 // A response of status 200 that was made now and is fresh until the second that stands first. Two
-// windows may follow: for how many seconds it may be served stale while it is renewed, and where
+// windows may follow: for how many seconds it may be served stale while it is renewed, and if
 // that fails; without them it is not served stale.
 fn meta(alloc: Global, words: &mut Words<'_>, now: Moment) -> Result<CacheMeta, Unread> {
     let fresh_until = Moment::from_secs(words.number()?);
@@ -416,8 +453,8 @@ fn ends_with_eof(words: &mut Words<'_>) -> Result<bool, Unread> {
     }
 }
 
-// A decimal number of 64 bits.
-fn number(word: &[u8]) -> Result<u64, Unread> {
+/// A decimal number of 64 bits.
+pub(crate) fn number(word: &[u8]) -> Result<u64, Unread> {
     if word.is_empty() {
         return Err(Unread::BadCall);
     }

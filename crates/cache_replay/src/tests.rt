@@ -1,7 +1,9 @@
 //! Whole scripts, each with the replies that are wanted.
+//! Expected replies are hand-computed from the definitions.
 mod files;
 mod phases;
 mod purges;
+mod puts;
 mod variants;
 mod waits;
 
@@ -11,7 +13,7 @@ use std::fs::Files;
 use std::process::Abort;
 use std::test::Fail;
 
-// Runs the calls of a row, in which a reply stands behind each call that has one, and compares the
+// Runs the calls of a row, in which a reply stands after each call that has one, and compares the
 // replies, the status and what is said of errors.
 fn check<R: Abort + Files>(
     rt: &R,

@@ -27,7 +27,7 @@ pub enum Served {
     Waits,
 }
 
-/// Answers a request for a path at a moment. What the request holds is given back, also where a call
+/// Answers a request for a path at a moment. What the request holds is given back, also if a call
 /// was refused.
 pub fn serve(parts: &mut Parts, path: &str, now: Moment) -> Result<Served> {
     let mut request = request_for(parts.alloc, path)?;
@@ -59,7 +59,7 @@ fn look_up(parts: &mut Parts, request: &mut Request, now: Moment) -> Result<()>
     }
 }
 
-// What the store has of the key. Where it has nothing, the request holds the key's lock.
+// What the store has of the key. If it has nothing, the request holds the key's lock.
 fn found(
     parts: &mut Parts,
     request: &mut Request,
@@ -114,7 +114,7 @@ fn read_all(parts: &mut Parts, request: &mut Request) -> Result<Served> {
     Ok(Served::Hit(len))
 }
 
-// Goes on as a miss: asks the origin, and stores its response where it may be stored.
+// Goes on as a miss: asks the origin, and stores its response if it may be stored.
 fn fill(parts: &mut Parts, request: &mut Request, path: &str, now: Moment) -> Result<Served>
     requires { MayMiss request.old.phase }
 {

@@ -40,7 +40,7 @@ pub struct Asked<'a> {
     pub size: usize,
 }
 
-/// Reads a line of a trace: a key, spaces, and a size in decimal digits. `None` where it is no such
+/// Reads a line of a trace: a key, spaces, and a size in decimal digits. `None` if it is no such
 /// line.
 pub fn read_line(line: &str) -> Option<Asked<'_>> {
     let mut words = line.split_ascii_whitespace();

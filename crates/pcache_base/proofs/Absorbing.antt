@@ -69,7 +69,7 @@ pub HasRoom_kept : (s : Hasher) (m : List ℕ) → Holds s m → HasRoomAfter s 
 unfolding Holds HasRoomAfter
 HasRoom_kept s m held = (held.0, blocks_before_last m, held.1)
 
--- bytes behind what the buffer has
+-- bytes after what the buffer has
 IsAbsorbed_grown : (h b c d : List ℕ) (used n : ℕ) (m : List ℕ) → IsAbsorbed h b used n m
     → take (used + length d) c ≡ take used b ++ d → IsAbsorbed h c (used + length d) n (m ++ d)
 IsAbsorbed_grown h b c d used n m held e = record {
@@ -108,7 +108,7 @@ pub two_words : (h x y : List ℕ) → x ≡ to_le_bytes w64 (slice_index h 0) �
 unfolding state_bytes
 two_words h x y ex ey = rw (ex, ey) refl
 
--- the bytes from one place to a later one, behind those before
+-- the bytes from one place to a later one, after those before
 pub take_piece : (xs : List ℕ) (a b : ℕ) → a ≤ b → take b xs ≡ take a xs ++ take (b - a) (drop a xs)
 take_piece xs a b le =
     let e : a + (b - a) ≡ b = omega arith in

@@ -116,7 +116,7 @@ module _ {K X : Type 0} {R : K → K → Ordering} (o : IsTotalOrder R) (f : X �
               | false ↦ λ t h. elim h [ inl any ↦ inr any | inr none ↦ inl (get-remove_apart m k q t ∙ none) ]
             ] refl (elim (all q) [ inl e ↦ inr e | inr t ↦ inl t ])
 
-    -- where each of a list's terms is at most what the map has at a key of its own, their sum is at most the whole
+    -- if each of a list's terms is at most what the map has at a key of its own, their sum is at most the whole
     pub sum-le-total : {A : Type 0} (e : A → K) (g : A → ℕ) (xs : List A) (m : FinMap R X) → IsDistinct (λ a b. eq_by_cmp R (e a) (e b)) xs → AllByRecursion (λ a. g a ≤ share f (get m (e a))) xs → sum_by g xs ≤ total f m
     sum-le-total {A = A} e g [] m d h = omega arith
     sum-le-total {A = A} e g (x ∷ xs) m d h =

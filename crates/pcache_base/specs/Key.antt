@@ -19,7 +19,7 @@ pub record Key : Type 0 where
 abbrev pub primary_of : Key → List ℕ
 primary_of k = unwrap_or k.primary_override (blake2b_128 k.primary)
 
--- the primary hash, or where there is a variance the hash of both
+-- the primary hash, or if there is a variance the hash of both
 abbrev pub combined_of : List ℕ → Option (List ℕ) → List ℕ
 combined_of primary None = primary
 combined_of primary (Some variance) = blake2b_128 (primary ++ variance)

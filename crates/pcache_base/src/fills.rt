@@ -65,7 +65,7 @@ impl UnusableFills {
         None
     }
 
-    /// A second list of the same fills. It is refused for want of memory alone.
+    /// A second list of the same fills. It is refused only when memory runs out.
     pub fn copied(&self) -> Result<UnusableFills>
         ensures ok { IfOk result (λ copy. copy ≡ self.now) }
         ensures kind { IfErr result (λ e. e ≡ OutOfMemory) }

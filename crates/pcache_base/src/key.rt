@@ -58,7 +58,7 @@ pub trait CacheHashKey {
     /// The primary hash.
     ghost primary_hash: { Self → List ℕ };
 
-    /// The hash of what a response varies on, where there is one.
+    /// The hash of what a response varies on, if there is one.
     ghost variance_hash: { Self → Option (List ℕ) };
 
     /// The tag of the user whom the entry is counted for.
@@ -68,11 +68,11 @@ pub trait CacheHashKey {
     fn primary_bin(&self) -> HashBinary
         ensures { result ≡ primary_hash self.now };
 
-    /// The hash of what the response varies on, where there is one.
+    /// The hash of what the response varies on, if there is one.
     fn variance_bin(&self) -> Option<HashBinary>
         ensures { result ≡ variance_hash self.now };
 
-    /// The primary hash, or where there is a variance the hash of both.
+    /// The primary hash, or if there is a variance the hash of both.
     fn combined_bin(&self) -> HashBinary
         ensures { result ≡ combined_of (primary_hash self.now) (variance_hash self.now) }
     {
@@ -97,7 +97,7 @@ pub trait CacheHashKey {
     fn user_tag(&self) -> &str
         ensures { result.now ≡ tag self.now };
 
-    /// The primary hash in lower-case hexadecimal digits. It is refused for want of memory alone.
+    /// The primary hash in lower-case hexadecimal digits. It is refused only when memory runs out.
     fn primary(&self, alloc: Global) -> Result<String>
         ensures text { IfOk result (λ text. string_bytes text ≡ encode_lower (primary_hash self.now)) }
         ensures spelled { IfOk result (λ text. SpellsHash (string_bytes text) (primary_hash self.now)) }
@@ -106,7 +106,7 @@ pub trait CacheHashKey {
         hex_text(alloc, &self.primary_bin())
     }
 
-    /// The variance in lower-case hexadecimal digits. It is refused for want of memory alone.
+    /// The variance in lower-case hexadecimal digits. It is refused only when memory runs out.
     fn variance(&self, alloc: Global) -> Result<Option<String>>
         ensures text { IfOk result (λ text. option_map string_bytes text ≡ option_map encode_lower (variance_hash self.now)) }
         ensures kind { IfErr result (λ e. e ≡ OutOfMemory) }
@@ -117,7 +117,7 @@ pub trait CacheHashKey {
         }
     }
 
-    /// The combined hash in lower-case hexadecimal digits. It is refused for want of memory alone.
+    /// The combined hash in lower-case hexadecimal digits. It is refused only when memory runs out.
     fn combined(&self, alloc: Global) -> Result<String>
         ensures text { IfOk result (λ text. string_bytes text ≡ encode_lower (combined_of (primary_hash self.now) (variance_hash self.now))) }
         ensures spelled { IfOk result (λ text. SpellsHash (string_bytes text) (combined_of (primary_hash self.now) (variance_hash self.now))) }
@@ -187,7 +187,7 @@ impl CacheKey {
         self.primary.as_slice()
     }
 
-    /// The primary bytes as text, where they are UTF-8.
+    /// The primary bytes as text, if they are UTF-8.
     pub fn primary_key_str(&self) -> Option<&str>
         ensures text { IfSome result (λ text. text.now ≡ self.now.primary) }
         ensures found { IsSome result ↔ IsUtf8 self.now.primary }
@@ -202,7 +202,7 @@ impl CacheKey {
         self.variance = Some(key);
     }
 
-    /// The variance, where there is one.
+    /// The variance, if there is one.
     pub fn get_variance_key(&self) -> Option<&HashBinary>
         ensures { option_copied result ≡ self.now.variance }
     {
@@ -223,7 +223,7 @@ impl CacheKey {
         self.primary_override = Some(hash);
     }
 
-    /// What eviction managers keep of the key. It is refused for want of memory alone.
+    /// What eviction managers keep of the key. It is refused only when memory runs out.
     pub fn to_compact(&self) -> Result<CompactCacheKey>
         ensures ok { IfOk result (λ compact. compact ≡ compact_of self.now) }
         ensures kind { IfErr result (λ e. e ≡ OutOfMemory) }
@@ -235,7 +235,7 @@ impl CacheKey {
         })
     }
 
-    /// A second key, equal to this one. It is refused for want of memory alone.
+    /// A second key, equal to this one. It is refused only when memory runs out.
     pub fn copied(&self) -> Result<CacheKey>
         ensures ok { IfOk result (λ copy. copy ≡ self.now) }
         ensures kind { IfErr result (λ e. e ≡ OutOfMemory) }
@@ -283,14 +283,14 @@ impl CacheHashKey for CacheKey {
 pub struct CompactCacheKey {
     /// The primary hash.
     pub primary: HashBinary,
-    /// The hash of what the response varies on, where there is one.
+    /// The hash of what the response varies on, if there is one.
     pub variance: Option<HashBinary>,
     /// The tag of the user whom the entry is counted for.
     pub user_tag: Text,
 }
 
 impl CompactCacheKey {
-    /// A second key, equal to this one. It is refused for want of memory alone.
+    /// A second key, equal to this one. It is refused only when memory runs out.
     pub fn copied(&self) -> Result<CompactCacheKey>
         ensures ok { IfOk result (λ copy. copy ≡ self.now) }
         ensures kind { IfErr result (λ e. e ≡ OutOfMemory) }

@@ -5,7 +5,7 @@
 //! - `moment`: points in time, handed in by the caller
 //! - `poll`: answers of calls that might have to wait
 //! - `text`: owned text that contracts see as its bytes
-//! - `key`: cache keys and their hashes; `blake2b`: the hash behind them
+//! - `key`: cache keys and their hashes; `blake2b`: the hash that they use
 //! - `variance`: what a response varies by, as a hash
 //! - `reason`: why a response is not cached; `fills`: fills that a request cannot use
 //! - `trace`: spans of a trace, without effect

@@ -46,7 +46,7 @@ impl Text {
         self.text.as_str()
     }
 
-    /// A second text with the same bytes. It is refused for want of memory alone.
+    /// A second text with the same bytes. It is refused only when memory runs out.
     pub fn copied(&self) -> Result<Text>
         ensures ok { IfOk result (λ copy. copy ≡ self.now) }
         ensures kind { IfErr result (λ e. e ≡ OutOfMemory) }

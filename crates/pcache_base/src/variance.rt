@@ -200,7 +200,7 @@ impl<'a> VarianceBuilder<'a> {
         Ok(())
     }
 
-    /// Sets the value of a name. It is refused for want of memory alone, and then changes nothing.
+    /// Sets the value of a name. It is refused only when memory runs out, and then changes nothing.
     pub fn add_value(&mut self, name: &'a str, value: &'a [u8]) -> Result<()>
         ensures ok { OnOk result (self.new ≡ map.insert self.old name.now value.now) }
         ensures err { OnErr result (self.new ≡ self.old) }
@@ -209,8 +209,8 @@ impl<'a> VarianceBuilder<'a> {
         self.add(Name::borrowed(name), Value::borrowed(value))
     }
 
-    /// Sets the value of a name to one that is kept. It is refused for want of memory alone, and then
-    /// changes nothing.
+    /// Sets the value of a name to one that is kept. It is refused only when memory runs out, and
+    /// then changes nothing.
     pub fn add_owned_value(&mut self, name: &'a str, value: Vec<u8>) -> Result<()>
         ensures ok { OnOk result (self.new ≡ map.insert self.old name.now value.items) }
         ensures err { OnErr result (self.new ≡ self.old) }
@@ -219,8 +219,8 @@ impl<'a> VarianceBuilder<'a> {
         self.add(Name::borrowed(name), Value::owned(value))
     }
 
-    /// Sets the value of a name, both of which are kept. It is refused for want of memory alone, and
-    /// then changes nothing.
+    /// Sets the value of a name, both of which are kept. It is refused only when memory runs out,
+    /// and then changes nothing.
     pub fn add_owned_name_value(&mut self, name: String, value: Vec<u8>) -> Result<()>
         ensures ok { OnOk result (self.new ≡ map.insert self.old (string_bytes name) value.items) }
         ensures err { OnErr result (self.new ≡ self.old) }
@@ -237,7 +237,7 @@ impl<'a> VarianceBuilder<'a> {
     }
 
     /// The hash of the names with their last values: of each name in byte order the name, byte 0, its
-    /// value, byte 0. None where there is no name. It takes no memory.
+    /// value, byte 0. None if there is no name. It takes no memory.
     pub fn finalize(self) -> Option<HashBinary>
         ensures none { IsNone result ↔ (map.len self.entry ≡ 0) }
         ensures value { IfSome result (λ hash. hash ≡ blake2b_128 (message self.entry)) }

@@ -8,7 +8,7 @@ use Rattle.std.proofs.lemmas.List.Elements.{All-head, All-tail}
 use Rattle.std.specs.Option.{option_map}
 use Rattle.pcache_control.specs.Names.{name_of, is_known, is_known_name}
 use Rattle.pcache_control.specs.Maps.{same_key, value_of, entries_of, AreNamed}
-use Rattle.pcache_control.specs.Control.{given, has}
+use Rattle.pcache_control.specs.Control.{directive_given, has}
 use Rattle.pcache_control.specs.declared.cache_control.CacheControl.{CacheControl}
 use Rattle.pcache_control.specs.declared.key.DirectiveKey.{DirectiveKey}
 use Rattle.pcache_control.specs.declared.value.DirectiveValue.{DirectiveValue}
@@ -38,13 +38,13 @@ hit named later e same = rw same refl
 
 pub has_hit : (cc : CacheControl) (named : DirectiveKey) (rest later : List (DirectiveKey × Option DirectiveValue)) (e : DirectiveKey × Option DirectiveValue)
     → rest ≡ e ∷ later → same_key named e.0 ≡ true → lookup (same_key named) cc.directives.entries ≡ lookup (same_key named) rest → true ≡ has cc named
-unfolding given
+unfolding directive_given
 has_hit cc named rest later e step same so_far =
     sym (ap (λ found. is_some (option_map value_of found)) (so_far ∙ ap (lookup (same_key named)) step ∙ hit named later e same))
 
 pub has_none : (cc : CacheControl) (named : DirectiveKey) (rest : List (DirectiveKey × Option DirectiveValue))
     → rest ≡ [] → lookup (same_key named) cc.directives.entries ≡ lookup (same_key named) rest → false ≡ has cc named
-unfolding given
+unfolding directive_given
 has_none cc named rest none so_far = sym (ap (λ found. is_some (option_map value_of found)) (so_far ∙ ap (lookup (same_key named)) none))
 
 picks : (b : Bool) (v : Option DirectiveValue) (o : Option (Option DirectiveValue)) (rest : Option (Option (List ℕ))) → option_map value_of o ≡ rest
@@ -61,6 +61,6 @@ found_by_name (e ∷ es) k p all =
 
 -- in a map that was read, names decide
 pub given_by_name : (cc : CacheControl) (k : DirectiveKey) → is_known k ≡ is_known_name (name_of k) → AreNamed cc.directives.entries
-    → given cc k ≡ lookup (bytes_eq (name_of k)) (entries_of cc.directives.entries)
-unfolding given AreNamed
+    → directive_given cc k ≡ lookup (bytes_eq (name_of k)) (entries_of cc.directives.entries)
+unfolding directive_given AreNamed
 given_by_name cc k p all = found_by_name cc.directives.entries k p all

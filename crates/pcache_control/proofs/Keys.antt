@@ -52,7 +52,7 @@ both_or_neither true false false same = refl
 both_or_neither false true true same = same refl
 both_or_neither false true false same = refl
 
--- of keys that are known where their names are, the names decide
+-- of keys that are known if their names are, the names decide
 pub same_named : (k j : DirectiveKey) → is_known k ≡ is_known_name (name_of k) → is_known j ≡ is_known_name (name_of j)
     → same_key k j ≡ bytes_eq (name_of k) (name_of j)
 same_named k j p q = both_or_neither (is_known k) (is_known j) (bytes_eq (name_of k) (name_of j))

@@ -10,7 +10,7 @@ use Rattle.std.proofs.Math.Seq.{drop-cons}
 use Rattle.std.proofs.lemmas.List.{nil_from_length}
 use Rattle.pcache_control.specs.Directives.{IsTokenAt, IsLongestRun, IsText, HasValue, IsUnit, IsClosed}
 
--- the place behind the quote that closes a text, from place `at` on; a backslash takes the next byte along
+-- the place after the quote that closes a text, from place `at` on; a backslash takes the next byte along
 abbrev pub quote_end : Bool → ℕ → List ℕ → Option ℕ
 quote_end escaped at [] = None
 quote_end true at (b ∷ bytes) = if b == 0x0A then None else quote_end false (at + 1) bytes
@@ -81,7 +81,7 @@ more u at next rest end unit place found =
       ends = omega (arith, size, place, found.ends);
     }
 
--- a byte, with what is known of those behind it
+-- a byte, with what is known of those after it
 step : (b : ℕ) (bytes : List ℕ) (at end : ℕ) → quote_end false at (b ∷ bytes) ≡ Some end
     → (quote_end false (at + 1) bytes ≡ Some end → Found (at + 1) bytes end)
     → (quote_end true (at + 1) bytes ≡ Some end → (c : ℕ) × (rest : List ℕ) × (bytes ≡ c ∷ rest) × (c ≢ 0x0A) × Found (at + 1 + 1) rest end)
@@ -156,7 +156,7 @@ scan_ends line escaped at i end so_far past closed =
     let none : drop i line ≡ [] = nil_from_length (drop i line) (omega (arith, length-drop i line, past)) in
     never_closed line at end (sym so_far ∙ ap (quote_end escaped i) none) closed
 
--- no value, where no token byte stands behind the equals sign and no quoted text is closed there
+-- no value, if no token byte stands after the equals sign and no quoted text is closed there
 pub no_value : (line : List ℕ) (name_end e : ℕ) → IsLongestRun line (name_end + 1) e → (name_end + 1 < e → ⊥) → ((end : ℕ) → IsClosed line (name_end + 1 + 1) end → ⊥) → (v : ℕ × ℕ) → HasValue line name_end v → ⊥
 no_value line name_end e run short never v value = by_text value.text where
   by_text : IsText line v → ⊥

@@ -37,7 +37,7 @@ others_stay m name other (Some v) unlike = get_all-insert_other m name other v u
 pub since_is_not_unlike : codes "if-modified-since" ≢ codes "if-none-match"
 since_is_not_unlike e = cc e
 
--- where both were set there was room for both
+-- if both were set there was room for both
 pub no_room : (r : Result (Unit {0}) ErrorType) (before between asking : Entries FieldValue) (stored : Fields) → IsHeaderMap before → IsHeaderMap between
     → get_all before (codes "if-modified-since") ≡ [] → get_all before (codes "if-none-match") ≡ [] → AsksSince before stored between
     → OnOk r (AsksUnlike between stored asking) → OnOk r (IsHeaderMap asking) → LacksRoom before stored → IsErr r

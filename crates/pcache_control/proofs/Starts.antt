@@ -34,7 +34,7 @@ white_space_no_token b e =
     let above : ltb 0x20 b ≡ false = le-ltb 0x20 b low in
     rw above refl
 
--- a delimiter leads to the byte behind its white space alone
+-- a delimiter leads to the byte after its white space alone
 pub Leads_end : (line : List ℕ) (d s e : ℕ) → Leads line d s → IsWhiteSpaceRun line (d + 1) e → s ≡ e
 Leads_end line d s e leads run = elim (cases_lt s e) [
   | inl lt ↦
@@ -48,7 +48,7 @@ Leads_end line d s e leads run = elim (cases_lt s e) [
   ]
 ]
 
--- no start, where the byte behind the white space is not one
+-- no start, if the byte after the white space is not one
 pub Leads_none : (line : List ℕ) (d e : ℕ) → IsWhiteSpaceRun line (d + 1) e → (IsTokenAt line e → ⊥) → (s : ℕ) → Leads line d s → ⊥
 Leads_none line d e run none s leads =
     let same : s ≡ e = Leads_end line d s e leads run in

@@ -15,7 +15,7 @@ use Rattle.pcache_control.specs.Maps.{same_key, value_of, entries_of, lines_of, 
 use Rattle.pcache_control.specs.Seconds.{delta_seconds_of, floor_seconds_of}
 use Rattle.pcache_control.specs.Values.{unquoted, list_items}
 
--- what was read from the fields of a name: nothing exactly where there is no such field
+-- what was read from the fields of a name: nothing exactly when there is no such field
 abbrev pub ReadsField : Entries FieldValue → List ℕ → Option CacheControl → Type 0
 ReadsField fields name None = ¬ (ContainsKey fields name)
 ReadsField fields name (Some cc) =
@@ -25,16 +25,16 @@ ReadsField fields name (Some cc) =
 abbrev pub ReadsOneMap : Entries FieldValue → List ℕ → Option CacheControl → Type 0
 ReadsOneMap fields name found = IfSome found (λ (cc : CacheControl). AreReadOnce (lines_of (get_all fields name)) cc.directives.entries)
 
--- the directive under a key: None where it is absent, Some None where it has no value
-unfoldable pub given : CacheControl → DirectiveKey → Option (Option (List ℕ))
-given cc key = option_map value_of (lookup (same_key key) cc.directives.entries)
+-- the directive under a key: None if it is absent, Some None if it has no value
+unfoldable pub directive_given : CacheControl → DirectiveKey → Option (Option (List ℕ))
+directive_given cc key = option_map value_of (lookup (same_key key) cc.directives.entries)
 
 -- the directive of a name
 abbrev pub given_to : CacheControl → List ℕ → Option (Option (List ℕ))
 given_to cc name = lookup (bytes_eq name) (entries_of cc.directives.entries)
 
 abbrev pub has : CacheControl → DirectiveKey → Bool
-has cc key = is_some (given cc key)
+has cc key = is_some (directive_given cc key)
 
 -- there, without a value
 abbrev pub is_bare : Option (Option (List ℕ)) → Bool
@@ -42,7 +42,7 @@ is_bare (Some None) = true
 is_bare (Some (Some value)) = false
 is_bare None = false
 
--- the value, where there is one
+-- the value, if there is one
 abbrev pub value_in : Option (Option (List ℕ)) → Option (List ℕ)
 value_in (Some value) = value
 value_in None = None
@@ -55,13 +55,13 @@ names_in directive = option_map (λ value. list_items (unquoted value)) (value_i
 abbrev pub seconds_of : Bool → List ℕ → Option ℕ
 seconds_of floor value = if floor then floor_seconds_of (unquoted value) else delta_seconds_of (unquoted value)
 
--- the number of seconds that a directive says: None where it can't be read, Some None where there is no value
+-- the number of seconds that a directive says: None if it can't be read, Some None if there is no value
 abbrev pub seconds_at : Bool → Option (List ℕ) → Option (Option ℕ)
 seconds_at floor None = Some None
 seconds_at floor (Some value) = option_map (λ n. Some n) (seconds_of floor value)
 
 abbrev pub seconds_in : CacheControl → DirectiveKey → Option (Option ℕ)
-seconds_in cc key = seconds_at cc.allow_float_seconds (value_in (given cc key))
+seconds_in cc key = seconds_at cc.allow_float_seconds (value_in (directive_given cc key))
 
 -- what can't be read counts as not there
 abbrev pub or_none : Option (Option ℕ) → Option ℕ
@@ -71,7 +71,7 @@ or_none None = None
 -- never to be stored, to be stored, or neither is said
 unfoldable pub cacheable_of : CacheControl → Cacheable
 cacheable_of cc =
-    if has cc NoStore || is_bare (given cc Private) then No
+    if has cc NoStore || is_bare (directive_given cc Private) then No
     else if has cc SMaxAge || has cc MaxAge || has cc Public then Yes
     else Default
 
@@ -79,7 +79,7 @@ cacheable_of cc =
 unfoldable pub allows_authorized : CacheControl → Bool
 allows_authorized cc = has cc MustRevalidate || has cc Public || has cc SMaxAge
 
--- s-maxage decides; where it is absent or without a value, max-age; where it can't be read, nothing
+-- s-maxage decides; if it is absent or without a value, max-age; if it can't be read, nothing
 abbrev pub shared_age : Option (Option ℕ) → Option ℕ → Option ℕ
 shared_age None max_age = None
 shared_age (Some (Some seconds)) max_age = Some seconds
@@ -87,7 +87,7 @@ shared_age (Some None) max_age = max_age
 
 -- for how many seconds the response is fresh
 unfoldable pub fresh_seconds : CacheControl → Option ℕ
-fresh_seconds cc = if is_bare (given cc NoCache) then Some 0 else shared_age (seconds_in cc SMaxAge) (or_none (seconds_in cc MaxAge))
+fresh_seconds cc = if is_bare (directive_given cc NoCache) then Some 0 else shared_age (seconds_in cc SMaxAge) (or_none (seconds_in cc MaxAge))
 
 -- a stale response is not to be served
 abbrev pub forbids_stale : CacheControl → Bool
@@ -109,5 +109,5 @@ without_fields fields (Some names) = fold (λ left name. remove left (lowercase 
 -- the head without the fields that `private` and `no-cache` list
 unfoldable pub stripped : CacheControl → ResponseHeader → ResponseHeader
 stripped cc header = record header {
-  headers = without_fields (without_fields header.headers (names_in (given cc Private))) (names_in (given cc NoCache));
+  headers = without_fields (without_fields header.headers (names_in (directive_given cc Private))) (names_in (directive_given cc NoCache));
 }

@@ -37,7 +37,7 @@ pub record IsFirstStart (line : List ℕ) (from s : ℕ) : Type 0 where
   pub leads : Leads line delimiter s
   pub first : (d t : ℕ) → from ≤ d → Leads line d t → s ≤ t
 
--- a start is admitted behind a place, the end of the directive before: a delimiter from there on
+-- a start is admitted after a place, the end of the directive before: a delimiter from there on
 -- leads to it; the line's first byte needs no delimiter
 abbrev pub IsAdmitted : List ℕ → ℕ → ℕ → Type 0
 IsAdmitted line from s = ((s ≡ 0) × IsTokenAt line 0) ⊎ ((d : ℕ) × (from ≤ d) × Leads line d s)
@@ -50,7 +50,7 @@ IsUnit u = ((b : ℕ) × (u ≡ b ∷ []) × (b ≢ 0x22) × (b ≢ 0x5C)) ⊎ (
 abbrev pub AreUnits : List ℕ → Type 0
 AreUnits text = (units : List (List ℕ)) × All IsUnit units × (text ≡ flat_map (λ u. u) units)
 
--- from a place on stand units, and a quote that closes them; the end is behind it
+-- from a place on stand units, and a quote that closes them; the end is after it
 pub record IsClosed (line : List ℕ) (at end : ℕ) : Type 0 where
   pub text : List ℕ
   pub behind : List ℕ
@@ -80,7 +80,7 @@ pub record IsDirective (line : List ℕ) (p : Span) : Type 0 where
   pub name : IsLongestRun line p.start p.name_end
   pub value : EndsWith line p.name_end p.value p.end
 
--- the first start that is admitted behind a place
+-- the first start that is admitted after a place
 pub record IsNextStart (line : List ℕ) (from s : ℕ) : Type 0 where
   pub behind : from ≤ s
   pub admitted : IsAdmitted line from s

@@ -22,14 +22,14 @@ use Rattle.pcache_control.specs.Values.{trim_ows}
 abbrev pub second : ℕ
 second = 1_000_000_000
 
--- the moment at which a lifetime that begins now ends: a zero lifetime ended one second ago; none where that is no
+-- the moment at which a lifetime that begins now ends: a zero lifetime ended one second ago; none if that is no
 -- moment (moments and lifetimes in nanoseconds)
 abbrev pub end_of : ℕ → ℕ → Option ℕ
 end_of now lifetime =
     if lifetime == 0 then (if nat_le second now then Some (now - second) else None)
     else (if nat_lt (now + lifetime) (2 ^ 64 * second) then Some (now + lifetime) else None)
 
--- the moment of an Expires: the date that it shows, and the epoch where it shows none
+-- the moment of an Expires: the date that it shows, and the epoch if it shows none
 abbrev pub expires_at : List ℕ → ℕ
 expires_at value = unwrap_or (option_map (λ s. s * second) (parse_secs (trim_ows value))) 0
 
@@ -68,12 +68,12 @@ FreshBy now (Some moment) answers result = result ≡ Some moment
 FreshBy now None answers result =
     (default : Option Duration) × answers default × (result ≡ option_and_then (end_of now) (option_map as_nanos default))
 
--- until when a response is fresh, where a default lifetime is one of `answers`
+-- until when a response is fresh, if a default lifetime is one of `answers`
 abbrev pub FreshUntil : ℕ → Option CacheControl → Entries FieldValue → Bool → (Option Duration → Type 0) → Option ℕ → Type 0
 FreshUntil now cc fields authorized answers result =
     MatchBool (forbids cc authorized) (result ≡ None) (FreshBy now (said_moment now cc fields) answers result)
 
--- a window in whole seconds: what was said, the overflow value where that does not fit 32 bits, and the default where
+-- a window in whole seconds: what was said, the overflow value if that does not fit 32 bits, and the default if
 -- nothing was said
 abbrev pub window : Option ℕ → ℕ → ℕ
 window None default = default

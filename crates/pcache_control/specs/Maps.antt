@@ -16,7 +16,7 @@ use Rattle.pcache_control.specs.Names.{name_of, is_known, is_known_name}
 abbrev pub same_key : DirectiveKey → DirectiveKey → Bool
 same_key k j = (if is_known k then is_known j else not (is_known j)) && bytes_eq (name_of k) (name_of j)
 
--- the bytes of a value, where there is one
+-- the bytes of a value, if there is one
 abbrev pub value_of : Option DirectiveValue → Option (List ℕ)
 value_of v = option_map (λ (d : DirectiveValue). d.0.items) v
 
@@ -27,11 +27,11 @@ entry_of e = (name_of e.0, value_of e.1)
 abbrev pub entries_of : List (DirectiveKey × Option DirectiveValue) → List (List ℕ × Option (List ℕ))
 entries_of entries = map entry_of entries
 
--- each key is of the fourteen where its name is
+-- each key is of the fourteen if its name is
 unfoldable pub AreNamed : List (DirectiveKey × Option DirectiveValue) → Type 0
 AreNamed entries = All (λ e. is_known e.0 ≡ is_known_name (name_of e.0)) entries
 
--- the name in lower case and the value of a directive, where the name is text
+-- the name in lower case and the value of a directive, if the name is text
 abbrev pub directive_of : List ℕ → Span → Option (List ℕ × Option (List ℕ))
 directive_of line p =
     let name = slice_range line p.start p.name_end in

@@ -36,7 +36,7 @@ known_names = codes "max-age" ∷ codes "s-maxage" ∷ codes "no-cache" ∷ code
 unfoldable pub is_known_name : List ℕ → Bool
 is_known_name name = list_any (λ known. bytes_eq name known) known_names
 
--- the key of a name: known exactly where the name is
+-- the key of a name: known exactly when the name is
 pub record IsNamed (text : List ℕ) (key : DirectiveKey) : Type 0 where
   pub name : name_of key ≡ text
   pub known : is_known key ≡ is_known_name text

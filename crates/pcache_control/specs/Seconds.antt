@@ -42,7 +42,7 @@ pointed_at bytes (Some at) =
 unfoldable pub pointed_seconds_of : List ℕ → Option ℕ
 pointed_seconds_of bytes = pointed_at bytes (position is_point bytes)
 
--- the floor reading: delta seconds where the bytes are that, else an optional plus and a pointed number
+-- the floor reading: delta seconds if the bytes are that, else an optional plus and a pointed number
 unfoldable pub floor_seconds_of : List ℕ → Option ℕ
 floor_seconds_of bytes = or_else (delta_seconds_of bytes) (pointed_seconds_of (without_leading_plus bytes))
   where
@@ -50,7 +50,7 @@ floor_seconds_of bytes = or_else (delta_seconds_of bytes) (pointed_seconds_of (w
     or_else (Some n) other = Some n
     or_else None other = other
 
--- what a reading answers: what there is, or the refusal where there is nothing
+-- what a reading answers: what there is, or the refusal if there is nothing
 abbrev pub Reads : {A : Type 0} → Option A → Result A ErrorType → Type 0
 Reads (Some n) result = result ≡ Ok n
 Reads None result = result ≡ Err InternalError

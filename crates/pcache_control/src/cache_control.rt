@@ -28,7 +28,7 @@ use std::alloc::Global;
 /// chooses the names.
 pub type DirectiveMap = IndexMap<DirectiveKey, Option<DirectiveValue>, NameHasher>;
 
-// The key of the name that these bytes are in any case, where they are text.
+// The key of the name that these bytes are in any case, if they are text.
 fn key_of(alloc: Global, name: &[u8]) -> Result<Option<DirectiveKey>>
     ensures ok { IfOk result (λ key.
         MatchOption key (is_utf8 name.now ≡ false) (IsNamed (str_to_ascii_lowercase name.now))) }
@@ -153,7 +153,7 @@ impl CacheControl {
     ghost use Rattle.http_header.specs.Token.{lowercase};
     ghost use Rattle.pcache_control.specs.declared.key.DirectiveKey.TheVariants.{MaxAge, SMaxAge, NoCache, NoStore, Private, Public, MustRevalidate, ProxyRevalidate, OnlyIfCached, StaleWhileRevalidate, StaleIfError};
     ghost use Rattle.pcache_control.specs.declared.key.DirectiveKey.{DirectiveKey};
-    ghost use Rattle.pcache_control.specs.Control.{ReadsField, ReadsOneMap, given, given_to, has, is_bare, value_in, names_in, seconds_in};
+    ghost use Rattle.pcache_control.specs.Control.{ReadsField, ReadsOneMap, directive_given, given_to, has, is_bare, value_in, names_in, seconds_in};
     ghost use Rattle.pcache_control.specs.Maps.{lines_of, value_of, AreReadOnce};
     ghost use Rattle.pcache_control.specs.Names.{IsNamed};
     ghost use Rattle.pcache_control.specs.Seconds.{Reads};
@@ -166,8 +166,8 @@ impl CacheControl {
         self
     }
 
-    /// The directives of all fields of this name, in any case; `None` where there is none. It is
-    /// refused for want of memory alone.
+    /// The directives of all fields of this name, in any case; `None` if there is none. It is
+    /// refused only when memory runs out.
     pub fn from_headers_named(
         alloc: Global,
         header_name: &str,
@@ -234,9 +234,9 @@ impl CacheControl {
         CacheControl::from_resp_headers_named(alloc, "cache-control", resp_header)
     }
 
-    // The value under a key, `None` where there is no such directive.
+    // The value under a key, `None` if there is no such directive.
     fn find(&self, key: &DirectiveKey) -> Option<&Option<DirectiveValue>>
-        ensures { option_map value_of (option_copied result) ≡ given self.now key.now }
+        ensures { option_map value_of (option_copied result) ≡ directive_given self.now key.now }
     {
         self.directives.get(key)
     }
@@ -271,14 +271,14 @@ impl CacheControl {
         ensures there { result ≡ has self.now key.now }
         // In a map that was read the name alone says which directive is meant, in every answer.
         ensures by_name { AreNamed self.now.directives.entries → IsNamed (name_of key.now) key.now →
-            given self.now key.now ≡ given_to self.now (name_of key.now) }
+            directive_given self.now key.now ≡ given_to self.now (name_of key.now) }
     {
         self.find(key).is_some()
     }
 
     // Whether the directive is there without a value.
     fn has_key_without_value(&self, key: &DirectiveKey) -> bool
-        ensures { result ≡ is_bare (given self.now key.now) }
+        ensures { result ≡ is_bare (directive_given self.now key.now) }
     {
         matches!(self.find(key), Some(None))
     }
@@ -286,7 +286,7 @@ impl CacheControl {
     // The value of the directive.
     fn value(&self, key: &DirectiveKey) -> Option<&DirectiveValue>
         ensures { option_map (λ (v : DirectiveValue). v.0.items) (option_copied result)
-            ≡ value_in (given self.now key.now) }
+            ≡ value_in (directive_given self.now key.now) }
     {
         self.find(key)?.as_ref()
     }
@@ -300,14 +300,14 @@ impl CacheControl {
 
     /// Whether `private` is there without field names, so for the whole response.
     pub fn private(&self) -> bool
-        ensures { result ≡ is_bare (given self.now Private) }
+        ensures { result ≡ is_bare (directive_given self.now Private) }
     {
         self.has_key_without_value(&DirectiveKey::Private)
     }
 
     /// Whether `no-cache` is there without field names, so for the whole response.
     pub fn no_cache(&self) -> bool
-        ensures { result ≡ is_bare (given self.now NoCache) }
+        ensures { result ≡ is_bare (directive_given self.now NoCache) }
     {
         self.has_key_without_value(&DirectiveKey::NoCache)
     }
@@ -342,7 +342,7 @@ impl CacheControl {
 
     // The field names that the directive lists.
     fn field_names(&self, key: &DirectiveKey) -> Option<ListValueIter<'_>>
-        ensures { result ≡ names_in (given self.now key.now) }
+        ensures { result ≡ names_in (directive_given self.now key.now) }
     {
         match self.value(key) {
             Some(value) => Some(ListValueIter::from(value)),
@@ -350,16 +350,16 @@ impl CacheControl {
         }
     }
 
-    /// The field names that `private` lists (RFC 9111 section 5.2.2.7); `None` where it has no value.
+    /// The field names that `private` lists (RFC 9111 section 5.2.2.7); `None` if it has no value.
     pub fn private_field_names(&self) -> Option<ListValueIter<'_>>
-        ensures { result ≡ names_in (given self.now Private) }
+        ensures { result ≡ names_in (directive_given self.now Private) }
     {
         self.field_names(&DirectiveKey::Private)
     }
 
-    /// The field names that `no-cache` lists (RFC 9111 section 5.2.2.4); `None` where it has no value.
+    /// The field names that `no-cache` lists (RFC 9111 section 5.2.2.4); `None` if it has no value.
     pub fn no_cache_field_names(&self) -> Option<ListValueIter<'_>>
-        ensures { result ≡ names_in (given self.now NoCache) }
+        ensures { result ≡ names_in (directive_given self.now NoCache) }
     {
         self.field_names(&DirectiveKey::NoCache)
     }
@@ -377,7 +377,7 @@ impl CacheControl {
         }
     }
 
-    /// The seconds of `max-age`; `None` where it is absent or has no value. What is no number of
+    /// The seconds of `max-age`; `None` if it is absent or has no value. What is no number of
     /// seconds is refused as `InternalError`.
     pub fn max_age(&self) -> Result<Option<u32>>
         ensures { Reads (seconds_in self.now MaxAge) result }

@@ -1,4 +1,4 @@
-//! What holds where a response says nothing of its lifetime.
+//! What holds if a response says nothing of its lifetime.
 
 ghost use Rattle.std.specs.Prelude.{◌≡◌, ◌==◌, if◌then◌else◌};
 ghost use Rattle.pcache_control.specs.Defaults.{asked_status};
@@ -6,10 +6,10 @@ ghost use Rattle.pcache_control.specs.Defaults.{asked_status};
 use http::StatusCode;
 use std::time::Duration;
 
-/// How long a response of a status is fresh by default; `None` where it is not to be stored.
+/// How long a response of a status is fresh by default; `None` if it is not to be stored.
 pub type FreshDurationByStatusFn = fn(StatusCode) -> Option<Duration>;
 
-/// What holds where a response says nothing: lifetimes by status, and windows in which a stale
+/// What holds if a response says nothing: lifetimes by status, and windows in which a stale
 /// response may be served.
 #[derive(Drop)]
 pub struct CacheMetaDefaults {

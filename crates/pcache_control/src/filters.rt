@@ -55,7 +55,7 @@ fn expires_at(value: &HeaderValue) -> Moment
     }
 }
 
-/// The moment of a response's one Expires, which is the epoch where it shows no date. Several
+/// The moment of a response's one Expires, which is the epoch if it shows no date. Several
 /// Expires count as none.
 #[tactic(auto, unfolding(crate::specs::Filters::expires_of))]
 pub fn calculate_expires_header_time(resp_header: &RespHeader) -> Option<Moment>
@@ -123,8 +123,8 @@ pub fn calculate_fresh_until(
     end_of(now, defaults.fresh_sec(resp_header.status)?)
 }
 
-// A window in whole seconds: what was said, the overflow value where that does not fit 32 bits, and
-// the default where nothing was said.
+// A window in whole seconds: what was said, the overflow value if that does not fit 32 bits, and
+// the default if nothing was said.
 fn window(said: Option<Duration>, default: u32) -> u32
     ensures { result ≡ window (option_map as_nanos said) default }
 {

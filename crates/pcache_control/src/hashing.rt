@@ -8,7 +8,7 @@ use std::hash::{BuildHasher, DefaultHasher, Hasher};
 use std::marker::Model;
 
 /// Hashes the names of the directives of some lines, under a key that is made of all of them: SipHash
-/// behind their BLAKE2b hash. A contract sees the hasher that each name begins with.
+/// after their BLAKE2b hash. A contract sees the hasher that each name begins with.
 ///
 /// A sender chooses the names. Under a key that is known before, names can be sought that all have
 /// one hash. Here each change of a name changes the key, so names that collide under it can only be

@@ -34,21 +34,21 @@ pub trait InterpretCacheControl {
     fn is_cacheable(&self) -> Cacheable
         ensures { result ≡ cacheable self.now };
 
-    /// Whether the response may be stored where its request had an Authorization
+    /// Whether the response may be stored if its request had an Authorization
     /// (RFC 9111 section 3.5).
     fn allow_caching_authorized_req(&self) -> bool
         ensures { result ≡ authorized self.now };
 
-    /// For how long the response is fresh, where the directives say (RFC 9111 section 4.2.1).
+    /// For how long the response is fresh, if the directives say (RFC 9111 section 4.2.1).
     fn fresh_duration(&self) -> Option<Duration>
         ensures { option_map as_nanos result ≡ fresh self.now };
 
-    /// For how long a stale response may be served while it is revalidated, where the directives say
+    /// For how long a stale response may be served while it is revalidated, if the directives say
     /// (RFC 5861 section 3).
     fn serve_stale_while_revalidate_duration(&self) -> Option<Duration>
         ensures { option_map as_nanos result ≡ stale_while_revalidating self.now };
 
-    /// For how long a stale response may be served after an error, where the directives say
+    /// For how long a stale response may be served after an error, if the directives say
     /// (RFC 5861 section 4).
     fn serve_stale_if_error_duration(&self) -> Option<Duration>
         ensures { option_map as_nanos result ≡ stale_after_error self.now };

@@ -94,8 +94,8 @@ impl DirectiveKey {
         }
     }
 
-    /// The key of a name, which is in lower case: its own variant where it is known. It is refused
-    /// for want of memory alone, and never for a known name.
+    /// The key of a name, which is in lower case: its own variant if it is known. It is refused
+    /// only when memory runs out, and never for a known name.
     pub fn from_lowercase(alloc: Global, name: &str) -> Result<DirectiveKey>
         ensures ok { IfOk result (IsNamed name.now) }
         ensures no_memory_needed { is_known_name name.now ≡ true → IsOk result }
@@ -107,7 +107,7 @@ impl DirectiveKey {
         }
     }
 
-    /// The key of a name, which is in lower case: its own variant where it is known.
+    /// The key of a name, which is in lower case: its own variant if it is known.
     pub fn from_lowercase_owned(name: String) -> DirectiveKey
         ensures { IsNamed (string_bytes name) result }
     {

@@ -6,7 +6,7 @@
 //!   Its parts: `scan` finds the directives of a line, `key` has their names and `value` their
 //!   values, `hashing` hashes names, `seconds` reads numbers of seconds, `interpret` says what a
 //!   response may be used for.
-//! - `defaults`: lifetimes and stale windows where a response says nothing.
+//! - `defaults`: lifetimes and stale windows if a response says nothing.
 //! - `filters`: which requests and responses may be cached, until when a response is fresh, and how a
 //!   request goes to the origin.
 //! - `response`: what becomes of a response, a meta to store it with or a reason not to.

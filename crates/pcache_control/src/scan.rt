@@ -73,7 +73,7 @@ fn token_end(line: &[u8], at: usize) -> usize
     end
 }
 
-// The place behind the closing quote, `at` being behind the opening one.
+// The place after the closing quote, `at` being after the opening one.
 fn quote_end(line: &[u8], at: usize) -> Option<usize>
     requires { at ≤ length line.now }
     ensures found { IfSome result (λ end. IsClosed line.now at end) }
@@ -98,7 +98,7 @@ fn quote_end(line: &[u8], at: usize) -> Option<usize>
     None
 }
 
-// The value behind a name that ends at `name_end`.
+// The value after a name that ends at `name_end`.
 fn value_at(line: &[u8], name_end: usize) -> Option<(usize, usize)>
     requires { name_end ≤ length line.now }
     ensures found { IfSome result (λ v. HasValue line.now name_end v) }
@@ -124,7 +124,7 @@ fn value_at(line: &[u8], name_end: usize) -> Option<(usize, usize)>
     Some((start, end))
 }
 
-// Behind the white space from `at` on.
+// After the white space from `at` on.
 fn skip_white_space(line: &[u8], at: usize) -> usize
     requires { at ≤ length line.now }
     ensures { IsWhiteSpaceRun line.now at result }
@@ -167,7 +167,7 @@ fn next_start(line: &[u8], from: usize) -> Option<usize>
     None
 }
 
-// The first start that is admitted behind `from`.
+// The first start that is admitted after `from`.
 fn search(line: &[u8], from: usize) -> Option<usize>
     requires { from ≤ length line.now }
     ensures found { IfSome result (λ s. IsNextStart line.now from s) }

@@ -42,7 +42,7 @@ impl DirectiveValue {
         without_quotes(self.0.as_slice())
     }
 
-    /// The same as text. It is refused as `InternalError` where it is not UTF-8.
+    /// The same as text. It is refused as `InternalError` if it is not UTF-8.
     pub fn parse_as_str(&self) -> Result<&str>
         ensures { MatchResult result
             (λ text. (text.now ≡ unquoted self.now.0.items) × IsUtf8 (unquoted self.now.0.items))
@@ -66,7 +66,7 @@ impl DirectiveValue {
         }
     }
 
-    /// The value as delta seconds or, where it is not that, as such a number with a point and a
+    /// The value as delta seconds or, if it is not that, as such a number with a point and a
     /// fraction, which is cut off (own). All else is refused as `InternalError`.
     pub fn parse_as_delta_seconds_floor(&self) -> Result<u32>
         ensures { Reads (floor_seconds_of (unquoted self.now.0.items)) result }
@@ -150,7 +150,7 @@ fn comma(bytes: &[u8]) -> Option<usize>
     bytes.iter().position(|b| *b == b',')
 }
 
-// What stands before the first comma, and what stands behind it.
+// What stands before the first comma, and what stands after it.
 fn split_at_comma(bytes: &[u8]) -> (&[u8], Option<&[u8]>)
     ensures { list_items bytes.now ≡ trim_ows result.0.now ∷ items_left (option_copied result.1) }
 {

@@ -12,7 +12,7 @@ abbrev pub span : List Recency → ℕ → ℕ → Recency
 span shards i zero = []
 span shards i (suc n) = span shards (suc i) n ++ list_at shards i
 
--- all shards as one list, from the end of which entries go: first those behind a shard, then those up to it
+-- all shards as one list, from the end of which entries go: first those after a shard, then those up to it
 abbrev pub chain : ℕ → ℕ → List Recency → Recency
 chain n place shards = span shards 0 (place + 1) ++ span shards (place + 1) (n - (place + 1))
 
@@ -27,7 +27,7 @@ pub record Pops (n place : ℕ) (old : List Recency) (k : CacheEntryKey) (new : 
   pub last : chain n place old ≡ chain n place new ++ (k, size) ∷ []
 
 -- numbers within the limits
-pub record AreSmall (limits : Limits) (sum items : ℕ) : Type 0 where
+pub record AreWithin (limits : Limits) (sum items : ℕ) : Type 0 where
   pub weight : sum ≤ limits.weight
   pub count : IfSome limits.watermark (λ most. items ≤ most)
 
@@ -39,7 +39,7 @@ pub record Walks (limits : Limits) (k : CacheEntryKey) (l : Recency) (from to : 
   pub sum : from.sum ≡ to.sum + weight (others k passed)
   pub count : from.count ≡ to.count + length (others k passed)
   pub room : to.room ≡ from.room + length (others k passed)
-  pub ends : (left ≡ []) ⊎ AreSmall limits to.sum to.count
+  pub ends : (left ≡ []) ⊎ AreWithin limits to.sum to.count
 
 -- so much room is enough for what goes once an entry is put, or its weight is set where it stands
 pub record RoomFor (n : ℕ) (limits : Limits) (k : CacheEntryKey) (size : ℕ) (shards : List Recency) (room : ℕ) : Type 0 where

@@ -20,7 +20,7 @@ abbrev pub entry_with : CompactCacheKey → Option ℕ → CacheEntryKey
 entry_with k None = KeyOnly k
 entry_with k (Some n) = Identified k n
 
--- the key, and the number of the entry where it has one
+-- the key, and the number of the entry if it has one
 abbrev pub key_of : CacheEntryKey → CompactCacheKey
 key_of (KeyOnly k) = k
 key_of (Identified k n) = k

@@ -18,7 +18,7 @@ abbrev pub without : List CacheEntryKey → Tracked → Tracked
 without [] m = m
 without (e ∷ es) m = without es (remove m e)
 
--- an access adds an entry only where it is missing
+-- an access adds an entry only if it is missing
 abbrev pub added : Tracked → CacheEntryKey → ℕ → Tracked
 added m e n = if contains_key m e then m else insert m e n
 
@@ -31,7 +31,7 @@ raised delta cap (Some w) = max w (min (w + delta) (unwrap_or cap (2 ^ 64 - 1)))
 abbrev pub incremented : Tracked → CacheEntryKey → ℕ → Option ℕ → Tracked
 incremented m e delta cap = insert m e (raised delta cap (get m e))
 
--- the limits of a manager: on the weight, and on the number of entries where there is a watermark
+-- the limits of a manager: on the weight, and on the number of entries if there is a watermark
 pub record Limits : Type 0 where
   pub weight : ℕ
   pub watermark : Option ℕ

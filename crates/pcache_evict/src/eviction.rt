@@ -22,7 +22,7 @@ pub use entry_key::{CacheEntryId, CacheEntryKey, CacheEntryKeyRef};
 /// Decides which entries leave a cache, by their weights and by how they are used.
 ///
 /// A contract sees the map from entries to weights, and the limits on their sum and number. Calls
-/// are refused for want of memory alone, and a refused call changes nothing.
+/// are refused only when memory runs out, and a refused call changes nothing.
 pub trait EvictionManager: Drop {
     /// The entries, with their weights.
     ghost tracked: { Self → Tracked };
@@ -33,7 +33,7 @@ pub trait EvictionManager: Drop {
     /// The weight and the number of all that was evicted.
     ghost evicted: { Self → Evicted };
 
-    /// The weights of the entries, added up; the largest `usize` where they are more.
+    /// The weights of the entries, added up; the largest `usize` if they are more.
     fn total_size(&self) -> usize
         ensures { result ≡ min (weight (tracked self.now)) (2 ^ 64 - 1) };
 
@@ -41,11 +41,11 @@ pub trait EvictionManager: Drop {
     fn total_items(&self) -> usize
         ensures { result ≡ map.len (tracked self.now) };
 
-    /// The weight of all that was evicted so far; the largest `usize` where it is more.
+    /// The weight of all that was evicted so far; the largest `usize` if it is more.
     fn evicted_size(&self) -> usize
         ensures { result ≡ (evicted self.now).weight };
 
-    /// The number of entries that were evicted so far; the largest `usize` where they are more.
+    /// The number of entries that were evicted so far; the largest `usize` if they are more.
     fn evicted_items(&self) -> usize
         ensures { result ≡ (evicted self.now).count };
 
@@ -74,9 +74,9 @@ pub trait EvictionManager: Drop {
         ensures err { OnErr result (tracked self.new ≡ tracked self.old) }
         ensures err_evicted { OnErr result (evicted self.new ≡ evicted self.old) };
 
-    /// Adds to the weight of an entry, up to `max_weight` (the largest `usize` where that is
+    /// Adds to the weight of an entry, up to `max_weight` (the largest `usize` if that is
     /// `None`), and evicts as `admit` does. A weight never falls; a missing entry comes in with what
-    /// is added, at least 1. It is not refused where the entry is there and nothing is evicted.
+    /// is added, at least 1. It is not refused if the entry is there and nothing is evicted.
     fn increment_weight(
         &mut self,
         item: &CacheEntryKey,
@@ -105,7 +105,7 @@ pub trait EvictionManager: Drop {
         ensures evicted { evicted self.new ≡ evicted self.old };
 
     /// Notes a use of an entry and answers whether it was there. A missing one is added with this
-    /// weight; nothing is evicted, even if the limits no longer hold. It is not refused where the
+    /// weight; nothing is evicted, even if the limits no longer hold. It is not refused if the
     /// entry is there.
     fn access(&mut self, item: &CacheEntryKey, size: usize, fresh_until: Moment) -> Result<bool>
         ensures limits { limits self.new ≡ limits self.old }
@@ -116,7 +116,7 @@ pub trait EvictionManager: Drop {
         ensures kind { IfErr result (λ e. e ≡ OutOfMemory) }
         ensures err { OnErr result (tracked self.new ≡ tracked self.old) };
 
-    /// Whether an entry is there. That is no use of it.
+    /// Whether an entry is there. That does not count as a use.
     fn peek(&self, item: &CacheEntryKey) -> bool
         ensures { result ≡ map.contains_key (tracked self.now) item.now };
 }

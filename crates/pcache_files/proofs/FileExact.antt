@@ -1,4 +1,4 @@
--- A file is read exactly where it is spelled.
+-- A file is read exactly when it is spelled.
 use Rattle.std.proofs.Common.{◌≡◌, ℕ, zero, suc, ◌<◌, false, eqb, List, [], ◌∷◌, ◌++◌, length, Option, Some, None, refl, sym, ap, subst, ◌∙◌, arith, inl, inr}
 use Rattle.std.specs.Prelude.{Result, Ok, Err, IfErr, IfOk, IsErrOf, ◌⊎◌}
 use Rattle.std.proofs.lemmas.Bool.{eqb-true}
@@ -149,7 +149,7 @@ nodes_takes (suc n) bytes l rest fits read = after (node_at bytes) _ (l, rest) r
     let size : length (node ∷ nodes) ≡ suc n = ap suc more.1 in
     (rw (← same.0, ← same.1) there, rw (← same.0) size)))
 
-nodes_again : (bytes : List ℕ) (l : Recency) (rest : List ℕ) → NodesThen bytes l rest → nodes_at (length l) bytes ≡ Some (l, rest)
+pub nodes_again : (bytes : List ℕ) (l : Recency) (rest : List ℕ) → NodesThen bytes l rest → nodes_at (length l) bytes ≡ Some (l, rest)
 unfolding nodes_at
 nodes_again bytes [] rest t = ap (λ (bytes : List ℕ). Some ([], bytes)) t
 nodes_again bytes (node ∷ l) rest t = rw (node_again bytes node t.0 t.1, nodes_again t.0 l rest t.2) refl

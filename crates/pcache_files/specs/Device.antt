@@ -8,7 +8,7 @@ use Rattle.pcache_base.specs.declared.error.ErrorType.TheVariants.{Io}
 abbrev pub Rose : ℕ → ℕ → Type 0
 Rose old new = new ≡ (old + 1) % 2 ^ 64
 
--- the number of failed calls rose by one where the answer is that the device failed, and else it stayed
+-- the number of failed calls rose by one if the answer is that the device failed, and else it stayed
 abbrev pub Counts : {T : Type 0} → ℕ → ℕ → Result T ErrorType → Type 0
 Counts old new (Err Io) = Rose old new
 Counts old new _ = new ≡ old

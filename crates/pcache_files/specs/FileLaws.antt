@@ -1,5 +1,5 @@
 -- What holds of every file (own).
-use Rattle.std.specs.Prelude.{◌≡◌, ◌≤◌, ℕ, List, [], length}
+use Rattle.std.specs.Prelude.{◌≡◌, ◌≤◌, ℕ, List, [], ◌++◌, length}
 use Rattle.pcache_evict.specs.Listed.{IsOnce}
 use Rattle.pcache_evict.specs.Recency.{Recency, loaded_all}
 use Rattle.pcache_files.specs.FileSpelling.{SpellsFile}
@@ -7,6 +7,10 @@ use Rattle.pcache_files.specs.FileWriting.{AreNodes, file_written}
 
 abbrev pub FilesSpellOneList : Type 0
 FilesSpellOneList = (bytes : List ℕ) (l m : Recency) → SpellsFile bytes l → SpellsFile bytes m → l ≡ m
+
+-- if a file begins with a file, it is that file
+abbrev pub NoBeginningIsAFile : Type 0
+NoBeginningIsAFile = (bytes more : List ℕ) (l m : Recency) → SpellsFile bytes l → SpellsFile (bytes ++ more) m → more ≡ []
 
 -- no spelling of a list is shorter than the one that is written
 abbrev pub FilesAreShortest : Type 0

@@ -7,7 +7,7 @@ use Rattle.pcache_evict.specs.Entry.{entry_with}
 use Rattle.pcache_evict.specs.Recency.{Recency}
 use Rattle.pcache_meta.specs.Reading.{◌>>=◌, when, number_at, array_at, items_at, text_at, hash_at, optional_at}
 
--- the items of a key, behind the head
+-- the items of a key, after the head
 unfoldable pub key_items_at : List ℕ → Option (CompactCacheKey × List ℕ)
 key_items_at bytes = do
   primary ← hash_at bytes
@@ -15,13 +15,13 @@ key_items_at bytes = do
   tag ← text_at variance.1
   Some (record { primary = primary.0; variance = variance.0; user_tag = tag.0 }, tag.1)
 
--- an entry that is a key alone, behind the head
+-- an entry that is a key alone, after the head
 unfoldable pub only_at : List ℕ → Option (CacheEntryKey × List ℕ)
 only_at bytes = do
   key ← key_items_at bytes
   Some (entry_with key.0 None, key.1)
 
--- an entry that is a key and a number or nil, behind the head
+-- an entry that is a key and a number or nil, after the head
 unfoldable pub pair_at : List ℕ → Option (CacheEntryKey × List ℕ)
 pair_at bytes = do
   items ← items_at 3 bytes

@@ -38,7 +38,7 @@ fn owned(alloc: Global, text: &str) -> Result<Text>
     Ok(Text::new(String::from_str(alloc, text)?))
 }
 
-// The items of a key, behind the head.
+// The items of a key, after the head.
 #[tactic(auto, unfolding(crate::specs::FileReading::key_items_at))]
 fn read_key_items(alloc: Global, reader: &mut Reader<'_>) -> Result<CompactCacheKey>
     ensures { GivesOrWants (λ k. (k, reader.new)) result (key_items_at reader.old) }
@@ -54,7 +54,7 @@ fn read_key_items(alloc: Global, reader: &mut Reader<'_>) -> Result<CompactCache
     })
 }
 
-// An entry that is a key alone, behind the head.
+// An entry that is a key alone, after the head.
 #[tactic(auto, unfolding(crate::specs::FileReading::only_at))]
 fn read_only(alloc: Global, reader: &mut Reader<'_>) -> Result<CacheEntryKey>
     ensures { GivesOrWants (λ e. (e, reader.new)) result (only_at reader.old) }
@@ -74,7 +74,7 @@ fn read_id(reader: &mut Reader<'_>) -> Result<Option<CacheEntryId>>
     Ok(Some(CacheEntryId::new(reader.number()?)))
 }
 
-// An entry that is a key and a number or nil, behind the head.
+// An entry that is a key and a number or nil, after the head.
 #[tactic(auto, unfolding(crate::specs::FileReading::pair_at))]
 fn read_pair(alloc: Global, reader: &mut Reader<'_>) -> Result<CacheEntryKey>
     ensures { GivesOrWants (λ e. (e, reader.new)) result (pair_at reader.old) }

@@ -1,5 +1,5 @@
 //! Readers and writers that count the calls that failed, so that a contract can say that a device
-//! is blamed exactly where it failed.
+//! is blamed exactly when it failed.
 ghost use Rattle.std.specs.Prelude.{◌≡◌, ◌+◌, ◌%◌, ◌^◌, ◌<◌, ◌≤◌, ◌⊎◌, ℕ, List, Option, None, length, IfErr, IfOk, OnErr, OnOk};
 ghost use Rattle.std.specs.Io.KnownBytes.{Appends, Keeps, ReadConsumes, WriteAppends};
 ghost use Rattle.pcache_files.specs.Device.{Counts, Gave, TookBeginning};
@@ -11,14 +11,14 @@ use std::io::{ErrorKind, Read, Write};
 
 /// A reader that counts the reads that failed.
 pub trait CountedRead {
-    /// The bytes that reads will give from here on, where they are known.
+    /// The bytes that reads will give from here on, if they are known.
     ghost remaining: { Self → Option (List ℕ) } = { λ _. None };
 
     /// How many reads failed so far, modulo 2^64.
     ghost failed: { Self → ℕ };
 
     /// Gives the next bytes, at the front of the buffer, and answers how many they are: none only at
-    /// the end, or where the buffer has no room. A read that fails gives none and is counted.
+    /// the end, or if the buffer has no room. A read that fails gives none and is counted.
     fn read(&mut self, buf: &mut [u8]) -> Result<usize>
         ensures within { IfOk result (λ n. n ≤ length buf.new) }
         ensures bytes { ReadConsumes (remaining self.old) (remaining self.new) result buf.new }
@@ -32,16 +32,16 @@ pub trait CountedRead {
 
 /// A writer that counts the writes and flushes that failed.
 pub trait CountedWrite {
-    /// The bytes that the writer took so far, where they are known.
+    /// The bytes that the writer took so far, if they are known.
     ghost contents: { Self → Option (List ℕ) } = { λ _. None };
 
-    /// That what was taken was passed on, where a writer says so.
+    /// Whether what was taken was passed on, if a writer says so.
     ghost is_flushed: { Self → Type 0 } = { λ _. Unit {0} };
 
     /// How many writes and flushes failed so far, modulo 2^64.
     ghost failed: { Self → ℕ };
 
-    /// Takes bytes from the front of the buffer, and answers how many: at least one, where it has
+    /// Takes bytes from the front of the buffer, and answers how many: at least one, if it has
     /// one. A write that takes none of them fails; one that fails took none and is counted.
     fn write(&mut self, buf: &[u8]) -> Result<usize>
         ensures within { IfOk result (λ n. n ≤ length buf.now) }
@@ -167,7 +167,7 @@ pub fn read_whole<D: CountedRead>(alloc: Global, from: &mut D) -> Result<Vec<u8>
     unreachable!()
 }
 
-/// Writes all of the bytes, and flushes. Where the writer fails, it has taken a beginning of them.
+/// Writes all of the bytes, and flushes. If the writer fails, it has taken a beginning of them.
 pub fn write_whole<W: CountedWrite>(to: &mut W, bytes: &[u8]) -> Result<()>
     ensures whole { OnOk result (Appends (W.contents to.old) (W.contents to.new) bytes.now) }
     ensures flushed { OnOk result (W.is_flushed to.new) }

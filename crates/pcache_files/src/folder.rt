@@ -27,7 +27,7 @@ pub(crate) fn open_file<R: Files>(
 }
 
 /// Puts a file with these bytes in the place of an older one. The folder is made with its parents
-/// where it is missing, and the bytes go to a file whose name ends in the suffix first. What a
+/// if it is missing, and the bytes go to a file whose name ends in the suffix first. What a
 /// refusal leaves of that file is open.
 pub(crate) fn replace_file<R: Files>(
     alloc: Global,
@@ -71,7 +71,7 @@ fn told(answer: io::Result<()>) -> Result<()>
     }
 }
 
-// The refusal that stands for a failed call: std tells want of memory in the same way.
+// The refusal that stands for a failed call: std tells a lack of memory in the same way.
 fn refusal(error: &io::Error) -> Error
     ensures { (result ≡ OutOfMemory) ⊎ (result ≡ Io) }
 {

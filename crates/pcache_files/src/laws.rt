@@ -1,9 +1,14 @@
 //! What is promised of every file.
-ghost use Rattle.pcache_files.specs.FileLaws.{FilesAreShortest, FilesSpellOneList, SavedIsLoaded};
+ghost use Rattle.pcache_files.specs.FileLaws.{FilesAreShortest, FilesSpellOneList, NoBeginningIsAFile, SavedIsLoaded};
 
 /// No bytes spell two lists.
 pub fn files_spell_one_list()
     ensures { FilesSpellOneList }
+{}
+
+/// No proper beginning of a file is a file: so each is refused.
+pub fn no_beginning_is_a_file()
+    ensures { NoBeginningIsAFile }
 {}
 
 /// No spelling of a list is shorter than the one that is written.

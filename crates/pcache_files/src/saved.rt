@@ -13,7 +13,7 @@ use std::fs::Files;
 ///
 /// What a file holds is not promised: a contract can only say what becomes of the manager.
 pub trait SavedManager: EvictionManager {
-    /// Saves what the manager holds in a folder, which is made with its parents where it is missing.
+    /// Saves what the manager holds in a folder, which is made with its parents if it is missing.
     /// Each file is written under a temporary name, which ends in the suffix, and then renamed.
     fn save<R: Files>(&self, alloc: Global, files: &R, dir: &str, suffix: u32) -> Result<()>
         ensures kinds { IfErr result (λ e. (e ≡ OutOfMemory) ⊎ (e ≡ InternalError) ⊎ (e ≡ Io)) };

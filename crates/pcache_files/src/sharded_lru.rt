@@ -49,9 +49,9 @@ pub fn deserialize_shard<const N: usize>(
     manager.load_entries(entries)
 }
 
-/// Saves each shard as `lru.data.` and its number in a folder, which is made with its parents where
+/// Saves each shard as `lru.data.` and its number in a folder, which is made with its parents if
 /// it is missing, each written under a name that ends in the suffix in eight hexadecimal digits and
-/// `.tmp`, and then renamed. Where a shard is refused, those before it are saved.
+/// `.tmp`, and then renamed. If a shard is refused, those before it are saved.
 pub fn save<R: Files, const N: usize>(
     alloc: Global,
     manager: &Manager<N>,
@@ -89,7 +89,8 @@ fn save_shard<R: Files, const N: usize>(
 
 /// Puts in what the files of a folder hold, shard after shard, each entry as `deserialize_shard` does,
 /// and answers how many files were skipped, since they could not be read or spell no list. All are
-/// read before anything is put in, and a refusal, for want of memory alone, changes nothing.
+/// read before anything is put in, and a refusal, which comes only when memory runs out, changes
+/// nothing.
 pub fn load<R: Files, const N: usize>(
     alloc: Global,
     manager: &mut Manager<N>,

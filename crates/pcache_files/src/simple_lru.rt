@@ -44,8 +44,8 @@ pub fn deserialize(alloc: Global, manager: &mut Manager, bytes: &[u8]) -> Result
     manager.load_entries(entries)
 }
 
-/// Writes the manager's file, and flushes. Where the writer fails, it has taken a beginning of the
-/// file; where there was no memory, or the list has no file, nothing.
+/// Writes the manager's file, and flushes. If the writer fails, it has taken a beginning of the
+/// file; if there was no memory, or the list has no file, nothing.
 pub fn save_to<W: CountedWrite>(alloc: Global, manager: &Manager, to: &mut W) -> Result<()>
     ensures ok { OnOk result (Appends (W.contents to.old) (W.contents to.new) (file_written manager.now.entries)) }
     ensures spelled { OnOk result (SpellsFile (file_written manager.now.entries) manager.now.entries) }
@@ -77,7 +77,7 @@ pub fn load_from<D: CountedRead>(alloc: Global, manager: &mut Manager, from: &mu
     deserialize(alloc, manager, &bytes)
 }
 
-/// Saves the manager as `simple_lru.data` in a folder, which is made with its parents where it is
+/// Saves the manager as `simple_lru.data` in a folder, which is made with its parents if it is
 /// missing. It is written as `simple_lru.data.XXXXXXXX.tmp`, with the suffix in eight hexadecimal
 /// digits, and then renamed.
 pub fn save<R: Files>(

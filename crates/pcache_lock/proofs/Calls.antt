@@ -14,7 +14,8 @@ use Rattle.pcache_lock.specs.Permits.{Core, fresh_core, is_named, with_reader, w
 use Rattle.pcache_lock.specs.Locks.{Locks, no_locks, holder, after_request, with_read_lock, without_entry, kept, released_on, let_go, permit_dropped, reader_dropped, changed, ended, with_free_permit}
 use Rattle.pcache_lock.specs.Waiting.{after_poll, table_at, stage_of, aged, with_publication}
 use Rattle.pcache_lock.specs.Waits.{Call, Asked, Released, LetGo, Polled, Published, Made, Joined, Unlocked, is_unlock, Leads, LeadsAll, OneWaitsAlways, AskFindsTheWaitingAlways, waiting_slot, waits_under}
-use Rattle.pcache_lock.proofs.Tidy.{Tidy, Stands, is_open, or_kept, by_test, put_tidy, left_tidy, none_some, asked_tidy, found, asked_waits, get-insert-at, get-insert-off, get-remove-at, get-remove-off}
+use Rattle.pcache_lock.proofs.Tidy.{Tidy, Stands, is_open, or_kept, put_tidy, left_tidy, none_some, asked_tidy, found, asked_waits}
+use Rattle.pcache_table.proofs.Sharded.{by_test, get-insert-at, get-insert-off, get-remove-at, get-remove-off}
 
 -- a permit let go
 drop_open : (held : Bool) (s : LockStatus) → (is_free s || (held && is_waiting s)) ≡ true → (is_free (dropped_status s) || (false && is_waiting (dropped_status s))) ≡ true

@@ -36,7 +36,7 @@ at_remove t m st n =
     ∙ through waiting_slot (eq_by_cmp nat_cmp n m) None (get t.cores n)
     ∙ ap (λ b. cond b None (waits_under t n)) (unsigned_tied n m)
 
--- nothing that waits is written where it waited before
+-- nothing that waits is written if it waited before
 same_by : (t : Locks) (m n : ℕ) (b : Bool) → (n == m) ≡ b → cond b (waits_under t m) (waits_under t n) ≡ waits_under t n
 same_by t m n false e = refl
 same_by t m n true e = ap (waits_under t) (let is : m ≡ n = grind (arith, nat_tests) in is)
@@ -53,7 +53,7 @@ kept_by false t m d n e = at_remove t m (without_entry m d.slot t.standing) n �
 at_kept : (t : Locks) (m : ℕ) (d : Core) (n : ℕ) → waits_under (kept t m d) n ≡ cond (n == m) (waiting_slot (Some d)) (waits_under t n)
 at_kept t m d n = kept_by (is_named d) t m d n refl
 
--- where a lock is not known, nothing waits
+-- if a lock is not known, nothing waits
 unknown : (t : Locks) (m n : ℕ) → get t.cores m ≡ None → waits_under t n ≡ cond (n == m) None (waits_under t n)
 unknown t m n none = sym (ap (λ o. cond (n == m) o (waits_under t n)) (sym (ap waiting_slot none)) ∙ same_by t m n (n == m) refl)
 

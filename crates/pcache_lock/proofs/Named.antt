@@ -13,7 +13,8 @@ use Rattle.pcache_lock.specs.Permits.{Core, fresh_core, is_named, with_reader, w
 use Rattle.pcache_lock.specs.Locks.{Locks, no_locks, holder, after_request, with_read_lock, without_entry, kept, left, released_on, let_go, permit_dropped, reader_dropped, changed, ended}
 use Rattle.pcache_lock.specs.Waiting.{after_poll, table_at, stage_of, aged, with_publication}
 use Rattle.pcache_lock.specs.Waits.{Call, Asked, Released, LetGo, Polled, Published, Made, Joined, Unlocked, Leads, LeadsAll, AllNamed, NothingRemainsAlways}
-use Rattle.pcache_lock.proofs.Tidy.{Stands, by_test, none_some, get-insert-at, get-insert-off, get-remove-at, get-remove-off}
+use Rattle.pcache_lock.proofs.Tidy.{Stands, none_some}
+use Rattle.pcache_table.proofs.Sharded.{by_test, get-insert-at, get-insert-off, get-remove-at, get-remove-off}
 use Rattle.pcache_lock.proofs.Calls.{start_tidy, calls_tidy}
 
 insert_named : (t : Locks) (n : ℕ) (d : Core) → is_named d ≡ true → AllNamed t → AllNamed (record t { cores = insert t.cores n d })

@@ -2,19 +2,18 @@
 use Rattle.std.proofs.Common.{◌≡◌, ◌≤◌, ◌==◌, ℕ, Bool, true, false, ◌&&◌, ◌||◌, Option, None, Some, cond, refl, sym, ◌∙◌, ap, subst, arith}
 use Rattle.std.specs.Ordering.{nat_cmp, eq_by_cmp}
 use Rattle.std.specs.Cmp.{nat_cmp_total, unsigned_tied}
-use Rattle.std.proofs.lemmas.Map.Lookups.{exact_unsigned}
-use Rattle.std.proofs.lemmas.Map.Views.{tells_apart}
 use Rattle.std.proofs.lemmas.Bool.Decides.{nat_tests}
-use Rattle.std.specs.FinMap.{FinMap, get, insert, remove, get-insert, get-remove}
+use Rattle.std.specs.FinMap.{FinMap, get, insert, remove, get-remove}
 use Rattle.pcache_lock.specs.declared.lock.status.LockStatus.{LockStatus}
 use Rattle.pcache_lock.specs.declared.lock.status.LockStatus.TheVariants as status
 use Rattle.pcache_lock.specs.Statuses.{is_free, is_waiting}
 use Rattle.pcache_lock.specs.Permits.{Core, fresh_core}
 use Rattle.pcache_lock.specs.Locks.{Locks, holder, held_by, unless_free, with_permit, without_entry, stands_as}
 use Rattle.pcache_lock.specs.Waits.{waiting_slot, waits_under}
+use Rattle.pcache_table.proofs.Sharded.{by_test, get-insert-at, get-insert-off, same_key}
 
 -- what stands under a key is a lock of that key whose place may be taken, or whose permit waits;
--- where permits may be unlocked, any lock of that key
+-- if permits may be unlocked, any lock of that key
 abbrev pub is_open : Core → Bool
 is_open c = is_free c.status || (c.held && is_waiting c.status)
 
@@ -27,27 +26,6 @@ module _ (unlocks : Bool) where
     pub entries : (slot n : ℕ) → get t.standing slot ≡ Some n → Stands slot (get t.cores n)
     pub waiting : (slot n : ℕ) → waits_under t n ≡ Some slot → get t.standing slot ≡ Some n
     pub fresh : (n : ℕ) → t.next ≤ n → get t.cores n ≡ None
-
--- keys that are tested equal, and keys that are not
-pub by_test : {P : Type 0} (q k : ℕ) (b : Bool) → eq_by_cmp nat_cmp q k ≡ b → (q ≡ k → P) → (eq_by_cmp nat_cmp q k ≡ false → P) → P
-by_test q k true e same other = same (tells_apart exact_unsigned q k e)
-by_test q k false e same other = other e
-
-pub same_key : (k : ℕ) → eq_by_cmp nat_cmp k k ≡ true
-same_key k = grind (arith, nat_tests, unsigned_tied k k)
-
-module _ {X : Type 0} where
-  pub get-insert-at : (m : FinMap nat_cmp X) (k : ℕ) (v : X) → get (insert m k v) k ≡ Some v
-  get-insert-at m k v = get-insert nat_cmp_total m k v k ∙ ap (λ b. cond b (Some v) (get m k)) (same_key k)
-
-  pub get-insert-off : (m : FinMap nat_cmp X) (k : ℕ) (v : X) (q : ℕ) → eq_by_cmp nat_cmp q k ≡ false → get (insert m k v) q ≡ get m q
-  get-insert-off m k v q off = get-insert nat_cmp_total m k v q ∙ ap (λ b. cond b (Some v) (get m q)) off
-
-  pub get-remove-at : (m : FinMap nat_cmp X) (k : ℕ) → get (remove m k) k ≡ None
-  get-remove-at m k = get-remove nat_cmp_total m k k ∙ ap (λ b. cond b None (get m k)) (same_key k)
-
-  pub get-remove-off : (m : FinMap nat_cmp X) (k q : ℕ) → eq_by_cmp nat_cmp q k ≡ false → get (remove m k) q ≡ get m q
-  get-remove-off m k q off = get-remove nat_cmp_total m k q ∙ ap (λ b. cond b None (get m q)) off
 
 -- what stands under the keys once a lock's entry is gone
 picked : (b : Bool) (st : FinMap nat_cmp ℕ) (k s : ℕ) → get (cond b (remove st k) st) s ≡ cond b (cond (eq_by_cmp nat_cmp s k) None (get st s)) (get st s)
@@ -191,7 +169,7 @@ module _ (unlocks : Bool) where
             (λ other. get-insert-off t.cores t.next c m other ∙ tidy.fresh m (omega arith));
       }
 
--- where none was unlocked, what a request finds waits
+-- if none was unlocked, what a request finds waits
 core_waits : (o : Option Core) (slot m n : ℕ) → Stands false slot o → unless_free m o ≡ Some n → (m ≡ n) × (waiting_slot o ≡ Some slot)
 core_waits None slot m n s h = absurd s
 core_waits (Some c) slot m n s h = stands_waits (is_free c.status) (c.held && is_waiting c.status) c.slot slot m n s.0 s.1 h

@@ -40,9 +40,9 @@ abbrev pub holder : Locks → ℕ → Option ℕ
 holder t k = held_by t (get t.standing k)
 
 -- what a request for the key gets
-abbrev pub given : Locks → Bool → Option ℕ → Locked
-given t stale None = Write (record { number = t.next; stale_writer = stale })
-given t stale (Some n) = Read (record { number = n; watch = None })
+abbrev pub lock_given : Locks → Bool → Option ℕ → Locked
+lock_given t stale None = Write (record { number = t.next; stale_writer = stale })
+lock_given t stale (Some n) = Read (record { number = n; watch = None })
 
 -- the table after it: with a new lock as the key's entry, or with a read lock more
 abbrev pub with_core : Locks → ℕ → Core → Locks
@@ -78,7 +78,7 @@ kept t n c = cond (is_named c)
     (record t { cores = insert t.cores n c })
     (record t { cores = remove t.cores n; standing = without_entry n c.slot t.standing })
 
--- a lock changed, where it is known
+-- a lock changed, if it is known
 abbrev pub changed : (Core → Core) → FinMap nat_cmp Core → ℕ → Option Core → FinMap nat_cmp Core
 changed f cores n None = cores
 changed f cores n (Some c) = insert cores n (f c)

@@ -20,7 +20,7 @@ use Rattle.pcache_lock.specs.Locks.{Locks, changed}
 abbrev pub is_expired : ℕ → Core → Bool
 is_expired now c = nat_le c.age_timeout (now - c.start)
 
--- a permit is over, or else too old, also where it was before, or else held
+-- a permit is over, or else too old, also if it was before, or else held
 abbrev pub stage_of : ℕ → Core → Stage
 stage_of now c = cond (is_locked c) (cond (is_aged c.status || is_expired now c) Old Held) Over
 
@@ -44,8 +44,8 @@ watch_at c fills None = first_watch c (unwrap_or fills [])
 watch_at c fills (Some w) = w
 
 -- the reader looks at the publications since then; what it was told stays
-abbrev pub looked : Core → Watch → Watch
-looked c w = record w {
+abbrev pub watched : Core → Watch → Watch
+watched c w = record w {
   seen = length c.publications;
   told = option_or w.told (first_told w.fills (drop w.seen c.publications));
 }
@@ -62,7 +62,7 @@ answer_at Held w = told_or_pending w.told
 
 abbrev pub polled : ℕ → Option (List UnusableFill) → Option Watch → Option Core → Poll WaitOutcome
 polled now fills w None = Ready Released
-polled now fills w (Some c) = answer_at (stage_of now c) (looked c (watch_at c fills w))
+polled now fills w (Some c) = answer_at (stage_of now c) (watched c (watch_at c fills w))
 
 -- the reader after it
 abbrev pub reader_at : Stage → Reader → Watch → Reader
@@ -72,7 +72,7 @@ reader_at Held r w = record r { watch = Some w }
 
 abbrev pub reader_polled : ℕ → Option (List UnusableFill) → Reader → Option Core → Reader
 reader_polled now fills r None = r
-reader_polled now fills r (Some c) = reader_at (stage_of now c) r (looked c (watch_at c fills r.watch))
+reader_polled now fills r (Some c) = reader_at (stage_of now c) r (watched c (watch_at c fills r.watch))
 
 -- the table after it: that a permit is too old is kept
 abbrev pub aged : Core → Core
@@ -100,12 +100,12 @@ abbrev pub says_nothing : Option (List ℕ) → Bool
 says_nothing None = true
 says_nothing (Some tokens) = length tokens == 0
 
--- where something stands published, there is room for one publication more
+-- if something stands published, there is room for one publication more
 abbrev pub HasRoom : List (List ℕ) → ℕ → Type 0
 HasRoom ps capacity = says_nothing (slice_get ps (length ps - 1)) ≡ false → length ps < capacity
 
--- a publication takes the place of the one that stood. The earlier ones are kept only where a read
--- lock may still look at them. To publish nothing where nothing stands is to do nothing.
+-- a publication takes the place of the one that stood. The earlier ones are kept only if a read
+-- lock may still look at them. To publish nothing if nothing stands is to do nothing.
 abbrev pub publications_with : ℕ → List ℕ → List (List ℕ) → List (List ℕ)
 publications_with readers tokens ps =
     cond (length tokens == 0 && says_nothing (slice_get ps (length ps - 1))) ps

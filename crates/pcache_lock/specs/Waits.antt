@@ -8,7 +8,7 @@ use Rattle.pcache_lock.specs.declared.lock.status.LockStatus.{LockStatus}
 use Rattle.pcache_lock.specs.Statuses.{IsReason, is_waiting}
 use Rattle.pcache_lock.specs.Permits.{Core, Permit, Reader, Watch, is_named}
 use Rattle.pcache_lock.specs.Locks.{Locks, after_request, holder, let_go, no_locks, released, unlocked, with_free_permit, with_read_lock}
-use Rattle.pcache_lock.specs.Waiting.{after_poll, is_old, looked, published, stage_of}
+use Rattle.pcache_lock.specs.Waiting.{after_poll, is_old, watched, published, stage_of}
 
 -- the key under which a lock's permit waits: it was asked for under that key, and was neither
 -- released, nor unlocked, nor let go, nor found too old
@@ -68,7 +68,7 @@ OneWaits t = (slot n m : ℕ) → waits_under t n ≡ Some slot → waits_under 
 abbrev pub AskFindsTheWaiting : Locks → Type 0
 AskFindsTheWaiting t = (slot n : ℕ) → (holder t slot ≡ Some n) ↔ (waits_under t n ≡ Some slot)
 
--- the first holds after every list of calls, and the second where none unlocks: a lock that is unlocked
+-- the first holds after every list of calls, and the second if none unlocks: a lock that is unlocked
 -- stands under its key until its permit is released
 abbrev pub OneWaitsAlways : Type 0
 OneWaitsAlways = (age_timeout : ℕ) (calls : List Call) (t : Locks) → LeadsAll calls (no_locks age_timeout) t → OneWaits t
@@ -98,7 +98,7 @@ pub record WaitsUntilItsEnd : Type 0 where
 -- publication with a match tells, however often it was replaced before the reader looked again
 abbrev pub LooksAtEachPublication : Type 0
 LooksAtEachPublication = (c : Core) (more : List (List ℕ)) (w : Watch) → w.seen ≤ length c.publications
-    → looked (record c { publications = c.publications ++ more }) (looked c w) ≡ looked (record c { publications = c.publications ++ more }) w
+    → watched (record c { publications = c.publications ++ more }) (watched c w) ≡ watched (record c { publications = c.publications ++ more }) w
 
 -- a table keeps no lock that neither its permit nor a read lock names, and no entry without its lock
 abbrev pub AllNamed : Locks → Type 0

@@ -6,17 +6,17 @@ ghost use Rattle.std.specs.Prelude.{◌≡◌, ℕ, [], IfErr, IfOk, IsOk, IsSom
 ghost use Rattle.std.specs.FinMap.{get};
 ghost use Rattle.pcache_base.specs.declared.error.ErrorType.TheVariants.{OutOfMemory};
 ghost use Rattle.pcache_base.specs.Key.{slot};
-ghost use Rattle.pcache_lock.specs.Locks.{Locks, MayRefuseLock, after_request, given, holder, let_go, released};
+ghost use Rattle.pcache_lock.specs.Locks.{Locks, MayRefuseLock, after_request, lock_given, holder, let_go, released};
 ghost use Rattle.pcache_lock.specs.Statuses.{IsReason};
 ghost use Rattle.pcache_lock.specs.Waiting.{after_poll, polled, published, reader_polled, status_seen};
 ghost use Rattle.pcache_lock.specs.declared.lock.status.LockStatus.{LockStatus};
 
 pub mod cache_lock;
 pub mod laws;
-pub mod lent;
 pub mod lock_core;
 pub mod outcome;
 pub mod permit;
+pub mod permit_calls;
 pub mod status;
 
 pub use cache_lock::CacheLock;
@@ -43,10 +43,10 @@ pub trait CacheKeyLock {
     /// What a permit is released with for each reason of a caller's own.
     ghost custom_status: { Self → List ℕ → LockStatus };
 
-    /// Asks for the lock of a key: the permit where no request that the key would wait on holds
+    /// Asks for the lock of a key: the permit if no request that the key would wait on holds
     /// it, else a read lock on that one. A permit for a stale entry is marked as such.
     ///
-    /// Only a permit is refused: for want of memory, or where all 64-bit numbers of locks are used.
+    /// Only a permit is refused: when memory runs out, or if all 64-bit numbers of locks are used.
     /// That changes nothing.
     fn lock(
         &mut self,
@@ -55,7 +55,7 @@ pub trait CacheKeyLock {
         stale_writer: bool,
         now: Moment,
     ) -> Result<Locked>
-        ensures gives { IfOk result (λ l. l ≡ given (table self.old) stale_writer (holder (table self.old) (slot key.now))) }
+        ensures gives { IfOk result (λ l. l ≡ lock_given (table self.old) stale_writer (holder (table self.old) (slot key.now))) }
         ensures ok { OnOk result (table self.new ≡ after_request (table self.old) (slot key.now) stale_writer now (holder (table self.old) (slot key.now))) }
         ensures err { OnErr result (table self.new ≡ table self.old) }
         ensures joins { IsSome (holder (table self.old) (slot key.now)) → IsOk result }
@@ -77,7 +77,7 @@ pub trait CacheKeyLock {
     /// been held for too long, which the table keeps; or else its writer published a fill that the
     /// reader cannot use. The list of the reader's first poll counts, and what it is told stays.
     ///
-    /// It is refused for want of memory alone, and only at a first poll that names fills.
+    /// It is refused only when memory runs out, and only at a first poll that names fills.
     fn poll_wait(
         &mut self,
         alloc: Global,
@@ -100,7 +100,7 @@ pub trait CacheKeyLock {
 
     /// Publishes what a permit's holder found out about the fill, in place of what stood.
     ///
-    /// It is refused for want of memory alone, and then changes nothing. No tokens clear what
+    /// It is refused only when memory runs out, and then changes nothing. No tokens clear what
     /// stood, which is never refused.
     fn publish(&mut self, alloc: Global, permit: &WritePermit, tokens: &[u64]) -> Result<()>
         ensures ok { OnOk result (table self.new ≡ published (table self.old) permit.now.number tokens.now) }
@@ -108,7 +108,7 @@ pub trait CacheKeyLock {
         ensures err { OnErr result (table self.new ≡ table self.old) }
         ensures kind { IfErr result (λ e. e ≡ OutOfMemory) };
 
-    /// The status to release a permit with, where the caller's own reason keeps the response out.
+    /// The status to release a permit with, if the caller's own reason keeps the response out.
     fn custom_lock_status(&self, custom_no_cache: &'static str) -> LockStatus
         ensures value { result ≡ custom_status self.now custom_no_cache.now }
         ensures reason { IsReason result };

@@ -1,5 +1,5 @@
 -- Reading gives exactly what is spelled: what is read is spelled so (`.._takes`), and what is spelled so is read, as
--- that value (`.._again`); the bytes behind it are bytes (`.._behind`).
+-- that value (`.._again`); the bytes after it are bytes (`.._behind`).
 use Rattle.std.proofs.Common.{◌≡◌, ℕ, zero, suc, ◌+◌, ◌-◌, ◌^◌, ◌<◌, ◌≤◌, Bool, true, false, cond, ltb, eqb, List, [], ◌∷◌, ◌++◌, length, get_or, take, drop, Option, Some, None, refl, sym, ap, ◌∙◌, arith, inl, inr, ◌⊎◌}
 use Rattle.std.specs.Int.{Width, w8, w16, w32, w64, byte_len, from_be_bytes, to_be_bytes}
 use Rattle.std.proofs.lemmas.Bool.{cases_lt, ltb-false, ltb-true, lt-ltb, le-ltb, eqb-true}

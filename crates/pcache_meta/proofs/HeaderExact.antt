@@ -1,4 +1,4 @@
--- The text of a head is read exactly where it is spelled.
+-- The text of a head is read exactly when it is spelled.
 use Rattle.std.proofs.Common.{◌≡◌, ℕ, zero, suc, ◌<◌, ◌≤◌, Bool, true, false, eqb, List, [], ◌∷◌, ◌++◌, length, Option, Some, None, refl, sym, ap, subst, ◌∙◌, append_assoc, arith, inl, inr, length-append}
 use Rattle.std.specs.Prelude.{All, ◌&&◌, IsTrue, bytes_eq, codes}
 use Rattle.std.specs.List.{list_all, flat_map}
@@ -186,7 +186,7 @@ makes_more m n out bytes k behind f whole line field step rest = record {
   held = rest.held;
 }
 
--- one line, with what is known of those behind it
+-- one line, with what is known of those after it
 one_line : (m : Fields) (bytes : List ℕ) (out : Fields) → IsHeld m → fields_at m bytes ≡ Some out
     → ((n : Fields) (behind : List ℕ) → length behind < length bytes → IsHeld n → fields_at n behind ≡ Some out → Makes n behind out) → Makes m bytes out
 unfolding fields_at

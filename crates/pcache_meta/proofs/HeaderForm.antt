@@ -1,4 +1,4 @@
--- The text of a head is told from its lines exactly where it spells a head.
+-- The text of a head is told from its lines exactly when it spells a head.
 use Rattle.std.proofs.Common.{◌≡◌, ℕ, zero, suc, ◌+◌, ◌-◌, ◌^◌, ◌<◌, ◌≤◌, Bool, true, false, cond, eqb, List, [], ◌∷◌, ◌++◌, length, map, take, Option, Some, None, refl, sym, ap, ◌∙◌, append_assoc, arith, inl, inr, length-append}
 use Rattle.std.specs.Prelude.{All, ◌&&◌, ◌||◌, bytes_eq, not, slice_set}
 use Rattle.std.proofs.lemmas.List.{append_cancel_left}
@@ -117,7 +117,7 @@ any_on bytes name behind names first is = is_first bytes name behind names first
 pub any_none : (bytes : List ℕ) (names : List (List ℕ)) → lines_at bytes ≡ [] → has_any names (lines_at bytes) ≡ false
 any_none bytes names none = ap (has_any names) none
 
--- ---- lines behind names that they may not have
+-- ---- lines after names that they may not have
 
 -- the lines are grouped, and have none of the names
 abbrev pub grouped_with : List (List ℕ) → ℕ → List Field → Bool
@@ -206,7 +206,7 @@ names_missed names n room lines missed =
     ap (λ (b : Bool). not b && are_grouped room lines)
     (any_more names n lines ∙ ap (λ (b : Bool). b || has_name n lines) (missed ∙ sym (no_names lines)) ∙ sym (any_more [] n lines))
 
--- a name put behind those before it
+-- a name put after those before it
 pub taken_more : {A : Type 0} (view : A → List ℕ) (xs : List A) (i : ℕ) (x : A) → i < length xs → map view (take (i + 1) (slice_set xs i x)) ≡ map view (take i xs) ++ view x ∷ []
 taken_more view [] i x within = absurd (omega (arith, within))
 taken_more view (y ∷ xs) zero x within = refl

@@ -36,7 +36,7 @@ abbrev has_key : List ℕ → Fields → Bool
 has_key name [] = false
 has_key name (e ∷ m) = bytes_eq e.0 name || has_key name m
 
--- each entry has a value, and a name that none behind it has
+-- each entry has a value, and a name that none after it has
 abbrev pub IsSet : Fields → Type 0
 IsSet [] = Unit {0}
 IsSet (e ∷ m) = (0 < length e.1) × (has_key e.0 m ≡ false) × IsSet m

@@ -24,7 +24,7 @@ pub kept_spelled : (m : Meta) (a b internal header : List ℕ) → a ≡ interna
     → AreOf (meta_of internal header) internal header → SpellsMeta a b m
 kept_spelled m a b internal header first second is are = rw (first, second, ← is) are.spelled
 
--- a refusal to read what spells a meta is for want of memory
+-- a refusal to read what spells a meta comes only of a lack of memory
 pub wants_memory : {T : Type 0} (r : Result T ErrorType) (m : Meta) (internal header : List ℕ) → SpellsMeta internal header m
     → (IsErrOf r InternalError → (x : Meta) → ¬ (SpellsMeta internal header x)) → IfErr r (λ e. (e ≡ OutOfMemory) ⊎ (e ≡ InternalError))
     → IfErr r (λ e. e ≡ OutOfMemory)

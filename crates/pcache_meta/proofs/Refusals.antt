@@ -5,7 +5,7 @@ use Rattle.pcache_base.specs.declared.error.ErrorType.{ErrorType}
 use Rattle.pcache_base.specs.declared.error.ErrorType.TheVariants.{OutOfMemory, InternalError}
 use Rattle.pcache_meta.specs.Reading.{Fails, FailsOrWants}
 
--- the second reads nothing where the first does
+-- the second reads nothing if the first does
 pub Fails-along : {Y Z : Type 0} (e : ErrorType) (a : Option Y) (b : Option Z) → Fails e a → (a ≡ None → b ≡ None) → Fails e b
 Fails-along InternalError a b h go = go h
 Fails-along _ a b h go = h

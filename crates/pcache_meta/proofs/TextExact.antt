@@ -1,4 +1,4 @@
--- A text is read exactly where it is spelled.
+-- A text is read exactly when it is spelled.
 use Rattle.std.proofs.Common.{◌≡◌, ℕ, ◌+◌, ◌-◌, ◌^◌, ◌<◌, ◌≤◌, Bool, true, false, ltb, eqb, List, [], ◌∷◌, ◌++◌, length, take, drop, Some, None, refl, sym, ap, ◌∙◌, arith, inl, inr}
 use Rattle.std.specs.Str.{IsUtf8, is_utf8}
 use Rattle.std.specs.Int.{w8, w16, w32, to_be_bytes}
@@ -103,7 +103,7 @@ text_again bytes t rest there =
     ap text_at there.text
     ∙ rw (head_again there.form (length t) (t ++ rest) there.fits, bytes_again t rest, utf8_of-some t t refl there.utf8) refl
 
--- the bytes behind a text are bytes
+-- the bytes after a text are bytes
 pub text_behind : (bytes t rest : List ℕ) → IsBytes bytes → TextThen bytes t rest → IsBytes rest
 text_behind bytes t rest fits there =
     IsBytes-behind t rest (IsBytes-behind (text_head there.form (length t)) (t ++ rest) (rw (← there.text) fits))

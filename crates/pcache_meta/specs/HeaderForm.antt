@@ -10,14 +10,14 @@ use Rattle.pcache_meta.specs.Reading.{◌>>=◌}
 abbrev pub IsHeaderText : List ℕ → Type 0
 IsHeaderText bytes = (h : Header) × SpellsHeader bytes h
 
--- the name of the field that the first line is, and the bytes behind that line
+-- the name of the field that the first line is, and the bytes after that line
 unfoldable pub name_then_at : List ℕ → Option (List ℕ × List ℕ)
 name_then_at bytes = do
   parts ← line_from [] bytes
   field ← field_at parts.0
   Some (field.0, parts.1)
 
--- a field where there is one, and others behind it
+-- a field if there is one, and others after it
 abbrev pub then_lines : Option Field → List Field → List Field
 then_lines None lines = []
 then_lines (Some field) lines = field ∷ lines

@@ -12,19 +12,19 @@ use Rattle.pcache_meta.specs.Reading.{◌>>=◌, when, bytes_at, mark_at}
 use Rattle.pcache_meta.specs.declared.header.HttpVersion.{HttpVersion}
 use Rattle.pcache_meta.specs.declared.header.HttpVersion.TheVariants.{Http09, Http10, Http11, Http2, Http3}
 
--- the bytes before the first CR LF, and those behind it; front is what came before
+-- the bytes before the first CR LF, and those after it; front is what came before
 abbrev pub line_from : List ℕ → List ℕ → Option (List ℕ × List ℕ)
 line_from front [] = None
 line_from front (a ∷ []) = None
 line_from front (a ∷ b ∷ bytes) =
     if a == 0x0D && b == 0x0A then Some (front, bytes) else line_from (front ++ a ∷ []) (b ∷ bytes)
 
--- the bytes before the first colon, and those behind it
+-- the bytes before the first colon, and those after it
 abbrev pub name_from : List ℕ → List ℕ → Option (List ℕ × List ℕ)
 name_from front [] = None
 name_from front (a ∷ bytes) = if a == 0x3A then Some (front, bytes) else name_from (front ++ a ∷ []) bytes
 
--- a version and the space behind it
+-- a version and the space after it
 unfoldable pub version_at : List ℕ → Option HttpVersion
 version_at bytes =
     if bytes_eq bytes (codes "HTTP/0.9 ") then Some Http09
@@ -79,7 +79,7 @@ when_held m = if is_held m then Some m else None
 unfoldable pub append_at : Fields → Field → Option Fields
 append_at m f = when_held (append m f.0 f.1)
 
--- the map that lines make, added to m, up to the empty line and nothing behind; front is the line so far
+-- the map that lines make, added to m, up to the empty line and nothing after it; front is the line so far
 abbrev pub fields_from : List ℕ → Fields → List ℕ → Option Fields
 fields_from front m [] = None
 fields_from front m (a ∷ []) = None

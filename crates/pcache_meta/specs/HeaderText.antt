@@ -50,7 +50,7 @@ IsField f = IsHeaderName f.0 × IsFieldValue f.1
 abbrev pub shown_lines : List (List ℕ × FieldValue) → List Field
 shown_lines items = map (λ p. (p.0, p.1.bytes)) items
 
--- the map that lines make: a value goes behind those of its name, a new name goes last
+-- the map that lines make: a value goes after those of its name, a new name goes last
 abbrev pub fields_of : List Field → Fields
 fields_of lines = append_all [] lines
 

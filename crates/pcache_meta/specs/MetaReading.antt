@@ -16,7 +16,7 @@ moment_at bytes = do
 unfoldable pub item_at : {A : Type 0} → Bool → (List ℕ → Option (A × List ℕ)) → List ℕ → Option (Option A × List ℕ)
 item_at present read bytes = if present then optional_at read bytes else Some (None, bytes)
 
--- versions 0 and 1, behind the head and the version
+-- versions 0 and 1, after the head and the version
 unfoldable pub old_internal_at : List ℕ → Option (OldInternal × List ℕ)
 old_internal_at bytes = do
   fresh ← moment_at bytes
@@ -34,7 +34,7 @@ upgraded_at bytes = do
   old ← old_internal_at bytes
   Some (upgraded old.0, old.1)
 
--- version 2, behind the head and the version
+-- version 2, after the head and the version
 unfoldable pub new_internal_at : ℕ → List ℕ → Option (Internal × List ℕ)
 new_internal_at extra bytes = do
   fresh ← moment_at bytes

@@ -24,7 +24,7 @@ pub record WindowsThen (bytes : List ℕ) (while_revalidate if_error : ℕ) (res
   pub second : NumberThen later if_error rest
   pub second_fits : if_error < 2 ^ 32
 
--- what versions 0 and 1 say, behind the head and the version
+-- what versions 0 and 1 say, after the head and the version
 pub record OldInternalThen (bytes : List ℕ) (m : OldInternal) (rest : List ℕ) : Type 0 where
   pub later1 : List ℕ
   pub fresh_until : MomentThen bytes m.fresh_until later1
@@ -37,7 +37,7 @@ abbrev pub ItemThen : {A : Type 0} → Bool → (List ℕ → A → List ℕ →
 ItemThen true Then bytes o rest = OptionThen Then bytes o rest
 ItemThen false Then bytes o rest = (o ≡ None) × (bytes ≡ rest)
 
--- what version 2 says, behind the head and the version: of the last three items the first `extra` are there
+-- what version 2 says, after the head and the version: of the last three items the first `extra` are there
 pub record NewInternalThen (extra : ℕ) (bytes : List ℕ) (m : Internal) (rest : List ℕ) : Type 0 where
   pub later1 : List ℕ
   pub fresh_until : MomentThen bytes m.fresh_until later1

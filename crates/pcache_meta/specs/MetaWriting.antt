@@ -7,7 +7,7 @@ use Rattle.pcache_meta.specs.Writing.{number_written, array_written, hash_writte
 unfoldable pub moment_written : ℕ → List ℕ
 moment_written m = array_written 2 ++ number_written (m / 1000000000) ++ number_written (m % 1000000000)
 
--- the provenance is the ninth item, where there is one
+-- the provenance is the ninth item, if there is one
 abbrev pub item_count : Option ℕ → ℕ
 item_count None = 8
 item_count (Some m) = 9
@@ -22,7 +22,7 @@ internal_written m =
     ++ number_written m.stale_while_revalidate ++ number_written m.stale_if_error ++ optional_written hash_written m.variance
     ++ optional_written moment_written m.epoch_override ++ last_written m.provenance
 
--- versions 0 and 1, behind the head and the version
+-- versions 0 and 1, after the head and the version
 unfoldable pub old_written : OldInternal → List ℕ
 old_written m = moment_written m.fresh_until ++ moment_written m.created ++ number_written m.stale_while_revalidate ++ number_written m.stale_if_error
 

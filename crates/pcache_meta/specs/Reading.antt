@@ -1,4 +1,4 @@
--- Reading from left to right: what the next bytes are, and the bytes behind it, or nothing. Each `.._at` here gives
+-- Reading from left to right: what the next bytes are, and the bytes after it, or nothing. Each `.._at` here gives
 -- exactly what a relation of `Spelling` says (`proofs/Exact.antt`).
 use Rattle.std.specs.Prelude.{◌≡◌, ℕ, zero, suc, ◌-◌, Bool, true, false, List, [], ◌∷◌, length, take, drop, Option, Some, None, Result, Ok, Err, nat_lt, ◌==◌, if◌then◌else◌, option_and_then}
 use Rattle.std.specs.Str.{is_utf8}
@@ -10,7 +10,7 @@ infixl 10 ◌>>=◌
 abbrev pub ◌>>=◌ : {A B : Type 0} → Option A → (A → Option B) → Option B
 o >>= f = option_and_then f o
 
--- a refusal where reading takes no memory: nothing is there to be read
+-- a refusal if reading takes no memory: nothing is there to be read
 abbrev pub Fails : {Y : Type 0} → ErrorType → Option Y → Type 0
 Fails InternalError read = read ≡ None
 Fails _ read = ⊥
@@ -20,7 +20,7 @@ abbrev pub Gives : {X Y : Type 0} → (X → Y) → Result X ErrorType → Optio
 Gives view (Ok x) read = read ≡ Some (view x)
 Gives view (Err e) read = Fails e read
 
--- a refusal where reading takes memory: want of it says nothing of the bytes
+-- a refusal if reading takes memory: a lack of it says nothing of the bytes
 abbrev pub FailsOrWants : {Y : Type 0} → ErrorType → Option Y → Type 0
 FailsOrWants InternalError read = read ≡ None
 FailsOrWants OutOfMemory read = Unit {0}
@@ -36,7 +36,7 @@ abbrev pub when : Bool → List ℕ → Option (List ℕ)
 when true bytes = Some bytes
 when false bytes = None
 
--- so many bytes, and the bytes behind them
+-- so many bytes, and the bytes after them
 unfoldable pub bytes_at : ℕ → List ℕ → Option (List ℕ × List ℕ)
 bytes_at count bytes = if nat_lt (length bytes) count then None else Some (take count bytes, drop count bytes)
 
@@ -124,7 +124,7 @@ unfoldable pub optional_at : {A : Type 0} → (List ℕ → Option (A × List �
 optional_at read bytes =
     if starts_with_nil bytes then Some (None, drop 1 bytes) else (read bytes >>= λ x. Some (Some x.0, x.1))
 
--- the bytes behind one that is given
+-- the bytes after one that is given
 unfoldable pub mark_at : ℕ → List ℕ → Option (List ℕ)
 mark_at mark [] = None
 mark_at mark (b ∷ rest) = when (b == mark) rest

@@ -1,4 +1,4 @@
--- No spelling is shorter than the one that is written (own): whatever bytes spell a value, with the rest behind them
+-- No spelling is shorter than the one that is written (own): whatever bytes spell a value, with the rest after them
 -- they are at least as long as the written ones with that rest.
 use Rattle.std.specs.Prelude.{ℕ, ◌+◌, ◌≤◌, List, length}
 use Rattle.pcache_meta.specs.MetaSpelling.{MomentThen}

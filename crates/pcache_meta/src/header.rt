@@ -42,7 +42,7 @@ impl ResponseHeader {
         }
     }
 
-    /// A second head, equal to this one. It is refused for want of memory alone.
+    /// A second head, equal to this one. It is refused only when memory runs out.
     pub fn copied(&self) -> Result<ResponseHeader>
         ensures ok { IfOk result (λ copy. copy ≡ self.now) }
         ensures kind { IfErr result (λ e. e ≡ OutOfMemory) }

@@ -56,7 +56,7 @@ impl CacheMeta {
     ghost use Rattle.pcache_meta.specs.contracts.meta.CacheMeta.{the_row};
     ghost use Rattle.pcache_meta.specs.contracts.header.ResponseHeader as head;
 
-    /// A new meta: updated when it was created, and created where it comes from.
+    /// A new meta: updated when it was created, and its provenance is its creation.
     pub fn new(
         fresh_until: Moment,
         created: Moment,
@@ -138,7 +138,7 @@ impl CacheMeta {
         self.epoch_override.unwrap_or(self.updated)
     }
 
-    /// The moment set in place of `updated`, where there is one.
+    /// The moment set in place of `updated`, if there is one.
     pub fn epoch_override(&self) -> Option<Moment>
         ensures { result ≡ self.now.epoch_override }
     {
@@ -166,7 +166,7 @@ impl CacheMeta {
         self.fresh_until >= time
     }
 
-    /// The whole seconds from the epoch to the end of freshness, zero where that is earlier.
+    /// The whole seconds from the epoch to the end of freshness, zero if that is earlier.
     pub fn fresh_sec(&self) -> u64
         ensures { result ≡ fresh_seconds self.now }
     {
@@ -180,7 +180,7 @@ impl CacheMeta {
         self.fresh_until
     }
 
-    /// The time since the epoch, zero where that is later than now.
+    /// The time since the epoch, zero if that is later than now.
     pub fn age(&self, now: Moment) -> Duration
         ensures { as_nanos result ≡ now - epoch_of self.now }
     {
@@ -253,7 +253,7 @@ impl CacheMeta {
         self.updated = now;
     }
 
-    /// The hash of what the response varies on, where there is one.
+    /// The hash of what the response varies on, if there is one.
     pub fn variance(&self) -> Option<HashBinary>
         ensures { result ≡ self.now.variance }
     {
@@ -296,7 +296,7 @@ impl CacheMeta {
         &mut self.header
     }
 
-    /// A second head, equal to this one's. It is refused for want of memory alone.
+    /// A second head, equal to this one's. It is refused only when memory runs out.
     pub fn response_header_copy(&self) -> Result<ResponseHeader>
         ensures ok { IfOk result (λ copy. shown copy ≡ self.now.header) }
         ensures kind { IfErr result (λ e. e ≡ OutOfMemory) }
@@ -311,7 +311,7 @@ impl CacheMeta {
         &self.header.headers
     }
 
-    /// A second meta, equal to this one. It is refused for want of memory alone.
+    /// A second meta, equal to this one. It is refused only when memory runs out.
     pub fn copied(&self) -> Result<CacheMeta>
         ensures ok { IfOk result (λ copy. copy ≡ self.now) }
         ensures kind { IfErr result (λ e. e ≡ OutOfMemory) }

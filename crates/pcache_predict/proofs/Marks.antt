@@ -1,5 +1,5 @@
 -- A recency list's moves, as those of the plain list of marked keys.
-use Rattle.std.proofs.Common.{◌≡◌, ℕ, zero, suc, ◌-◌, ◌<◌, ◌≤◌, true, false, cond, not, None, Some, option_map, List, [], ◌∷◌, refl, ap, sym, ◌∙◌, arith, length, take}
+use Rattle.std.proofs.Common.{◌≡◌, ℕ, zero, suc, ◌-◌, ◌<◌, ◌≤◌, true, false, cond, not, None, Some, option_map, List, [], ◌∷◌, refl, ap, sym, subst, ◌∙◌, arith, length, take}
 use Rattle.std.specs.Prelude.{nat_eq}
 use Rattle.std.specs.Cmp.{nat_eq_equiv}
 use Rattle.std.specs.List.{IsDistinct, AllByRecursion}
@@ -7,12 +7,13 @@ use Rattle.std.specs.Option.{option_map_or}
 use Rattle.std.specs.Map.{lookup, lookup_entry, remove_entry, keys_of}
 use Rattle.std.proofs.lemmas.Bool.{eqb-true}
 use Rattle.std.proofs.lemmas.List.{take_all}
-use Rattle.std.proofs.lemmas.Map.Keys.{IsDistinct-head, IsDistinct-tail}
-use Rattle.lru.specs.LruCache.{LruCache, put_entries, IsValid}
+use Rattle.std.proofs.lemmas.Map.Keys.{IsDistinct-cons, IsDistinct-head, IsDistinct-tail}
+use Rattle.std.proofs.lemmas.Map.Made.{IsDistinct-keys_filter}
+use Rattle.lru.specs.LruCache.{LruCache, lru_cache, put_entries, IsValid}
 use Rattle.pcache_base.specs.declared.reason.NoCacheReason.{NoCacheReason}
 use Rattle.pcache_predict.specs.Remembered.{others}
 
--- where a key tied with k stands no further, k stands nowhere
+-- if a key tied with k stands no further, k stands nowhere
 all_apart : (k j : ℕ) (l : List (ℕ × NoCacheReason)) → nat_eq k j ≡ true → AllByRecursion (λ y. nat_eq j y ≡ false) (keys_of l) → others k l ≡ l
 all_apart k j [] t a = refl
 all_apart k j (e ∷ l) t a =
@@ -75,3 +76,41 @@ put-marked c k w valid =
           let short : length (others k c.entries) ≤ c.cap - 1 = omega (arith, length-others k c.entries v h, valid.1) in
           ap (λ es. (k, w) ∷ es) (remove-others k c.entries valid.0 ∙ sym (take_all (c.cap - 1) (others k c.entries) short)) ∙ sym (take_front c.cap (k, w) (others k c.entries) valid.2)
     ] refl)
+
+-- the key that was taken out stands nowhere
+apart-others : (k : ℕ) (l : List (ℕ × NoCacheReason)) → AllByRecursion (λ y. nat_eq k y ≡ false) (keys_of (others k l))
+apart-others k [] = tt
+apart-others k (e ∷ l) =
+    let rest = apart-others k l in
+    elim (nat_eq k e.0) as (λ b. nat_eq k e.0 ≡ b → AllByRecursion (λ y. nat_eq k y ≡ false) (keys_of (cond (not b) (e ∷ others k l) (others k l)))) [
+      | true ↦ λ t. rest
+      | false ↦ λ t. (t, rest)
+    ] refl
+
+all-take : (P : ℕ → Type 0) (n : ℕ) (l : List (ℕ × NoCacheReason)) → AllByRecursion P (keys_of l) → AllByRecursion P (keys_of (take n l))
+all-take P zero l a = tt
+all-take P (suc n) [] a = tt
+all-take P (suc n) (e ∷ l) a = (a.0, all-take P n l a.1)
+
+distinct-take : (n : ℕ) (l : List (ℕ × NoCacheReason)) → IsDistinct nat_eq (keys_of l) → IsDistinct nat_eq (keys_of (take n l))
+unfolding IsDistinct
+distinct-take zero l d = tt
+distinct-take (suc n) [] d = tt
+distinct-take (suc n) (e ∷ l) d = (all-take (λ y. nat_eq e.0 y ≡ false) n l d.0, distinct-take n l d.1)
+
+length-take_le : {A : Type 0} (n : ℕ) (l : List A) → length (take n l) ≤ n
+length-take_le zero l = omega arith
+length-take_le (suc n) [] = omega arith
+length-take_le (suc n) (x ∷ l) = let rest = length-take_le n l in omega (arith, rest)
+
+-- a list stays as lists are kept once a key is put in front, and once one is taken out
+pub valid-marked : (c : LruCache ℕ NoCacheReason) (k : ℕ) (w : NoCacheReason) → IsValid nat_eq c → IsValid nat_eq (lru_cache (put_entries nat_eq c k w) c.cap)
+valid-marked c k w valid =
+    let l = others k c.entries in
+    let apart : IsDistinct nat_eq (keys_of ((k, w) ∷ l)) = IsDistinct-cons nat_eq k (keys_of l) (apart-others k c.entries) (IsDistinct-keys_filter nat_eq (λ e. not (nat_eq k e.0)) c.entries valid.0) in
+    subst (λ es. IsValid nat_eq (lru_cache es c.cap)) (sym (put-marked c k w valid)) (distinct-take c.cap ((k, w) ∷ l) apart, length-take_le c.cap ((k, w) ∷ l), valid.2)
+
+pub valid-unmarked : (c : LruCache ℕ NoCacheReason) (k : ℕ) → IsValid nat_eq c → IsValid nat_eq (lru_cache (remove_entry (nat_eq k) c.entries) c.cap)
+valid-unmarked c k valid =
+    let less = length-others_le k c.entries in
+    subst (λ es. IsValid nat_eq (lru_cache es c.cap)) (sym (remove-others k c.entries valid.0)) (IsDistinct-keys_filter nat_eq (λ e. not (nat_eq k e.0)) c.entries valid.0, omega (arith, less, valid.1), valid.2)

@@ -2,9 +2,9 @@
 //! What is foretold of keys before the origin is asked.
 //!
 //! - `predictor`: which keys' responses are predicted not to be cacheable
-//! - `recency`: the lists of marked keys behind it
+//! - `marked_keys`: the lists of marked keys that it keeps
 //! - `admission`: whether a key's response is worth storing yet
 
 pub mod admission;
+mod marked_keys;
 pub mod predictor;
-mod recency;

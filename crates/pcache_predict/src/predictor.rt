@@ -7,7 +7,7 @@ ghost use Rattle.pcache_base.specs.declared.reason.NoCacheReason.{NoCacheReason}
 ghost use Rattle.pcache_predict.specs.Remembered.{empty_shard, reason_of, after_mark, after_unmark};
 ghost use Rattle.pcache_predict.specs.Marking.{Skips, counts};
 
-use crate::recency::MarkedShards;
+use crate::marked_keys::MarkedKeys;
 use pcache_base::error::Result;
 use pcache_base::key::{CacheHashKey, CacheKey, HashBinary};
 use pcache_base::reason::NoCacheReason;
@@ -36,17 +36,17 @@ pub trait CacheablePredictor {
     fn cacheable_prediction(&self, key: &CacheKey) -> bool
         ensures { result ≡ not (uncacheable self.now (primary_of key.now)) };
 
-    /// Why the key's response is predicted not to be cacheable, where the predictor knows.
+    /// Why the key's response is predicted not to be cacheable, if the predictor knows.
     fn predicted_uncacheable_reason(&self, key: &CacheKey) -> Option<NoCacheReason>
         ensures { result ≡ reason self.now (primary_of key.now) };
 
-    /// Takes in that the key's response was cacheable. True where that was predicted.
+    /// Takes in that the key's response was cacheable. True if that was predicted.
     fn mark_cacheable(&mut self, key: &CacheKey) -> bool
         ensures { unmarks self.old (primary_of key.now) result self.new };
 
-    /// Takes in that the key's response was not cacheable, for this reason: None where the reason does
-    /// not count, else whether the key was predicted to be cacheable. It is refused for want of memory
-    /// alone, and then changes nothing.
+    /// Takes in that the key's response was not cacheable, for this reason: None if the reason does
+    /// not count, else whether the key was predicted to be cacheable. It is refused only when memory
+    /// runs out, and then changes nothing.
     fn mark_uncacheable(&mut self, key: &CacheKey, why: NoCacheReason) -> Result<Option<bool>>
         ensures ok { IfOk result (λ answer. marks self.old (primary_of key.now) why answer self.new) }
         ensures err { OnErr result (self.new ≡ self.old) }
@@ -81,15 +81,15 @@ impl SkippedReasons {
 /// predicate does not skip, is remembered; others change nothing. Looking a key up does not promote it.
 #[derive(Drop)]
 pub struct Predictor<const N_SHARDS: usize> {
-    memory: MarkedShards,
+    memory: MarkedKeys<N_SHARDS>,
     skipped: Option<SkippedReasons>,
 }
 
 impl<const N_SHARDS: usize> Predictor<N_SHARDS> {
     ghost use Rattle.pcache_predict.specs.Predictor.{memory_of, predicate_of};
 
-    /// Remembers no key yet, and at most `shard_capacity` in each list (0 counts as 1). It is refused for
-    /// want of memory alone.
+    /// Remembers no key yet, and at most `shard_capacity` in each list (0 counts as 1). It is refused
+    /// only when memory runs out.
     pub fn new(
         alloc: Global,
         shard_capacity: usize,
@@ -106,7 +106,7 @@ impl<const N_SHARDS: usize> Predictor<N_SHARDS> {
             None => None,
         };
         Ok(Predictor {
-            memory: MarkedShards::new(alloc, N_SHARDS, shard_capacity)?,
+            memory: MarkedKeys::new(alloc, shard_capacity)?,
             skipped,
         })
     }

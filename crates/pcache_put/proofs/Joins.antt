@@ -8,15 +8,15 @@ use Rattle.pcache_put.specs.Places.{next, place_after, CutsAt, NeverCuts}
 use Rattle.pcache_put.specs.declared.head_end.Place.{Place}
 use Rattle.pcache_put.specs.declared.head_end.Place.TheVariants.{Blank, Inside, Ended}
 
--- the place behind two pieces
+-- the place after two pieces
 pub place-append : (p : Place) (a b : List ℕ) → place_after p (a ++ b) ≡ place_after (place_after p a) b
 place-append p a b = fold-append next p a b
 
--- behind the first piece and a front of the second
+-- after the first piece and a front of the second
 past : (p : Place) (a b : List ℕ) (k : ℕ) → place_after p (take (length a + k) (a ++ b)) ≡ place_after (place_after p a) (take k b)
 past p a b k = ap (place_after p) (take-append-add a b k) ∙ place-append p a (take k b)
 
--- behind a front of the first
+-- after a front of the first
 within_first : (p : Place) (a b : List ℕ) (k : ℕ) → k ≤ length a → place_after p (take k (a ++ b)) ≡ place_after p (take k a)
 within_first p a b k le = ap (place_after p) (take-append-le k a b le)
 
@@ -78,17 +78,17 @@ inside_run (b ∷ bytes) n none (suc k) le =
     ap (λ p. place_after p (take k bytes)) (inside_next b (none 0 (omega (arith, le))))
     ∙ inside_run bytes (n - 1) (λ j lt. none (suc j) (omega (arith, lt))) k (omega (arith, le))
 
--- the byte behind
+-- the byte after it
 pub place_next : (p q : Place) (bytes : List ℕ) (j : ℕ) → j < length bytes → place_after p (take j bytes) ≡ q → place_after p (take (j + 1) bytes) ≡ next q (slice_index bytes j)
 place_next p q bytes j lt there =
     ap (place_after p) (take_more bytes j 0 lt) ∙ place-append p (take j bytes) (slice_index bytes j ∷ []) ∙ ap (λ r. next r (slice_index bytes j)) there
 
--- behind a run, and at each byte of it
+-- after a run, and at each byte of it
 pub place_stays : (p q : Place) (bytes : List ℕ) (i n : ℕ) → q ≡ place_after p (take i bytes) → ((k : ℕ) → k ≤ n → place_after q (take k (drop i bytes)) ≡ q) → (k : ℕ) → k ≤ n → place_after p (take (i + k) bytes) ≡ q
 place_stays p q bytes i n there stays k le =
     ap (place_after p) (take-add i k bytes) ∙ place-append p (take i bytes) (take k (drop i bytes)) ∙ ap (λ r. place_after r (take k (drop i bytes))) (sym there) ∙ stays k le
 
--- where the head did not end before a run, it does not end in it
+-- if the head did not end before a run, it does not end in it
 pub run_goes_on : (p q : Place) (bytes : List ℕ) (i n : ℕ) → q ≡ place_after p (take i bytes) → q ≢ Ended → ((k : ℕ) → k ≤ i → place_after p (take k bytes) ≢ Ended) → ((k : ℕ) → k ≤ n → place_after q (take k (drop i bytes)) ≡ q)
     → (k : ℕ) → k ≤ i + n → place_after p (take k bytes) ≢ Ended
 run_goes_on p q bytes i n there going before stays k le = by_order (order k i) where
@@ -98,7 +98,7 @@ run_goes_on p q bytes i n there going before stays k le = by_order (order k i) w
       let here : i + (k - i) ≡ k = omega arith in
       going (sym (place_stays p q bytes i n there stays (k - i) (omega (arith, le))) ∙ ap (λ j. place_after p (take j bytes)) here ∙ e)
 
--- a run, and the byte behind it, at which the head ends
+-- a run, and the byte after it, at which the head ends
 pub cuts_behind : (p q : Place) (bytes : List ℕ) (i n : ℕ) → i + n < length bytes → q ≡ place_after p (take i bytes) → q ≢ Ended → ((k : ℕ) → k ≤ i → place_after p (take k bytes) ≢ Ended) → ((k : ℕ) → k ≤ n → place_after q (take k (drop i bytes)) ≡ q)
     → next q (slice_index bytes (i + n)) ≡ Ended → CutsAt p bytes (i + n + 1)
 cuts_behind p q bytes i n lt there going before stays ends = record {

@@ -7,8 +7,8 @@ use Rattle.std.proofs.Math.Seq.{take-append-add, drop-append-add, take-nil}
 use Rattle.pcache_meta.specs.declared.header.ResponseHeader.{ResponseHeader}
 use Rattle.pcache_put.specs.Head.{ReadsHeader}
 use Rattle.pcache_put.specs.HeadEnd.{EndsAt}
-use Rattle.pcache_put.specs.Response.{Response, IsResponse, IsUnreadable, HasSize, body_of, is_whole}
-use Rattle.pcache_put.specs.Parts.{Given, nothing, given, add_all, body_parts, left_behind, whole_parts}
+use Rattle.pcache_put.specs.Response.{Response, IsResponse, IsUnreadable, HasSize, declared_body, is_whole}
+use Rattle.pcache_put.specs.Parts.{Given, nothing, given_in_all, add_all, body_parts, left_behind, whole_parts}
 use Rattle.pcache_put.specs.Progress.{AtBody, TakenIn}
 use Rattle.pcache_put.specs.declared.response_parse.ParsePart.{ParsePart}
 use Rattle.pcache_put.specs.declared.response_parse.ParsePart.TheVariants as part
@@ -23,7 +23,7 @@ le_no a b h = elim (nat_le a b) as (λ t. nat_le a b ≡ t → t ≡ false) [ tr
 order : (k n : ℕ) → (k ≤ n) ⊎ (n < k)
 order k n = grind arith
 
--- a part is given where there are bytes for it
+-- a part is given if there are bytes for it
 add_bytes : (g : Given) (b : List ℕ) (w t : Bool) → (length b == 0) ≡ t → add_all g (cond t [] (part.Body b w ∷ [])) ≡ record { head = g.head; body = g.body ++ b; whole = cond t g.whole w }
 add_bytes g b w true e =
     let none : b ≡ [] = nil_from_length b (eqb-true (length b) 0 e) in
@@ -39,7 +39,7 @@ take_two n a b (inr gt) =
     let whole : length a + (n - length a) ≡ n = omega (arith, gt) in
     ap (λ x. x ++ take (n - length a) b) (take_all n a (omega (arith, gt))) ∙ sym (take-append-add a b (n - length a)) ∙ ap (λ k. take k (a ++ b)) whole
 
--- whether so many bytes are there, before and behind
+-- whether so many bytes are there, before and after
 whole_two : (n a b : ℕ) (t : Bool) → (min (n - a) b == 0) ≡ t → (n ≤ a + b) ⊎ (a + b < n) → cond t (nat_le n a) (nat_le (n - a) b) ≡ nat_le n (a + b)
 whole_two n a b true e (inl le) =
     let z = eqb-true (min (n - a) b) 0 e in
@@ -53,11 +53,11 @@ never : (t : Bool) → cond t false false ≡ false
 never true = refl
 never false = refl
 
-body_two : (size : Option ℕ) (a b : List ℕ) → body_of size a ++ body_of (left_behind size (length a)) b ≡ body_of size (a ++ b)
+body_two : (size : Option ℕ) (a b : List ℕ) → declared_body size a ++ declared_body (left_behind size (length a)) b ≡ declared_body size (a ++ b)
 body_two None a b = refl
 body_two (Some n) a b = take_two n a b (order n (length a))
 
-flag_two : (size : Option ℕ) (a b : List ℕ) (t : Bool) → (length (body_of (left_behind size (length a)) b) == 0) ≡ t → cond t (is_whole size a) (is_whole (left_behind size (length a)) b) ≡ is_whole size (a ++ b)
+flag_two : (size : Option ℕ) (a b : List ℕ) (t : Bool) → (length (declared_body (left_behind size (length a)) b) == 0) ≡ t → cond t (is_whole size a) (is_whole (left_behind size (length a)) b) ≡ is_whole size (a ++ b)
 flag_two None a b t e = never t
 flag_two (Some n) a b t e =
     let sum = length-append a b in
@@ -68,10 +68,10 @@ given_is : (h : ResponseHeader) (x y : List ℕ) (v w : Bool) → x ≡ y → v 
 given_is h x y v w e f = rw (e, f) refl
 
 -- the parts of more bytes make up what is given of all
-pub body_more : (h : ResponseHeader) (size : Option ℕ) (a b : List ℕ) → add_all (given (record { head = h; size = size; behind = a })) (body_parts (left_behind size (length a)) b) ≡ given (record { head = h; size = size; behind = a ++ b })
+pub body_more : (h : ResponseHeader) (size : Option ℕ) (a b : List ℕ) → add_all (given_in_all (record { head = h; size = size; behind = a })) (body_parts (left_behind size (length a)) b) ≡ given_in_all (record { head = h; size = size; behind = a ++ b })
 body_more h size a b =
     let left = left_behind size (length a) in
-    add_bytes (given (record { head = h; size = size; behind = a })) (body_of left b) (is_whole left b) _ refl
+    add_bytes (given_in_all (record { head = h; size = size; behind = a })) (declared_body left b) (is_whole left b) _ refl
     ∙ given_is h _ _ _ _ (body_two size a b) (flag_two size a b _ refl)
 
 -- and so much is left
@@ -86,16 +86,16 @@ left_all : (size : Option ℕ) → left_behind size 0 ≡ size
 left_all None = refl
 left_all (Some n) = let e : n - 0 ≡ n = omega arith in ap (λ (k : ℕ). Some k) e
 
-no_body : (size : Option ℕ) → body_of size [] ≡ []
+no_body : (size : Option ℕ) → declared_body size [] ≡ []
 no_body None = refl
 no_body (Some n) = take-nil n
 
 -- the parts of a piece in which the head ends make up what is given of it
-pub whole_given : (r : Response) → add_all nothing (whole_parts r) ≡ given r
+pub whole_given : (r : Response) → add_all nothing (whole_parts r) ≡ given_in_all r
 whole_given r =
-    let start : ◌≡◌ {A = Given} (record { head = Some r.head; body = []; whole = is_whole r.size [] }) (given (record { head = r.head; size = r.size; behind = [] })) = given_is r.head _ _ _ _ (sym (no_body r.size)) refl in
+    let start : ◌≡◌ {A = Given} (record { head = Some r.head; body = []; whole = is_whole r.size [] }) (given_in_all (record { head = r.head; size = r.size; behind = [] })) = given_is r.head _ _ _ _ (sym (no_body r.size)) refl in
     ap (λ (g : Given). add_all g (body_parts r.size r.behind)) start
-    ∙ ap (λ (left : Option ℕ). add_all (given (record { head = r.head; size = r.size; behind = [] })) (body_parts left r.behind)) (sym (left_all r.size))
+    ∙ ap (λ (left : Option ℕ). add_all (given_in_all (record { head = r.head; size = r.size; behind = [] })) (body_parts left r.behind)) (sym (left_all r.size))
     ∙ body_more r.head r.size [] r.behind
 
 -- a head and then a body
@@ -106,7 +106,7 @@ two_parts old mid new p ps e f g = g ∙ ap (λ xs. xs ++ ps) (f ∙ ap (λ xs. 
 pub rest_is : (k : ℕ) (xs : List ℕ) → take (length xs - k) (drop k xs) ≡ drop k xs
 rest_is k xs = take_all (length xs - k) (drop k xs) (omega (arith, length-drop k xs))
 
--- a response goes on with more bytes behind its head
+-- a response goes on with more bytes after its head
 pub response_more : (bytes more : List ℕ) (r : Response) → IsResponse bytes r → IsResponse (bytes ++ more) (record r { behind = r.behind ++ more })
 response_more bytes more r h = record {
   cut = h.cut;

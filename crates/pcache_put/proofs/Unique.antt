@@ -8,7 +8,7 @@ use Rattle.pcache_meta.specs.declared.header.ResponseHeader.{ResponseHeader}
 use Rattle.pcache_put.specs.Head.{ReadsHeader, header_of}
 use Rattle.pcache_put.specs.HeadEnd.{IsUnfinished}
 use Rattle.pcache_put.specs.Response.{Response, IsResponse, IsUnreadable, IsComplete, HasSize, HasSizeBy, may_end}
-use Rattle.pcache_put.specs.Parts.{Given, given, left_behind, is_missing}
+use Rattle.pcache_put.specs.Parts.{Given, given_in_all, left_behind, is_missing}
 use Rattle.pcache_put.specs.Progress.{Parsed, AtHead, AtBody, AtEnd, HasFailed, TakenIn}
 use Rattle.pcache_put.proofs.HeadLemmas.{one_head}
 use Rattle.pcache_put.proofs.Ends.{ends_unique}
@@ -45,7 +45,7 @@ bytes_missing left (Some k) behind is = rw is (counted k (length behind))
     counted : (k n : ℕ) → nat_lt 0 (k - n) ≡ not (nat_le k n)
     counted k n = grind (arith, nat_tests)
 
--- where bytes of the body are missing, the response may not end
+-- if bytes of the body are missing, the response may not end
 pub missing_early : (left : Option ℕ) (bytes : List ℕ) (g : Given) → is_missing left ≡ true → TakenIn (AtBody left) bytes g → IsComplete bytes → ⊥
 missing_early left bytes g some taken complete =
     let same = one_response bytes complete.0 taken.0 complete.1 taken.1 in
@@ -82,7 +82,7 @@ one_outcome (AtBody a) (AtHead b) bytes g h x y = absurd (one_head_or_body bytes
 one_outcome (AtBody a) (AtBody b) bytes g h x y =
     let same = one_response bytes x.0 y.0 x.1 y.1 in (
       ap (λ (l : Option ℕ). AtBody l) (x.2 ∙ ap (λ (r : Response). left_behind r.size (length r.behind)) same ∙ sym y.2),
-      x.3 ∙ ap given same ∙ sym y.3,
+      x.3 ∙ ap given_in_all same ∙ sym y.3,
     )
 one_outcome (AtBody a) AtEnd bytes g h x y = absurd y
 one_outcome (AtBody a) (HasFailed e) bytes g h x y = absurd y

@@ -1,4 +1,4 @@
--- Where the head of a response ends (own): behind the first empty line that follows its first line. Empty lines
+-- Where the head of a response ends (own): after the first empty line that follows its first line. Empty lines
 -- before the first line are skipped.
 use Rattle.std.specs.Prelude.{◌≡◌, ◌≢◌, ℕ, ◌⊎◌, All, List, [], ◌∷◌, ◌++◌, length}
 use Rattle.std.specs.List.{flat_map}
@@ -29,7 +29,7 @@ pub record IsWhole (head : List ℕ) : Type 0 where
   pub ends : IsEmpty last
   pub whole : head ≡ joined skipped ++ (first ++ (joined lines ++ last))
 
--- the head ends behind the first n bytes
+-- the head ends after the first n bytes
 pub record EndsAt (bytes : List ℕ) (n : ℕ) : Type 0 where
   pub head : List ℕ
   pub behind : List ℕ

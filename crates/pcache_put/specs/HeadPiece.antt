@@ -4,7 +4,7 @@ use Rattle.pcache_put.specs.HeadEnd.{EndsAt, IsUnfinished}
 use Rattle.pcache_put.specs.declared.head_end.HeadPiece.{HeadPiece}
 use Rattle.pcache_put.specs.declared.head_end.HeadPiece.TheVariants.{Open, Ended}
 
--- the piece is added to the bytes before it; where the head ends in it, only its front is
+-- the piece is added to the bytes before it; if the head ends in it, only its front is
 abbrev pub IsJoined : List ℕ → List ℕ → HeadPiece → Type 0
 IsJoined before piece (Open bytes) = (bytes ≡ before ++ piece) × IsUnfinished (before ++ piece)
 IsJoined before piece (Ended head used) =

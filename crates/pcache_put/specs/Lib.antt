@@ -1,9 +1,9 @@
+pub mod Counted
 pub mod Fields
 pub mod Head
 pub mod HeadEnd
 pub mod HeadPiece
-pub mod Places
 pub mod Parts
+pub mod Places
 pub mod Progress
 pub mod Response
-pub mod Tracked

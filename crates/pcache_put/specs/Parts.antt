@@ -1,7 +1,7 @@
 -- The parts that a parser gives of a response.
 use Rattle.std.specs.Prelude.{ℕ, ◌-◌, Bool, false, ◌==◌, nat_lt, if◌then◌else◌, List, [], ◌∷◌, ◌++◌, length, fold, Option, Some, None}
 use Rattle.pcache_meta.specs.declared.header.ResponseHeader.{ResponseHeader}
-use Rattle.pcache_put.specs.Response.{Response, body_of, is_whole}
+use Rattle.pcache_put.specs.Response.{Response, declared_body, is_whole}
 use Rattle.pcache_put.specs.declared.response_parse.ParsePart.{ParsePart}
 use Rattle.pcache_put.specs.declared.response_parse.ParsePart.TheVariants as part
 
@@ -15,8 +15,8 @@ abbrev pub nothing : Given
 nothing = record { head = None; body = []; whole = false }
 
 -- what is to be given of a response in all
-abbrev pub given : Response → Given
-given r = record { head = Some r.head; body = body_of r.size r.behind; whole = is_whole r.size r.behind }
+abbrev pub given_in_all : Response → Given
+given_in_all r = record { head = Some r.head; body = declared_body r.size r.behind; whole = is_whole r.size r.behind }
 
 -- a part more
 abbrev pub add : Given → ParsePart → Given
@@ -30,7 +30,7 @@ add_all g parts = fold add g parts
 -- what is given of bytes of a body of which so much is left: no empty part
 abbrev pub body_parts : Option ℕ → List ℕ → List ParsePart
 body_parts left bytes =
-    if length (body_of left bytes) == 0 then [] else part.Body (body_of left bytes) (is_whole left bytes) ∷ []
+    if length (declared_body left bytes) == 0 then [] else part.Body (declared_body left bytes) (is_whole left bytes) ∷ []
 
 -- what is left of a body behind some bytes of it
 abbrev pub left_behind : Option ℕ → ℕ → Option ℕ

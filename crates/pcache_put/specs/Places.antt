@@ -3,7 +3,7 @@ use Rattle.std.specs.Prelude.{◌≡◌, ◌≢◌, ℕ, ◌<◌, ◌≤◌, Lis
 use Rattle.pcache_put.specs.declared.head_end.Place.{Place}
 use Rattle.pcache_put.specs.declared.head_end.Place.TheVariants.{Blank, BlankReturn, Inside, Fresh, FreshReturn, Ended}
 
--- where the next byte stands, behind b
+-- where the next byte stands, after b
 abbrev pub next : Place → ℕ → Place
 next Blank b = if b == 10 then Blank else if b == 13 then BlankReturn else Inside
 next BlankReturn b = if b == 10 then Blank else Inside
@@ -12,11 +12,11 @@ next Fresh b = if b == 10 then Ended else if b == 13 then FreshReturn else Insid
 next FreshReturn b = if b == 10 then Ended else Inside
 next Ended b = Ended
 
--- where the byte behind these stands
+-- where the byte after these stands
 abbrev pub place_after : Place → List ℕ → Place
 place_after p bytes = fold next p bytes
 
--- the head ends behind the first n bytes, and no sooner
+-- the head ends after the first n bytes, and no sooner
 pub record CutsAt (p : Place) (bytes : List ℕ) (n : ℕ) : Type 0 where
   pub within : n ≤ length bytes
   pub ended : place_after p (take n bytes) ≡ Ended

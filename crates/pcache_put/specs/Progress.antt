@@ -3,13 +3,13 @@ use Rattle.std.specs.Prelude.{◌≡◌, ℕ, ◌⊎◌, Option, List, [], ◌++
 use Rattle.pcache_base.specs.declared.error.ErrorType.{ErrorType}
 use Rattle.pcache_put.specs.HeadEnd.{IsUnfinished}
 use Rattle.pcache_put.specs.Response.{Response, IsResponse}
-use Rattle.pcache_put.specs.Parts.{Given, nothing, given, left_behind, body_parts, whole_parts}
+use Rattle.pcache_put.specs.Parts.{Given, nothing, given_in_all, left_behind, body_parts, whole_parts}
 use Rattle.pcache_put.specs.declared.response_parse.ParsePart.{ParsePart}
 use Rattle.pcache_put.specs.declared.response_parse.Progress.{Progress}
 use Rattle.pcache_put.specs.declared.response_parse.Progress.TheVariants as progress
 
 -- where a parser stands: in a head that has not ended, of which these bytes have come; in a body of which so
--- much is left, None where it lasts to the end; behind its end; or refusing every call for this kind
+-- much is left, None if it lasts to the end; after its end; or refusing every call for this kind
 pub data Parsed : Type 0 where
   AtHead : (bytes : List ℕ) → Parsed
   AtBody : (left : Option ℕ) → Parsed
@@ -28,7 +28,7 @@ parsed_of (progress.Failed kind) = HasFailed kind
 abbrev pub TakenIn : Parsed → List ℕ → Given → Type 0
 TakenIn (AtHead kept) bytes g = (kept ≡ bytes) × IsUnfinished bytes × (g ≡ nothing)
 TakenIn (AtBody left) bytes g =
-    (r : Response) × IsResponse bytes r × (left ≡ left_behind r.size (length r.behind)) × (g ≡ given r)
+    (r : Response) × IsResponse bytes r × (left ≡ left_behind r.size (length r.behind)) × (g ≡ given_in_all r)
 TakenIn AtEnd bytes g = ⊥
 TakenIn (HasFailed kind) bytes g = ⊥
 

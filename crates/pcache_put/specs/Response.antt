@@ -26,7 +26,7 @@ HasSizeBy false (Some value) size = SpellsLength value.bytes size
 abbrev pub HasSize : ResponseHeader → Option ℕ → Type 0
 HasSize head size = HasSizeBy (is_bodiless head.status) (get head.headers (codes "content-length")) size
 
--- a response whose head has ended: the head, the size of its body, and the bytes behind the head
+-- a response whose head has ended: the head, the size of its body, and the bytes after the head
 pub record Response : Type 0 where
   pub head : ResponseHeader
   pub size : Option ℕ
@@ -46,10 +46,10 @@ pub record IsUnreadable (bytes : List ℕ) : Type 0 where
   pub ends : EndsAt bytes cut
   pub no_head : (head : ResponseHeader) → ¬ (ReadsHeader (take cut bytes) head)
 
--- the body, as far as it has come; what lies behind it is none of it
-abbrev pub body_of : Option ℕ → List ℕ → List ℕ
-body_of None behind = behind
-body_of (Some n) behind = take n behind
+-- the body, as far as it has come; what lies after it is none of it
+abbrev pub declared_body : Option ℕ → List ℕ → List ℕ
+declared_body None behind = behind
+declared_body (Some n) behind = take n behind
 
 -- whether the body is known to have come whole
 abbrev pub is_whole : Option ℕ → List ℕ → Bool

@@ -13,15 +13,15 @@ use std::marker::Model;
 pub(crate) enum Place {
     // Among the empty lines before it.
     Blank,
-    // Behind the CR of such a line.
+    // After the CR of such a line.
     BlankReturn,
     // In a line.
     Inside,
-    // At the start of a line behind the first.
+    // At the start of a line after the first.
     Fresh,
-    // Behind a CR there.
+    // After a CR there.
     FreshReturn,
-    // Behind the empty line that ends the head.
+    // After the empty line that ends the head.
     Ended,
 }
 
@@ -82,7 +82,7 @@ fn cut(place: &mut Place, piece: &[u8]) -> Option<usize>
     None
 }
 
-// The bytes of a head that has not ended, and the place behind them.
+// The bytes of a head that has not ended, and the place after them.
 #[derive(Drop)]
 pub(crate) struct HeadBytes {
     bytes: Vec<u8>,

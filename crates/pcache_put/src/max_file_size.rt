@@ -15,9 +15,9 @@ pub struct MaxFileSizeTracker {
 }
 
 impl Model for MaxFileSizeTracker {
-    ghost use Rattle.pcache_put.specs.Tracked.{Tracked};
+    ghost use Rattle.pcache_put.specs.Counted.{Counted};
 
-    ghost Value = { Tracked };
+    ghost Value = { Counted };
 
     ghost view = { λ t. record { bytes = t.body_bytes; limit = t.max_size } };
 }

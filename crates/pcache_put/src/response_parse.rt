@@ -35,7 +35,7 @@ pub enum ParsePart {
 pub(crate) enum Progress {
     // The head has not ended.
     Head(HeadBytes),
-    // The head was given, and so many bytes of the body are left; None where it lasts to the end.
+    // The head was given, and so many bytes of the body are left; None if it lasts to the end.
     Body(Option<usize>),
     // The response has ended.
     Finished,
@@ -43,7 +43,7 @@ pub(crate) enum Progress {
     Failed(ErrorType),
 }
 
-/// The length that the value of a Content-Length spells: digits, perhaps behind a plus, within a `usize`.
+/// The length that the value of a Content-Length spells: digits, perhaps after a plus, within a `usize`.
 pub fn spelled_length(value: &[u8]) -> Option<usize>
     ensures { SpellsLength value.now result }
 {
@@ -53,7 +53,7 @@ pub fn spelled_length(value: &[u8]) -> Option<usize>
     text.parse().ok()
 }
 
-// How many bytes the body has; None where it lasts to the end.
+// How many bytes the body has; None if it lasts to the end.
 fn body_size(head: &ResponseHeader) -> Option<usize>
     ensures { HasSize head.now result }
 {
@@ -79,7 +79,7 @@ fn give_head(alloc: Global, bytes: Vec<u8>, parts: &mut Vec<ParsePart>) -> Resul
     Ok(size)
 }
 
-// Gives what the bytes have of the body, and answers what is left behind them.
+// Gives what the bytes have of the body, and answers what is left after them.
 fn give_body(
     alloc: Global,
     left: Option<usize>,
@@ -186,7 +186,7 @@ fn missing(progress: &Progress) -> Option<ErrorType>
 }
 
 /// Of two parsers that took in the same bytes, in whatever pieces, both have given the same and stand at the
-/// same place, and the head of these bytes can be read where it has ended. A law; the call does nothing.
+/// same place, and the head of these bytes can be read if it has ended. A law; the call does nothing.
 pub fn same_however_cut()
     ensures given { (p q : Parsed) (bytes : List ℕ) (g h : Given) → TakenIn p bytes g → TakenIn q bytes h → (p ≡ q) × (g ≡ h) }
     ensures readable { (p : Parsed) (bytes : List ℕ) (g : Given) → TakenIn p bytes g → ¬ (IsUnreadable bytes) }
@@ -194,9 +194,9 @@ pub fn same_however_cut()
 
 /// Reads a response whose bytes come in pieces of any size.
 ///
-/// The head: empty lines before it are skipped; it ends with the first empty line behind its first line
+/// The head: empty lines before it are skipped; it ends with the first empty line after its first line
 /// (lines end by LF or CR LF), and only then it is read, as RFC 9112 has it, with at most 256 fields. The
-/// body: none for status 204 or 304; as many bytes as the first Content-Length says, where that can be
+/// body: none for status 204 or 304; as many bytes as the first Content-Length says, if that can be
 /// read, and further ones are ignored; else all bytes to the end. Only the bytes of a head that has not
 /// ended are kept.
 ///
@@ -230,7 +230,7 @@ impl ResponseParse {
     /// Takes in the next piece, and answers the parts that it brings. What the parts of all pieces make up
     /// together is what the bytes of all pieces say together, however they were cut.
     ///
-    /// It is refused for want of memory, and where a head ended that can't be read.
+    /// It is refused when memory runs out, and if a head ended that can't be read.
     pub fn inject_data(&mut self, piece: &[u8]) -> Result<Vec<ParsePart>>
         ensures joined { IfOk result (λ parts. (bytes : List ℕ) (g : Given) → TakenIn self.old bytes g
             → TakenIn self.new (bytes ++ piece.now) (add_all g parts.items)) }
@@ -239,7 +239,7 @@ impl ResponseParse {
             → IsUnreadable (bytes ++ piece.now)) }
         ensures kind { IfErr result (λ e. (e ≡ OutOfMemory) ⊎ (e ≡ InvalidHttpHeader) ⊎ (self.old ≡ HasFailed e)) }
 
-        // After the end, and behind a whole body, pieces are ignored. After a refusal they are refused for the
+        // After the end, and after a whole body, pieces are ignored. After a refusal they are refused for the
         // same kind.
         ensures finished { self.old ≡ AtEnd → IsOk result × (self.new ≡ AtEnd) }
         ensures whole { self.old ≡ AtBody (Some 0) → IsOk result }
@@ -260,7 +260,7 @@ impl ResponseParse {
         }
     }
 
-    /// Says that no more pieces come. It is refused where the head has not ended, or where bytes of a body
+    /// Says that no more pieces come. It is refused if the head has not ended, or if bytes of a body
     /// with a length are missing. It takes no memory.
     pub fn finish(&mut self) -> Result<()>
         ensures complete { OnOk result ((bytes : List ℕ) (g : Given) → TakenIn self.old bytes g → IsComplete bytes) }

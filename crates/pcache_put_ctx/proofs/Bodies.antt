@@ -8,10 +8,10 @@ use Rattle.pcache_meta.specs.Meta.{Meta}
 use Rattle.pcache_meta.specs.declared.header.ResponseHeader.{ResponseHeader}
 use Rattle.pcache_put.proofs.PartLemmas.{body_joined, body_more, left_more, response_more}
 use Rattle.pcache_put.proofs.Unique.{one_outcome, unreadable_is_none}
-use Rattle.pcache_put.specs.Parts.{Given, given, add_all, left_behind, body_parts}
+use Rattle.pcache_put.specs.Parts.{Given, given_in_all, add_all, left_behind, body_parts}
 use Rattle.pcache_put.specs.Progress.{Parsed, AtBody, TakenIn, GivesParts}
-use Rattle.pcache_put.specs.Response.{IsUnreadable, body_of, is_whole}
-use Rattle.pcache_put.specs.Tracked.{Tracked as Counted}
+use Rattle.pcache_put.specs.Response.{IsUnreadable, declared_body, is_whole}
+use Rattle.pcache_put.specs.Counted.{Counted}
 use Rattle.pcache_put.specs.declared.response_parse.ParsePart.{ParsePart}
 use Rattle.pcache_put.specs.declared.response_parse.ParsePart.TheVariants as part
 use Rattle.pcache_put_ctx.proofs.Pieces.{ends_before, judged_more}
@@ -24,7 +24,7 @@ use Rattle.pcache_put_ctx.specs.declared.brought.BodyPart.{BodyPart}
 use Rattle.pcache_put_ctx.specs.declared.brought.Brought.{Brought}
 use Rattle.pcache_put_ctx.specs.declared.report.Written.{Written}
 
--- what is brought behind a head, or without one, by bytes or by none
+-- what is brought after a head, or without one, by bytes or by none
 abbrev pub brought_by : Option ResponseHeader → Bool → List ℕ → Bool → Brought
 brought_by head none bytes whole = fold with_part (record { head = head; body = None }) (cond none [] (part.Body bytes whole ∷ []))
 
@@ -40,7 +40,7 @@ pub head_by : (head : Option ResponseHeader) (bytes : List ℕ) (whole none : Bo
 head_by head bytes whole true = refl
 head_by head bytes whole false = refl
 
--- nothing is left exactly where the body is whole
+-- nothing is left exactly when the body is whole
 none_left : (n k : ℕ) → ((n - k) == 0) ≡ nat_le n k
 none_left n k = grind (arith, nat_tests)
 
@@ -65,16 +65,16 @@ pub next_due : (says : Says) (limit : Option ℕ) (parser q : Parsed) (meta : Me
     → IsDue says limit q meta (pieces ++ p ∷ []) body (brought parts).body
 next_due says limit parser q meta pieces body p parts goes gives h =
     let left = left_behind h.r.size (length h.r.behind) in
-    let before : TakenIn (AtBody left) (joined pieces) (given h.r) = (h.r, h.judged.response, refl, refl) in
+    let before : TakenIn (AtBody left) (joined pieces) (given_in_all h.r) = (h.r, h.judged.response, refl, refl) in
     let given-parts : GivesParts (AtBody left) p.bytes parts = subst (λ (x : Parsed). GivesParts x p.bytes parts) h.stands gives in
-    let here : TakenIn q (joined pieces ++ p.bytes) (add_all (given h.r) parts) = goes (joined pieces) (given h.r) (subst (λ (x : Parsed). TakenIn x (joined pieces) (given h.r)) (sym h.stands) before) in
-    let there : TakenIn (AtBody (left_behind left (length p.bytes))) (joined pieces ++ p.bytes) (add_all (given h.r) parts) = body_joined left _ (joined pieces) p.bytes (given h.r) parts before refl given-parts in
+    let here : TakenIn q (joined pieces ++ p.bytes) (add_all (given_in_all h.r) parts) = goes (joined pieces) (given_in_all h.r) (subst (λ (x : Parsed). TakenIn x (joined pieces) (given_in_all h.r)) (sym h.stands) before) in
+    let there : TakenIn (AtBody (left_behind left (length p.bytes))) (joined pieces ++ p.bytes) (add_all (given_in_all h.r) parts) = body_joined left _ (joined pieces) p.bytes (given_in_all h.r) parts before refl given-parts in
     let stands : q ≡ AtBody (left_behind left (length p.bytes)) = (one_outcome q _ _ _ _ here there).0 in
-    let more : (add_all (given h.r) (body_parts left p.bytes)).body ≡ body_of h.r.size (h.r.behind ++ p.bytes) = ap (λ (g : Given). g.body) (body_more h.r.head h.r.size h.r.behind p.bytes) in
-    let bytes : body ++ part_bytes (brought parts).body ≡ body_of h.r.size (h.r.behind ++ p.bytes) =
+    let more : (add_all (given_in_all h.r) (body_parts left p.bytes)).body ≡ declared_body h.r.size (h.r.behind ++ p.bytes) = ap (λ (g : Given). g.body) (body_more h.r.head h.r.size h.r.behind p.bytes) in
+    let bytes : body ++ part_bytes (brought parts).body ≡ declared_body h.r.size (h.r.behind ++ p.bytes) =
     ap (λ (x : List ParsePart). body ++ part_bytes (brought x).body) given-parts
     ∙ ap (λ (x : List ℕ). x ++ part_bytes (brought (body_parts left p.bytes)).body) h.came
-    ∙ sym (added_by (given h.r) (body_of left p.bytes) (is_whole left p.bytes) (length (body_of left p.bytes) == 0)) ∙ more in (
+    ∙ sym (added_by (given_in_all h.r) (declared_body left p.bytes) (is_whole left p.bytes) (length (declared_body left p.bytes) == 0)) ∙ more in (
       record {
         r = record h.r { behind = h.r.behind ++ p.bytes };
         now = h.now;
@@ -84,7 +84,7 @@ next_due says limit parser q meta pieces body p parts goes gives h =
         came = bytes;
       },
       last_done (brought parts).body (is_whole left p.bytes) (is_done q)
-          (subst (λ (x : List ParsePart). IfSome (brought x).body (λ (b : BodyPart). b.is_last ≡ is_whole left p.bytes)) (sym given-parts) (last_by None (body_of left p.bytes) (is_whole left p.bytes) (length (body_of left p.bytes) == 0)))
+          (subst (λ (x : List ParsePart). IfSome (brought x).body (λ (b : BodyPart). b.is_last ≡ is_whole left p.bytes)) (sym given-parts) (last_by None (declared_body left p.bytes) (is_whole left p.bytes) (length (declared_body left p.bytes) == 0)))
           (sym (done_whole left p.bytes) ∙ ap is_done (sym stands)),
     )
 
@@ -92,8 +92,8 @@ next_due says limit parser q meta pieces body p parts goes gives h =
 pub no_head : (says : Says) (limit : Option ℕ) (parser : Parsed) (meta : Meta) (pieces : List Piece) (body piece : List ℕ) → ((bytes : List ℕ) (g : Given) → TakenIn parser bytes g → IsUnreadable (bytes ++ piece)) → BodyRead says limit parser meta pieces body → ⊥
 no_head says limit parser meta pieces body piece bad h =
     let r = record h.r { behind = h.r.behind ++ piece } in
-    unreadable_is_none (AtBody (left_behind r.size (length r.behind))) (joined pieces ++ piece) (given r) (r, response_more (joined pieces) piece h.r h.judged.response, refl, refl)
-    (bad (joined pieces) (given h.r) (subst (λ (x : Parsed). TakenIn x (joined pieces) (given h.r)) (sym h.stands) (h.r, h.judged.response, refl, refl)))
+    unreadable_is_none (AtBody (left_behind r.size (length r.behind))) (joined pieces ++ piece) (given_in_all r) (r, response_more (joined pieces) piece h.r h.judged.response, refl, refl)
+    (bad (joined pieces) (given_in_all h.r) (subst (λ (x : Parsed). TakenIn x (joined pieces) (given_in_all h.r)) (sym h.stands) (h.r, h.judged.response, refl, refl)))
 
 -- ---- what is written
 

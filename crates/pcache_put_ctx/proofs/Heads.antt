@@ -8,10 +8,10 @@ use Rattle.pcache_meta.specs.declared.header.ResponseHeader.{ResponseHeader}
 use Rattle.pcache_put.proofs.PartLemmas.{whole_given}
 use Rattle.pcache_put.proofs.Unique.{one_outcome}
 use Rattle.pcache_put.specs.HeadEnd.{IsUnfinished}
-use Rattle.pcache_put.specs.Parts.{Given, nothing, given, add_all, left_behind, whole_parts}
+use Rattle.pcache_put.specs.Parts.{Given, nothing, given_in_all, add_all, left_behind, whole_parts}
 use Rattle.pcache_put.specs.Progress.{Parsed, AtHead, AtBody, TakenIn, GivesParts}
-use Rattle.pcache_put.specs.Response.{Response, IsResponse, IsUnreadable, body_of, is_whole}
-use Rattle.pcache_put.specs.Tracked.{Tracked as Counted}
+use Rattle.pcache_put.specs.Response.{Response, IsResponse, IsUnreadable, declared_body, is_whole}
+use Rattle.pcache_put.specs.Counted.{Counted}
 use Rattle.pcache_put.specs.declared.response_parse.ParsePart.{ParsePart}
 use Rattle.pcache_put_ctx.proofs.Bodies.{bytes_by, last_by, head_by, done_whole, last_done}
 use Rattle.pcache_put_ctx.proofs.Pieces.{joined_push, ends_here}
@@ -37,7 +37,7 @@ taken_there : (parser q : Parsed) (bytes piece : List ℕ) (parts : List ParsePa
     → ((bytes : List ℕ) (g : Given) → TakenIn parser bytes g → TakenIn q (bytes ++ piece) (add_all g parts)) → TakenIn q (bytes ++ piece) (add_all nothing parts)
 taken_there parser q bytes piece parts is unfinished goes = goes bytes nothing (subst (λ (x : Parsed). TakenIn x bytes nothing) (sym is) (refl, unfinished, refl))
 
--- a piece behind which the head has not ended
+-- a piece after which the head has not ended
 pub goes_unfinished : (size : Option Counted) (parser q : Parsed) (pieces : List Piece) (p : Piece) (parts : List ParsePart)
     → ((bytes : List ℕ) (g : Given) → TakenIn parser bytes g → TakenIn q (bytes ++ p.bytes) (add_all g parts))
     → GivesParts parser p.bytes parts → (brought parts).head ≡ None → HeadTaken size parser pieces → HeadTaken size q (pieces ++ p ∷ [])
@@ -53,7 +53,7 @@ goes_unfinished size parser q pieces p parts goes gives none h =
             counts = h.counts;
           }
       | inr u ↦
-          let some : (brought parts).head ≡ Some u.0.head = ap (λ (x : List ParsePart). (brought x).head) u.2 ∙ head_by (Some u.0.head) (body_of u.0.size u.0.behind) (is_whole u.0.size u.0.behind) (length (body_of u.0.size u.0.behind) == 0) in
+          let some : (brought parts).head ≡ Some u.0.head = ap (λ (x : List ParsePart). (brought x).head) u.2 ∙ head_by (Some u.0.head) (declared_body u.0.size u.0.behind) (is_whole u.0.size u.0.behind) (length (declared_body u.0.size u.0.behind) == 0) in
           absurd (cc (none, some))
     ]
 
@@ -72,18 +72,18 @@ opens {M} says size parser q pieces p parts header o goes gives some begun h =
   where
     with-head : (r : Response) → IsResponse (joined pieces ++ p.bytes) r → parts ≡ whole_parts r → TakenIn q (joined pieces ++ p.bytes) (add_all nothing parts) → (o : Opened M) → IsBegun (IsVerdict says (limit_of size) header p.now) (brought parts).body o → HasOpened says size q (pieces ++ p ∷ []) o
     with-head r is whole here o begun =
-        let bytes = body_of r.size r.behind in
+        let bytes = declared_body r.size r.behind in
         let last = is_whole r.size r.behind in
         let first : (brought parts).head ≡ Some r.head = ap (λ (x : List ParsePart). (brought x).head) whole ∙ head_by (Some r.head) bytes last (length bytes == 0) in
         let same : header ≡ r.head = cc (some, first) in
-        let gave : add_all nothing parts ≡ given r = ap (add_all nothing) whole ∙ whole_given r in
-        let stands : q ≡ AtBody (left_behind r.size (length r.behind)) = (one_outcome q (AtBody (left_behind r.size (length r.behind))) _ _ (given r) here (r, is, refl, refl)).0 in
+        let gave : add_all nothing parts ≡ given_in_all r = ap (add_all nothing) whole ∙ whole_given r in
+        let stands : q ≡ AtBody (left_behind r.size (length r.behind)) = (one_outcome q (AtBody (left_behind r.size (length r.behind))) _ _ (given_in_all r) here (r, is, refl, refl)).0 in
         by o begun r is same stands
         (ap (λ (x : List ParsePart). part_bytes (brought x).body) whole ∙ bytes_by (Some r.head) bytes last (length bytes == 0) refl)
         (last_done (brought parts).body last (is_done q) (subst (λ (x : List ParsePart). IfSome (brought x).body (λ (b : BodyPart). b.is_last ≡ last)) (sym whole) (last_by (Some r.head) bytes last (length bytes == 0))) (sym (done_whole r.size r.behind) ∙ ap is_done (sym stands)))
       where
         by : (o : Opened M) → IsBegun (IsVerdict says (limit_of size) header p.now) (brought parts).body o → (r : Response) → (is : IsResponse (joined pieces ++ p.bytes) r) → header ≡ r.head → q ≡ AtBody (left_behind r.size (length r.behind))
-            → part_bytes (brought parts).body ≡ body_of r.size r.behind → IfSome (brought parts).body (λ (b : BodyPart). b.is_last ≡ is_done q) → HasOpened says size q (pieces ++ p ∷ []) o
+            → part_bytes (brought parts).body ≡ declared_body r.size r.behind → IfSome (brought parts).body (λ (b : BodyPart). b.is_last ≡ is_done q) → HasOpened says size q (pieces ++ p ∷ []) o
         by opened.Unfinished begun r is same stands written last = absurd begun
         by (opened.Declined reason) begun r is same stands written last = record {
           r = r;

@@ -1,4 +1,4 @@
--- Pieces one behind another.
+-- Pieces one after another.
 use Rattle.std.proofs.Common.{◌≡◌, ℕ, Option, List, [], ◌∷◌, ◌++◌, refl, ap, sym, subst, ◌∙◌, append_assoc, append-nil}
 use Rattle.std.proofs.lemmas.List.{take-append-le}
 use Rattle.pcache_control.specs.declared.response.RespCacheable.{RespCacheable}

@@ -13,10 +13,10 @@ use Rattle.pcache_meta.specs.Meta.{Meta}
 use Rattle.pcache_meta.specs.declared.header.ResponseHeader.{ResponseHeader}
 use Rattle.pcache_put.proofs.Ends.{nothing_unfinished}
 use Rattle.pcache_put.proofs.Unique.{one_response, unreadable_is_none}
-use Rattle.pcache_put.specs.Parts.{Given, given, left_behind}
+use Rattle.pcache_put.specs.Parts.{Given, given_in_all, left_behind}
 use Rattle.pcache_put.specs.Progress.{Parsed, AtHead, AtBody, HasFailed, TakenIn}
-use Rattle.pcache_put.specs.Response.{Response, IsResponse, IsUnreadable, IsComplete, body_of, may_end}
-use Rattle.pcache_put.specs.Tracked.{Tracked as Counted}
+use Rattle.pcache_put.specs.Response.{Response, IsResponse, IsUnreadable, IsComplete, declared_body, may_end}
+use Rattle.pcache_put.specs.Counted.{Counted}
 use Rattle.pcache_store.specs.Refusals.{MayRefuseFinish}
 use Rattle.pcache_store.specs.Store.{Store}
 use Rattle.pcache_put_ctx.proofs.Pieces.{ends_before, judged_more, unreadable_more}
@@ -35,7 +35,7 @@ declined_more says limit reason pieces p h = record {
   judged = judged_more says limit pieces p h.now h.r (Uncacheable reason) h.judged;
 }
 
-longer : (size : Option ℕ) (a b : List ℕ) → length (body_of size a) ≤ length (body_of size (a ++ b))
+longer : (size : Option ℕ) (a b : List ℕ) → length (declared_body size a) ≤ length (declared_body size (a ++ b))
 longer None a b = omega (arith, length-append a b)
 longer (Some n) a b = omega (arith, length-append a b, length-take n a, length-take n (a ++ b))
 
@@ -53,7 +53,7 @@ overrun_more says limit pieces p h = record {
   meta = h.meta;
   moment = ends_before pieces p h.now h.moment;
   judged = judged_more says limit pieces p h.now h.r (Cacheable h.meta) h.judged;
-  over = over_more limit (body_of h.r.size h.r.behind) (body_of h.r.size (h.r.behind ++ p.bytes)) (longer h.r.size h.r.behind p.bytes) h.over;
+  over = over_more limit (declared_body h.r.size h.r.behind) (declared_body h.r.size (h.r.behind ++ p.bytes)) (longer h.r.size h.r.behind p.bytes) h.over;
 }
 
 why_more : (says : Says) (limit : Option ℕ) (kind : ErrorType) (pieces : List Piece) (p : Piece) → IsWhyOver says limit kind pieces → IsWhyOver says limit kind (pieces ++ p ∷ [])
@@ -89,9 +89,9 @@ declined_result says size parser stage reason pieces f is h =
     record { now = taken.0.now; moment = inl taken.0.moment; comes = WithHead taken.0.r (Uncacheable reason) taken.0.judged refl }
 
 no_response : (bytes : List ℕ) (r : Response) → IsUnreadable bytes → IsResponse bytes r → ⊥
-no_response bytes r bad is = unreadable_is_none (AtBody (left_behind r.size (length r.behind))) bytes (given r) (r, is, refl, refl) bad
+no_response bytes r bad is = unreadable_is_none (AtBody (left_behind r.size (length r.behind))) bytes (given_in_all r) (r, is, refl, refl) bad
 
-overrun_is : (limit : Option ℕ) (meta : Meta) (size : Option ℕ) (behind : List ℕ) → is_over limit (body_of size behind) ≡ true → Refuses ResponseTooLarge ≡ outcome limit (Cacheable meta) size behind
+overrun_is : (limit : Option ℕ) (meta : Meta) (size : Option ℕ) (behind : List ℕ) → is_over limit (declared_body size behind) ≡ true → Refuses ResponseTooLarge ≡ outcome limit (Cacheable meta) size behind
 overrun_is limit meta size behind over = rw over refl
 
 why_result : (says : Says) (limit : Option ℕ) (kind : ErrorType) (pieces : List Piece) → IsWhyOver says limit kind pieces → IsRefusal (IsResult says limit pieces) kind
@@ -112,18 +112,18 @@ within_limit : (size : Option Counted) (body : List ℕ) → Counts size body �
 within_limit None body counts = refl
 within_limit (Some c) body counts = counts.1
 
-ended_is : (limit : Option ℕ) (meta : Meta) (size : Option ℕ) (behind body : List ℕ) → body ≡ body_of size behind → is_over limit body ≡ false → may_end size behind ≡ true → Stores meta body ≡ outcome limit (Cacheable meta) size behind
+ended_is : (limit : Option ℕ) (meta : Meta) (size : Option ℕ) (behind body : List ℕ) → body ≡ declared_body size behind → is_over limit body ≡ false → may_end size behind ≡ true → Stores meta body ≡ outcome limit (Cacheable meta) size behind
 ended_is limit meta size behind body is over ends = rw is (rw (ap (is_over limit) (sym is) ∙ over, ends) refl)
 
-early_is : (limit : Option ℕ) (meta : Meta) (size : Option ℕ) (behind body : List ℕ) → body ≡ body_of size behind → is_over limit body ≡ false → may_end size behind ≡ false → Refuses IncompleteHttpBody ≡ outcome limit (Cacheable meta) size behind
+early_is : (limit : Option ℕ) (meta : Meta) (size : Option ℕ) (behind body : List ℕ) → body ≡ declared_body size behind → is_over limit body ≡ false → may_end size behind ≡ false → Refuses IncompleteHttpBody ≡ outcome limit (Cacheable meta) size behind
 early_is limit meta size behind body is over ends = rw (ap (is_over limit) (sym is) ∙ over, ends) refl
 
 not_yet : (b : Bool) → ¬ (b ≡ true) → b ≡ false
 not_yet true h = absurd (h refl)
 not_yet false h = refl
 
-in_parser : (says : Says) (limit : Option ℕ) (parser : Parsed) (meta : Meta) (pieces : List Piece) (body : List ℕ) → (h : BodyRead says limit parser meta pieces body) → TakenIn parser (joined pieces) (given h.r)
-in_parser says limit parser meta pieces body h = subst (λ (x : Parsed). TakenIn x (joined pieces) (given h.r)) (sym h.stands) (h.r, h.judged.response, refl, refl)
+in_parser : (says : Says) (limit : Option ℕ) (parser : Parsed) (meta : Meta) (pieces : List Piece) (body : List ℕ) → (h : BodyRead says limit parser meta pieces body) → TakenIn parser (joined pieces) (given_in_all h.r)
+in_parser says limit parser meta pieces body h = subst (λ (x : Parsed). TakenIn x (joined pieces) (given_in_all h.r)) (sym h.stands) (h.r, h.judged.response, refl, refl)
 
 pub early_result : (says : Says) (size : Option Counted) (parser : Parsed) (fresh_until : ℕ) (pieces : List Piece) (f : Option Filled) (e : ErrorType) → (e ≡ IncompleteHttpBody) ⊎ (parser ≡ HasFailed e)
     → (e ≡ IncompleteHttpBody → (bytes : List ℕ) (g : Given) → TakenIn parser bytes g → ¬ (IsComplete bytes)) → BodyTaken says size parser fresh_until pieces f → IsRefusal (IsResult says (limit_of size) pieces) e
@@ -131,7 +131,7 @@ early_result says size parser fresh_until pieces None e why early h = absurd h
 early_result says size parser fresh_until pieces (Some m) e (inr failed) early h = absurd (let at = h.0.stands in cc (failed, at))
 early_result says size parser fresh_until pieces (Some m) e (inl is) early h =
     let b = h.0 in
-    let ends : may_end b.r.size b.r.behind ≡ false = not_yet (may_end b.r.size b.r.behind) (λ t. early is (joined pieces) (given b.r) (in_parser says (limit_of size) parser m.meta pieces m.body b) (b.r, b.judged.response, t)) in
+    let ends : may_end b.r.size b.r.behind ≡ false = not_yet (may_end b.r.size b.r.behind) (λ t. early is (joined pieces) (given_in_all b.r) (in_parser says (limit_of size) parser m.meta pieces m.body b) (b.r, b.judged.response, t)) in
     subst (IsRefusal (IsResult says (limit_of size) pieces)) (sym is) (record {
       now = b.now;
       moment = inl b.moment;
@@ -143,7 +143,7 @@ pub stored_result : (says : Says) (size : Option Counted) (parser : Parsed) (fre
 stored_result says size parser fresh_until pieces None complete h = absurd h
 stored_result says size parser fresh_until pieces (Some m) complete h =
     let b = h.0 in
-    let whole = complete (joined pieces) (given b.r) (in_parser says (limit_of size) parser m.meta pieces m.body b) in
+    let whole = complete (joined pieces) (given_in_all b.r) (in_parser says (limit_of size) parser m.meta pieces m.body b) in
     let same : whole.0 ≡ b.r = one_response (joined pieces) whole.0 b.r whole.1 b.judged.response in
     let ends : may_end b.r.size b.r.behind ≡ true = subst (λ (r : Response). may_end r.size r.behind ≡ true) same whole.2 in
     record {

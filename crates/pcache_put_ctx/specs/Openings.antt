@@ -5,7 +5,7 @@ use Rattle.pcache_control.specs.declared.response.RespCacheable.TheVariants.{Cac
 use Rattle.pcache_meta.specs.Meta.{Meta}
 use Rattle.pcache_meta.specs.declared.header.ResponseHeader.{ResponseHeader}
 use Rattle.pcache_put.specs.Progress.{Parsed}
-use Rattle.pcache_put.specs.Tracked.{Tracked as Counted}
+use Rattle.pcache_put.specs.Counted.{Counted}
 use Rattle.pcache_store.specs.Store.{Store, begun}
 use Rattle.pcache_put_ctx.specs.Policies.{Judges}
 use Rattle.pcache_put_ctx.specs.Puts.{Piece, Says}
@@ -36,7 +36,7 @@ store_opened k opened.Unfinished s = s
 store_opened k (opened.Declined reason) s = s
 store_opened k (opened.Begun f meta body) s = begun s k meta
 
--- with this part, which is still to be written, so much of the body has come; it is the last where the body is whole then
+-- with this part, which is still to be written, so much of the body has come; it is the last if the body is whole then
 abbrev pub IsDue : Says → Option ℕ → Parsed → Meta → List Piece → List ℕ → Option BodyPart → Type 0
 IsDue says limit parser meta pieces body part =
     BodyRead says limit parser meta pieces (body ++ part_bytes part) × IfSome part (λ (b : BodyPart). b.is_last ≡ is_done parser)

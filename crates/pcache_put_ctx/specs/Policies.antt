@@ -20,7 +20,7 @@ SaysByDefault windows lifetimes header now answer =
     (cc : Option CacheControl) × ReadsField header.headers (codes "cache-control") cc × ReadsOneMap header.headers (codes "cache-control") cc
     × IsOutcome now cc windows header false (lifetimes (asked_status header.status)) answer
 
--- the length that the first value of a field declares, where there is one and it can be read
+-- the length that the first value of a field declares, if there is one and it can be read
 abbrev pub DeclaresBy : Option (List ℕ) → Option ℕ → Type 0
 DeclaresBy None length = length ≡ None
 DeclaresBy (Some value) length = SpellsLength value length

@@ -9,7 +9,7 @@ use Rattle.pcache_control.specs.declared.response.RespCacheable.TheVariants.{Cac
 use Rattle.pcache_meta.specs.Meta.{Meta}
 use Rattle.pcache_meta.specs.declared.header.ResponseHeader.{ResponseHeader}
 use Rattle.pcache_put.specs.HeadEnd.{EndsAt, IsUnfinished}
-use Rattle.pcache_put.specs.Response.{Response, IsResponse, IsUnreadable, body_of, may_end}
+use Rattle.pcache_put.specs.Response.{Response, IsResponse, IsUnreadable, declared_body, may_end}
 use Rattle.pcache_put_ctx.specs.Policies.{Judges}
 
 -- a piece, and the moment at which it came
@@ -17,7 +17,7 @@ pub record Piece : Type 0 where
   pub bytes : List ℕ
   pub now : ℕ
 
--- the bytes of the pieces, one piece behind another
+-- the bytes of the pieces, one piece after another
 abbrev pub joined : List Piece → List ℕ
 joined [] = []
 joined (p ∷ pieces) = p.bytes ++ joined pieces
@@ -59,12 +59,12 @@ pub data Outcome : Type 0 where
   Declines : (reason : NoCacheReason) → Outcome
   Refuses : (kind : ErrorType) → Outcome
 
--- what comes of a put by the verdict on its response, the size of the body, and the bytes behind the head
+-- what comes of a put by the verdict on its response, the size of the body, and the bytes after the head
 abbrev pub outcome : Option ℕ → RespCacheable → Option ℕ → List ℕ → Outcome
 outcome limit (Uncacheable reason) size behind = Declines reason
 outcome limit (Cacheable meta) size behind =
-    if is_over limit (body_of size behind) then Refuses ResponseTooLarge
-    else if may_end size behind then Stores meta (body_of size behind)
+    if is_over limit (declared_body size behind) then Refuses ResponseTooLarge
+    else if may_end size behind then Stores meta (declared_body size behind)
     else Refuses IncompleteHttpBody
 
 -- what comes of a put of these bytes, whose head ended at this moment: a head that never ends, one that can't be read, or
@@ -74,7 +74,7 @@ pub data ComesTo (says : Says) (limit : Option ℕ) (bytes : List ℕ) (now : �
   BadHead : IsUnreadable bytes → o ≡ Refuses InvalidHttpHeader → ComesTo says limit bytes now o
   WithHead : (r : Response) (verdict : RespCacheable) → IsJudged says limit bytes now r verdict → o ≡ outcome limit verdict r.size r.behind → ComesTo says limit bytes now o
 
--- what comes of a put of these pieces: its moment is that of the piece that ends the head, where that can be read
+-- what comes of a put of these pieces: its moment is that of the piece that ends the head, if that can be read
 pub record IsResult (says : Says) (limit : Option ℕ) (pieces : List Piece) (o : Outcome) : Type 0 where
   pub now : ℕ
   pub moment : HeadEndsAt pieces now ⊎ ((r : Response) → ¬ (IsResponse (joined pieces) r))

@@ -9,8 +9,8 @@ use Rattle.pcache_meta.specs.Meta.{Meta}
 use Rattle.pcache_put.specs.HeadEnd.{IsUnfinished}
 use Rattle.pcache_put.specs.Parts.{left_behind}
 use Rattle.pcache_put.specs.Progress.{Parsed, AtHead, AtBody}
-use Rattle.pcache_put.specs.Response.{Response, IsUnreadable, body_of}
-use Rattle.pcache_put.specs.Tracked.{Tracked as Counted}
+use Rattle.pcache_put.specs.Response.{Response, IsUnreadable, declared_body}
+use Rattle.pcache_put.specs.Counted.{Counted}
 use Rattle.pcache_put_ctx.specs.Puts.{Piece, joined, HeadEndsAt, Says, IsJudged, counted, is_over}
 
 -- the head has not ended; a write is in flight, of this number, which fills an entry, and the response is fresh until a
@@ -25,7 +25,7 @@ pub data Stage : Type 0 where
 pub record Put (C : Type 0) : Type 0 where
   pub policy : C
   pub key : Key
-  -- the bytes of the body that were counted, where their number is limited
+  -- the bytes of the body that were counted, if their number is limited
   pub size : Option Counted
   pub parser : Parsed
   pub stage : Stage
@@ -63,7 +63,7 @@ pub record BodyRead (says : Says) (limit : Option ℕ) (parser : Parsed) (meta :
   pub moment : HeadEndsAt pieces now
   pub judged : IsJudged says limit (joined pieces) now r (Cacheable meta)
   pub stands : parser ≡ AtBody (left_behind r.size (length r.behind))
-  pub came : body ≡ body_of r.size r.behind
+  pub came : body ≡ declared_body r.size r.behind
 
 -- and all of it was written
 abbrev pub BodyTaken : Says → Option Counted → Parsed → ℕ → List Piece → Option Filled → Type 0
@@ -85,7 +85,7 @@ pub record Overrun (says : Says) (limit : Option ℕ) (pieces : List Piece) : Ty
   pub meta : Meta
   pub moment : HeadEndsAt pieces now
   pub judged : IsJudged says limit (joined pieces) now r (Cacheable meta)
-  pub over : is_over limit (body_of r.size r.behind) ≡ true
+  pub over : is_over limit (declared_body r.size r.behind) ≡ true
 
 -- why every call is refused: the bytes say so, or some call was refused for another reason
 abbrev pub IsWhyOver : Says → Option ℕ → ErrorType → List Piece → Type 0

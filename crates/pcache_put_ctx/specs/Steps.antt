@@ -9,7 +9,7 @@ use Rattle.pcache_evict.specs.Tracked.{Tracked as Entries, Limits, Evicted}
 use Rattle.pcache_evict.specs.declared.eviction.entry_key.CacheEntryKey.{CacheEntryKey}
 use Rattle.pcache_meta.specs.Meta.{Meta}
 use Rattle.pcache_put.specs.Progress.{Parsed, AtHead, AtBody, AtEnd, HasFailed}
-use Rattle.pcache_put.specs.Tracked.{Tracked as Counted}
+use Rattle.pcache_put.specs.Counted.{Counted}
 use Rattle.pcache_request.specs.Reports.{entry_stored}
 use Rattle.pcache_request.specs.Requests.{dropped_by}
 use Rattle.pcache_request.specs.WriteEnds.{EndsBody, HoldsNoLock, evicted_by}
@@ -71,11 +71,11 @@ abbrev pub stage_begun : Stage → Option Meta → ℕ → Option ℕ → Stage
 stage_begun stage None next entry = stage
 stage_begun stage (Some m) next entry = InBody next entry m.fresh_until
 
--- the store behind a piece
+-- the store after a piece
 abbrev pub store_after : Key → Stage → Option Meta → Option Written → Option ℕ → Store → Store
 store_after k stage began b entry s = store_wrote (write_in (stage_begun stage began s.next entry)) b (store_begun (slot k) began s)
 
--- the put stands as a piece ended: it goes on where it stood, or with the write that began; nothing is stored, and there
+-- the put stands as a piece ended: it goes on if it stood, or with the write that began; nothing is stored, and there
 -- was no write; or every call is refused, and the write is handed out
 abbrev pub EndsPiece : {M : Type 0} → (M → ℕ) → PieceEnd M → Stage → Stage → Type 0
 EndsPiece write piece.GoesOn stage now = now ≡ stage
@@ -89,7 +89,12 @@ AnswersAgain (InBody w id fresh_until) end = Unit {0}
 AnswersAgain (HasDeclined reason) end = end ≡ piece.NotCached reason
 AnswersAgain (IsOver kind) end = end ≡ piece.Refused kind None
 
--- what the put's write was given, behind a piece
+-- a write begins only if the head ends
+abbrev pub BeginsAtHead : Stage → Option Meta → Type 0
+BeginsAtHead InHead began = Unit {0}
+BeginsAtHead stage began = began ≡ None
+
+-- what the put's write was given, after a piece
 abbrev pub filled_begun : Option Meta → Option Filled → Option Filled
 filled_begun None f = f
 filled_begun (Some m) f = Some (record { meta = m; body = [] })
@@ -110,7 +115,7 @@ is_done (AtBody (Some n)) = n == 0
 is_done AtEnd = false
 is_done (HasFailed e) = false
 
--- what holds of the kind of a refusal, where there was one
+-- what holds of the kind of a refusal, if there was one
 abbrev pub IfRefused : {M : Type 0} → PieceEnd M → (ErrorType → Type 0) → Type 0
 IfRefused piece.GoesOn P = Unit {0}
 IfRefused (piece.NotCached reason) P = Unit {0}
@@ -123,8 +128,8 @@ MayRefuseFill s w ResponseTooLarge = Unit {0}
 MayRefuseFill s w InternalError = is_told (get s.writes w) ≡ true
 MayRefuseFill s w _ = ⊥
 
--- why a piece may be refused: want of memory; a head that can't be read; a body that is too long; all numbers of writes
--- used; a write that was told its end, in a storage that is not the put's own; or as every call is
+-- why a piece may be refused: a lack of memory; a head that can't be read; a body that is too long; all numbers of
+-- writes used; a write that was told its end, in a storage that is not the put's own; or as every call is
 abbrev pub MayRefusePiece : Stage → Store → ErrorType → Type 0
 MayRefusePiece (IsOver kind) s e = e ≡ kind
 MayRefusePiece (HasDeclined reason) s e = ⊥
@@ -173,7 +178,7 @@ RepeatsAnswer (InBody w id fresh_until) answered = Unit {0}
 RepeatsAnswer (HasDeclined reason) answered = answered ≡ Ok (Some reason)
 RepeatsAnswer (IsOver kind) answered = answered ≡ Err kind
 
--- the store once the write was dropped, where the piece was refused
+-- the store once the write was dropped, if the piece was refused
 abbrev pub store_left : Result (Option NoCacheReason) ErrorType → Stage → Store → Store
 store_left (Ok answered) stage s = s
 store_left (Err e) stage s = dropped_by (write_in stage) s
@@ -196,7 +201,7 @@ IsStill s s' m m' = (s' ≡ s) × (m' ≡ m)
 abbrev pub EndsEarly : Parsed → ℕ → PutEnd → Store → Store → Entries → Entries → Type 0
 EndsEarly parser w how s s' m m' = (e : ErrorType) × ((e ≡ IncompleteHttpBody) ⊎ (parser ≡ HasFailed e)) × (how ≡ end.Dropped e) × (s' ≡ dropped s w) × (m' ≡ m)
 
--- a put ends as it stands: refused where its head has not ended; for its reason, or as every call is refused; else its
+-- a put ends as it stands: refused if its head has not ended; for its reason, or as every call is refused; else its
 -- write ends, too early or as any write does, with a manager in use
 abbrev pub EndsPut : Bool → Key → Parsed → (ℕ → MissFinishType) → Limits → Stage → PutEnd → Store → Store → Entries → Entries → Type 0
 EndsPut sure k parser kinds limits InHead how s s' m m' = (how ≡ end.Refused IncompleteHttpBody) × IsStill s s' m m'
@@ -227,7 +232,7 @@ evicted_ended k kinds (HasDeclined reason) m before how = before
 evicted_ended k kinds (IsOver kind) m before how = before
 evicted_ended k kinds (InBody w id fresh_until) m before how = evicted_by true id k (kinds w) m before (write_end how)
 
--- what is answered at the end is what comes of the pieces, but for want of memory, a removed write, used numbers and
+-- what is answered at the end is what comes of the pieces, but for a lack of memory, a removed write, used numbers and
 -- mistakes of the caller; a stored body is the one that the write was given
 abbrev pub IsRefusal : (Outcome → Type 0) → ErrorType → Type 0
 IsRefusal comes OutOfMemory = Unit {0}

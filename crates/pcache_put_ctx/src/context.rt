@@ -59,7 +59,7 @@ fn stand<M>(place: &mut Stage<M>, taken: Taken<M>) -> PieceReport<M>
     report
 }
 
-// Drops a write, where there is one.
+// Drops a write, if there is one.
 fn drop_writer<S: Storage>(storage: &mut S, writer: Option<S::Miss>)
     ensures { S.state storage.new ≡ dropped_by (option_map S.Miss.write writer) (S.state storage.old) }
 {
@@ -86,7 +86,7 @@ impl<C: CachePut, S: Storage> CachePutCtx<C, S> {
     ghost use Rattle.pcache_request.specs.Requests.{dropped_by};
     ghost use Rattle.pcache_put_ctx.specs.Puts.{Piece, IsResult};
     ghost use Rattle.pcache_put_ctx.specs.State.{InHead, Filled, HasTaken, limit_of, write_in};
-    ghost use Rattle.pcache_put_ctx.specs.Steps.{Done, store_after, store_left, stage_begun, filled_on, EndsPiece, TakesPiece, StandsAnswered, RepeatsAnswer, AnswersAgain, IfRefused, MayRefusePiece, is_done, EndsPut, EndsAs, stage_ended, entry_told, evicted_ended, TellsResult};
+    ghost use Rattle.pcache_put_ctx.specs.Steps.{Done, store_after, store_left, stage_begun, filled_on, BeginsAtHead, EndsPiece, TakesPiece, StandsAnswered, RepeatsAnswer, AnswersAgain, IfRefused, MayRefusePiece, is_done, EndsPut, EndsAs, stage_ended, entry_told, evicted_ended, TellsResult};
 
     /// A put of a key, with no limit on its body.
     pub fn new(alloc: Global, policy: C, key: CacheKey) -> CachePutCtx<C, S>
@@ -120,7 +120,7 @@ impl<C: CachePut, S: Storage> CachePutCtx<C, S> {
         &self.intake.key
     }
 
-    /// The handler of the write, where one is in flight.
+    /// The handler of the write, if one is in flight.
     pub fn writer(&self) -> Option<&S::Miss>
         ensures { option_map (λ w. S.Miss.write w.now) result ≡ write_in self.now.stage }
     {
@@ -132,7 +132,7 @@ impl<C: CachePut, S: Storage> CachePutCtx<C, S> {
 
     /// Takes in the next piece of the response, at a moment. Answers why nothing is stored, once that is so.
     ///
-    /// It is refused for want of memory, where all numbers of writes are used, where the head can't be read, and where the
+    /// It is refused when memory runs out, if all numbers of writes are used, if the head can't be read, and if the
     /// body is longer than it may be. The write is dropped then.
     pub fn cache_put(
         &mut self,
@@ -169,6 +169,7 @@ impl<C: CachePut, S: Storage> CachePutCtx<C, S> {
 
         // What the piece did: a write began, and bytes were written.
         ensures store { S.state storage.new ≡ store_after self.old.key self.old.stage result.began result.wrote (S.next_entry storage.old) (S.state storage.old) }
+        ensures began { BeginsAtHead self.old.stage result.began }
         ensures ends { EndsPiece S.Miss.write result.end (stage_begun self.old.stage result.began (S.state storage.old).next (S.next_entry storage.old)) self.new.stage }
 
         // What the put has taken in, with this piece; and the end is said of the bytes that complete a body.
@@ -194,7 +195,7 @@ impl<C: CachePut, S: Storage> CachePutCtx<C, S> {
         }
     }
 
-    /// Ends the put where all pieces have come: the body is stored and its entry admitted, and what is evicted for it is
+    /// Ends the put once all pieces have come: the body is stored and its entry admitted, and what is evicted for it is
     /// purged, in order. A put that ends too early, or whose write is refused, stores nothing, and its write is dropped;
     /// a body whose admission is refused is purged again.
     pub fn finish<E: EvictionManager>(

@@ -14,6 +14,7 @@ ghost use Rattle.pcache_put_ctx.specs.Stages.{stage_of};
 ghost use Rattle.pcache_put_ctx.specs.State.{InHead, InBody, Filled, HeadTaken, BodyRead, BodyTaken, Counts, limit_of, TakenBy};
 ghost use Rattle.pcache_put_ctx.specs.Steps.{counted_part, IsAllowed, IfRefused, MayRefuseFill, written, store_wrote, store_after, stage_begun, filled_on, filled_wrote, EndsPiece, EndsPut, TellsResult, entry_told, evicted_ended, MayRefusePiece, is_done};
 
+use crate::boxed::Boxed;
 use crate::brought::{BodyPart, Brought};
 use crate::policy::{CachePut, judge};
 use crate::report::{PutEnd, Written};
@@ -50,10 +51,10 @@ pub(crate) enum Opened<M> {
     // Nothing is stored, for this reason.
     Declined(NoCacheReason),
     // A write began, with this meta; and the piece has this of the body.
-    Begun(Filling<M>, CacheMeta, Option<BodyPart>),
+    Begun(Filling<M>, Boxed<CacheMeta>, Option<BodyPart>),
 }
 
-// Counts the bytes of a part, where they are limited, and tells whether they are still allowed.
+// Counts the bytes of a part, if they are limited, and tells whether they are still allowed.
 fn allows(size: &mut Option<MaxFileSizeTracker>, part: &BodyPart) -> bool
     ensures size { size.new ≡ counted_part size.old (Some part.now) }
     ensures allowed { IsTrue result ↔ IsAllowed size.new }
@@ -64,7 +65,7 @@ fn allows(size: &mut Option<MaxFileSizeTracker>, part: &BodyPart) -> bool
     }
 }
 
-// Writes a part of the body, where the limit allows it.
+// Writes a part of the body, if the limit allows it.
 fn write_part<S: Storage>(
     size: &mut Option<MaxFileSizeTracker>,
     storage: &mut S,
@@ -101,7 +102,7 @@ fn write_part<S: Storage>(
 }
 
 impl<C: CachePut> Intake<C> {
-    // How many bytes the body may have, where that is limited.
+    // How many bytes the body may have, if that is limited.
     fn limit(&self) -> Option<usize>
         ensures { result ≡ limit_of self.now.size }
     {
@@ -126,11 +127,11 @@ impl<C: CachePut> Intake<C> {
         ensures kind { IfErr result (λ e. (e ≡ OutOfMemory) ⊎ MayRefuseWrite (S.state storage.old) e) }
     {
         let meta = match judge(self.alloc, &self.policy, self.limit(), header, now)? {
-            RespCacheable::Cacheable(meta) => meta,
+            RespCacheable::Cacheable(meta) => Boxed::new(self.alloc, meta)?,
             RespCacheable::Uncacheable(reason) => return Ok(Opened::Declined(reason)),
         };
-        let writer = storage.get_miss_handler(self.alloc, &self.key, &meta)?;
-        let fresh_until = meta.fresh_until();
+        let writer = storage.get_miss_handler(self.alloc, &self.key, meta.get())?;
+        let fresh_until = meta.get().fresh_until();
         let filling = Filling {
             writer,
             fresh_until,
@@ -177,7 +178,7 @@ impl<C: CachePut> Intake<C> {
     fn fill<S: Storage>(
         &mut self,
         filling: Filling<S::Miss>,
-        began: Option<CacheMeta>,
+        began: Option<Boxed<CacheMeta>>,
         part: Option<BodyPart>,
         storage: &mut S,
     ) -> Taken<S::Miss>
@@ -242,6 +243,7 @@ impl<C: CachePut> Intake<C> {
         ensures same { self.new ≡ record self.old { size = self.new.size; parser = self.new.parser } }
         ensures limit { limit_of self.new.size ≡ limit_of self.old.size }
         ensures store { S.state storage.new ≡ store_after self.old.key (InBody (S.Miss.write filling.writer) (S.Miss.entry_number filling.writer) filling.fresh_until) result.report.began result.report.wrote (S.next_entry storage.old) (S.state storage.old) }
+        ensures began { result.report.began ≡ None }
         ensures ends { EndsPiece S.Miss.write result.report.end (stage_begun (InBody (S.Miss.write filling.writer) (S.Miss.entry_number filling.writer) filling.fresh_until) result.report.began (S.state storage.old).next (S.next_entry storage.old)) (stage_of S.Miss.write S.Miss.entry_number result.stage) }
         ensures last { (pieces : List Piece) (f : Option Filled) → TakenBy (C.says self.old.policy) self.old.size self.old.parser (InBody (S.Miss.write filling.writer) (S.Miss.entry_number filling.writer) filling.fresh_until) pieces f → IfSome result.report.wrote (λ w. w.eof ≡ is_done self.new.parser) }
         ensures taken { (pieces : List Piece) (f : Option Filled) → TakenBy (C.says self.old.policy) self.old.size self.old.parser (InBody (S.Miss.write filling.writer) (S.Miss.entry_number filling.writer) filling.fresh_until) pieces f
@@ -261,7 +263,7 @@ impl<C: CachePut> Intake<C> {
         }
     }
 
-    // Ends the write: too early, where the response ended before its body did, else as any write ends.
+    // Ends the write: too early, if the response ended before its body did, else as any write ends.
     pub(crate) fn end_body<S: Storage, E: EvictionManager>(
         &mut self,
         storage: &mut S,

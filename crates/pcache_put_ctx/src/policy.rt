@@ -24,7 +24,7 @@ pub trait CachePut: Drop {
     ghost says: { Self → ResponseHeader → ℕ → RespCacheable → Type 0 };
 
     /// Whether the response with this head is stored, and with what meta. `default_cacheable` is how most answer. It is
-    /// refused for want of memory alone.
+    /// refused only when memory runs out.
     fn cacheable(&self, alloc: Global, header: ResponseHeader, now: Moment) -> Result<RespCacheable>
         ensures says { IfOk result (says self.now header now) }
         ensures kind { IfErr result (λ e. e ≡ OutOfMemory) };
@@ -33,8 +33,8 @@ pub trait CachePut: Drop {
     fn trace_header(&self, _header: &ResponseHeader) {}
 }
 
-/// Whether a response with this head is stored, as its Cache-Control, its Expires and these defaults say, where its request
-/// had no Authorization. It is refused for want of memory alone.
+/// Whether a response with this head is stored, as its Cache-Control, its Expires and these defaults say, if its request
+/// had no Authorization. It is refused only when memory runs out.
 pub fn default_cacheable(
     alloc: Global,
     header: ResponseHeader,
@@ -51,12 +51,12 @@ pub fn default_cacheable(
 /// The policy that goes by the response and by defaults alone.
 #[derive(Drop)]
 pub struct ByDefaults {
-    /// What holds where a response says nothing of its lifetime.
+    /// What holds if a response says nothing of its lifetime.
     pub defaults: CacheMetaDefaults,
 }
 
 impl ByDefaults {
-    /// What holds where a response says nothing of its lifetime.
+    /// What holds if a response says nothing of its lifetime.
     pub fn cache_defaults(&self) -> &CacheMetaDefaults
         ensures { result.now ≡ self.now.defaults }
     {

@@ -1,4 +1,5 @@
 //! What the calls of a put give, and what they tell of what they did.
+use crate::boxed::Boxed;
 use bytes::Bytes;
 use pcache_base::error::Error;
 use pcache_base::reason::NoCacheReason;
@@ -24,7 +25,7 @@ pub struct Written {
     pub eof: bool,
 }
 
-/// Where a put stands behind a piece. A write that is handed out has to be dropped.
+/// Where a put stands after a piece. A write that is handed out has to be dropped.
 pub enum PieceEnd<M> {
     /// It goes on.
     GoesOn,
@@ -37,7 +38,7 @@ pub enum PieceEnd<M> {
 /// What a piece did.
 pub struct PieceReport<M> {
     /// The meta of the write that it began.
-    pub began: Option<CacheMeta>,
+    pub began: Option<Boxed<CacheMeta>>,
     /// What it wrote.
     pub wrote: Option<Written>,
     /// Where the put stands.
@@ -64,6 +65,6 @@ pub enum PutEnd {
 pub struct PutReport {
     /// How it went.
     pub end: PutEnd,
-    /// The entry of the body, where one was stored for good.
+    /// The entry of the body, if one was stored for good.
     pub entry: Option<CacheEntryKey>,
 }

@@ -3,6 +3,7 @@ ghost use Rattle.std.specs.Prelude.{◌≡◌, None, Some};
 ghost use Rattle.pcache_base.specs.declared.error.ErrorType.TheVariants.{InternalError};
 ghost use Rattle.pcache_put_ctx.specs.Endings.{stage_left};
 
+use crate::boxed::Boxed;
 use crate::report::{PieceEnd, PieceReport, PutEnd, Written};
 use pcache_base::error::{Error, ErrorType};
 use pcache_base::moment::Moment;
@@ -50,7 +51,7 @@ pub(crate) fn put_stage<M>(place: &mut Stage<M>, stage: Stage<M>)
     };
 }
 
-// Where a put stands behind a piece, and what is told of the piece.
+// Where a put stands after a piece, and what is told of the piece.
 pub(crate) struct Taken<M> {
     pub(crate) stage: Stage<M>,
     pub(crate) report: PieceReport<M>,
@@ -59,7 +60,7 @@ pub(crate) struct Taken<M> {
 // The put goes on.
 pub(crate) fn goes_on<M>(
     stage: Stage<M>,
-    began: Option<CacheMeta>,
+    began: Option<Boxed<CacheMeta>>,
     wrote: Option<Written>,
 ) -> Taken<M>
     ensures { result ≡ record { stage = stage; report = record { began = began; wrote = wrote; end = PieceEnd.GoesOn } } }
@@ -89,7 +90,11 @@ pub(crate) fn declines<M>(reason: NoCacheReason) -> Taken<M>
 }
 
 // Every later call is refused as this one is.
-pub(crate) fn refuses<M>(refused: Error, began: Option<CacheMeta>, writer: Option<M>) -> Taken<M>
+pub(crate) fn refuses<M>(
+    refused: Error,
+    began: Option<Boxed<CacheMeta>>,
+    writer: Option<M>,
+) -> Taken<M>
     ensures { result ≡ record { stage = Stage.Over refused; report = record { began = began; wrote = None; end = PieceEnd.Refused refused writer } } }
 {
     Taken {

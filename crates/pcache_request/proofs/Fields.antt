@@ -10,7 +10,7 @@ use Rattle.pcache_meta.specs.Header.{Fields, shown_entry, shown_fields}
 use Rattle.pcache_meta.proofs.HeaderMaps.{shown-append}
 use Rattle.pcache_request.specs.Renewals.{added_all, field_renewed, in_place, shown_values}
 
--- one more value behind those that were put in place
+-- one more value after those that were put in place
 pub append_placed : (m : Fields) (name : List ℕ) (vs : List (List ℕ)) (v : List ℕ) → append (update m name (λ _. vs)) name v ≡ update m name (λ _. vs ++ v ∷ [])
 append_placed [] name vs v = rw ((bytes_eq-Decides name name).1 refl) refl
 append_placed (e ∷ m) name vs v =
@@ -54,7 +54,7 @@ shown_append m name v = shown-append m name v
 pub renewed_none : (answer h : Entries FieldValue) (name : List ℕ) → get_all answer name ≡ [] → shown_fields h ≡ field_renewed (shown_fields answer) (shown_fields h) name
 renewed_none answer h name none = ap (λ (vs : List (List ℕ)). in_place vs (shown_fields h) name) (sym (shown_get_all answer name ∙ ap (λ (vs : List FieldValue). shown_values vs) none))
 
--- the first of its values was put in place, and the rest behind it
+-- the first of its values was put in place, and the rest after it
 pub renewed_some : (answer h put : Entries FieldValue) (name : List ℕ) (v : FieldValue) (rest : List FieldValue) (after : Fields)
     → get_all answer name ≡ v ∷ rest → put ≡ insert h name v → after ≡ added_all (shown_fields put) name (shown_values rest)
     → after ≡ field_renewed (shown_fields answer) (shown_fields h) name

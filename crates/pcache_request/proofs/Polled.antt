@@ -2,7 +2,7 @@
 use Rattle.std.proofs.Common.{◌≡◌, ℕ, List, Option, Some, None, refl}
 use Rattle.pcache_base.specs.declared.fills.UnusableFill.{UnusableFill}
 use Rattle.pcache_lock.specs.Permits.{Core, Reader, Watch}
-use Rattle.pcache_lock.specs.Waiting.{looked, reader_at, reader_polled, stage_of, watch_at}
+use Rattle.pcache_lock.specs.Waiting.{watched, reader_at, reader_polled, stage_of, watch_at}
 use Rattle.pcache_lock.specs.declared.lock.outcome.Stage.{Stage}
 use Rattle.pcache_lock.specs.declared.lock.outcome.Stage.TheVariants.{Over, Old, Held}
 
@@ -13,4 +13,4 @@ number-at Held r w = refl
 
 pub number_polled : (now : ℕ) (fills : Option (List UnusableFill)) (r : Reader) (c : Option Core) → (reader_polled now fills r c).number ≡ r.number
 number_polled now fills r None = refl
-number_polled now fills r (Some c) = number-at (stage_of now c) r (looked c (watch_at c fills r.watch))
+number_polled now fills r (Some c) = number-at (stage_of now c) r (watched c (watch_at c fills r.watch))

@@ -17,7 +17,7 @@ use Rattle.pcache_request.specs.Variants.{looked_for, searched, table_looked_for
 abbrev pub with_policy : Request → Request
 with_policy r = record r { has_policy = true }
 
--- it is to be asked, where nothing is found: once a request, and before anything was found
+-- it is to be asked, if nothing is found: once a request, and before anything was found
 abbrev pub observes : Request → Bool
 observes r = r.has_policy && (is_key_phase r.phase && is_none r.digest.admission)
 
@@ -28,11 +28,11 @@ asks_policy s r = is_none (found_for s r.key) && observes r
 abbrev pub decided : Decision → Request → Request
 decided d r = let old : Digest = r.digest in record r { digest = record old { admission = Some d } }
 
--- the decision where the policy was asked
+-- the decision if the policy was asked
 abbrev pub kept_if : Bool → Option Decision → Option Decision
 kept_if asked d = cond asked d None
 
--- the decision that a look-up took, where it took one
+-- the decision that a look-up took, if it took one
 abbrev pub decision_taken : Store → Request → Request → Option Decision
 decision_taken s before after = kept_if (asks_policy s before) after.digest.admission
 
@@ -50,7 +50,7 @@ Decides may (Some k) (Some d) = may k d
 Decides may (Some k) None = ⊥
 Decides may None d = ⊥
 
--- a look-up with that decision: where it defers, caching is turned off and no lock is asked for
+-- a look-up with that decision: if it defers, caching is turned off and no lock is asked for
 abbrev pub looked_with : Option Decision → Store → Locks → Request → Request
 looked_with d s t r = cond (is_deferral d) (switched_off Deferred (with_decision d r)) (looked_for s t (with_decision d r))
 

@@ -5,13 +5,13 @@ use Rattle.pcache_predict.specs.declared.admission.Decision.{Decision}
 use Rattle.pcache_request.specs.declared.digest.LockAbandon.{LockAbandon}
 
 pub record Digest : Type 0 where
-  -- how many nanoseconds its look-ups took, where that was recorded
+  -- how many nanoseconds its look-ups took, if that was recorded
   pub look_ups : Option ℕ
-  -- how many nanoseconds it waited for locks, where a wait ended
+  -- how many nanoseconds it waited for locks, if a wait ended
   pub waits : Option ℕ
-  -- the fill that its last wait was told of, where it was told
+  -- the fill that its last wait was told of, if it was told
   pub abandoned : Option LockAbandon
-  -- what its admission policy decided, where it was asked
+  -- what its admission policy decided, if it was asked
   pub admission : Option Decision
 
 abbrev pub empty_digest : Digest

@@ -32,11 +32,11 @@ with_entry (Appended n most) e m = insert m e (raised n most (get m e))
 abbrev pub after_finish : Request → Request
 after_finish r = cond (is_some r.write) (record r { write = None; entry = None; held = None }) r
 
--- the slot that an evicted entry names: none where it has a number, since no entry of a store has one
+-- the slot that an evicted entry names: none if it has a number, since no entry of a store has one
 abbrev pub entry_slot : CacheEntryKey → Option ℕ
 entry_slot e = unless_numbered (compact_slot (key_of e)) (id_of e)
 
--- t is s once each entry was purged in order, or left where that was refused, which happened n times
+-- t is s once each entry was purged in order, or left if that was refused, which happened n times
 abbrev pub PurgesAll : Store → List CacheEntryKey → ℕ → Store → Type 0
 PurgesAll s [] n t = (n ≡ 0) × (t ≡ s)
 PurgesAll s (e ∷ es) n t = PurgesAll (purged_at s (entry_slot e)) es n t ⊎ ((m : ℕ) × (n ≡ m + 1) × PurgesAll s es m t)
@@ -46,7 +46,7 @@ abbrev pub Admits : Bool → Limits → MissFinishType → CacheEntryKey → Tra
 Admits true limits kind e m out m' = IsFair limits (with_entry kind e m) out × (m' ≡ without out (with_entry kind e m))
 Admits false limits kind e m out m' = (out ≡ []) × (m' ≡ m)
 
--- the write w of the key k, whose entry has the number id, is stored and admitted where a manager is used, and what is
+-- the write w of the key k, whose entry has the number id, is stored and admitted if a manager is used, and what is
 -- evicted is purged; `Lets` says what becomes of a lock that is held, by the status that a permit is released with
 pub record Stores (always_purges used : Bool) (id : Option ℕ) (Lets : LockStatus → Type 0) (k : Key) (w : ℕ) (kind : MissFinishType) (limits : Limits) (size failed : ℕ) (out : List CacheEntryKey) (s s' : Store) (m m' : Tracked) : Type 0 where
   pub untouched : stands s w ≡ true

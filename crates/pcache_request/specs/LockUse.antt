@@ -70,7 +70,7 @@ table_handed p r t = cond r.uses.lock (let_go_by r.held t) (let_go t (Write p))
 abbrev pub gone_for : Permit → Request → Option Locked
 gone_for p r = cond r.uses.lock r.held (Some (Write p))
 
--- tokens are published where a permit is held
+-- tokens are published if a permit is held
 abbrev pub published_by : List ℕ → Option Locked → Locks → Locks
 published_by tokens None t = t
 published_by tokens (Some (Write p)) t = published t p.number tokens

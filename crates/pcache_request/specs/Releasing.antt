@@ -58,7 +58,7 @@ IsDisableReason _ = Unit {0}
 abbrev pub MayDisable : NoCacheReason → Request → Type 0
 MayDisable why r = IsDisableReason why × MayRelease why r.held
 
--- a request for which caching is turned off: the key stays, and the use of the predictor; where caching was never turned on,
+-- a request for which caching is turned off: the key stays, and the use of the predictor; if caching was never turned on,
 -- all is as before
 abbrev pub without_parts : InUse → InUse
 without_parts uses = record { eviction = false; predictor = uses.predictor; lock = false }

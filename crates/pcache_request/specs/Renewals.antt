@@ -6,7 +6,7 @@ use Rattle.http_header.specs.HeaderMap.{append, get_all, update}
 use Rattle.pcache_base.specs.Key.{Key, slot}
 use Rattle.pcache_meta.specs.Header.{Fields, Header}
 use Rattle.pcache_meta.specs.Meta.{Meta, provenance_of}
-use Rattle.pcache_store.specs.Store.{Store, body_of, meta_changed}
+use Rattle.pcache_store.specs.Store.{Store, complete_body, meta_changed}
 use Rattle.pcache_request.specs.declared.phase.CachePhase.TheVariants as phase
 use Rattle.pcache_request.specs.Requests.{Request}
 
@@ -21,7 +21,7 @@ renewed m r = record r { phase = phase.Revalidated; meta = Some (renewed_by m r.
 -- a complete body stands under the key
 abbrev pub has_body : Store → Option Key → Bool
 has_body s None = false
-has_body s (Some k) = is_some (body_of (get s.slots (slot k)))
+has_body s (Some k) = is_some (complete_body (get s.slots (slot k)))
 
 -- the store with this meta for the key's complete body
 abbrev pub with_meta_of : Meta → Option Key → Store → Store
@@ -32,7 +32,7 @@ with_meta_of m (Some k) s = meta_changed (λ _. m) s (slot k)
 abbrev pub renewed_names : List (List ℕ)
 renewed_names = codes "cache-control" ∷ codes "expires" ∷ codes "cache-tag" ∷ codes "cdn-cache-control" ∷ codes "etag" ∷ []
 
--- the values that an answer has under a name, in place of those that were there; where it has none, those stay
+-- the values that an answer has under a name, in place of those that were there; if it has none, those stay
 abbrev pub in_place : List (List ℕ) → Fields → List ℕ → Fields
 in_place [] fields name = fields
 in_place (v ∷ vs) fields name = update fields name (λ _. v ∷ vs)
@@ -44,7 +44,7 @@ field_renewed answer fields name = in_place (get_all answer name) fields name
 abbrev pub shown_values : List FieldValue → List (List ℕ)
 shown_values values = map (λ (v : FieldValue). v.bytes) values
 
--- further values behind those under a name, one by one
+-- further values after those under a name, one by one
 abbrev pub added_all : Fields → List ℕ → List (List ℕ) → Fields
 added_all fields name [] = fields
 added_all fields name (v ∷ vs) = added_all (append fields name v) name vs

@@ -5,7 +5,7 @@ use Rattle.pcache_base.specs.Key.{Key, slot}
 use Rattle.pcache_base.specs.declared.key.CompactCacheKey.{CompactCacheKey}
 use Rattle.pcache_evict.specs.Entry.{entry_with}
 use Rattle.pcache_evict.specs.declared.eviction.entry_key.CacheEntryKey.{CacheEntryKey}
-use Rattle.pcache_lock.specs.Locks.{Locks, given, holder, is_permit, number_of_lock}
+use Rattle.pcache_lock.specs.Locks.{Locks, lock_given, holder, is_permit, number_of_lock}
 use Rattle.pcache_lock.specs.declared.lock.permit.Locked.{Locked}
 use Rattle.pcache_lock.specs.declared.lock.status.LockStatus.{LockStatus}
 use Rattle.pcache_store.specs.Store.{Store, Reader, reader_weight}
@@ -26,7 +26,7 @@ name_of l = record { number = number_of_lock l; is_permit = is_permit l }
 
 -- the lock of a key that is asked for while this one is held
 abbrev pub asked_with : Bool → Locks → Key → Option Locked → AskedLock
-asked_with stale t k h = record { given = name_of (given t stale (holder t (slot k))); replaced = option_map name_of h }
+asked_with stale t k h = record { given = name_of (lock_given t stale (holder t (slot k))); replaced = option_map name_of h }
 
 -- the lock that a look-up asks for, and that which a found pair asks for
 abbrev pub asked_in_look_up : Store → Locks → Request → Option AskedLock

@@ -11,11 +11,11 @@ use Rattle.pcache_base.specs.declared.reason.NoCacheReason.TheVariants as reason
 use Rattle.pcache_evict.specs.declared.eviction.entry_key.CacheEntryKey.{CacheEntryKey}
 use Rattle.pcache_evict.specs.Entry.{entry_with}
 use Rattle.pcache_evict.specs.Tracked.{Tracked, added}
-use Rattle.pcache_lock.specs.Locks.{Locks, given, holder, after_request, let_go, released}
+use Rattle.pcache_lock.specs.Locks.{Locks, lock_given, holder, after_request, let_go, released}
 use Rattle.pcache_lock.specs.declared.lock.permit.Locked.{Locked}
 use Rattle.pcache_lock.specs.declared.lock.permit.Locked.TheVariants.{Write, Read}
 use Rattle.pcache_lock.specs.declared.lock.status.LockStatus.{LockStatus}
-use Rattle.pcache_put.specs.Tracked.{Tracked as Counted}
+use Rattle.pcache_put.specs.Counted.{Counted}
 use Rattle.pcache_store.specs.Store.{Store, Reader, find, find_write, followed, left, begun, dropped, counts_access, reader_weight}
 use Rattle.pcache_store.specs.declared.storage.PurgeOutcome.{PurgeOutcome}
 use Rattle.pcache_store.specs.declared.storage.PurgeOutcome.TheVariants.{NotFound, Purged, Expired}
@@ -36,9 +36,9 @@ pub record Request : Type 0 where
   pub held : Option Locked
   pub reader : Option Reader
   pub write : Option ℕ
-  -- the number of the entry that the write fills, where entries have numbers
+  -- the number of the entry that the write fills, if entries have numbers
   pub entry : Option ℕ
-  -- for how many nanoseconds it waits in all, and how often it is to look again, where that is limited
+  -- for how many nanoseconds it waits in all, and how often it is to look again, if that is limited
   pub wait_timeout : Option ℕ
   pub max_retries : Option ℕ
   -- the moment of the first poll of the read lock that it polled last
@@ -47,7 +47,7 @@ pub record Request : Type 0 where
   pub valid_after : Option ℕ
   -- the variance of the stale meta that its meta stands in place of
   pub stale_variance : Option (List ℕ)
-  -- the body's bytes that were counted, where their number is limited
+  -- the body's bytes that were counted, if their number is limited
   pub size : Option Counted
   -- why its response was predicted not to be cacheable, when it passed the cache by
   pub predicted : Option NoCacheReason
@@ -71,7 +71,7 @@ fresh_request uses = record { phase = phase.Uninit; uses = uses; key = None; met
 abbrev pub enabled_with : InUse → Request → Request
 enabled_with uses r = let fresh : Request = fresh_request uses in record fresh { digest = r.digest }
 
--- a phase behind the key's has a key
+-- a phase after the key's has a key
 abbrev pub HasKey : {K : Type 0} → CachePhase → Option K → Type 0
 HasKey (phase.Disabled r) k = Unit {0}
 HasKey phase.Uninit k = Unit {0}
@@ -86,12 +86,12 @@ IsClear _ h d w = Unit {0}
 abbrev pub HoldsNothing : Request → Type 0
 HoldsNothing r = (r.held ≡ None) × (r.reader ≡ None) × (r.write ≡ None) × (r.entry ≡ None)
 
--- a write is held only where a write may be made, beside the meta that it began with
+-- a write is held only if a write may be made, beside the meta that it began with
 abbrev pub IsWriting : {M W : Type 0} → CachePhase → Option M → Option W → Type 0
 IsWriting p m None = Unit {0}
 IsWriting p m (Some w) = IsFilling p × IsSome m
 
--- a reader is let go, a write dropped, a lock let go, where there is one
+-- a reader is let go, a write dropped, a lock let go, if there is one
 abbrev pub left_by : Option Reader → Store → Store
 left_by None s = s
 left_by (Some r) s = left s r
@@ -122,23 +122,23 @@ found_for s (Some k) = find s (slot k)
 -- a lock that is asked for is held; the older one is let go once the new one was given
 abbrev pub with_lock : Bool → Locks → Option Key → Request → Request
 with_lock stale t None r = r
-with_lock stale t (Some k) r = record r { held = Some (given t stale (holder t (slot k))) }
+with_lock stale t (Some k) r = record r { held = Some (lock_given t stale (holder t (slot k))) }
 
 abbrev pub table_asked : Bool → ℕ → Option Key → Option Locked → Locks → Locks
 table_asked stale now None h t = t
 table_asked stale now (Some k) h t = let_go_by h (after_request t (slot k) stale now (holder t (slot k)))
 
--- a look-up asks for the lock where nothing was found and one is in use
+-- a look-up asks for the lock if nothing was found and one is in use
 abbrev pub asks_for_miss : Store → Request → Bool
 asks_for_miss s r = r.uses.lock && not (is_some (found_for s r.key))
 
-abbrev pub looked : Store → Locks → Request → Request
-looked s t r = cond (asks_for_miss s r) (with_lock false t r.key r) r
+abbrev pub looked_up : Store → Locks → Request → Request
+looked_up s t r = cond (asks_for_miss s r) (with_lock false t r.key r) r
 
 abbrev pub table_looked : Store → ℕ → Request → Locks → Locks
 table_looked s now r t = cond (asks_for_miss s r) (table_asked false now r.key r.held t) t
 
--- the entry of a key, and of the body or write of that number where it has one
+-- the entry of a key, and of the body or write of that number if it has one
 abbrev pub entry_of : Key → Option ℕ → CacheEntryKey
 entry_of k id = entry_with (compact_of k) id
 
@@ -152,11 +152,11 @@ phase_found status.ForceExpiredServeStale p = phase.Stale
 phase_found status.ForceMiss p = p
 phase_found status.FailedHitFilter p = p
 
--- a found pair asks for the lock where it is not served as it is and one is in use
+-- a found pair asks for the lock if it is not served as it is and one is in use
 abbrev pub asks_for_hit : HitStatus → Request → Bool
 asks_for_hit s r = r.uses.lock && not (is_fresh s)
 
--- it asks as one who replaces a stale body where the request is stale then
+-- it asks as one who replaces a stale body if the request is stale then
 abbrev pub asks_as_stale : HitStatus → CachePhase → Bool
 asks_as_stale s p = is_stale_phase (phase_found s p)
 

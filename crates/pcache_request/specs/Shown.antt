@@ -40,7 +40,7 @@ shown_key_in _ k = k
 abbrev pub shown_key : Request → Option Key
 shown_key r = shown_key_in r.phase r.key
 
--- the meta that is shown: where a body was found or is to be stored
+-- the meta that is shown: if a body was found or is to be stored
 abbrev pub shown_meta_in : CachePhase → Option Meta → Option Meta
 shown_meta_in phase.Hit m = m
 shown_meta_in phase.Miss m = m

@@ -49,7 +49,7 @@ hides_for s r = hides_pair r.valid_after (found_for s r.key)
 abbrev pub searched : Store → Request → Store
 searched s r = without_hidden r.valid_after (found_for s r.key) (followed s (found_for s r.key))
 
--- the key's lock is asked for, where one is in use
+-- the key's lock is asked for, if one is in use
 abbrev pub with_key_lock : Locks → Request → Request
 with_key_lock t r = cond r.uses.lock (with_lock false t r.key r) r
 
@@ -59,7 +59,7 @@ table_key_locked now r t = cond r.uses.lock (table_asked false now r.key r.held 
 abbrev pub asked_for_key : Locks → Request → Option AskedLock
 asked_for_key t r = cond r.uses.lock (option_map (λ k. asked_with false t k r.held) r.key) None
 
--- a look-up asks for it where it hands nothing on
+-- a look-up asks for it if it hands nothing on
 abbrev pub asks_unseen : Store → Request → Bool
 asks_unseen s r = is_unseen_for s r && r.uses.lock
 

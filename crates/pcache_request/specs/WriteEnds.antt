@@ -58,7 +58,7 @@ EndsAs (Ok None) P = P end.Nothing
 EndsAs (Ok (Some f)) P = P (end.Stored f)
 EndsAs (Err e) P = P (end.Dropped e) ⊎ P (end.Withdrawn e)
 
--- the manager's totals once a write ended so: where a manager is in use, they grow by what was evicted for a stored body
+-- the manager's totals once a write ended so: if a manager is in use, they grow by what was evicted for a stored body
 abbrev pub evicted_by : Bool → Option ℕ → Key → MissFinishType → Tracked → Evicted → WriteEnd → Evicted
 evicted_by used id k kind m before end.Nothing = before
 evicted_by used id k kind m before (end.Stored f) = cond used (evicted_with before (with_entry kind (entry_of k id) m) f.evicted.items) before

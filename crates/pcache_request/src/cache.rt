@@ -7,7 +7,7 @@ ghost use Rattle.std.specs.Prelude.{◌≡◌, IfOk, IfErr, OnOk, OnErr, Option,
 ghost use Rattle.pcache_base.specs.Key.{slot};
 ghost use Rattle.pcache_base.specs.declared.error.ErrorType.TheVariants.{OutOfMemory};
 ghost use Rattle.std.specs.Option.{option_copied};
-ghost use Rattle.pcache_lock.specs.Locks.{MayRefuseLock, given, holder};
+ghost use Rattle.pcache_lock.specs.Locks.{MayRefuseLock, lock_given, holder};
 ghost use Rattle.pcache_lock.specs.Statuses.{IsReason};
 ghost use Rattle.pcache_store.specs.Store.{find_write, followed, counts_access, reader_weight};
 ghost use Rattle.pcache_store.specs.Tag.{named_by};
@@ -116,7 +116,7 @@ fn put<T>(place: &mut Option<T>, value: T)
     let None = before else { unreachable!() };
 }
 
-// The name of a lock, where one is held.
+// The name of a lock, if one is held.
 fn name_of(held: &Option<Locked>) -> Option<LockName>
     ensures { result ≡ option_map name_of held.now }
 {
@@ -137,7 +137,7 @@ fn take_lock<L: CacheKeyLock>(
 ) -> Result<AskedLock>
     ensures asked { IfOk result (λ a. a ≡ asked_with stale_writer (L.table lock.old) key.now held.old) }
     ensures table { OnOk result (L.table lock.new ≡ table_asked stale_writer now (Some key.now) held.old (L.table lock.old)) }
-    ensures held { OnOk result (held.new ≡ Some (given (L.table lock.old) stale_writer (holder (L.table lock.old) (slot key.now)))) }
+    ensures held { OnOk result (held.new ≡ Some (lock_given (L.table lock.old) stale_writer (holder (L.table lock.old) (slot key.now)))) }
     ensures same_table { OnErr result (L.table lock.new ≡ L.table lock.old) }
     ensures same_held { OnErr result (held.new ≡ held.old) }
     ensures kind { IfErr result (λ e. MayRefuseLock (L.table lock.old) e) }
@@ -151,7 +151,7 @@ fn take_lock<L: CacheKeyLock>(
     Ok(AskedLock { given, replaced })
 }
 
-// Asks for a key's lock, where that is to be done.
+// Asks for a key's lock, if that is to be done.
 fn take_lock_if<L: CacheKeyLock>(
     alloc: Global,
     asks: bool,
@@ -162,7 +162,7 @@ fn take_lock_if<L: CacheKeyLock>(
     now: Moment,
 ) -> Result<Option<AskedLock>>
     ensures asked { IfOk result (λ a. a ≡ cond asks (Some (asked_with stale_writer (L.table lock.old) key.now held.old)) None) }
-    ensures held { OnOk result (held.new ≡ cond asks (Some (given (L.table lock.old) stale_writer (holder (L.table lock.old) (slot key.now)))) held.old) }
+    ensures held { OnOk result (held.new ≡ cond asks (Some (lock_given (L.table lock.old) stale_writer (holder (L.table lock.old) (slot key.now)))) held.old) }
     ensures table { OnOk result (L.table lock.new ≡ cond asks (table_asked stale_writer now (Some key.now) held.old (L.table lock.old)) (L.table lock.old)) }
     ensures same_table { OnErr result (L.table lock.new ≡ L.table lock.old) }
     ensures same_held { OnErr result (held.new ≡ held.old) }
@@ -205,7 +205,7 @@ fn settle<L: CacheKeyLock>(
     released
 }
 
-// The reader that follows a write, where the store has one by this tag.
+// The reader that follows a write, if the store has one by this tag.
 fn join_write<S: Storage>(
     alloc: Global,
     storage: &mut S,
@@ -223,7 +223,7 @@ fn join_write<S: Storage>(
     }
 }
 
-// The entry of a key, and of the body or write of this number where it has one.
+// The entry of a key, and of the body or write of this number if it has one.
 fn entry_for(key: &CacheKey, id: Option<CacheEntryId>) -> Result<CacheEntryKey>
     ensures ok { IfOk result (λ entry. entry ≡ entry_of key.now id) }
     ensures kind { IfErr result (λ e. e ≡ OutOfMemory) }
@@ -289,7 +289,7 @@ impl<S: Storage> HttpCache<S> {
     ghost use Rattle.std.specs.Option.{option_copied, option_and_then};
     ghost use Rattle.pcache_store.specs.Refusals.{MayRefuseWrite};
     ghost use Rattle.pcache_request.specs.Phases.{IsDisabled, MayTakeKey, MayLookUp, MayMiss, IsFilling, IsReading, MayFinishHit, is_filling};
-    ghost use Rattle.pcache_request.specs.Requests.{HasKey, HoldsNothing, Request, new_request, enabled_with, with_key, found_for, looked, asks_for_miss, table_looked, found_row, asks_for_hit, store_found, table_found, tracked_found, missed, without_reader, MayTakeMeta, with_meta, MayWrite, writing, store_writing, begun_for, settled, left_by, dropped_by, let_go_by};
+    ghost use Rattle.pcache_request.specs.Requests.{HasKey, HoldsNothing, Request, new_request, enabled_with, with_key, found_for, looked_up, asks_for_miss, table_looked, found_row, asks_for_hit, store_found, table_found, tracked_found, missed, without_reader, MayTakeMeta, with_meta, MayWrite, writing, store_writing, begun_for, settled, left_by, dropped_by, let_go_by};
     ghost use Rattle.pcache_request.specs.Reports.{name_of, asked_in_look_up, asked_by_found, access_by_found};
     ghost use Rattle.pcache_request.specs.contracts.cache.HttpCache.{the_row};
 
@@ -356,7 +356,7 @@ impl<S: Storage> HttpCache<S> {
         self.uses
     }
 
-    /// The key, where one is set: in each phase behind the key's there is one.
+    /// The key, if one is set: in each phase after the key's there is one.
     pub fn key(&self) -> Option<&CacheKey>
         ensures value { option_copied result ≡ self.now.key }
         ensures known { HasKey self.now.phase self.now.key }
@@ -364,21 +364,21 @@ impl<S: Storage> HttpCache<S> {
         self.key.as_ref()
     }
 
-    /// The meta, where there is one.
+    /// The meta, if there is one.
     pub fn meta(&self) -> Option<&CacheMeta>
         ensures { option_copied result ≡ self.now.meta }
     {
         self.meta.as_ref()
     }
 
-    /// The lock that is held, where there is one.
+    /// The lock that is held, if there is one.
     pub fn held(&self) -> Option<&Locked>
         ensures { option_copied result ≡ self.now.held }
     {
         self.held.as_ref()
     }
 
-    /// The handler of the write, where there is one, to be asked.
+    /// The handler of the write, if there is one, to be asked.
     pub fn writer(&self) -> Option<&S::Miss>
         ensures { option_map (λ w. S.Miss.write w.now) result ≡ self.now.write }
     {
@@ -394,7 +394,7 @@ impl<S: Storage> HttpCache<S> {
         self.phase = CachePhase::CacheKey;
     }
 
-    /// Looks for the key in the store, and asks for its lock where nothing is there and a lock is in
+    /// Looks for the key in the store, and asks for its lock if nothing is there and a lock is in
     /// use. Nothing is hidden, and no policy is asked. Tells of the lock. Refused, it changes nothing.
     pub fn look_up<L: CacheKeyLock>(
         &mut self,
@@ -405,7 +405,7 @@ impl<S: Storage> HttpCache<S> {
         requires { MayLookUp self.old.phase }
         ensures found { IfOk result (λ r. option_map (λ p. (p.0, S.Hit.reader p.1)) r.found ≡ found_for (S.state storage.old) self.old.key) }
         ensures asked { IfOk result (λ r. r.asked ≡ asked_in_look_up (S.state storage.old) (L.table lock.old) self.old) }
-        ensures request { OnOk result (self.new ≡ looked (S.state storage.old) (L.table lock.old) self.old) }
+        ensures request { OnOk result (self.new ≡ looked_up (S.state storage.old) (L.table lock.old) self.old) }
         ensures store { OnOk result (S.state storage.new ≡ followed (S.state storage.old) (found_for (S.state storage.old) self.old.key)) }
         ensures table { OnOk result (L.table lock.new ≡ table_looked (S.state storage.old) now self.old (L.table lock.old)) }
         ensures same_request { OnErr result (self.new ≡ self.old) }
@@ -434,9 +434,9 @@ impl<S: Storage> HttpCache<S> {
         })
     }
 
-    /// Notes the use of what a look-up found, where a manager is in use and the hit counts and is not
-    /// passed over. Answers the entry whose use was noted. It is refused for want of memory alone, and
-    /// changes nothing then.
+    /// Notes the use of what a look-up found, if a manager is in use and the hit counts and is not
+    /// passed over. Answers the entry whose use was noted. It is refused only when memory runs out,
+    /// and changes nothing then.
     pub fn note_found<E: EvictionManager>(
         &self,
         eviction: &mut E,
@@ -460,7 +460,7 @@ impl<S: Storage> HttpCache<S> {
     }
 
     /// Takes what a look-up found, whose use was noted. A fresh hit is served; a stale one may be
-    /// renewed, and one that is treated as a miss is let go: both ask for the lock where one is in use.
+    /// renewed, and one that is treated as a miss is let go: both ask for the lock if one is in use.
     /// Answers the lock that was asked for. Refused, it lets the hit go.
     pub fn take_found<L: CacheKeyLock>(
         &mut self,
@@ -565,7 +565,7 @@ impl<S: Storage> HttpCache<S> {
         self.reader.is_some()
     }
 
-    /// Reads on. It is refused for want of memory alone, and changes nothing then.
+    /// Reads on. It is refused only when memory runs out, and changes nothing then.
     pub fn read_body(&mut self, storage: &mut S) -> Result<Poll<Option<Bytes>>>
         requires { IsSome self.old.reader }
         ensures read { IfOk result (λ p. IfSome self.old.reader (λ r. p ≡ read_of (S.state storage.old) r)) }
@@ -580,8 +580,8 @@ impl<S: Storage> HttpCache<S> {
         reader.read_body(self.alloc, storage)
     }
 
-    /// Has the reader give the body from `start` on, and before `end` where one is given, anew. It is
-    /// refused as an internal error where the reader follows a write, the body has no byte at `start`
+    /// Has the reader give the body from `start` on, and before `end` if one is given, anew. It is
+    /// refused as an internal error if the reader follows a write, the body has no byte at `start`
     /// or `end` lies before it, and changes nothing then.
     pub fn seek(&mut self, start: usize, end: Option<usize>) -> Result<()>
         requires { IsSome self.old.reader }
@@ -607,7 +607,8 @@ impl<S: Storage> HttpCache<S> {
         self.reader.as_mut().unwrap()
     }
 
-    /// Ends the reader, where there is one, also where that is refused, for want of memory alone.
+    /// Ends the reader, if there is one, also if that is refused, which it is only when memory runs
+    /// out.
     pub fn finish_hit_handler(&mut self, storage: &mut S) -> Result<()>
         requires { MayFinishHit self.old.phase }
         ensures request { self.new ≡ without_reader self.old }
@@ -677,7 +678,7 @@ impl<S: Storage> HttpCache<S> {
     }
 
     /// Begins the write. In a storage whose writes can be read while they are made, the permit is
-    /// released and the request's reader follows the write; where that is refused, the write has
+    /// released and the request's reader follows the write; if that is refused, the write has
     /// begun and the permit is released.
     pub fn set_miss_handler<L: CacheKeyLock>(&mut self, storage: &mut S, lock: &mut L) -> Result<()>
         requires { MayWrite self.old }
@@ -692,7 +693,7 @@ impl<S: Storage> HttpCache<S> {
     }
 
     /// What `set_miss_handler` does, told apart by how far it came: refused, it changes nothing; else
-    /// the write has begun, also where the reader could not join it.
+    /// the write has begun, also if the reader could not join it.
     pub fn begin_write<L: CacheKeyLock>(
         &mut self,
         storage: &mut S,
@@ -745,7 +746,7 @@ impl<S: Storage> HttpCache<S> {
         Ok(WriteBegin { released, joined })
     }
 
-    /// The handler of the write, where there is one.
+    /// The handler of the write, if there is one.
     pub fn miss_handler(&mut self) -> Option<&mut S::Miss>
         requires { IsFilling self.old.phase }
         ensures* writes_back { sem 𝓛 (LendsIf (the_row S.row S.Hit.row S.Miss.row S.StoreMeaning S.Hit.HandleHit S.Miss.HandleMiss) S.Miss.row self.entry result (λ w. record self.old { write = Some (S.Miss.write w); entry = S.Miss.entry_number w }) self.old) }

@@ -20,15 +20,15 @@ pub struct LockAbandon {
 /// What a request took, over all that it did.
 #[derive(Debug, Drop)]
 pub struct HttpCacheDigest {
-    /// The time that it waited for locks, over all its waits that ended; the longest duration where
+    /// The time that it waited for locks, over all its waits that ended; the longest duration if
     /// it is more.
     pub lock_duration: Option<Duration>,
-    /// The time that its look-ups took, as its caller measured it; the longest duration where it is
+    /// The time that its look-ups took, as its caller measured it; the longest duration if it is
     /// more.
     pub lookup_duration: Option<Duration>,
-    /// The fill that the last wait that was told of one was told of.
+    /// The fill that a wait was told of last.
     pub lock_abandon: Option<LockAbandon>,
-    /// What the admission policy decided of the request, where it was asked.
+    /// What the admission policy decided of the request, if it was asked.
     pub admission: Option<Decision>,
 }
 
@@ -81,7 +81,7 @@ impl HttpCacheDigest {
     }
 }
 
-// A time, where there was one, and a further one; the longest duration where they are more.
+// A time, if there was one, and a further one; the longest duration if they are more.
 fn longer(before: Option<Duration>, extra: Duration) -> Duration
     ensures { Some (as_nanos result) ≡ time_added (option_map as_nanos before) (as_nanos extra) }
 {

@@ -166,7 +166,7 @@ impl CachePhase {
     }
 }
 
-/// As what a filter has a hit be taken, whatever its meta says.
+/// How a filter has a hit taken, whatever its meta says.
 #[derive(Clone, Copy, Debug, PartialEq, Eq)]
 pub enum ForcedFreshness {
     /// As expired.

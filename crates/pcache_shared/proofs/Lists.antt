@@ -27,7 +27,7 @@ module _ {X : Type 0} where
       let b : total f xs ≡ 0 = total_none g f xs (omega arith) (λ k. idle (suc k)) in
       omega arith
 
-  -- where one has all of g, and who has none of g has none of f, that one has all of f
+  -- if one has all of g, and who has none of g has none of f, that one has all of f
   pub total_lone : (g f : X → ℕ) (xs : List X) (k : ℕ) (v : X) → get_elem? xs k ≡ some v → total g xs ≡ g v → ((j : ℕ) (u : X) → get_elem? xs j ≡ some u → g u ≡ 0 → f u ≡ 0) → total f xs ≡ f v
   total_lone g f [] k v e lone idle = absurd (some-ne-none v (sym e))
   total_lone g f (x ∷ xs) zero v e lone idle =

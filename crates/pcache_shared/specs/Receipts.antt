@@ -18,7 +18,7 @@ IsOf e r = (e.call ≡ r.call) × (e.reply ≡ r.reply)
 abbrev pub StandsIn : List Entry → Receipt → Type 0
 StandsIn history r = (e : Entry) × (slice_get history r.place ≡ Some e) × IsOf e r
 
--- the lists, one behind the other
+-- the lists, one after the other
 abbrev pub joined : {X : Type 0} → List (List X) → List X
 joined [] = []
 joined (x ∷ xs) = x ++ joined xs

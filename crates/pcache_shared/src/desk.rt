@@ -16,17 +16,18 @@ use pcache_evict::eviction::EvictionManager;
 use pingora_cache::world::World;
 use pingora_cache::world::call::Call;
 use pingora_cache::world::entry::Entry;
+use pingora_cache::world::policy::PutPolicy;
 use std::marker::{Model, PhantomData};
 
 /// What lies under the lock: the world, beside the seat that knows all that was added to it.
 #[derive(Drop)]
-pub(crate) struct Desk<M: EvictionManager, K: Mark> {
-    pub(crate) world: World<M>,
+pub(crate) struct Desk<M: EvictionManager, P: PutPolicy, K: Mark> {
+    pub(crate) world: World<M, P>,
     pub(crate) keeper: Seat<Entry, View<Entry>>,
     pub(crate) of: PhantomData<K>,
 }
 
-impl<M: EvictionManager, K: Mark> Model for Desk<M, K> {
+impl<M: EvictionManager, P: PutPolicy, K: Mark> Model for Desk<M, P, K> {
     ghost use Rattle.std.specs.Prelude.{◌≡◌, ◌+◌, ◌++◌, []};
     ghost use Rattle.pingora_cache.specs.Log.{Log};
     ghost use Rattle.pingora_cache.specs.LogCode.{log_code};
@@ -41,7 +42,7 @@ impl<M: EvictionManager, K: Mark> Model for Desk<M, K> {
     ghost invariant = { λ d. (d.keeper.table_id ≡ K.opened.table) × IsKeeper d.keeper.me × (d.keeper.me.0.claims ≡ []) × (d.keeper.me.0.parts + K.opened.shares ≡ whole) × (d.world.history ≡ K.opened.log.history ++ d.keeper.me.0.all) × (d.world.start ≡ K.opened.log.start) × (d.world.limits ≡ K.opened.log.limits) };
 }
 
-impl<M: EvictionManager, K: Mark> Desk<M, K> {
+impl<M: EvictionManager, P: PutPolicy, K: Mark> Desk<M, P, K> {
     ghost use Rattle.pingora_cache.specs.Events.{slots, stored};
 
     /// The lengths of the complete bodies, added up.
@@ -97,7 +98,7 @@ impl<M: EvictionManager, K: Mark> Desk<M, K> {
 }
 
 // The entry of a history at a place.
-fn entry_at<M: EvictionManager>(world: &World<M>, place: usize) -> &Entry
+fn entry_at<M: EvictionManager, P: PutPolicy>(world: &World<M, P>, place: usize) -> &Entry
     requires { place < length world.now.history }
     ensures { slice_get world.now.history place ≡ Some result.now }
 {

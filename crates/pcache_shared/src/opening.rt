@@ -6,19 +6,20 @@ use atomic_table::{Seat, Table};
 use pcache_evict::eviction::EvictionManager;
 use pingora_cache::world::World;
 use pingora_cache::world::entry::Entry;
+use pingora_cache::world::policy::PutPolicy;
 use std::alloc::{AllocError, Global};
 use std::marker::Model;
 
 /// A world that is to be shared, and has no mark yet. To a contract it is what a mark stands for.
 #[derive(Drop)]
-pub struct Opening<M: EvictionManager> {
+pub struct Opening<M: EvictionManager, P: PutPolicy> {
     pub(crate) room: Room,
     pub(crate) seat: Seat<Entry, View<Entry>>,
-    pub(crate) world: World<M>,
+    pub(crate) world: World<M, P>,
     pub(crate) shares: usize,
 }
 
-impl<M: EvictionManager> Model for Opening<M> {
+impl<M: EvictionManager, P: PutPolicy> Model for Opening<M, P> {
     ghost use Rattle.std.specs.Prelude.{◌≡◌, ◌<◌, []};
     ghost use Rattle.pcache_shared.specs.Opened.{Opened, opened_code};
     ghost use Rattle.pcache_shared.specs.Views.{keeper, whole};
@@ -32,9 +33,13 @@ impl<M: EvictionManager> Model for Opening<M> {
     ghost invariant = { λ o. (o.seat.table_id ≡ o.room.shared.table_id) × (0 < o.room.shared.table_id.words) × (o.seat.me ≡ (keeper whole [] [], [])) };
 }
 
-impl<M: EvictionManager> Opening<M> {
+impl<M: EvictionManager, P: PutPolicy> Opening<M, P> {
     /// Makes the table for a world with this number of shares. Refused, the world is gone.
-    pub fn new(alloc: Global, world: World<M>, shares: usize) -> Result<Opening<M>, AllocError>
+    pub fn new(
+        alloc: Global,
+        world: World<M, P>,
+        shares: usize,
+    ) -> Result<Opening<M, P>, AllocError>
         ensures world { IfOk result (λ o. o.log ≡ world) }
         ensures shares { IfOk result (λ o. o.shares ≡ shares) }
     {

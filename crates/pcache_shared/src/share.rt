@@ -10,6 +10,7 @@ use atomic_table::Seat;
 use pcache_evict::eviction::EvictionManager;
 use pingora_cache::world::call::{Call, Reply};
 use pingora_cache::world::entry::Entry;
+use pingora_cache::world::policy::PutPolicy;
 use std::alloc::{AllocError, Global};
 use std::marker::{Model, PhantomData};
 use std::sync::Wait;
@@ -60,10 +61,10 @@ impl<K: Mark> Share<K> {
     }
 
     // Makes a call. The room for its receipt and the copy for it are made before the lock is taken.
-    fn make<M: EvictionManager, R: Wait>(
+    fn make<M: EvictionManager, P: PutPolicy, R: Wait>(
         &mut self,
         rt: &R,
-        shared: &SharedWorld<M, K>,
+        shared: &SharedWorld<M, P, K>,
         call: Call,
     ) -> Result<(), AllocError>
         ensures ok { IfOk result (λ _. (place : ℕ) × (reply : Reply) × (self.new ≡ self.old ++ (record { place = place; call = call; reply = reply }) ∷ [])) }
@@ -84,10 +85,10 @@ impl<K: Mark> Share<K> {
         Ok(())
     }
 
-    pub(crate) fn made<M: EvictionManager, R: Wait>(
+    pub(crate) fn made<M: EvictionManager, P: PutPolicy, R: Wait>(
         &mut self,
         rt: &R,
-        shared: &SharedWorld<M, K>,
+        shared: &SharedWorld<M, P, K>,
         call: Call,
     ) -> Result<&Reply, AllocError>
         ensures* added { sem 𝓛 (ends_added K.row K.Mark self.entry call result) }

@@ -13,6 +13,7 @@ use pcache_evict::eviction::EvictionManager;
 use pingora_cache::world::World;
 use pingora_cache::world::call::{Call, Reply};
 use pingora_cache::world::entry::Entry;
+use pingora_cache::world::policy::PutPolicy;
 use std::alloc::{AllocError, Global};
 use std::marker::PhantomData;
 use std::sync::{Mutex, Wait};
@@ -20,17 +21,17 @@ use std::sync::{Mutex, Wait};
 /// A world that threads call, one call at a time. Each call is whole: its lock is taken before it is
 /// made and let go when it is noted.
 #[derive(Drop)]
-pub struct SharedWorld<M: EvictionManager, K: Mark> {
+pub struct SharedWorld<M: EvictionManager, P: PutPolicy, K: Mark> {
     pub(crate) alloc: Global,
     pub(crate) room: Room,
-    pub(crate) desk: Mutex<Desk<M, K>>,
+    pub(crate) desk: Mutex<Desk<M, P, K>>,
     out: Vec<Vec<Receipt>>,
     ghost room_is: { room.shared.table_id ≡ K.opened.table },
     ghost word: { 0 < K.opened.table.words },
     ghost space: { (out.items ≡ []) × (K.opened.shares ≤ vec_capacity out) },
 }
 
-impl<M: EvictionManager, K: Mark> SharedWorld<M, K> {
+impl<M: EvictionManager, P: PutPolicy, K: Mark> SharedWorld<M, P, K> {
     ghost use Rattle.std.specs.Borrow.{sem};
     ghost use Rattle.pingora_cache.specs.Events.{slots, stored};
     ghost use Rattle.pingora_cache.specs.Log.{HasLegal, events_in};
@@ -42,8 +43,8 @@ impl<M: EvictionManager, K: Mark> SharedWorld<M, K> {
     /// was opened. Refused, the world is gone.
     pub fn new(
         alloc: Global,
-        opening: Opening<M>,
-    ) -> Result<(SharedWorld<M, K>, Vec<Share<K>>), AllocError>
+        opening: Opening<M, P>,
+    ) -> Result<(SharedWorld<M, P, K>, Vec<Share<K>>), AllocError>
         requires { opening ≡ K.opened }
         ensures count { IfOk result (λ r. length r.1.items ≡ K.opened.shares) }
         ensures unused { IfOk result (λ r. All (λ s. s ≡ []) r.1.items) }
@@ -68,10 +69,10 @@ impl<M: EvictionManager, K: Mark> SharedWorld<M, K> {
     fn of(
         alloc: Global,
         room: Room,
-        world: World<M>,
+        world: World<M, P>,
         seat: Seat<Entry, View<Entry>>,
         out: Vec<Vec<Receipt>>,
-    ) -> SharedWorld<M, K>
+    ) -> SharedWorld<M, P, K>
         requires room { (room.shared.table_id ≡ K.opened.table) × (0 < K.opened.table.words) }
         requires world { world ≡ K.opened.log }
         requires seat { (seat.table_id ≡ K.opened.table) × (seat.me ≡ (keeper seat.me.0.parts [] [], [])) × (seat.me.0.parts + K.opened.shares ≡ whole) }
@@ -91,11 +92,11 @@ impl<M: EvictionManager, K: Mark> SharedWorld<M, K> {
     }
 
     /// Makes a call of a share, and lends the reply from its receipt. With a reply, the share has one
-    /// receipt more, of the call and that reply. Refused for want of memory, it has none more.
+    /// receipt more, of the call and that reply. Refused when memory runs out, it has none more.
     pub fn call<'a, R: Wait>(
         share: &'a mut Share<K>,
         rt: &R,
-        shared: &SharedWorld<M, K>,
+        shared: &SharedWorld<M, P, K>,
         call: Call,
     ) -> Result<&'a Reply, AllocError>
         ensures* added { sem 𝓛 (ends_added K.row K.Mark share.entry call result) }
@@ -113,7 +114,7 @@ impl<M: EvictionManager, K: Mark> SharedWorld<M, K> {
     }
 
     /// The number of complete bodies, as it is between two calls: at most the manager's watermark,
-    /// where it has one.
+    /// if it has one.
     pub fn slots<R: Wait>(&self, rt: &R) -> usize
         ensures value { IsTold K.opened.log (λ log. result ≡ slots (events_in log)) }
         ensures within { IfSome K.opened.log.limits.watermark (λ most. result ≤ most) }
@@ -124,7 +125,7 @@ impl<M: EvictionManager, K: Mark> SharedWorld<M, K> {
     /// Ends the sharing. It takes all shares that were made with the world, and gives the world back
     /// with the receipts of each. These are exactly the calls that the history has more than at the
     /// opening. It takes no memory and does not wait.
-    pub fn close(self, shares: Vec<Share<K>>) -> (World<M>, Vec<Vec<Receipt>>)
+    pub fn close(self, shares: Vec<Share<K>>) -> (World<M, P>, Vec<Vec<Receipt>>)
         requires { length shares.items ≡ K.opened.shares }
         ensures legal { HasLegal result.0 }
         ensures grown { HasGrown K.opened.log result.0 }

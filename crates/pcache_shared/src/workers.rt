@@ -8,12 +8,13 @@ use crate::share::Share;
 use crate::shared_world::SharedWorld;
 use pcache_evict::eviction::EvictionManager;
 use pingora_cache::world::call::Call;
+use pingora_cache::world::policy::PutPolicy;
 use std::alloc::{AllocError, Global};
 use std::sync::Wait;
 use std::thread;
 use std::thread::Threads;
 
-/// What a worker calls before and behind each call, while it does not hold the lock. A gate that
+/// What a worker calls before and after each call, while it does not hold the lock. A gate that
 /// waits holds its worker back, and no other.
 pub trait Gate {
     /// The worker is about to make the call with this index of its script. Both count from 0.
@@ -28,12 +29,13 @@ pub trait Gate {
 /// what was called stands in the shares.
 pub fn run_workers<
     M: EvictionManager + Send,
+    P: PutPolicy + Send,
     K: Mark + Send + Sync,
     G: Gate + Sync,
     R: Threads + Wait + Sync,
 >(
     rt: &R,
-    shared: &SharedWorld<M, K>,
+    shared: &SharedWorld<M, P, K>,
     scripts: &[Vec<Call>],
     shares: &mut [Share<K>],
     gate: &G,
@@ -67,9 +69,9 @@ pub fn run_workers<
 }
 
 // Makes the calls of a script, up to one for which memory is refused.
-fn run_script<M: EvictionManager, K: Mark, G: Gate, R: Wait>(
+fn run_script<M: EvictionManager, P: PutPolicy, K: Mark, G: Gate, R: Wait>(
     rt: &R,
-    shared: &SharedWorld<M, K>,
+    shared: &SharedWorld<M, P, K>,
     worker: usize,
     script: &[Call],
     share: &mut Share<K>,

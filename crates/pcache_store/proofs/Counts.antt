@@ -7,7 +7,7 @@ use Rattle.std.specs.FinMap.{FinMap, empty, get, insert, remove, entries, len, f
 use Rattle.pcache_base.specs.Totals.{total, share}
 use Rattle.pcache_base.proofs.Totals.{total-insert, total-remove, total-empty}
 use Rattle.pcache_meta.specs.Meta.{Meta}
-use Rattle.pcache_store.specs.Store.{Slot, Stored, body_of, is_idle, with_slot, slot_or_new, opened_in, opened, shut_on, stored_on, with_meta, meta_changed_in, meta_changed_on}
+use Rattle.pcache_store.specs.Store.{Slot, Stored, complete_body, is_idle, with_slot, slot_or_new, opened_in, opened, shut_on, stored_on, with_meta, meta_changed_in, meta_changed_on}
 use Rattle.pcache_store.specs.Totals.{body_len, one, body_size, body_count, IsCounted}
 
 -- ---- a sum is at most the bound of its terms, as often as there are entries
@@ -36,11 +36,11 @@ module _ {X : Type 0} (f : X → ℕ) (c : ℕ) where
 
 -- ---- the totals after a change of one slot
 
-shared : (g : Stored → ℕ) (o : Option Slot) → share (λ (x : Slot). share g x.body) o ≡ share g (body_of o)
+shared : (g : Stored → ℕ) (o : Option Slot) → share (λ (x : Slot). share g x.body) o ≡ share g (complete_body o)
 shared g None = refl
 shared g (Some x) = refl
 
-new_body : (o : Option Slot) → (slot_or_new o).body ≡ body_of o
+new_body : (o : Option Slot) → (slot_or_new o).body ≡ complete_body o
 new_body None = refl
 new_body (Some x) = refl
 
@@ -73,64 +73,64 @@ module _ (xs : FinMap nat_cmp Slot) (b s : ℕ) (h : IsCounted xs b s) where
       omega arith
 
   module _ (k : ℕ) where
-    pub has_body : share one (body_of (get xs k)) ≤ b
+    pub has_body : share one (complete_body (get xs k)) ≤ b
     has_body = let out = total-remove nat_cmp_total body_count nat_cmp-IsAntisymmetric xs k in let e = shared one (get xs k) in let is = h.bodies_are in omega arith
 
-    pub has_bytes : share body_len (body_of (get xs k)) ≤ s
+    pub has_bytes : share body_len (complete_body (get xs k)) ≤ s
     has_bytes = let out = total-remove nat_cmp_total body_size nat_cmp-IsAntisymmetric xs k in let e = shared body_len (get xs k) in let is = h.stored_is in omega arith
 
-    counted_insert : (v : Slot) (b' s' : ℕ) → b' + share one (body_of (get xs k)) ≡ b + share one v.body → s' + share body_len (body_of (get xs k)) ≡ s + share body_len v.body → share body_len v.body < 2 ^ 63 → IsCounted (insert xs k v) b' s'
+    counted_insert : (v : Slot) (b' s' : ℕ) → b' + share one (complete_body (get xs k)) ≡ b + share one v.body → s' + share body_len (complete_body (get xs k)) ≡ s + share body_len v.body → share body_len v.body < 2 ^ 63 → IsCounted (insert xs k v) b' s'
     counted_insert v b' s' eb es lt = record {
       bodies_are = let out = total-insert nat_cmp_total body_count xs k v in let e = shared one (get xs k) in let is = h.bodies_are in omega arith;
       stored_is = let out = total-insert nat_cmp_total body_size xs k v in let e = shared body_len (get xs k) in let is = h.stored_is in omega arith;
       small = λ q. subst (λ o. share body_size o < 2 ^ 63) (sym (get-insert nat_cmp_total xs k v q)) (elim (eq_by_cmp nat_cmp q k) as (λ t. share body_size (cond t (Some v) (get xs q)) < 2 ^ 63) [ true ↦ lt | false ↦ h.small q ]);
     }
 
-    counted_remove : (b' s' : ℕ) → b' + share one (body_of (get xs k)) ≡ b → s' + share body_len (body_of (get xs k)) ≡ s → IsCounted (remove xs k) b' s'
+    counted_remove : (b' s' : ℕ) → b' + share one (complete_body (get xs k)) ≡ b → s' + share body_len (complete_body (get xs k)) ≡ s → IsCounted (remove xs k) b' s'
     counted_remove b' s' eb es = record {
       bodies_are = let out = total-remove nat_cmp_total body_count nat_cmp-IsAntisymmetric xs k in let e = shared one (get xs k) in let is = h.bodies_are in omega arith;
       stored_is = let out = total-remove nat_cmp_total body_size nat_cmp-IsAntisymmetric xs k in let e = shared body_len (get xs k) in let is = h.stored_is in omega arith;
       small = λ q. subst (λ o. share body_size o < 2 ^ 63) (sym (get-remove nat_cmp_total xs k q)) (elim (eq_by_cmp nat_cmp q k) as (λ t. share body_size (cond t None (get xs q)) < 2 ^ 63) [ true ↦ lit< tt | false ↦ h.small q ]);
     }
 
-    small_body : share body_len (body_of (get xs k)) < 2 ^ 63
+    small_body : share body_len (complete_body (get xs k)) < 2 ^ 63
     small_body = subst (λ n. n < 2 ^ 63) (shared body_len (get xs k)) (h.small k)
 
-    pub counted_purged : (fewer less : ℕ) → fewer ≡ share one (body_of (get xs k)) → less ≡ share body_len (body_of (get xs k)) → IsCounted (remove xs k) (b - fewer) (s - less)
+    pub counted_purged : (fewer less : ℕ) → fewer ≡ share one (complete_body (get xs k)) → less ≡ share body_len (complete_body (get xs k)) → IsCounted (remove xs k) (b - fewer) (s - less)
     counted_purged fewer less ef el = let p = has_body in let q = has_bytes in counted_remove (b - fewer) (s - less) (omega arith) (omega arith)
 
     pub counted_absent : None ≡ get xs k → IsCounted (remove xs k) b s
     counted_absent none =
-        let z : share one (body_of (get xs k)) ≡ 0 = ap (λ o. share one (body_of o)) (sym none) in
-        let y : share body_len (body_of (get xs k)) ≡ 0 = ap (λ o. share body_len (body_of o)) (sym none) in
+        let z : share one (complete_body (get xs k)) ≡ 0 = ap (λ o. share one (complete_body o)) (sym none) in
+        let y : share body_len (complete_body (get xs k)) ≡ 0 = ap (λ o. share body_len (complete_body o)) (sym none) in
         counted_remove b s (omega arith) (omega arith)
 
     pub counted_opened : (n : ℕ) → IsCounted (opened xs k n) b s
     counted_opened n =
-        let e : (slot_or_new (get xs k)).body ≡ body_of (get xs k) = new_body (get xs k) in
+        let e : (slot_or_new (get xs k)).body ≡ complete_body (get xs k) = new_body (get xs k) in
         counted_insert (opened_in (slot_or_new (get xs k)) n) b s (ap (λ o. b + share one o) (sym e)) (ap (λ o. s + share body_len o) (sym e)) (subst (λ o. share body_len o < 2 ^ 63) (sym e) small_body)
 
-    with_slot_counted : (v : Slot) → v.body ≡ body_of (get xs k) → IsCounted (with_slot xs k v) b s
+    with_slot_counted : (v : Slot) → v.body ≡ complete_body (get xs k) → IsCounted (with_slot xs k v) b s
     with_slot_counted v e =
         elim (is_idle v) as (λ t. is_idle v ≡ t → IsCounted (cond t (remove xs k) (insert xs k v)) b s) [
           | true ↦ λ idle.
-              let z : share one (body_of (get xs k)) ≡ 0 = ap (share one) (sym e) ∙ no_body one v.body _ idle in
-              let y : share body_len (body_of (get xs k)) ≡ 0 = ap (share body_len) (sym e) ∙ no_body body_len v.body _ idle in
+              let z : share one (complete_body (get xs k)) ≡ 0 = ap (share one) (sym e) ∙ no_body one v.body _ idle in
+              let y : share body_len (complete_body (get xs k)) ≡ 0 = ap (share body_len) (sym e) ∙ no_body body_len v.body _ idle in
               counted_remove b s (omega arith) (omega arith)
           | false ↦ λ busy. counted_insert v b s (ap (λ o. b + share one o) (sym e)) (ap (λ o. s + share body_len o) (sym e)) (subst (λ o. share body_len o < 2 ^ 63) (sym e) small_body)
         ] refl
 
     pub counted_shut : (n : ℕ) → IsCounted (shut_on xs k n (get xs k)) b s
-    counted_shut n = elim (get xs k) as (λ o. get xs k ≡ o → IsCounted (shut_on xs k n o) b s) [ None ↦ λ e. h | Some x ↦ λ e. with_slot_counted (record x { fresh = remove x.fresh n }) (ap body_of (sym e)) ] refl
+    counted_shut n = elim (get xs k) as (λ o. get xs k ≡ o → IsCounted (shut_on xs k n o) b s) [ None ↦ λ e. h | Some x ↦ λ e. with_slot_counted (record x { fresh = remove x.fresh n }) (ap complete_body (sym e)) ] refl
 
     pub counted_changed : (f : Meta → Meta) → IsCounted (meta_changed_on f xs k (get xs k)) b s
-    counted_changed f = elim (get xs k) as (λ o. get xs k ≡ o → IsCounted (meta_changed_on f xs k o) b s) [ None ↦ λ e. h | Some x ↦ λ e. inside x (x.body) (ap body_of (sym e)) ] refl
+    counted_changed f = elim (get xs k) as (λ o. get xs k ≡ o → IsCounted (meta_changed_on f xs k o) b s) [ None ↦ λ e. h | Some x ↦ λ e. inside x (x.body) (ap complete_body (sym e)) ] refl
       where
-        inside : (x : Slot) (o : Option Stored) → o ≡ body_of (get xs k) → IsCounted (meta_changed_in f xs k x o) b s
+        inside : (x : Slot) (o : Option Stored) → o ≡ complete_body (get xs k) → IsCounted (meta_changed_in f xs k x o) b s
         inside x None e = h
         inside x (Some c) e = counted_insert (with_meta f x (Some c)) b s (ap (λ o. b + share one o) (sym e)) (ap (λ o. s + share body_len o) (sym e)) (subst (λ o. share body_len o < 2 ^ 63) (sym e) small_body)
 
-    pub counted_stored : (n : ℕ) (c : Stored) (fewer less size : ℕ) → IsSome (get xs k) → fewer ≡ share one (body_of (get xs k)) → less ≡ share body_len (body_of (get xs k)) → size ≡ length c.bytes → size < 2 ^ 63 → IsCounted (stored_on xs k n c (get xs k)) (b - fewer + 1) (s - less + size)
+    pub counted_stored : (n : ℕ) (c : Stored) (fewer less size : ℕ) → IsSome (get xs k) → fewer ≡ share one (complete_body (get xs k)) → less ≡ share body_len (complete_body (get xs k)) → size ≡ length c.bytes → size < 2 ^ 63 → IsCounted (stored_on xs k n c (get xs k)) (b - fewer + 1) (s - less + size)
     counted_stored n c fewer less size there ef el es lt =
         let p = has_body in
         let q = has_bytes in

@@ -49,7 +49,7 @@ or_none : {X : Type 0} (o : Option X) → option_or o None ≡ o
 or_none None = refl
 or_none (Some x) = refl
 
--- where no table has a number, and where one at most does
+-- if no table has a number, and if one at most does
 seen-none : (ms : List Map) (q : ℕ) → ((i : ℕ) → get (table_at ms i) q ≡ None) → seen ms q ≡ None
 seen-none [] q h = refl
 seen-none (m ∷ ms) q h = ap (λ o. option_or o (seen ms q)) (h 0) ∙ seen-none ms q (λ i. h (suc i))
@@ -251,7 +251,7 @@ module _ {ms : List Map} {count : ℕ} (s : AreRecords ms count) (place number :
         let there : held (get (table_at ms place) number) ≡ held (get (all ms) number) = ap held at-place in
         record { whole = ap all same; own = subst (λ x. (i : ℕ) → i < 16 → table_at x i ≡ of_shard i (all ms)) (sym same) s.own; count = omega arith }
 
-    -- a change of the record of a number, where there is one
+    -- a change of the record of a number, if there is one
     by_record : (f : Map → Option Written → Map) → f (table_at ms place) None ≡ table_at ms place → f (all ms) None ≡ all ms
         → ((w : Written) → w.slot % 16 ≡ place → Changed ms place number (f (table_at ms place) (Some w)) (f (all ms) (Some w)))
         → Changed ms place number (f (table_at ms place) (get (table_at ms place) number)) (f (all ms) (get (all ms) number))
@@ -291,7 +291,7 @@ module _ {ms : List Map} {count : ℕ} (s : AreRecords ms count) (place number :
       pub fits : held (get (slice_index_or ms place d) number) ≤ count
       fits = subst (λ n. n ≤ count) (sym (ap held here)) (held-fits number s)
 
-      -- the number of records, where a call may take one out, and where none goes
+      -- the number of records, if a call may take one out, and if none goes
       pub kept-fewer : (x after : Map) → Changed ms place number x after → held (get x number) ≤ held (get (slice_index_or ms place d) number)
           → AreRecords (slice_set ms place x) (count - held (get (slice_index_or ms place d) number) + held (get x number))
       kept-fewer x after c less =

@@ -1,9 +1,9 @@
 -- What the end of a write in memory answers (own): a new body of so many bytes.
 use Rattle.std.specs.Prelude.{ℕ}
 use Rattle.std.specs.FinMap.{get}
-use Rattle.pcache_store.specs.Store.{Store, size_of}
+use Rattle.pcache_store.specs.Store.{Store, written_size}
 use Rattle.pcache_store.specs.declared.storage.MissFinishType.{MissFinishType}
 use Rattle.pcache_store.specs.declared.storage.MissFinishType.TheVariants.{Created}
 
 abbrev pub created : Store → ℕ → MissFinishType
-created s n = Created (size_of (get s.writes n))
+created s n = Created (written_size (get s.writes n))

@@ -10,7 +10,7 @@ use Rattle.pcache_store.specs.declared.storage.PurgeTarget.{PurgeTarget}
 use Rattle.pcache_store.specs.declared.storage.PurgeTarget.TheVariants.{Active, Exact}
 use Rattle.pcache_store.specs.declared.storage.PurgeOutcome.{PurgeOutcome}
 use Rattle.pcache_store.specs.declared.storage.PurgeOutcome.TheVariants.{NotFound, Purged, Expired}
-use Rattle.pcache_store.specs.Store.{Store, body_of, purged, meta_changed}
+use Rattle.pcache_store.specs.Store.{Store, complete_body, purged, meta_changed}
 
 -- the key that a target names
 abbrev pub target_key : PurgeTarget → CompactCacheKey
@@ -27,7 +27,7 @@ abbrev pub IsNumberOf : PurgeTarget → Option ℕ → Type 0
 IsNumberOf (Active k) n = Unit {0}
 IsNumberOf (Exact e) n = (n ≡ None) ⊎ (n ≡ id_of e.now)
 
--- the slot that a target names: none where it names one entry by its number, since no entry here has one
+-- the slot that a target names: none if it names one entry by its number, since no entry here has one
 abbrev pub unless_numbered : ℕ → Option ℕ → Option ℕ
 unless_numbered k None = Some k
 unless_numbered k (Some n) = None
@@ -52,4 +52,4 @@ expired_at now s (Some k) = meta_changed (meta.expired_at now) s k
 
 abbrev pub expire_answer : Store → Option ℕ → PurgeOutcome
 expire_answer s None = NotFound
-expire_answer s (Some k) = cond (is_some (body_of (get s.slots k))) Expired NotFound
+expire_answer s (Some k) = cond (is_some (complete_body (get s.slots k))) Expired NotFound

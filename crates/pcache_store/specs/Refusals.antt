@@ -4,13 +4,13 @@ use Rattle.pcache_base.specs.declared.error.ErrorType.{ErrorType}
 use Rattle.pcache_base.specs.declared.error.ErrorType.TheVariants.{OutOfMemory, WriteRemoved, NumbersExhausted}
 use Rattle.pcache_store.specs.Store.{Store, stands}
 
--- a new write: want of memory, or exactly where all numbers are used, that
+-- a new write: a lack of memory, or exactly when all numbers are used, that
 abbrev pub MayRefuseWrite : Store → ErrorType → Type 0
 MayRefuseWrite s OutOfMemory = s.next < 2 ^ 64
 MayRefuseWrite s NumbersExhausted = 2 ^ 64 ≤ s.next
 MayRefuseWrite s _ = ⊥
 
--- the end of a write: want of memory, or exactly where its key was removed since it began, that
+-- the end of a write: a lack of memory, or exactly when its key was removed since it began, that
 abbrev pub MayRefuseFinish : Store → ℕ → ErrorType → Type 0
 MayRefuseFinish s n OutOfMemory = stands s n ≡ true
 MayRefuseFinish s n WriteRemoved = stands s n ≡ false

@@ -36,6 +36,6 @@ pub record AreRecords (shards : List (FinMap nat_cmp Written)) (count : ℕ) : T
   pub counted : count ≡ len (joined (parts 0 shards))
   pub few : count < 2 ^ 63
 
--- the table at a place has a number where one of them has it
+-- the table at a place has a number if one of them has it
 abbrev pub IsPlaceOf : List (FinMap nat_cmp Written) → ℕ → ℕ → Type 0
 IsPlaceOf shards number place = get (table_at shards place) number ≡ None → (i : ℕ) → i < 16 → get (table_at shards i) number ≡ None

@@ -57,7 +57,7 @@ found_in ws (Some x) = found_first ws (least x.fresh) x.body
 abbrev pub find : Store → ℕ → Option (Meta × Reader)
 find s k = found_in s.writes (get s.slots k)
 
--- the write of a number, where it is in flight and of the key
+-- the write of a number, if it is in flight and of the key
 abbrev pub found_flying : ℕ → ℕ → Option Written → Option (Meta × Reader)
 found_flying k n None = None
 found_flying k n (Some w) = cond (w.flying && (w.slot == k)) (Some (w.meta, Part n 0)) None
@@ -184,18 +184,18 @@ abbrev pub finished : Store → ℕ → Store
 finished s n = finished_on s n (get s.writes n)
 
 -- how many bytes of a write there are
-abbrev pub size_of : Option Written → ℕ
-size_of None = 0
-size_of (Some w) = length w.bytes
+abbrev pub written_size : Option Written → ℕ
+written_size None = 0
+written_size (Some w) = length w.bytes
 
 -- a removal of a key: its body and the numbers of its writes go
 abbrev pub purged : Store → ℕ → Store
 purged s k = record s { slots = remove s.slots k }
 
 -- a complete body's meta changed
-abbrev pub body_of : Option Slot → Option Stored
-body_of None = None
-body_of (Some x) = x.body
+abbrev pub complete_body : Option Slot → Option Stored
+complete_body None = None
+complete_body (Some x) = x.body
 
 abbrev pub with_meta : (Meta → Meta) → Slot → Option Stored → Slot
 with_meta f x None = x
@@ -212,7 +212,7 @@ meta_changed_on f xs k (Some x) = meta_changed_in f xs k x x.body
 abbrev pub meta_changed : (Meta → Meta) → Store → ℕ → Store
 meta_changed f s k = record s { slots = meta_changed_on f s.slots k (get s.slots k) }
 
--- one read of a write: all that is unread; nothing yet where more may come; else the end
+-- one read of a write: all that is unread; nothing yet if more may come; else the end
 abbrev pub read_part : ℕ → Option Written → Poll (Option (List ℕ))
 read_part place None = Ready None
 read_part place (Some w) = cond (nat_lt place (length w.bytes)) (Ready (Some (drop place w.bytes))) (cond (w.flying && not w.told) Pending (Ready None))

@@ -12,7 +12,7 @@ abbrev pub named_by : Option (List ℕ) → Option ℕ
 named_by None = None
 named_by (Some tag) = number_of_tag tag
 
--- what reading a tag of so many bytes answers: those bytes, and where there are more or fewer a refusal
+-- what reading a tag of so many bytes answers: those bytes, and if there are more or fewer a refusal
 abbrev pub Reads : ℕ → List ℕ → Result (List ℕ) ErrorType → Type 0
 Reads n tag (Ok bytes) = (bytes ≡ tag) × (length tag ≡ n)
 Reads n tag (Err e) = (e ≡ InternalError) × (length tag ≢ n)

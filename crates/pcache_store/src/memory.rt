@@ -39,7 +39,8 @@ use std::marker::Model;
 /// A store that keeps bodies and writes in memory.
 ///
 /// A contract sees what stands under each key and each write that somebody names. Look-ups, writes
-/// and removals take time in the logarithm of the number of keys and of writes; a complete body is
+/// and removals take a few look-ups of hash tables, however many keys and writes there are, and time
+/// in the logarithm of the number of writes that are in flight for the key alone. A complete body is
 /// shared by all that read it. Metas are kept as the bytes that spell them, and read back at look-ups.
 #[derive(Drop)]
 pub struct MemCache {
@@ -210,7 +211,7 @@ impl StoreMeaning for MemCache {
     ghost always_purges = { true };
 }
 
-// The slot that a target names, where the entry it names has no number.
+// The slot that a target names, if the entry it names has no number.
 fn slot_of(target: PurgeTarget<'_>) -> Option<u128>
     ensures { result ≡ target_slot target.entry }
 {

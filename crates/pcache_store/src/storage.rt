@@ -12,7 +12,7 @@ ghost use Rattle.pcache_store.specs.declared.storage.MissFinishType.{MissFinishT
 ghost use Rattle.pcache_store.specs.declared.storage.PurgeOutcome.TheVariants.{Expired};
 ghost use Rattle.pcache_store.specs.Purge.{target_key, removed_entry, IsNumberOf, target_slot, purged_at, purge_answer, expired_at, expire_answer};
 ghost use Rattle.pcache_store.specs.Refusals.{MayRefuseWrite, MayRefuseFinish};
-ghost use Rattle.pcache_store.specs.Store.{Store, Reader, find, find_write, followed, left, begun, wrote, dropped, finished, stands, body_of, meta_changed, is_told, gives_piece, read_of, reader_after, sought, can_seek, counts_access, reader_weight};
+ghost use Rattle.pcache_store.specs.Store.{Store, Reader, find, find_write, followed, left, begun, wrote, dropped, finished, stands, complete_body, meta_changed, is_told, gives_piece, read_of, reader_after, sought, can_seek, counts_access, reader_weight};
 ghost use Rattle.pcache_store.specs.Tag.{named_by};
 
 use bytes::Bytes;
@@ -50,7 +50,7 @@ pub enum PurgeAction {
 pub enum PurgeTarget<'a> {
     /// Whatever stands under a key.
     Active(&'a CompactCacheKey),
-    /// One entry, and nothing where that is not what stands.
+    /// One entry, and nothing if that is not what stands.
     Exact(&'a CacheEntryKey),
 }
 
@@ -65,7 +65,7 @@ impl<'a> PurgeTarget<'a> {
         }
     }
 
-    /// The entry that a removal of this target took out, where it answered this number.
+    /// The entry that a removal of this target took out, if it answered this number.
     pub fn removed_entry(self, id: Option<CacheEntryId>) -> CacheEntryKeyRef<'a>
         requires { IsNumberOf self id }
         ensures { referred result ≡ removed_entry self.entry id }
@@ -92,7 +92,7 @@ impl fmt::Display for PurgeTarget<'_> {
 pub enum PurgeOutcome {
     /// Nothing was there.
     NotFound,
-    /// It is gone. The number is that of the entry that went, where entries have numbers.
+    /// It is gone. The number is that of the entry that went, if entries have numbers.
     Purged(Option<CacheEntryId>),
     /// It is still there, and stale.
     Expired,
@@ -115,10 +115,10 @@ pub trait StoreMeaning {
     /// Whether a write can be read while it is made.
     ghost streams: { Self → Bool };
 
-    /// What the end of a write answers, where it succeeds.
+    /// What the end of a write answers, if it succeeds.
     ghost finishes: { Self → ℕ → MissFinishType };
 
-    /// The number of the entry that the next write fills, where entries have numbers.
+    /// The number of the entry that the next write fills, if entries have numbers.
     ghost next_entry: { Self → Option ℕ };
 
     /// Whether a removal always succeeds.
@@ -136,7 +136,7 @@ pub trait Storage: StoreMeaning + Sized {
     type Miss: HandleMiss<Self>;
 
     /// A reader of what stands under a key, and its meta: the earliest begun write in flight that met
-    /// no removal, else the complete body. It is refused for want of memory alone, and only where there
+    /// no removal, else the complete body. It is refused only when memory runs out, and only if there
     /// is something to read.
     fn lookup(&mut self, alloc: Global, key: &CacheKey) -> Result<Option<(CacheMeta, Self::Hit)>>
         ensures found { IfOk result (λ r. option_map (λ p. (p.0, Self.Hit.reader p.1)) r ≡ find (Self.state self.old) (slot key.now)) }
@@ -145,8 +145,8 @@ pub trait Storage: StoreMeaning + Sized {
         ensures kind { IfErr result (λ e. e ≡ OutOfMemory) }
         ensures err { OnErr result (Self.state self.new ≡ Self.state self.old) };
 
-    /// A reader of the write that a tag names, where it is in flight and of the key, and its meta.
-    /// It is refused for want of memory alone, and only where there is such a write.
+    /// A reader of the write that a tag names, if it is in flight and of the key, and its meta.
+    /// It is refused only when memory runs out, and only if there is such a write.
     fn lookup_streaming_write(
         &mut self,
         alloc: Global,
@@ -159,8 +159,8 @@ pub trait Storage: StoreMeaning + Sized {
         ensures kind { IfErr result (λ e. e ≡ OutOfMemory) }
         ensures err { OnErr result (Self.state self.new ≡ Self.state self.old) };
 
-    /// Begins a write of a key. It is refused for want of memory, and exactly where all 64-bit numbers
-    /// of writes are used.
+    /// Begins a write of a key. It is refused when memory runs out, and exactly when all 64-bit
+    /// numbers of writes are used.
     fn get_miss_handler(
         &mut self,
         alloc: Global,
@@ -175,7 +175,7 @@ pub trait Storage: StoreMeaning + Sized {
         ensures err { OnErr result (Self.state self.new ≡ Self.state self.old) };
 
     /// Removes what a target names: the complete body and every write in flight.
-    /// It is refused for want of memory alone.
+    /// It is refused only when memory runs out.
     fn purge(&mut self, target: PurgeTarget<'_>, purge_type: PurgeType) -> Result<PurgeOutcome>
         ensures answer { IfOk result (λ o. o ≡ purge_answer (Self.state self.old) (target_slot target.entry)) }
         ensures ok { OnOk result (Self.state self.new ≡ purged_at (Self.state self.old) (target_slot target.entry)) }
@@ -183,8 +183,8 @@ pub trait Storage: StoreMeaning + Sized {
         ensures kind { IfErr result (λ e. e ≡ OutOfMemory) }
         ensures err { OnErr result (Self.state self.new ≡ Self.state self.old) };
 
-    /// Ends the freshness of the complete body that a target names, where it ends later than now.
-    /// It is refused for want of memory alone, and only where there is one.
+    /// Ends the freshness of the complete body that a target names, if it ends later than now.
+    /// It is refused only when memory runs out, and only if there is one.
     fn expire(
         &mut self,
         alloc: Global,
@@ -198,11 +198,11 @@ pub trait Storage: StoreMeaning + Sized {
         ensures err { OnErr result (Self.state self.new ≡ Self.state self.old) };
 
     /// Sets the meta of a key's complete body, and answers whether there is one.
-    /// It is refused for want of memory alone, and only where there is one.
+    /// It is refused only when memory runs out, and only if there is one.
     fn update_meta(&mut self, alloc: Global, key: &CacheKey, meta: &CacheMeta) -> Result<bool>
-        ensures there { IfOk result (λ b. b ≡ is_some (body_of (map.get (Self.state self.old).slots (slot key.now)))) }
+        ensures there { IfOk result (λ b. b ≡ is_some (complete_body (map.get (Self.state self.old).slots (slot key.now)))) }
         ensures ok { OnOk result (Self.state self.new ≡ meta_changed (λ _. meta.now) (Self.state self.old) (slot key.now)) }
-        ensures something { OnErr result (is_some (body_of (map.get (Self.state self.old).slots (slot key.now))) ≡ true) }
+        ensures something { OnErr result (is_some (complete_body (map.get (Self.state self.old).slots (slot key.now))) ≡ true) }
         ensures kind { IfErr result (λ e. e ≡ OutOfMemory) }
         ensures err { OnErr result (Self.state self.new ≡ Self.state self.old) };
 
@@ -216,11 +216,11 @@ pub trait HandleHit<S: StoreMeaning> {
     /// What it goes over, and how far it is.
     ghost reader: { Self → Reader };
 
-    /// The number of its entry, where entries have numbers.
+    /// The number of its entry, if entries have numbers.
     ghost entry_number: { Self → Option ℕ };
 
-    /// Reads on: a piece, the end (`None`), or `Pending` where more may come. It is refused for want of
-    /// memory alone, and only where there is a piece; the reader is as before then.
+    /// Reads on: a piece, the end (`None`), or `Pending` if more may come. It is refused only when
+    /// memory runs out, and only if there is a piece; the reader is as before then.
     fn read_body(&mut self, alloc: Global, store: &mut S) -> Result<Poll<Option<Bytes>>>
         ensures read { IfOk result (λ p. p ≡ read_of (S.state store.old) (reader self.old)) }
         ensures ok { OnOk result (reader self.new ≡ reader_after (S.state store.old) (reader self.old)) }
@@ -230,7 +230,7 @@ pub trait HandleHit<S: StoreMeaning> {
         ensures entry { entry_number self.new ≡ entry_number self.old }
         ensures same { S.state store.new ≡ S.state store.old };
 
-    /// Ends the reader, also where that is refused, for want of memory alone.
+    /// Ends the reader, also if that is refused, which it is only when memory runs out.
     fn finish(self, store: &mut S) -> Result<()>
         ensures gone { S.state store.new ≡ left (S.state store.old) (reader self) }
         ensures kind { IfErr result (λ e. e ≡ OutOfMemory) };
@@ -250,8 +250,8 @@ pub trait HandleHit<S: StoreMeaning> {
         self.can_seek()
     }
 
-    /// Sends the reader to the bytes from `start` to before `end`, or to the body's end where that is
-    /// `None` or earlier; they are read anew. It is refused where the reader can't seek, `start` is at or
+    /// Sends the reader to the bytes from `start` to before `end`, or to the body's end if that is
+    /// `None` or earlier; they are read anew. It is refused if the reader can't seek, `start` is at or
     /// past the body's length, or `end` is before `start`.
     fn seek(&mut self, start: usize, end: Option<usize>) -> Result<()>
         ensures ok { OnOk result (Some (reader self.new) ≡ sought (reader self.old) start end) }
@@ -279,7 +279,7 @@ pub trait HandleHit<S: StoreMeaning> {
     fn get_eviction_weight(&self) -> usize
         ensures { result ≡ reader_weight (reader self.now) };
 
-    /// The number of the entry, where entries have numbers.
+    /// The number of the entry, if entries have numbers.
     fn entry_id(&self) -> Option<CacheEntryId>
         ensures { result ≡ entry_number self.now };
 }
@@ -289,11 +289,11 @@ pub trait HandleMiss<S: StoreMeaning> {
     /// The number of the write.
     ghost write: { Self → ℕ };
 
-    /// The number of its entry, where entries have numbers.
+    /// The number of its entry, if entries have numbers.
     ghost entry_number: { Self → Option ℕ };
 
     /// Adds bytes to the write, and with `eof` says that they are the last. A write whose key was
-    /// removed is written as any other. It is refused for want of memory alone.
+    /// removed is written as any other. It is refused only when memory runs out.
     fn write_body(&mut self, store: &mut S, bytes: Bytes, eof: bool) -> Result<()>
         requires { is_told (map.get (S.state store.old).writes (write self.old)) ≡ false }
         ensures ok { OnOk result (S.state store.new ≡ wrote (S.state store.old) (write self.old) bytes eof) }
@@ -306,8 +306,8 @@ pub trait HandleMiss<S: StoreMeaning> {
     fn at_eof(&self, store: &S) -> bool
         ensures { result ≡ is_told (map.get (S.state store.now).writes (write self.now)) };
 
-    /// Ends the write: its body stands in place of an older one. It is refused for want of memory, and
-    /// exactly where the key was removed since the write began; the write is dropped then.
+    /// Ends the write: its body stands in place of an older one. It is refused when memory runs out,
+    /// and exactly when the key was removed since the write began; the write is dropped then.
     fn finish(self, store: &mut S) -> Result<MissFinishType>
         ensures answer { IfOk result (λ f. f ≡ S.finishes store.old (write self)) }
         ensures ok { OnOk result (S.state store.new ≡ finished (S.state store.old) (write self)) }
@@ -323,7 +323,7 @@ pub trait HandleMiss<S: StoreMeaning> {
     fn streaming_write_tag(&self) -> Option<&[u8]>
         ensures { named_by (option_copied result) ≡ Some (write self.now) };
 
-    /// The number of the entry, where entries have numbers.
+    /// The number of the entry, if entries have numbers.
     fn entry_id(&self) -> Option<CacheEntryId>
         ensures { result ≡ entry_number self.now };
 }

@@ -76,7 +76,7 @@ module _ {X : Type 0} where
   find-append_or [] fs q = refl
   find-append_or (e ∷ es) fs q = pick_or (eq_by_cmp nat_cmp q e.0) e.1 (find nat_cmp q (es ++ fs)) (find nat_cmp q es) (find nat_cmp q fs) (find-append_or es fs q)
 
-  -- where no shard has a key, and where one does
+  -- if no shard has a key, and if one does
   find_none : (ps : List (Part X)) (q : ℕ) → ((i : ℕ) (r : Part X) → slice_get ps i ≡ Some r → get r.map q ≡ None) → find nat_cmp q (all_entries ps) ≡ None
   find_none [] q h = refl
   find_none (p ∷ ps) q h =
@@ -170,7 +170,7 @@ module _ {X : Type 0} where
   pub at_place : (shards : ℕ) (ps : List (Part X)) (key : ℕ) (r : Part X) → 0 < shards → length ps ≡ shards → slice_get ps (key % shards) ≡ Some (get_or ps (key % shards) r)
   at_place shards ps key r some len = slice_get-get_or ps (key % shards) r (omega arith)
 
-  -- it keeps its place, whether a key was put in or not, and where one was taken out
+  -- it keeps its place, whether a key was put in or not, and if one was taken out
   pub placed-either : {A B : Type 0} (shards place key : ℕ) (v : X) (p d : Part X) (r : Result A B) → key % shards ≡ place → OnOk r (d ≡ record p { map = insert p.map key v }) → OnErr r (d ≡ p) → Placed shards place p → Placed shards place d
   placed-either shards place key v p d (Ok a) is ok err old = subst (Placed shards place) (sym ok) (record { at = old.at; own = belongs-insert shards place key v p.map is old.own })
   placed-either shards place key v p d (Err b) is ok err old = subst (Placed shards place) (sym err) old

@@ -26,7 +26,7 @@ module _ {X : Type 0} where
   pub removed : (es fs : List (ℕ × X)) (k : ℕ) → ((q : ℕ) → lookup (is_at (nat_cmp q)) fs ≡ cond (is_at (nat_cmp k) q) None (lookup (is_at (nat_cmp q)) es)) → from_entries {R = nat_cmp} fs ≡ remove (from_entries es) k
   removed = made-remove nat_cmp_total exact_unsigned
 
--- what follows from a value that is there, where the value is lent
+-- what follows from a value that is there, if the value is lent
 pub on_some_lent : {X Y : Type 0} {P : Type 0} (o : Option Y) (f : Y → X) (p : Option X) → option_map f o ≡ p → (IsSome p → P) → OnSome o P
 on_some_lent None f p e k = tt
 on_some_lent (Some y) f p e k = k (ap is_some (sym e))

@@ -73,7 +73,7 @@ impl<V, const N: usize> Shards<V, N> {
         &shards[(key % N as u128) as usize]
     }
 
-    /// The shard at a place, where there is one.
+    /// The shard at a place, if there is one.
     pub fn get_shard_at_idx(&self, place: usize) -> Option<&Shard<V, N>>
         ensures found { IsSome result ↔ (place < N) }
         ensures part { IfSome result (λ shard. shard.now.map ≡ part_of N place self.now) }
@@ -103,7 +103,7 @@ impl<V, const N: usize> Shards<V, N> {
         ensures value_returned { IfErr result (λ y. y.value ≡ (key, value)) }
         ensures absent { OnErr result (map.get self.old key ≡ None) }
     {
-        let _ = &self.shards;
+        let _ = &self.shards; // for the prover: once a field is used, the invariant is known
         let place = (key % N as u128) as usize;
         let shard = &mut self.shards[place];
         shard.insert(key, value)
@@ -114,7 +114,7 @@ impl<V, const N: usize> Shards<V, N> {
         ensures before { result ≡ map.get self.old key }
         ensures removed { self.new ≡ map.remove self.old key }
     {
-        let _ = &self.shards;
+        let _ = &self.shards; // for the prover: once a field is used, the invariant is known
         let place = (key % N as u128) as usize;
         let shard = &mut self.shards[place];
         shard.remove(key)

@@ -20,7 +20,7 @@ use Rattle.pcache_base.specs.CompactKey.{compact_slot}
 use Rattle.pcache_store.specs.Store.{Stored}
 use Rattle.pingora_cache.specs.declared.world.entry.Event.{Event}
 use Rattle.pingora_cache.specs.declared.world.entry.Event.TheVariants.{Look, Ask, Access, Begin, Wrote, Finish, Dropped, Release, LetGo, Aged, Admit, Purge, Expire, Renew, Untrack, Read}
-use Rattle.pingora_cache.specs.Events.{begun, begin_of, names_slot, is_removed, in_flight, body_of, complete, tracked, with_key, finished_keys, size_of, stored, slots}
+use Rattle.pingora_cache.specs.Events.{begun, begin_of, names_slot, is_removed, in_flight, body_of, complete, tracked, with_key, finished_keys, stored_size, stored, slots}
 use Rattle.pingora_cache.specs.Sound.{IsTidy, IsExact, IsBounded, standing_entry}
 use Rattle.pingora_cache.proofs.Steps.{complete-wrote, complete-begin, complete-purge, complete-expire, complete-renew, complete-finish, body_with, altered_body}
 use Rattle.pingora_cache.proofs.Tidy.{tidy-finish}
@@ -72,7 +72,7 @@ abbrev mark : CacheEntryKey → ℕ
 mark (KeyOnly c) = compact_slot c
 mark (Identified c n) = n
 
--- the entry of a key; one that names no slot where none was admitted
+-- the entry of a key; one that names no slot if none was admitted
 abbrev place : List Event → ℕ → CacheEntryKey
 place es k = unwrap_or (standing_entry k es) (Identified (record { primary = []; variance = None; user_tag = [] }) k)
 
@@ -106,7 +106,7 @@ all_of P f (x ∷ xs) = (f x, all_of P f xs)
 abbrev standing : (Stored → ℕ) → List Event → ℕ
 standing f es = sum_by (λ k. share f (complete k es)) (finished_keys es)
 
-standing_within : (f : Stored → ℕ) (g : ℕ → ℕ) (start : Tracked) (es : List Event) → IsExact start es → ((b : Stored) → f b ≡ g (size_of b)) → standing f es ≤ total g (tracked start es)
+standing_within : (f : Stored → ℕ) (g : ℕ → ℕ) (start : Tracked) (es : List Event) → IsExact start es → ((b : Stored) → f b ≡ g (stored_size b)) → standing f es ≤ total g (tracked start es)
 standing_within f g start es ex same =
     sum-le-total entries_total g exact_entries (λ k. place es k) (λ k. share f (complete k es)) (finished_keys es) (tracked start es) (distinct_places (finished_keys es) es (keys_distinct es)) (all_of _ part (finished_keys es))
   where
@@ -130,7 +130,7 @@ pub bound-within : (limits : Limits) (start : Tracked) (es : List Event) → IsE
 bound-within limits start es ex within =
     record {
       bytes =
-          let b : stored es ≤ weight (tracked start es) = standing_within size_of (λ x. x) start es ex (λ _. refl) in
+          let b : stored es ≤ weight (tracked start es) = standing_within stored_size (λ x. x) start es ex (λ _. refl) in
           let c = within.weight in
           omega arith;
       count = if_some {P = λ most. map.len (tracked start es) ≤ most} {Q = λ most. slots es ≤ most} limits.watermark (λ most h.
@@ -148,11 +148,11 @@ bound-none limits = record { bytes = omega arith; count = all limits.watermark }
     all None = tt
     all (Some x) = omega arith
 
--- where no more stands
+-- if no more stands
 pub bound-less : (limits : Limits) (es now : List Event) → ((f : Stored → ℕ) → standing f now ≤ standing f es) → IsBounded limits es → IsBounded limits now
 bound-less limits es now less b =
     record {
-      bytes = let a = less size_of in let c = b.bytes in omega arith;
+      bytes = let a = less stored_size in let c = b.bytes in omega arith;
       count = if_some {P = λ most. slots es ≤ most} {Q = λ most. slots now ≤ most} limits.watermark (λ most h. let a = less (λ _. 1) in omega arith) b.count;
     }
 
@@ -182,7 +182,7 @@ same-share f false g o same = refl
 pub bound-expire : (limits : Limits) (es : List Event) (k t : ℕ) → IsTidy es → IsBounded limits es → IsBounded limits (Expire k t ∷ es)
 bound-expire limits es k t tidy b =
     record {
-      bytes = let a = less size_of (λ x. refl) in let c = b.bytes in omega arith;
+      bytes = let a = less stored_size (λ x. refl) in let c = b.bytes in omega arith;
       count = if_some {P = λ most. slots es ≤ most} {Q = λ most. slots (Expire k t ∷ es) ≤ most} limits.watermark (λ most h. let a = less (λ _. 1) (λ x. refl) in omega arith) b.count;
     }
   where
@@ -193,7 +193,7 @@ bound-expire limits es k t tidy b =
 pub bound-renew : (limits : Limits) (es : List Event) (k : ℕ) (m : Meta) → IsTidy es → IsBounded limits es → IsBounded limits (Renew k m ∷ es)
 bound-renew limits es k m tidy b =
     record {
-      bytes = let a = less size_of (λ x. refl) in let c = b.bytes in omega arith;
+      bytes = let a = less stored_size (λ x. refl) in let c = b.bytes in omega arith;
       count = if_some {P = λ most. slots es ≤ most} {Q = λ most. slots (Renew k m ∷ es) ≤ most} limits.watermark (λ most h. let a = less (λ _. 1) (λ x. refl) in omega arith) b.count;
     }
   where

@@ -18,7 +18,7 @@ use Rattle.pcache_request.specs.Finishing.{entry_slot}
 use Rattle.pcache_request.specs.Requests.{entry_of}
 use Rattle.pingora_cache.specs.declared.world.entry.Event.{Event}
 use Rattle.pingora_cache.specs.declared.world.entry.Event.TheVariants.{Look, Ask, Access, Begin, Wrote, Finish, Dropped, Release, LetGo, Aged, Admit, Purge, Expire, Renew, Untrack, Read}
-use Rattle.pingora_cache.specs.Events.{begun, begin_of, names_slot, names_key, option_any, is_removed, in_flight, body_of, complete, tracked, size_of}
+use Rattle.pingora_cache.specs.Events.{begun, begin_of, names_slot, names_key, option_any, is_removed, in_flight, body_of, complete, tracked, stored_size}
 use Rattle.pingora_cache.specs.Sound.{IsTidy, IsExact, standing_entry}
 use Rattle.pingora_cache.proofs.Steps.{complete-wrote, complete-begin, complete-purge, complete-admit, complete-expire, complete-renew, complete-finish, body_with, altered_body}
 use Rattle.pingora_cache.proofs.Tidy.{tidy-finish}
@@ -105,9 +105,9 @@ pub exact-purge : (start : Tracked) (es : List Event) (k : ℕ) → IsTidy es �
 exact-purge start es k tidy ex = λ q b h. ex q b (kept (k == q) (complete q es) b (sym (complete-purge es k tidy q) ∙ h)).1
 
 -- a body whose meta was altered is as long as the one before
-was-stored : (b : Bool) (g : Meta → Meta) (o : Option Stored) (x : Stored) → (if b then option_map (altered_body g) o else o) ≡ Some x → (y : Stored) × (o ≡ Some y) × (size_of y ≡ size_of x)
+was-stored : (b : Bool) (g : Meta → Meta) (o : Option Stored) (x : Stored) → (if b then option_map (altered_body g) o else o) ≡ Some x → (y : Stored) × (o ≡ Some y) × (stored_size y ≡ stored_size x)
 was-stored true g None x h = absurd (cc)
-was-stored true g (Some y) x h = let e : altered_body g y ≡ x = cc in (y, refl, ap size_of e)
+was-stored true g (Some y) x h = let e : altered_body g y ≡ x = cc in (y, refl, ap stored_size e)
 was-stored false g o x h = (x, h, refl)
 
 pub exact-expire : (start : Tracked) (es : List Event) (k t : ℕ) → IsTidy es → IsExact start es → IsExact start (Expire k t ∷ es)
@@ -130,7 +130,7 @@ exact-untrack start es e gone ex = λ q b h.
     (old.0, old.1, kept-remove (tracked start es) old.0 e (λ same. both_ways _ (ap is_some (gone q (subst (λ y. names_slot q y ≡ true) same mine))) (ap is_some h)) ∙ old.2)
 
 pub exact-access : (start : Tracked) (es : List Event) (e : CacheEntryKey) (n : ℕ) → IsExact start es → IsExact start (Access e n ∷ es)
-exact-access start es e n ex = λ q b h. let old = ex q b h in (old.0, old.1, stays (tracked start es) old.0 (size_of b) old.2)
+exact-access start es e n ex = λ q b h. let old = ex q b h in (old.0, old.1, stays (tracked start es) old.0 (stored_size b) old.2)
   where
     stays : (m : Tracked) (x : CacheEntryKey) (v : ℕ) → map.get m x ≡ Some v → map.get (added m e n) x ≡ Some v
     stays m x v is =
@@ -139,23 +139,23 @@ exact-access start es e n ex = λ q b h. let old = ex q b h in (old.0, old.1, st
           | false ↦ λ none. kept-insert m x e n (λ same. both_ways _ none (ap is_some (subst (λ y. map.get m y ≡ Some v) same is))) ∙ is
         ] refl
 
--- the admission of a key that stands, where all others are tracked
+-- the admission of a key that stands, if all others are tracked
 pub exact-admit : (start : Tracked) (es : List Event) (k : ℕ) (b : Stored) (e : CacheEntryKey) (out : List CacheEntryKey) → IsTidy es → complete k es ≡ Some b → names_slot k e ≡ true
-    → IsExact start (Purge k ∷ es) → IsExact start (Admit e (size_of b) out ∷ es)
+    → IsExact start (Purge k ∷ es) → IsExact start (Admit e (stored_size b) out ∷ es)
 exact-admit start es k b e out tidy is of ex = λ q c h.
-    let now = map.insert (tracked start es) e (size_of b) in
-    let p = kept (names_key q out) (complete q es) c (sym (complete-admit es e (size_of b) out tidy q) ∙ h) in
-    elim (k == q) as (λ a. (k == q) ≡ a → (x : CacheEntryKey) × ((if names_slot q e then Some e else standing_entry q es) ≡ Some x) × (map.get (without out now) x ≡ Some (size_of c))) [
+    let now = map.insert (tracked start es) e (stored_size b) in
+    let p = kept (names_key q out) (complete q es) c (sym (complete-admit es e (stored_size b) out tidy q) ∙ h) in
+    elim (k == q) as (λ a. (k == q) ≡ a → (x : CacheEntryKey) × ((if names_slot q e then Some e else standing_entry q es) ≡ Some x) × (map.get (without out now) x ≡ Some (stored_size c))) [
       | true ↦ λ t.
           let named : names_slot q e ≡ true = names_only k e of q ∙ t in
           let both : ◌≡◌ {A = Option Stored} (Some b) (Some c) = sym (subst (λ y. complete y es ≡ Some b) (eqb-true k q t) is) ∙ p.1 in
           let same : b ≡ c = cc in
-          (e, ap (λ a. if a then Some e else standing_entry q es) named, kept-without out now e q named p.0 ∙ here-insert (tracked start es) e (size_of b) ∙ ap (λ (y : Stored). Some (size_of y)) same)
+          (e, ap (λ a. if a then Some e else standing_entry q es) named, kept-without out now e q named p.0 ∙ here-insert (tracked start es) e (stored_size b) ∙ ap (λ (y : Stored). Some (stored_size y)) same)
       | false ↦ λ f.
           let other : names_slot q e ≡ false = names_only k e of q ∙ f in
           let old = ex q c (complete-purge es k tidy q ∙ ap (λ a. if a then None else complete q es) f ∙ p.1) in
           let mine = standing-names es q old.0 old.1 in
-          (old.0, ap (λ a. if a then Some e else standing_entry q es) other ∙ old.1, kept-without out now old.0 q mine p.0 ∙ kept-insert (tracked start es) old.0 e (size_of b) (λ same. both_ways _ other (subst (λ y. names_slot q y ≡ true) same mine)) ∙ old.2)
+          (old.0, ap (λ a. if a then Some e else standing_entry q es) other ∙ old.1, kept-without out now old.0 q mine p.0 ∙ kept-insert (tracked start es) old.0 e (stored_size b) (λ same. both_ways _ other (subst (λ y. names_slot q y ≡ true) same mine)) ∙ old.2)
     ] refl
 
 -- a finish that stores: all keys but its own are tracked

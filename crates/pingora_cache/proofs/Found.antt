@@ -25,7 +25,8 @@ use Rattle.pingora_cache.specs.declared.world.entry.Entry.{Entry}
 use Rattle.pingora_cache.specs.declared.world.entry.Event.{Event}
 use Rattle.pingora_cache.specs.declared.world.entry.Event.TheVariants as E
 use Rattle.pingora_cache.specs.Headline.{IsFoundBy, ReadsWhatWasFound}
-use Rattle.pingora_cache.specs.Held.{Held, Change, opens, closes, stays, turns, turns_by, shuts, looks, takes, begins, ends, reads_on, seeks, reads_no_more, renews, waits, change_of, changed, turned_by, shut_by, sought_in, with_sought, number_of, Outcome, outcome, is_wrong, is_done, is_taken, opened, asked, carrying, decides, looked_by, looked_with, pair_of, placed_by, taken_by, without_pair, began, ended, read_past, has_read, on_request, row, request_of}
+use Rattle.pingora_cache.specs.Held.{Held, Change, fed_in, held_put, opens, closes, stays, turns, turns_by, shuts, looks, takes, begins, ends, reads_on, seeks, reads_no_more, renews, waits, pushes, feeds, goes, change_of, changed, turned_by, shut_by, sought_in, with_sought, number_of, Outcome, outcome, is_wrong, is_done, is_taken, opened, asked, carrying, decides, looked_by, looked_with, pair_of, placed_by, taken_by, without_pair, began, ended, read_past, has_read, on_request, row, request_of}
+use Rattle.pingora_cache.specs.Taking.{Taking, new_put}
 use Rattle.pingora_cache.specs.History.{events_of}
 use Rattle.pingora_cache.specs.Legal.{IsLegal}
 use Rattle.pingora_cache.specs.Sound.{pair_reader}
@@ -77,7 +78,7 @@ module _ (P : List ℕ → Type 0) (events : List Event) (found : (k : ℕ) (m :
   looked-on : (d : Option Decision) (a : Answer) (es : List Event) (x : Held) → AreOf P (Some x) → IsOf P (pair_reader (pair_of a)) → AreOf P (Some (looked_with d a es x))
   looked-on d a es x h k =
       let old : IsOf P (with_decision d x.request).reader = subst (IsOf P) (sym (decided-reader d x.request)) h.0 in
-      elim (is_deferral d) as (λ b. AreOf P (Some (cond b (record { request = disabled_for Deferred (with_decision d x.request); pair = None; carried = None }) (record { request = asked false es (with_decision d x.request); pair = visible x.request.valid_after (pair_of a); carried = x.carried })))) [
+      elim (is_deferral d) as (λ b. AreOf P (Some (cond b (record { request = disabled_for Deferred (with_decision d x.request); pair = None; carried = None; put = x.put }) (record { request = asked false es (with_decision d x.request); pair = visible x.request.valid_after (pair_of a); carried = x.carried; put = x.put })))) [
         | true ↦ (off-of (with_decision d x.request) (with_decision d x.request).phase old, tt)
         | false ↦ (subst (IsOf P) (sym (asked-reader false es (with_decision d x.request))) old, seen-of x.request.valid_after (pair_of a) k)
       ]
@@ -150,6 +151,17 @@ module _ (P : List ℕ → Type 0) (events : List Event) (found : (k : ℕ) (m :
   change-of (renews m) (Some x) h = either P (is_wrong o) (Some x) (Some (on_request (renewed m) x)) h (h.0, h.1)
   change-of (waits now) None h = tt
   change-of (waits now) (Some x) h = (subst (IsOf P) (sym (waited-reader o now x.request)) h.0, h.1)
+  change-of (pushes k limit) q h = either P (is_done o) (Some (held_put (new_put k limit))) q (tt, tt) h
+  change-of feeds None h = tt
+  change-of feeds (Some x) h = fed-of x.put
+    where
+      fed-on : (p : Option Taking) → AreOf P (Some (fed_in o events x p))
+      fed-on None = h
+      fed-on (Some p) = (tt, tt)
+
+      fed-of : (p : Option Taking) → AreOf P (Some (cond (is_wrong o) x (fed_in o events x p)))
+      fed-of p = elim (is_wrong o) as (λ b. AreOf P (Some (cond b x (fed_in o events x p)))) [ true ↦ h | false ↦ fed-on p ]
+  change-of goes q h = either P (is_wrong o) q None h tt
 
 -- an older look-up stands in a longer history
 found-more : (e : Entry) (h : List Entry) (r : ℕ) (body : List ℕ) → IsFoundBy h r body → IsFoundBy (e ∷ h) r body

@@ -33,9 +33,10 @@ use Rattle.pingora_cache.specs.Legal.{Gives, IsLegal}
 use Rattle.pingora_cache.specs.LockMoves.{each_deed}
 use Rattle.pingora_cache.specs.LockTable.{Holds, IsTable, locks_read, read_locks}
 use Rattle.pingora_cache.specs.Moved.{Did, Moves, at_call, reads_of}
-use Rattle.pingora_cache.specs.Rules.{Answers, IsCopy, MayBe, MayTake, each, given_up, let_go_of, permit_of}
+use Rattle.pingora_cache.specs.Rules.{FindsKind, IsCopy, IsIdle, MayBe, MayTake, Replies, each, given_up, let_go_of, permit_of}
 use Rattle.pingora_cache.specs.Sound.{AllHold, AreOpen, IsSound, IsState, readers}
 use Rattle.pingora_cache.specs.Step.{Turn}
+use Rattle.pingora_cache.specs.Taking.{Taking, untold_put}
 use Rattle.pingora_cache.specs.Untold.{untold_lock, untold_request}
 use Rattle.pingora_cache.specs.Waiting.{AreGiven, Waiting, waiting_in}
 use Rattle.pingora_cache.proofs.LockKept.{go, holds-none, reversed-two}
@@ -46,6 +47,7 @@ use Rattle.pingora_cache.proofs.LockWatch.{watch-same}
 use Rattle.pingora_cache.proofs.MovedState.{readers-set, readers-split, set_to}
 use Rattle.pingora_cache.proofs.MovesOf.{idle}
 use Rattle.pingora_cache.proofs.Opened.{get-set_to}
+use Rattle.pingora_cache.proofs.PutTurns.{wrong-given}
 use Rattle.pingora_cache.proofs.ReadLocks.{lock-counted, locks-few, locks-moved}
 use Rattle.pingora_cache.proofs.SoundOf.{sound-of}
 use Rattle.pingora_cache.proofs.States.{state-same}
@@ -89,8 +91,8 @@ number-untold (Some (Read rd)) = refl
 
 handed-untold : (p : Permit) (y : Held) → untold (handed_by (Some p) y) ≡ handed_by (Some p) (untold y)
 handed-untold p y =
-    elim y.request.uses.lock as (λ b. untold (record { request = cond b (record y.request { held = Some (Write p) }) y.request; pair = y.pair; carried = y.carried })
-    ≡ record { request = cond b (record (untold_request y.request) { held = Some (Write p) }) (untold_request y.request); pair = y.pair; carried = y.carried }) [ true ↦ refl | false ↦ refl ]
+    elim y.request.uses.lock as (λ b. untold (record { request = cond b (record y.request { held = Some (Write p) }) y.request; pair = y.pair; carried = y.carried; put = y.put })
+    ≡ record { request = cond b (record (untold_request y.request) { held = Some (Write p) }) (untold_request y.request); pair = y.pair; carried = y.carried; put = option_map untold_put y.put }) [ true ↦ refl | false ↦ refl ]
 
 given-untold : (p : Permit) (y : Held) → let_go_of (gone p (untold y)) ≡ let_go_of (gone p y)
 given-untold p y =
@@ -148,7 +150,7 @@ holds-on r ds es n m t u h k a permit shows read old = record {
 -- ---- a permit is handed over
 
 module _ (limits : Limits) (start m : Tracked) (s : Store) (t : Locks) (all : FinMap nat_cmp Held) (h : List Entry) (from to : ℕ) (k : IsSound limits start m s t all h) (x y : Held) (p : Permit)
-    (giver : get all from ≡ Some x) (holds : x.request.held ≡ Some (Write p)) (taker : taker_at from to (get all) ≡ Some y) (may : MayTake (Some y)) where
+    (giver : get all from ≡ Some x) (plain : x.put ≡ None) (holds : x.request.held ≡ Some (Write p)) (taker : taker_at from to (get all) ≡ Some y) (may : MayTake (Some y)) where
   abbrev es : List Event
   es = events_of h
 
@@ -263,7 +265,7 @@ module _ (limits : Limits) (start m : Tracked) (s : Store) (t : Locks) (all : Fi
       (λ l e. let was = old.permit l e in who-still ds p.number to l (permit_of g) (not-this r l not-from was) (λ w at. gone-other y.request.uses.lock r l not-from not-to was w at) ∙ was)
       (λ q. shown-still ds p.number to r q (permit_of g)) (λ rd e. lock-counted all r z rd is e) old
 
-  -- the taker holds the permit, where it uses a lock; else what it held
+  -- the taker holds the permit, if it uses a lock; else what it held
   taker-by : (b : Bool) → (from == to) ≡ b → Follows (Deeds p.number to (Some p.number) ds) (read_locks after) t t' → Holds to (Deeds p.number to (Some p.number) ds) t' y.request.held
   taker-by true same a = subst (Holds to (Deeds p.number to (Some p.number) ds) t') (sym (taker-self same)) (holds-none to _ _)
   taker-by false other a =
@@ -333,14 +335,14 @@ module _ (limits : Limits) (start m : Tracked) (s : Store) (t : Locks) (all : Fi
       ] refl
 
   may-give : MayBe (facts_for s t x.request (taker_in (C.Give from to) h)) (C.Give from to) (Some (untold x))
-  may-give = (subst IsSome (sym permit-named) refl, subst MayTake (sym taker-named) may)
+  may-give = (subst IsSome (sym permit-named) refl, subst MayTake (sym taker-named) (may.0, ap (option_map untold_put) may.1))
 
   abbrev gives : Gives t.age_timeout limits start es ds (Some (untold x)) (C.Give from to) R.Done events
   gives = record {
     facts = facts_for s t x.request (taker_in (C.Give from to) h);
     says = facts-agree limits start m s t all h k from (taker_in (C.Give from to) h) (Some x) giver;
     told = R.Done;
-    answers = inl (may-give, tt, (refl, sym (given-untold p y) ∙ sym ((λ i. given_up (permit-named i) (taker-named i)))));
+    answers = inl (ap (option_map untold_put) plain, inl (may-give, tt, (refl, sym (given-untold p y) ∙ sym ((λ i. given_up (permit-named i) (taker-named i))))));
     copy = inl refl;
     due = gone-due limits start es (Some (untold x)) x.request.write (permit_of g);
     keeps = λ is. (record { eviction = is.eviction; unnumbered = is.unnumbered; fills = is.fills }, λ _. refl);
@@ -387,9 +389,13 @@ told-done : (told : Reply) → IsCopy R.Done told → told ≡ R.Done
 told-done told (inl same) = same
 told-done told (inr other) = let no : R.Done ≡ R.Data other.1.0 = other.1.1 in absurd (cc)
 
+plain-told : (p : Option Taking) → option_map untold_put p ≡ None → p ≡ None
+plain-told None is = refl
+plain-told (Some p) is = absurd (cc)
+
 may-told : (q : Option Held) → MayTake (option_map untold q) → MayTake q
 may-told None may = absurd may
-may-told (Some y) may = may
+may-told (Some y) may = (may.0, plain-told y.put may.1)
 
 module _ (limits : Limits) (start m : Tracked) (s : Store) (t t' : Locks) (before after : List (ℕ × Held)) (h : List Entry) (from to : ℕ) (reply : Reply) (events : List Event) (k : IsSound limits start m s t (from_entries {R = nat_cmp} before) h) (small : length before < 2 ^ 64)
     (hands : HandsOver from to (λ q. open_at q before) t reply events (λ q. open_at q after) t') where
@@ -399,13 +405,13 @@ module _ (limits : Limits) (start m : Tracked) (s : Store) (t t' : Locks) (befor
   abbrev new : FinMap nat_cmp Held
   new = from_entries after
 
-  by-map : HandsOver from to (get all) t reply events (get new) t'
-  by-map =
+  pub hands-by-map : HandsOver from to (get all) t reply events (get new) t'
+  hands-by-map =
       subst (λ (f : ℕ → Option Held). HandsOver from to (get all) t reply events f t') (λ i q. lookup-get after q i)
       (subst (λ (f : ℕ → Option Held). HandsOver from to f t reply events (λ q. open_at q after) t') (λ i q. lookup-get before q i) hands)
 
   as-told : (r : Reply) (noted : List Event) → reply ≡ r → events ≡ noted → HandsOver from to (get all) t r noted (get new) t'
-  as-told r noted is are = subst (λ z. HandsOver from to (get all) t z noted (get new) t') is (subst (λ z. HandsOver from to (get all) t reply z (get new) t') are by-map)
+  as-told r noted is are = subst (λ z. HandsOver from to (get all) t z noted (get new) t') is (subst (λ z. HandsOver from to (get all) t reply z (get new) t') are hands-by-map)
 
   few : (l : ℕ) → read_locks all l + 1 < 2 ^ 128
   few l = let most = locks-few before l in omega arith
@@ -420,18 +426,18 @@ module _ (limits : Limits) (start m : Tracked) (s : Store) (t t' : Locks) (befor
   -- a wrong call
   wrong-turn : Turn limits (C.Give from to) (get all from) s m t R.WrongCall [] (get all from) s m t
   wrong-turn = record {
-    answers = inr (wrong-may (facts_in s t (request_in (get all from))) from to (get all from) refl, (refl, refl));
+    answers = wrong-given (facts_in s t (request_in (get all from))) from to (get all from) R.WrongCall [] (λ _. wrong-may (facts_in s t (request_in (get all from))) from to (get all from) refl) (refl, refl);
     moves = idle (get all from) (get all from) s s [] refl refl refl limits m;
     keeps = keeps-self (get all from);
     now = refl;
     locks = no_locks_move from [] (held_in (get all from)) (held_in (get all from)) t t refl refl refl;
   }
 
-  wrong-ends : (told : Reply) → IsCopy R.WrongCall told → (MayBe F (C.Give from to) (get all from) → ⊥) → HandsOver from to (get all) t R.WrongCall [] (get new) t' → Ends told []
+  wrong-ends : (told : Reply) → IsCopy R.WrongCall told → (FindsKind (C.Give from to) (get all from) → MayBe F (C.Give from to) (get all from) → ⊥) → HandsOver from to (get all) t R.WrongCall [] (get new) t' → Ends told []
   wrong-ends told copy fails w =
       let same : new ≡ set_to all from (get all from) = same_map nat_cmp_total nat_cmp-IsAntisymmetric _ _ (λ q. w.requests q ∙ sym (set-at all from (get all from) q)) in
       let kept = each-turn-keeps limits start m m s s t t all h (C.Give from to) R.WrongCall told [] (get all from) k few wrong-turn copy
-      (inr (λ may. fails (still (get all from) may), (refl, refl))) (λ r giver q. refl) in (
+      (wrong-given (facts_for s t (request_in (get all from)) (taker_in (C.Give from to) h)) from to (get all from) R.WrongCall [] (λ kind may. fails kind (still (get all from) may)) (refl, refl)) (λ r giver q. refl) in (
         subst (λ (u : Locks). IsSound limits start m s u new (record { call = C.Give from to; reply = told; events = [] } ∷ h)) (sym w.table)
             (subst (λ (x : FinMap nat_cmp Held). IsSound limits start m s t x (record { call = C.Give from to; reply = told; events = [] } ∷ h)) (sym same) kept),
         ap (λ (u : Locks). u.age_timeout) w.table,
@@ -442,9 +448,9 @@ module _ (limits : Limits) (start m : Tracked) (s : Store) (t t' : Locks) (befor
       still (Some x) may = (may.0, may-told (taker_at from to (get all)) (subst MayTake (taker-is all h from to k.requests) may.1))
 
   -- the permit is handed over
-  done-ends : (told : Reply) → IsCopy R.Done told → (x y : Held) (p : Permit) → get all from ≡ Some x → permit_in x.request.held ≡ Some p → taker_at from to (get all) ≡ Some y → MayTake (Some y)
+  done-ends : (told : Reply) → IsCopy R.Done told → (x y : Held) (p : Permit) → get all from ≡ Some x → x.put ≡ None → permit_in x.request.held ≡ Some p → taker_at from to (get all) ≡ Some y → MayTake (Some y)
       → HandsOver from to (get all) t R.Done (let_go_of (gone p y)) (get new) t' → Ends told (let_go_of (gone p y))
-  done-ends told copy x y p giver permit taker may w =
+  done-ends told copy x y p giver plain permit taker may w =
       let holds = held-write x.request.held p permit in
       let x1 : Held = on_request unheld x in
       let mid : FinMap nat_cmp Held = set_to all from (Some x1) in
@@ -454,7 +460,7 @@ module _ (limits : Limits) (start m : Tracked) (s : Store) (t t' : Locks) (befor
       let same : new ≡ set_to mid to (Some (handed_by (Some p) y)) = same_map nat_cmp_total nat_cmp-IsAntisymmetric _ _ (λ q.
       w.requests q ∙ (λ i. cond (to == q) (option_map (handed_by (given i)) (at-mid q i)) (at-mid q i))
       ∙ elim (to == q) as (λ b. (to == q) ≡ b → cond b (option_map (handed_by (Some p)) (get mid q)) (get mid q) ≡ cond b (Some (handed_by (Some p) y)) (get mid q)) [
-        | true ↦ λ is. ap (option_map (handed_by (Some p))) (ap (get mid) (sym (eqb-true to q is)) ∙ mid-taker limits start m s t all h from to k x y p giver holds taker may)
+        | true ↦ λ is. ap (option_map (handed_by (Some p))) (ap (get mid) (sym (eqb-true to q is)) ∙ mid-taker limits start m s t all h from to k x y p giver plain holds taker may)
         | false ↦ λ _. refl
       ] refl
       ∙ sym (get-set_to mid to (Some (handed_by (Some p) y)) q)) in
@@ -462,26 +468,31 @@ module _ (limits : Limits) (start m : Tracked) (s : Store) (t t' : Locks) (befor
         subst (λ (r : Reply). IsSound limits start m s t' new (record { call = C.Give from to; reply = r; events = let_go_of (gone p y) } ∷ h)) (sym (told-done told copy))
             (subst (λ (u : Locks). IsSound limits start m s u new (record { call = C.Give from to; reply = R.Done; events = let_go_of (gone p y) } ∷ h)) (sym table)
             (subst (λ (z : FinMap nat_cmp Held). IsSound limits start m s (let_go_by (gone p y) t) z (record { call = C.Give from to; reply = R.Done; events = let_go_of (gone p y) } ∷ h)) (sym same)
-            (handed-sound limits start m s t all h from to k x y p giver holds taker may))),
-        ap (λ (u : Locks). u.age_timeout) table ∙ handed-age limits start m s t all h from to k x y p giver holds taker may,
+            (handed-sound limits start m s t all h from to k x y p giver plain holds taker may))),
+        ap (λ (u : Locks). u.age_timeout) table ∙ handed-age limits start m s t all h from to k x y p giver plain holds taker may,
       )
 
   -- by what it answers
-  by-taker : (told : Reply) → IsCopy R.Done told → reply ≡ R.Done → (x : Held) (p : Permit) (o : Option Held) → get all from ≡ Some x → permit_in x.request.held ≡ Some p → taker_at from to (get all) ≡ o → MayTake o → events ≡ given_up (Some p) o → Ends told events
-  by-taker told copy is x p None giver permit taker may noted = absurd may
-  by-taker told copy is x p (Some y) giver permit taker may noted = subst (Ends told) (sym noted) (done-ends told copy x y p giver permit taker may (as-told R.Done (let_go_of (gone p y)) is noted))
+  by-taker : (told : Reply) → IsCopy R.Done told → reply ≡ R.Done → (x : Held) (p : Permit) (o : Option Held) → get all from ≡ Some x → x.put ≡ None → permit_in x.request.held ≡ Some p → taker_at from to (get all) ≡ o → MayTake o → events ≡ given_up (Some p) o → Ends told events
+  by-taker told copy is x p None giver plain permit taker may noted = absurd may
+  by-taker told copy is x p (Some y) giver plain permit taker may noted = subst (Ends told) (sym noted) (done-ends told copy x y p giver plain permit taker may (as-told R.Done (let_go_of (gone p y)) is noted))
 
-  by-permit : (told : Reply) → IsCopy R.Done told → reply ≡ R.Done → (x : Held) (o : Option Permit) → get all from ≡ Some x → permit_in x.request.held ≡ o → IsSome o → MayTake (taker_at from to (get all)) → events ≡ given_up o (taker_at from to (get all)) → Ends told events
-  by-permit told copy is x None giver permit some may noted = absurd (both_ways false refl some)
-  by-permit told copy is x (Some p) giver permit some may noted = by-taker told copy is x p (taker_at from to (get all)) giver permit refl may noted
+  by-permit : (told : Reply) → IsCopy R.Done told → reply ≡ R.Done → (x : Held) (o : Option Permit) → get all from ≡ Some x → x.put ≡ None → permit_in x.request.held ≡ o → IsSome o → MayTake (taker_at from to (get all)) → events ≡ given_up o (taker_at from to (get all)) → Ends told events
+  by-permit told copy is x None giver plain permit some may noted = absurd (both_ways false refl some)
+  by-permit told copy is x (Some p) giver plain permit some may noted = by-taker told copy is x p (taker_at from to (get all)) giver plain permit refl may noted
 
-  by-giver : (told : Reply) → IsCopy reply told → (q : Option Held) → get all from ≡ q → Answers F (C.Give from to) q reply events → Ends told events
-  by-giver told copy None giver (inl (may, other, does)) = absurd may
-  by-giver told copy (Some x) giver (inl (may, other, does)) = by-permit told (subst (λ r. IsCopy r told) does.0 copy) does.0 x (permit_in x.request.held) giver refl may.0 may.1 does.1
-  by-giver told copy q giver (inr (fails, idle)) = subst (Ends told) (sym idle.1) (wrong-ends told (subst (λ r. IsCopy r told) idle.0 copy) (λ may. fails (subst (λ o. MayBe F (C.Give from to) o) giver may)) (as-told R.WrongCall [] idle.0 idle.1))
+  by-wrong : (told : Reply) → IsCopy reply told → (q : Option Held) → get all from ≡ q → (FindsKind (C.Give from to) q → MayBe F (C.Give from to) q → ⊥) → IsIdle R.WrongCall reply events → Ends told events
+  by-wrong told copy q giver fails idle =
+      subst (Ends told) (sym idle.1) (wrong-ends told (subst (λ r. IsCopy r told) idle.0 copy) (subst (λ o. FindsKind (C.Give from to) o → MayBe F (C.Give from to) o → ⊥) (sym giver) fails) (as-told R.WrongCall [] idle.0 idle.1))
+
+  by-giver : (told : Reply) → IsCopy reply told → (q : Option Held) → get all from ≡ q → Replies F (C.Give from to) q reply events → Ends told events
+  by-giver told copy None giver (inl (kind, inl (may, other, does))) = absurd may
+  by-giver told copy (Some x) giver (inl (kind, inl (may, other, does))) = by-permit told (subst (λ r. IsCopy r told) does.0 copy) does.0 x (permit_in x.request.held) giver kind refl may.0 may.1 does.1
+  by-giver told copy q giver (inl (kind, inr (fails, idle))) = by-wrong told copy q giver (λ _ may. fails may) idle
+  by-giver told copy q giver (inr (other, idle)) = by-wrong told copy q giver (λ kind _. other kind) idle
 
   pub give_sound : (told : Reply) → IsCopy reply told → IsSound limits start m s t' new (record { call = C.Give from to; reply = told; events = events } ∷ h)
-  give_sound told copy = (by-giver told copy (get all from) refl (by-map.answers s)).0
+  give_sound told copy = (by-giver told copy (get all from) refl (hands-by-map.answers s)).0
 
   pub give_age : t'.age_timeout ≡ t.age_timeout
-  give_age = (by-giver reply (inl refl) (get all from) refl (by-map.answers s)).1
+  give_age = (by-giver reply (inl refl) (get all from) refl (hands-by-map.answers s)).1

@@ -106,7 +106,7 @@ keeps-unmade x y uses entry write on none world = (
   λ some. absurd (none world (subst (λ (o : Option ℕ). IsSome o) write some)),
 )
 
--- the key may change where none is made
+-- the key may change if none is made
 pub keeps-looking : (x y : Request) → MayLookUp x.phase → y.uses ≡ x.uses → y.entry ≡ x.entry → y.write ≡ x.write → y.phase ≡ x.phase → KeepsIn x y
 keeps-looking x y may uses entry write at = keeps-unmade x y uses entry write (subst IsOn at) (λ world some. no-look x.phase may (world.fills some))
 

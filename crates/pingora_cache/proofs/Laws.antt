@@ -50,7 +50,7 @@ named e h r is = subst (λ x. rowed x e h ≡ row e.call e.reply e.events (reque
 unnamed : (e : Entry) (h : List Entry) (r : ℕ) → number_of e.call ≢ r → rowed r e h ≡ request_of r h
 unnamed e h r ne = ap (λ b. if b then row e.call e.reply e.events (request_of r h) else request_of r h) (ne_eqb (number_of e.call) r ne)
 
--- where a request keeps
+-- if a request keeps
 keeps-world : (q q' : Option Held) → KeepsKey q q' → IsOfWorldIn q → IsOfWorldIn q'
 keeps-world q None k w = tt
 keeps-world None (Some y) k w = k.0
@@ -158,7 +158,7 @@ stands k es x t is =
     let f = t.finished k p.0 p.1 in
     (p.0, f.1, inr f.2, p.2)
 
--- nothing is found only where there is no such write
+-- nothing is found only if there is no such write
 nothing : (k : ℕ) (es : List Event) → IsTidy es → ((q : ℕ) → is_open k q es ≡ false) → complete k es ≡ None → HasUntouched k es → ⊥
 nothing k es t closed none u =
     elim u.2 [

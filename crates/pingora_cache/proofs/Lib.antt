@@ -1,5 +1,6 @@
 pub mod AnswersLaw
 pub mod Bound
+pub mod BySelf
 pub mod Copied
 pub mod Counts
 pub mod Due
@@ -19,6 +20,12 @@ pub mod MovesOf
 pub mod Noted
 pub mod Opened
 pub mod Promised
+pub mod PutClosed
+pub mod PutFed
+pub mod PutShape
+pub mod PutSound
+pub mod PutTurns
+pub mod PutWrites
 pub mod ReadLocks
 pub mod ReadsLaw
 pub mod Runs

@@ -12,8 +12,8 @@ use Rattle.pcache_lock.specs.declared.lock.permit.Locked.TheVariants.{Write, Rea
 use Rattle.pcache_lock.specs.declared.lock.status.LockStatus.{LockStatus}
 use Rattle.pcache_lock.specs.Statuses.{IsReason, is_free}
 use Rattle.pcache_lock.specs.Permits.{Core, Permit, Reader, Watch}
-use Rattle.pcache_lock.specs.Locks.{Locks, holder, held_by, unless_free, given, after_request, changed, is_permit, number_of_lock}
-use Rattle.pcache_lock.specs.Waiting.{answer_at, is_old, looked, polled, published, reader_at, reader_polled, stage_of, told_or_pending, watch_at, with_publication}
+use Rattle.pcache_lock.specs.Locks.{Locks, holder, held_by, unless_free, lock_given, after_request, changed, is_permit, number_of_lock}
+use Rattle.pcache_lock.specs.Waiting.{answer_at, is_old, watched, polled, published, reader_at, reader_polled, stage_of, told_or_pending, watch_at, with_publication}
 use Rattle.pcache_lock.specs.Waits.{is_old_at}
 use Rattle.pcache_request.specs.LockWaits.{is_old_answer, too_old_for}
 use Rattle.pcache_request.specs.Requests.{let_go_by, settled}
@@ -150,8 +150,8 @@ module _ (r : ℕ) (ds : List Deed) (n m : ℕ → ℕ) (t : Locks) (mine : Opti
       let lt = held-given ds n t k x (ap is_some (old x refl)) in
       ap (λ b. if b then None else (if t.next == t.next then Some r else who_holds t.next ds)) (ne_eqb x t.next (λ same. absurd (omega (arith, same, lt)))) ∙ ap (λ b. if b then Some r else who_holds t.next ds) (same-number t.next)
 
-  asked-kept : (slot : ℕ) (stale : Bool) (at : ℕ) (o : Option ℕ) → holder t slot ≡ o → ((l : ℕ) → n l + 1 < 2 ^ 128) → ((l : ℕ) → m l + locks_read l mine ≡ n l + locks_read l (Some (given t stale o)))
-      → Kept r ds (each_deed LetGo (permit_of mine) ++ Asked r slot (number_of_lock (given t stale o)) (is_permit (given t stale o)) at ∷ ds) n m t (let_go_by mine (after_request t slot stale at o)) (Some (given t stale o))
+  asked-kept : (slot : ℕ) (stale : Bool) (at : ℕ) (o : Option ℕ) → holder t slot ≡ o → ((l : ℕ) → n l + 1 < 2 ^ 128) → ((l : ℕ) → m l + locks_read l mine ≡ n l + locks_read l (Some (lock_given t stale o)))
+      → Kept r ds (each_deed LetGo (permit_of mine) ++ Asked r slot (number_of_lock (lock_given t stale o)) (is_permit (lock_given t stale o)) at ∷ ds) n m t (let_go_by mine (after_request t slot stale at o)) (Some (lock_given t stale o))
   asked-kept slot stale at None is few count =
       let gs = Asked r slot t.next true at ∷ ds in
       let es = each_deed LetGo (permit_of mine) ++ gs in
@@ -202,7 +202,7 @@ module _ (r : ℕ) (ds : List Deed) (n m : ℕ → ℕ) (t : Locks) (mine : Opti
   rest-kept : ((l : ℕ) → m l + locks_read l mine ≡ n l + locks_read l mine) → Kept r ds ds n m t t mine
   rest-kept count = kept-by r ds ds n m t t mine k (same-count ds n m t t (λ q. omega (arith, count q)) (table.rests ds n t k)) holds (λ p q ne e. e) (λ q l ne. refl)
 
--- tokens are published where a permit is held
+-- tokens are published if a permit is held
 published-table : (ds : List Deed) (n : ℕ → ℕ) (t : Locks) (l : ℕ) (tokens : List ℕ) (c : Core) → IsTable ds n t → get t.cores l ≡ Some c → IsTable (Published l tokens ∷ ds) n (record t { cores = insert t.cores l (with_publication tokens c) })
 published-table ds n t l tokens c k is =
     let new : Core = with_publication tokens c in
@@ -254,13 +254,13 @@ published-kept r ds n m t p tokens k holds count =
 
 -- a read lock is polled, and waits on
 module _ (r : ℕ) (ds : List Deed) (n m : ℕ → ℕ) (t : Locks) (rd : Reader) (k : IsTable ds n t) (holds : Holds r ds t (Some (Read rd))) where
-  polled-stage : (at : ℕ) (fills : Option (List UnusableFill)) (c : Core) → get t.cores rd.number ≡ Some c → (s : Stage) → answer_at s (looked c (watch_at c fills rd.watch)) ≡ Pending
-      → ((l : ℕ) → m l + locks_read l (Some (Read rd)) ≡ n l + locks_read l (Some (Read (reader_at s rd (looked c (watch_at c fills rd.watch))))))
-      → Kept r ds (Polled r ∷ ds) n m t t (Some (Read (reader_at s rd (looked c (watch_at c fills rd.watch)))))
+  polled-stage : (at : ℕ) (fills : Option (List UnusableFill)) (c : Core) → get t.cores rd.number ≡ Some c → (s : Stage) → answer_at s (watched c (watch_at c fills rd.watch)) ≡ Pending
+      → ((l : ℕ) → m l + locks_read l (Some (Read rd)) ≡ n l + locks_read l (Some (Read (reader_at s rd (watched c (watch_at c fills rd.watch))))))
+      → Kept r ds (Polled r ∷ ds) n m t t (Some (Read (reader_at s rd (watched c (watch_at c fills rd.watch)))))
   polled-stage at fills c is stage.Over pending count = absurd (cc)
   polled-stage at fills c is stage.Old pending count = absurd (cc)
   polled-stage at fills c is stage.Held pending count =
-      let x : Watch = looked c (watch_at c fills rd.watch) in
+      let x : Watch = watched c (watch_at c fills rd.watch) in
       let now : Reader = record rd { watch = Some x } in
       kept-by r ds (Polled r ∷ ds) n m t t (Some (Read now)) k (same-count (Polled r ∷ ds) n m t t (λ q. omega (arith, count q)) (table.polls ds n t k r))
       (record {
@@ -289,7 +289,7 @@ module _ (r : ℕ) (ds : List Deed) (n m : ℕ → ℕ) (t : Locks) (rd : Reader
 
   old-core : (at : ℕ) (fills : Option (List UnusableFill)) (o : Option Core) → is_old_answer (polled at fills rd.watch o) ≡ true → is_old_at at o ≡ true
   old-core at fills None e = absurd (cc)
-  old-core at fills (Some c) e = old-stage (stage_of at c) (looked c (watch_at c fills rd.watch)) e
+  old-core at fills (Some c) e = old-stage (stage_of at c) (watched c (watch_at c fills rd.watch)) e
 
   aged-kept : (at : ℕ) (fills : Option (List UnusableFill)) → too_old_for t at (Some (Read rd)) fills ≡ true → ((l : ℕ) → m l + locks_read l (Some (Read rd)) ≡ n l + 0)
       → Kept r ds (Aged rd.number ∷ ds) n m t (let_go_by (Some (Read rd)) (table_polled at (Some (Read rd)) t)) None
@@ -314,7 +314,7 @@ moved-kept : (r : ℕ) (ds : List Deed) (n m : ℕ → ℕ) (t : Locks) (move : 
     → ((l : ℕ) → m l + locks_read l mine ≡ n l + locks_read l (held_moved move mine t)) → Kept r ds (reverse (deeds_moved move r mine t) ++ ds) n m t (table_moved move mine t) (held_moved move mine t)
 moved-kept r ds n m t rests mine k holds may few count = rest-kept r ds n m t mine k holds count
 moved-kept r ds n m t (asks slot stale at) mine k holds may few count =
-    subst (λ es. Kept r ds es n m t (let_go_by mine (after_request t slot stale at (holder t slot))) (Some (given t stale (holder t slot)))) (sym (reversed-two (Asked r slot (number_of_lock (given t stale (holder t slot))) (is_permit (given t stale (holder t slot))) at) LetGo (permit_of mine) ds))
+    subst (λ es. Kept r ds es n m t (let_go_by mine (after_request t slot stale at (holder t slot))) (Some (lock_given t stale (holder t slot)))) (sym (reversed-two (Asked r slot (number_of_lock (lock_given t stale (holder t slot))) (is_permit (lock_given t stale (holder t slot))) at) LetGo (permit_of mine) ds))
     (asked-kept r ds n m t mine k holds slot stale at (holder t slot) refl few count)
 moved-kept r ds n m t (settles s) mine k holds may few count = subst (λ es. Kept r ds es n m t (settled s mine t) None) (sym (reversed-one (λ x. Released x s) (permit_of mine) ds)) (settled-kept r ds n m t mine k holds s may count)
 moved-kept r ds n m t lets_go mine k holds may few count = subst (λ es. Kept r ds es n m t (let_go_by mine t) None) (sym (reversed-one LetGo (permit_of mine) ds)) (gone-kept r ds n m t mine k holds count)
@@ -346,6 +346,6 @@ module _ (ds : List Deed) (n n' : ℕ → ℕ) (r : ℕ) (mine last : Option Loc
   pub holds-kept : Holds r (reverse new ++ ds) u last
   holds-kept = all-kept.mine
 
-  -- what another request holds, where its read lock is counted
+  -- what another request holds, if its read lock is counted
   pub others-hold : (q : ℕ) (other : Option Locked) → q ≢ r → Holds q ds t other → ((rd : Reader) → other ≡ Some (Read rd) → 0 < n rd.number) → Holds q (reverse new ++ ds) u other
   others-hold = all-kept.others

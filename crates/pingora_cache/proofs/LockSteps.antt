@@ -6,7 +6,7 @@ use Rattle.pcache_base.specs.Key.{Key, slot}
 use Rattle.pcache_base.specs.declared.error.ErrorType.{ErrorType}
 use Rattle.pcache_base.specs.declared.error.ErrorType.TheVariants.{WriteRemoved}
 use Rattle.pcache_evict.specs.declared.eviction.entry_key.CacheEntryKey.{CacheEntryKey}
-use Rattle.pcache_lock.specs.Locks.{Locks, holder, given, is_permit, number_of_lock}
+use Rattle.pcache_lock.specs.Locks.{Locks, holder, lock_given, is_permit, number_of_lock}
 use Rattle.pcache_lock.specs.Statuses.{IsReason}
 use Rattle.pcache_lock.specs.declared.lock.permit.Locked.{Locked}
 use Rattle.pcache_lock.specs.declared.lock.permit.Locked.TheVariants.{Write, Read}
@@ -43,7 +43,7 @@ quiet-first : (r at : ℕ) (s : LockStatus) (xs ys : List Event) → AreOfNoLock
 quiet-first r at s [] ys h = refl
 quiet-first r at s (e ∷ xs) ys h = ap (λ ds. ds ++ deeds_by r at s (xs ++ ys)) (quiet-deed r at s e h.0) ∙ quiet-first r at s xs ys h.1
 
-quiet-deeds : (r at : ℕ) (s : LockStatus) (xs : List Event) → AreOfNoLock xs → deeds_by r at s xs ≡ []
+pub quiet-deeds : (r at : ℕ) (s : LockStatus) (xs : List Event) → AreOfNoLock xs → deeds_by r at s xs ≡ []
 quiet-deeds r at s [] h = refl
 quiet-deeds r at s (e ∷ xs) h = ap (λ ds. ds ++ deeds_by r at s xs) (quiet-deed r at s e h.0) ∙ quiet-deeds r at s xs h.1
 
@@ -98,7 +98,7 @@ none_noted r at s events h last t u none same is = no_locks_move r (deeds_by r a
 settles-as : (r : ℕ) (s : LockStatus) (t u : Locks) (h last : Option Locked) (o : Option ℕ) (ds : List Deed) → IsReason s → o ≡ permit_of h → ds ≡ each_deed (λ n. Released n s) o → last ≡ None → u ≡ settled s h t → MovesLocks r ds h t last u
 settles-as r s t u h last o ds reason permit is none to = record { move = settles s; may = reason; done = is ∙ ap (each_deed (λ n. Released n s)) permit; held = none; table = to }
 
--- with these events before it and behind it
+-- with these events before it and after it
 pub settle-locks : (r at : ℕ) (s : LockStatus) (t u : Locks) (h last : Option Locked) (o : Option ℕ) (first behind events : List Event) → IsReason s → AreOfNoLock first → AreOfNoLock behind → events ≡ (first ++ each E.Release o) ++ behind → o ≡ permit_of h → last ≡ None → u ≡ settled s h t
     → MovesLocks r (deeds_by r at s events) h t last u
 settle-locks r at s t u h last o first behind events reason quiet still is permit none to =
@@ -109,7 +109,7 @@ no-after : (es : List Event) → es ++ [] ≡ es
 no-after [] = refl
 no-after (e ∷ es) = ap (λ xs. e ∷ xs) (no-after es)
 
--- alone; and with the drop of a write behind it
+-- alone; and with the drop of a write after it
 pub settle-alone : (r at : ℕ) (s : LockStatus) (t u : Locks) (h last : Option Locked) (o : Option ℕ) (old events : List Event) → IsReason s → o ≡ permit_of h → old ≡ [] → events ≡ old ++ each E.Release o → last ≡ None → u ≡ settled s h t → MovesLocks r (deeds_by r at s events) h t last u
 settle-alone r at s t u h last o old events reason permit none is gone to =
     settle-locks r at s t u h last o old [] events reason (subst AreOfNoLock (sym none) tt) tt (is ∙ sym (no-after (old ++ each E.Release o))) permit gone to
@@ -117,7 +117,7 @@ settle-alone r at s t u h last o old events reason permit none is gone to =
 pub settle-then : (r at : ℕ) (s : LockStatus) (t u : Locks) (h last : Option Locked) (o write : Option ℕ) (old events : List Event) → IsReason s → o ≡ permit_of h → old ≡ [] → events ≡ old ++ each E.Release o ++ drop_of write → last ≡ None → u ≡ settled s h t → MovesLocks r (deeds_by r at s events) h t last u
 settle-then r at s t u h last o write old events reason permit none is gone to = settle-locks r at s t u h last o old (drop_of write) events reason (subst AreOfNoLock (sym none) tt) (quiet-drop write) is permit gone to
 
--- behind one event, and before another
+-- after one event, and before another
 pub release-locks : (r at : ℕ) (s : LockStatus) (t u : Locks) (h last : Option Locked) (o : Option ℕ) (one : Event) (old events : List Event) → IsReason s → IsOfNoLock one → o ≡ permit_of h → old ≡ [] → events ≡ old ++ one ∷ each E.Release o → last ≡ None → u ≡ settled s h t → MovesLocks r (deeds_by r at s events) h t last u
 release-locks r at s t u h last o one old events reason quiet permit none is gone to =
     settle-locks r at s t u h last o (one ∷ []) [] events reason (quiet, tt) tt (is ∙ ap (λ es. es ++ one ∷ each E.Release o) none ∙ sym (no-after (one ∷ each E.Release o))) permit gone to
@@ -139,7 +139,7 @@ pub renewed-locks : (r at : ℕ) (s : LockStatus) (t u : Locks) (h last : Option
 renewed-locks r at s t u h last o j m a old mid events reason permit none is all gone to =
     settle-locks r at s t u h last o mid [] events reason (subst AreOfNoLock (sym (is ∙ ap (λ es. es ++ renewing j m a) none)) (quiet-renewing j m a)) tt (all ∙ sym (no-after (mid ++ each E.Release o))) permit gone to
 
--- a permit is released where the key gives its variance up
+-- a permit is released if the key gives its variance up
 pub varied-locks : (r at : ℕ) (s : LockStatus) (t u : Locks) (b : Bool) (h last : Option Locked) (o : Option ℕ) (old events : List Event) → IsReason s → o ≡ permit_in (cond b (option_map name_of h) None) → old ≡ [] → events ≡ old ++ each E.Release o → last ≡ cond b None h → u ≡ cond b (settled s h t) t
     → MovesLocks r (deeds_by r at s events) h t last u
 varied-locks r at s t u b h last o old events reason permit none is gone to =
@@ -166,34 +166,34 @@ publish-locks r t u tokens h to = record { move = publishes tokens; may = tt; do
 
 -- ---- the lock of a key is asked for
 
--- a lock that is asked for, where it is
+-- a lock that is asked for, if it is
 abbrev asked_if : Bool → Bool → Locks → Option Key → Option Locked → Option AskedLock
 asked_if b stale t o h = cond b (option_map (λ k. asked_with stale t k h) o) None
 
 asked-deeds : (r at : ℕ) (s : LockStatus) (j n : ℕ) (b : Bool) (o : Option ℕ) → deeds_by r at s (E.Ask j n b ∷ each E.LetGo o) ≡ Asked r j n b at ∷ each_deed LetGo o
 asked-deeds r at s j n b o = ap (λ ds. Asked r j n b at ∷ ds) (let-go-deeds r at s o)
 
--- of a request that holds h, behind these events
-asks-locks : (r at : ℕ) (s : LockStatus) (t u : Locks) (b stale : Bool) (j : ℕ) (o : Option Key) (k : Key) (h last : Option Locked) (a : Option AskedLock) (first events : List Event) → o ≡ Some k → j ≡ slot k → a ≡ asked_if b stale t o h → last ≡ cond b (option_map (λ k. given t stale (holder t (slot k))) o) h
+-- of a request that holds h, after these events
+asks-locks : (r at : ℕ) (s : LockStatus) (t u : Locks) (b stale : Bool) (j : ℕ) (o : Option Key) (k : Key) (h last : Option Locked) (a : Option AskedLock) (first events : List Event) → o ≡ Some k → j ≡ slot k → a ≡ asked_if b stale t o h → last ≡ cond b (option_map (λ k. lock_given t stale (holder t (slot k))) o) h
     → u ≡ cond b (table_asked stale at o h t) t → AreOfNoLock first → events ≡ first ++ asking j a → MovesLocks r (deeds_by r at s events) h t last u
 asks-locks r at s t u b stale j o k h last a first events key is asked now to quiet all =
-    elim b as (λ b. a ≡ asked_if b stale t o h → last ≡ cond b (option_map (λ k. given t stale (holder t (slot k))) o) h → u ≡ cond b (table_asked stale at o h t) t → MovesLocks r (deeds_by r at s events) h t last u) [
+    elim b as (λ b. a ≡ asked_if b stale t o h → last ≡ cond b (option_map (λ k. lock_given t stale (holder t (slot k))) o) h → u ≡ cond b (table_asked stale at o h t) t → MovesLocks r (deeds_by r at s events) h t last u) [
       | true ↦ λ e f g. record {
         move = asks (slot k) stale at;
         may = tt;
         done = ap (deeds_by r at s) (all ∙ (λ i. first ++ asking (is i) (e i)) ∙ ap (λ q. first ++ asking (slot k) (asked_if true stale t q h)) key) ∙ quiet-first r at s first (asking (slot k) (asked_if true stale t (Some k) h)) quiet
-            ∙ asked-deeds r at s (slot k) (number_of_lock (given t stale (holder t (slot k)))) (is_permit (given t stale (holder t (slot k)))) (permit_in (option_map name_of h))
-            ∙ ap (λ p. Asked r (slot k) (number_of_lock (given t stale (holder t (slot k)))) (is_permit (given t stale (holder t (slot k)))) at ∷ each_deed LetGo p) (permit-named h);
-        held = f ∙ ap (option_map (λ k. given t stale (holder t (slot k)))) key;
+            ∙ asked-deeds r at s (slot k) (number_of_lock (lock_given t stale (holder t (slot k)))) (is_permit (lock_given t stale (holder t (slot k)))) (permit_in (option_map name_of h))
+            ∙ ap (λ p. Asked r (slot k) (number_of_lock (lock_given t stale (holder t (slot k)))) (is_permit (lock_given t stale (holder t (slot k)))) at ∷ each_deed LetGo p) (permit-named h);
+        held = f ∙ ap (option_map (λ k. lock_given t stale (holder t (slot k)))) key;
         table = g ∙ ap (λ q. table_asked stale at q h t) key;
       }
       | false ↦ λ e f g. quiet_locks r at s events h last t u (subst AreOfNoLock (sym (all ∙ ap (λ x. first ++ asking j x) e ∙ no-after first)) quiet) f g
     ] asked now to
 
-held-asked : (b stale : Bool) (t : Locks) (o : Option Key) (x : Request) (k : Key) → o ≡ Some k → (cond b (with_lock stale t o x) x).held ≡ cond b (option_map (λ k. given t stale (holder t (slot k))) o) x.held
+held-asked : (b stale : Bool) (t : Locks) (o : Option Key) (x : Request) (k : Key) → o ≡ Some k → (cond b (with_lock stale t o x) x).held ≡ cond b (option_map (λ k. lock_given t stale (holder t (slot k))) o) x.held
 held-asked b stale t o x k key =
-    subst (λ o. (cond b (with_lock stale t o x) x).held ≡ cond b (option_map (λ k. given t stale (holder t (slot k))) o) x.held) (sym key)
-    (elim b as (λ b. (cond b (with_lock stale t (Some k) x) x).held ≡ cond b (option_map (λ k. given t stale (holder t (slot k))) (Some k)) x.held) [ true ↦ refl | false ↦ refl ])
+    subst (λ o. (cond b (with_lock stale t o x) x).held ≡ cond b (option_map (λ k. lock_given t stale (holder t (slot k))) o) x.held) (sym key)
+    (elim b as (λ b. (cond b (with_lock stale t (Some k) x) x).held ≡ cond b (option_map (λ k. lock_given t stale (holder t (slot k))) (Some k)) x.held) [ true ↦ refl | false ↦ refl ])
 
 -- a look-up that hands nothing on
 pub missed-locks : (r at : ℕ) (s : LockStatus) (t u : Locks) (x y : Request) (k : Key) (answer : Answer) (j : ℕ) (a : Option AskedLock) (old first events : List Event) → x.key ≡ Some k → j ≡ slot k → a ≡ asked_for_key t x → y ≡ with_key_lock t x → u ≡ table_key_locked at x t

@@ -19,7 +19,7 @@ use Rattle.pcache_lock.specs.declared.lock.status.LockStatus.TheVariants as stat
 use Rattle.pcache_lock.specs.Statuses.{is_aged, is_pending, is_waiting}
 use Rattle.pcache_lock.specs.Locks.{Locks}
 use Rattle.pcache_lock.specs.Permits.{Core, Reader, Watch}
-use Rattle.pcache_lock.specs.Waiting.{first_told, looked, watch_at, polled, publications_with, says_nothing, answer_at, told_or_pending, status_seen}
+use Rattle.pcache_lock.specs.Waiting.{first_told, watched, watch_at, polled, publications_with, says_nothing, answer_at, told_or_pending, status_seen}
 use Rattle.pcache_request.specs.LockWaits.{answer_by, is_late, wait_answer, too_old_for, is_old_answer, unusable_in}
 use Rattle.pcache_request.specs.Requests.{Request}
 use Rattle.pingora_cache.specs.Deeds.{Deed, Published, Polled, is_held, status_of, standing, shown, shown_first, shown_more}
@@ -43,7 +43,7 @@ told-more : (fills : List UnusableFill) (ps qs : List (List ℕ)) → first_told
 told-more fills [] qs = refl
 told-more fills (p ∷ ps) qs = ap (option_or (first_match p fills)) (told-more fills ps qs) ∙ sym (or_or (first_match p fills) (first_told fills ps) (first_told fills qs))
 
--- no fill is found where nothing is published
+-- no fill is found if nothing is published
 none-match : (fills : List UnusableFill) → first_match [] fills ≡ None
 none-match [] = refl
 none-match (f ∷ fs) = none-match fs
@@ -102,14 +102,14 @@ first-same p (q ∷ qs) ne = refl
 
 -- what it was told once it looked: as it will be shown, and as a poll answers
 told-looked : (ds : List Deed) (c : Core) (r l : ℕ) (fills : Option (List UnusableFill)) (w : Option Watch) → last_of c.publications ≡ standing l ds → IsWatch r l ds w c
-    → (looked c (watch_at c fills w)).told ≡ first_told (looked c (watch_at c fills w)).fills (shown_first (standing l ds) (shown r l ds))
+    → (watched c (watch_at c fills w)).told ≡ first_told (watched c (watch_at c fills w)).fills (shown_first (standing l ds) (shown r l ds))
 told-looked ds c r l fills None said k =
     let fs : List UnusableFill = unwrap_or fills [] in
     from-last c.publications fs ∙ ap (λ x. first_match x fs) said ∙ sym (ap (λ ps. first_told fs (shown_first (standing l ds) ps)) k ∙ or_none (first_match (standing l ds) fs))
 told-looked ds c r l fills (Some w) said k = k.told ∙ sym (ap (first_told w.fills) (first-same (standing l ds) (shown r l ds) k.some))
 
 told-same : (ds : List Deed) (c : Core) (r : ℕ) (rd : Reader) (fills : Option (List UnusableFill)) (w : Option Watch) → last_of c.publications ≡ standing rd.number ds → IsWatch r rd.number ds w c
-    → (looked c (watch_at c fills w)).told ≡ told_of r (record { number = rd.number; watch = w }) fills ds
+    → (watched c (watch_at c fills w)).told ≡ told_of r (record { number = rd.number; watch = w }) fills ds
 told-same ds c r rd fills None said k =
     let fs : List UnusableFill = unwrap_or fills [] in
     from-last c.publications fs ∙ ap (λ x. first_match x fs) said ∙ sym (or_none (first_match (standing rd.number ds) fs))
@@ -117,9 +117,9 @@ told-same ds c r rd fills (Some w) said k = k.told
 
 -- a poll after which it waits on
 pub watch-polled : (ds : List Deed) (c : Core) (r l : ℕ) (fills : Option (List UnusableFill)) (w : Option Watch) → last_of c.publications ≡ standing l ds → IsWatch r l ds w c
-    → IsWatch r l (Polled r ∷ ds) (Some (looked c (watch_at c fills w))) c
+    → IsWatch r l (Polled r ∷ ds) (Some (watched c (watch_at c fills w))) c
 watch-polled ds c r l fills w said k =
-    let x : Watch = looked c (watch_at c fills w) in
+    let x : Watch = watched c (watch_at c fills w) in
     record {
       seen = omega arith;
       some = λ e. first-not (standing l ds) (shown r l ds) (sym (shown-polled r l ds) ∙ e);
@@ -189,7 +189,7 @@ poll-said true s age start now w o pending told =
       | false ↦ ap told_or_pending told
     ]
 
--- where the permit is over, its status is the one that a reader sees
+-- if the permit is over, its status is the one that a reader sees
 seen-by : (held old : Bool) (s : LockStatus) (expired late : Bool) (told : Option UnusableFill) → (held ≡ false → is_waiting s ≡ false)
     → answer_by (cond (is_waiting s && expired) status.AgeTimeout s) late (if held then (if old then Ready W.AgeTimeout else told_or_pending told) else Ready W.Released)
     ≡ answer_by s late (if held then (if old then Ready W.AgeTimeout else told_or_pending told) else Ready W.Released)
@@ -205,7 +205,7 @@ module _ (ds : List Deed) (n : ℕ → ℕ) (t : Locks) (now r : ℕ) (rd : Read
       let found = read-there ds n t k l read in
       let c = found.0 in
       let lock = lock-at ds n t k l c found.1 in
-      let x : Watch = looked c (watch_at c fills rd.watch) in
+      let x : Watch = watched c (watch_at c fills rd.watch) in
       let told : x.told ≡ told_of r rd fills ds = told-same ds c r rd fills rd.watch (k.said l c found.1) (holds.watch rd c refl found.1) in
       let held : c.held ≡ is_held l ds = ap (λ y. y.held) lock.same in
       let stood : c.status ≡ status_of l ds = ap (λ y. y.status) lock.same in

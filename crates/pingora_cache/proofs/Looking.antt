@@ -62,12 +62,12 @@ find-at s o k p key found = sym found ∙ ap (found_for s) key
 
 -- what becomes of a request that is turned off, and of one that is not
 abbrev pub off_with : Option Decision → Held → Held
-off_with d x = record { request = disabled_for Deferred (with_decision d x.request); pair = None; carried = None }
+off_with d x = record { request = disabled_for Deferred (with_decision d x.request); pair = None; carried = None; put = x.put }
 
 abbrev pub on_with : Option Decision → List Event → Option (Meta × Reader) → Held → Held
-on_with d es p x = record { request = asked false es (with_decision d x.request); pair = p; carried = x.carried }
+on_with d es p x = record { request = asked false es (with_decision d x.request); pair = p; carried = x.carried; put = x.put }
 
--- ---- where nothing was found
+-- ---- if nothing was found
 
 module _ (s : Store) (t : Locks) (x y : Held) (u : Store) (none : found_for s x.request.key ≡ None) (reply : Reply) (events : List Event) where
   abbrev pub own : Option Decision
@@ -113,7 +113,7 @@ module _ (s : Store) (t : Locks) (x y : Held) (u : Store) (none : found_for s x.
         let by : looked_with own Nothing rest x ≡ off_with own x = ap (λ b. cond b (off_with own x) (on_with own rest None x)) goes in
         now ∙ sym by ∙ ap (λ es. looked_by es x) (sym h.2)
 
-    store-undecided : (d : Option Decision) → store_ended (record { request = with_decision d x.request; pair = x.pair; carried = x.carried }) s ≡ store_ended x s
+    store-undecided : (d : Option Decision) → store_ended (record { request = with_decision d x.request; pair = x.pair; carried = x.carried; put = x.put }) s ≡ store_ended x s
     store-undecided None = refl
     store-undecided (Some d) = refl
 
@@ -122,7 +122,7 @@ module _ (s : Store) (t : Locks) (x y : Held) (u : Store) (none : found_for s x.
         let g = undeferred own h in
         defers x y s u (slot g.0) (permit_of x.request.held) events (find-at s x.request.key g.0 None g.1 none) g.2 (ap (λ (z : Held). z.pair) now) empty.1 empty.2 (to ∙ store-undecided own)
 
--- ---- where something was found
+-- ---- if something was found
 
 -- a request that finds something has a key
 pub key-found : (s : Store) (o : Option Key) (p : Meta × Reader) → found_for s o ≡ Some p → (k : Key) × (o ≡ Some k)
@@ -159,7 +159,7 @@ module _ (x y : Held) (p : Meta × Reader) (a : Answer) (pair : pair_of a ≡ So
 
 -- it is handed on
 pub seen-moves : (x y : Held) (s u : Store) (k : Key) (j : ℕ) (a : Answer) (p : Meta × Reader) (old events : List Event) → found_for s x.request.key ≡ Some p → x.request.key ≡ Some k → j ≡ slot k → pair_of a ≡ Some p → old ≡ [] → events ≡ old ++ E.Look j a ∷ []
-    → y ≡ record { request = x.request; pair = Some p; carried = x.carried } → u ≡ left_by (pair_reader x.pair) (followed s (Some p)) → MovesStore (Some x) s events (Some y) u
+    → y ≡ record { request = x.request; pair = Some p; carried = x.carried; put = x.put } → u ≡ left_by (pair_reader x.pair) (followed s (Some p)) → MovesStore (Some x) s events (Some y) u
 seen-moves x y s u k j a p old events found key at pair none all now to =
     noted x y s u (slot k) a (Some p) [] events pair (find-at s x.request.key k (Some p) key found) tt (all ∙ ap (λ es. es ++ E.Look j a ∷ []) none ∙ ap (λ q. E.Look q a ∷ []) at)
     (ap (λ (z : Held). z.pair) now) (ap (λ (z : Held). z.request.reader) now) (ap (λ (z : Held). z.request.write) now) to

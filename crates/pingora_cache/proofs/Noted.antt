@@ -7,7 +7,7 @@ use Rattle.pcache_meta.specs.Meta as metas
 use Rattle.pcache_meta.specs.Meta.{Meta}
 use Rattle.pcache_base.specs.declared.error.ErrorType.{ErrorType}
 use Rattle.pcache_base.specs.declared.error.ErrorType.TheVariants.{OutOfMemory, NumbersExhausted}
-use Rattle.pcache_lock.specs.Locks.{Locks, MayRefuseLock, given, holder, is_permit, number_of_lock}
+use Rattle.pcache_lock.specs.Locks.{Locks, MayRefuseLock, lock_given, holder, is_permit, number_of_lock}
 use Rattle.pcache_lock.specs.declared.lock.permit.Locked.{Locked}
 use Rattle.pcache_lock.specs.declared.lock.status.LockStatus.{LockStatus}
 use Rattle.pcache_lock.specs.declared.lock.permit.Locked.TheVariants.{Write, Read}
@@ -22,7 +22,7 @@ use Rattle.pcache_request.specs.declared.cache.finish.FinishReport.{FinishReport
 use Rattle.pcache_request.specs.declared.cache.finish.WriteEnd.{WriteEnd}
 use Rattle.pcache_request.specs.declared.cache.finish.WriteEnd.TheVariants.{Stored}
 use Rattle.pcache_store.specs.Purge.{purge_answer, purged_at, expire_answer, expired_at}
-use Rattle.pcache_store.specs.Store.{Store, Reader, Part, find, body_of, reader_weight, read_of, reader_after, purged, meta_changed}
+use Rattle.pcache_store.specs.Store.{Store, Reader, Part, find, complete_body, reader_weight, read_of, reader_after, purged, meta_changed}
 use Rattle.pcache_store.specs.declared.storage.PurgeOutcome.{PurgeOutcome}
 use Rattle.pcache_store.specs.declared.storage.PurgeOutcome.TheVariants.{NotFound, Purged, Expired}
 use Rattle.pcache_request.specs.declared.phase.HitStatus.{HitStatus}
@@ -48,9 +48,9 @@ use Rattle.pingora_cache.proofs.StateAnswers.{found-answer, read-past}
 use Rattle.pingora_cache.proofs.StateCalls.{begun-joins}
 
 -- a lock that was just given is told by its kind and its number
-lock-given : (t : Locks) (stale : Bool) (o : Option ℕ) → lock_of stale (is_permit (given t stale o)) (number_of_lock (given t stale o)) ≡ given t stale o
-lock-given t stale None = refl
-lock-given t stale (Some n) = refl
+same-lock-given : (t : Locks) (stale : Bool) (o : Option ℕ) → lock_of stale (is_permit (lock_given t stale o)) (number_of_lock (lock_given t stale o)) ≡ lock_given t stale o
+same-lock-given t stale None = refl
+same-lock-given t stale (Some n) = refl
 
 -- a permit that is let go gives no lock
 asked-each : (stale : Bool) (older : Option ℕ) (x : Request) → asked stale (each E.LetGo older) x ≡ x
@@ -74,7 +74,7 @@ if_asked b stale t o h = cond b (option_map (λ k. asked_with stale t k h) o) No
 
 -- it is what the clauses of calls want
 asks-with : (b stale : Bool) (t : Locks) (k : Key) (h : Option Locked) → AsksIf b (slot k) h (asking (slot k) (if_asked b stale t (Some k) h)) (kind_asked (if_asked b stale t (Some k) h))
-asks-with true stale t k h = let l = given t stale (holder t (slot k)) in (number_of_lock l, is_permit l, ap (λ o. E.Ask (slot k) (number_of_lock l) (is_permit l) ∷ each E.LetGo o) (permit-named h), refl)
+asks-with true stale t k h = let l = lock_given t stale (holder t (slot k)) in (number_of_lock l, is_permit l, ap (λ o. E.Ask (slot k) (number_of_lock l) (is_permit l) ∷ each E.LetGo o) (permit-named h), refl)
 asks-with false stale t k h = (refl, refl)
 
 asks-if : (b stale : Bool) (t : Locks) (k : Key) (j : ℕ) (h : Option Locked) (o : Option Key) (a : Option AskedLock) (l : Option LockKind) → o ≡ Some k → j ≡ slot k → a ≡ if_asked b stale t o h → l ≡ kind_asked a → AsksIf b (slot k) h (asking j a) l
@@ -82,13 +82,13 @@ asks-if b stale t k j h o a l key at is kind =
     let same = is ∙ ap (λ q. if_asked b stale t q h) key in
     subst (λ q. AsksIf b (slot k) h (asking j a) q) (sym (kind ∙ ap kind_asked same)) (subst (λ es. AsksIf b (slot k) h es (kind_asked (if_asked b stale t (Some k) h))) (sym (λ i. asking (at i) (same i))) (asks-with b stale t k h))
 
--- a request that holds the lock given to it, where it asked for one
+-- a request that holds the lock given to it, if it asked for one
 asked-given : (b stale : Bool) (t : Locks) (o : Option Key) (j : ℕ) (x : Request) → cond b (with_lock stale t o x) x ≡ asked stale (asking j (if_asked b stale t o x.held)) x
 asked-given true stale t None j x = refl
-asked-given true stale t (Some k) j x = ap (λ l. record x { held = Some l }) (sym (lock-given t stale (holder t (slot k)))) ∙ sym (asked-each stale (permit_in (option_map name_of x.held)) _)
+asked-given true stale t (Some k) j x = ap (λ l. record x { held = Some l }) (sym (same-lock-given t stale (holder t (slot k)))) ∙ sym (asked-each stale (permit_in (option_map name_of x.held)) _)
 asked-given false stale t o j x = refl
 
--- where it asks for the key's
+-- if it asks for the key's
 pub key-asked : (t : Locks) (x : Request) (j : ℕ) → with_key_lock t x ≡ asked false (asking j (asked_for_key t x)) x
 key-asked t x j = asked-given x.uses.lock false t x.key j x
 
@@ -98,7 +98,7 @@ pub misses-asked : (s : Store) (t : Locks) (x : Request) (k : Key) (answer : Ans
 misses-asked s t x k answer j a l old first events key at is kind none one all =
     (k, key, inr (asking j a, l, asks-if x.uses.lock false t k j x.held x.key a l key at is kind, all ∙ ap (λ es. es ++ asking j a) (one ∙ ap (λ es. es ++ E.Look j answer ∷ []) none) ∙ ap (λ q. E.Look q answer ∷ asking j a) at, refl))
 
--- a lock is refused for want of memory, or where it was asked for and all numbers were given
+-- a lock is refused when memory runs out, or if it was asked for and all numbers were given
 pub lock-refused : (s : Store) (t : Locks) (x : Request) (asks : Bool) (e : ErrorType) → MayRefuseLock t e → (e ≡ NumbersExhausted → IsTrue asks) → IsLockRefusal (facts_in s t x) asks e
 lock-refused s t x asks OutOfMemory h why = inl refl
 lock-refused s t x asks NumbersExhausted h why = inr (refl, why refl, h)
@@ -109,7 +109,7 @@ pub misses-refused : (s : Store) (t : Locks) (x : Request) (k : Key) (answer : A
 misses-refused s t x k answer j e kind old events key at used why is none all =
     (k, key, inl (e, used, lock-refused s t x true e why (λ _. refl), all ∙ ap (λ es. es ++ E.Look j answer ∷ []) none ∙ ap (λ q. E.Look q answer ∷ []) at, ap R.Refused is))
 
--- what is answered where a pair can't be taken
+-- what is answered if a pair can't be taken
 pub takes-refused : (st : Store) (s : HitStatus) (t : Locks) (x : Request) (p : Meta × Reader) (k : Key) (e kind : ErrorType) (events : List Event) → x.key ≡ Some k → MayRefuseLock t e → (e ≡ NumbersExhausted → IsTrue (asks_for_hit s x)) → kind ≡ e → events ≡ accesses s k p.1 x
     → Takes (facts_in st t x) s x (Some p) (R.Refused kind) events
 takes-refused st s t x p k e kind events key why asked is all = inr (k, key, inl (e, lock-refused st t x (asks_for_hit s x) e why asked, ap R.Refused is, all))
@@ -120,7 +120,7 @@ locked-phase s t x = elim (asks_for_hit s x) as (λ b. (cond b (with_lock (asks_
 pub found-phase : (s : HitStatus) (m : Meta) (h : Reader) (t : Locks) (x : Request) → (found_row s m h t x).phase ≡ phase_found s x.phase
 found-phase s m h t x = ap (phase_found s) (locked-phase s t x)
 
--- what is answered where a pair is taken
+-- what is answered if a pair is taken
 pub takes-found : (st : Store) (s : HitStatus) (t : Locks) (x : Request) (p : Meta × Reader) (k : Key) (j : ℕ) (a : Option AskedLock) (l : Option LockKind) (phase : CachePhase) (events : List Event) → x.key ≡ Some k → j ≡ slot k → a ≡ asked_by_found s t x → l ≡ kind_asked a
     → events ≡ accesses s k p.1 x ++ asking j a → phase ≡ phase_found s x.phase → Takes (facts_in st t x) s x (Some p) (R.Taken phase l) events
 takes-found st s t x p k j a l phase events key at is kind all now =
@@ -158,7 +158,7 @@ read-moved s x a h = ap (λ r. record x { reader = r }) (elim x.reader as (λ o.
 
 -- a request with this, and a pair
 abbrev pub held_with : Option Decision → Option (Meta × Reader) → Request → Held
-held_with d p x = record { request = x; pair = p; carried = d }
+held_with d p x = record { request = x; pair = p; carried = d; put = None }
 
 -- a write that began is held, the permit is released, and the reader follows it
 
@@ -231,12 +231,12 @@ expire-store s u o k now key is = is ∙ ap (λ q. expired_at now s (option_map 
 -- nothing is untracked with it
 pub expire-tracks : (s : Store) (uses : Bool) (o : Option Key) (m m' : Tracked) → m' ≡ tracked_gone_for uses o (expire_answer s (option_map slot o)) m → m' ≡ m
 expire-tracks s uses None m m' is = is
-expire-tracks s uses (Some k) m m' is = is ∙ elim (is_some (body_of (map.get s.slots (slot k)))) as (λ b. tracked_gone uses (compact_of k) (cond b Expired NotFound) m ≡ m) [ true ↦ refl | false ↦ refl ]
+expire-tracks s uses (Some k) m m' is = is ∙ elim (is_some (complete_body (map.get s.slots (slot k)))) as (λ b. tracked_gone uses (compact_of k) (cond b Expired NotFound) m ≡ m) [ true ↦ refl | false ↦ refl ]
 
 -- whether a body was there
 pub expire-told : (s : Store) (o : Option Key) (b : Bool) → b ≡ is_removed_by (expire_answer s (option_map slot o)) → b ≡ complete_for s o
 expire-told s None b is = is
-expire-told s (Some k) b is = is ∙ elim (is_some (body_of (map.get s.slots (slot k)))) as (λ b. is_removed_by (cond b Expired NotFound) ≡ b) [ true ↦ refl | false ↦ refl ]
+expire-told s (Some k) b is = is ∙ elim (is_some (complete_body (map.get s.slots (slot k)))) as (λ b. is_removed_by (cond b Expired NotFound) ≡ b) [ true ↦ refl | false ↦ refl ]
 
 -- ---- what is noted of a revalidation
 

@@ -17,7 +17,7 @@ pub get-set_to : (all : FinMap nat_cmp Held) (r : ℕ) (o : Option Held) (q : �
 get-set_to all r None q = get-unset all r q
 get-set_to all r (Some x) q = get-set all r x q
 
--- only the request that the call names moves, by its row, where nothing is handed over
+-- only the request that the call names moves, by its row, if nothing is handed over
 pub open-after : (h : List Entry) (all : FinMap nat_cmp Held) (e : Entry) (now : Option Held) → ((r : ℕ) (giver q : Option Held) → taken_over e.call (outcome e.reply) r giver q ≡ q) → AreOpen h all → option_map untold now ≡ row e.call e.reply e.events (request_of (number_of e.call) h) → AreOpen (e ∷ h) (set_to all (number_of e.call) now)
 open-after h all e now none are is = λ q.
     let n = number_of e.call in

@@ -31,7 +31,7 @@ use Rattle.pingora_cache.specs.History.{events_of, reads, written_of}
 use Rattle.pingora_cache.specs.Legal.{IsLegal, Gives}
 use Rattle.pingora_cache.specs.Log.{Log, HasLegal}
 use Rattle.pingora_cache.specs.ReadSoFar.{read_by, HasRead}
-use Rattle.pingora_cache.specs.Rules.{Answers, HandsOn, Looks, LooksOn, Misses, drop_of, look_reply, release_of, IsCopy}
+use Rattle.pingora_cache.specs.Rules.{Answers, Replies, HandsOn, Looks, LooksOn, Misses, drop_of, look_reply, release_of, IsCopy}
 use Rattle.pingora_cache.proofs.AnswersLaw.{looks_are_true, reads_are_true}
 use Rattle.pingora_cache.proofs.Laws.{finds_exactly, reads_the_last, is_within_limits, finishes_exactly}
 use Rattle.pingora_cache.proofs.ReadsLaw.{reads_a_beginning, written_as}
@@ -101,8 +101,12 @@ module _ (b : Bool) (x : Held) where
   by-answers es f r t d reply events told (inl a) = by-looks es f d reply events told a.2
   by-answers es f r t d reply events told (inr a) = tells-none reply R.WrongCall b a.1.0 refl told
 
-  by-copy : (es : List Event) (f : Facts) (r t : ℕ) (d : Option Decision) (reply told : Reply) (events : List Event) → told_found told ≡ Some b → IsCopy reply told → Answers f (C.Look r t d) (Some x) reply events → Tells es f events
-  by-copy es f r t d reply told events is (inl same) a = by-answers es f r t d reply events (ap told_found (sym same) ∙ is) a
+  by-replies : (es : List Event) (f : Facts) (r t : ℕ) (d : Option Decision) (reply : Reply) (events : List Event) → told_found reply ≡ Some b → Replies f (C.Look r t d) (Some x) reply events → Tells es f events
+  by-replies es f r t d reply events told (inl a) = by-answers es f r t d reply events told a.1
+  by-replies es f r t d reply events told (inr a) = tells-none reply R.WrongCall b a.1.0 refl told
+
+  by-copy : (es : List Event) (f : Facts) (r t : ℕ) (d : Option Decision) (reply told : Reply) (events : List Event) → told_found told ≡ Some b → IsCopy reply told → Replies f (C.Look r t d) (Some x) reply events → Tells es f events
+  by-copy es f r t d reply told events is (inl same) a = by-replies es f r t d reply events (ap told_found (sym same) ∙ is) a
   by-copy es f r t d reply told events is (inr other) a = tells-none told (R.Refused _) b other.0 refl is
 
   by-entry : (age : ℕ) (limits : Limits) (start : Tracked) (before : List Entry) (entry : Entry) (r t : ℕ) (d : Option Decision) → IsLegal age limits start (entry ∷ before) → entry.call ≡ C.Look r t d → request_of r before ≡ Some x → told_found entry.reply ≡ Some b

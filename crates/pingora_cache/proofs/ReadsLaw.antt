@@ -33,11 +33,12 @@ use Rattle.pingora_cache.specs.declared.world.entry.Entry.{Entry}
 use Rattle.pingora_cache.specs.declared.world.entry.Event.{Event}
 use Rattle.pingora_cache.specs.declared.world.entry.Event.TheVariants as E
 use Rattle.pingora_cache.specs.Events.{begin_of, in_flight, body_of, is_told}
-use Rattle.pingora_cache.specs.Held.{Held, Change, opens, closes, stays, turns, turns_by, shuts, looks, takes, begins, ends, reads_on, seeks, reads_no_more, renews, waits, change_of, changed, turned_by, shut_by, sought_in, with_sought, number_of, Outcome, outcome, was_wrong, was_done, was_taken, was_waited, was_other, waited_by, is_wrong, is_done, is_taken, opened, with_given, asked, pair_of, carrying, decides, looked_by, looked_with, placed_by, taken_by, without_pair, began, ended, read_past, has_read, on_request, row_by, row, request_of}
+use Rattle.pingora_cache.specs.Held.{Held, Change, fed_in, held_put, opens, closes, stays, turns, turns_by, shuts, looks, takes, begins, ends, reads_on, seeks, reads_no_more, renews, waits, pushes, feeds, goes, change_of, changed, turned_by, shut_by, sought_in, with_sought, number_of, Outcome, outcome, was_wrong, was_done, was_taken, was_waited, was_refused, was_declined, was_other, waited_by, is_wrong, is_done, is_taken, opened, with_given, asked, pair_of, carrying, decides, looked_by, looked_with, placed_by, taken_by, without_pair, began, ended, read_past, has_read, on_request, row_by, row, request_of}
+use Rattle.pingora_cache.specs.Taking.{Taking, new_put}
 use Rattle.pingora_cache.specs.History.{events_of, reads}
 use Rattle.pingora_cache.specs.Facts.{Facts, request_in}
 use Rattle.pingora_cache.specs.Legal.{IsLegal}
-use Rattle.pingora_cache.specs.Rules.{IsIdle, release_of, Begins, Reads, Answers}
+use Rattle.pingora_cache.specs.Rules.{IsIdle, release_of, Begins, Reads, Answers, Replies}
 use Rattle.pingora_cache.specs.ReadSoFar.{given_in, read_on, read_by, HasRead}
 use Rattle.pingora_cache.specs.Headline.{ReadsABeginning}
 use Rattle.pingora_cache.specs.Untold.{waited_on}
@@ -167,7 +168,7 @@ pub decided-held : (d : Option Decision) (x : Request) → (with_decision d x).h
 decided-held None x = refl
 decided-held (Some d) x = refl
 
--- caching that is turned off leaves no reader, or where it was never on all as it was
+-- caching that is turned off leaves no reader, or if it was never on all as it was
 off-follows : (es : List Event) (got : List ℕ) (x : Request) (p : CachePhase) → IfSome x.reader (λ reader. HasRead es reader got) → IfSome (disabled_in p Deferred x).reader (λ reader. HasRead es reader got)
 off-follows es got x (phase.Disabled reason.NeverEnabled) h = h
 off-follows es got x p h = tt
@@ -175,7 +176,7 @@ off-follows es got x p h = tt
 looked-on : (es : List Event) (d : Option Decision) (a : Answer) (events : List Event) (got : List ℕ) (x : Held) → FollowsIn es x got → FollowsIn es (looked_with d a events x) got
 looked-on es d a events got x h =
     let old : IfSome (with_decision d x.request).reader (λ reader. HasRead es reader got) = subst (λ o. IfSome o (λ reader. HasRead es reader got)) (sym (decided-reader d x.request)) h.0 in
-    elim (is_deferral d) as (λ b. FollowsIn es (cond b (record { request = disabled_for Deferred (with_decision d x.request); pair = None; carried = None }) (record { request = asked false events (with_decision d x.request); pair = visible x.request.valid_after (pair_of a); carried = x.carried })) got) [
+    elim (is_deferral d) as (λ b. FollowsIn es (cond b (record { request = disabled_for Deferred (with_decision d x.request); pair = None; carried = None; put = x.put }) (record { request = asked false events (with_decision d x.request); pair = visible x.request.valid_after (pair_of a); carried = x.carried; put = x.put })) got) [
       | true ↦ (off-follows es got (with_decision d x.request) (with_decision d x.request).phase old, tt)
       | false ↦ (subst (λ o. IfSome o (λ reader. HasRead es reader got)) (sym (asked-reader false events (with_decision d x.request))) old, seen-starts x.request.valid_after (pair_of a) (pair-starts a))
     ]
@@ -253,6 +254,8 @@ waited-reader was_wrong now x = refl
 waited-reader was_done now x = refl
 waited-reader was_taken now x = refl
 waited-reader was_other now x = refl
+waited-reader (was_declined reason) now x = refl
+waited-reader (was_refused kind) now x = refl
 waited-reader (was_waited a) now x = by x.held
   where
     by : (h : Option Locked) → (waited_on a now h x).reader ≡ x.reader
@@ -276,6 +279,17 @@ promised f (C.Begin r) x reply events (inr a) = inl a.1
 promised f (C.Read r) x reply events (inl a) = inr (a.0, a.2)
 promised f (C.Read r) x reply events (inr a) = inl a.1.1
 promised f call x reply events a = tt
+
+-- of a wrong call
+promised-idle : (f : Facts) (call : Call) (x : Held) (reply : Reply) (events : List Event) → IsIdle R.WrongCall reply events → Promises f (change_of call) x reply events
+promised-idle f (C.Found r s t) x reply events a = λ is. absurd (subst (λ y. is_taken (outcome y) ≡ true → ⊥) (sym a.0) (λ e. cc) is)
+promised-idle f (C.Begin r) x reply events a = inl a
+promised-idle f (C.Read r) x reply events a = inl a.1
+promised-idle f call x reply events a = tt
+
+promised-of : (f : Facts) (call : Call) (x : Held) (reply : Reply) (events : List Event) → Replies f call (Some x) reply events → Promises f (change_of call) x reply events
+promised-of f call x reply events (inl a) = promised f call x reply events a.1
+promised-of f call x reply events (inr a) = promised-idle f call x reply events a.1
 
 module _ (f : Facts) (es events : List Event) (reply : Reply) (got : List ℕ) where
   abbrev after : List Event
@@ -307,8 +321,18 @@ module _ (f : Facts) (es events : List Event) (reply : Reply) (got : List ℕ) w
   follow reads_no_more x says a old h = on-done after got (is_wrong o) (Some x) (Some (on_request without_reader x)) h (tt, h.1)
   follow (renews m) x says a old h = on-done after got (is_wrong o) (Some x) (Some (on_request (renewed m) x)) h (h.0, h.1)
   follow (waits now) x says a old h = (subst (λ r. IfSome r (λ y. HasRead after y got)) (sym (waited-reader o now x.request)) h.0, h.1)
+  follow (pushes k limit) x says a old h = on-done after got (is_done o) (Some (held_put (new_put k limit))) (Some x) (tt, tt) h
+  follow feeds x says a old h = fed-follows x.put
+    where
+      fed-on : (p : Option Taking) → Follows after (Some (fed_in o events x p)) got
+      fed-on None = h
+      fed-on (Some p) = (tt, tt)
 
-  -- where no request is open
+      fed-follows : (p : Option Taking) → Follows after (Some (cond (is_wrong o) x (fed_in o events x p))) got
+      fed-follows p = elim (is_wrong o) as (λ b. Follows after (Some (cond b x (fed_in o events x p))) got) [ true ↦ h | false ↦ fed-on p ]
+  follow goes x says a old h = on-done after got (is_wrong o) (Some x) None h tt
+
+  -- if no request is open
   follow-none : (change : Change) → FollowsTo change None
   follow-none (opens options) = elim (is_done o) as (λ b. Follows after (cond b (Some (opened options)) None) (cond b [] got)) [ true ↦ (tt, tt) | false ↦ tt ]
   follow-none closes = on-done after got (is_done o) None None tt tt
@@ -325,12 +349,15 @@ module _ (f : Facts) (es events : List Event) (reply : Reply) (got : List ℕ) w
   follow-none reads_no_more = on-done after got (is_wrong o) None None tt tt
   follow-none (renews m) = on-done after got (is_wrong o) None None tt tt
   follow-none (waits now) = tt
+  follow-none (pushes k limit) = on-done after got (is_done o) (Some (held_put (new_put k limit))) None (tt, tt) tt
+  follow-none feeds = tt
+  follow-none goes = on-done after got (is_wrong o) None None tt tt
 
 -- one call
-follow-call : (f : Facts) (es : List Event) (call : Call) (q : Option Held) (reply : Reply) (events : List Event) (got : List ℕ) → GivesRead es (request_in q) f → Answers f call q reply events → Follows es q got → Follows (reverse events ++ es) q got
+follow-call : (f : Facts) (es : List Event) (call : Call) (q : Option Held) (reply : Reply) (events : List Event) (got : List ℕ) → GivesRead es (request_in q) f → Replies f call q reply events → Follows es q got → Follows (reverse events ++ es) q got
     → Follows (reverse events ++ es) (row call reply events q) (read_on (change_of call) (outcome reply) events got)
 follow-call f es call None reply events got k a old h = follow-none f es events reply got (change_of call)
-follow-call f es call (Some x) reply events got k a old h = follow f es events reply got (change_of call) x k (promised f call x reply events a) old h
+follow-call f es call (Some x) reply events got k a old h = follow f es events reply got (change_of call) x k (promised-of f call x reply events a) old h
 
 -- Histories.
 
@@ -346,7 +373,7 @@ follows-at age limits start r (e ∷ h) l =
       | true ↦ λ is.
           let named : request_of (number_of e.call) h ≡ request_of r h = ap (λ n. request_of n h) (eqb-true (number_of e.call) r is) in
           subst (λ o. Follows (reverse e.events ++ es) (row_by e.call o e.events (request_of r h)) (read_on (change_of e.call) o e.events (read_by r h))) (sym (outcome-copied g.told e.reply g.copy))
-          (follow-call g.facts es e.call (request_of r h) g.told e.events (read_by r h) (subst (λ q. GivesRead es (request_in q) g.facts) named g.says.given) (subst (λ q. Answers g.facts e.call q g.told e.events) named g.answers) old now)
+          (follow-call g.facts es e.call (request_of r h) g.told e.events (read_by r h) (subst (λ q. GivesRead es (request_in q) g.facts) named g.says.given) (subst (λ q. Replies g.facts e.call q g.told e.events) named g.answers) old now)
       | false ↦ λ _. now
     ] refl)
 

@@ -1,4 +1,4 @@
--- What a store answers is what the events say, where it is what they say.
+-- What a store answers is what the events say, if it is what they say.
 use Rattle.std.proofs.Common.{◌≡◌, ℕ, ◌+◌, ◌-◌, ◌<◌, ◌≤◌, ◌==◌, Bool, true, false, not, cond, ◌&&◌, T, if◌then◌else◌, Option, None, Some, is_some, is_none, List, [], ◌∷◌, length, drop, refl, ap, sym, subst, ◌∙◌, arith, inl, inr, length-drop, ltb-true, ne_eqb}
 use Rattle.std.specs.Prelude.{nat_lt, IsSome}
 use Rattle.std.specs.Option.{option_map}
@@ -130,14 +130,14 @@ open-flying es k w h = (and_parts _ _ (and_parts _ _ h).1).0
 
 module _ (es : List Event) (n : ℕ → ℕ) (s : Store) (st : IsState es n s) (k : ℕ) where
   finds-nothing : get s.slots k ≡ None → Finds es k A.Nothing
-  finds-nothing e = (λ q. sym (st.fresh k q) ∙ ap (is_fresh_in q) e, sym (st.bodies k) ∙ ap store.body_of e)
+  finds-nothing e = (λ q. sym (st.fresh k q) ∙ ap (is_fresh_in q) e, sym (st.bodies k) ∙ ap store.complete_body e)
 
   module _ (x : Slot) (there : get s.slots k ≡ Some x) where
     open-is : (q : ℕ) → is_open k q es ≡ contains_key x.fresh q
     open-is q = sym (st.fresh k q) ∙ ap (is_fresh_in q) there
 
     complete-is : complete k es ≡ x.body
-    complete-is = sym (st.bodies k) ∙ ap store.body_of there
+    complete-is = sym (st.bodies k) ∙ ap store.complete_body there
 
     finds-body : ((q : ℕ) → is_open k q es ≡ false) → (o : Option Stored) → x.body ≡ o → (a : Answer) → pair_of a ≡ found_body o → Finds es k a
     finds-body none None e A.Nothing h = (none, complete-is ∙ e)
@@ -227,5 +227,5 @@ module _ (es : List Event) (n : ℕ → ℕ) (s : Store) (st : IsState es n s) (
   pub told-is : store.is_told (get s.writes w) ≡ ev.is_told w es
   told-is = let f = begun-flying w es fly in ap store.is_told (record-flying es n s st w f.0 fly f.1)
 
-  pub size-is : store.size_of (get s.writes w) ≡ length (ev.body_of w es)
-  size-is = let f = begun-flying w es fly in ap store.size_of (record-flying es n s st w f.0 fly f.1)
+  pub size-is : store.written_size (get s.writes w) ≡ length (ev.body_of w es)
+  size-is = let f = begun-flying w es fly in ap store.written_size (record-flying es n s st w f.0 fly f.1)

@@ -5,7 +5,7 @@ use Rattle.std.specs.Ordering.{nat_cmp}
 use Rattle.std.specs.FinMap.{FinMap, get, contains_key}
 use Rattle.std.proofs.lemmas.Bool.{eqb-true}
 use Rattle.pcache_meta.specs.Meta.{Meta, expired_at}
-use Rattle.pcache_store.specs.Store.{Store, Slot, Stored, is_fresh_in, is_idle, body_of, with_meta, meta_changed_in, meta_changed_on, meta_changed}
+use Rattle.pcache_store.specs.Store.{Store, Slot, Stored, is_fresh_in, is_idle, complete_body, with_meta, meta_changed_in, meta_changed_on, meta_changed}
 use Rattle.pingora_cache.specs.declared.world.entry.Event.{Event}
 use Rattle.pingora_cache.specs.declared.world.entry.Event.TheVariants.{Expire, Renew}
 use Rattle.pingora_cache.specs.Events.{complete, is_open}
@@ -36,7 +36,7 @@ same-fresh : (f : Meta → Meta) (q : ℕ) (o : Option Slot) → is_fresh_in q (
 same-fresh f q None = refl
 same-fresh f q (Some x) = elim x.body as (λ b. contains_key (with_meta f x b).fresh q ≡ contains_key x.fresh q) [ None ↦ refl | Some b ↦ refl ]
 
-altered-slot : (f : Meta → Meta) (o : Option Slot) → body_of (changed_slot f o) ≡ option_map (altered_body f) (body_of o)
+altered-slot : (f : Meta → Meta) (o : Option Slot) → complete_body (changed_slot f o) ≡ option_map (altered_body f) (complete_body o)
 altered-slot f None = refl
 altered-slot f (Some x) = elim x.body as (λ b. x.body ≡ b → (with_meta f x b).body ≡ option_map (altered_body f) b) [ None ↦ λ e. e | Some b ↦ λ _. refl ] refl
 
@@ -65,11 +65,11 @@ module _ (es : List Event) (n : ℕ → ℕ) (s : Store) (k : ℕ) (f : Meta →
       ] refl
       ∙ st.fresh q w
 
-  changed-bodies : (q : ℕ) → body_of (get ys q) ≡ (if k == q then option_map (altered_body f) (complete q es) else complete q es)
+  changed-bodies : (q : ℕ) → complete_body (get ys q) ≡ (if k == q then option_map (altered_body f) (complete q es) else complete q es)
   changed-bodies q =
-      ap body_of (set q)
-      ∙ elim (k == q) as (λ b. (k == q) ≡ b → body_of (cond b (changed_slot f (get s.slots k)) (get s.slots q)) ≡ (if b then option_map (altered_body f) (complete q es) else complete q es)) [
-        | true ↦ λ is. altered-slot f (get s.slots k) ∙ ap (option_map (altered_body f)) (ap (λ j. body_of (get s.slots j)) (eqb-true k q is) ∙ st.bodies q)
+      ap complete_body (set q)
+      ∙ elim (k == q) as (λ b. (k == q) ≡ b → complete_body (cond b (changed_slot f (get s.slots k)) (get s.slots q)) ≡ (if b then option_map (altered_body f) (complete q es) else complete q es)) [
+        | true ↦ λ is. altered-slot f (get s.slots k) ∙ ap (option_map (altered_body f)) (ap (λ j. complete_body (get s.slots j)) (eqb-true k q is) ∙ st.bodies q)
         | false ↦ λ _. st.bodies q
       ] refl
 

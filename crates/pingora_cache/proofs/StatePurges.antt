@@ -6,7 +6,7 @@ use Rattle.std.proofs.lemmas.Bool.{eqb-true}
 use Rattle.std.proofs.Math.Bool.{or-false, or_assoc}
 use Rattle.pcache_meta.specs.Meta.{Meta}
 use Rattle.pcache_evict.specs.declared.eviction.entry_key.CacheEntryKey.{CacheEntryKey}
-use Rattle.pcache_store.specs.Store.{Store, Slot, is_fresh_in, is_idle, body_of, purged}
+use Rattle.pcache_store.specs.Store.{Store, Slot, is_fresh_in, is_idle, complete_body, purged}
 use Rattle.pcache_store.specs.Purge.{purged_at}
 use Rattle.pcache_request.specs.Finishing.{PurgesAll, entry_slot}
 use Rattle.pingora_cache.specs.declared.world.entry.Event.{Event}
@@ -21,7 +21,7 @@ record IsPurged (p : ℕ → Bool) (es : List Event) (n : ℕ → ℕ) (s : Stor
   next : s.next ≡ begun es
   writes : (w : ℕ) → get s.writes w ≡ record_of w (n w) es
   fresh : (k w : ℕ) → is_fresh_in w (get s.slots k) ≡ (if p k then false else is_open k w es)
-  bodies : (k : ℕ) → body_of (get s.slots k) ≡ (if p k then None else complete k es)
+  bodies : (k : ℕ) → complete_body (get s.slots k) ≡ (if p k then None else complete k es)
   filled : (k : ℕ) (x : Slot) → get s.slots k ≡ Some x → is_idle x ≡ false
   known : (w : ℕ) → 0 < n w → is_some (begin_of w es) ≡ true
 
@@ -41,7 +41,7 @@ purged-more p r es n s k h st =
       next = st.next;
       writes = st.writes;
       fresh = λ q w. ap (is_fresh_in w) (get-unset s.slots k q) ∙ inside w (k == q) (get s.slots q) ∙ ap (cond (k == q) false) (st.fresh q w) ∙ both (p q) (k == q) false (is_open q w es) ∙ ap (λ b. if b then false else is_open q w es) (sym (h q));
-      bodies = λ q. ap body_of (get-unset s.slots k q) ∙ under (k == q) (get s.slots q) ∙ ap (cond (k == q) None) (st.bodies q) ∙ both (p q) (k == q) None (complete q es) ∙ ap (λ b. if b then None else complete q es) (sym (h q));
+      bodies = λ q. ap complete_body (get-unset s.slots k q) ∙ under (k == q) (get s.slots q) ∙ ap (cond (k == q) None) (st.bodies q) ∙ both (p q) (k == q) None (complete q es) ∙ ap (λ b. if b then None else complete q es) (sym (h q));
       filled = λ q x is. elim (k == q) as (λ b. get (remove s.slots k) q ≡ cond b None (get s.slots q) → is_idle x ≡ false) [
         | true ↦ λ e. let no_slot : ◌≡◌ {A = Option Slot} None (Some x) = sym e ∙ is in cc
         | false ↦ λ e. st.filled q x (sym e ∙ is)
@@ -53,7 +53,7 @@ purged-more p r es n s k h st =
     inside w true o = refl
     inside w false o = refl
 
-    under : (b : Bool) (o : Option Slot) → body_of (cond b None o) ≡ cond b None (body_of o)
+    under : (b : Bool) (o : Option Slot) → complete_body (cond b None o) ≡ cond b None (complete_body o)
     under true o = refl
     under false o = refl
 

@@ -5,7 +5,7 @@ use Rattle.std.specs.Ordering.{nat_cmp}
 use Rattle.std.specs.FinMap.{FinMap, get, insert, remove, contains_key, len, get-empty, empty_of_len}
 use Rattle.std.proofs.lemmas.Bool.{eqb-true, both_ways, and_parts, cases_lt, false_from_ne_true, and_right}
 use Rattle.pcache_meta.specs.Meta.{Meta}
-use Rattle.pcache_store.specs.Store.{Store, Slot, Stored, is_fresh_in, is_idle, body_of, with_slot, slot_or_new, opened_in, opened, new_write, begun, grounded, shut_on, shut, dropped_on, dropped, stored_on, finished_on, finished}
+use Rattle.pcache_store.specs.Store.{Store, Slot, Stored, is_fresh_in, is_idle, complete_body, with_slot, slot_or_new, opened_in, opened, new_write, begun, grounded, shut_on, shut, dropped_on, dropped, stored_on, finished_on, finished}
 use Rattle.pingora_cache.specs.declared.world.entry.Event.{Event}
 use Rattle.pingora_cache.specs.declared.world.entry.Event.TheVariants.{Begin, Finish, Dropped}
 use Rattle.pingora_cache.specs.Events as ev
@@ -30,12 +30,12 @@ busy-key x w h =
     let apart : (len x.fresh == 0) ≡ false = false_from_ne_true _ (λ e. both_ways _ (no-keys x.fresh e w) h) in
     ap (λ b. is_none x.body && b) apart ∙ and_right (is_none x.body) false refl
 
--- a slot as it stays: taken out where it holds nothing
+-- a slot as it stays: taken out if it holds nothing
 abbrev tidied : Slot → Option Slot
 tidied y = cond (is_idle y) None (Some y)
 
-tidied-body : (y : Slot) → body_of (tidied y) ≡ y.body
-tidied-body y = elim (is_idle y) as (λ t. is_idle y ≡ t → body_of (cond t None (Some y)) ≡ y.body) [ true ↦ λ e. sym (no-body y.body (and_parts _ _ e).0) | false ↦ λ _. refl ] refl
+tidied-body : (y : Slot) → complete_body (tidied y) ≡ y.body
+tidied-body y = elim (is_idle y) as (λ t. is_idle y ≡ t → complete_body (cond t None (Some y)) ≡ y.body) [ true ↦ λ e. sym (no-body y.body (and_parts _ _ e).0) | false ↦ λ _. refl ] refl
 
 tidied-fresh : (y : Slot) (q : ℕ) → is_fresh_in q (tidied y) ≡ contains_key y.fresh q
 tidied-fresh y q = elim (is_idle y) as (λ t. is_idle y ≡ t → is_fresh_in q (cond t None (Some y)) ≡ contains_key y.fresh q) [ true ↦ λ e. sym (no-keys y.fresh (and_parts _ _ e).1 q) | false ↦ λ _. refl ] refl
@@ -75,7 +75,7 @@ cut-fresh : (w : ℕ) (o : Option Slot) (q : ℕ) → is_fresh_in q (cut_of w o)
 cut-fresh w None q = elim (w == q) as (λ b. false ≡ cond b false false) [ true ↦ refl | false ↦ refl ]
 cut-fresh w (Some x) q = tidied-fresh (cut w x) q ∙ gone-key x.fresh w q
 
-cut-body : (w : ℕ) (o : Option Slot) → body_of (cut_of w o) ≡ body_of o
+cut-body : (w : ℕ) (o : Option Slot) → complete_body (cut_of w o) ≡ complete_body o
 cut-body w None = refl
 cut-body w (Some x) = tidied-body (cut w x)
 
@@ -90,10 +90,10 @@ pub filled-at : (xs ys : FinMap nat_cmp Slot) (at : ℕ) (o : Option Slot) → (
 filled-at xs ys at o set new old k z h =
     elim (at == k) as (λ b. get ys k ≡ cond b o (get xs k) → is_idle z ≡ false) [ true ↦ λ e. new z (sym e ∙ h) | false ↦ λ e. old k z (sym e ∙ h) ] (set k)
 
-bodies-at : (xs ys : FinMap nat_cmp Slot) (at : ℕ) (o : Option Slot) → ((k : ℕ) → get ys k ≡ cond (at == k) o (get xs k)) → body_of o ≡ body_of (get xs at) → (k : ℕ) → body_of (get ys k) ≡ body_of (get xs k)
+bodies-at : (xs ys : FinMap nat_cmp Slot) (at : ℕ) (o : Option Slot) → ((k : ℕ) → get ys k ≡ cond (at == k) o (get xs k)) → complete_body o ≡ complete_body (get xs at) → (k : ℕ) → complete_body (get ys k) ≡ complete_body (get xs k)
 bodies-at xs ys at o set same k =
-    ap body_of (set k) ∙ elim (at == k) as (λ b. (at == k) ≡ b → body_of (cond b o (get xs k)) ≡ body_of (get xs k)) [
-      | true ↦ λ t. same ∙ ap (λ j. body_of (get xs j)) (eqb-true at k t)
+    ap complete_body (set k) ∙ elim (at == k) as (λ b. (at == k) ≡ b → complete_body (cond b o (get xs k)) ≡ complete_body (get xs k)) [
+      | true ↦ λ t. same ∙ ap (λ j. complete_body (get xs j)) (eqb-true at k t)
       | false ↦ λ _. refl
     ] refl
 
@@ -177,8 +177,8 @@ state-finished es n s w tidy fly kept st =
       next = st.next;
       writes = ended-writes es n s st w b f.1;
       fresh = ended-fresh es n s st w b f.1 ys (Some y) set (λ q. gone-key x.fresh w q ∙ ap (λ o. cond (w == q) false (is_fresh_in q o)) (sym g.1));
-      bodies = λ k. ap body_of (set k)
-          ∙ elim (b.0 == k) as (λ t. body_of (cond t (Some y) (get s.slots k)) ≡ (if t then Some c else body_of (get s.slots k))) [ true ↦ refl | false ↦ refl ]
+      bodies = λ k. ap complete_body (set k)
+          ∙ elim (b.0 == k) as (λ t. complete_body (cond t (Some y) (get s.slots k)) ≡ (if t then Some c else complete_body (get s.slots k))) [ true ↦ refl | false ↦ refl ]
           ∙ ap (λ o. if b.0 == k then Some c else o) (st.bodies k) ∙ sym (complete-finish es w b.0 b.1 tidy fly f.1 kept k);
       filled = filled-at s.slots ys b.0 (Some y) set (λ z e. let same : y ≡ z = cc in ap is_idle (sym same)) st.filled;
       known = st.known;
@@ -190,7 +190,7 @@ new-fresh : (o : Option Slot) (q : ℕ) → contains_key (slot_or_new o).fresh q
 new-fresh None q = ap is_some (get-empty nat_cmp q)
 new-fresh (Some x) q = refl
 
-new-body : (o : Option Slot) → (slot_or_new o).body ≡ body_of o
+new-body : (o : Option Slot) → (slot_or_new o).body ≡ complete_body o
 new-body None = refl
 new-body (Some x) = refl
 

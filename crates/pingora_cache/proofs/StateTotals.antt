@@ -12,16 +12,16 @@ use Rattle.std.proofs.lemmas.Map.Keys.{IsDistinct-head, IsDistinct-tail}
 use Rattle.pcache_meta.specs.Meta.{Meta}
 use Rattle.pcache_base.specs.Totals.{total, share}
 use Rattle.pcache_base.proofs.Totals.{total-remove, get-remove_apart}
-use Rattle.pcache_store.specs.Store.{Store, Slot, Stored, body_of}
+use Rattle.pcache_store.specs.Store.{Store, Slot, Stored, complete_body}
 use Rattle.pcache_store.specs.Totals as totals
 use Rattle.pingora_cache.specs.declared.world.entry.Event.{Event}
 use Rattle.pingora_cache.specs.declared.world.entry.Event.TheVariants.{Look, Ask, Access, Begin, Wrote, Finish, Dropped, Release, LetGo, Aged, Admit, Purge, Expire, Renew, Untrack, Read}
-use Rattle.pingora_cache.specs.Events.{begin_of, option_any, is_removed, last_finished, body_stored, complete, with_key, finished_keys, size_of, stored, slots}
+use Rattle.pingora_cache.specs.Events.{begin_of, option_any, is_removed, last_finished, body_stored, complete, with_key, finished_keys, stored_size, stored, slots}
 use Rattle.pingora_cache.specs.Sound.{IsState}
 use Rattle.pingora_cache.proofs.Bound.{keys_distinct}
 use Rattle.pingora_cache.proofs.Sums.{cmp_same, zero-remove, total-zero}
 
--- ---- a sum over keys, where the map's other keys add nothing
+-- ---- a sum over keys, if the map's other keys add nothing
 
 module _ {X : Type 0} (f : X → ℕ) where
   sum-apart : (g h : ℕ → ℕ) (k : ℕ) (ks : List ℕ) → AllByRecursion (λ y. eq_by_cmp nat_cmp k y ≡ false) ks → ((q : ℕ) → eq_by_cmp nat_cmp k q ≡ false → g q ≡ h q) → sum_by g ks ≡ sum_by h ks
@@ -93,7 +93,7 @@ covered k (Read a ∷ es) w h = covered k es w h
 
 -- ---- the sums
 
-shared : (g : Stored → ℕ) (o : Option Slot) → share (λ (x : Slot). share g x.body) o ≡ share g (body_of o)
+shared : (g : Stored → ℕ) (o : Option Slot) → share (λ (x : Slot). share g x.body) o ≡ share g (complete_body o)
 shared g None = refl
 shared g (Some x) = refl
 
@@ -114,7 +114,7 @@ over_standing g es n s st =
         ] refl
 
 pub stored-is : (es : List Event) (n : ℕ → ℕ) (s : Store) → IsState es n s → stored es ≡ totals.stored_bytes s
-stored-is es n s st = over_standing size_of es n s st
+stored-is es n s st = over_standing stored_size es n s st
 
 pub slots-is : (es : List Event) (n : ℕ → ℕ) (s : Store) → IsState es n s → slots es ≡ totals.slots s
 slots-is es n s st = over_standing (λ _. 1) es n s st

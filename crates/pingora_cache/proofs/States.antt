@@ -4,7 +4,7 @@ use Rattle.std.specs.Ordering.{nat_cmp}
 use Rattle.std.specs.FinMap as map
 use Rattle.pcache_base.specs.declared.poll.Poll.{Poll}
 use Rattle.pcache_evict.specs.declared.eviction.entry_key.CacheEntryKey.{CacheEntryKey}
-use Rattle.pcache_store.specs.Store.{Store, Slot, body_of, is_fresh_in}
+use Rattle.pcache_store.specs.Store.{Store, Slot, complete_body, is_fresh_in}
 use Rattle.pingora_cache.specs.declared.world.entry.Answer.{Answer}
 use Rattle.pingora_cache.specs.declared.world.entry.Event.{Event}
 use Rattle.pingora_cache.specs.declared.world.entry.Event.TheVariants.{Look, Ask, Access, Release, LetGo, Aged, Untrack, Read}
@@ -17,7 +17,7 @@ state-none s slots writes next =
       next = next;
       writes = λ w. ap (λ m. map.get m w) writes ∙ map.get-empty nat_cmp w;
       fresh = λ k w. ap (is_fresh_in w) (none k);
-      bodies = λ k. ap body_of (none k);
+      bodies = λ k. ap complete_body (none k);
       filled = λ k x is. let e : ◌≡◌ {A = Option Slot} None (Some x) = sym (none k) ∙ is in cc;
       known = λ w lt. absurd (omega arith);
     }

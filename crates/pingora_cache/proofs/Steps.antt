@@ -23,7 +23,7 @@ below w es tidy h = elim (cases_lt w (begun es)) [ inl lt ↦ lt | inr ge ↦ ab
 pub begun_of : (k w : ℕ) (es : List Event) → is_of k w es ≡ true → is_some (begin_of w es) ≡ true
 begun_of k w es h = elim (begin_of w es) as (λ o. option_any (λ (b : ℕ × Meta). b.0 == k) o ≡ true → is_some o ≡ true) [ None ↦ λ e. cc | Some b ↦ λ _. refl ] h
 
--- what stands of the last finished write of a key, where two readings of each write agree
+-- what stands of the last finished write of a key, if two readings of each write agree
 by_last : {A : Type 0} (o : Option ℕ) (f g : ℕ → Option A) → ((w : ℕ) → o ≡ Some w → f w ≡ g w) → option_and_then f o ≡ option_and_then g o
 by_last None f g h = refl
 by_last (Some w) f g h = h w refl

@@ -22,7 +22,7 @@ module _ {X : Type 0} (f : X → ℕ) where
   pub zero-remove : (m : FinMap nat_cmp X) (k q : ℕ) → share f (get m q) ≡ 0 → share f (get (remove m k) q) ≡ 0
   zero-remove m k q h = subst (λ o. share f o ≡ 0) (sym (get-remove nat_cmp_total m k q)) (elim (eq_by_cmp nat_cmp q k) as (λ b. share f (cond b None (get m q)) ≡ 0) [ true ↦ refl | false ↦ h ])
 
-  -- where no key adds anything, the sum is nothing
+  -- if no key adds anything, the sum is nothing
   pub total-zero : (n : ℕ) (m : FinMap nat_cmp X) → len m ≡ n → ((q : ℕ) → share f (get m q) ≡ 0) → total f m ≡ 0
   total-zero zero m e h = subst (λ x. total f x ≡ 0) (sym (empty_of_len m e)) (total-empty nat_cmp_total f)
   total-zero (suc n) m e h =

@@ -14,11 +14,11 @@ use Rattle.pingora_cache.specs.Step.{IsOfOne, IsOfWorldIn}
 
 -- a request that holds this
 abbrev pub holding_in : Option Locked → Held → Held
-holding_in h x = record { request = record x.request { held = h }; pair = x.pair; carried = x.carried }
+holding_in h x = record { request = record x.request { held = h }; pair = x.pair; carried = x.carried; put = x.put }
 
 pub handed-keeps : (P : Option Held → Type 0) → ((x : Held) (h : Option Locked) → P (Some x) → P (Some (holding_in h x))) → (p : Option Permit) (x : Held) → P (Some x) → P (Some (handed_by p x))
 handed-keeps P holds None x is = is
-handed-keeps P holds (Some p) x is = elim x.request.uses.lock as (λ b. P (Some (record { request = cond b (record x.request { held = Some (Write p) }) x.request; pair = x.pair; carried = x.carried }))) [
+handed-keeps P holds (Some p) x is = elim x.request.uses.lock as (λ b. P (Some (record { request = cond b (record x.request { held = Some (Write p) }) x.request; pair = x.pair; carried = x.carried; put = x.put }))) [
   | true ↦ holds x (Some (Write p)) is
   | false ↦ is
 ]

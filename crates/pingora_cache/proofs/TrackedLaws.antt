@@ -56,7 +56,7 @@ front-last : (e : CacheEntryKey) (out : List CacheEntryKey) → (front : List Ca
 front-last e [] = ([], e, refl)
 front-last e (x ∷ out) = let p = front-last x out in (e ∷ p.0, p.1, ap (λ xs. e ∷ xs) p.2)
 
--- a fair eviction takes nothing where the limits hold
+-- a fair eviction takes nothing if the limits hold
 none-within : (limits : Limits) (m : Tracked) (out : List CacheEntryKey) → IsFair limits m out → IsWithin limits m → out ≡ []
 none-within limits m [] fair held = refl
 none-within limits m (e ∷ out) fair held = let p = front-last e out in absurd (fair.needed p.0 p.1 p.2 (still-within limits p.0 m held))

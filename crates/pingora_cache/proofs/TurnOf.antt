@@ -17,10 +17,10 @@ use Rattle.pingora_cache.specs.declared.world.entry.Event.{Event}
 use Rattle.pingora_cache.specs.Deeds.{deeds_by, deeds_in, held_in, said_by}
 use Rattle.pingora_cache.specs.Due.{IsOfWorld, KeepsKey}
 use Rattle.pingora_cache.specs.Facts.{Facts, facts_in, no_facts, request_in}
-use Rattle.pingora_cache.specs.Held.{Held, Change, opens, closes, stays, turns, turns_by, shuts, looks, takes, begins, ends, reads_on, seeks, reads_no_more, renews, waits, change_of, changed, is_done, number_of, opened, outcome, row, untold, was_wrong}
+use Rattle.pingora_cache.specs.Held.{Held, Change, opens, closes, stays, turns, turns_by, shuts, looks, takes, begins, ends, reads_on, seeks, reads_no_more, renews, waits, pushes, feeds, goes, change_of, changed, is_done, number_of, opened, outcome, row, untold, was_wrong}
 use Rattle.pingora_cache.specs.LockMoves.{MovesLocks}
 use Rattle.pingora_cache.specs.Moved.{Moves, MovesRequest, MovesStore}
-use Rattle.pingora_cache.specs.Rules.{Answers, MayBe}
+use Rattle.pingora_cache.specs.Rules.{MayBe, Replies}
 use Rattle.pingora_cache.specs.Step.{IsMoved, IsOfOpen, IsOfWorldIn, IsRow, IsRowed, Turn}
 use Rattle.pingora_cache.proofs.LockSteps.{no_locks_move}
 use Rattle.pingora_cache.proofs.MovesOf.{idle}
@@ -30,7 +30,7 @@ pub row-kept : (call : Call) (reply : Reply) (events : List Event) (q q' : Optio
 row-kept call reply events q q' is = ap (option_map untold) is
 
 -- a call of an open request, which is x before and y after
-pub turn-of : (limits : Limits) (call : Call) (q q' : Option Held) (x y : Held) (s s' : Store) (m m' : Tracked) (t t' : Locks) (reply : Reply) (events : List Event) → q ≡ Some x → q' ≡ Some y → Answers (facts_in s t x.request) call (Some x) reply events
+pub turn-of : (limits : Limits) (call : Call) (q q' : Option Held) (x y : Held) (s s' : Store) (m m' : Tracked) (t t' : Locks) (reply : Reply) (events : List Event) → q ≡ Some x → q' ≡ Some y → Replies (facts_in s t x.request) call (Some x) reply events
     → (IsOfWorld x.request → Moves limits (Some x) s m events (Some y) s' m') → KeepsKey (Some x) (Some y) → IsRow call reply events (Some x) (Some y)
     → MovesLocks (number_of call) (deeds_in call (outcome reply) events (Some x)) x.request.held t y.request.held t' → IsOfWorldIn q → Turn limits call q s m t reply events q' s' m' t'
 turn-of limits call q q' x y s s' m m' t t' reply events is now answers moves keeps same locks =
@@ -46,8 +46,8 @@ turn-of limits call q q' x y s s' m m' t t' reply events is now answers moves ke
 at-self : (n : ℕ) → is_at (nat_cmp n) n ≡ true
 at-self n = grind (arith, nat_tests)
 
--- the request that a call names, where it moves by its row
-row-at : (call : Call) (reply : Reply) (events : List Event) (all all' : List (ℕ × Held)) → IsRowed call reply events all all' → lookup (is_at (nat_cmp (number_of call))) all' ≡ row call reply events (lookup (is_at (nat_cmp (number_of call))) all)
+-- the request that a call names, if it moves by its row
+pub row-at : (call : Call) (reply : Reply) (events : List Event) (all all' : List (ℕ × Held)) → IsRowed call reply events all all' → lookup (is_at (nat_cmp (number_of call))) all' ≡ row call reply events (lookup (is_at (nat_cmp (number_of call))) all)
 row-at call reply events all all' is =
     let n = number_of call in
     is n ∙ ap (λ b. cond b (row call reply events (lookup (is_at (nat_cmp n)) all)) (lookup (is_at (nat_cmp n)) all)) (at-self n)
@@ -56,10 +56,16 @@ pub moved-by-row : (call c : Call) (reply : Reply) (events : List Event) (all al
 moved-by-row call c reply events all all' same is =
     subst (λ (d : Call). IsMoved d all all') (sym same) (λ q. is q ∙ ap (λ o. cond (is_at (nat_cmp (number_of c)) q) o (lookup (is_at (nat_cmp q)) all)) (sym (row-at c reply events all all' is)))
 
+-- the same, of the call and the events as they are named
+pub row-now : (call c : Call) (reply : Reply) (events told : List Event) (all all' : List (ℕ × Held)) → call ≡ c → events ≡ told → IsRowed c reply told all all' → lookup (is_at (nat_cmp (number_of call))) all' ≡ row c reply events (lookup (is_at (nat_cmp (number_of call))) all)
+row-now call c reply events told all all' same noted is =
+    subst (λ (d : Call). lookup (is_at (nat_cmp (number_of d))) all' ≡ row c reply events (lookup (is_at (nat_cmp (number_of d))) all)) (sym same) (row-at c reply told all all' is ∙ ap (λ es. row c reply es (lookup (is_at (nat_cmp (number_of c))) all)) (sym noted))
+
 -- a call of a request that is not open
 
 none-may : (f : Facts) (call : Call) → IsOfOpen call → MayBe f call None → ⊥
 none-may f (C.Open n options) known may = absurd known
+none-may f (C.Put n k limit) known may = absurd known
 none-may f call known may = absurd may
 
 none-row : (change : Change) → changed change was_wrong [] None ≡ None
@@ -78,8 +84,11 @@ none-row (seeks start end) = refl
 none-row reads_no_more = refl
 none-row (renews m) = refl
 none-row (waits now) = refl
+none-row (pushes k limit) = refl
+none-row feeds = refl
+none-row goes = refl
 
-none-says : (call : Call) → said_by call was_wrong None ≡ []
+pub none-says : (call : Call) → said_by call was_wrong None ≡ []
 none-says (C.Publish r tokens) = refl
 none-says (C.Wait r t) = refl
 none-says call = refl
@@ -90,29 +99,30 @@ none-of limits call q q' s m t reply events known is now wrong none =
     (subst (λ (p : Option Held). Turn limits call None s m t reply events p s m t) (sym now)
     (subst (λ z. Turn limits call None s m t z events None s m t) (sym wrong)
     (subst (λ es. Turn limits call None s m t R.WrongCall es None s m t) (sym none) (record {
-      answers = inr (none-may (facts_in s t (request_in None)) call known, (refl, refl));
+      answers = inl (tt, inr (none-may (facts_in s t (request_in None)) call known, (refl, refl)));
       moves = idle None None s s [] refl refl refl limits m;
       keeps = tt;
       now = ap (option_map untold) (sym (none-row (change_of call)));
       locks = no_locks_move (number_of call) (deeds_in call was_wrong [] None) None None t t (ap (λ ds. ds ++ []) (none-says call)) refl refl;
     }))))
 
-end-answers : (f g : Facts) (n : ℕ) (q : Option Held) (reply : Reply) (events : List Event) → Answers f (C.End n) q reply events → Answers g (C.End n) q reply events
+end-answers : (f g : Facts) (n : ℕ) (q : Option Held) (reply : Reply) (events : List Event) → Replies f (C.End n) q reply events → Replies g (C.End n) q reply events
 end-answers f g n None reply events a = a
 end-answers f g n (Some x) reply events a = a
 
-open-answers : (f g : Facts) (n : ℕ) (options : Option CacheOptionOverrides) (q : Option Held) (reply : Reply) (events : List Event) → Answers f (C.Open n options) q reply events → Answers g (C.Open n options) q reply events
+open-answers : (f g : Facts) (n : ℕ) (options : Option CacheOptionOverrides) (q : Option Held) (reply : Reply) (events : List Event) → Replies f (C.Open n options) q reply events → Replies g (C.Open n options) q reply events
 open-answers f g n options None reply events a = a
 open-answers f g n options (Some x) reply events a = a
 
 -- a request that comes to be holds no lock
-open-held : (f : Facts) (n : ℕ) (options : Option CacheOptionOverrides) (q : Option Held) (reply : Reply) (events : List Event) → Answers f (C.Open n options) q reply events → held_in (row (C.Open n options) reply events q) ≡ held_in q
+open-held : (f : Facts) (n : ℕ) (options : Option CacheOptionOverrides) (q : Option Held) (reply : Reply) (events : List Event) → Replies f (C.Open n options) q reply events → held_in (row (C.Open n options) reply events q) ≡ held_in q
 open-held f n options None reply events a = elim (is_done (outcome reply)) as (λ b. held_in (cond b (Some (opened options)) None) ≡ None) [ true ↦ refl | false ↦ refl ]
-open-held f n options (Some x) reply events (inl a) = absurd a.0
+open-held f n options (Some x) reply events (inl (finds, inl a)) = absurd a.0
+open-held f n options (Some x) reply events (inl (finds, inr a)) = ap (λ z. held_in (row (C.Open n options) z events (Some x))) a.1.0
 open-held f n options (Some x) reply events (inr a) = ap (λ z. held_in (row (C.Open n options) z events (Some x))) a.1.0
 
 -- a call that ends a request
-pub end-of : (limits : Limits) (call : Call) (n : ℕ) (all all' : List (ℕ × Held)) (s s' : Store) (m : Tracked) (t t' : Locks) (reply : Reply) (events : List Event) → call ≡ C.End n → Answers no_facts (C.End n) (lookup (is_at (nat_cmp n)) all) reply events
+pub end-of : (limits : Limits) (call : Call) (n : ℕ) (all all' : List (ℕ × Held)) (s s' : Store) (m : Tracked) (t t' : Locks) (reply : Reply) (events : List Event) → call ≡ C.End n → Replies no_facts (C.End n) (lookup (is_at (nat_cmp n)) all) reply events
     → MovesStore (lookup (is_at (nat_cmp n)) all) s events (row (C.End n) reply events (lookup (is_at (nat_cmp n)) all)) s' → KeepsKey (lookup (is_at (nat_cmp n)) all) (row (C.End n) reply events (lookup (is_at (nat_cmp n)) all))
     → ((r : ℕ) → MovesLocks r (deeds_by r 0 Done events) (held_in (lookup (is_at (nat_cmp n)) all)) t (held_in (row (C.End n) reply events (lookup (is_at (nat_cmp n)) all))) t') → IsRowed (C.End n) reply events all all'
     → Turn limits call (lookup (is_at (nat_cmp (number_of call))) all) s m t reply events (lookup (is_at (nat_cmp (number_of call))) all') s' m t'
@@ -127,7 +137,7 @@ end-of limits call n all all' s s' m t t' reply events is answers moves keeps lo
     }))
 
 -- a call that makes one
-pub open-of : (limits : Limits) (call : Call) (n : ℕ) (options : Option CacheOptionOverrides) (all all' : List (ℕ × Held)) (s : Store) (m : Tracked) (t : Locks) (reply : Reply) (events : List Event) → call ≡ C.Open n options → events ≡ [] → Answers no_facts (C.Open n options) (lookup (is_at (nat_cmp n)) all) reply []
+pub open-of : (limits : Limits) (call : Call) (n : ℕ) (options : Option CacheOptionOverrides) (all all' : List (ℕ × Held)) (s : Store) (m : Tracked) (t : Locks) (reply : Reply) (events : List Event) → call ≡ C.Open n options → events ≡ [] → Replies no_facts (C.Open n options) (lookup (is_at (nat_cmp n)) all) reply []
     → MovesRequest (lookup (is_at (nat_cmp n)) all) (row (C.Open n options) reply [] (lookup (is_at (nat_cmp n)) all)) → KeepsKey (lookup (is_at (nat_cmp n)) all) (row (C.Open n options) reply [] (lookup (is_at (nat_cmp n)) all)) → IsRowed (C.Open n options) reply [] all all'
     → Turn limits call (lookup (is_at (nat_cmp (number_of call))) all) s m t reply events (lookup (is_at (nat_cmp (number_of call))) all') s m t
 open-of limits call n options all all' s m t reply events is none answers moves keeps rowed =

@@ -39,8 +39,8 @@ at-number r q = grind (arith, nat_tests)
 pub set-at : (all : FinMap nat_cmp Held) (r : ℕ) (o : Option Held) (q : ℕ) → get (set_to all r o) q ≡ cond (is_at (nat_cmp r) q) o (get all q)
 set-at all r o q = get-set_to all r o q ∙ ap (λ b. cond b o (get all q)) (at-number r q)
 
--- where only the request that a call names moves, the entries are the requests with what it is then
-entries-after : (before after : List (ℕ × Held)) (call : Call) → IsMoved call before after → from_entries {R = nat_cmp} after ≡ set_to (from_entries {R = nat_cmp} before) (number_of call) (lookup (is_at (nat_cmp (number_of call))) after)
+-- if only the request that a call names moves, the entries are the requests with what it is then
+pub entries-after : (before after : List (ℕ × Held)) (call : Call) → IsMoved call before after → from_entries {R = nat_cmp} after ≡ set_to (from_entries {R = nat_cmp} before) (number_of call) (lookup (is_at (nat_cmp (number_of call))) after)
 entries-after before after call is =
     let n = number_of call in
     let now = lookup (is_at (nat_cmp n)) after in
@@ -67,7 +67,7 @@ module _ (limits : Limits) (start m m' : Tracked) (s s' : Store) (t t' : Locks) 
   few : (l : ℕ) → read_locks all l + 1 < 2 ^ 128
   few l = let most = locks-few before l in omega arith
 
-  made : Turn limits call (get all n) s m t reply events q' s' m' t'
+  pub made : Turn limits call (get all n) s m t reply events q' s' m' t'
   made =
       let world : IsOfWorldIn (lookup (is_at (nat_cmp n)) before) = subst IsOfWorldIn (sym (lookup-get before n)) (of-world (get all n) (subst IsOfWorldIn (sym (k.requests n)) (legal_world t.age_timeout limits start h k.legal n))) in
       subst (λ o. Turn limits call o s m t reply events q' s' m' t') (lookup-get before n) (turn world)

@@ -1,6 +1,6 @@
 -- No row, condition or clause of a call looks at what a read lock was told: of the lock that is held they look at its kind, at
 -- its number, and at the fills that it watches for since it was polled.
-use Rattle.std.proofs.Common.{◌≡◌, ℕ, ◌&&◌, ◌⊎◌, ◌++◌, Bool, true, false, not, cond, Option, None, Some, List, [], ◌∷◌, refl, ap, sym, subst, ◌∙◌, inl, inr, option_map}
+use Rattle.std.proofs.Common.{◌≡◌, ℕ, ◌&&◌, ◌⊎◌, ◌++◌, Bool, true, false, not, cond, Option, None, Some, IsSome, List, [], ◌∷◌, refl, ap, sym, subst, ◌∙◌, inl, inr, option_map}
 use Rattle.std.specs.FinMap.{get}
 use Rattle.pcache_base.specs.Key.{Key, slot}
 use Rattle.pcache_base.specs.declared.error.ErrorType.{ErrorType}
@@ -12,7 +12,7 @@ use Rattle.pcache_base.specs.declared.reason.NoCacheReason.TheVariants as reason
 use Rattle.pcache_lock.specs.Locks.{Locks}
 use Rattle.pcache_lock.specs.Permits as permits
 use Rattle.pcache_lock.specs.Permits.{Watch}
-use Rattle.pcache_lock.specs.Waiting.{answer_at, looked, polled, reader_at, reader_polled, stage_of, status_seen, told_or_pending, watch_at}
+use Rattle.pcache_lock.specs.Waiting.{answer_at, watched, polled, reader_at, reader_polled, stage_of, status_seen, told_or_pending, watch_at}
 use Rattle.pcache_lock.specs.declared.lock.outcome.LockWaitOutcome.{LockWaitOutcome}
 use Rattle.pcache_lock.specs.declared.lock.outcome.Stage.{Stage}
 use Rattle.pcache_lock.specs.declared.lock.outcome.Stage.TheVariants as stage
@@ -43,10 +43,14 @@ use Rattle.pingora_cache.specs.declared.world.entry.Event.TheVariants as E
 use Rattle.pingora_cache.specs.Deeds.{deeds_by, deeds_in, held_in, moment_of, said_by, status_left}
 use Rattle.pingora_cache.specs.Due.{IsOfWorld, KeepsKey, makes_of, reader_for, slot_of}
 use Rattle.pingora_cache.specs.Facts.{Facts, facts_in, request_in}
-use Rattle.pingora_cache.specs.Held.{Held, Outcome, was_done, was_waited, opened, is_done, is_taken, is_wrong, number_of, outcome, on_request, pair_of, with_given, asked, carrying, decides, looked_with, looked_by, looks_for, placed_by, taken_by, turned_by, shut_by, without_pair, began, ended, has_read, waited_by, row, row_by, untold}
+use Rattle.pingora_cache.specs.Held.{Held, Outcome, was_done, was_waited, opened, is_done, is_taken, is_wrong, number_of, outcome, on_request, pair_of, with_given, asked, carrying, decides, looked_with, looked_by, looks_for, placed_by, taken_by, turned_by, shut_by, without_pair, fed, fed_in, held_put, began, ended, has_read, waited_by, row, row_by, untold}
 use Rattle.pingora_cache.specs.Moved.{reads_of}
-use Rattle.pingora_cache.specs.Rules.{Answers, AsksIf, Does, Finishes, HandsOn, IsLockRefusal, IsStarved, Looks, LooksOn, MayBe, Misses, Takes, Waits, accesses}
+use Rattle.pingora_cache.specs.Rules.{Answers, AsksIf, Closes, Does, Feeds, FindsKind, IsOfKind, Replies, Finishes, HandsOn, IsLockRefusal, IsStarved, Looks, LooksOn, MayBe, Misses, Takes, Waits, accesses}
 use Rattle.pingora_cache.specs.Step.{IsRow}
+use Rattle.pingora_cache.specs.Taking.{Taking, counted_none, new_put, uncounted, untold_put}
+use Rattle.pcache_put.specs.Progress.{AtHead}
+use Rattle.pcache_put.specs.Counted.{Counted}
+use Rattle.pcache_put_ctx.specs.State.{InHead}
 use Rattle.pingora_cache.specs.Untold.{fills_of, reader_watching, untold_lock, untold_reader, untold_request, untold_watch, waited_on, waited_with}
 
 -- ---- twice
@@ -64,8 +68,16 @@ lock-twice (Some (Read rd)) = ap {A = Option Watch} {B = Option Locked} (λ w. S
 abbrev holding : Option Locked → Request → Request
 holding h x = record x { held = h }
 
+size-twice : (c : Option Counted) → option_map uncounted (option_map uncounted c) ≡ option_map uncounted c
+size-twice None = refl
+size-twice (Some c) = refl
+
+put-twice : (p : Option Taking) → option_map untold_put (option_map untold_put p) ≡ option_map untold_put p
+put-twice None = refl
+put-twice (Some p) = ap {A = Option Counted} {B = Option Taking} (λ c. Some (record { key = p.key; size = c; parser = AtHead []; stage = p.stage })) (size-twice p.size)
+
 pub untold-twice : (x : Held) → untold (untold x) ≡ untold x
-untold-twice x = ap {A = Option Locked} {B = Held} (λ h. record { request = holding h x.request; pair = x.pair; carried = x.carried }) (lock-twice x.request.held)
+untold-twice x = λ i. record { request = holding (lock-twice x.request.held i) x.request; pair = x.pair; carried = x.carried; put = put-twice x.put i }
 
 -- ---- rows: what a call makes of a request
 
@@ -92,12 +104,12 @@ either-held true x y u v e f = e
 either-held false x y u v e f = f
 
 -- of the pair and the decision nothing changes
-with-request : (x : Held) (p : Option (Meta × Reader)) (y z : Request) → untold_request y ≡ z → untold (record { request = y; pair = p; carried = x.carried }) ≡ record { request = z; pair = p; carried = x.carried }
-with-request x p y z e = ap {A = Request} {B = Held} (λ r. record { request = r; pair = p; carried = x.carried }) e
+with-request : (x : Held) (p : Option (Meta × Reader)) (y z : Request) → untold_request y ≡ z → untold (record { request = y; pair = p; carried = x.carried; put = x.put }) ≡ record { request = z; pair = p; carried = x.carried; put = option_map untold_put x.put }
+with-request x p y z e = ap {A = Request} {B = Held} (λ r. record { request = r; pair = p; carried = x.carried; put = option_map untold_put x.put }) e
 
-deferred-untold : (d : Option Decision) (x : Held) → untold (record { request = disabled_for reason.Deferred (with_decision d x.request); pair = None; carried = None }) ≡ record { request = disabled_for reason.Deferred (with_decision d (untold_request x.request)); pair = None; carried = None }
-deferred-untold None x = ap {A = Request} {B = Held} (λ r. record { request = r; pair = None; carried = None }) (disabled-untold x.request.phase reason.Deferred x.request)
-deferred-untold (Some d) x = ap {A = Request} {B = Held} (λ r. record { request = r; pair = None; carried = None }) (disabled-untold x.request.phase reason.Deferred (decided d x.request))
+deferred-untold : (d : Option Decision) (x : Held) → untold (record { request = disabled_for reason.Deferred (with_decision d x.request); pair = None; carried = None; put = x.put }) ≡ record { request = disabled_for reason.Deferred (with_decision d (untold_request x.request)); pair = None; carried = None; put = option_map untold_put x.put }
+deferred-untold None x = ap {A = Request} {B = Held} (λ r. record { request = r; pair = None; carried = None; put = option_map untold_put x.put }) (disabled-untold x.request.phase reason.Deferred x.request)
+deferred-untold (Some d) x = ap {A = Request} {B = Held} (λ r. record { request = r; pair = None; carried = None; put = option_map untold_put x.put }) (disabled-untold x.request.phase reason.Deferred (decided d x.request))
 
 looked_with-untold : (d : Option Decision) (a : Answer) (es : List Event) (x : Held) → untold (looked_with d a es x) ≡ looked_with d a es (untold x)
 looked_with-untold d a es x =
@@ -155,7 +167,7 @@ waited_by-untold : (o : Outcome) (now : ℕ) (x : Request) → untold_request (w
 waited_by-untold (was_waited answer) now x = wait-untold answer now x.held x
 waited_by-untold o now x = refl
 
--- of an open request, and where a reply tells that it changes
+-- of an open request, and if a reply tells that it changes
 over : (f : Held → Held) → ((x : Held) → untold (f x) ≡ f (untold x)) → (q : Option Held) → option_map untold (option_map f q) ≡ option_map f (option_map untold q)
 over f alike None = refl
 over f alike (Some x) = ap Some (alike x)
@@ -167,7 +179,7 @@ either false p q r s e f = f
 on : (f : Request → Request) → ((x : Request) → untold_request (f x) ≡ f (untold_request x)) → (q : Option Held) → option_map untold (option_map (on_request f) q) ≡ option_map (on_request f) (option_map untold q)
 on f alike q = over (on_request f) (λ x. with-request x x.pair _ _ (alike x.request)) q
 
--- a row that changes the request where the call is done, and one that does where it was no wrong call
+-- a row that changes the request if the call is done, and one that does if it was no wrong call
 where-done : (o : Outcome) (f : Held → Held) → ((x : Held) → untold (f x) ≡ f (untold x)) → (q : Option Held) → option_map untold (cond (is_done o) (option_map f q) q) ≡ cond (is_done o) (option_map f (option_map untold q)) (option_map untold q)
 where-done o f alike q = either (is_done o) _ _ _ _ (over f alike q) refl
 
@@ -175,10 +187,25 @@ where-right : (o : Outcome) (f : Held → Held) → ((x : Held) → untold (f x)
 where-right o f alike q = either (is_wrong o) _ _ _ _ refl (over f alike q)
 
 shut-untold : (why : NoCacheReason) (x : Held) → untold (shut_by (disabled_for why) x) ≡ shut_by (disabled_for why) (untold x)
-shut-untold why x = ap {A = Request} {B = Held} (λ r. record { request = record r { reader = None }; pair = None; carried = None }) (disabled-untold x.request.phase why x.request)
+shut-untold why x = ap {A = Request} {B = Held} (λ r. record { request = record r { reader = None }; pair = None; carried = None; put = option_map untold_put x.put }) (disabled-untold x.request.phase why x.request)
 
 turned-untold : (f : Request → Request) (leaves_pair : Bool) (x : Held) → untold_request (f x.request) ≡ f (untold_request x.request) → untold (turned_by f leaves_pair x) ≡ turned_by f leaves_pair (untold x)
-turned-untold f leaves_pair x alike = ap {A = Request} {B = Held} (λ r. record { request = record r { reader = x.request.reader }; pair = cond leaves_pair None x.pair; carried = x.carried }) alike
+turned-untold f leaves_pair x alike = ap {A = Request} {B = Held} (λ r. record { request = record r { reader = x.request.reader }; pair = cond leaves_pair None x.pair; carried = x.carried; put = option_map untold_put x.put }) alike
+
+-- a put that comes to be, and one that is fed
+none-counted : (limit : Option ℕ) → option_map uncounted (option_map counted_none limit) ≡ option_map counted_none limit
+none-counted None = refl
+none-counted (Some n) = refl
+
+new-untold : (k : Key) (limit : Option ℕ) → option_map untold (Some (held_put (new_put k limit))) ≡ Some (held_put (new_put k limit))
+new-untold k limit = ap {A = Option Counted} {B = Option Held} (λ c. Some (held_put (record { key = k; size = c; parser = AtHead []; stage = InHead }))) (none-counted limit)
+
+fed_in-untold : (o : Outcome) (events : List Event) (x : Held) (p : Option Taking) → untold (fed_in o events x p) ≡ fed_in o events (untold x) (option_map untold_put p)
+fed_in-untold o events x None = refl
+fed_in-untold o events x (Some p) = refl
+
+fed-untold : (o : Outcome) (events : List Event) (x : Held) → untold (fed o events x) ≡ fed o events (untold x)
+fed-untold o events x = either-held (is_wrong o) _ _ _ _ refl (fed_in-untold o events x x.put)
 
 pub row_by-untold : (call : Call) (o : Outcome) (events : List Event) (q : Option Held) → option_map untold (row_by call o events q) ≡ row_by call o events (option_map untold q)
 row_by-untold (C.Open r options) o events q = either (is_done o) (Some (opened options)) q _ _ refl refl
@@ -212,6 +239,10 @@ row_by-untold (C.Variance r v) o events q = where-done o _ (λ x. turned-untold 
 row_by-untold (C.Revalidate r m) o events q = where-right o _ (λ x. refl) q
 row_by-untold (C.Phase r) o events q = refl
 row_by-untold (C.End r) o events q = either (is_done o) None q _ _ refl refl
+row_by-untold (C.Put r k limit) o events q = either (is_done o) (Some (held_put (new_put k limit))) q _ _ (new-untold k limit) refl
+row_by-untold (C.Feed r bs t) o events q = over (fed o events) (fed-untold o events) q
+row_by-untold (C.Drop r) o events q = either (is_done o) None q _ _ refl refl
+row_by-untold (C.Close r) o events q = either (is_wrong o) q None _ _ refl refl
 
 pub row-untold : (call : Call) (reply : Reply) (events : List Event) (q : Option Held) → option_map untold (row call reply events q) ≡ row call reply events (option_map untold q)
 row-untold call reply events q = row_by-untold call (outcome reply) events q
@@ -227,16 +258,73 @@ none-told rd e = absurd (cc)
 
 -- a request that is open, and holds this
 abbrev open_with : Option Locked → Held → Held
-open_with h x = record { request = holding h x.request; pair = x.pair; carried = x.carried }
+open_with h x = record { request = holding h x.request; pair = x.pair; carried = x.carried; put = x.put }
 
-may-alike : (f : Facts) (call : Call) (h : Option Locked) (x : Held) → MayBe f call (Some (open_with h x)) → MayBe f call (Some (untold (open_with h x)))
+-- but for what its read lock was told
+abbrev unlocked : Held → Held
+unlocked x = record { request = untold_request x.request; pair = x.pair; carried = x.carried; put = x.put }
+
+-- but for what a put's bytes left in it
+abbrev unfed : Held → Held
+unfed x = record { request = x.request; pair = x.pair; carried = x.carried; put = option_map untold_put x.put }
+
+may-put : (f : Facts) (call : Call) (x : Held) → MayBe f call (Some (unfed x)) ≡ MayBe f call (Some x)
+may-put f (C.Open r options) x = refl
+may-put f call x = refl
+
+feeds-put : (f : Facts) (p : Option Taking) (reply : Reply) (events : List Event) → Feeds f (option_map untold_put p) reply events ≡ Feeds f p reply events
+feeds-put f None reply events = refl
+feeds-put f (Some p) reply events = refl
+
+closes-put : (f : Facts) (p : Option Taking) (reply : Reply) (events : List Event) → Closes f (option_map untold_put p) reply events ≡ Closes f p reply events
+closes-put f None reply events = refl
+closes-put f (Some p) reply events = refl
+
+does-put : (f : Facts) (call : Call) (x : Held) (reply : Reply) (events : List Event) → Does f call (Some (unfed x)) reply events ≡ Does f call (Some x) reply events
+does-put f (C.Feed r bs t) x reply events = feeds-put f x.put reply events
+does-put f (C.Close r) x reply events = closes-put f x.put reply events
+does-put f call x reply events = refl
+
+some-put : (p : Option Taking) → IsSome p → IsSome (option_map untold_put p)
+some-put None s = s
+some-put (Some p) s = refl
+
+some-told : (p : Option Taking) → IsSome (option_map untold_put p) → IsSome p
+some-told None s = s
+some-told (Some p) s = refl
+
+no-put : (p : Option Taking) → option_map untold_put p ≡ None → p ≡ None
+no-put None is = refl
+no-put (Some p) is = absurd (cc)
+
+kind-put : (call : Call) (x : Held) → IsOfKind call x → IsOfKind call (untold x)
+kind-put (C.Feed r bs t) x is = some-put x.put is
+kind-put (C.Drop r) x is = some-put x.put is
+kind-put (C.Close r) x is = some-put x.put is
+kind-put call x is = ap (option_map untold_put) is
+
+kind-told : (call : Call) (x : Held) → IsOfKind call (untold x) → IsOfKind call x
+kind-told (C.Feed r bs t) x is = some-told x.put is
+kind-told (C.Drop r) x is = some-told x.put is
+kind-told (C.Close r) x is = some-told x.put is
+kind-told call x is = no-put x.put is
+
+pub finds-untold : (call : Call) (q : Option Held) → FindsKind call q → FindsKind call (option_map untold q)
+finds-untold call None is = is
+finds-untold call (Some x) is = kind-put call x is
+
+pub finds-told : (call : Call) (q : Option Held) → FindsKind call (option_map untold q) → FindsKind call q
+finds-told call None is = is
+finds-told call (Some x) is = kind-told call x is
+
+may-alike : (f : Facts) (call : Call) (h : Option Locked) (x : Held) → MayBe f call (Some (open_with h x)) → MayBe f call (Some (unlocked (open_with h x)))
 may-alike f call None x m = m
 may-alike f call (Some (Write p)) x m = m
 may-alike f (C.Open r options) (Some (Read rd)) x m = m
 may-alike f (C.Lock r is_used) (Some (Read rd)) x m = absurd (none-told rd m.1)
 may-alike f call (Some (Read rd)) x m = m
 
-may-back : (f : Facts) (call : Call) (h : Option Locked) (x : Held) → MayBe f call (Some (untold (open_with h x))) → MayBe f call (Some (open_with h x))
+may-back : (f : Facts) (call : Call) (h : Option Locked) (x : Held) → MayBe f call (Some (unlocked (open_with h x))) → MayBe f call (Some (open_with h x))
 may-back f call None x m = m
 may-back f call (Some (Write p)) x m = m
 may-back f (C.Open r options) (Some (Read rd)) x m = m
@@ -245,11 +333,11 @@ may-back f call (Some (Read rd)) x m = m
 
 pub may-untold : (f : Facts) (call : Call) (q : Option Held) → MayBe f call q → MayBe f call (option_map untold q)
 may-untold f call None m = m
-may-untold f call (Some x) m = may-alike f call x.request.held x m
+may-untold f call (Some x) m = subst (λ (T : Type 0). T) (sym (may-put f call (unlocked x))) (may-alike f call x.request.held x m)
 
 pub may-told : (f : Facts) (call : Call) (q : Option Held) → MayBe f call (option_map untold q) → MayBe f call q
 may-told f call None m = m
-may-told f call (Some x) m = may-back f call x.request.held x m
+may-told f call (Some x) m = may-back f call x.request.held x (subst (λ (T : Type 0). T) (may-put f call (unlocked x)) m)
 
 -- a look-up asks alike: a read lock goes without an event
 asks-alike : (b : Bool) (k : ℕ) (rd : permits.Reader) (events : List Event) (l : Option LockKind) → AsksIf b k (Some (Read (untold_reader rd))) events l ≡ AsksIf b k (Some (Read rd)) events l
@@ -269,7 +357,7 @@ looks_on-alike : (defers : Bool) (f : Facts) (k : ℕ) (a : Answer) (rd : permit
 looks_on-alike true f k a rd x reply events = refl
 looks_on-alike false f k a rd x reply events = hands-alike (is_unseen x.valid_after (pair_of a)) f k a rd x reply events
 
-looks-alike : (f : Facts) (rd : permits.Reader) (x : Held) (reply : Reply) (events : List Event) → Looks f (untold (open_with (Some (Read rd)) x)) reply events ≡ Looks f (open_with (Some (Read rd)) x) reply events
+looks-alike : (f : Facts) (rd : permits.Reader) (x : Held) (reply : Reply) (events : List Event) → Looks f (unlocked (open_with (Some (Read rd)) x)) reply events ≡ Looks f (open_with (Some (Read rd)) x) reply events
 looks-alike f rd x reply events = λ i.
     IsStarved reply events
     ⊎ ((k : Key) × (a : Answer) × (x.request.key ≡ Some k) × (pair_of a ≡ f.found) × looks_on-alike (is_deferral (decides a x)) f (slot k) a rd x.request reply events i)
@@ -291,21 +379,21 @@ waits-alike : (f : Facts) (t n : ℕ) (w : Option Watch) (x : Request) (reply : 
 waits-alike f t n None x reply events = refl
 waits-alike f t n (Some w) x reply events = refl
 
-does-read : (f : Facts) (call : Call) (rd : permits.Reader) (x : Held) (reply : Reply) (events : List Event) → Does f call (Some (untold (open_with (Some (Read rd)) x))) reply events ≡ Does f call (Some (open_with (Some (Read rd)) x)) reply events
+does-read : (f : Facts) (call : Call) (rd : permits.Reader) (x : Held) (reply : Reply) (events : List Event) → Does f call (Some (unlocked (open_with (Some (Read rd)) x))) reply events ≡ Does f call (Some (open_with (Some (Read rd)) x)) reply events
 does-read f (C.Look r t d) rd x reply events = looks-alike f rd (carrying d x) reply events
 does-read f (C.Found r s t) rd x reply events = takes-alike f s rd x.request x.pair reply events
 does-read f (C.Finish r) rd x reply events = finishes-alike f rd x.request x.request.write reply events
 does-read f (C.Wait r t) rd x reply events = waits-alike f t rd.number rd.watch x.request reply events
 does-read f call rd x reply events = refl
 
-does-alike : (f : Facts) (call : Call) (h : Option Locked) (x : Held) (reply : Reply) (events : List Event) → Does f call (Some (untold (open_with h x))) reply events ≡ Does f call (Some (open_with h x)) reply events
+does-alike : (f : Facts) (call : Call) (h : Option Locked) (x : Held) (reply : Reply) (events : List Event) → Does f call (Some (unlocked (open_with h x))) reply events ≡ Does f call (Some (open_with h x)) reply events
 does-alike f call None x reply events = refl
 does-alike f call (Some (Write p)) x reply events = refl
 does-alike f call (Some (Read rd)) x reply events = does-read f call rd x reply events
 
 pub does-untold : (f : Facts) (call : Call) (q : Option Held) (reply : Reply) (events : List Event) → Does f call (option_map untold q) reply events ≡ Does f call q reply events
 does-untold f call None reply events = refl
-does-untold f call (Some x) reply events = does-alike f call x.request.held x reply events
+does-untold f call (Some x) reply events = does-put f call (unlocked x) reply events ∙ does-alike f call x.request.held x reply events
 
 pub answers-untold : (f : Facts) (call : Call) (q : Option Held) (reply : Reply) (events : List Event) → Answers f call q reply events → Answers f call (option_map untold q) reply events
 answers-untold f call q reply events (inl (may, other, does)) = inl (may-untold f call q may, other, subst (λ (T : Type 0). T) (sym (does-untold f call q reply events)) does)
@@ -314,6 +402,14 @@ answers-untold f call q reply events (inr (may_not, is)) = inr ((λ m. may_not (
 pub told-answers : (f : Facts) (call : Call) (q : Option Held) (reply : Reply) (events : List Event) → Answers f call (option_map untold q) reply events → Answers f call q reply events
 told-answers f call q reply events (inl (may, other, does)) = inl (may-told f call q may, other, subst (λ (T : Type 0). T) (does-untold f call q reply events) does)
 told-answers f call q reply events (inr (may_not, is)) = inr ((λ m. may_not (may-untold f call q m)), is)
+
+pub replies-untold : (f : Facts) (call : Call) (q : Option Held) (reply : Reply) (events : List Event) → Replies f call q reply events → Replies f call (option_map untold q) reply events
+replies-untold f call q reply events (inl (finds, answers)) = inl (finds-untold call q finds, answers-untold f call q reply events answers)
+replies-untold f call q reply events (inr (finds_not, is)) = inr ((λ m. finds_not (finds-told call q m)), is)
+
+pub told-replies : (f : Facts) (call : Call) (q : Option Held) (reply : Reply) (events : List Event) → Replies f call (option_map untold q) reply events → Replies f call q reply events
+told-replies f call q reply events (inl (finds, answers)) = inl (finds-told call q finds, told-answers f call q reply events answers)
+told-replies f call q reply events (inr (finds_not, is)) = inr ((λ m. finds_not (finds-untold call q m)), is)
 
 -- ---- facts
 
@@ -363,7 +459,7 @@ pub reads-untold : (q : Option Held) → reads_of (option_map untold q) ≡ read
 reads-untold None = refl
 reads-untold (Some x) = refl
 
--- where tokens are published or a wait goes on
+-- if tokens are published or a wait goes on
 said-alike : (call : Call) (o : Outcome) (h : Option Locked) → said_by call o (option_map untold_lock h) ≡ said_by call o h
 said-alike call o None = refl
 said-alike call o (Some (Write p)) = refl
@@ -393,14 +489,14 @@ stage-alike s late since now rd fills w Over x same = refl
 stage-alike s late since now rd fills w Old x same = refl
 stage-alike s late since now rd fills w stage.Held x same = told-alike s late since now rd fills w w.told x same
 
-watches-alike : (c : permits.Core) (fills : Option (List UnusableFill)) (w : Option Watch) → (looked c (watch_at c fills w)).fills ≡ fills_of w fills
+watches-alike : (c : permits.Core) (fills : Option (List UnusableFill)) (w : Option Watch) → (watched c (watch_at c fills w)).fills ≡ fills_of w fills
 watches-alike c fills None = refl
 watches-alike c fills (Some w) = refl
 
 polled-alike : (s : LockStatus) (late : Bool) (since now : ℕ) (rd : permits.Reader) (fills : Option (List UnusableFill)) (c : Option permits.Core) (x : Request) →
     untold_request (after_wait (answer_by s late (polled now fills rd.watch c)) since now (reader_polled now fills rd c) x) ≡ untold_request (after_wait (answer_by s late (polled now fills rd.watch c)) since now (reader_watching rd fills) x)
 polled-alike s late since now rd fills None x = refl
-polled-alike s late since now rd fills (Some c) x = stage-alike s late since now rd fills (looked c (watch_at c fills rd.watch)) (stage_of now c) x (watches-alike c fills rd.watch)
+polled-alike s late since now rd fills (Some c) x = stage-alike s late since now rd fills (watched c (watch_at c fills rd.watch)) (stage_of now c) x (watches-alike c fills rd.watch)
 
 -- of a request that holds this read lock
 pub waited-on-untold : (t : Locks) (now : ℕ) (rd : permits.Reader) (x : Request) → untold_request (waited t now (Some (Read rd)) x) ≡ untold_request (waited_on (wait_answer t now (Some (Read rd)) x) now (Some (Read rd)) x)

@@ -6,7 +6,7 @@ use Rattle.pcache_base.specs.declared.poll.Poll.{Poll}
 use Rattle.pcache_base.specs.declared.poll.Poll.TheVariants.{Ready, Pending}
 use Rattle.pcache_lock.specs.Locks.{Locks, let_go, reader_dropped}
 use Rattle.pcache_lock.specs.Permits.{Core, Reader, Watch}
-use Rattle.pcache_lock.specs.Waiting.{after_poll, answer_at, looked, polled, reader_polled, stage_of, status_seen, table_at, told_or_pending, watch_at}
+use Rattle.pcache_lock.specs.Waiting.{after_poll, answer_at, watched, polled, reader_polled, stage_of, status_seen, table_at, told_or_pending, watch_at}
 use Rattle.pcache_lock.specs.declared.lock.outcome.LockWaitOutcome.{LockWaitOutcome}
 use Rattle.pcache_lock.specs.declared.lock.outcome.Stage.{Stage}
 use Rattle.pcache_lock.specs.declared.lock.outcome.Stage.TheVariants as stage
@@ -97,7 +97,7 @@ same-table : (t : Locks) (now n : ℕ) (w : Option Watch) (fills : Option (List 
 same-table t now n w fills None e = refl
 same-table t now n w fills (Some c) e = by (stage_of now c) e
   where
-    by : (s : Stage) → is_old_answer (answer_at s (looked c (watch_at c fills w))) ≡ false → table_at s t n c ≡ t
+    by : (s : Stage) → is_old_answer (answer_at s (watched c (watch_at c fills w))) ≡ false → table_at s t n c ≡ t
     by stage.Over e = refl
     by stage.Old e = absurd (cc)
     by stage.Held e = refl

@@ -9,11 +9,11 @@ use Rattle.std.proofs.lemmas.List.{append_assoc}
 use Rattle.pcache_base.specs.declared.fills.UnusableFill.{UnusableFill}
 use Rattle.pcache_base.specs.declared.poll.Poll.TheVariants.{Pending, Ready}
 use Rattle.pcache_evict.specs.Tracked.{Tracked, Limits}
-use Rattle.pcache_lock.specs.Locks.{Locks, no_locks, holder, given, after_request, with_read_lock, released, released_on, left, kept, let_go, permit_dropped, reader_dropped, is_permit, number_of_lock, without_entry}
+use Rattle.pcache_lock.specs.Locks.{Locks, no_locks, holder, lock_given, after_request, with_read_lock, released, released_on, left, kept, let_go, permit_dropped, reader_dropped, is_permit, number_of_lock, without_entry}
 use Rattle.pcache_lock.specs.Permits as permits
 use Rattle.pcache_lock.specs.Permits.{Core, Permit, is_named, spent, released_status, dropped_status, without_reader}
 use Rattle.pcache_lock.specs.Statuses.{IsReason, is_aged}
-use Rattle.pcache_lock.specs.Waiting.{after_poll, answer_at, is_old, looked, polled, published, stage_of, table_at, told_or_pending, watch_at}
+use Rattle.pcache_lock.specs.Waiting.{after_poll, answer_at, is_old, watched, polled, published, stage_of, table_at, told_or_pending, watch_at}
 use Rattle.pcache_lock.specs.Waits as table
 use Rattle.pcache_lock.specs.Waits.{Leads, LeadsAll, is_unlock, waiting_slot}
 use Rattle.pcache_lock.specs.declared.lock.outcome.Stage.{Stage}
@@ -246,7 +246,7 @@ pub status-reason : (why : NoCacheReason) → IsReason (status_for (λ text. Giv
 status-reason (reason.Custom text) = tt
 status-reason why = tt
 
-asks-for : (t : Locks) (k : ℕ) (stale : Bool) (now : ℕ) (o : Option ℕ) → holder t k ≡ o → Steps t (E.Ask k (number_of_lock (given t stale o)) (is_permit (given t stale o)) ∷ []) (after_request t k stale now o)
+asks-for : (t : Locks) (k : ℕ) (stale : Bool) (now : ℕ) (o : Option ℕ) → holder t k ≡ o → Steps t (E.Ask k (number_of_lock (lock_given t stale o)) (is_permit (lock_given t stale o)) ∷ []) (after_request t k stale now o)
 asks-for t k stale now None is = gives-permit t k stale now is
 asks-for t k stale now (Some l) is = gives-read t k stale now l is
 
@@ -297,14 +297,14 @@ ages-by t fills at (Some (Read rd)) old =
 
     is-old : (o : Option Core) → is_old_answer (polled at fills rd.watch o) ≡ true → table.is_old_at at o ≡ true
     is-old None e = absurd (cc)
-    is-old (Some c) e = at-stage (stage_of at c) (looked c (watch_at c fills rd.watch)) e
+    is-old (Some c) e = at-stage (stage_of at c) (watched c (watch_at c fills rd.watch)) e
 
 steps-by : (move : LockMove) (r : ℕ) (mine : Option Locked) (t : Locks) → MayMove move mine t → Steps t (spoken (deeds_moved move r mine t)) (table_moved move mine t)
 steps-by rests r mine t may = quiet t t [] tt refl
 steps-by (asks k stale at) r mine t may =
     let u = after_request t k stale at (holder t k) in
-    subst (λ es. Steps t (E.Ask k (number_of_lock (given t stale (holder t k))) (is_permit (given t stale (holder t k))) ∷ es) (let_go_by mine u)) (sym (spoken-let-go (permit_of mine)))
-    (both t u (let_go_by mine u) (E.Ask k (number_of_lock (given t stale (holder t k))) (is_permit (given t stale (holder t k))) ∷ []) (each E.LetGo (permit_of mine)) (asks-for t k stale at (holder t k) refl) (let-go-by u mine))
+    subst (λ es. Steps t (E.Ask k (number_of_lock (lock_given t stale (holder t k))) (is_permit (lock_given t stale (holder t k))) ∷ es) (let_go_by mine u)) (sym (spoken-let-go (permit_of mine)))
+    (both t u (let_go_by mine u) (E.Ask k (number_of_lock (lock_given t stale (holder t k))) (is_permit (lock_given t stale (holder t k))) ∷ []) (each E.LetGo (permit_of mine)) (asks-for t k stale at (holder t k) refl) (let-go-by u mine))
 steps-by (settles s) r mine t may = subst (λ es. Steps t es (settled s mine t)) (sym (spoken-released s (permit_of mine))) (settles-by t s mine may)
 steps-by lets_go r mine t may = subst (λ es. Steps t es (let_go_by mine t)) (sym (spoken-let-go (permit_of mine))) (let-go-by t mine)
 steps-by (publishes tokens) r mine t may = subst (λ es. Steps t es (published_by tokens mine t)) (sym (spoken-published tokens mine)) (published-by t tokens mine)
@@ -420,12 +420,12 @@ gives_the_permit_exactly age limits start before entry earlier rest k n b l is =
 abbrev IsSingle : Waiting → Type 0
 IsSingle w = (k l m : ℕ) → w.under l ≡ Some k → w.under m ≡ Some k → l ≡ m
 
--- a permit that waits behind one that ended waited before
+-- a permit that waits after one that ended waited before
 still : (b : Bool) (o : Option ℕ) (k : ℕ) → (if b then None else o) ≡ Some k → o ≡ Some k
 still true o k e = absurd (cc)
 still false o k e = e
 
--- one permit more, under a key where none waited
+-- one permit more, under a key if none waited
 one-more : (w : Waiting) (k n : ℕ) → NoneWaits w k → IsSingle w → (q l m : ℕ) (a b : Bool) → (n == l) ≡ a → (n == m) ≡ b → (if a then Some k else w.under l) ≡ Some q → (if b then Some k else w.under m) ≡ Some q → l ≡ m
 one-more w k n none one q l m true true x y e f = sym (eqb-true n l x) ∙ eqb-true n m y
 one-more w k n none one q l m true false x y e f = let same : k ≡ q = cc in absurd (none m (f ∙ ap Some (sym same)))

@@ -1,5 +1,5 @@
 -- In a legal history a wait is answered by what the deeds before it say of its lock.
-use Rattle.std.proofs.Common.{◌≡◌, ℕ, ◌⊎◌, false, Option, None, Some, IsSome, is_some, List, refl, ap, sym, subst, ◌∙◌, inl, inr}
+use Rattle.std.proofs.Common.{◌≡◌, ℕ, ◌⊎◌, false, Option, None, Some, IsSome, IfSome, is_some, List, refl, ap, sym, subst, ◌∙◌, inl, inr}
 use Rattle.pcache_base.specs.declared.error.ErrorType.TheVariants.{OutOfMemory}
 use Rattle.pcache_base.specs.declared.poll.Poll.{Poll}
 use Rattle.pcache_base.specs.declared.poll.Poll.TheVariants.{Ready, Pending}
@@ -17,11 +17,12 @@ use Rattle.pingora_cache.specs.declared.world.entry.Event.{Event}
 use Rattle.pingora_cache.specs.Deeds.{Deed, deeds_of}
 use Rattle.pingora_cache.specs.Facts.{Facts}
 use Rattle.pingora_cache.specs.Headline.{WaitsAreTrue}
-use Rattle.pingora_cache.specs.Held.{Held, number_of, request_of}
+use Rattle.pingora_cache.specs.Held.{Held, held_put, number_of, request_of}
 use Rattle.pingora_cache.specs.History.{events_of}
 use Rattle.pingora_cache.specs.Legal.{Gives}
-use Rattle.pingora_cache.specs.Rules.{Answers, IsCopy, wait_reply, was_polled}
+use Rattle.pingora_cache.specs.Rules.{Answers, IsCopy, Replies, wait_reply, was_polled}
 use Rattle.pingora_cache.specs.Waits.{wait_of}
+use Rattle.pingora_cache.proofs.PutShape.{IsShaped, legal_shaped}
 
 -- a reply to a wait has no bytes, so it is told as it is
 abbrev IsNoData : Reply → Type 0
@@ -50,9 +51,22 @@ module _ (age : ℕ) (ds : List Deed) (r t : ℕ) (x : Held) (rd : Reader) (f : 
   by-answers reply told events copy (inl (may, other, inr (is, noted))) = inl (told-as reply told (subst IsNoData (sym is) (wait-no-data (f.wait t))) copy ∙ is ∙ ap wait_reply says)
   by-answers reply told events copy (inr (fails, idle)) = absurd (fails (subst (λ h. IsSome (read_in h)) (sym held) refl))
 
+  by-replies : (reply told : Reply) (events : List Event) → x.put ≡ None → IsCopy reply told → Replies f (C.Wait r t) (Some x) reply events → Told told
+  by-replies reply told events plain copy (inl (finds, answers)) = by-answers reply told events copy answers
+  by-replies reply told events plain copy (inr (other, idle)) = absurd (other plain)
+
+-- a put holds no lock
+plain-of : (x : Held) (rd : Reader) → IsShaped (Some x) → x.request.held ≡ Some (Read rd) → x.put ≡ None
+plain-of x rd shaped held =
+    elim x.put as (λ o. IfSome o (λ p. x ≡ held_put p) → o ≡ None) [
+      | None ↦ λ _. refl
+      | Some p ↦ λ is. let none : x.request.held ≡ None = ap (λ (y : Held). y.request.held) is in absurd (cc)
+    ] shaped
+
 pub waits_are_true : WaitsAreTrue
 waits_are_true age limits start before entry r t x rd l call has held =
     let opened : request_of (number_of entry.call) before ≡ Some x = ap (λ c. request_of (number_of c) before) call ∙ has in
     let at = subst (λ q. Gives age limits start (events_of before) (deeds_of before) q entry.call entry.reply entry.events) opened l.0 in
     let g = subst (λ c. Gives age limits start (events_of before) (deeds_of before) (Some x) c entry.reply entry.events) call at in
-    by-answers age (deeds_of before) r t x rd g.facts held (g.says.wait rd t held) g.told entry.reply entry.events g.copy g.answers
+    let plain = plain-of x rd (subst IsShaped has (legal_shaped age limits start before l.1 r)) held in
+    by-replies age (deeds_of before) r t x rd g.facts held (g.says.wait rd t held) g.told entry.reply entry.events plain g.copy g.answers

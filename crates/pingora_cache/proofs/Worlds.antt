@@ -1,9 +1,7 @@
 -- A world at its start, and after one call more.
-use Rattle.std.proofs.Common.{◌≡◌, ℕ, ◌<◌, ◌^◌, length, Option, None, Some, List, [], ◌∷◌, ◌++◌, refl, ap, sym, subst, ◌∙◌, reverse, false, is_some, IsSome, option_map}
+use Rattle.std.proofs.Common.{◌≡◌, ℕ, ◌<◌, ◌^◌, length, Option, None, Some, List, [], ◌∷◌, ◌++◌, refl, ap, sym, subst, ◌∙◌, inl, reverse, false, is_some, IsSome, option_map}
 use Rattle.std.proofs.lemmas.Bool.{both_ways}
 use Rattle.std.proofs.lemmas.List.{reverse-append}
-use Rattle.std.specs.BTreeMap.{is_at}
-use Rattle.std.specs.Map.{lookup}
 use Rattle.std.specs.Ordering.{nat_cmp}
 use Rattle.std.specs.FinMap.{FinMap, empty, from_entries, get-empty}
 use Rattle.pcache_evict.specs.Tracked.{Tracked, Limits}
@@ -15,20 +13,23 @@ use Rattle.pingora_cache.specs.declared.world.call.Call.TheVariants as C
 use Rattle.pingora_cache.specs.declared.world.call.Reply.{Reply}
 use Rattle.pingora_cache.specs.declared.world.entry.Entry.{Entry}
 use Rattle.pingora_cache.specs.declared.world.entry.Event.{Event}
-use Rattle.pingora_cache.specs.Handing.{Acts, of_one, of_two}
-use Rattle.pingora_cache.specs.Held.{Held}
+use Rattle.pcache_put_ctx.specs.Puts.{Says}
+use Rattle.pingora_cache.specs.Handing.{Acts, of_one, of_two, open_at}
+use Rattle.pingora_cache.specs.Held.{Held, number_of}
 use Rattle.pingora_cache.specs.LockTable.{IsTable, read_locks}
 use Rattle.pingora_cache.specs.Log.{started}
 use Rattle.pingora_cache.specs.Rules.{IsCopy}
+use Rattle.pingora_cache.specs.PutHistory.{HasSome, PutTurn, PutsSound}
 use Rattle.pingora_cache.specs.Sound.{IsSound, readers}
 use Rattle.pingora_cache.proofs.Counts.{readers-none}
-use Rattle.pingora_cache.proofs.Handing.{give_age, give_sound}
+use Rattle.pingora_cache.proofs.Handing.{give_age, give_sound, hands-by-map}
 use Rattle.pingora_cache.proofs.LockTable.{table-none}
 use Rattle.pingora_cache.proofs.Opened.{open-none}
+use Rattle.pingora_cache.proofs.PutSound.{has-some, puts-after, puts-given}
 use Rattle.pingora_cache.proofs.ReadLocks.{locks-none}
 use Rattle.pingora_cache.proofs.SoundOf.{sound-of}
 use Rattle.pingora_cache.proofs.States.{state-none, state-same}
-use Rattle.pingora_cache.proofs.Turned.{step_age, step_sound}
+use Rattle.pingora_cache.proofs.Turned.{entries-after, lookup-get, made, step_age, step_sound}
 use Rattle.pingora_cache.proofs.Waiting.{locked-none}
 
 -- with an empty history, no requests and an empty store a world is sound, whatever the manager holds
@@ -58,33 +59,61 @@ started-once f (Some all) m n some = refl
 pub not-both : {V A : Type 0} (o : Option V) → o ≡ None → IsSome o → A
 not-both o none some = absurd (both_ways (is_some o) (ap is_some none) some)
 
--- one call more, of one request or of two, whose reply is told as it is copied
-acts-sound : (limits : Limits) (start m m' : Tracked) (s s' : Store) (t t' : Locks) (before after : List (ℕ × Held)) (h : List Entry) (call : Call) (reply told : Reply) (events : List Event)
-    → IsSound limits start m s t (from_entries {R = nat_cmp} before) h → length before < 2 ^ 64 → Acts limits call before s m t reply events after s' m' t' → IsCopy reply told
-    → IsSound limits start m' s' t' (from_entries {R = nat_cmp} after) (record { call = call; reply = told; events = events } ∷ h)
-acts-sound limits start m m' s s' t t' before after h call reply told events k small (of_one one turn moved) copy = step_sound limits start m m' s s' t t' before after h call reply events k small one turn told moved copy
-acts-sound limits start m m' s s' t t' before after h call reply told events k small (of_two from to is hands same kept) copy =
-    subst (λ (c : Call). IsSound limits start m' s' t' (from_entries {R = nat_cmp} after) (record { call = c; reply = told; events = events } ∷ h)) (sym is)
-    (subst (λ (x : Store). IsSound limits start m' x t' (from_entries {R = nat_cmp} after) (record { call = C.Give from to; reply = told; events = events } ∷ h)) (sym same)
-    (subst (λ (x : Tracked). IsSound limits start x s t' (from_entries {R = nat_cmp} after) (record { call = C.Give from to; reply = told; events = events } ∷ h)) (sym kept)
-    (give_sound limits start m s t t' before after h from to reply events k small hands told copy)))
+-- one call more, of one request or put, or of two requests, whose reply is told as it is copied
+module _ (limits : Limits) (says : Says) (start m m' : Tracked) (s s' : Store) (t t' : Locks) (before after : List (ℕ × Held)) (h : List Entry) (call : Call) (reply told : Reply) (events : List Event) (k : IsSound limits start m s t (from_entries {R = nat_cmp} before) h) (puts : PutsSound says (from_entries {R = nat_cmp} before) h)
+    (small : length before < 2 ^ 64) (copy : IsCopy reply told) where
+  some : HasSome says (open_at (number_of call) before)
+  some = has-some says before h (number_of call) puts
 
-pub sound-step : (limits limits' : Limits) (start start' m m' : Tracked) (s s' : Store) (t t' : Locks) (before after : List (ℕ × Held)) (h h' : List Entry) (call : Call) (reply told : Reply) (events : List Event)
-    → IsSound limits start m s t (from_entries {R = nat_cmp} before) (reverse h) → length before < 2 ^ 64
-    → Acts limits call before s m t reply events after s' m' t' → IsCopy reply told
+  acts-sound : Acts limits says call before s m t reply events after s' m' t' → IsSound limits start m' s' t' (from_entries {R = nat_cmp} after) (record { call = call; reply = told; events = events } ∷ h)
+  acts-sound (of_one one turn put moved) = step_sound limits start m m' s s' t t' before after h call reply events k small one (λ w. turn w some) told moved copy
+  acts-sound (of_two from to is hands same kept) =
+      subst (λ (c : Call). IsSound limits start m' s' t' (from_entries {R = nat_cmp} after) (record { call = c; reply = told; events = events } ∷ h)) (sym is)
+      (subst (λ (x : Store). IsSound limits start m' x t' (from_entries {R = nat_cmp} after) (record { call = C.Give from to; reply = told; events = events } ∷ h)) (sym same)
+      (subst (λ (x : Tracked). IsSound limits start x s t' (from_entries {R = nat_cmp} after) (record { call = C.Give from to; reply = told; events = events } ∷ h)) (sym kept)
+      (give_sound limits start m s t t' before after h from to reply events k small hands told copy)))
+
+  acts-puts : Acts limits says call before s m t reply events after s' m' t' → PutsSound says (from_entries {R = nat_cmp} after) (record { call = call; reply = told; events = events } ∷ h)
+  acts-puts (of_one one turn put moved) =
+      let n = number_of call in
+      let all : FinMap nat_cmp Held = from_entries {R = nat_cmp} before in
+      let q' = open_at n after in
+      let now = (made limits start m m' s s' t t' before after h call reply events k small one (λ w. turn w some)).now in
+      subst (λ (x : FinMap nat_cmp Held). PutsSound says x (record { call = call; reply = told; events = events } ∷ h)) (sym (entries-after before after call moved))
+      (puts-after says all h call reply told events q' puts k.requests (subst (λ p. PutTurn says call reply events p q') (lookup-get before n) put) now copy)
+  acts-puts (of_two from to is hands same kept) =
+      subst (λ (c : Call). PutsSound says (from_entries {R = nat_cmp} after) (record { call = c; reply = told; events = events } ∷ h)) (sym is)
+      (puts-given says (from_entries {R = nat_cmp} before) (from_entries {R = nat_cmp} after) h from to reply told events puts k.requests (hands-by-map limits start m s t t' before after h from to reply events k small hands).requests)
+
+  acts-age : Acts limits says call before s m t reply events after s' m' t' → t'.age_timeout ≡ t.age_timeout
+  acts-age (of_one one turn put moved) = step_age limits start m m' s s' t t' before after h call reply events k small one (λ w. turn w some)
+  acts-age (of_two from to is hands same kept) = give_age limits start m s t t' before after h from to reply events k small hands
+
+pub sound-step : (limits limits' : Limits) (says : Says) (start start' m m' : Tracked) (s s' : Store) (t t' : Locks) (before after : List (ℕ × Held)) (h h' : List Entry) (call : Call) (reply told : Reply) (events : List Event)
+    → IsSound limits start m s t (from_entries {R = nat_cmp} before) (reverse h) → PutsSound says (from_entries {R = nat_cmp} before) (reverse h) → length before < 2 ^ 64
+    → Acts limits says call before s m t reply events after s' m' t' → IsCopy reply told
     → limits' ≡ limits → start' ≡ start → h' ≡ h ++ record { call = call; reply = told; events = events } ∷ []
     → IsSound limits' start' m' s' t' (from_entries {R = nat_cmp} after) (reverse h')
-sound-step limits limits' start start' m m' s s' t t' before after h h' call reply told events k small acts copy same first is =
+sound-step limits limits' says start start' m m' s s' t t' before after h h' call reply told events k puts small acts copy same first is =
     let entry : Entry = record { call = call; reply = told; events = events } in
-    let more = acts-sound limits start m m' s s' t t' before after (reverse h) call reply told events k small acts copy in
+    let more = acts-sound limits says start m m' s s' t t' before after (reverse h) call reply told events k puts small copy acts in
     let turned : reverse h' ≡ entry ∷ reverse h = ap reverse is ∙ reverse-append h (entry ∷ []) in
     subst (λ (l : Limits). IsSound l start' m' s' t' (from_entries {R = nat_cmp} after) (reverse h')) (sym same)
     (subst (λ (first : Tracked). IsSound limits first m' s' t' (from_entries {R = nat_cmp} after) (reverse h')) (sym first)
     (subst (λ (xs : List Entry). IsSound limits start m' s' t' (from_entries {R = nat_cmp} after) xs) (sym turned) more))
 
+-- and what it keeps of its puts
+pub puts-step : (limits : Limits) (says : Says) (start m m' : Tracked) (s s' : Store) (t t' : Locks) (before after : List (ℕ × Held)) (h h' : List Entry) (call : Call) (reply told : Reply) (events : List Event)
+    → IsSound limits start m s t (from_entries {R = nat_cmp} before) (reverse h) → PutsSound says (from_entries {R = nat_cmp} before) (reverse h) → length before < 2 ^ 64
+    → Acts limits says call before s m t reply events after s' m' t' → IsCopy reply told
+    → h' ≡ h ++ record { call = call; reply = told; events = events } ∷ [] → PutsSound says (from_entries {R = nat_cmp} after) (reverse h')
+puts-step limits says start m m' s s' t t' before after h h' call reply told events k puts small acts copy is =
+    let entry : Entry = record { call = call; reply = told; events = events } in
+    let turned : reverse h' ≡ entry ∷ reverse h = ap reverse is ∙ reverse-append h (entry ∷ []) in
+    subst (λ (xs : List Entry). PutsSound says (from_entries {R = nat_cmp} after) xs) (sym turned) (acts-puts limits says start m m' s s' t t' before after (reverse h) call reply told events k puts small copy acts)
+
 -- after how long permits are too old stays as it is
-pub same-age : (limits : Limits) (start m m' : Tracked) (s s' : Store) (t t' : Locks) (before after : List (ℕ × Held)) (h : List Entry) (call : Call) (reply : Reply) (events : List Event)
-    → IsSound limits start m s t (from_entries {R = nat_cmp} before) (reverse h) → length before < 2 ^ 64
-    → Acts limits call before s m t reply events after s' m' t' → t'.age_timeout ≡ t.age_timeout
-same-age limits start m m' s s' t t' before after h call reply events k small (of_one one turn moved) = step_age limits start m m' s s' t t' before after (reverse h) call reply events k small one turn
-same-age limits start m m' s s' t t' before after h call reply events k small (of_two from to is hands same kept) = give_age limits start m s t t' before after (reverse h) from to reply events k small hands
+pub same-age : (limits : Limits) (says : Says) (start m m' : Tracked) (s s' : Store) (t t' : Locks) (before after : List (ℕ × Held)) (h : List Entry) (call : Call) (reply : Reply) (events : List Event)
+    → IsSound limits start m s t (from_entries {R = nat_cmp} before) (reverse h) → PutsSound says (from_entries {R = nat_cmp} before) (reverse h) → length before < 2 ^ 64
+    → Acts limits says call before s m t reply events after s' m' t' → t'.age_timeout ≡ t.age_timeout
+same-age limits says start m m' s s' t t' before after h call reply events k puts small acts = acts-age limits says start m m' s s' t t' before after (reverse h) call reply reply events k puts small (inl refl) acts

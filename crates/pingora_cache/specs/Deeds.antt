@@ -82,7 +82,7 @@ handed_on to None = []
 handed_on to (Some (Write p)) = Handed p.number to ∷ []
 handed_on to (Some (Read rd)) = []
 
--- what a call does to locks that no event tells: tokens are published, where a permit is held; a wait has to go on; a permit is
+-- what a call does to locks that no event tells: tokens are published, if a permit is held; a wait has to go on; a permit is
 -- handed over
 abbrev pub said_by : Call → Outcome → Option Locked → List Deed
 said_by (C.Publish r tokens) was_done held = published_on tokens held

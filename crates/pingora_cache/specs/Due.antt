@@ -39,7 +39,7 @@ owes es (Purge k) owed = None
 owes es _ owed = owed
 
 -- Where a request q makes the write o, or none, and nothing is owed: a look-up and a read tell what the history says; a write
--- has the next number and the request's slot; only the request's own is written to and ended; it is stored exactly where it is
+-- has the next number and the request's slot; only the request's own is written to and ended; it is stored exactly when it is
 -- untouched; an entry is untracked whose key has no complete body.
 abbrev pub MayCome : List Event → Option Held → Option ℕ → Event → Type 0
 MayCome es q o (Look k a) = Finds es k a
@@ -71,7 +71,7 @@ AreDue limits start es q o owed [] o' = (o' ≡ o) × (owed ≡ None)
 AreDue limits start es q o owed (e ∷ events) o' =
     IsNext limits (tracked start es) es q o owed e × AreDue limits start (e ∷ es) q (makes e o) (owes es e owed) events o'
 
--- a request of a world: it uses the manager while caching is on, its entries have no numbers, and where it makes a write it
+-- a request of a world: it uses the manager while caching is on, its entries have no numbers, and if it makes a write it
 -- fills
 pub record IsOfWorld (x : Request) : Type 0 where
   pub eviction : IsOn x.phase → x.uses.eviction ≡ true

@@ -1,5 +1,5 @@
 -- What the events of a history say of writes, keys and entries (own). Events stand newest first. A function says what one
--- event makes of the answer so far, where most events say nothing; the definition over the list is then two clauses.
+-- event makes of the answer so far, if most events say nothing; the definition over the list is then two clauses.
 use Rattle.std.specs.Prelude.{ℕ, ◌+◌, Bool, true, false, not, ◌&&◌, ◌==◌, if◌then◌else◌, Option, None, Some, is_some, List, [], ◌∷◌, ◌++◌, length, sum_by}
 use Rattle.std.specs.Option.{option_map, option_and_then}
 use Rattle.std.specs.List.{list_any}
@@ -103,7 +103,7 @@ begin_of w (e ∷ es) = begin_at w e (begin_of w es)
 abbrev pub since : ℕ → List Event → List Event
 since w es = until (begins w) es
 
--- whether the write's key was removed since it began: it is untouched where not
+-- whether the write's key was removed since it began: it is untouched if not
 abbrev pub is_removed : ℕ → List Event → Bool
 is_removed w es = option_any (λ b. list_any (removes b.0) (since w es)) (begin_of w es)
 
@@ -150,7 +150,7 @@ meta_kept w es k m = altered_by k (until (stores w) es) m
 abbrev pub body_stored : ℕ → List Event → Option Stored
 body_stored w es = option_map (λ b. record { meta = meta_kept w es b.0 b.1; bytes = body_of w es }) (begin_of w es)
 
--- the body of the last finished write of the key, where that is untouched: the key stands
+-- the body of the last finished write of the key, if that is untouched: the key stands
 abbrev pub complete : ℕ → List Event → Option Stored
 complete k es = option_and_then (λ w. if is_removed w es then None else body_stored w es) (last_finished k es)
 
@@ -173,11 +173,11 @@ finished_keys [] = []
 finished_keys (e ∷ es) = with_key (option_and_then (λ w. option_map (λ b. b.0) (begin_of w es)) (finishes e)) (finished_keys es)
 
 -- the lengths of the bodies of the standing keys, added up; and how many they are
-abbrev pub size_of : Stored → ℕ
-size_of b = length b.bytes
+abbrev pub stored_size : Stored → ℕ
+stored_size b = length b.bytes
 
 abbrev pub stored : List Event → ℕ
-stored es = sum_by (λ k. share size_of (complete k es)) (finished_keys es)
+stored es = sum_by (λ k. share stored_size (complete k es)) (finished_keys es)
 
 abbrev pub slots : List Event → ℕ
 slots es = sum_by (λ k. share (λ _. 1) (complete k es)) (finished_keys es)

@@ -15,7 +15,9 @@ use Rattle.pingora_cache.specs.declared.world.call.Reply.{Reply}
 use Rattle.pingora_cache.specs.declared.world.entry.Event.{Event}
 use Rattle.pingora_cache.specs.Facts.{facts_for, request_in}
 use Rattle.pingora_cache.specs.Held.{Held, Outcome, was_done, handed_by, number_of, on_request, outcome, permit_held, row, taken_over}
-use Rattle.pingora_cache.specs.Rules.{Answers}
+use Rattle.pcache_put_ctx.specs.Puts.{Says}
+use Rattle.pingora_cache.specs.PutHistory.{HasSome, PutTurn}
+use Rattle.pingora_cache.specs.Rules.{Replies}
 use Rattle.pingora_cache.specs.Step.{IsMoved, IsOfOne, IsOfWorldIn, Turn}
 
 -- the open request of a number
@@ -50,11 +52,11 @@ table_given_by o p taker t = t
 
 -- one request hands its permit to another, or the call is a wrong one; requests by number
 pub record HandsOver (from to : ℕ) (all : ℕ → Option Held) (t : Locks) (reply : Reply) (events : List Event) (all' : ℕ → Option Held) (t' : Locks) : Type 0 where
-  pub answers : (s : Store) → Answers (facts_for s t (request_in (all from)) (taker_at from to all)) (C.Give from to) (all from) reply events
+  pub answers : (s : Store) → Replies (facts_for s t (request_in (all from)) (taker_at from to all)) (C.Give from to) (all from) reply events
   pub requests : (q : ℕ) → all' q ≡ taken_over (C.Give from to) (outcome reply) q (all from) (cond (is_at (nat_cmp from) q) (row (C.Give from to) reply events (all from)) (all q))
   pub table : t' ≡ table_given_by (outcome reply) (permit_held (all from)) (taker_at from to all) t
 
--- a call that names one request moves that one, and one that hands a permit over moves two
-pub data Acts (limits : Limits) (call : Call) (all : List (ℕ × Held)) (s : Store) (m : Tracked) (t : Locks) (reply : Reply) (events : List Event) (all' : List (ℕ × Held)) (s' : Store) (m' : Tracked) (t' : Locks) : Type 0 where
-  of_one : IsOfOne call → (IsOfWorldIn (open_at (number_of call) all) → Turn limits call (open_at (number_of call) all) s m t reply events (open_at (number_of call) all') s' m' t') → IsMoved call all all' → Acts limits call all s m t reply events all' s' m' t'
-  of_two : (from to : ℕ) → call ≡ C.Give from to → HandsOver from to (λ q. open_at q all) t reply events (λ q. open_at q all') t' → s' ≡ s → m' ≡ m → Acts limits call all s m t reply events all' s' m' t'
+-- a call that names one request or put moves that one, and one that hands a permit over moves two requests
+pub data Acts (limits : Limits) (says : Says) (call : Call) (all : List (ℕ × Held)) (s : Store) (m : Tracked) (t : Locks) (reply : Reply) (events : List Event) (all' : List (ℕ × Held)) (s' : Store) (m' : Tracked) (t' : Locks) : Type 0 where
+  of_one : IsOfOne call → (IsOfWorldIn (open_at (number_of call) all) → HasSome says (open_at (number_of call) all) → Turn limits call (open_at (number_of call) all) s m t reply events (open_at (number_of call) all') s' m' t') → PutTurn says call reply events (open_at (number_of call) all) (open_at (number_of call) all') → IsMoved call all all' → Acts limits says call all s m t reply events all' s' m' t'
+  of_two : (from to : ℕ) → call ≡ C.Give from to → HandsOver from to (λ q. open_at q all) t reply events (λ q. open_at q all') t' → s' ≡ s → m' ≡ m → Acts limits says call all s m t reply events all' s' m' t'

@@ -24,21 +24,24 @@ use Rattle.pingora_cache.specs.declared.world.entry.Entry.{Entry}
 use Rattle.pingora_cache.specs.declared.world.entry.Event.{Event}
 use Rattle.pingora_cache.specs.declared.world.entry.Event.TheVariants.{Look, Ask, Finish, Admit, Read}
 use Rattle.pingora_cache.specs.Deeds.{deeds_of}
-use Rattle.pingora_cache.specs.Events.{is_of, begin_of, in_flight, was_stored, is_removed, last_finished, body_of, complete, names_slot, size_of, tracked, stored, slots}
+use Rattle.pingora_cache.specs.Events.{is_of, begin_of, in_flight, was_stored, is_removed, last_finished, body_of, complete, names_slot, stored_size, tracked, stored, slots}
 use Rattle.pingora_cache.specs.Held.{Held, number_of, pair_of, request_of, taker_in}
 use Rattle.pingora_cache.specs.Facts.{Facts, Says, request_in}
 use Rattle.pingora_cache.specs.History.{events_of, Finds, reads}
 use Rattle.pingora_cache.specs.Legal.{IsLegal}
 use Rattle.pingora_cache.specs.Log.{Log, events_in}
-use Rattle.pingora_cache.specs.Rules.{MayBe, wait_reply}
+use Rattle.pingora_cache.specs.Rules.{FindsKind, MayBe, wait_reply}
 use Rattle.pingora_cache.specs.Waiting.{NoneWaits, waiting_in}
 use Rattle.pingora_cache.specs.Waits.{wait_of}
 use Rattle.pingora_cache.specs.ReadSoFar.{read_by, HasRead}
+use Rattle.pcache_put_ctx.specs.State.{Filled}
+use Rattle.pingora_cache.specs.PutHistory.{filled_of}
+use Rattle.pingora_cache.specs.Taking.{Taking}
 
--- a call is answered as a wrong one exactly where its condition fails, by the facts that the events before it say
+-- a call is answered as a wrong one exactly when what stands under its number is of another kind, or its condition fails, by the facts that the events before it say
 abbrev pub IsWrongExactly : Type 0
 IsWrongExactly = (age : ℕ) (limits : Limits) (start : Tracked) (before : List Entry) (entry : Entry) (f : Facts) → IsLegal age limits start (entry ∷ before) → Says age (events_of before) (deeds_of before) (number_of entry.call) (request_in (request_of (number_of entry.call) before)) f
-    → f.taker ≡ taker_in entry.call before → (entry.reply ≡ WrongCall) ↔ (MayBe f entry.call (request_of (number_of entry.call) before) → ⊥)
+    → f.taker ≡ taker_in entry.call before → (entry.reply ≡ WrongCall) ↔ (FindsKind entry.call (request_of (number_of entry.call) before) × MayBe f entry.call (request_of (number_of entry.call) before) → ⊥)
 
 -- a look-up answers what the events before it say of its key: the earliest begun write that is in flight and untouched, else
 -- the complete body, else nothing; with the meta that the write began with, which of a complete body is altered by each expiry
@@ -47,7 +50,7 @@ abbrev pub LooksAreTrue : Type 0
 LooksAreTrue = (age : ℕ) (limits : Limits) (start : Tracked) (before : List Entry) (entry : Entry) (k : ℕ) (answer : Answer) (rest : List Event) → IsLegal age limits start (entry ∷ before) → entry.events ≡ Look k answer ∷ rest
     → Finds (events_of before) k answer
 
--- a read gives what the events before it say of its reader: all that is unread of a write, nothing yet where more may come,
+-- a read gives what the events before it say of its reader: all that is unread of a write, nothing yet if more may come,
 -- else the end; of a complete body its range once, then the end
 abbrev pub ReadsAreTrue : Type 0
 ReadsAreTrue = (age : ℕ) (limits : Limits) (start : Tracked) (before : List Entry) (entry : Entry) (answer : Poll (Option (List ℕ))) (rest : List Event) → IsLegal age limits start (entry ∷ before) → entry.events ≡ Read answer ∷ rest
@@ -97,9 +100,9 @@ EvictsFairly = (age : ℕ) (limits : Limits) (start : Tracked) (before : List En
 -- each standing key has an entry of its own, tracked with exactly the length of its body
 abbrev pub TracksExactly : Type 0
 TracksExactly = (age : ℕ) (limits : Limits) (start : Tracked) (before : List Entry) (k : ℕ) (b : Stored) → IsLegal age limits start before → complete k (events_of before) ≡ Some b
-    → (e : CacheEntryKey) × (names_slot k e ≡ true) × (map.get (tracked start (events_of before)) e ≡ Some (size_of b)) × ((q : ℕ) → names_slot q e ≡ true → k ≡ q)
+    → (e : CacheEntryKey) × (names_slot k e ≡ true) × (map.get (tracked start (events_of before)) e ≡ Some (stored_size b)) × ((q : ℕ) → names_slot q e ≡ true → k ≡ q)
 
--- a request for the lock of a key is given the permit exactly where its key has no permit waiting
+-- a request for the lock of a key is given the permit exactly when its key has no permit waiting
 abbrev pub GivesThePermitExactly : Type 0
 GivesThePermitExactly = (age : ℕ) (limits : Limits) (start : Tracked) (before : List Entry) (entry : Entry) (earlier rest : List Event) (k n : ℕ) (is_permit : Bool) → IsLegal age limits start (entry ∷ before) → entry.events ≡ earlier ++ Ask k n is_permit ∷ rest
     → (is_permit ≡ true) ↔ NoneWaits (waiting_in (reverse earlier ++ events_of before)) k
@@ -109,20 +112,20 @@ abbrev pub OnePermitWaits : Type 0
 OnePermitWaits = (age : ℕ) (limits : Limits) (start : Tracked) (before : List Entry) (k l m : ℕ) → IsLegal age limits start before → (waiting_in (events_of before)).under l ≡ Some k → (waiting_in (events_of before)).under m ≡ Some k → l ≡ m
 
 -- a wait on a read lock is answered by what the deeds before it say of the lock: the first of released, too old, told of a fill
--- that cannot be used, and waited for long enough; else it goes on. Only a first poll with fills may be refused for want of
--- memory
+-- that cannot be used, and waited for long enough; else it goes on. Only a first poll with fills may be refused when memory
+-- runs out
 abbrev pub WaitsAreTrue : Type 0
 WaitsAreTrue = (age : ℕ) (limits : Limits) (start : Tracked) (before : List Entry) (entry : Entry) (r t : ℕ) (x : Held) (rd : lock.Reader) → IsLegal age limits start (entry ∷ before) → entry.call ≡ C.Wait r t → request_of r before ≡ Some x → x.request.held ≡ Some (locked.Read rd)
     → (entry.reply ≡ wait_reply (wait_of age t r rd x.request (deeds_of before))) ⊎ ((entry.reply ≡ R.Refused OutOfMemory) × (rd.watch ≡ None) × IsSome (unusable_in x.request.key))
 
--- whether a reply tells that something was found, where it is that of a look-up
+-- whether a reply tells that something was found, if it is that of a look-up
 abbrev pub told_found : Reply → Option Bool
 told_found (R.Hit n) = Some true
 told_found R.Part = Some true
 told_found (R.NotFound l) = Some false
 told_found _ = None
 
--- a reply to a look-up tells that something was found exactly where the key has an untouched write, of a request that hides
+-- a reply to a look-up tells that something was found exactly when the key has an untouched write, of a request that hides
 -- nothing since it looked for no variant
 abbrev pub TellsExactly : Type 0
 TellsExactly = (age : ℕ) (limits : Limits) (start : Tracked) (before : List Entry) (entry : Entry) (r t : ℕ) (d : Option Decision) (x : Held) (k : Key) (b : Bool) → IsLegal age limits start (entry ∷ before) → entry.call ≡ C.Look r t d → request_of r before ≡ Some x → x.request.key ≡ Some k → x.request.valid_after ≡ None → told_found entry.reply ≡ Some b
@@ -148,6 +151,11 @@ IsFoundBy h r body = (later : List Entry) × (entry : Entry) × (before : List E
 abbrev pub ReadsWhatWasFound : Type 0
 ReadsWhatWasFound = (age : ℕ) (limits : Limits) (start : Tracked) (h : List Entry) (r : ℕ) (x : Held) (body : List ℕ) (from to : ℕ) (done : Bool) → IsLegal age limits start h → request_of r h ≡ Some x → x.request.reader ≡ Some (Whole body from to done)
     → (f : IsFoundBy h r body) × (w : ℕ) × (last_finished f.3 (events_of f.2) ≡ Some w) × (is_removed w (events_of f.2) ≡ false) × (body ≡ body_of w (events_of f.2))
+
+-- what the history says was written of an open put is the body of its write, with the meta that the write began with
+abbrev pub PutsAreWritten : Type 0
+PutsAreWritten = (age : ℕ) (limits : Limits) (start : Tracked) (before : List Entry) (r w : ℕ) (x : Held) (p : Taking) → IsLegal age limits start before → request_of r before ≡ Some x → x.put ≡ Some p → x.request.write ≡ Some w
+    → (f : Filled) × (filled_of r before ≡ Some f) × (f.body ≡ body_of w (events_of before)) × ((k : ℕ) × (begin_of w (events_of before) ≡ Some (k, f.meta)))
 
 -- The same of what a world has: of each entry of its history with those before it, newest first.
 

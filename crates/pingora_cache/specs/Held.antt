@@ -1,6 +1,6 @@
--- An open request with the pair that its last look-up gave, and what the entries of a history leave of it (own). Calls that
+-- An open request with the pair that its last look-up gave, or an open put, and what the entries of a history leave of it (own). Calls that
 -- do one thing move a request by their reply; calls that can be refused half way move it by their events.
-use Rattle.std.specs.Prelude.{ℕ, ◌+◌, ◌==◌, ◌&&◌, ◌||◌, Bool, true, false, is_none, is_some, Option, Some, None, cond, if◌then◌else◌, List, [], ◌∷◌, length}
+use Rattle.std.specs.Prelude.{◌≡◌, ℕ, ◌+◌, ◌==◌, ◌&&◌, ◌||◌, Bool, true, false, is_none, is_some, Option, Some, None, cond, if◌then◌else◌, List, [], ◌∷◌, length}
 use Rattle.std.specs.Option.{option_map, option_and_then}
 use Rattle.pcache_meta.specs.Header.{shown}
 use Rattle.pcache_meta.specs.Meta.{Meta}
@@ -11,7 +11,12 @@ use Rattle.pcache_lock.specs.Permits.{Permit}
 use Rattle.pcache_lock.specs.declared.lock.permit.Locked.{Locked}
 use Rattle.pcache_lock.specs.declared.lock.permit.Locked.TheVariants.{Write, Read}
 use Rattle.pcache_store.specs.Store.{Reader, Whole, Part, sought}
+use Rattle.pcache_base.specs.Key.{Key}
+use Rattle.pcache_base.specs.declared.error.ErrorType.{ErrorType}
+use Rattle.pcache_base.specs.declared.error.ErrorType.TheVariants.{OutOfMemory}
+use Rattle.pcache_base.specs.declared.reason.NoCacheReason.{NoCacheReason}
 use Rattle.pcache_base.specs.declared.reason.NoCacheReason.TheVariants.{Deferred}
+use Rattle.pcache_put_ctx.specs.State.{Stage, InBody, HasDeclined, IsOver, write_in}
 use Rattle.pcache_predict.specs.declared.admission.Decision.{Decision}
 use Rattle.pcache_request.specs.Admissions.{is_deferral, kept_if, observes, with_decision}
 use Rattle.pcache_request.specs.LockUse.{enabled_waiting, handed, permit_in, unheld, with_cache_lock, with_options}
@@ -33,6 +38,7 @@ use Rattle.pingora_cache.specs.declared.world.entry.Answer.TheVariants as A
 use Rattle.pingora_cache.specs.declared.world.entry.Entry.{Entry}
 use Rattle.pingora_cache.specs.declared.world.entry.Event.{Event}
 use Rattle.pingora_cache.specs.declared.world.entry.Event.TheVariants as E
+use Rattle.pingora_cache.specs.Taking.{Taking, entry_in, filling, new_put, untold_put}
 use Rattle.pingora_cache.specs.Untold.{untold_request, waited_with}
 
 pub record Held : Type 0 where
@@ -40,12 +46,14 @@ pub record Held : Type 0 where
   pub pair : Option (Meta × Reader)
   -- the decision that a look-up carried last, which the policy in use answers
   pub carried : Option Decision
+  -- what it has taken in, if it is a put: then the request has its key and its write, and no more
+  pub put : Option Taking
 
--- but for what its read lock was told
+-- but for what its read lock was told, and what a put's bytes left in it
 abbrev pub untold : Held → Held
-untold x = record { request = untold_request x.request; pair = x.pair; carried = x.carried }
+untold x = record { request = untold_request x.request; pair = x.pair; carried = x.carried; put = option_map untold_put x.put }
 
--- the request that a call names
+-- the request or the put that a call names
 abbrev pub number_of : Call → ℕ
 number_of (C.Open r options) = r
 number_of (C.Enable r options) = r
@@ -76,18 +84,24 @@ number_of (C.Variance r v) = r
 number_of (C.Revalidate r m) = r
 number_of (C.Phase r) = r
 number_of (C.End r) = r
+number_of (C.Put r k limit) = r
+number_of (C.Feed r bs t) = r
+number_of (C.Drop r) = r
+number_of (C.Close r) = r
 
 -- the request that a call names besides, to which a permit is handed
 abbrev pub taker_of : Call → Option ℕ
 taker_of (C.Give r to) = Some to
 taker_of call = None
 
--- what a request moves by of a reply
+-- what a request or a put moves by of a reply
 pub data Outcome : Type 0 where
   was_wrong : Outcome
   was_done : Outcome
   was_taken : Outcome
   was_waited : (answer : Poll LockWaitOutcome) → Outcome
+  was_declined : (reason : NoCacheReason) → Outcome
+  was_refused : (kind : ErrorType) → Outcome
   was_other : Outcome
 
 abbrev pub outcome : Reply → Outcome
@@ -98,6 +112,10 @@ outcome R.Other = was_done
 outcome (R.Taken p l) = was_taken
 outcome R.Waiting = was_waited Pending
 outcome (R.Waited o) = was_waited (Ready o)
+outcome (R.NotCached reason) = was_declined reason
+outcome (R.Refused e) = was_refused e
+-- bytes that were read went by also if their copy is refused
+outcome (R.Data bytes) = was_refused OutOfMemory
 outcome _ = was_other
 
 abbrev pub is_wrong : Outcome → Bool
@@ -117,7 +135,7 @@ abbrev pub world_use : InUse
 world_use = record { eviction = true; predictor = false; lock = true }
 
 abbrev pub opened : Option CacheOptionOverrides → Held
-opened options = record { request = with_options true options (fresh_request world_use); pair = None; carried = None }
+opened options = record { request = with_options true options (fresh_request world_use); pair = None; carried = None; put = None }
 
 -- the pair of a look-up's answer
 abbrev pub pair_of : Answer → Option (Meta × Reader)
@@ -138,23 +156,23 @@ abbrev pub asked : Bool → List Event → Request → Request
 asked stale [] x = x
 asked stale (e ∷ es) x = asked stale es (with_given stale e x)
 
--- a decision that a look-up carries, where the request looks its key up first, puts a policy in use that answers it
+-- a decision that a look-up carries, if the request looks its key up first, puts a policy in use that answers it
 abbrev pub carries : Option Decision → Held → Bool
 carries d x = is_some d && is_key_phase x.request.phase
 
 abbrev pub carrying : Option Decision → Held → Held
-carrying d x = let r : Request = x.request in record { request = record r { has_policy = carries d x || r.has_policy }; pair = x.pair; carried = cond (carries d x) d x.carried }
+carrying d x = let r : Request = x.request in record { request = record r { has_policy = carries d x || r.has_policy }; pair = x.pair; carried = cond (carries d x) d x.carried; put = x.put }
 
--- what the policy in use decides where this was found, if it is asked
+-- what the policy in use decides if this was found, if it is asked
 abbrev pub decides : Answer → Held → Option Decision
 decides a x = kept_if (is_none (pair_of a) && observes x.request) x.carried
 
--- the request with a decision: where it defers, caching is turned off; else the lock that was asked for is held, and what was
+-- the request with a decision: if it defers, caching is turned off; else the lock that was asked for is held, and what was
 -- found, unless it is hidden
 abbrev pub looked_with : Option Decision → Answer → List Event → Held → Held
 looked_with d a es x = cond (is_deferral d)
-    (record { request = disabled_for Deferred (with_decision d x.request); pair = None; carried = None })
-    (record { request = asked false es (with_decision d x.request); pair = visible x.request.valid_after (pair_of a); carried = x.carried })
+    (record { request = disabled_for Deferred (with_decision d x.request); pair = None; carried = None; put = x.put })
+    (record { request = asked false es (with_decision d x.request); pair = visible x.request.valid_after (pair_of a); carried = x.carried; put = x.put })
 
 abbrev pub looked_by : List Event → Held → Held
 looked_by [] x = x
@@ -166,18 +184,18 @@ abbrev pub looks_for : List ℕ → Option (Meta × Reader) → Request → Requ
 looks_for v None r = r
 looks_for v (Some p) r = looks_for_variance v p.0 r
 
--- what was found is taken, or let go where that is refused
+-- what was found is taken, or let go if that is refused
 abbrev pub placed_by : HitStatus → List Event → Request → Option (Meta × Reader) → Request
 placed_by s events x None = x
 placed_by s events x (Some p) = placed s p.0 p.1 (asked (asks_as_stale s x.phase) events x)
 
 abbrev pub taken_by : HitStatus → List Event → Held → Held
-taken_by s events x = record { request = placed_by s events x.request x.pair; pair = None; carried = x.carried }
+taken_by s events x = record { request = placed_by s events x.request x.pair; pair = None; carried = x.carried; put = x.put }
 
 abbrev pub without_pair : Held → Held
-without_pair x = record { request = x.request; pair = None; carried = x.carried }
+without_pair x = record { request = x.request; pair = None; carried = x.carried; put = x.put }
 
--- a write that began is held, and the permit released; where the call was not refused, the reader follows it
+-- a write that began is held, and the permit released; if the call was not refused, the reader follows it
 abbrev pub began : Bool → List Event → Request → Request
 began joined [] x = x
 began joined (E.Begin w k m ∷ es) x = record x { write = Some w; entry = None; held = None; reader = cond joined (Some (Part w 0)) x.reader }
@@ -208,14 +226,40 @@ abbrev pub with_sought : ℕ → Option ℕ → Request → Request
 with_sought start end x = record x { reader = sought_in start end x.reader }
 
 abbrev pub on_request : (Request → Request) → Held → Held
-on_request f x = record { request = f x.request; pair = x.pair; carried = x.carried }
+on_request f x = record { request = f x.request; pair = x.pair; carried = x.carried; put = x.put }
 
 -- a wait that was answered
 abbrev pub waited_by : Outcome → ℕ → Request → Request
 waited_by (was_waited answer) now x = waited_with answer now x
 waited_by _ now x = x
 
--- What a call makes of the request that it names, by the row of the phase table.
+-- a put, as a world keeps it
+abbrev pub held_put : Taking → Held
+held_put p = record { request = filling p.key (write_in p.stage) (entry_in p.stage); pair = None; carried = None; put = Some p }
+
+abbrev pub IsHeldPut : Held → Type 0
+IsHeldPut x = (p : Taking) × (x ≡ held_put p)
+
+-- where a put stands once its write began, if one did; and after a piece
+abbrev pub stage_noted : List Event → Stage → Stage
+stage_noted (E.Begin w k m ∷ es) stage = InBody w None m.fresh_until
+stage_noted _ stage = stage
+
+abbrev pub stage_fed : Outcome → List Event → Stage → Stage
+stage_fed was_done events stage = stage_noted events stage
+stage_fed (was_declined reason) events stage = HasDeclined reason
+stage_fed (was_refused kind) events stage = IsOver kind
+stage_fed _ events stage = stage
+
+-- a put that was fed
+abbrev pub fed_in : Outcome → List Event → Held → Option Taking → Held
+fed_in o events x None = x
+fed_in o events x (Some p) = held_put (record { key = p.key; size = p.size; parser = p.parser; stage = stage_fed o events p.stage })
+
+abbrev pub fed : Outcome → List Event → Held → Held
+fed o events x = cond (is_wrong o) x (fed_in o events x x.put)
+
+-- What a call makes of the request or the put that it names, by the row of the phase table.
 pub data Change : Type 0 where
   -- a request comes to be, whose lock has these options
   opens : (options : Option CacheOptionOverrides) → Change
@@ -223,11 +267,11 @@ pub data Change : Type 0 where
   closes : Change
   -- it stays as it is
   stays : Change
-  -- where the call is done, all of it changes but its reader; its pair goes, or stays
+  -- if the call is done, all of it changes but its reader; its pair goes, or stays
   turns : (f : Request → Request) (leaves_pair : Bool) → Change
   -- the same, by the pair that it holds, which stays
   turns_by : (f : Option (Meta × Reader) → Request → Request) → Change
-  -- where the call is done, all of it changes, and its reader and its pair go
+  -- if the call is done, all of it changes, and its reader and its pair go
   shuts : (f : Request → Request) → Change
   -- it looks up, with a decision that is carried, and takes what was found
   looks : (d : Option Decision) → Change
@@ -239,10 +283,14 @@ pub data Change : Type 0 where
   reads_on : Change
   seeks : (start : ℕ) (end : Option ℕ) → Change
   reads_no_more : Change
-  -- its stale meta is renewed, also where the store refuses it
+  -- its stale meta is renewed, also if the store refuses it
   renews : (m : Meta) → Change
   -- it waits on the read lock that it holds
   waits : (now : ℕ) → Change
+  -- a put comes to be, is fed, and goes, whatever it is answered
+  pushes : (k : Key) (limit : Option ℕ) → Change
+  feeds : Change
+  goes : Change
 
 abbrev pub change_of : Call → Change
 change_of (C.Open r options) = opens options
@@ -274,14 +322,18 @@ change_of (C.Variance r v) = turns (varied v) false
 change_of (C.Revalidate r m) = renews m
 change_of (C.Phase r) = stays
 change_of (C.End r) = closes
+change_of (C.Put r k limit) = pushes k limit
+change_of (C.Feed r bs t) = feeds
+change_of (C.Drop r) = closes
+change_of (C.Close r) = goes
 
 -- all but its reader
 abbrev pub turned_by : (Request → Request) → Bool → Held → Held
-turned_by f leaves_pair x = record { request = record (f x.request) { reader = x.request.reader }; pair = cond leaves_pair None x.pair; carried = x.carried }
+turned_by f leaves_pair x = record { request = record (f x.request) { reader = x.request.reader }; pair = cond leaves_pair None x.pair; carried = x.carried; put = x.put }
 
 -- all of it, and nothing is read any more; a policy goes out of use
 abbrev pub shut_by : (Request → Request) → Held → Held
-shut_by f x = record { request = record (f x.request) { reader = None }; pair = None; carried = None }
+shut_by f x = record { request = record (f x.request) { reader = None }; pair = None; carried = None; put = x.put }
 
 abbrev pub changed : Change → Outcome → List Event → Option Held → Option Held
 changed (opens options) o events q = cond (is_done o) (Some (opened options)) q
@@ -299,6 +351,9 @@ changed (seeks start end) o events q = cond (is_done o) (option_map (on_request 
 changed reads_no_more o events q = cond (is_wrong o) q (option_map (on_request without_reader) q)
 changed (renews m) o events q = cond (is_wrong o) q (option_map (on_request (renewed m)) q)
 changed (waits now) o events q = option_map (on_request (waited_by o now)) q
+changed (pushes k limit) o events q = cond (is_done o) (Some (held_put (new_put k limit))) q
+changed feeds o events q = option_map (fed o events) q
+changed goes o events q = cond (is_wrong o) q None
 
 abbrev pub row_by : Call → Outcome → List Event → Option Held → Option Held
 row_by call o events q = changed (change_of call) o events q
@@ -320,7 +375,7 @@ abbrev pub taken_over : Call → Outcome → ℕ → Option Held → Option Held
 taken_over (C.Give from to) was_done r giver q = cond (to == r) (option_map (handed_by (permit_held giver)) q) q
 taken_over call o r giver q = q
 
--- a request as the entries that name it leave it
+-- a request or a put as the entries that name it leave it
 abbrev pub request_of : ℕ → List Entry → Option Held
 request_of r [] = None
 request_of r (e ∷ h) = taken_over e.call (outcome e.reply) r (request_of (number_of e.call) h) (if number_of e.call == r then row e.call e.reply e.events (request_of r h) else request_of r h)

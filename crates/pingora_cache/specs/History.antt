@@ -30,7 +30,7 @@ HasAny es k false = ((q : ℕ) → is_open k q es ≡ false) × (complete k es �
 abbrev pub written_of : ℕ → List Event → Option Written
 written_of w es = option_map (λ b. record { slot = b.0; meta = b.1; bytes = body_of w es; told = is_told w es; flying = in_flight w es; readers = 0 }) (begin_of w es)
 
--- what a reader gives: a range of a body once, then the end; of a write all that is unread, nothing yet where more may
+-- what a reader gives: a range of a body once, then the end; of a write all that is unread, nothing yet if more may
 -- come, else the end
 abbrev pub reads : List Event → Reader → Poll (Option (List ℕ))
 reads es (Whole body start stop done) = Ready (cond done None (Some (slice_range body start stop)))

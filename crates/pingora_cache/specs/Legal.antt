@@ -10,17 +10,17 @@ use Rattle.pingora_cache.specs.Due.{makes_of, AreDue, KeepsKey}
 use Rattle.pingora_cache.specs.Facts.{Facts, Says, request_in}
 use Rattle.pingora_cache.specs.Held.{Held, number_of, row, request_of, taker_in}
 use Rattle.pingora_cache.specs.History.{events_of}
-use Rattle.pingora_cache.specs.Rules.{Answers, IsCopy}
+use Rattle.pingora_cache.specs.Rules.{Replies, IsCopy}
 use Rattle.pingora_cache.specs.Waiting.{waiting_in, AreGiven}
 
--- what a call answers and does after a history that leaves its request as q, where permits are too old after this time, for a
+-- what a call answers and does after a history that leaves its request as q, if permits are too old after this time, for a
 -- manager with these limits that held these entries at the start: its clause by what the history says, told as it may be
 -- copied, events as they are due, and the locks that are given then
 pub record Gives (age : ℕ) (limits : Limits) (start : Tracked) (es : List Event) (ds : List Deed) (q : Option Held) (call : Call) (reply : Reply) (events : List Event) : Type 0 where
   pub facts : Facts
   pub says : Says age es ds (number_of call) (request_in q) facts
   pub told : Reply
-  pub answers : Answers facts call q told events
+  pub answers : Replies facts call q told events
   pub copy : IsCopy told reply
   pub due : AreDue limits start es q (makes_of q) None events (makes_of (row call reply events q))
   pub keeps : KeepsKey q (row call reply events q)

@@ -4,7 +4,7 @@ use Rattle.std.specs.Option.{option_map}
 use Rattle.std.specs.FinMap.{get}
 use Rattle.pcache_base.specs.declared.fills.UnusableFill.{UnusableFill}
 use Rattle.pcache_base.specs.declared.poll.Poll.TheVariants.{Pending}
-use Rattle.pcache_lock.specs.Locks.{Locks, holder, given, after_request, reader_dropped, is_permit, number_of_lock}
+use Rattle.pcache_lock.specs.Locks.{Locks, holder, lock_given, after_request, reader_dropped, is_permit, number_of_lock}
 use Rattle.pcache_lock.specs.Permits.{Reader}
 use Rattle.pcache_lock.specs.Statuses.{IsReason}
 use Rattle.pcache_lock.specs.Waiting.{after_poll, polled, reader_polled}
@@ -25,7 +25,7 @@ pub data LockMove : Type 0 where
   -- what is held is released, or let go
   settles : (status : LockStatus) → LockMove
   lets_go : LockMove
-  -- tokens are published where a permit is held
+  -- tokens are published if a permit is held
   publishes : (tokens : List ℕ) → LockMove
   -- a read lock is polled: the wait goes on; or the permit is found too old, and the read lock is let go
   polls : (fills : Option (List UnusableFill)) (at : ℕ) → LockMove
@@ -38,7 +38,7 @@ each_deed d (Some n) = d n ∷ []
 -- the deeds of the move of a request r that holds this lock, oldest first
 abbrev pub deeds_moved : LockMove → ℕ → Option Locked → Locks → List Deed
 deeds_moved rests r mine t = []
-deeds_moved (asks k stale at) r mine t = Asked r k (number_of_lock (given t stale (holder t k))) (is_permit (given t stale (holder t k))) at ∷ each_deed LetGo (permit_of mine)
+deeds_moved (asks k stale at) r mine t = Asked r k (number_of_lock (lock_given t stale (holder t k))) (is_permit (lock_given t stale (holder t k))) at ∷ each_deed LetGo (permit_of mine)
 deeds_moved (settles s) r mine t = each_deed (λ n. Released n s) (permit_of mine)
 deeds_moved lets_go r mine t = each_deed LetGo (permit_of mine)
 deeds_moved (publishes tokens) r mine t = published_on tokens mine
@@ -67,7 +67,7 @@ held_polled fills at t (Read rd) = Read (reader_polled at fills rd (get t.cores 
 
 abbrev pub held_moved : LockMove → Option Locked → Locks → Option Locked
 held_moved rests mine t = mine
-held_moved (asks k stale at) mine t = Some (given t stale (holder t k))
+held_moved (asks k stale at) mine t = Some (lock_given t stale (holder t k))
 held_moved (settles s) mine t = None
 held_moved lets_go mine t = None
 held_moved (publishes tokens) mine t = mine

@@ -34,7 +34,7 @@ plain c = record c { stale_writer = false; publications = [] }
 abbrev pub lock_as : ℕ → Bool → LockStatus → ℕ → ℕ × ℕ → Core
 lock_as age held status n a = record { slot = Some a.0; status = status; start = a.1; age_timeout = age; stale_writer = false; held = held; readers = n; publications = [] }
 
--- a lock as the table keeps it, where its permit is held or n read locks, at least one, name it
+-- a lock as the table keeps it, if its permit is held or n read locks, at least one, name it
 abbrev pub lock_of : ℕ → ℕ → ℕ → List Deed → Option Core
 lock_of age l n ds =
     if is_held l ds || nat_lt 0 n

@@ -8,12 +8,12 @@ use Rattle.pcache_meta.specs.Meta.{Meta}
 use Rattle.pcache_base.specs.Totals.{total}
 use Rattle.pcache_evict.specs.declared.eviction.entry_key.CacheEntryKey.{CacheEntryKey}
 use Rattle.pcache_evict.specs.Tracked.{Tracked, Limits}
-use Rattle.pcache_store.specs.Store.{Store, Slot, Written, Reader, Whole, Part, body_of, is_fresh_in, is_idle}
+use Rattle.pcache_store.specs.Store.{Store, Slot, Written, Reader, Whole, Part, complete_body, is_fresh_in, is_idle}
 use Rattle.pingora_cache.specs.declared.world.entry.Entry.{Entry}
 use Rattle.pingora_cache.specs.declared.world.entry.Event.{Event}
 use Rattle.pingora_cache.specs.declared.world.entry.Event.TheVariants.{Admit}
 use Rattle.pingora_cache.specs.Events as ev
-use Rattle.pingora_cache.specs.Events.{begun, begin_of, is_removed, has_ended, was_stored, in_flight, is_told, is_of, last_finished, complete, is_open, tracked, stored, slots, names_slot, size_of}
+use Rattle.pingora_cache.specs.Events.{begun, begin_of, is_removed, has_ended, was_stored, in_flight, is_told, is_of, last_finished, complete, is_open, tracked, stored, slots, names_slot, stored_size}
 use Rattle.pingora_cache.specs.Held.{Held, request_of, untold}
 use Rattle.pingora_cache.specs.Deeds.{Deed, deeds_of}
 use Rattle.pingora_cache.specs.History.{events_of}
@@ -43,7 +43,7 @@ writers_in w x = if ev.option_any (λ q. q == w) x.request.write then 1 else 0
 abbrev pub writers : map.FinMap nat_cmp Held → ℕ → ℕ
 writers all w = total (writers_in w) all
 
--- a write as the store keeps it, where it is in flight or n readers, at least one, follow it
+-- a write as the store keeps it, if it is in flight or n readers, at least one, follow it
 abbrev pub record_of : ℕ → ℕ → List Event → Option Written
 record_of w n es =
     if in_flight w es || nat_lt 0 n
@@ -66,7 +66,7 @@ pub record IsState (es : List Event) (n : ℕ → ℕ) (s : Store) : Type 0 wher
   pub next : s.next ≡ begun es
   pub writes : (w : ℕ) → map.get s.writes w ≡ record_of w (n w) es
   pub fresh : (k w : ℕ) → is_fresh_in w (map.get s.slots k) ≡ is_open k w es
-  pub bodies : (k : ℕ) → body_of (map.get s.slots k) ≡ complete k es
+  pub bodies : (k : ℕ) → complete_body (map.get s.slots k) ≡ complete k es
   pub filled : (k : ℕ) (x : Slot) → map.get s.slots k ≡ Some x → is_idle x ≡ false
   -- only a write that was begun is read
   pub known : (w : ℕ) → 0 < n w → is_some (begin_of w es) ≡ true
@@ -82,7 +82,7 @@ standing_entry k (e ∷ es) = admits k e (standing_entry k es)
 
 -- of each standing key, the entry that was admitted last for it is tracked with exactly the length of its body
 abbrev pub IsExact : Tracked → List Event → Type 0
-IsExact start es = (k : ℕ) (b : _) → complete k es ≡ Some b → (e : CacheEntryKey) × (standing_entry k es ≡ Some e) × (map.get (tracked start es) e ≡ Some (size_of b))
+IsExact start es = (k : ℕ) (b : _) → complete k es ≡ Some b → (e : CacheEntryKey) × (standing_entry k es ≡ Some e) × (map.get (tracked start es) e ≡ Some (stored_size b))
 
 -- what is stored is within the limits
 pub record IsBounded (limits : Limits) (es : List Event) : Type 0 where

@@ -1,5 +1,5 @@
 -- One call over the parts of a world, as the code makes it (own).
-use Rattle.std.specs.Prelude.{◌≡◌, ℕ, ◌++◌, Bool, true, false, cond, Option, Some, None, List, [], ◌∷◌, Result, Ok, Err}
+use Rattle.std.specs.Prelude.{◌≡◌, ℕ, ◌++◌, Bool, true, false, cond, Option, Some, None, IsSome, List, [], ◌∷◌, Result, Ok, Err}
 use Rattle.std.specs.Ordering.{nat_cmp}
 use Rattle.std.specs.Map.{lookup}
 use Rattle.std.specs.Option.{option_map}
@@ -33,14 +33,14 @@ use Rattle.pingora_cache.specs.Deeds.{deeds_in, held_in}
 use Rattle.pingora_cache.specs.Held.{Held, decides, number_of, outcome, row, pair_of, untold}
 use Rattle.pingora_cache.specs.LockMoves.{MovesLocks}
 use Rattle.pingora_cache.specs.Moved.{Moves}
-use Rattle.pingora_cache.specs.Rules.{Answers, Misses, drop_of, each, kind_of, release_of, renew_of, update_reply}
+use Rattle.pingora_cache.specs.Rules.{Replies, Misses, drop_of, each, kind_of, release_of, renew_of, update_reply}
 use Rattle.pingora_cache.specs.Sound.{pair_reader}
 
 -- a pair that a look-up may answer
 abbrev pub IsAnswered : Meta → Reader → Type 0
 IsAnswered m reader = (a : Answer) × (pair_of a ≡ Some (m, reader))
 
--- the number of a lock, where it is a permit
+-- the number of a lock, if it is a permit
 abbrev pub permit_in : Option LockName → Option ℕ
 permit_in None = None
 permit_in (Some l) = cond l.is_permit (Some l.number) None
@@ -84,7 +84,7 @@ IsRow call reply events q q' = option_map untold q' ≡ option_map untold (row c
 
 -- one call over the parts: what it answers and does is what the parts give, and they move by its events
 pub record Turn (limits : Limits) (call : Call) (q : Option Held) (s : Store) (m : Tracked) (t : Locks) (reply : Reply) (events : List Event) (q' : Option Held) (s' : Store) (m' : Tracked) (t' : Locks) : Type 0 where
-  pub answers : Answers (facts_in s t (request_in q)) call q reply events
+  pub answers : Replies (facts_in s t (request_in q)) call q reply events
   pub moves : Moves limits q s m events q' s' m'
   pub keeps : KeepsKey q q'
   pub now : IsRow call reply events q q'
@@ -112,9 +112,9 @@ DefersKey x events = (k : Key) × (x.key ≡ Some k) × (events ≡ E.Look (slot
 
 -- a request that found nothing, with what its policy decides then
 abbrev pub with_own_decision : Held → Held
-with_own_decision x = record { request = with_decision (decides Nothing x) x.request; pair = x.pair; carried = x.carried }
+with_own_decision x = record { request = with_decision (decides Nothing x) x.request; pair = x.pair; carried = x.carried; put = x.put }
 
--- what is noted and answered of a stale body that was found good: its new meta, where the store set it
+-- what is noted and answered of a stale body that was found good: its new meta, if the store set it
 abbrev pub renewing : ℕ → Meta → Result Bool ErrorType → List Event
 renewing k m (Ok there) = renew_of there k m
 renewing k m (Err e) = []
@@ -133,17 +133,37 @@ abbrev pub IsOfOne : Call → Type 0
 IsOfOne (C.Give r to) = ⊥
 IsOfOne _ = Unit {0}
 
--- a call of a request that is open already, and stays so
+-- a call of a request or a put that is open already, and stays so
 abbrev pub IsOfOpen : Call → Type 0
 IsOfOpen (C.Open r options) = ⊥
 IsOfOpen (C.Give r to) = ⊥
 IsOfOpen (C.End r) = ⊥
+IsOfOpen (C.Put r k limit) = ⊥
+IsOfOpen (C.Drop r) = ⊥
+IsOfOpen (C.Close r) = ⊥
 IsOfOpen _ = Unit {0}
 
--- and is no wait
+-- and is one of a request, and no wait
 abbrev pub IsTurned : Call → Type 0
 IsTurned (C.Open r options) = ⊥
 IsTurned (C.Give r to) = ⊥
 IsTurned (C.End r) = ⊥
 IsTurned (C.Wait r t) = ⊥
+IsTurned (C.Put r k limit) = ⊥
+IsTurned (C.Feed r bytes t) = ⊥
+IsTurned (C.Drop r) = ⊥
+IsTurned (C.Close r) = ⊥
 IsTurned _ = Unit {0}
+
+-- a request, or a put, stands under a number
+abbrev pub IsRequestIn : Option Held → Type 0
+IsRequestIn None = ⊥
+IsRequestIn (Some x) = x.put ≡ None
+
+abbrev pub IsPutIn : Option Held → Type 0
+IsPutIn None = ⊥
+IsPutIn (Some x) = IsSome x.put
+
+-- what stood under a number was taken out, and the rest stays
+abbrev pub IsTakenOut : ℕ → List (ℕ × Held) → List (ℕ × Held) → Type 0
+IsTakenOut n all all' = (q : ℕ) → lookup (is_at (nat_cmp q)) all' ≡ cond (is_at (nat_cmp n) q) None (lookup (is_at (nat_cmp q)) all)

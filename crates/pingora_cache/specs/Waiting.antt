@@ -44,7 +44,7 @@ waiting_in (e ∷ es) = then_waiting e (waiting_in es)
 abbrev pub NoneWaits : Waiting → ℕ → Type 0
 NoneWaits w k = (l : ℕ) → w.under l ≢ Some k
 
--- what a request for the lock of a key is given: the permit, with the next number, where none waits under the key; else a read
+-- what a request for the lock of a key is given: the permit, with the next number, if none waits under the key; else a read
 -- lock of the one that does
 abbrev pub Gets : Waiting → ℕ → ℕ → Bool → Type 0
 Gets w k n true = NoneWaits w k × (n ≡ w.asked)

@@ -1,5 +1,5 @@
-//! Requests over one store, one eviction manager and one lock table, with the history of what was
-//! asked.
+//! Requests and puts over one store, one eviction manager and one lock table, with the history of
+//! what was asked.
 
 pub mod call;
 mod call_copy;
@@ -9,9 +9,11 @@ mod give;
 pub mod laws;
 mod locks;
 mod look;
-mod machine;
 mod notes;
+mod open;
 mod parts;
+pub mod policy;
+mod puts;
 mod reads;
 mod remove;
 mod request;
@@ -19,5 +21,7 @@ mod switch;
 pub mod tokens;
 mod turn;
 mod vary;
+mod world_type;
 
-pub use machine::{Totals, World};
+pub use pcache_put_ctx::boxed;
+pub use world_type::{Totals, World};

@@ -1,5 +1,5 @@
 #![tactic(auto)]
-//! Each public item of the cache named once, under the modules of upstream and those of its own. Where one is gone, this
+//! Each public item of the cache named once, under the modules of upstream and those of its own. If one is gone, this
 //! crate does not build. It has no functions.
 
 /// The crate's root.
@@ -139,7 +139,9 @@ pub mod world {
     pub use pingora_cache::world::entry::{Answer, Entries, Entry, Event, Events};
     pub use pingora_cache::world::laws::{
         finds_exactly, finishes_exactly, hands_on_exactly, hits_read_the_last, is_wrong_exactly,
-        looks_are_true, reads_a_beginning, reads_are_true, stored_is_within_limits,
+        looks_are_true, puts_are_written, reads_a_beginning, reads_are_true,
+        stored_is_within_limits,
     };
+    pub use pingora_cache::world::policy::{BySelf, PutPolicy};
     pub use pingora_cache::world::{Totals, World};
 }

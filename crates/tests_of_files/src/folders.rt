@@ -1,3 +1,4 @@
+use crate::failing::Failing;
 use crate::parts::{AA, holds, letter, with_aa, with_z};
 use pcache_base::error::{ErrorType, Result};
 use pcache_evict::eviction::{sharded_lru, simple_lru};
@@ -5,6 +6,7 @@ use pcache_files::saved::SavedManager;
 use std::alloc::Global;
 use std::fs;
 use std::fs::Files;
+use std::sync::atomic::AtomicU64;
 use std::test::*;
 
 // What a load answers: how many files were skipped, or the kind of its refusal.
@@ -43,22 +45,40 @@ fn has(rt: &HostRuntime, path: &str, wanted: &[u8]) -> bool {
     }
 }
 
+// Whether a load of a folder into a manager with `z` answers this and leaves this list.
+fn z_loads<R: Files>(
+    alloc: Global,
+    files: &R,
+    dir: &str,
+    answer: &str,
+    wanted: &str,
+) -> Result<bool> {
+    let mut manager = with_z(alloc)?;
+    Ok(load_tells(alloc, files, &mut manager, dir, answer)? && holds(alloc, &manager, wanted)?)
+}
+
+// Whether a load of a folder is refused for a failed device, and leaves the manager as it was.
+fn refuses_to_load<R: Files>(alloc: Global, files: &R, dir: &str) -> Result<bool> {
+    z_loads(alloc, files, dir, "Io", " z1")
+}
+
+// Saves the entry of `AA` in a folder.
+fn save_aa<R: Files>(alloc: Global, files: &R, dir: &str, suffix: u32) -> Result<()> {
+    with_aa(alloc)?.save(alloc, files, dir, suffix)
+}
+
 #[test]
 fn a_list_in_a_folder(rt: HostRuntime) -> std::result::Result<(), Fail> {
     let alloc = rt.alloc();
     let _ = fs::remove_dir_all(&rt, "simple");
-    let manager = with_aa(alloc)?;
-    let mut other = with_z(alloc)?;
-    let is_missing = load_tells(alloc, &rt, &mut other, "simple/inner", "Io")?;
-    assert!(rt; is_missing);
-    manager.save(alloc, &rt, "simple/inner", 42)?;
+    let is_refused = refuses_to_load(alloc, &rt, "simple/inner")?;
+    assert!(rt; is_refused);
+    save_aa(alloc, &rt, "simple/inner", 42)?;
     assert!(rt; has(&rt, "simple/inner/simple_lru.data", &AA));
     let is_there = fs::exists(&rt, "simple/inner/simple_lru.data.0000002a.tmp")?;
     assert!(rt; !is_there);
-    let is_loaded = load_tells(alloc, &rt, &mut other, "simple/inner", "0")?;
+    let is_loaded = z_loads(alloc, &rt, "simple/inner", "0", " z1 \u{ac}9")?;
     assert!(rt; is_loaded);
-    let is_held = holds(alloc, &other, " z1 \u{ac}9")?;
-    assert!(rt; is_held);
     fs::remove_dir_all(&rt, "simple")?;
     Ok(())
 }
@@ -67,13 +87,75 @@ fn a_list_in_a_folder(rt: HostRuntime) -> std::result::Result<(), Fail> {
 fn a_failed_save_leaves_the_older_file(rt: HostRuntime) -> std::result::Result<(), Fail> {
     let alloc = rt.alloc();
     let _ = fs::remove_dir_all(&rt, "failing");
-    with_aa(alloc)?.save(alloc, &rt, "failing", 1)?;
+    save_aa(alloc, &rt, "failing", 1)?;
     // a folder stands where the temporary file would
     fs::create_dir_all(&rt, "failing/simple_lru.data.000000ff.tmp")?;
-    let other = with_z(alloc)?;
-    assert!(rt; refuses_to_save(alloc, &rt, &other, "failing", 255));
+    let is_refused = z_is_not_saved(alloc, &rt, "failing", 255)?;
+    assert!(rt; is_refused);
     assert!(rt; has(&rt, "failing/simple_lru.data", &AA));
     fs::remove_dir_all(&rt, "failing")?;
+    Ok(())
+}
+
+// Whether a save in a folder is refused for a failed device.
+fn z_is_not_saved<R: Files>(alloc: Global, files: &R, dir: &str, suffix: u32) -> Result<bool> {
+    let manager = with_z(alloc)?;
+    Ok(refuses_to_save(alloc, files, &manager, dir, suffix))
+}
+
+// A folder without the file, and a file if the folder would be.
+#[test]
+fn folders_that_cannot_be_opened(rt: HostRuntime) -> std::result::Result<(), Fail> {
+    let alloc = rt.alloc();
+    let _ = fs::remove_dir_all(&rt, "blocked");
+    fs::create_dir_all(&rt, "blocked/empty")?;
+    let is_refused = refuses_to_load(alloc, &rt, "blocked/empty")?;
+    assert!(rt; is_refused);
+    fs::write(&rt, "blocked/file", b"x")?;
+    let is_refused = refuses_to_load(alloc, &rt, "blocked/file")?;
+    assert!(rt; is_refused);
+    let is_refused = z_is_not_saved(alloc, &rt, "blocked/file", 1)?;
+    assert!(rt; is_refused);
+    let is_refused = z_is_not_saved(alloc, &rt, "blocked/file/inner", 1)?;
+    assert!(rt; is_refused);
+    assert!(rt; has(&rt, "blocked/file", b"x"));
+    fs::remove_dir_all(&rt, "blocked")?;
+    Ok(())
+}
+
+// Whether a save is refused if the call on files after so many good ones fails.
+fn save_fails<R: Files>(alloc: Global, files: &R, dir: &str, good_calls: u64) -> Result<bool> {
+    let left = AtomicU64::new(good_calls);
+    z_is_not_saved(alloc, &Failing::new(files, &left), dir, 1)
+}
+
+// The same of a load, which leaves the manager as it was.
+fn load_fails<R: Files>(alloc: Global, files: &R, dir: &str, good_calls: u64) -> Result<bool> {
+    let left = AtomicU64::new(good_calls);
+    refuses_to_load(alloc, &Failing::new(files, &left), dir)
+}
+
+// A save opens, writes, flushes and renames; a load opens and reads, the last time nothing.
+#[test]
+fn each_call_on_files_fails_in_turn(rt: HostRuntime) -> std::result::Result<(), Fail> {
+    let alloc = rt.alloc();
+    let _ = fs::remove_dir_all(&rt, "turns");
+    save_aa(alloc, &rt, "turns", 1)?;
+    for good_calls in 0..4 {
+        let is_told = save_fails(alloc, &rt, "turns", good_calls)?;
+        assert!(rt; is_told, "{good_calls}");
+        assert!(rt; has(&rt, "turns/simple_lru.data", &AA));
+    }
+    for good_calls in 0..3 {
+        let is_told = load_fails(alloc, &rt, "turns", good_calls)?;
+        assert!(rt; is_told, "{good_calls}");
+    }
+    let is_refused = load_fails(alloc, &rt, "turns", 3)?;
+    assert!(rt; !is_refused);
+    let is_refused = save_fails(alloc, &rt, "turns", 4)?;
+    assert!(rt; !is_refused);
+    assert!(rt; !has(&rt, "turns/simple_lru.data", &AA));
+    fs::remove_dir_all(&rt, "turns")?;
     Ok(())
 }
 
@@ -115,6 +197,31 @@ fn shards_in_a_folder(rt: HostRuntime) -> std::result::Result<(), Fail> {
     fs::remove_dir_all(&rt, "shards")?;
     let is_skipped = shards_load(alloc, &rt, "shards", "2", "")?;
     assert!(rt; is_skipped);
+    Ok(())
+}
+
+// Whether a save of two shards is refused for a failed device.
+fn shards_are_not_saved<R: Files>(
+    alloc: Global,
+    files: &R,
+    dir: &str,
+    suffix: u32,
+) -> Result<bool> {
+    let shards = two_shards(alloc)?;
+    Ok(refuses_to_save(alloc, files, &shards, dir, suffix))
+}
+
+#[test]
+fn a_failed_shard_fails_the_save(rt: HostRuntime) -> std::result::Result<(), Fail> {
+    let alloc = rt.alloc();
+    let _ = fs::remove_dir_all(&rt, "failing_shards");
+    // a folder stands where the temporary file of the second shard would
+    fs::create_dir_all(&rt, "failing_shards/lru.data.1.000000ff.tmp")?;
+    fs::write(&rt, "failing_shards/lru.data.1", &AA)?;
+    let is_refused = shards_are_not_saved(alloc, &rt, "failing_shards", 255)?;
+    assert!(rt; is_refused);
+    assert!(rt; has(&rt, "failing_shards/lru.data.1", &AA));
+    fs::remove_dir_all(&rt, "failing_shards")?;
     Ok(())
 }
 

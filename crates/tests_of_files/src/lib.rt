@@ -1,11 +1,14 @@
 #![tactic(auto)]
 //! Tests of the files of eviction managers: their bytes, devices that fail, and folders.
 //! They stand apart from the library, which is so proved once.
+//! Expected bytes are hand-computed from the form in docs/FORMATS.md.
 
 #[cfg(test)]
 mod bytes;
 #[cfg(test)]
 mod devices;
+#[cfg(test)]
+mod failing;
 #[cfg(test)]
 mod folders;
 #[cfg(test)]

@@ -1,13 +1,10 @@
+//! Keys of entries, owned and borrowed.
 use pcache_base::error::Result;
 use pcache_base::key::{CacheKey, CompactCacheKey};
 use pcache_evict::eviction::{CacheEntryId, CacheEntryKey, CacheEntryKeyRef};
 use std::alloc::Global;
 use std::fmt::Display;
 use std::hash::{DefaultHasher, Hash, Hasher};
-use std::process::Abort;
-use std::test::*;
-
-type Tested<T> = std::result::Result<T, Fail>;
 
 fn seven() -> CacheEntryId {
     CacheEntryId::new(7)
@@ -24,126 +21,142 @@ fn entry(alloc: Global, primary: &str, id: Option<CacheEntryId>) -> Result<Cache
     Ok(CacheEntryKey::from_entry_id(compact(alloc, primary)?, id))
 }
 
+// A key, its only entry and its entry of a number, and the only entry of another key.
+#[derive(Drop)]
+struct Entries {
+    key: CompactCacheKey,
+    only: CacheEntryKey,
+    seventh: CacheEntryKey,
+    other: CacheEntryKey,
+}
+
+fn make_entries(alloc: Global) -> Result<Entries> {
+    let key = compact(alloc, "aa")?;
+    let only = entry(alloc, "aa", None)?;
+    let (seventh, other) = (entry(alloc, "aa", Some(seven()))?, entry(alloc, "b", None)?);
+    Ok(Entries {
+        key,
+        only,
+        seventh,
+        other,
+    })
+}
+
 fn hash_of<T: Hash>(value: &T) -> u64 {
     let mut hasher = DefaultHasher::new();
     value.hash(&mut hasher);
     hasher.finish()
 }
 
-fn is_key_only(entry: &CacheEntryKey, key: &CompactCacheKey) -> Result<bool> {
-    Ok(*entry == CacheEntryKey::key_only(key.copied()?))
+fn is_key_only(entry: &CacheEntryKey, key: &CompactCacheKey) -> bool {
+    match key.copied() {
+        Ok(key) => *entry == CacheEntryKey::key_only(key),
+        Err(_refused) => false,
+    }
 }
 
-fn is_seventh(entry: &CacheEntryKey, key: &CompactCacheKey) -> Result<bool> {
-    Ok(*entry == CacheEntryKey::identified(key.copied()?, seven()))
+fn is_seventh(entry: &CacheEntryKey, key: &CompactCacheKey) -> bool {
+    match key.copied() {
+        Ok(key) => *entry == CacheEntryKey::identified(key, seven()),
+        Err(_refused) => false,
+    }
 }
 
-fn have_their_parts(
-    rt: &impl Abort,
-    only: &CacheEntryKey,
-    seventh: &CacheEntryKey,
-    key: &CompactCacheKey,
-) -> Tested<()> {
-    assert!(rt; is_key_only(only, key)?);
-    assert!(rt; is_seventh(seventh, key)?);
-    assert!(rt; seventh != only);
-    assert_eq!(rt;
-        (only.entry_id(), seventh.entry_id()),
-        (None, Some(seven()))
-    );
-    assert!(rt; seventh.key() == key);
-    Ok(())
+fn have_their_parts(it: &Entries) -> bool {
+    is_key_only(&it.only, &it.key)
+        && is_seventh(&it.seventh, &it.key)
+        && it.seventh != it.only
+        && it.only.entry_id().is_none()
+        && it.seventh.entry_id() == Some(seven())
+        && *it.seventh.key() == it.key
 }
 
-#[test]
-fn parts_come_back(rt: HostRuntime) -> Tested<()> {
-    let alloc = rt.alloc();
-    assert_eq!(rt; seven().get(), 7);
-    let seventh = entry(alloc, "aa", Some(seven()))?;
-    let only = entry(alloc, "aa", None)?;
-    have_their_parts(&rt, &only, &seventh, &compact(alloc, "aa")?)
+fn refer(it: &Entries) -> bool {
+    CacheEntryKeyRef::key_only(&it.key) == CacheEntryKeyRef::from_entry_id(&it.key, None)
+        && CacheEntryKeyRef::from(&it.seventh)
+            == CacheEntryKeyRef::from_entry_id(&it.key, Some(seven()))
+        && *CacheEntryKeyRef::from(&it.seventh).key() == it.key
+        && CacheEntryKeyRef::from(&it.seventh).entry_id() == Some(seven())
 }
 
-#[test]
-fn a_key_comes_back_out_of_its_entry(rt: HostRuntime) -> Tested<()> {
-    let key = entry(rt.alloc(), "aa", Some(seven()))?.into_key();
-    assert!(rt; key == compact(rt.alloc(), "aa")?);
-    Ok(())
+fn is_copied(it: &Entries) -> bool {
+    match CacheEntryKeyRef::identified(&it.key, seven()).copied() {
+        Ok(owned) => is_seventh(&owned, &it.key),
+        Err(_refused) => false,
+    }
 }
 
-fn refer(rt: &impl Abort, key: &CompactCacheKey, owned: &CacheEntryKey) -> Tested<()> {
-    assert!(rt; CacheEntryKeyRef::key_only(key) == CacheEntryKeyRef::from_entry_id(key, None));
-    assert!(rt; is_seventh(owned, key)?);
-    assert!(rt;
-        CacheEntryKeyRef::from(owned) == CacheEntryKeyRef::from_entry_id(key, Some(seven()))
-    );
-    assert!(rt; CacheEntryKeyRef::from(owned).key() == key);
-    assert_eq!(rt; CacheEntryKeyRef::from(owned).entry_id(), Some(seven()));
-    Ok(())
+fn hash_alike(it: &Entries) -> bool {
+    hash_of(&it.only) == hash_of(&CacheEntryKeyRef::from(&it.only))
+        && hash_of(&it.seventh) == hash_of(&CacheEntryKeyRef::from(&it.seventh))
+        && hash_of(&it.only) != hash_of(&it.seventh)
 }
 
-#[test]
-fn references_refer(rt: HostRuntime) -> Tested<()> {
-    let key = compact(rt.alloc(), "aa")?;
-    let owned = CacheEntryKeyRef::identified(&key, seven()).copied()?;
-    refer(&rt, &key, &owned)
+// The entries of a key stand by their numbers, and one without a number comes first.
+fn stand_in_order(alloc: Global, it: &Entries) -> bool {
+    match entry(alloc, "aa", Some(CacheEntryId::new(8))) {
+        Ok(eighth) => it.seventh < eighth && stand_before(it),
+        Err(_refused) => false,
+    }
 }
 
-fn hash_alike(rt: &impl Abort, only: &CacheEntryKey, seventh: &CacheEntryKey) {
-    assert_eq!(rt; hash_of(only), hash_of(&CacheEntryKeyRef::from(only)));
-    assert_eq!(rt; hash_of(seventh), hash_of(&CacheEntryKeyRef::from(seventh)));
-    assert_ne!(rt; hash_of(only), hash_of(seventh));
+fn stand_before(it: &Entries) -> bool {
+    it.only < it.seventh
+        && it.other < it.seventh
+        && it.only.cmp(&it.other) == it.other.cmp(&it.only).reverse()
 }
 
-#[test]
-fn owned_and_borrowed_keys_hash_alike(rt: HostRuntime) -> Tested<()> {
-    let only = entry(rt.alloc(), "aa", None)?;
-    hash_alike(&rt, &only, &entry(rt.alloc(), "aa", Some(seven()))?);
-    Ok(())
+fn prints_as<T: Display>(alloc: Global, it: &T, wanted: &str) -> bool {
+    match format!(in alloc; "{it}") {
+        Ok(text) => text.as_str() == wanted,
+        Err(_refused) => false,
+    }
 }
 
-fn prints_as<T: Display>(alloc: Global, it: &T, wanted: &str) -> Tested<bool> {
-    let text = format!(in alloc; "{it}")?;
-    Ok(text.as_str() == wanted)
+fn print_their_numbers(alloc: Global, it: &Entries) -> bool {
+    let only = "ac10f2aef117729f8dad056b3059eb7e, user_tag: 1";
+    let seventh = "ac10f2aef117729f8dad056b3059eb7e, user_tag: 1, entry ID: 7";
+    prints_as(alloc, &it.only, only)
+        && prints_as(alloc, &it.seventh, seventh)
+        && prints_as(alloc, &CacheEntryKeyRef::from(&it.seventh), seventh)
 }
 
-#[test]
-fn keys_print_their_numbers(rt: HostRuntime) -> Tested<()> {
-    let alloc = rt.alloc();
-    let only = entry(alloc, "aa", None)?;
-    assert!(rt;
-        prints_as(
-            alloc,
-            &only,
-            "ac10f2aef117729f8dad056b3059eb7e, user_tag: 1"
-        )?
-    );
-    let entry = entry(alloc, "aa", Some(CacheEntryId::new(255)))?;
+fn prints_in_hexadecimal_digits(alloc: Global) -> bool {
     let wanted = "ac10f2aef117729f8dad056b3059eb7e, user_tag: 1, entry ID: ff";
-    assert!(rt; prints_as(alloc, &entry, wanted)?);
-    assert!(rt; prints_as(alloc, &CacheEntryKeyRef::from(&entry), wanted)?);
-    Ok(())
+    match entry(alloc, "aa", Some(CacheEntryId::new(255))) {
+        Ok(entry) => prints_as(alloc, &entry, wanted),
+        Err(_refused) => false,
+    }
 }
 
-fn stand_in_order(
-    rt: &impl Abort,
-    only: &CacheEntryKey,
-    low: &CacheEntryKey,
-    high: &CacheEntryKey,
-    other: &CacheEntryKey,
-) {
-    assert!(rt; only < low);
-    assert!(rt; low < high);
-    assert!(rt; other < low);
-    assert!(rt; only.cmp(other) == other.cmp(only).reverse());
+fn comes_back(it: Entries) -> bool {
+    let Entries { key, seventh, .. } = it;
+    seventh.into_key() == key
 }
 
 #[test]
-fn entries_without_a_number_come_first(rt: HostRuntime) -> Tested<()> {
-    let alloc = rt.alloc();
-    let only = entry(alloc, "aa", None)?;
-    let low = entry(alloc, "aa", Some(CacheEntryId::new(1)))?;
-    let high = entry(alloc, "aa", Some(CacheEntryId::new(2)))?;
-    stand_in_order(&rt, &only, &low, &high, &entry(alloc, "b", None)?);
-    Ok(())
+fn parts_come_back_and_references_refer(rt: HostRuntime) {
+    let is_good = match make_entries(rt.alloc()) {
+        Ok(it) => have_their_parts(&it) && refer(&it) && is_copied(&it) && comes_back(it),
+        Err(_refused) => false,
+    };
+    assert!(rt; is_good && seven().get() == 7);
+}
+
+#[test]
+fn hashes_and_order(rt: HostRuntime) {
+    let is_good = match make_entries(rt.alloc()) {
+        Ok(it) => hash_alike(&it) && stand_in_order(rt.alloc(), &it),
+        Err(_refused) => false,
+    };
+    assert!(rt; is_good);
+}
+
+#[test]
+fn keys_print_their_numbers(rt: HostRuntime) {
+    let is_good = match make_entries(rt.alloc()) {
+        Ok(it) => print_their_numbers(rt.alloc(), &it),
+        Err(_refused) => false,
+    };
+    assert!(rt; is_good && prints_in_hexadecimal_digits(rt.alloc()));
 }

@@ -1,95 +1,127 @@
+//! Tables, in one piece and in shards, also behind locks.
 use pcache_table::hashtable::{ConcurrentHashTable, ConcurrentLruCache, LruShards, Shards, Table};
-use std::process::Abort;
+use std::alloc::AllocFailed;
 use std::sync::Wait;
-use std::test::Fail;
 
-fn in_shards(rt: &impl Abort, shards: &mut Shards<u64, 16>) -> Result<(), Fail> {
-    assert!(rt; shards.insert(3, 30)? == None);
-    assert!(rt; shards.insert(19, 190)? == None);
-    assert!(rt; shards.insert(3, 31)? == Some(30));
-    assert!(rt; shards.value(3).copied() == Some(31));
-    assert!(rt; shards.value(4).copied() == None);
-    // Keys 3 and 19 stand in shard 3.
-    assert!(rt; shards.get(19).place() == 3);
-    assert!(rt; shards.get(3).get(19).copied() == Some(190));
-    assert!(rt; shards.get(3).iter().count() == 2);
-    assert!(rt; shards.get_shard_at_idx(15).is_some() && shards.get_shard_at_idx(16).is_none());
-    assert!(rt; shards.remove(19) == Some(190));
-    assert!(rt; shards.remove(19) == None);
-    Ok(())
-}
-
-#[test]
-fn a_table_in_shards(rt: HostRuntime) -> Result<(), Fail> {
-    let mut shards = Shards::<u64, 16>::new(rt.alloc());
-    in_shards(&rt, &mut shards)
-}
-
-fn in_many_shards(rt: &impl Abort, shards: &mut Shards<u8, 64>) -> Result<(), Fail> {
-    for key in 0..200u8 {
-        shards.insert(u128::from(key), key)?;
+// Whether a call gave back this value of before.
+fn gave(before: Result<Option<u64>, AllocFailed<(u128, u64)>>, wanted: Option<u64>) -> bool {
+    match before {
+        Ok(before) => before == wanted,
+        Err(_refused) => false,
     }
-    assert!(rt; shards.get(63).iter().count() == 3);
-    assert!(rt; shards.value(199).copied() == Some(199));
-    Ok(())
+}
+
+fn inserts(shards: &mut Shards<u64, 16>) -> bool {
+    gave(shards.insert(3, 30), None)
+        && gave(shards.insert(19, 190), None)
+        && gave(shards.insert(3, 31), Some(30))
+}
+
+fn has_both(shards: &Shards<u64, 16>) -> bool {
+    shards.value(3) == Some(&31) && shards.value(4).is_none()
+}
+
+// Keys 3 and 19 stand in shard 3.
+fn has_both_in_shard_3(shards: &Shards<u64, 16>) -> bool {
+    shards.get(19).place() == 3
+        && shards.get(3).get(19) == Some(&190)
+        && shards.get(3).iter().count() == 2
+}
+
+fn has_16_shards(shards: &Shards<u64, 16>) -> bool {
+    shards.get_shard_at_idx(15).is_some() && shards.get_shard_at_idx(16).is_none()
+}
+
+fn removes(shards: &mut Shards<u64, 16>) -> bool {
+    shards.remove(19) == Some(190) && shards.remove(19).is_none()
 }
 
 #[test]
-fn more_than_32_shards(rt: HostRuntime) -> Result<(), Fail> {
+fn a_table_in_shards(rt: HostRuntime) {
+    let mut shards = Shards::<u64, 16>::new(rt.alloc());
+    assert!(rt; inserts(&mut shards));
+    assert!(rt; has_both(&shards) && has_both_in_shard_3(&shards) && has_16_shards(&shards));
+    assert!(rt; removes(&mut shards));
+}
+
+fn is_filled(shards: &mut Shards<u8, 64>) -> bool {
+    for key in 0..200u8 {
+        if shards.insert(u128::from(key), key).is_err() {
+            return false;
+        }
+    }
+    true
+}
+
+fn has_200(shards: &Shards<u8, 64>) -> bool {
+    shards.get(63).iter().count() == 3 && shards.value(199) == Some(&199)
+}
+
+#[test]
+fn more_than_32_shards(rt: HostRuntime) {
     let mut shards = Shards::<u8, 64>::new(rt.alloc());
-    in_many_shards(&rt, &mut shards)
+    assert!(rt; is_filled(&mut shards));
+    assert!(rt; has_200(&shards));
 }
 
-fn forgetting(rt: &impl Abort, shards: &mut LruShards<u64, 2>) -> Result<(), Fail> {
-    shards.put(0, 10)?;
-    shards.put(2, 12)?;
-    shards.put(1, 11)?;
-    // Key 2 is older than key 0 from here on.
-    assert!(rt; shards.put(0, 20)? == Some(10));
-    shards.put(4, 14)?;
-    assert!(rt; shards.peek(2).copied() == None);
-    assert!(rt; shards.peek(0).copied() == Some(20));
-    assert!(rt; shards.peek(1).copied() == Some(11));
-    assert!(rt; shards.get(4).contains(4));
-    assert!(rt; shards.get(4).len() == 2);
-    assert!(rt; shards.pop(4) == Some(14));
-    assert!(rt; shards.pop(4) == None);
-    Ok(())
+fn puts(shards: &mut LruShards<u64, 2>) -> bool {
+    gave(shards.put(0, 10), None)
+        && gave(shards.put(2, 12), None)
+        && gave(shards.put(1, 11), None)
+        && gave(shards.put(0, 20), Some(10))
+        && shards.put(4, 14).is_ok()
 }
 
-#[test]
-fn shards_that_forget(rt: HostRuntime) -> Result<(), Fail> {
-    let mut shards = LruShards::<u64, 2>::new(rt.alloc(), 2)?;
-    forgetting(&rt, &mut shards)
+// Key 2 was older than key 0 when key 4 came.
+fn has_forgotten(shards: &LruShards<u64, 2>) -> bool {
+    shards.peek(2).is_none() && shards.peek(0) == Some(&20) && shards.peek(1) == Some(&11)
 }
 
-fn of_one(rt: &impl Abort, shards: &mut LruShards<u8, 1>) -> Result<(), Fail> {
-    shards.put(7, 70)?;
-    assert!(rt; shards.get(7).place() == 0);
-    assert!(rt; shards.get(7).capacity() == 1);
-    assert!(rt; shards.get(7).belongs(8));
-    shards.put(8, 80)?;
-    assert!(rt; shards.peek(7).copied() == None);
-    assert!(rt; shards.pop(8) == Some(80));
-    Ok(())
+fn has_two(shards: &LruShards<u64, 2>) -> bool {
+    shards.get(4).contains(4) && shards.get(4).len() == 2
+}
+
+fn pops(shards: &mut LruShards<u64, 2>) -> bool {
+    shards.pop(4) == Some(14) && shards.pop(4).is_none()
+}
+
+fn forgets(shards: &mut LruShards<u64, 2>) -> bool {
+    puts(shards) && has_forgotten(shards) && has_two(shards) && pops(shards)
 }
 
 #[test]
-fn a_capacity_of_0_counts_as_1(rt: HostRuntime) -> Result<(), Fail> {
-    let mut shards = LruShards::<u8, 1>::new(rt.alloc(), 0)?;
-    of_one(&rt, &mut shards)
+fn shards_that_forget(rt: HostRuntime) {
+    let is_good = match LruShards::<u64, 2>::new(rt.alloc(), 2) {
+        Ok(mut shards) => forgets(&mut shards),
+        Err(_refused) => false,
+    };
+    assert!(rt; is_good);
 }
 
-fn insert<R: Wait>(
-    rt: &R,
-    table: &ConcurrentHashTable<u64, 4>,
-    key: u64,
-    value: u64,
-) -> Result<(), Fail> {
-    table
-        .write(rt, u128::from(key))
-        .insert(u128::from(key), value)?;
-    Ok(())
+fn has_room_for_one(shards: &LruShards<u8, 1>) -> bool {
+    shards.get(7).place() == 0 && shards.get(7).capacity() == 1 && shards.get(7).belongs(8)
+}
+
+fn keeps_one(shards: &mut LruShards<u8, 1>) -> bool {
+    shards.put(7, 70).is_ok()
+        && has_room_for_one(shards)
+        && shards.put(8, 80).is_ok()
+        && shards.peek(7).is_none()
+        && shards.pop(8) == Some(80)
+}
+
+#[test]
+fn a_capacity_of_0_counts_as_1(rt: HostRuntime) {
+    let is_good = match LruShards::<u8, 1>::new(rt.alloc(), 0) {
+        Ok(mut shards) => keeps_one(&mut shards),
+        Err(_refused) => false,
+    };
+    assert!(rt; is_good);
+}
+
+fn insert<R: Wait>(rt: &R, table: &ConcurrentHashTable<u64, 4>, key: u64, value: u64) -> bool {
+    let key = u128::from(key);
+    table.write(rt, key).insert(key, value).is_ok()
 }
 
 fn read<R: Wait>(rt: &R, table: &ConcurrentHashTable<u64, 4>, key: u128) -> Option<u64> {
@@ -97,118 +129,137 @@ fn read<R: Wait>(rt: &R, table: &ConcurrentHashTable<u64, 4>, key: u128) -> Opti
 }
 
 // What one writer sees of a shard: the calls of a shard that reads, and those that change it.
-fn one_writer<R: Abort + Wait>(rt: &R, table: &ConcurrentHashTable<u64, 4>) -> Result<(), Fail> {
+fn has_one_writer<R: Wait>(rt: &R, table: &ConcurrentHashTable<u64, 4>) -> bool {
     let mut shard = table.write(rt, 5);
-    assert!(rt; shard.place() == 1);
-    assert!(rt; shard.belongs(5) && !shard.belongs(6));
-    assert!(rt; shard.insert(5, 50)? == None);
-    assert!(rt; shard.insert(5, 51)? == Some(50));
-    assert!(rt; shard.get(5).copied() == Some(51));
-    assert!(rt; shard.iter().count() == 1);
-    assert!(rt; shard.remove(5) == Some(51));
-    assert!(rt; shard.get(5).copied() == None);
-    Ok(())
+    let is_its = [shard.place() == 1, shard.belongs(5), !shard.belongs(6)];
+    let goes_in = [
+        gave(shard.insert(5, 50), None),
+        gave(shard.insert(5, 51), Some(50)),
+    ];
+    let is_there = [shard.get(5) == Some(&51), shard.iter().count() == 1];
+    let goes_out = [shard.remove(5) == Some(51), shard.get(5).is_none()];
+    is_its == [true; 3] && [goes_in, is_there, goes_out] == [[true; 2]; 3]
 }
 
 #[test]
-fn a_writer_has_the_calls_of_a_shard(rt: HostRuntime) -> Result<(), Fail> {
+fn a_writer_has_the_calls_of_a_shard(rt: HostRuntime) {
     let table = ConcurrentHashTable::<u64, 4>::new(rt.alloc());
-    one_writer(&rt, &table)
+    assert!(rt; has_one_writer(&rt, &table));
 }
 
-fn behind_locks<R: Abort + Wait>(rt: &R, table: &ConcurrentHashTable<u64, 4>) -> Result<(), Fail> {
+fn holds_8<R: Wait>(rt: &R, table: &ConcurrentHashTable<u64, 4>) -> bool {
     for key in 0..8u64 {
-        insert(rt, table, key, key)?;
+        if !insert(rt, table, key, key) {
+            return false;
+        }
     }
-    assert!(rt; read(rt, table, 6) == Some(6));
-    assert!(rt; table.read(rt, 6).iter().count() == 2);
-    assert!(rt; table.get(5).place() == 1);
-    assert!(rt; table.get(5).read(rt).place() == 1);
-    assert!(rt; table.get_shard_at_idx(4).is_none());
-    assert!(rt; table.get_shard_at_idx(3).map(|lock| lock.place()) == Some(3));
-    assert!(rt; table.write(rt, 6).remove(6) == Some(6));
-    assert!(rt; read(rt, table, 6) == None);
-    Ok(())
+    read(rt, table, 6) == Some(6) && table.read(rt, 6).iter().count() == 2
+}
+
+fn has_4_shards<R: Wait>(rt: &R, table: &ConcurrentHashTable<u64, 4>) -> bool {
+    table.get(5).place() == 1
+        && table.get(5).read(rt).place() == 1
+        && table.get_shard_at_idx(4).is_none()
+        && place_of_the_last(table) == Some(3)
+}
+
+fn place_of_the_last(table: &ConcurrentHashTable<u64, 4>) -> Option<usize> {
+    Some(table.get_shard_at_idx(3)?.place())
+}
+
+fn removes_6<R: Wait>(rt: &R, table: &ConcurrentHashTable<u64, 4>) -> bool {
+    table.write(rt, 6).remove(6) == Some(6) && read(rt, table, 6).is_none()
 }
 
 #[test]
-fn tables_behind_locks(rt: HostRuntime) -> Result<(), Fail> {
+fn tables_behind_locks(rt: HostRuntime) {
     let table = ConcurrentHashTable::<u64, 4>::new(rt.alloc());
-    behind_locks(&rt, &table)
+    assert!(rt; holds_8(&rt, &table) && has_4_shards(&rt, &table) && removes_6(&rt, &table));
 }
 
-fn each_entry<R: Abort + Wait>(rt: &R, table: &ConcurrentHashTable<u64, 4>) -> Result<(), Fail> {
-    for key in [5u64, 2, 0, 7, 4] {
-        insert(rt, table, key, key + 1)?;
-    }
-    // Shard 0 has keys 0 and 4, shard 1 has 5, shard 2 has 2 and shard 3 has 7.
+// Shard 0 has keys 0 and 4, shard 1 has 5, shard 2 has 2 and shard 3 has 7.
+fn values_in_order<R: Wait>(rt: &R, table: &ConcurrentHashTable<u64, 4>) -> u64 {
     let mut seen = 0u64;
     table.for_each(rt, |_key: &u128, value: &u64| {
         seen = seen.saturating_mul(10).saturating_add(*value);
     });
-    assert!(rt; seen == 15638);
-    Ok(())
+    seen
+}
+
+fn holds_5<R: Wait>(rt: &R, table: &ConcurrentHashTable<u64, 4>) -> bool {
+    insert(rt, table, 5, 6)
+        && insert(rt, table, 2, 3)
+        && insert(rt, table, 0, 1)
+        && insert(rt, table, 7, 8)
+        && insert(rt, table, 4, 5)
 }
 
 #[test]
-fn each_entry_behind_locks(rt: HostRuntime) -> Result<(), Fail> {
+fn each_entry_behind_locks(rt: HostRuntime) {
     let table = ConcurrentHashTable::<u64, 4>::new(rt.alloc());
-    each_entry(&rt, &table)
+    assert!(rt; holds_5(&rt, &table) && values_in_order(&rt, &table) == 15638);
 }
 
-fn put<R: Wait>(
-    rt: &R,
-    lrus: &ConcurrentLruCache<u64, 4>,
-    key: u128,
-    value: u64,
-) -> Result<Option<u64>, Fail> {
-    Ok(lrus.write(rt, key).put(key, value)?)
+type Forgetting = ConcurrentLruCache<u64, 4>;
+
+fn holds_9<R: Wait>(rt: &R, lrus: &Forgetting) -> bool {
+    lrus.read(rt, 9).len() == 0
+        && gave(lrus.write(rt, 9).put(9, 90), None)
+        && lrus.read(rt, 9).peek(9) == Some(&90)
+        && lrus.get(9).place() == 1
+        && lrus.get(9).capacity() == 1
 }
 
-fn forgetting_behind_locks<R: Abort + Wait>(
-    rt: &R,
-    lrus: &ConcurrentLruCache<u64, 4>,
-) -> Result<(), Fail> {
-    assert!(rt; lrus.read(rt, 9).len() == 0);
-    assert!(rt; put(rt, lrus, 9, 90)? == None);
-    assert!(rt; lrus.read(rt, 9).peek(9).copied() == Some(90));
-    assert!(rt; lrus.get(9).place() == 1);
-    assert!(rt; lrus.get(9).capacity() == 1);
-    // Key 13 has the shard of key 9, which has room for one.
-    put(rt, lrus, 13, 130)?;
-    assert!(rt; lrus.get(9).read(rt).len() == 1);
-    assert!(rt; !lrus.write(rt, 9).contains(9));
-    assert!(rt; lrus.write(rt, 13).pop(13) == Some(130));
-    assert!(rt; lrus.read(rt, 13).capacity() == 1);
-    Ok(())
+// Key 13 has the shard of key 9, which has room for one.
+fn forgets_9<R: Wait>(rt: &R, lrus: &Forgetting) -> bool {
+    lrus.write(rt, 13).put(13, 130).is_ok()
+        && lrus.get(9).read(rt).len() == 1
+        && !lrus.write(rt, 9).contains(9)
+        && lrus.write(rt, 13).pop(13) == Some(130)
+        && lrus.read(rt, 13).capacity() == 1
 }
 
 #[test]
-fn tables_that_forget_behind_locks(rt: HostRuntime) -> Result<(), Fail> {
-    let lrus = ConcurrentLruCache::<u64, 4>::new(rt.alloc(), 0)?;
-    forgetting_behind_locks(&rt, &lrus)
+fn tables_that_forget_behind_locks(rt: HostRuntime) {
+    let is_good = match Forgetting::new(rt.alloc(), 0) {
+        Ok(lrus) => holds_9(&rt, &lrus) && forgets_9(&rt, &lrus),
+        Err(_refused) => false,
+    };
+    assert!(rt; is_good);
 }
 
-fn in_and_out(rt: &impl Abort, table: &mut Table<u64>) -> Result<(), Fail> {
-    assert!(rt; table.is_empty());
-    assert!(rt; table.insert(7, 1)? == None);
-    assert!(rt; table.insert(3, 2)? == None);
-    assert!(rt; table.insert(7, 4)? == Some(1));
-    if let Some(value) = table.get_mut(3) {
-        *value = 9;
+fn goes_in(table: &mut Table<u64>) -> bool {
+    table.is_empty()
+        && gave(table.insert(7, 1), None)
+        && gave(table.insert(3, 2), None)
+        && gave(table.insert(7, 4), Some(1))
+}
+
+fn is_set(table: &mut Table<u64>) -> bool {
+    match table.get_mut(3) {
+        Some(value) => {
+            *value = 9;
+            true
+        }
+        None => false,
     }
-    assert!(rt; table.len() == 2);
-    assert!(rt; table.least() == Some(3));
-    assert!(rt; table.get(3) == Some(&9));
-    assert!(rt; table.contains(7));
-    assert!(rt; table.iter().count() == 2);
-    assert!(rt; table.remove(3) == Some(9));
-    assert!(rt; table.least() == Some(7));
-    Ok(())
+}
+
+fn is_there(table: &Table<u64>) -> bool {
+    table.len() == 2
+        && table.least() == Some(3)
+        && table.get(3) == Some(&9)
+        && table.contains(7)
+        && table.iter().count() == 2
+}
+
+fn goes_out(table: &mut Table<u64>) -> bool {
+    table.remove(3) == Some(9) && table.least() == Some(7)
 }
 
 #[test]
-fn values_go_in_and_out_of_a_table(rt: HostRuntime) -> Result<(), Fail> {
+fn values_go_in_and_out_of_a_table(rt: HostRuntime) {
     let mut table: Table<u64> = Table::new(rt.alloc());
-    in_and_out(&rt, &mut table)
+    assert!(rt; goes_in(&mut table) && is_set(&mut table));
+    assert!(rt; is_there(&table) && goes_out(&mut table));
 }

@@ -1,6 +1,7 @@
 #![tactic(auto)]
 //! Tests of what holds entries: tables, managers, locks, the store in memory, and a request over them.
 //! They stand apart from the libraries, so that each library is proved once, and a test of its own does not prove it again.
+//! Expected values are hand-computed from the definitions; a file that has them from elsewhere says so.
 
 #[cfg(test)]
 mod entry_key;
@@ -9,6 +10,8 @@ mod hashtable;
 #[cfg(test)]
 mod lock;
 #[cfg(test)]
+mod managers;
+#[cfg(test)]
 mod memory;
 #[cfg(test)]
 mod puts;
@@ -16,6 +19,8 @@ mod puts;
 mod random_locks;
 #[cfg(test)]
 mod request;
+#[cfg(test)]
+mod rows;
 #[cfg(test)]
 mod sharded_lru;
 #[cfg(test)]

@@ -1,9 +1,9 @@
-use Step::*;
+//! The store in memory, call by call.
+use crate::rows::{Desk, Told, play, size, some_number, some_size, word};
 use bytes::Bytes;
 use http::StatusCode;
-use http_header::{HeaderName, HeaderValue};
-use pcache_base::error::{Error, ErrorType, Result};
-use pcache_base::key::{CacheHashKey, CacheKey};
+use pcache_base::error::Result;
+use pcache_base::key::{CacheKey, CompactCacheKey};
 use pcache_base::moment::Moment;
 use pcache_base::poll::Poll;
 use pcache_evict::eviction::{CacheEntryId, CacheEntryKey};
@@ -14,30 +14,9 @@ use pcache_store::storage::{
     HandleHit, HandleMiss, MissFinishType, PurgeOutcome, PurgeTarget, PurgeType, Storage,
 };
 use std::alloc::Global;
-use std::collections::BTreeMap;
 use std::process::Abort;
-use std::test::Fail;
 
-// A call on a store. Writers and readers have numbers of their own, keys have names.
-#[derive(Clone, Copy)]
-enum Step {
-    Begin(u8, &'static str),
-    Write(u8, &'static str),
-    WriteLast(u8, &'static str),
-    Finish(u8),
-    GiveUp(u8),
-    Look(u8, &'static str),
-    // by the tag of a writer
-    Join(u8, &'static str, u8),
-    Read(u8),
-    Seek(u8, usize, Option<usize>),
-    LetGo(u8),
-    Purge(&'static str),
-    // the entry of this number, or the key's only one
-    PurgeExact(&'static str, Option<u64>),
-    Expire(&'static str, u64),
-    Update(&'static str, u64),
-}
+mod handlers;
 
 fn key_of(alloc: Global, name: &str) -> Result<CacheKey> {
     let primary = name.as_bytes().to_vec(alloc)?;
@@ -46,760 +25,623 @@ fn key_of(alloc: Global, name: &str) -> Result<CacheKey> {
 
 fn meta_until(alloc: Global, fresh_until: u64) -> CacheMeta {
     let header = ResponseHeader::build(alloc, StatusCode::OK);
-    CacheMeta::new(
-        Moment::from_secs(fresh_until),
-        Moment::EPOCH,
-        30,
-        30,
-        header,
-    )
+    let until = Moment::from_secs(fresh_until);
+    CacheMeta::new(until, Moment::EPOCH, 30, 30, header)
 }
 
-// A store with the writers and readers that are open.
-struct Desk {
+// A key with its compact form.
+#[derive(Drop)]
+struct Named {
+    key: CacheKey,
+    compact: CompactCacheKey,
+}
+
+fn name(alloc: Global, name: &str) -> Result<Named> {
+    let key = key_of(alloc, name)?;
+    let compact = key.to_compact()?;
+    Ok(Named { key, compact })
+}
+
+// The store, and two keys by their names.
+#[derive(Drop)]
+struct Parts {
     alloc: Global,
     store: MemCache,
-    writers: BTreeMap<u8, MemMissHandler>,
-    readers: BTreeMap<u8, MemHitHandler>,
+    a: Named,
+    b: Named,
 }
 
-impl Desk {
-    fn new(alloc: Global) -> Desk {
-        Desk {
-            alloc,
-            store: MemCache::new(alloc),
-            writers: BTreeMap::new(alloc),
-            readers: BTreeMap::new(alloc),
+impl Parts {
+    fn new(alloc: Global) -> Result<Parts> {
+        let a = name(alloc, "a")?;
+        let b = name(alloc, "b")?;
+        let store = MemCache::new(alloc);
+        Ok(Parts { alloc, store, a, b })
+    }
+
+    // The store, and a key by its name.
+    fn with(&mut self, name: &str) -> (&mut MemCache, &Named) {
+        match name {
+            "b" => (&mut self.store, &self.b),
+            _ => (&mut self.store, &self.a),
+        }
+    }
+}
+
+type Writer = Option<MemMissHandler>;
+
+type Reader = Option<MemHitHandler>;
+
+// A store with the writers and readers that are open, by their numbers.
+struct Counter {
+    parts: Parts,
+    writer_1: Writer,
+    writer_2: Writer,
+    writer_3: Writer,
+    reader_1: Reader,
+    reader_2: Reader,
+    reader_3: Reader,
+    reader_4: Reader,
+}
+
+impl Counter {
+    fn new(parts: Parts) -> Counter {
+        Counter {
+            parts,
+            writer_1: None,
+            writer_2: None,
+            writer_3: None,
+            reader_1: None,
+            reader_2: None,
+            reader_3: None,
+            reader_4: None,
         }
     }
 
-    // Ends what is open, and answers the store.
-    fn close(self) -> MemCache {
-        let Desk {
-            alloc: _,
-            mut store,
-            mut writers,
-            mut readers,
+    fn writer(&mut self, number: u64) -> (&mut Parts, &mut Writer) {
+        let parts = &mut self.parts;
+        match number {
+            1 => (parts, &mut self.writer_1),
+            2 => (parts, &mut self.writer_2),
+            _ => (parts, &mut self.writer_3),
+        }
+    }
+
+    fn reader(&mut self, number: u64) -> (&mut Parts, &mut Reader) {
+        let parts = &mut self.parts;
+        match number {
+            1 => (parts, &mut self.reader_1),
+            2 => (parts, &mut self.reader_2),
+            3 => (parts, &mut self.reader_3),
+            _ => (parts, &mut self.reader_4),
+        }
+    }
+
+    // Ends what is open.
+    fn close(&mut self) {
+        drop_writer(&mut self.parts, self.writer_1.take());
+        drop_writer(&mut self.parts, self.writer_2.take());
+        drop_writer(&mut self.parts, self.writer_3.take());
+        drop_reader(&mut self.parts, self.reader_1.take());
+        drop_reader(&mut self.parts, self.reader_2.take());
+        drop_reader(&mut self.parts, self.reader_3.take());
+        drop_reader(&mut self.parts, self.reader_4.take());
+    }
+
+    fn end(self) {
+        let Counter {
+            mut parts,
+            writer_1,
+            writer_2,
+            writer_3,
+            reader_1,
+            reader_2,
+            reader_3,
+            reader_4,
         } = self;
-        while let Some((_number, writer)) = writers.pop_first() {
-            writer.drop_write(&mut store);
-        }
-        writers.destroy_empty();
-        while let Some((_number, reader)) = readers.pop_first() {
-            reader.let_go(&mut store);
-        }
-        readers.destroy_empty();
-        store
+        drop_writer(&mut parts, writer_1);
+        drop_writer(&mut parts, writer_2);
+        drop_writer(&mut parts, writer_3);
+        drop_reader(&mut parts, reader_1);
+        drop_reader(&mut parts, reader_2);
+        drop_reader(&mut parts, reader_3);
+        drop_reader(&mut parts, reader_4);
     }
+}
 
-    fn begin(&mut self, number: u8, name: &str) -> Result<()> {
-        let key = key_of(self.alloc, name)?;
-        let meta = meta_until(self.alloc, 300);
-        let writer = self.store.get_miss_handler(self.alloc, &key, &meta)?;
-        match self.writers.insert(number, writer) {
-            Ok(None) => Ok(()),
-            Ok(Some(older)) => {
-                older.drop_write(&mut self.store);
-                Ok(())
-            }
-            Err(refused) => {
-                let (_number, writer) = refused.value;
-                writer.drop_write(&mut self.store);
-                Err(Error::new(ErrorType::OutOfMemory))
-            }
-        }
+fn drop_writer(parts: &mut Parts, writer: Writer) {
+    if let Some(writer) = writer {
+        writer.drop_write(&mut parts.store);
     }
+}
 
-    fn keep(&mut self, number: u8, reader: MemHitHandler) -> Result<()> {
-        match self.readers.insert(number, reader) {
-            Ok(None) => Ok(()),
-            Ok(Some(older)) => {
-                older.let_go(&mut self.store);
-                Ok(())
-            }
-            Err(refused) => {
-                let (_number, reader) = refused.value;
-                reader.let_go(&mut self.store);
-                Err(Error::new(ErrorType::OutOfMemory))
-            }
-        }
+fn drop_reader(parts: &mut Parts, reader: Reader) {
+    if let Some(reader) = reader {
+        reader.let_go(&mut parts.store);
     }
+}
 
-    // What a look-up found: the end of freshness, and of a complete body the weight.
-    fn found(
-        &mut self,
-        number: u8,
-        found: Option<(CacheMeta, MemHitHandler)>,
-        told: &mut String,
-    ) -> Result<()> {
-        let Some((meta, reader)) = found else {
-            return say(told, "none");
-        };
-        let text = if reader.should_count_access() && reader.can_seek() {
-            let weight = reader.get_eviction_weight();
-            format!(in self.alloc; "hit {weight} until {}", meta.fresh_until().secs())
+impl Desk for Counter {
+    fn tell(&mut self, call: &'static str, told: &mut Told) {
+        if call == "close" {
+            self.close();
+            told.say("ok");
+        } else if word(call, 1) == "joins" {
+            join(self, call, told);
         } else {
-            format!(in self.alloc; "part until {}", meta.fresh_until().secs())
-        };
-        self.keep(number, reader)?;
-        say(told, text?.as_str())
-    }
-
-    fn write(
-        &mut self,
-        number: u8,
-        text: &'static str,
-        eof: bool,
-        told: &mut String,
-    ) -> Result<()> {
-        let Some(writer) = self.writers.get_mut(&number) else {
-            return say(told, "no writer");
-        };
-        if writer.at_eof(&self.store) {
-            return say(told, "at eof");
-        }
-        let bytes = Bytes::from_static(text.as_bytes());
-        writer.write_body(&mut self.store, bytes, eof)?;
-        say(told, "ok")
-    }
-
-    fn finish(&mut self, number: u8, told: &mut String) -> Result<()> {
-        let Some(writer) = self.writers.remove(&number) else {
-            return say(told, "no writer");
-        };
-        match writer.finish(&mut self.store) {
-            Ok(end) => say(told, format!(in self.alloc; "{end:?}")?.as_str()),
-            Err(refused) => say(told, refused.etype().as_str()),
-        }
-    }
-
-    fn give_up(&mut self, number: u8, told: &mut String) -> Result<()> {
-        let Some(writer) = self.writers.remove(&number) else {
-            return say(told, "no writer");
-        };
-        writer.drop_write(&mut self.store);
-        say(told, "ok")
-    }
-
-    fn join(&mut self, number: u8, name: &str, writer: u8, told: &mut String) -> Result<()> {
-        let key = key_of(self.alloc, name)?;
-        let tag = match self.writers.get(&writer) {
-            Some(writer) => writer.streaming_write_tag(),
-            None => None,
-        };
-        let found = self.store.lookup_streaming_write(self.alloc, &key, tag)?;
-        self.found(number, found, told)
-    }
-
-    fn look(&mut self, number: u8, name: &str, told: &mut String) -> Result<()> {
-        let key = key_of(self.alloc, name)?;
-        let found = self.store.lookup(self.alloc, &key)?;
-        self.found(number, found, told)
-    }
-
-    fn read(&mut self, number: u8, told: &mut String) -> Result<()> {
-        let Some(reader) = self.readers.get_mut(&number) else {
-            return say(told, "no reader");
-        };
-        match reader.read_body(self.alloc, &mut self.store)? {
-            Poll::Ready(Some(bytes)) => {
-                say(told, "data ")?;
-                for byte in bytes.as_slice() {
-                    told.push(char::from(*byte))?;
-                }
-                Ok(())
+            match some_number(call, 0) {
+                Some(number) => tell_of_open(self, number, call, told),
+                None => tell_of_store(&mut self.parts, call, told),
             }
-            Poll::Ready(None) => say(told, "end"),
-            Poll::Pending => say(told, "pending"),
-        }
-    }
-
-    fn seek(
-        &mut self,
-        number: u8,
-        start: usize,
-        end: Option<usize>,
-        told: &mut String,
-    ) -> Result<()> {
-        let Some(reader) = self.readers.get_mut(&number) else {
-            return say(told, "no reader");
-        };
-        match reader.seek(start, end) {
-            Ok(()) => say(told, "ok"),
-            Err(refused) => say(told, refused.etype().as_str()),
-        }
-    }
-
-    fn let_go(&mut self, number: u8, told: &mut String) -> Result<()> {
-        let Some(reader) = self.readers.remove(&number) else {
-            return say(told, "no reader");
-        };
-        reader.finish(&mut self.store)?;
-        say(told, "ok")
-    }
-
-    fn purge(&mut self, name: &str, told: &mut String) -> Result<()> {
-        let key = key_of(self.alloc, name)?.to_compact()?;
-        let outcome = self
-            .store
-            .purge(PurgeTarget::Active(&key), PurgeType::Invalidation)?;
-        say(told, format!(in self.alloc; "{outcome:?}")?.as_str())
-    }
-
-    fn purge_exact(&mut self, name: &str, id: Option<u64>, told: &mut String) -> Result<()> {
-        let key = key_of(self.alloc, name)?.to_compact()?;
-        let entry = CacheEntryKey::from_entry_id(key, id.map(CacheEntryId::new));
-        let outcome = self
-            .store
-            .purge(PurgeTarget::Exact(&entry), PurgeType::Eviction)?;
-        say(told, format!(in self.alloc; "{outcome:?}")?.as_str())
-    }
-
-    fn expire(&mut self, name: &str, now: u64, told: &mut String) -> Result<()> {
-        let key = key_of(self.alloc, name)?.to_compact()?;
-        let now = Moment::from_secs(now);
-        let outcome = self
-            .store
-            .expire(self.alloc, PurgeTarget::Active(&key), now)?;
-        say(told, format!(in self.alloc; "{outcome:?}")?.as_str())
-    }
-
-    fn update(&mut self, name: &str, fresh_until: u64, told: &mut String) -> Result<()> {
-        let key = key_of(self.alloc, name)?;
-        let meta = meta_until(self.alloc, fresh_until);
-        let there = self.store.update_meta(self.alloc, &key, &meta)?;
-        say(told, if there { "updated" } else { "absent" })
-    }
-
-    fn take(&mut self, step: Step, told: &mut String) -> Result<()> {
-        if !told.is_empty() {
-            told.push_str(", ")?;
-        }
-        match step {
-            Begin(writer, name) => {
-                self.begin(writer, name)?;
-                say(told, "ok")
-            }
-            Write(writer, text) => self.write(writer, text, false, told),
-            WriteLast(writer, text) => self.write(writer, text, true, told),
-            Finish(writer) => self.finish(writer, told),
-            GiveUp(writer) => self.give_up(writer, told),
-            Look(reader, name) => self.look(reader, name, told),
-            Join(reader, name, writer) => self.join(reader, name, writer, told),
-            Read(reader) => self.read(reader, told),
-            Seek(reader, start, end) => self.seek(reader, start, end, told),
-            LetGo(reader) => self.let_go(reader, told),
-            Purge(name) => self.purge(name, told),
-            PurgeExact(name, id) => self.purge_exact(name, id, told),
-            Expire(name, now) => self.expire(name, now, told),
-            Update(name, fresh_until) => self.update(name, fresh_until, told),
         }
     }
 }
 
-fn say(told: &mut String, text: &str) -> Result<()> {
-    told.push_str(text)?;
-    Ok(())
-}
-
-// What the steps answered, then what is stored and which writes were kept.
-fn told(alloc: Global, steps: &[Step]) -> Result<String> {
-    let mut told = String::new(alloc);
-    let mut desk = Desk::new(alloc);
-    let mut outcome = Ok(());
-    for step in steps {
-        if outcome.is_ok() {
-            outcome = desk.take(*step, &mut told);
+fn tell_of_open(counter: &mut Counter, number: u64, call: &'static str, told: &mut Told) {
+    match word(call, 1) {
+        "begins" | "writes" | "writes-last" | "finishes" | "gives-up" => {
+            let (parts, writer) = counter.writer(number);
+            tell_of_writer(parts, writer, call, told);
+        }
+        _ => {
+            let (parts, reader) = counter.reader(number);
+            tell_of_reader(parts, reader, call, told);
         }
     }
-    let open = desk.store.write_records();
-    let store = desk.close();
-    outcome?;
-    let bytes = store.stored_bytes();
-    let slots = store.slots();
-    let left = store.write_records();
-    let totals = format!(in alloc; " | {bytes} bytes in {slots}, writes {open} then {left}")?;
-    told.push_str(totals.as_str())?;
-    Ok(told)
 }
 
-fn tells(alloc: Global, steps: &[Step], wanted: &str) -> Result<bool> {
-    let text = told(alloc, steps)?;
-    Ok(text.as_str() == wanted)
-}
-
-fn check(rt: &impl Abort, alloc: Global, steps: &[Step], wanted: &str) -> Result<()> {
-    assert!(rt; tells(alloc, steps, wanted)?, "{wanted}");
-    Ok(())
-}
-
-#[test]
-fn a_body_that_was_written_is_read(rt: HostRuntime) -> std::result::Result<(), Fail> {
-    let steps = [
-        Look(1, "a"),
-        Begin(1, "a"),
-        Write(1, "test1"),
-        WriteLast(1, "test2"),
-        Write(1, "more"),
-        Finish(1),
-        Look(2, "a"),
-        Read(2),
-        Read(2),
-        LetGo(2),
-    ];
-    let wanted =
-        "none, ok, ok, ok, at eof, Created(10), hit 10 until 300, data test1test2, end, ok | 10 bytes in 1, writes 0 then 0";
-    check(&rt, rt.alloc(), &steps, wanted)?;
-    Ok(())
-}
-
-#[test]
-fn ranges_of_a_body_are_read(rt: HostRuntime) -> std::result::Result<(), Fail> {
-    let steps = [
-        Begin(1, "a"),
-        Write(1, "test1test2"),
-        Look(2, "a"),
-        Seek(2, 0, None),
-        Finish(1),
-        Look(1, "a"),
-        Seek(1, 10000, None),
-        Seek(1, 10, None),
-        Seek(1, 5, None),
-        Read(1),
-        Read(1),
-        Seek(1, 4, Some(5)),
-        Read(1),
-        Read(1),
-        Seek(1, 5, Some(4)),
-        Seek(1, 8, Some(99)),
-        Read(1),
-        Seek(1, 3, Some(3)),
-        Read(1),
-        Read(1),
-    ];
-    let wanted =
-        "ok, ok, part until 300, InternalError, Created(10), hit 10 until 300, InternalError, InternalError, ok, data test2, end, ok, data 1, end, InternalError, ok, data t2, ok, data , end | 10 bytes in 1, writes 1 then 0";
-    check(&rt, rt.alloc(), &steps, wanted)?;
-    Ok(())
-}
-
-#[test]
-fn a_write_is_read_while_it_is_made(rt: HostRuntime) -> std::result::Result<(), Fail> {
-    let steps = [
-        Begin(1, "a"),
-        Look(1, "a"),
-        Read(1),
-        Write(1, "test1"),
-        Read(1),
-        Read(1),
-        Write(1, "test2"),
-        Read(1),
-        Look(2, "a"),
-        Read(2),
-        Read(1),
-        Read(2),
-        Look(3, "a"),
-        Finish(1),
-        Read(1),
-        Read(2),
-        Read(3),
-        Read(3),
-    ];
-    let wanted =
-        "ok, part until 300, pending, ok, data test1, pending, ok, data test2, part until 300, data test1test2, pending, pending, part until 300, Created(10), end, end, data test1test2, end | 10 bytes in 1, writes 1 then 0";
-    check(&rt, rt.alloc(), &steps, wanted)?;
-    Ok(())
-}
-
-#[test]
-fn a_reader_goes_on_past_a_purge(rt: HostRuntime) -> std::result::Result<(), Fail> {
-    let steps = [
-        Begin(1, "k"),
-        Look(2, "k"),
-        Read(2),
-        Write(1, "ab"),
-        Read(2),
-        Purge("k"),
-        Write(1, "cd"),
-        GiveUp(1),
-        Read(2),
-        Read(2),
-        Look(4, "k"),
-        LetGo(2),
-    ];
-    let wanted =
-        "ok, part until 300, pending, ok, data ab, Purged(None), ok, ok, data cd, end, none, ok | 0 bytes in 0, writes 0 then 0";
-    check(&rt, rt.alloc(), &steps, wanted)?;
-    Ok(())
-}
-
-#[test]
-fn a_removed_write_is_not_stored(rt: HostRuntime) -> std::result::Result<(), Fail> {
-    let steps = [
-        Begin(1, "k"),
-        Write(1, "x"),
-        Purge("k"),
-        Look(3, "k"),
-        Begin(3, "k"),
-        Write(3, "yy"),
-        Finish(1),
-        Finish(3),
-        Look(4, "k"),
-        Read(4),
-        Read(4),
-    ];
-    let wanted =
-        "ok, ok, Purged(None), none, ok, ok, WriteRemoved, Created(2), hit 2 until 300, data yy, end | 2 bytes in 1, writes 0 then 0";
-    check(&rt, rt.alloc(), &steps, wanted)?;
-    Ok(())
-}
-
-#[test]
-fn the_earliest_write_is_found_and_the_last_finish_stays(
-    rt: HostRuntime,
-) -> std::result::Result<(), Fail> {
-    let steps = [
-        Begin(1, "a"),
-        Begin(2, "a"),
-        Write(1, "one"),
-        Write(2, "second"),
-        Look(1, "a"),
-        Read(1),
-        Finish(1),
-        Look(2, "a"),
-        Read(2),
-        Finish(2),
-        Look(3, "a"),
-        Begin(3, "a"),
-        Finish(3),
-        Read(3),
-    ];
-    let wanted =
-        "ok, ok, ok, ok, part until 300, data one, Created(3), part until 300, data second, Created(6), hit 6 until 300, ok, Created(0), data second | 0 bytes in 1, writes 2 then 0";
-    check(&rt, rt.alloc(), &steps, wanted)?;
-    Ok(())
-}
-
-#[test]
-fn removals_name_what_they_remove(rt: HostRuntime) -> std::result::Result<(), Fail> {
-    let steps = [
-        Purge("a"),
-        Begin(1, "a"),
-        Purge("a"),
-        Purge("a"),
-        GiveUp(1),
-        Purge("a"),
-        Begin(1, "a"),
-        Write(1, "x"),
-        Finish(1),
-        PurgeExact("a", Some(1)),
-        Look(1, "a"),
-        PurgeExact("a", None),
-        Look(1, "a"),
-    ];
-    let wanted =
-        "NotFound, ok, Purged(None), NotFound, ok, NotFound, ok, ok, Created(1), NotFound, hit 1 until 300, Purged(None), none | 0 bytes in 0, writes 0 then 0";
-    check(&rt, rt.alloc(), &steps, wanted)?;
-    Ok(())
-}
-
-#[test]
-fn expiries_and_metas_are_of_bodies(rt: HostRuntime) -> std::result::Result<(), Fail> {
-    let steps = [
-        Expire("a", 100),
-        Update("a", 900),
-        Begin(1, "a"),
-        Expire("a", 100),
-        Update("a", 900),
-        Write(1, "123"),
-        Finish(1),
-        Expire("a", 100),
-        Look(1, "a"),
-        Expire("a", 200),
-        Look(2, "a"),
-        Update("a", 900),
-        Look(3, "a"),
-        Read(3),
-    ];
-    let wanted =
-        "NotFound, absent, ok, NotFound, absent, ok, Created(3), Expired, hit 3 until 100, Expired, hit 3 until 100, updated, hit 3 until 900, data 123 | 3 bytes in 1, writes 0 then 0";
-    check(&rt, rt.alloc(), &steps, wanted)?;
-    Ok(())
-}
-
-#[test]
-fn a_write_is_joined_by_its_tag(rt: HostRuntime) -> std::result::Result<(), Fail> {
-    let steps = [
-        Begin(1, "a"),
-        Begin(2, "a"),
-        Write(2, "xy"),
-        Join(1, "a", 2),
-        Read(1),
-        Join(2, "b", 2),
-        Join(2, "a", 9),
-        Purge("a"),
-        Join(2, "a", 2),
-        Read(2),
-        GiveUp(2),
-        Join(3, "a", 2),
-    ];
-    let wanted =
-        "ok, ok, ok, part until 300, data xy, none, none, Purged(None), part until 300, data xy, ok, none | 0 bytes in 0, writes 2 then 0";
-    check(&rt, rt.alloc(), &steps, wanted)?;
-    Ok(())
-}
-
-// Whether a look-up gives this meta.
-fn finds(alloc: Global, store: &mut MemCache, key: &CacheKey, meta: &CacheMeta) -> Result<bool> {
-    let Some((found, reader)) = store.lookup(alloc, key)? else {
-        return Ok(false);
-    };
-    reader.let_go(store);
-    Ok(
-        found.fresh_until() == meta.fresh_until()
-            && found.updated() == meta.updated()
-            && found.epoch() == meta.epoch()
-            && found.stale_if_error_sec() == meta.stale_if_error_sec()
-            && found.variance() == meta.variance()
-            && *found.headers() == *meta.headers(),
-    )
-}
-
-fn meta_with_fields(alloc: Global) -> std::result::Result<CacheMeta, Fail> {
-    let fields = [
-        ("foo1", "pingora"),
-        ("foo2", "pingora"),
-        ("server", "pingora"),
-        ("set-cookie", "a=1"),
-        ("set-cookie", "b=2"),
-    ];
-    let mut header = ResponseHeader::build(alloc, StatusCode::OK);
-    for (name, value) in fields {
-        let name = HeaderName::from_bytes(alloc, name.as_bytes())?;
-        let value = HeaderValue::from_bytes(alloc, value.as_bytes())?;
-        header.headers.append(name, value)?;
+fn tell_of_writer(parts: &mut Parts, writer: &mut Writer, call: &'static str, told: &mut Told) {
+    let text = word(call, 2);
+    match word(call, 1) {
+        "begins" => begin(parts, writer, text, told),
+        "writes" => write(parts, writer, text, false, told),
+        "writes-last" => write(parts, writer, text, true, told),
+        "finishes" => finish(parts, writer.take(), told),
+        _ => give_up(parts, writer.take(), told),
     }
-    let mut meta = CacheMeta::new(Moment::from_secs(70), Moment::from_secs(1), 10, 20, header);
-    meta.set_variance_key([0xac; 16]);
-    meta.set_epoch_override(Moment::from_secs(3));
-    Ok(meta)
 }
 
-// The meta that was given at the beginning is found with its fields, of a write and of a body;
-// an expired one has another end.
-#[test]
-fn a_meta_reads_back_equal(rt: HostRuntime) -> std::result::Result<(), Fail> {
-    let alloc = rt.alloc();
-    let mut store = MemCache::new(alloc);
-    let key = key_of(alloc, "a")?;
-    let mut meta = meta_with_fields(alloc)?;
-    is_kept(&rt, alloc, &mut store, &key, &mut meta)
+fn tell_of_reader(parts: &mut Parts, reader: &mut Reader, call: &'static str, told: &mut Told) {
+    match word(call, 1) {
+        "looks" => look(parts, reader, word(call, 2), told),
+        "reads" => read(parts, reader, told),
+        "seeks" => seek(reader, size(call, 2), some_size(call, 3), told),
+        "ends" => end_reader(parts, reader.take(), told),
+        _ => told.say("no such call"),
+    }
 }
 
-fn is_found_while_written(
-    alloc: Global,
-    store: &mut MemCache,
-    key: &CacheKey,
-    meta: &CacheMeta,
-) -> std::result::Result<bool, Fail> {
-    let writer = store.get_miss_handler(alloc, key, meta)?;
-    let in_flight = finds(alloc, store, key, meta);
-    writer.finish(store)?;
-    Ok(in_flight?)
+fn tell_of_store(parts: &mut Parts, call: &'static str, told: &mut Told) {
+    let name = word(call, 1);
+    let number = some_number(call, 2);
+    match word(call, 0) {
+        "purge" => tell_removed(purge(parts, name), told),
+        "purge-exact" => tell_removed(purge_exact(parts, name, number), told),
+        "expire" => tell_removed(expire(parts, name, number.unwrap_or(0)), told),
+        "update" => tell_updated(update(parts, name, number.unwrap_or(0)), told),
+        "writes" => told.shown(&parts.store.write_records()),
+        "total" => totals(&parts.store, told),
+        _ => told.say("no such call"),
+    }
 }
 
-fn is_expired(
-    alloc: Global,
-    store: &mut MemCache,
-    key: &CacheKey,
-) -> std::result::Result<bool, Fail> {
-    let compact = key.to_compact()?;
-    Ok(
-        store.expire(alloc, PurgeTarget::Active(&compact), Moment::from_secs(5))?
-            == PurgeOutcome::Expired,
-    )
+fn begin(parts: &mut Parts, writer: &mut Writer, name: &str, told: &mut Told) {
+    match begun(parts, name) {
+        Ok(begun) => {
+            drop_writer(parts, writer.replace(begun));
+            told.say("ok");
+        }
+        Err(refused) => told.refused(&refused),
+    }
 }
 
-fn is_kept(
-    rt: &impl Abort,
-    alloc: Global,
-    store: &mut MemCache,
-    key: &CacheKey,
-    meta: &mut CacheMeta,
-) -> std::result::Result<(), Fail> {
-    assert!(rt; is_found_while_written(alloc, store, key, meta)?);
-    assert!(rt; finds(alloc, store, key, meta)?);
-    assert!(rt; is_expired(alloc, store, key)?);
-    assert!(rt; !finds(alloc, store, key, meta)?);
-    meta.expire_at(Moment::from_secs(5));
-    assert!(rt; finds(alloc, store, key, meta)?);
-    Ok(())
+fn begun(parts: &mut Parts, name: &str) -> Result<MemMissHandler> {
+    let alloc = parts.alloc;
+    let (store, named) = parts.with(name);
+    store.get_miss_handler(alloc, &named.key, &meta_until(alloc, 300))
 }
 
-// By any store.
-fn is_streamed<S: Storage>(alloc: Global, store: &mut S, key: &CacheKey) -> Result<bool> {
-    let meta = meta_until(alloc, 300);
-    let writer = store.get_miss_handler(alloc, key, &meta)?;
-    let found = store.lookup_streaming_write(alloc, key, writer.streaming_write_tag());
-    let id = writer.entry_id();
-    writer.drop_write(store);
+fn write(parts: &mut Parts, writer: &mut Writer, text: &'static str, eof: bool, told: &mut Told) {
+    match writer {
+        Some(writer) if writer.at_eof(&parts.store) => told.say("at eof"),
+        Some(writer) => {
+            let bytes = Bytes::from_static(text.as_bytes());
+            told.done(writer.write_body(&mut parts.store, bytes, eof));
+        }
+        None => told.say("none open"),
+    }
+}
+
+fn finish(parts: &mut Parts, writer: Writer, told: &mut Told) {
+    match writer {
+        Some(writer) => tell_finished(writer.finish(&mut parts.store), told),
+        None => told.say("none open"),
+    }
+}
+
+fn tell_finished(end: Result<MissFinishType>, told: &mut Told) {
+    match end {
+        Ok(end) => told.named(&end),
+        Err(refused) => told.refused(&refused),
+    }
+}
+
+fn give_up(parts: &mut Parts, writer: Writer, told: &mut Told) {
+    told.say(if writer.is_some() { "ok" } else { "none open" });
+    drop_writer(parts, writer);
+}
+
+// What a look-up found: of a complete body the weight, and the end of freshness.
+fn found(
+    parts: &mut Parts,
+    place: &mut Reader,
+    found: Result<Option<(CacheMeta, MemHitHandler)>>,
+    told: &mut Told,
+) {
     match found {
-        Ok(Some((_meta, reader))) => {
-            let same = reader.entry_id() == id;
-            let can = reader.can_seek_multipart();
-            reader.let_go(store);
-            Ok(same && !can)
+        Ok(Some((meta, reader))) => {
+            tell_found(&meta, &reader, told);
+            drop_reader(parts, place.replace(reader));
         }
-        Ok(None) => Ok(false),
-        Err(refused) => Err(refused),
+        Ok(None) => told.say("none"),
+        Err(refused) => told.refused(&refused),
     }
 }
 
-#[test]
-fn any_store_streams_by_its_traits(rt: HostRuntime) -> std::result::Result<(), Fail> {
-    let alloc = rt.alloc();
-    let mut store = MemCache::new(alloc);
-    let key = key_of(alloc, "a")?;
-    assert!(rt; store.support_streaming_partial_write());
-    assert!(rt; is_streamed(alloc, &mut store, &key)?);
-    assert_eq!(rt; store.write_records(), 0);
-    Ok(())
-}
-
-// The key `aa`, with this variance.
-fn aa(alloc: Global, variance: Option<[u8; 16]>) -> Result<CacheKey> {
-    let mut key = key_of(alloc, "aa")?;
-    if let Some(hash) = variance {
-        key.set_variance_key(hash);
+fn tell_found(meta: &CacheMeta, reader: &MemHitHandler, told: &mut Told) {
+    if reader.should_count_access() && reader.can_seek() {
+        told.say("hit ");
+        told.shown(&reader.get_eviction_weight());
+    } else {
+        told.say("part");
     }
-    Ok(key)
+    told.say(" until ");
+    told.shown(&meta.fresh_until().secs());
 }
 
-fn store_nothing(alloc: Global, store: &mut MemCache, key: &CacheKey) -> Result<()> {
-    let writer = store.get_miss_handler(alloc, key, &meta_until(alloc, 300))?;
-    writer.finish(store)?;
-    Ok(())
+fn look(parts: &mut Parts, place: &mut Reader, name: &str, told: &mut Told) {
+    let alloc = parts.alloc;
+    let (store, named) = parts.with(name);
+    let it = store.lookup(alloc, &named.key);
+    found(parts, place, it, told);
 }
 
-// Whether so many slots stand in shard 14, and none in another.
-fn shards_have(store: &MemCache, slots: usize) -> bool {
-    for shard in 0..16usize {
-        let wanted = if shard == 14 { slots } else { 0 };
-        if store.shard_slots(shard) != wanted {
-            return false;
-        }
-    }
-    true
+// A reader joins a write by the tag of its writer.
+fn join(counter: &mut Counter, call: &'static str, told: &mut Told) {
+    let (parts, writer) = counter.writer(some_number(call, 3).unwrap_or(0));
+    let it = joined(parts, writer, word(call, 2));
+    let (parts, place) = counter.reader(some_number(call, 0).unwrap_or(0));
+    found(parts, place, it, told);
 }
 
-fn two_in_a_shard(
-    rt: &impl Abort,
-    alloc: Global,
-    store: &mut MemCache,
-    plain: &CacheKey,
-    varied: &CacheKey,
-) -> Result<()> {
-    store_nothing(alloc, store, plain)?;
-    store_nothing(alloc, store, varied)?;
-    assert!(rt; shards_have(store, 2));
-    let entry = CacheEntryKey::key_only(plain.to_compact()?);
-    store.purge(PurgeTarget::Exact(&entry), PurgeType::Invalidation)?;
-    assert!(rt; shards_have(store, 1));
-    assert_eq!(rt; store.slots(), 1);
-    Ok(())
-}
-
-#[test]
-fn bodies_stand_in_the_shard_of_their_key(rt: HostRuntime) -> std::result::Result<(), Fail> {
-    let alloc = rt.alloc();
-    let mut store = MemCache::new(alloc);
-    let (plain, varied) = (aa(alloc, None)?, aa(alloc, Some([0; 16]))?);
-    two_in_a_shard(&rt, alloc, &mut store, &plain, &varied)?;
-    Ok(())
-}
-
-// Whether so many writes are kept in shard 14, and none in another.
-fn records_are(store: &MemCache, records: usize) -> bool {
-    for shard in 0..16usize {
-        let wanted = if shard == 14 { records } else { 0 };
-        if store.shard_write_records(shard) != wanted {
-            return false;
-        }
-    }
-    true
-}
-
-// A write of the plain key and one of the varied are kept in their shard, the first as long as its
-// reader names it.
-fn records_stand(
-    alloc: Global,
-    store: &mut MemCache,
-    plain: &CacheKey,
-    varied: &CacheKey,
-) -> Result<bool> {
-    let meta = meta_until(alloc, 300);
-    let first = store.get_miss_handler(alloc, plain, &meta)?;
-    let one = records_are(store, 1);
-    let found = store.lookup(alloc, plain);
-    first.drop_write(store);
-    let Some((_meta, reader)) = found? else {
-        return Ok(false);
+fn joined(
+    parts: &mut Parts,
+    writer: &Writer,
+    name: &str,
+) -> Result<Option<(CacheMeta, MemHitHandler)>> {
+    let alloc = parts.alloc;
+    let tag = match writer {
+        Some(writer) => writer.streaming_write_tag(),
+        None => None,
     };
-    let second = store.get_miss_handler(alloc, varied, &meta);
-    let two = records_are(store, 2);
-    reader.let_go(store);
-    let left = records_are(store, 1);
-    second?.drop_write(store);
-    Ok(one && two && left && records_are(store, 0))
+    let (store, named) = parts.with(name);
+    store.lookup_streaming_write(alloc, &named.key, tag)
 }
 
-#[test]
-fn writes_are_kept_in_the_shard_of_their_key(rt: HostRuntime) -> std::result::Result<(), Fail> {
-    let alloc = rt.alloc();
-    let mut store = MemCache::new(alloc);
-    let (plain, varied) = (aa(alloc, None)?, aa(alloc, Some([0; 16]))?);
-    let stand = records_stand(alloc, &mut store, &plain, &varied)?;
-    assert!(rt; stand);
-    Ok(())
-}
-
-// Writes the last bytes, where they are not yet said.
-fn write_last(writer: &mut MemMissHandler, store: &mut MemCache) -> Result<bool> {
-    if writer.at_eof(store) {
-        return Ok(false);
+fn read(parts: &mut Parts, reader: &mut Reader, told: &mut Told) {
+    match reader {
+        Some(reader) => tell_read(reader.read_body(parts.alloc, &mut parts.store), told),
+        None => told.say("none open"),
     }
-    writer.write_body(store, Bytes::from_static(b"ab".as_slice()), true)?;
-    Ok(writer.at_eof(store))
 }
 
-// The first write of one store and the first of another, under keys of different shards. Lent the
-// other's store, the handler of the one names the write of its number there.
-fn is_named_by_number(
-    alloc: Global,
-    here: &mut MemCache,
-    there: &mut MemCache,
-    key: &CacheKey,
-    other: &CacheKey,
-) -> Result<bool> {
-    let meta = meta_until(alloc, 300);
-    let mut first = here.get_miss_handler(alloc, key, &meta)?;
-    let second = there.get_miss_handler(alloc, other, &meta);
-    let wrote = write_last(&mut first, there);
-    let untold = !first.at_eof(here);
-    first.drop_write(here);
-    let second = second?;
-    let told = second.at_eof(there);
-    second.drop_write(there);
-    Ok(wrote? && untold && told)
+fn tell_read(read: Result<Poll<Option<Bytes>>>, told: &mut Told) {
+    match read {
+        Ok(Poll::Ready(Some(bytes))) => {
+            told.say("data ");
+            told.bytes(bytes.as_slice());
+        }
+        Ok(Poll::Ready(None)) => told.say("end"),
+        Ok(Poll::Pending) => told.say("pending"),
+        Err(refused) => told.refused(&refused),
+    }
 }
+
+fn seek(reader: &mut Reader, start: usize, end: Option<usize>, told: &mut Told) {
+    match reader {
+        Some(reader) => told.done(reader.seek(start, end)),
+        None => told.say("none open"),
+    }
+}
+
+fn end_reader(parts: &mut Parts, reader: Reader, told: &mut Told) {
+    match reader {
+        Some(reader) => told.done(reader.finish(&mut parts.store)),
+        None => told.say("none open"),
+    }
+}
+
+fn tell_removed(outcome: Result<PurgeOutcome>, told: &mut Told) {
+    match outcome {
+        Ok(outcome) => told.named(&outcome),
+        Err(refused) => told.refused(&refused),
+    }
+}
+
+fn tell_updated(is_there: Result<bool>, told: &mut Told) {
+    match is_there {
+        Ok(is_there) => told.say(if is_there { "updated" } else { "absent" }),
+        Err(refused) => told.refused(&refused),
+    }
+}
+
+fn purge(parts: &mut Parts, name: &str) -> Result<PurgeOutcome> {
+    let (store, named) = parts.with(name);
+    store.purge(PurgeTarget::Active(&named.compact), PurgeType::Invalidation)
+}
+
+// Removes the entry of this number, or the key's only one.
+fn purge_exact(parts: &mut Parts, name: &str, id: Option<u64>) -> Result<PurgeOutcome> {
+    let (store, named) = parts.with(name);
+    let key = named.compact.copied()?;
+    let id = match id {
+        Some(id) => Some(CacheEntryId::new(id)),
+        None => None,
+    };
+    store.purge(
+        PurgeTarget::Exact(&CacheEntryKey::from_entry_id(key, id)),
+        PurgeType::Eviction,
+    )
+}
+
+fn expire(parts: &mut Parts, name: &str, now: u64) -> Result<PurgeOutcome> {
+    let alloc = parts.alloc;
+    let (store, named) = parts.with(name);
+    let now = Moment::from_secs(now);
+    store.expire(alloc, PurgeTarget::Active(&named.compact), now)
+}
+
+fn update(parts: &mut Parts, name: &str, fresh_until: u64) -> Result<bool> {
+    let alloc = parts.alloc;
+    let (store, named) = parts.with(name);
+    store.update_meta(alloc, &named.key, &meta_until(alloc, fresh_until))
+}
+
+fn totals(store: &MemCache, told: &mut Told) {
+    told.shown(&store.stored_bytes());
+    told.say(" bytes in ");
+    told.shown(&store.slots());
+    told.say(", ");
+    told.shown(&store.write_records());
+    told.say(" writes");
+}
+
+// Plays the rows over a store of their own.
+fn run(rt: &impl Abort, alloc: Global, rows: &'static str) {
+    match Parts::new(alloc) {
+        Ok(parts) => {
+            let mut counter = Counter::new(parts);
+            play(rt, alloc, &mut counter, rows);
+            counter.end();
+        }
+        Err(_refused) => assert!(rt; false),
+    }
+}
+
+const A_BODY_THAT_WAS_WRITTEN_IS_READ: &str = "
+    1 looks a -> none
+    1 begins a
+    1 writes test1
+    1 writes-last test2
+    1 writes more -> at eof
+    1 finishes -> Created(10)
+    2 looks a -> hit 10 until 300
+    2 reads -> data test1test2
+    2 reads -> end
+    2 ends
+    writes -> 0
+    close
+    total -> 10 bytes in 1, 0 writes";
 
 #[test]
-fn a_handler_names_its_write_by_the_number(rt: HostRuntime) -> std::result::Result<(), Fail> {
-    let alloc = rt.alloc();
-    let (mut here, mut there) = (MemCache::new(alloc), MemCache::new(alloc));
-    let (key, other) = (aa(alloc, None)?, key_of(alloc, "b")?);
-    assert!(rt; key.slot() % 16 != other.slot() % 16);
-    let named = is_named_by_number(alloc, &mut here, &mut there, &key, &other)?;
-    assert!(rt; named);
-    Ok(())
+fn a_body_that_was_written_is_read(rt: HostRuntime) {
+    run(&rt, rt.alloc(), A_BODY_THAT_WAS_WRITTEN_IS_READ);
+}
+
+const RANGES_OF_A_BODY_ARE_READ: &str = "
+    1 begins a
+    1 writes test1test2
+    2 looks a -> part until 300
+    2 seeks 0 -> InternalError
+    1 finishes -> Created(10)
+    1 looks a -> hit 10 until 300
+    1 seeks 10000 -> InternalError
+    1 seeks 10 -> InternalError
+    1 seeks 5
+    1 reads -> data test2
+    1 reads -> end
+    1 seeks 4 5
+    1 reads -> data 1
+    1 reads -> end
+    1 seeks 5 4 -> InternalError
+    1 seeks 8 99
+    1 reads -> data t2
+    1 seeks 3 3
+    1 reads -> data
+    1 reads -> end
+    writes -> 1
+    close
+    total -> 10 bytes in 1, 0 writes";
+
+#[test]
+fn ranges_of_a_body_are_read(rt: HostRuntime) {
+    run(&rt, rt.alloc(), RANGES_OF_A_BODY_ARE_READ);
+}
+
+const A_WRITE_IS_READ_WHILE_IT_IS_MADE: &str = "
+    1 begins a
+    1 looks a -> part until 300
+    1 reads -> pending
+    1 writes test1
+    1 reads -> data test1
+    1 reads -> pending
+    1 writes test2
+    1 reads -> data test2
+    2 looks a -> part until 300
+    2 reads -> data test1test2
+    1 reads -> pending
+    2 reads -> pending
+    3 looks a -> part until 300
+    1 finishes -> Created(10)
+    1 reads -> end
+    2 reads -> end
+    3 reads -> data test1test2
+    3 reads -> end
+    writes -> 1
+    close
+    total -> 10 bytes in 1, 0 writes";
+
+#[test]
+fn a_write_is_read_while_it_is_made(rt: HostRuntime) {
+    run(&rt, rt.alloc(), A_WRITE_IS_READ_WHILE_IT_IS_MADE);
+}
+
+const A_READER_GOES_ON_PAST_A_PURGE: &str = "
+    1 begins a
+    2 looks a -> part until 300
+    2 reads -> pending
+    1 writes ab
+    2 reads -> data ab
+    purge a -> Purged(None)
+    1 writes cd
+    1 gives-up
+    2 reads -> data cd
+    2 reads -> end
+    4 looks a -> none
+    2 ends
+    writes -> 0
+    close
+    total -> 0 bytes in 0, 0 writes";
+
+#[test]
+fn a_reader_goes_on_past_a_purge(rt: HostRuntime) {
+    run(&rt, rt.alloc(), A_READER_GOES_ON_PAST_A_PURGE);
+}
+
+const A_REMOVED_WRITE_IS_NOT_STORED: &str = "
+    1 begins a
+    1 writes x
+    purge a -> Purged(None)
+    3 looks a -> none
+    3 begins a
+    3 writes yy
+    1 finishes -> WriteRemoved
+    3 finishes -> Created(2)
+    4 looks a -> hit 2 until 300
+    4 reads -> data yy
+    4 reads -> end
+    writes -> 0
+    close
+    total -> 2 bytes in 1, 0 writes";
+
+#[test]
+fn a_removed_write_is_not_stored(rt: HostRuntime) {
+    run(&rt, rt.alloc(), A_REMOVED_WRITE_IS_NOT_STORED);
+}
+
+const THE_EARLIEST_WRITE_IS_FOUND_AND_THE_LAST_FINISH_STAYS: &str = "
+    1 begins a
+    2 begins a
+    1 writes one
+    2 writes second
+    1 looks a -> part until 300
+    1 reads -> data one
+    1 finishes -> Created(3)
+    2 looks a -> part until 300
+    2 reads -> data second
+    2 finishes -> Created(6)
+    3 looks a -> hit 6 until 300
+    3 begins a
+    3 finishes -> Created(0)
+    3 reads -> data second
+    writes -> 2
+    close
+    total -> 0 bytes in 1, 0 writes";
+
+#[test]
+fn the_earliest_write_is_found_and_the_last_finish_stays(rt: HostRuntime) {
+    run(
+        &rt,
+        rt.alloc(),
+        THE_EARLIEST_WRITE_IS_FOUND_AND_THE_LAST_FINISH_STAYS,
+    );
+}
+
+const REMOVALS_NAME_WHAT_THEY_REMOVE: &str = "
+    purge a -> NotFound
+    1 begins a
+    purge a -> Purged(None)
+    purge a -> NotFound
+    1 gives-up
+    purge a -> NotFound
+    1 begins a
+    1 writes x
+    1 finishes -> Created(1)
+    purge-exact a 1 -> NotFound
+    1 looks a -> hit 1 until 300
+    purge-exact a -> Purged(None)
+    1 looks a -> none
+    writes -> 0
+    close
+    total -> 0 bytes in 0, 0 writes";
+
+#[test]
+fn removals_name_what_they_remove(rt: HostRuntime) {
+    run(&rt, rt.alloc(), REMOVALS_NAME_WHAT_THEY_REMOVE);
+}
+
+const EXPIRIES_AND_METAS_ARE_OF_BODIES: &str = "
+    expire a 100 -> NotFound
+    update a 900 -> absent
+    1 begins a
+    expire a 100 -> NotFound
+    update a 900 -> absent
+    1 writes 123
+    1 finishes -> Created(3)
+    expire a 100 -> Expired
+    1 looks a -> hit 3 until 100
+    expire a 200 -> Expired
+    2 looks a -> hit 3 until 100
+    update a 900 -> updated
+    3 looks a -> hit 3 until 900
+    3 reads -> data 123
+    writes -> 0
+    close
+    total -> 3 bytes in 1, 0 writes";
+
+#[test]
+fn expiries_and_metas_are_of_bodies(rt: HostRuntime) {
+    run(&rt, rt.alloc(), EXPIRIES_AND_METAS_ARE_OF_BODIES);
+}
+
+const A_WRITE_IS_JOINED_BY_ITS_TAG: &str = "
+    1 begins a
+    2 begins a
+    2 writes xy
+    1 joins a 2 -> part until 300
+    1 reads -> data xy
+    2 joins b 2 -> none
+    2 joins a 9 -> none
+    purge a -> Purged(None)
+    2 joins a 2 -> part until 300
+    2 reads -> data xy
+    2 gives-up
+    3 joins a 2 -> none
+    writes -> 2
+    close
+    total -> 0 bytes in 0, 0 writes";
+
+#[test]
+fn a_write_is_joined_by_its_tag(rt: HostRuntime) {
+    run(&rt, rt.alloc(), A_WRITE_IS_JOINED_BY_ITS_TAG);
 }

@@ -1,7 +1,9 @@
 //! Puts: responses that are pushed into a store in memory, in pieces.
+use crate::rows::{Desk, Told, number, play, size, unescape};
+use bytes::Bytes;
 use http::StatusCode;
-use pcache_base::error::{ErrorType, Result};
-use pcache_base::key::CacheKey;
+use pcache_base::error::Result;
+use pcache_base::key::{CacheKey, CompactCacheKey};
 use pcache_base::moment::Moment;
 use pcache_base::poll::Poll;
 use pcache_base::reason::NoCacheReason;
@@ -11,10 +13,12 @@ use pcache_evict::eviction::simple_lru::Manager;
 use pcache_meta::header::ResponseHeader;
 use pcache_put_ctx::context::CachePutCtx;
 use pcache_put_ctx::policy::{ByDefaults, CachePut, default_cacheable};
-use pcache_put_ctx::report::{PieceEnd, PieceReport, PutEnd, PutOutcome, PutReport};
-use pcache_store::memory::MemCache;
+use pcache_put_ctx::report::{PieceEnd, PieceReport, PutEnd, PutOutcome, PutReport, Written};
+use pcache_store::memory::{MemCache, MemHitHandler, MemMissHandler};
 use pcache_store::storage::{HandleHit, HandleMiss, PurgeTarget, PurgeType, Storage};
 use std::alloc::Global;
+use std::fmt::Write;
+use std::process::Abort;
 use std::time::Duration;
 
 // Every status is fresh for a second.
@@ -43,435 +47,519 @@ impl CachePut for OneSecond {
     }
 }
 
-// What puts are lent.
+// Whether a response that says nothing of its lifetime is stored by the policy that goes by these defaults.
+fn is_stored_by_defaults(alloc: Global) -> bool {
+    let policy = ByDefaults {
+        defaults: defaults(),
+    };
+    let header = ResponseHeader::build(alloc, StatusCode::OK);
+    is_cacheable(policy.cacheable(alloc, header, Moment::EPOCH))
+}
+
+fn is_cacheable(answer: Result<RespCacheable>) -> bool {
+    matches!(answer, Ok(RespCacheable::Cacheable(_)))
+}
+
+#[test]
+fn defaults_decide(rt: HostRuntime) {
+    assert!(rt; is_stored_by_defaults(rt.alloc()));
+}
+
+// What puts are lent, the key of them all, and the bytes of a piece.
 #[derive(Drop)]
 struct Parts {
     alloc: Global,
     store: MemCache,
     manager: Manager,
     key: CacheKey,
+    compact: CompactCacheKey,
+    piece: Vec<u8>,
 }
 
 impl Parts {
     fn new(alloc: Global) -> Result<Parts> {
+        let key = key_of(alloc)?;
+        let compact = key.to_compact()?;
         Ok(Parts {
             alloc,
             store: MemCache::new(alloc),
             manager: Manager::new(alloc, 9)?,
-            key: key_of(alloc)?,
+            key,
+            compact,
+            piece: Vec::new(alloc),
         })
     }
 }
 
 fn key_of(alloc: Global) -> Result<CacheKey> {
-    Ok(CacheKey::new(
-        b"a".as_slice().to_vec(alloc)?,
-        String::from_str(alloc, "1")?,
-    ))
+    let primary = b"a".to_vec(alloc)?;
+    Ok(CacheKey::new(primary, String::from_str(alloc, "1")?))
 }
 
-fn new_put(alloc: Global, limit: Option<usize>) -> Result<CachePutCtx<OneSecond, MemCache>> {
-    let mut put = CachePutCtx::new(alloc, OneSecond, key_of(alloc)?);
-    if let Some(limit) = limit {
-        put.set_max_file_size_bytes(limit);
+type Put = CachePutCtx<OneSecond, MemCache>;
+
+// A put with its parts.
+struct Putting {
+    parts: Parts,
+    put: Put,
+}
+
+impl Putting {
+    fn make(alloc: Global) -> Result<Putting> {
+        let parts = Parts::new(alloc)?;
+        let put = CachePutCtx::new(alloc, OneSecond, key_of(alloc)?);
+        Ok(Putting { parts, put })
     }
-    Ok(put)
+
+    fn end(self) {
+        let Putting { mut parts, put } = self;
+        put.end(&mut parts.store);
+    }
 }
 
-// Whether a response that says nothing of its lifetime is stored by the policy that goes by these defaults.
-fn is_stored_by_defaults(alloc: Global) -> Result<bool> {
-    let policy = ByDefaults {
-        defaults: defaults(),
-    };
-    let header = ResponseHeader::build(alloc, StatusCode::OK);
-    let answer = policy.cacheable(alloc, header, Moment::EPOCH)?;
-    Ok(matches!(answer, RespCacheable::Cacheable(_)))
+impl Desk for Putting {
+    fn tell(&mut self, call: &'static str, told: &mut Told) {
+        let Putting { parts, put } = self;
+        let (verb, text) = call.split_once(' ').unwrap_or((call, ""));
+        match verb {
+            "limit" => {
+                put.set_max_file_size_bytes(size(call, 1));
+                told.say("ok");
+            }
+            "feed" | "take" | "feed-fields" => {
+                if put_piece(parts.alloc, &mut parts.piece, verb, text) {
+                    tell_of_piece(parts, put, verb, told);
+                }
+            }
+            "purge" | "drop" | "read" | "total" => tell_of_parts(parts, put, verb, told),
+            _ => tell_of_end(parts, put, verb, told),
+        }
+    }
 }
 
-#[test]
-fn defaults_decide(rt: HostRuntime) -> std::result::Result<(), std::test::Fail> {
-    assert!(rt; is_stored_by_defaults(rt.alloc())?);
+// The piece of a call, which is its text, or a head of so many fields.
+fn put_piece(alloc: Global, piece: &mut Vec<u8>, verb: &str, text: &'static str) -> bool {
+    if verb == "feed-fields" {
+        put_fields(String::new(alloc), piece, number(text, 0))
+    } else {
+        unescape(text, piece)
+    }
+}
+
+// A head with so many fields.
+fn put_fields(text: String, head: &mut Vec<u8>, fields: u64) -> bool {
+    let mut text = text;
+    head.clear();
+    write_fields(&mut text, fields) && head.extend_from_slice(text.as_bytes()).is_ok()
+}
+
+fn write_fields(head: &mut String, fields: u64) -> bool {
+    if head.push_str("HTTP/1.1 200 OK\r\n").is_err() {
+        return false;
+    }
+    for number in 0..fields {
+        if write!(head, "f{number}: v\r\n").is_err() {
+            return false;
+        }
+    }
+    head.push_str("\r\n").is_ok()
+}
+
+fn tell_of_piece(parts: &mut Parts, put: &mut Put, verb: &str, told: &mut Told) {
+    let Parts { store, piece, .. } = parts;
+    if verb == "take" {
+        let report = put.take_piece(piece.as_slice(), store, Moment::EPOCH);
+        tell_taken(store, report, told);
+    } else {
+        tell_fed(put.cache_put(piece.as_slice(), store, Moment::EPOCH), told);
+    }
+}
+
+fn tell_of_parts(parts: &mut Parts, put: &mut Put, verb: &str, told: &mut Told) {
+    match verb {
+        "purge" => told.done(purge(parts)),
+        "drop" => told.done(drop_put(parts, put)),
+        "read" => read(parts, told),
+        _ => totals(parts, told),
+    }
+}
+
+fn tell_of_end(parts: &mut Parts, put: &mut Put, verb: &str, told: &mut Told) {
+    let Parts { store, manager, .. } = parts;
+    match verb {
+        "finish" => tell_finished(put.finish(store, manager), told),
+        "end-telling" => tell_end(put.end_put(store, manager), told),
+        "in-flight" => told.yes_or_no(put.writer().is_some()),
+        _ => told.say("no such call"),
+    }
+}
+
+fn tell_fed(fed: Result<Option<NoCacheReason>>, told: &mut Told) {
+    match fed {
+        Ok(None) => told.say("goes on"),
+        Ok(Some(reason)) => told.say(reason.as_str()),
+        Err(refused) => told.refused(&refused),
+    }
+}
+
+fn tell_finished(outcome: Result<PutOutcome>, told: &mut Told) {
+    match outcome {
+        Ok(PutOutcome::Stored(report)) => {
+            told.say("stored ");
+            told.shown(&report.size);
+        }
+        Ok(PutOutcome::NotCached(reason)) => told.say(reason.as_str()),
+        Err(refused) => told.refused(&refused),
+    }
+}
+
+// Whether the put is stored at its end, and its entry told.
+fn tell_end(report: PutReport, told: &mut Told) {
+    let PutReport { end, entry, .. } = report;
+    let is_stored = matches!(end, PutEnd::Stored(_)) && entry.is_some();
+    told.say(if is_stored { "stored" } else { "not stored" });
+}
+
+fn purge(parts: &mut Parts) -> Result<()> {
+    let target = PurgeTarget::Active(&parts.compact);
+    parts.store.purge(target, PurgeType::Invalidation)?;
     Ok(())
 }
 
-// What a call of a put answered.
-#[derive(Clone, Copy, Debug, PartialEq, Eq)]
-enum Said {
-    GoesOn,
-    Reason(NoCacheReason),
-    Refused(ErrorType),
-    Stored(usize),
+// Ends the put, and begins another.
+fn drop_put(parts: &mut Parts, put: &mut Put) -> Result<()> {
+    let another = CachePutCtx::new(parts.alloc, OneSecond, key_of(parts.alloc)?);
+    let ended = std::mem::replace(put, another);
+    ended.end(&mut parts.store);
+    Ok(())
 }
 
-fn fed(answer: Result<Option<NoCacheReason>>) -> Said {
-    match answer {
-        Ok(None) => Said::GoesOn,
-        Ok(Some(reason)) => Said::Reason(reason),
-        Err(refused) => Said::Refused(refused.etype()),
+// What is stored, in bytes, the weight of what is tracked, and the writes that are kept.
+fn totals(parts: &Parts, told: &mut Told) {
+    told.shown(&parts.store.stored_bytes());
+    told.say(" bytes, weight ");
+    told.shown(&parts.manager.total_size());
+    told.say(", ");
+    told.shown(&parts.store.write_records());
+    told.say(" writes");
+}
+
+// Reads the key twice, if it is there.
+fn read(parts: &mut Parts, told: &mut Told) {
+    match parts.store.lookup(parts.alloc, &parts.key) {
+        Ok(Some((_meta, hit))) => read_twice(parts, hit, told),
+        Ok(None) => told.say("none"),
+        Err(refused) => told.refused(&refused),
     }
 }
 
-fn finished(answer: Result<PutOutcome>) -> Said {
-    match answer {
-        Ok(PutOutcome::Stored(report)) => Said::Stored(report.size),
-        Ok(PutOutcome::NotCached(reason)) => Said::Reason(reason),
-        Err(refused) => Said::Refused(refused.etype()),
+// How many bytes the first read gives, and whether the next one is the end.
+fn read_twice(parts: &mut Parts, hit: MemHitHandler, told: &mut Told) {
+    let mut hit = hit;
+    let first = hit.read_body(parts.alloc, &mut parts.store);
+    let then = hit.read_body(parts.alloc, &mut parts.store);
+    hit.let_go(&mut parts.store);
+    tell_read(first, told);
+    told.say(", ");
+    tell_read(then, told);
+}
+
+fn tell_read(read: Result<Poll<Option<Bytes>>>, told: &mut Told) {
+    match read {
+        Ok(Poll::Ready(Some(bytes))) => {
+            told.shown(&bytes.len());
+            told.say(" bytes");
+        }
+        Ok(Poll::Ready(None)) => told.say("end"),
+        Ok(Poll::Pending) => told.say("pending"),
+        Err(refused) => told.refused(&refused),
     }
 }
 
-// What a put answered for its last piece and at its end, and what is stored then.
-#[derive(Clone, Copy, Debug, PartialEq, Eq)]
-struct Told {
-    last: Said,
-    end: Said,
-    stored: u128,
-    records: usize,
-}
-
-fn feed_all(
-    parts: &mut Parts,
-    put: &mut CachePutCtx<OneSecond, MemCache>,
-    pieces: &[&[u8]],
-) -> Said {
-    let mut last = Said::GoesOn;
-    for piece in pieces {
-        last = fed(put.cache_put(piece, &mut parts.store, Moment::EPOCH));
+// How many bytes a piece wrote, and whether they were the last; whether it began a write; and whether the put goes on.
+fn tell_taken(store: &mut MemCache, report: PieceReport<MemMissHandler>, told: &mut Told) {
+    let PieceReport { began, wrote, end } = report;
+    tell_wrote(wrote, told);
+    if began.is_some() {
+        told.say(", begins");
     }
-    last
+    tell_piece_end(store, end, told);
 }
 
-fn end(parts: &mut Parts, put: &mut CachePutCtx<OneSecond, MemCache>, last: Said) -> Told {
-    let end = finished(put.finish(&mut parts.store, &mut parts.manager));
-    Told {
-        last,
-        end,
-        stored: parts.store.stored_bytes(),
-        records: parts.store.write_records(),
+fn tell_wrote(wrote: Option<Written>, told: &mut Told) {
+    match wrote {
+        Some(wrote) => {
+            told.shown(&wrote.bytes.len());
+            told.say(if wrote.eof {
+                " bytes, the last"
+            } else {
+                " bytes"
+            });
+        }
+        None => told.say("0 bytes"),
     }
 }
 
-// What comes of a put of these pieces.
-fn told_of(alloc: Global, limit: Option<usize>, pieces: &[&[u8]]) -> Result<Told> {
-    let mut parts = Parts::new(alloc)?;
-    let mut put = new_put(alloc, limit)?;
-    let last = feed_all(&mut parts, &mut put, pieces);
-    let told = end(&mut parts, &mut put, last);
-    put.end(&mut parts.store);
-    Ok(told)
-}
-
-fn stored(size: usize) -> Told {
-    Told {
-        last: Said::GoesOn,
-        end: Said::Stored(size),
-        stored: u128::from(size as u64),
-        records: 0,
+fn tell_piece_end(store: &mut MemCache, end: PieceEnd<MemMissHandler>, told: &mut Told) {
+    match end {
+        PieceEnd::GoesOn => {}
+        PieceEnd::NotCached(_) => told.say(", ends"),
+        PieceEnd::Refused(_, writer) => {
+            if let Some(writer) = writer {
+                writer.drop_write(store);
+            }
+            told.say(", ends");
+        }
     }
 }
 
-fn nothing(last: Said, end: Said) -> Told {
-    Told {
-        last,
-        end,
-        stored: 0,
-        records: 0,
+// Plays rows; those after an empty line are played over parts of their own.
+fn run(rt: &impl Abort, alloc: Global, rows: &'static str) {
+    for section in rows.split("\n\n") {
+        run_section(rt, alloc, section);
+    }
+}
+
+fn run_section(rt: &impl Abort, alloc: Global, rows: &'static str) {
+    match Putting::make(alloc) {
+        Ok(putting) => {
+            let mut putting = putting;
+            play(rt, alloc, &mut putting, rows);
+            putting.end();
+        }
+        Err(_refused) => assert!(rt; false),
     }
 }
 
 const RUST: &[u8] = b"HTTP/1.1 200 OK\r\nContent-Length: 4\r\n\r\nrust";
 
-#[test]
-fn a_put_is_stored_however_it_is_cut(rt: HostRuntime) -> std::result::Result<(), std::test::Fail> {
-    for cut in 0..RUST.len() {
-        let (first, second) = RUST.split_at(cut);
-        assert_eq!(rt; told_of(rt.alloc(), None, &[first, second])?, stored(4));
+// Whether the response is stored, in two pieces that are cut there, or in a piece for each byte.
+fn is_stored(alloc: Global, cut: Option<usize>) -> bool {
+    match Putting::make(alloc) {
+        Ok(putting) => is_stored_by(putting, cut),
+        Err(_refused) => false,
     }
-    assert_eq!(rt; byte_by_byte(rt.alloc())?, stored(4));
-    Ok(())
 }
 
-fn byte_by_byte(alloc: Global) -> Result<Told> {
-    let mut parts = Parts::new(alloc)?;
-    let mut put = new_put(alloc, None)?;
-    let mut last = Said::GoesOn;
+fn is_stored_by(putting: Putting, cut: Option<usize>) -> bool {
+    let Putting { mut parts, mut put } = putting;
+    let size = match cut {
+        Some(cut) => stored_in_two(&mut parts, &mut put, cut),
+        None => stored_by_bytes(&mut parts, &mut put),
+    };
+    put.end(&mut parts.store);
+    size == Some(4) && parts.store.stored_bytes() == 4 && parts.store.write_records() == 0
+}
+
+fn is_fed(parts: &mut Parts, put: &mut Put, piece: &[u8]) -> bool {
+    let answer = put.cache_put(piece, &mut parts.store, Moment::EPOCH);
+    matches!(answer, Ok(None))
+}
+
+fn finished(parts: &mut Parts, put: &mut Put) -> Option<usize> {
+    match put.finish(&mut parts.store, &mut parts.manager) {
+        Ok(PutOutcome::Stored(report)) => Some(report.size),
+        _ => None,
+    }
+}
+
+fn stored_in_two(parts: &mut Parts, put: &mut Put, cut: usize) -> Option<usize> {
+    let (first, second) = RUST.split_at_checked(cut)?;
+    is_fed(parts, put, first);
+    if is_fed(parts, put, second) {
+        finished(parts, put)
+    } else {
+        None
+    }
+}
+
+fn stored_by_bytes(parts: &mut Parts, put: &mut Put) -> Option<usize> {
+    let mut is_last_fed = false;
     for byte in RUST {
-        let piece = [*byte];
-        last = fed(put.cache_put(piece.as_slice(), &mut parts.store, Moment::EPOCH));
+        is_last_fed = is_fed(parts, put, &[*byte]);
     }
-    let told = end(&mut parts, &mut put, last);
-    put.end(&mut parts.store);
-    Ok(told)
-}
-
-#[test]
-fn puts_answer_as_their_bytes_say(rt: HostRuntime) -> std::result::Result<(), std::test::Fail> {
-    let no_store = Said::Reason(NoCacheReason::OriginNotCache);
-    let too_large = Said::Reason(NoCacheReason::ResponseTooLarge);
-    let over = Said::Refused(ErrorType::ResponseTooLarge);
-    let early = Said::Refused(ErrorType::IncompleteHttpBody);
-    let invalid = Said::Refused(ErrorType::InvalidHttpHeader);
-    let rows: [(Option<usize>, &[u8], &[u8], Told); 12] = [
-        (
-            None,
-            b"HTTP/1.1 200 OK\r\nContent-Length: 4\r\nCache-Control: no-store\r\n\r\n",
-            b"ru",
-            nothing(no_store, no_store),
-        ),
-        (
-            None,
-            b"HTTP/1.1 200 OK\r\nContent-Length: 4\r\n\r\n",
-            b"ru",
-            nothing(Said::GoesOn, early),
-        ),
-        (
-            None,
-            b"HTTP/1.1 204 OK\r\nContent-Length: 4\r\n\r\n",
-            b"rust",
-            stored(0),
-        ),
-        (
-            Some(3),
-            b"HTTP/1.1 200 OK\r\nContent-Length: 4\r\n\r\n",
-            b"rust",
-            nothing(too_large, too_large),
-        ),
-        (
-            Some(3),
-            b"HTTP/1.1 204 OK\r\nContent-Length: 4\r\n\r\n",
-            b"",
-            nothing(too_large, too_large),
-        ),
-        (
-            Some(3),
-            b"HTTP/1.1 200 OK\r\n\r\n",
-            b"rust",
-            nothing(over, over),
-        ),
-        (
-            Some(3),
-            b"HTTP/1.1 200 OK\r\n\r\nrus",
-            b"t",
-            nothing(over, over),
-        ),
-        (Some(4), b"HTTP/1.1 200 OK\r\n\r\nrus", b"t", stored(4)),
-        (
-            None,
-            b"HTTP/1.1 200 OK\r\nContent-Length: 4\r\n\r\nrust",
-            b"XX",
-            stored(4),
-        ),
-        (None, b"HTTP/1.1 ", b"2x", nothing(Said::GoesOn, early)),
-        (None, b"HTTP/1.1 2x", b"\r\n\r\n", nothing(invalid, invalid)),
-        (
-            None,
-            b"HTTP/1.1 200 OK\r\nCache-Control: private=\"content-length\"\r\nContent-Length: 4\r\n\r\n",
-            b"rust",
-            stored(4),
-        ),
-    ];
-    for (limit, first, second, wanted) in rows {
-        assert_eq!(rt; told_of(rt.alloc(), limit, &[first, second])?, wanted);
-    }
-    Ok(())
-}
-
-#[test]
-fn a_refused_put_answers_alike_from_then_on(
-    rt: HostRuntime,
-) -> std::result::Result<(), std::test::Fail> {
-    let invalid = Said::Refused(ErrorType::InvalidHttpHeader);
-    let over = Said::Refused(ErrorType::ResponseTooLarge);
-    let no_store = Said::Reason(NoCacheReason::OriginNotCache);
-    let bad: &[u8] = b"HTTP/1.1 2x\r\n\r\n";
-    assert_eq!(rt;
-        told_of(rt.alloc(), None, &[bad, RUST])?,
-        nothing(invalid, invalid)
-    );
-    let long: &[u8] = b"HTTP/1.1 200 OK\r\n\r\nrust";
-    assert_eq!(rt;
-        told_of(rt.alloc(), Some(3), &[long, b"".as_slice()])?,
-        nothing(over, over)
-    );
-    let none: &[u8] = b"HTTP/1.1 200 OK\r\nCache-Control: no-store\r\n\r\n";
-    assert_eq!(rt;
-        told_of(rt.alloc(), None, &[none, bad, bad])?,
-        nothing(no_store, no_store)
-    );
-    Ok(())
-}
-
-// A head with so many fields.
-fn head_with(alloc: Global, fields: u32) -> Result<Vec<u8>> {
-    let mut head = b"HTTP/1.1 200 OK\r\n".as_slice().to_vec(alloc)?;
-    for number in 0..fields {
-        let line = format!(in alloc; "f{number}: v\r\n")?;
-        head.extend_from_slice(line.as_bytes())?;
-    }
-    head.extend_from_slice(b"\r\n")?;
-    Ok(head)
-}
-
-fn told_of_fields(alloc: Global, fields: u32) -> Result<Told> {
-    let head = head_with(alloc, fields)?;
-    told_of(alloc, None, &[head.as_slice()])
-}
-
-#[test]
-fn a_head_has_256_fields_at_most(rt: HostRuntime) -> std::result::Result<(), std::test::Fail> {
-    let invalid = Said::Refused(ErrorType::InvalidHttpHeader);
-    assert_eq!(rt; told_of_fields(rt.alloc(), 256)?, stored(0));
-    assert_eq!(rt; told_of_fields(rt.alloc(), 257)?, nothing(invalid, invalid));
-    Ok(())
-}
-
-// A put whose key is purged between its last piece and its end.
-fn told_when_purged(alloc: Global) -> Result<Told> {
-    let mut parts = Parts::new(alloc)?;
-    let mut put = new_put(alloc, None)?;
-    let last = feed_all(&mut parts, &mut put, &[RUST]);
-    let compact = parts.key.to_compact();
-    if let Ok(compact) = &compact {
-        let _ = parts
-            .store
-            .purge(PurgeTarget::Active(compact), PurgeType::Invalidation);
-    }
-    let told = end(&mut parts, &mut put, last);
-    put.end(&mut parts.store);
-    Ok(told)
-}
-
-// A put that is ended behind its last piece, and never finished.
-fn told_when_dropped(alloc: Global) -> Result<Told> {
-    let mut parts = Parts::new(alloc)?;
-    let mut put = new_put(alloc, None)?;
-    let last = feed_all(&mut parts, &mut put, &[RUST]);
-    put.end(&mut parts.store);
-    Ok(Told {
-        last,
-        end: Said::GoesOn,
-        stored: parts.store.stored_bytes(),
-        records: parts.store.write_records(),
-    })
-}
-
-#[test]
-fn a_write_that_was_removed_stores_nothing(
-    rt: HostRuntime,
-) -> std::result::Result<(), std::test::Fail> {
-    let removed = Said::Refused(ErrorType::WriteRemoved);
-    assert_eq!(rt;
-        told_when_purged(rt.alloc())?,
-        nothing(Said::GoesOn, removed)
-    );
-    assert_eq!(rt;
-        told_when_dropped(rt.alloc())?,
-        nothing(Said::GoesOn, Said::GoesOn)
-    );
-    Ok(())
-}
-
-// What is read of a key that a put filled: how many bytes the first read gives, and whether the next one is the end.
-fn read(parts: &mut Parts) -> Result<Option<(usize, bool)>> {
-    let Some((_meta, mut hit)) = parts.store.lookup(parts.alloc, &parts.key)? else {
-        return Ok(None);
-    };
-    let first = hit.read_body(parts.alloc, &mut parts.store);
-    let then = hit.read_body(parts.alloc, &mut parts.store);
-    hit.let_go(&mut parts.store);
-    let is_over = matches!(then?, Poll::Ready(None));
-    match first? {
-        Poll::Ready(Some(bytes)) => Ok(Some((bytes.len(), is_over))),
-        _ => Ok(None),
+    if is_last_fed {
+        finished(parts, put)
+    } else {
+        None
     }
 }
 
-fn read_of_an_empty_one(alloc: Global) -> Result<Option<(usize, bool)>> {
-    let mut parts = Parts::new(alloc)?;
-    let mut put = new_put(alloc, None)?;
-    let last = feed_all(&mut parts, &mut put, &[b"HTTP/1.1 204 OK\r\n\r\n"]);
-    let _ = end(&mut parts, &mut put, last);
-    put.end(&mut parts.store);
-    read(&mut parts)
-}
-
-#[test]
-fn a_response_without_a_body_is_read_as_an_empty_one(
-    rt: HostRuntime,
-) -> std::result::Result<(), std::test::Fail> {
-    assert_eq!(rt; read_of_an_empty_one(rt.alloc())?, Some((0, true)));
-    Ok(())
-}
-
-// How many bytes a piece wrote, and whether they were the last; whether it began a write; and whether the put goes on.
-fn take(
-    parts: &mut Parts,
-    put: &mut CachePutCtx<OneSecond, MemCache>,
-    piece: &[u8],
-) -> (usize, bool, bool, bool) {
-    let PieceReport { began, wrote, end } = put.take_piece(piece, &mut parts.store, Moment::EPOCH);
-    let (count, eof) = match wrote {
-        Some(wrote) => (wrote.bytes.len(), wrote.eof),
-        None => (0, false),
-    };
-    let goes_on = match end {
-        PieceEnd::GoesOn => true,
-        PieceEnd::NotCached(_) => false,
-        PieceEnd::Refused(_, writer) => {
-            if let Some(writer) = writer {
-                writer.drop_write(&mut parts.store);
-            }
-            false
+fn is_stored_cut_anywhere(alloc: Global) -> bool {
+    for cut in 0..RUST.len() {
+        if !is_stored(alloc, Some(cut)) {
+            return false;
         }
-    };
-    (count, eof, began.is_some(), goes_on)
-}
-
-// The calls of a put in two pieces and at its end: what each piece did, whether a write was in flight between them, and
-// whether the entry that the manager tracks then is told, with its weight.
-#[derive(Clone, Copy, Debug, PartialEq, Eq)]
-struct Calls {
-    first: (usize, bool, bool, bool),
-    flying: bool,
-    second: (usize, bool, bool, bool),
-    told: bool,
-    weight: usize,
-}
-
-// Whether the put is stored at its end, and its entry told.
-fn is_told(parts: &mut Parts, put: &mut CachePutCtx<OneSecond, MemCache>) -> bool {
-    let PutReport { end, entry, .. } = put.end_put(&mut parts.store, &mut parts.manager);
-    matches!(end, PutEnd::Stored(_)) && entry.is_some()
-}
-
-fn two_calls(alloc: Global, limit: Option<usize>, first: &[u8], second: &[u8]) -> Result<Calls> {
-    let mut parts = Parts::new(alloc)?;
-    let mut put = new_put(alloc, limit)?;
-    let first = take(&mut parts, &mut put, first);
-    let flying = put.writer().is_some();
-    let second = take(&mut parts, &mut put, second);
-    let told = is_told(&mut parts, &mut put);
-    put.end(&mut parts.store);
-    Ok(Calls {
-        first,
-        flying,
-        second,
-        told,
-        weight: parts.manager.total_size(),
-    })
+    }
+    true
 }
 
 #[test]
-fn calls_tell_what_they_did(rt: HostRuntime) -> std::result::Result<(), std::test::Fail> {
-    let (head, rest) = RUST.split_at(RUST.len() - 2);
-    let whole = two_calls(rt.alloc(), None, head, rest)?;
-    assert_eq!(rt; whole.first, (2, false, true, true));
-    assert_eq!(rt; whole.second, (2, true, false, true));
-    assert!(rt; whole.flying && whole.told && whole.weight == 4);
-    let long = two_calls(rt.alloc(), Some(3), b"HTTP/1.1 200 OK\r\n\r\nrust", b"")?;
-    assert_eq!(rt;
-        (long.first, long.second),
-        ((0, false, true, false), (0, false, false, false))
-    );
-    assert!(rt; !long.flying && !long.told && long.weight == 0);
-    Ok(())
+fn a_put_is_stored_however_it_is_cut(rt: HostRuntime) {
+    assert!(rt; is_stored_cut_anywhere(rt.alloc()));
+    assert!(rt; is_stored(rt.alloc(), None));
+}
+
+const ANSWERS: &str = r#"
+    # a response that says that it is not to be stored
+    feed HTTP/1.1 200 OK\r\nContent-Length: 4\r\nCache-Control: no-store\r\n\r\n -> OriginNotCache
+    feed ru -> OriginNotCache
+    finish -> OriginNotCache
+    total -> 0 bytes, weight 0, 0 writes
+
+    # a body that ends early
+    feed HTTP/1.1 200 OK\r\nContent-Length: 4\r\n\r\n -> goes on
+    feed ru -> goes on
+    finish -> IncompleteHttpBody
+    total -> 0 bytes, weight 0, 0 writes
+
+    # a status without a body
+    feed HTTP/1.1 204 OK\r\nContent-Length: 4\r\n\r\n -> goes on
+    feed rust -> goes on
+    finish -> stored 0
+    total -> 0 bytes, weight 0, 0 writes
+
+    # a length beyond the limit
+    limit 3
+    feed HTTP/1.1 200 OK\r\nContent-Length: 4\r\n\r\n -> ResponseTooLarge
+    feed rust -> ResponseTooLarge
+    finish -> ResponseTooLarge
+    total -> 0 bytes, weight 0, 0 writes
+
+    limit 3
+    feed HTTP/1.1 204 OK\r\nContent-Length: 4\r\n\r\n -> ResponseTooLarge
+    feed -> ResponseTooLarge
+    finish -> ResponseTooLarge
+    total -> 0 bytes, weight 0, 0 writes
+
+    # a body beyond the limit
+    limit 3
+    feed HTTP/1.1 200 OK\r\n\r\n -> goes on
+    feed rust -> ResponseTooLarge
+    finish -> ResponseTooLarge
+    total -> 0 bytes, weight 0, 0 writes
+
+    limit 3
+    feed HTTP/1.1 200 OK\r\n\r\nrus -> goes on
+    feed t -> ResponseTooLarge
+    finish -> ResponseTooLarge
+    total -> 0 bytes, weight 0, 0 writes
+
+    # a body at the limit
+    limit 4
+    feed HTTP/1.1 200 OK\r\n\r\nrus -> goes on
+    feed t -> goes on
+    finish -> stored 4
+    total -> 4 bytes, weight 4, 0 writes
+
+    # bytes behind the body
+    feed HTTP/1.1 200 OK\r\nContent-Length: 4\r\n\r\nrust -> goes on
+    feed XX -> goes on
+    finish -> stored 4
+    total -> 4 bytes, weight 4, 0 writes
+
+    # no head, since it ends early
+    feed HTTP/1.1\  -> goes on
+    feed 2x -> goes on
+    finish -> IncompleteHttpBody
+    total -> 0 bytes, weight 0, 0 writes
+
+    # no head, since there is none
+    feed HTTP/1.1 2x -> goes on
+    feed \r\n\r\n -> InvalidHttpHeader
+    finish -> InvalidHttpHeader
+    total -> 0 bytes, weight 0, 0 writes
+
+    # a length that is private
+    feed HTTP/1.1 200 OK\r\nCache-Control: private="content-length"\r\nContent-Length: 4\r\n\r\n -> goes on
+    feed rust -> goes on
+    finish -> stored 4
+    total -> 4 bytes, weight 4, 0 writes"#;
+
+#[test]
+fn puts_answer_as_their_bytes_say(rt: HostRuntime) {
+    run(&rt, rt.alloc(), ANSWERS);
+}
+
+const REFUSED: &str = r"
+    feed HTTP/1.1 2x\r\n\r\n -> InvalidHttpHeader
+    feed HTTP/1.1 200 OK\r\nContent-Length: 4\r\n\r\nrust -> InvalidHttpHeader
+    finish -> InvalidHttpHeader
+    total -> 0 bytes, weight 0, 0 writes
+
+    limit 3
+    feed HTTP/1.1 200 OK\r\n\r\nrust -> ResponseTooLarge
+    feed -> ResponseTooLarge
+    finish -> ResponseTooLarge
+    total -> 0 bytes, weight 0, 0 writes
+
+    feed HTTP/1.1 200 OK\r\nCache-Control: no-store\r\n\r\n -> OriginNotCache
+    feed HTTP/1.1 2x\r\n\r\n -> OriginNotCache
+    feed HTTP/1.1 2x\r\n\r\n -> OriginNotCache
+    finish -> OriginNotCache
+    total -> 0 bytes, weight 0, 0 writes";
+
+#[test]
+fn a_refused_put_answers_alike_from_then_on(rt: HostRuntime) {
+    run(&rt, rt.alloc(), REFUSED);
+}
+
+const FIELDS: &str = "
+    feed-fields 256 -> goes on
+    finish -> stored 0
+    total -> 0 bytes, weight 0, 0 writes
+
+    feed-fields 257 -> InvalidHttpHeader
+    finish -> InvalidHttpHeader
+    total -> 0 bytes, weight 0, 0 writes";
+
+#[test]
+fn a_head_has_256_fields_at_most(rt: HostRuntime) {
+    run(&rt, rt.alloc(), FIELDS);
+}
+
+const REMOVED: &str = r"
+    # its key is purged between its last piece and its end
+    feed HTTP/1.1 200 OK\r\nContent-Length: 4\r\n\r\nrust -> goes on
+    purge
+    finish -> WriteRemoved
+    total -> 0 bytes, weight 0, 0 writes
+
+    # it is ended behind its last piece, and never finished
+    feed HTTP/1.1 200 OK\r\nContent-Length: 4\r\n\r\nrust -> goes on
+    drop
+    total -> 0 bytes, weight 0, 0 writes";
+
+#[test]
+fn a_write_that_was_removed_stores_nothing(rt: HostRuntime) {
+    run(&rt, rt.alloc(), REMOVED);
+}
+
+const EMPTY: &str = r"
+    feed HTTP/1.1 204 OK\r\n\r\n -> goes on
+    finish -> stored 0
+    read -> 0 bytes, end";
+
+#[test]
+fn a_response_without_a_body_is_read_as_an_empty_one(rt: HostRuntime) {
+    run(&rt, rt.alloc(), EMPTY);
+}
+
+const TOLD: &str = r"
+    take HTTP/1.1 200 OK\r\nContent-Length: 4\r\n\r\nru -> 2 bytes, begins
+    in-flight -> yes
+    take st -> 2 bytes, the last
+    end-telling -> stored
+    total -> 4 bytes, weight 4, 0 writes
+
+    limit 3
+    take HTTP/1.1 200 OK\r\n\r\nrust -> 0 bytes, begins, ends
+    in-flight -> no
+    take -> 0 bytes, ends
+    end-telling -> not stored
+    total -> 0 bytes, weight 0, 0 writes";
+
+#[test]
+fn calls_tell_what_they_did(rt: HostRuntime) {
+    run(&rt, rt.alloc(), TOLD);
 }

@@ -31,7 +31,7 @@ struct Slow {
 
 impl Slow {
     // The permit that a request for the key would wait on: the last one that was asked for under
-    // it, where that waits.
+    // it, if that waits.
     fn waiting(&self, key: u8) -> Option<u64> {
         let mut number = 0u64;
         let mut found = None;

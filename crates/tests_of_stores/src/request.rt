@@ -1,28 +1,33 @@
-//! One request's way through a store, a manager and a lock table, call by call.
-use bytes::Bytes;
+//! Requests over a store, a manager and a lock table, call by call: a row names a request, its call, and what was answered.
+use crate::rows::{Desk, Told, number, play, word};
 use http::StatusCode;
 use pcache_base::error::Result;
+use pcache_base::fills::{UnusableFill, UnusableFills};
 use pcache_base::key::CacheKey;
 use pcache_base::moment::Moment;
-use pcache_base::poll::Poll;
 use pcache_base::reason::NoCacheReason;
 use pcache_evict::eviction::simple_lru::Manager;
-use pcache_lock::lock::{CacheKeyLock, CacheLock, LockStatus, Locked};
+use pcache_lock::lock::CacheLock;
 use pcache_meta::header::ResponseHeader;
 use pcache_meta::meta::CacheMeta;
+use pcache_predict::admission::{AdmissionPolicy, Decision};
+use pcache_predict::predictor::Predictor;
 use pcache_request::cache::*;
 use pcache_request::phase::*;
 use pcache_store::memory::MemCache;
-use pcache_store::storage::{HandleHit, HandleMiss, PurgeTarget, PurgeType, Storage};
 use std::alloc::Global;
 use std::process::Abort;
-use std::test::Fail;
 use std::time::Duration;
 
+mod asks;
+mod calls;
 mod choices;
+mod lookups;
 mod phases;
 mod variants;
 mod waits;
+
+type Request = HttpCache<MemCache>;
 
 const ALL_BUT_THE_PREDICTOR: InUse = InUse {
     eviction: true,
@@ -30,13 +35,40 @@ const ALL_BUT_THE_PREDICTOR: InUse = InUse {
     lock: true,
 };
 
-// What requests are lent.
+const WITH_PREDICTOR: InUse = InUse {
+    eviction: true,
+    predictor: true,
+    lock: true,
+};
+
+// Decides to store what is asked for the second time.
+#[derive(Drop)]
+struct SecondTime {
+    observed: u32,
+}
+
+impl AdmissionPolicy for SecondTime {
+    fn observe(&mut self, _key: &CacheKey) -> Decision {
+        self.observed = self.observed.saturating_add(1);
+        let observed = self.observed;
+        if observed < 2 {
+            Decision::Defer { observed }
+        } else {
+            Decision::Ready { observed }
+        }
+    }
+}
+
+// What requests are lent, and what second it is.
 #[derive(Drop)]
 struct Parts {
     alloc: Global,
     store: MemCache,
     manager: Manager,
     lock: CacheLock,
+    predictor: Predictor<1>,
+    policy: SecondTime,
+    now: Moment,
 }
 
 impl Parts {
@@ -46,275 +78,285 @@ impl Parts {
             store: MemCache::new(alloc),
             manager: Manager::new(alloc, 9)?,
             lock: CacheLock::new(alloc, Duration::from_secs(10)),
+            predictor: Predictor::new(alloc, 3, None)?,
+            policy: SecondTime { observed: 0 },
+            now: Moment::EPOCH,
         })
     }
 }
 
-fn key_of(alloc: Global, name: &str) -> Result<CacheKey> {
-    let primary = name.as_bytes().to_vec(alloc)?;
-    Ok(CacheKey::new(primary, String::from_str(alloc, "1")?))
+// Five requests by their numbers, over their parts.
+struct Room {
+    parts: Parts,
+    one: Request,
+    two: Request,
+    three: Request,
+    four: Request,
+    five: Request,
 }
 
-fn meta_until(alloc: Global, fresh_until: u64) -> CacheMeta {
-    let header = ResponseHeader::build(alloc, StatusCode::OK);
-    CacheMeta::new(Moment::from_secs(fresh_until), Moment::EPOCH, 0, 0, header)
-}
-
-// Turns caching on and sets the key.
-fn start(rt: &impl Abort, cache: &mut HttpCache<MemCache>, key: CacheKey) {
-    assert!(rt; cache.phase().is_disabled() && cache.key().is_none());
-    cache.enable(ALL_BUT_THE_PREDICTOR);
-    assert_eq!(rt; cache.phase().as_str(), "uninitialized");
-    assert_eq!(rt; cache.uses(), ALL_BUT_THE_PREDICTOR);
-    assert!(rt; cache.phase().may_take_key());
-    cache.set_cache_key(key);
-    assert!(rt; matches!(cache.key(), Some(key) if key.primary_key() == b"k".as_slice()));
-}
-
-// Looks the key up, finds nothing, and stores `ab` with a meta that is fresh until second 60.
-fn fill(
-    rt: &impl Abort,
-    parts: &mut Parts,
-    cache: &mut HttpCache<MemCache>,
-) -> std::result::Result<(), Fail> {
-    assert!(rt; cache.phase().may_look_up() && cache.held().is_none());
-    let found = cache.cache_lookup(&mut parts.store, &mut parts.lock, Moment::EPOCH)?;
-    if let Some((_meta, hit)) = found {
-        hit.let_go(&mut parts.store);
-        panic!(rt; "nothing was stored");
+impl Room {
+    fn new(parts: Parts) -> Room {
+        let alloc = parts.alloc;
+        Room {
+            parts,
+            one: HttpCache::new(alloc),
+            two: HttpCache::new(alloc),
+            three: HttpCache::new(alloc),
+            four: HttpCache::new(alloc),
+            five: HttpCache::new(alloc),
+        }
     }
-    assert!(rt; matches!(cache.held(), Some(held) if held.is_write()));
-    assert!(rt; cache.phase().may_miss());
-    cache.cache_miss();
-    assert!(rt; cache.may_take_meta() && !cache.may_write());
-    cache.set_cache_meta(meta_until(parts.alloc, 60));
-    assert!(rt; matches!(cache.meta(), Some(meta) if meta.fresh_until().secs() == 60));
-    assert!(rt; cache.may_write() && cache.miss_body_reader(&parts.store).is_none());
-    cache.set_miss_handler(&mut parts.store, &mut parts.lock)?;
-    assert!(rt; cache.writer().is_some() && cache.held().is_none() && cache.has_body_reader());
-    assert!(rt; cache.phase().is_filling());
-    let Some(handler) = cache.miss_handler() else {
-        panic!(rt; "a write began")
-    };
-    assert!(rt; !handler.at_eof(&parts.store));
-    handler.write_body(&mut parts.store, Bytes::from_static(b"ab".as_slice()), true)?;
-    let Some(reader) = cache.miss_body_reader(&parts.store) else {
-        panic!(rt; "a write is read while it is made")
-    };
-    let read = reader.read_body(parts.alloc, &mut parts.store)?;
-    assert!(rt; matches!(&read, Poll::Ready(Some(bytes)) if bytes.as_slice() == b"ab".as_slice()));
-    assert!(rt; cache.phase().is_filling());
-    let report = cache.finish_miss_handler(&mut parts.store, &mut parts.manager, &mut parts.lock)?;
-    let Some(report) = report else {
-        panic!(rt; "there was a write")
-    };
-    assert_eq!(rt;
-        (report.size, report.evicted.len(), report.failed_purges),
-        (2, 0, 0)
-    );
-    assert!(rt; cache.phase().is_filling());
-    let again = cache.end_write(&mut parts.store, &mut parts.manager, &mut parts.lock);
-    assert!(rt; matches!(again.end, WriteEnd::Nothing) && again.released.is_none());
-    Ok(())
-}
 
-// Looks the key up twice, and stores an empty body: each call tells of the locks and of the entry.
-fn fill_telling(
-    rt: &impl Abort,
-    parts: &mut Parts,
-    cache: &mut HttpCache<MemCache>,
-) -> std::result::Result<(), Fail> {
-    let permit = LockName {
-        number: 0,
-        is_permit: true,
-    };
-    let wait = LockName {
-        number: 0,
-        is_permit: false,
-    };
-    let first = AskedLock {
-        given: permit,
-        replaced: None,
-    };
-    assert!(rt; ask(rt, parts, cache)? == Some(first));
-    let second = AskedLock {
-        given: wait,
-        replaced: Some(permit),
-    };
-    assert!(rt; ask(rt, parts, cache)? == Some(second));
-    assert!(rt; cache.phase().may_miss());
-    cache.cache_miss();
-    assert!(rt; cache.may_take_meta());
-    cache.set_cache_meta(meta_until(parts.alloc, 60));
-    assert!(rt; begin(rt, parts, cache)? == Some(wait));
-    assert!(rt; end(rt, parts, cache).is_none());
-    Ok(())
-}
-
-// Begins a write, and answers the lock that was released.
-fn begin(
-    rt: &impl Abort,
-    parts: &mut Parts,
-    cache: &mut HttpCache<MemCache>,
-) -> std::result::Result<Option<LockName>, Fail> {
-    assert!(rt; cache.may_write());
-    let WriteBegin { released, joined } = cache.begin_write(&mut parts.store, &mut parts.lock)?;
-    joined?;
-    Ok(released)
-}
-
-// Ends a write, and answers the lock that was released.
-fn end(rt: &impl Abort, parts: &mut Parts, cache: &mut HttpCache<MemCache>) -> Option<LockName> {
-    assert!(rt; cache.phase().is_filling());
-    let told = cache.end_write(&mut parts.store, &mut parts.manager, &mut parts.lock);
-    told.released
-}
-
-// Looks for the key, which is not there, and answers the lock that was asked for.
-fn ask(
-    rt: &impl Abort,
-    parts: &mut Parts,
-    cache: &mut HttpCache<MemCache>,
-) -> std::result::Result<Option<AskedLock>, Fail> {
-    assert!(rt; cache.phase().may_look_up());
-    let LookUp { found, asked } = cache.look_up(&mut parts.store, &mut parts.lock, Moment::EPOCH)?;
-    if let Some((_meta, hit)) = found {
-        hit.let_go(&mut parts.store);
-        panic!(rt; "nothing was stored");
+    fn end(self) {
+        let Room {
+            mut parts,
+            one,
+            two,
+            three,
+            four,
+            five,
+        } = self;
+        end_one(&mut parts, one);
+        end_one(&mut parts, two);
+        end_one(&mut parts, three);
+        end_one(&mut parts, four);
+        end_one(&mut parts, five);
     }
-    Ok(asked)
+
+    // The parts, and a request by its number.
+    fn at(&mut self, number: u64) -> (&mut Parts, &mut Request) {
+        let parts = &mut self.parts;
+        match number {
+            1 => (parts, &mut self.one),
+            2 => (parts, &mut self.two),
+            3 => (parts, &mut self.three),
+            4 => (parts, &mut self.four),
+            _ => (parts, &mut self.five),
+        }
+    }
 }
 
-// Looks the key up, and takes the hit with this status.
-fn take(
-    rt: &impl Abort,
-    parts: &mut Parts,
-    cache: &mut HttpCache<MemCache>,
-    status: HitStatus,
-) -> std::result::Result<(), Fail> {
-    assert!(rt; cache.phase().may_look_up());
-    let found = cache.cache_lookup(&mut parts.store, &mut parts.lock, Moment::EPOCH)?;
-    let Some((meta, hit)) = found else {
-        panic!(rt; "a body was stored")
-    };
-    Ok(cache.cache_found(
-        &mut parts.store,
-        &mut parts.manager,
-        &mut parts.lock,
-        meta,
-        hit,
-        status,
-        Moment::EPOCH,
-    )?)
+fn end_one(parts: &mut Parts, request: Request) {
+    let _let_go = request.end(&mut parts.store, &mut parts.lock);
 }
 
-// Takes what was stored as expired, and then as fresh, and reads it to its end.
-fn serve(
-    rt: &impl Abort,
-    parts: &mut Parts,
-    cache: &mut HttpCache<MemCache>,
-) -> std::result::Result<(), Fail> {
-    take(rt, parts, cache, HitStatus::Expired)?;
-    assert_eq!(rt; cache.phase().as_str(), "stale");
-    assert!(rt; matches!(cache.held(), Some(held) if held.is_write()));
-    take(rt, parts, cache, HitStatus::Fresh)?;
-    assert_eq!(rt; cache.phase().as_str(), "hit");
-    assert!(rt; matches!(cache.meta(), Some(meta) if meta.fresh_until().secs() == 60));
-    assert!(rt; cache.phase().is_reading());
-    assert!(rt; cache.has_body_reader());
-    assert_eq!(rt; cache.hit_handler().get_eviction_weight(), 2);
-    assert!(rt; cache.has_body_reader());
-    let read = cache.read_body(&mut parts.store)?;
-    assert!(rt; matches!(&read, Poll::Ready(Some(bytes)) if bytes.as_slice() == b"ab".as_slice()));
-    assert!(rt; cache.has_body_reader());
-    assert!(rt; matches!(cache.read_body(&mut parts.store)?, Poll::Ready(None)));
-    Ok(())
-}
-
-// What was stored is there to be purged once.
-fn purge(
-    rt: &impl Abort,
-    parts: &mut Parts,
-    cache: &mut HttpCache<MemCache>,
-) -> std::result::Result<(), Fail> {
-    assert!(rt; cache.phase().may_purge());
-    let removal = cache.purge_key(&mut parts.store, &mut parts.manager)?;
-    assert!(rt; removal.was_there() && removal.untracked.is_some());
-    assert!(rt; cache.phase().may_purge());
-    assert!(rt; !cache.purge(&mut parts.store, &mut parts.manager)?);
-    Ok(())
-}
-
-// What was stored is there to be purged beside the request, once.
-fn purge_beside(
-    rt: &impl Abort,
-    parts: &mut Parts,
-    cache: &mut HttpCache<MemCache>,
-) -> std::result::Result<(), Fail> {
-    assert!(rt; cache.phase().may_spawn_purge());
-    assert!(rt; cache.spawn_async_purge(&mut parts.store, &mut parts.manager, "a test")?);
-    assert!(rt; cache.phase().may_spawn_purge());
-    let removal = cache.spawn_purge(&mut parts.store, &mut parts.manager)?;
-    assert!(rt; !removal.was_there());
-    Ok(())
-}
-
-// What a request is made for.
+// What a call answers: a word, and perhaps a number.
 #[derive(Clone, Copy)]
-enum Errand {
-    Fill,
-    FillTelling,
-    Serve,
-    Purge,
-    PurgeBeside,
+struct Said {
+    word: &'static str,
+    number: Option<u64>,
 }
 
-// Makes a request for the key and ends it, also where its errand failed.
-fn run(
-    rt: &impl Abort,
-    parts: &mut Parts,
-    key: CacheKey,
-    errand: Errand,
-) -> std::result::Result<(), Fail> {
-    let mut cache = HttpCache::new(parts.alloc);
-    start(rt, &mut cache, key);
-    let done = match errand {
-        Errand::Fill => fill(rt, parts, &mut cache),
-        Errand::FillTelling => fill_telling(rt, parts, &mut cache),
-        Errand::Serve => serve(rt, parts, &mut cache),
-        Errand::Purge => purge(rt, parts, &mut cache),
-        Errand::PurgeBeside => purge_beside(rt, parts, &mut cache),
+fn word_of(word: &'static str) -> Said {
+    Said { word, number: None }
+}
+
+fn counted(word: &'static str, number: u64) -> Said {
+    Said {
+        word,
+        number: Some(number),
+    }
+}
+
+fn made(may: bool) -> Said {
+    word_of(if may { "ok" } else { "wrong" })
+}
+
+fn tell_said(said: Result<Said>, told: &mut Told) {
+    match said {
+        Ok(said) => {
+            told.say(said.word);
+            if let Some(number) = said.number {
+                told.say(" ");
+                told.number(number);
+            }
+        }
+        Err(refused) => told.refused(&refused),
+    }
+}
+
+impl Desk for Room {
+    fn tell(&mut self, call: &'static str, told: &mut Told) {
+        match word(call, 1) {
+            "second" => {
+                self.parts.now = Moment::from_secs(number(call, 0));
+                told.say("ok");
+            }
+            "gives" => tell_said(
+                Ok(calls::give(self, number(call, 0), number(call, 2))),
+                told,
+            ),
+            "renews" => tell_said(calls::renew_between(self, call), told),
+            _ => {
+                let (parts, cache) = self.at(number(call, 0));
+                tell_of(parts, cache, call, told);
+            }
+        }
+    }
+}
+
+// What a request tells of itself, or what comes of a call that it makes.
+fn tell_of(parts: &mut Parts, cache: &mut Request, call: &'static str, told: &mut Told) {
+    if !asks::tell(parts, cache, call, told) {
+        tell_said(make(parts, cache, call), told);
+    }
+}
+
+// Makes a call of one request.
+fn make(parts: &mut Parts, cache: &mut Request, call: &'static str) -> Result<Said> {
+    match lookups::make(parts, cache, call)? {
+        Some(said) => Ok(said),
+        None => calls::make(parts, cache, call),
+    }
+}
+
+fn reason(word: &'static str) -> NoCacheReason {
+    match word {
+        "NeverEnabled" => NoCacheReason::NeverEnabled,
+        "StorageError" => NoCacheReason::StorageError,
+        "OriginNotCache" => NoCacheReason::OriginNotCache,
+        "CacheLockTimeout" => NoCacheReason::CacheLockTimeout,
+        "ResponseTooLarge" => NoCacheReason::ResponseTooLarge,
+        _ => NoCacheReason::InternalError,
+    }
+}
+
+// The key of all requests, with a variance of sixteen times one byte, which cannot use the fill of a token.
+fn key_with(alloc: Global, variance: Option<u8>, token: Option<u64>) -> Result<CacheKey> {
+    let primary = b"k".to_vec(alloc)?;
+    let mut key = CacheKey::new(primary, String::from_str(alloc, "1")?);
+    if let Some(byte) = variance {
+        key.set_variance_key([byte; 16]);
+    }
+    if let Some(token) = token {
+        key.unusable = Some(too_large(alloc, token)?);
+    }
+    Ok(key)
+}
+
+fn too_large(alloc: Global, token: u64) -> Result<UnusableFills> {
+    let fill = UnusableFill {
+        token,
+        reason: "too large",
     };
-    let _let_go = cache.end(&mut parts.store, &mut parts.lock);
-    done
+    Ok(UnusableFills::new(vec![in alloc; fill]?))
 }
 
-#[test]
-fn a_body_is_stored_read_and_purged(rt: HostRuntime) -> std::result::Result<(), Fail> {
-    let alloc = rt.alloc();
-    let mut parts = Parts::new(alloc)?;
-    let key = key_of(alloc, "k")?;
-    run(&rt, &mut parts, key.copied()?, Errand::Fill)?;
-    assert_eq!(rt; (parts.store.stored_bytes(), parts.store.slots()), (2, 1));
-    assert_eq!(rt;
-        (parts.manager.total_size(), parts.manager.total_items()),
-        (2, 1)
-    );
-    assert_eq!(rt; parts.store.write_records(), 0);
-    run(&rt, &mut parts, key.copied()?, Errand::Serve)?;
-    run(&rt, &mut parts, key, Errand::Purge)?;
-    assert_eq!(rt;
-        (parts.store.stored_bytes(), parts.manager.total_items()),
-        (0, 0)
-    );
-    Ok(())
+// Of a response that was made now.
+fn meta_until(parts: &Parts, fresh_until: u64) -> CacheMeta {
+    let header = ResponseHeader::build(parts.alloc, StatusCode::OK);
+    CacheMeta::new(Moment::from_secs(fresh_until), parts.now, 0, 0, header)
 }
 
+// Plays rows; those after an empty line are played over parts of their own.
+fn run(rt: &impl Abort, alloc: Global, rows: &'static str) {
+    for section in rows.split("\n\n") {
+        run_section(rt, alloc, section);
+    }
+}
+
+fn run_section(rt: &impl Abort, alloc: Global, rows: &'static str) {
+    match Parts::new(alloc) {
+        Ok(parts) => {
+            let mut room = Room::new(parts);
+            play(rt, alloc, &mut room, rows);
+            room.end();
+        }
+        Err(_refused) => assert!(rt; false),
+    }
+}
+
+const STORED_READ_AND_PURGED: &str = "
+    1 is disabled -> yes
+    1 has key -> no
+    1 enable
+    1 word -> uninitialized
+    1 uses -> InUse { eviction: true, predictor: false, lock: true }
+    1 may take-key -> yes
+    1 key
+    1 has named-key -> yes
+    1 may look-up -> yes
+    1 held -> none
+    1 look -> none
+    1 held -> permit
+    1 may miss -> yes
+    1 miss
+    1 may take-meta -> yes
+    1 may write -> no
+    1 meta 60
+    1 times -> 60 0 0 0
+    1 may write -> yes
+    1 has miss-reader -> no
+    1 begin
+    1 has writer -> yes
+    1 held -> none
+    1 has reader -> yes
+    1 is filling -> yes
+    1 write ab
+    1 reread -> data ab
+    1 is filling -> yes
+    1 finish -> stored 2
+    1 is filling -> yes
+    1 end-write -> no write
+    1 leaves
+    0 total -> 2 in 1, weight 2 in 1, 0 writes
+    # it is taken as expired, and then as fresh, and read to its end
+    2 enable
+    2 key
+    2 expired
+    2 word -> stale
+    2 held -> permit
+    2 fresh
+    2 word -> hit
+    2 times -> 60 0 0 0
+    2 is reading -> yes
+    2 has reader -> yes
+    2 weight -> 2
+    2 has reader -> yes
+    2 read -> data ab
+    2 has reader -> yes
+    2 read -> end
+    2 leaves
+    # it is there to be purged once
+    3 enable
+    3 key
+    3 may purge -> yes
+    3 purge-telling -> there
+    3 may purge -> yes
+    3 purge -> not there
+    3 leaves
+    0 total -> 0 in 0, weight 0 in 0, 0 writes";
+
 #[test]
-fn calls_tell_what_they_did(rt: HostRuntime) -> std::result::Result<(), Fail> {
-    let alloc = rt.alloc();
-    let mut parts = Parts::new(alloc)?;
-    let key = key_of(alloc, "k")?;
-    run(&rt, &mut parts, key.copied()?, Errand::FillTelling)?;
-    run(&rt, &mut parts, key, Errand::PurgeBeside)
+fn a_body_is_stored_read_and_purged(rt: HostRuntime) {
+    run(&rt, rt.alloc(), STORED_READ_AND_PURGED);
+}
+
+// Each call tells of the locks and of the entry.
+const TOLD: &str = "
+    1 enable
+    1 key
+    1 asks -> permit 0
+    1 asks -> read 0 for permit 0
+    1 may miss -> yes
+    1 miss
+    1 may take-meta -> yes
+    1 meta 60
+    1 may write -> yes
+    1 begin-telling -> read 0
+    1 is filling -> yes
+    1 end-write
+    1 leaves
+    # an empty body is there to be purged beside the request, once
+    2 enable
+    2 key
+    2 may spawn-purge -> yes
+    2 purge-beside -> there
+    2 may spawn-purge -> yes
+    2 purge-beside-telling -> not there";
+
+#[test]
+fn calls_tell_what_they_did(rt: HostRuntime) {
+    run(&rt, rt.alloc(), TOLD);
 }

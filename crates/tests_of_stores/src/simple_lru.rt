@@ -1,352 +1,169 @@
-use Step::*;
+//! The manager with one list.
+use crate::managers::{COUNTED, EVICTED, NEVER_READ, compact, entry, run};
 use pcache_base::error::Result;
-use pcache_base::key::CompactCacheKey;
-use pcache_base::moment::Moment;
-use pcache_base::text::Text;
 use pcache_evict::eviction::simple_lru::Manager;
 use pcache_evict::eviction::{CacheEntryId, CacheEntryKey, EvictionManager};
 use std::alloc::Global;
-use std::fmt::Write;
-use std::process::Abort;
-use std::test::*;
+use std::test::Fail;
 
-const NEVER_READ: Moment = Moment::EPOCH;
-
-// A call on a manager. A letter names the key-only entry whose primary hash repeats it.
-#[derive(Clone, Copy)]
-enum Step {
-    Admit(u8, usize),
-    Access(u8, usize),
-    Raise(u8, usize, Option<usize>),
-    Remove(u8),
-    Load(u8, usize),
+#[test]
+fn the_least_recent_go(rt: HostRuntime) {
+    run(&rt, rt.alloc(), false, EVICTED);
 }
 
-fn compact(alloc: Global, name: u8, tag: &str) -> Result<CompactCacheKey> {
-    Ok(CompactCacheKey {
-        primary: [name; 16],
-        variance: None,
-        user_tag: Text::new(String::from_str(alloc, tag)?),
+#[test]
+fn weights_are_raised_and_the_watermark_bounds_the_number(rt: HostRuntime) {
+    run(&rt, rt.alloc(), false, COUNTED);
+}
+
+const LISTED: &str = "
+    # an access adds and evicts nothing
+    limit 4: use a 1, use b 2, use c 2 -> --- | c2 b2 a1 | 3 of 5, 0 of 0 went
+    limit 0: admit a 0, admit b 1 -> ab | | 0 of 0, 2 of 1 went
+    # weights are raised
+    limit 4: raise a 2 -> | a2 | 1 of 2, 0 of 0 went
+    limit 4: raise a 2, raise b 100 3 -> a | b3 | 1 of 3, 1 of 2 went
+    # loaded entries stand at the back
+    limit 5: load a 1, load b 2, load c 3, load b 9 -> | b9 a1 c3 | 3 of 13, 0 of 0 went
+    # totals stop at the largest number
+    limit 3: use a 18446744073709551615, use b 18446744073709551615, admit c 3, admit d 1 -> --abc | d1 | 1 of 1, 3 of 18446744073709551615 went
+    # a watermark of nothing
+    limit 0 watermark 0: admit a 0 -> a | | 0 of 0, 1 of 0 went";
+
+#[test]
+fn entries_are_listed_and_counted(rt: HostRuntime) {
+    run(&rt, rt.alloc(), false, LISTED);
+}
+
+fn admit(manager: &mut Manager, entry: &CacheEntryKey) -> Result<Vec<CacheEntryKey>> {
+    manager.admit(entry.copied()?, 1, NEVER_READ)
+}
+
+// Whether exactly this entry went, or none.
+fn is_gone(gone: Result<Vec<CacheEntryKey>>, entry: Option<&CacheEntryKey>) -> bool {
+    match gone {
+        Ok(gone) => gone.first() == entry && gone.len() < 2,
+        Err(_refused) => false,
+    }
+}
+
+// Two entries, and a manager with room for one of them.
+#[derive(Drop)]
+struct Two {
+    manager: Manager,
+    first: CacheEntryKey,
+    second: CacheEntryKey,
+}
+
+// Admits both, and answers whether exactly the first went, at the second call.
+fn second_evicts_first(it: &mut Two) -> bool {
+    is_gone(admit(&mut it.manager, &it.first), None)
+        && is_gone(admit(&mut it.manager, &it.second), Some(&it.first))
+        && it.manager.total_size() == 1
+}
+
+fn identified(alloc: Global, number: u64) -> Result<CacheEntryKey> {
+    let key = compact(alloc, b'a', "1")?;
+    Ok(CacheEntryKey::identified(key, CacheEntryId::new(number)))
+}
+
+fn two_numbers(alloc: Global) -> Result<Two> {
+    let first = identified(alloc, 1)?;
+    let (second, manager) = (identified(alloc, 2)?, Manager::new(alloc, 1)?);
+    Ok(Two {
+        manager,
+        first,
+        second,
     })
 }
 
-fn entry(alloc: Global, name: u8) -> Result<CacheEntryKey> {
-    Ok(CacheEntryKey::key_only(compact(alloc, name, "1")?))
-}
-
-// Does the step, and writes down what went.
-fn take(manager: &mut Manager, alloc: Global, step: Step, told: &mut String) -> Result<()> {
-    let out = match step {
-        Admit(name, size) => manager.admit(entry(alloc, name)?, size, NEVER_READ)?,
-        Raise(name, delta, most) => manager.increment_weight(&entry(alloc, name)?, delta, most)?,
-        Access(name, size) => {
-            let was = manager.access(&entry(alloc, name)?, size, NEVER_READ)?;
-            told.push_str(if was { "+" } else { "-" })?;
-            Vec::new(alloc)
-        }
-        Remove(name) => {
-            manager.remove(&entry(alloc, name)?);
-            Vec::new(alloc)
-        }
-        Load(name, size) => {
-            manager.load_entry(entry(alloc, name)?, size)?;
-            Vec::new(alloc)
-        }
-    };
-    for gone in &out {
-        told.push(char::from(gone.key().primary[0]))?;
-    }
-    Ok(())
-}
-
-// What the steps answered, then the list and the totals.
-fn told(alloc: Global, manager: &mut Manager, steps: &[Step]) -> Result<String> {
-    let mut told = String::new(alloc);
-    for step in steps {
-        take(manager, alloc, *step, &mut told)?;
-    }
-    told.push_str(" |")?;
-    for (key, size) in &manager.entries()? {
-        told.push(' ')?;
-        told.push(char::from(key.key().primary[0]))?;
-        told.push_str(format!(in alloc; "{size}")?.as_str())?;
-    }
-    let size = manager.total_size();
-    let items = manager.total_items();
-    let gone = manager.evicted_items();
-    let weight = manager.evicted_size();
-    told.push_str(format!(in alloc; " | {items} of {size}, {gone} of {weight} went")?.as_str())?;
-    Ok(told)
-}
-
-// Whether the steps answer this.
-fn tells(alloc: Global, manager: &mut Manager, steps: &[Step], wanted: &str) -> Result<bool> {
-    let text = told(alloc, manager, steps)?;
-    Ok(text.as_str() == wanted)
-}
-
-fn check(rt: &impl Abort, alloc: Global, limit: usize, steps: &[Step], wanted: &str) -> Result<()> {
-    let is_told = tells(alloc, &mut Manager::new(alloc, limit)?, steps, wanted)?;
-    assert!(rt; is_told, "{wanted}");
-    Ok(())
-}
-
-#[test]
-fn the_least_recent_go(rt: HostRuntime) -> std::result::Result<(), Fail> {
-    let alloc = rt.alloc();
-    let steps = [
-        Admit(b'a', 1),
-        Admit(b'b', 2),
-        Admit(b'c', 1),
-        Admit(b'd', 2),
-    ];
-    check(&rt, alloc, 4, &steps, "ab | d2 c1 | 2 of 3, 2 of 3 went")?;
-    // what was used stays
-    let steps = [
-        Admit(b'a', 1),
-        Admit(b'b', 2),
-        Admit(b'c', 1),
-        Access(b'a', 9),
-        Admit(b'd', 2),
-    ];
-    check(&rt, alloc, 4, &steps, "+b | d2 a1 c1 | 3 of 4, 1 of 2 went")?;
-    // an entry that is taken out makes room
-    let steps = [
-        Admit(b'a', 1),
-        Admit(b'b', 2),
-        Admit(b'c', 1),
-        Remove(b'a'),
-        Admit(b'd', 2),
-    ];
-    check(&rt, alloc, 4, &steps, "b | d2 c1 | 2 of 3, 1 of 2 went")?;
-    Ok(())
-}
-
-#[test]
-fn an_access_adds_and_evicts_nothing(rt: HostRuntime) -> std::result::Result<(), Fail> {
-    let alloc = rt.alloc();
-    let steps = [Access(b'a', 1), Access(b'b', 2), Access(b'c', 2)];
-    check(
-        &rt,
-        alloc,
-        4,
-        &steps,
-        "--- | c2 b2 a1 | 3 of 5, 0 of 0 went",
-    )?;
-    let steps = [
-        Access(b'a', 1),
-        Access(b'b', 2),
-        Access(b'c', 2),
-        Admit(b'd', 2),
-    ];
-    check(&rt, alloc, 4, &steps, "---ab | d2 c2 | 2 of 4, 2 of 3 went")?;
-    Ok(())
-}
-
-#[test]
-fn an_entry_takes_the_weight_it_is_admitted_with(rt: HostRuntime) -> std::result::Result<(), Fail> {
-    let alloc = rt.alloc();
-    let steps = [
-        Admit(b'a', 1),
-        Admit(b'b', 2),
-        Admit(b'c', 1),
-        Admit(b'b', 1),
-        Admit(b'd', 1),
-        Admit(b'd', 2),
-    ];
-    check(&rt, alloc, 4, &steps, "a | d2 b1 c1 | 3 of 4, 1 of 1 went")?;
-    // one that is too heavy goes itself
-    check(
-        &rt,
-        alloc,
-        3,
-        &[Admit(b'a', 4)],
-        "a | | 0 of 0, 1 of 4 went",
-    )?;
-    check(
-        &rt,
-        alloc,
-        0,
-        &[Admit(b'a', 0), Admit(b'b', 1)],
-        "ab | | 0 of 0, 2 of 1 went",
-    )?;
-    Ok(())
-}
-
-#[test]
-fn weights_are_raised(rt: HostRuntime) -> std::result::Result<(), Fail> {
-    let alloc = rt.alloc();
-    check(
-        &rt,
-        alloc,
-        4,
-        &[Raise(b'a', 2, None)],
-        " | a2 | 1 of 2, 0 of 0 went",
-    )?;
-    let steps = [Raise(b'a', 2, None), Raise(b'b', 100, Some(3))];
-    check(&rt, alloc, 4, &steps, "a | b3 | 1 of 3, 1 of 2 went")?;
-    let steps = [
-        Raise(b'a', 2, None),
-        Raise(b'b', 100, Some(3)),
-        Raise(b'b', 100, Some(2)),
-    ];
-    check(&rt, alloc, 4, &steps, "a | b3 | 1 of 3, 1 of 2 went")?;
-    // by nothing, and with less as the most
-    let steps = [
-        Raise(b'a', 0, None),
-        Raise(b'b', 3, None),
-        Raise(b'b', 100, Some(2)),
-    ];
-    check(&rt, alloc, 10, &steps, " | b3 a1 | 2 of 4, 0 of 0 went")?;
-    Ok(())
-}
-
-#[test]
-fn loaded_entries_stand_at_the_back(rt: HostRuntime) -> std::result::Result<(), Fail> {
-    let steps = [Load(b'a', 1), Load(b'b', 2), Load(b'c', 3), Load(b'b', 9)];
-    check(
-        &rt,
-        rt.alloc(),
-        5,
-        &steps,
-        " | b9 a1 c3 | 3 of 13, 0 of 0 went",
-    )?;
-    Ok(())
-}
-
-#[test]
-fn totals_stop_at_the_largest_number(rt: HostRuntime) -> std::result::Result<(), Fail> {
-    let steps = [
-        Access(b'a', usize::MAX),
-        Access(b'b', usize::MAX),
-        Admit(b'c', 3),
-        Admit(b'd', 1),
-    ];
-    let wanted = "--abc | d1 | 1 of 1, 3 of 18446744073709551615 went";
-    check(&rt, rt.alloc(), 3, &steps, wanted)?;
-    Ok(())
-}
-
-#[test]
-fn the_watermark_bounds_the_number(rt: HostRuntime) -> std::result::Result<(), Fail> {
-    let alloc = rt.alloc();
-    let mut manager = Manager::new_with_watermark(alloc, 1000, Some(4))?;
-    let steps = [
-        Admit(b'a', 1),
-        Admit(b'b', 1),
-        Admit(b'c', 1),
-        Admit(b'd', 1),
-        Admit(b'e', 1),
-        Admit(b'f', 1),
-    ];
-    watermark_is_kept(&rt, alloc, &mut manager, &steps)?;
-    let mut manager = Manager::new_with_watermark(alloc, 0, Some(0))?;
-    let is_told = tells(
-        alloc,
-        &mut manager,
-        &[Admit(b'a', 0)],
-        "a | | 0 of 0, 1 of 0 went",
-    )?;
-    assert!(rt; is_told);
-    Ok(())
-}
-
-fn peeks(alloc: Global, manager: &Manager, name: u8) -> Result<bool> {
-    Ok(manager.peek(&entry(alloc, name)?))
-}
-
-fn watermark_is_kept(
-    rt: &impl Abort,
-    alloc: Global,
-    manager: &mut Manager,
-    steps: &[Step],
-) -> Result<()> {
-    let is_told = tells(
-        alloc,
+fn two_tags(alloc: Global) -> Result<Two> {
+    let first = entry(alloc, b'a', "1")?;
+    let (second, manager) = (entry(alloc, b'a', "2")?, Manager::new(alloc, 1)?);
+    Ok(Two {
         manager,
-        steps,
-        "ab | f1 e1 d1 c1 | 4 of 4, 2 of 2 went",
-    )?;
-    assert!(rt; is_told);
-    let (third, second) = (peeks(alloc, manager, b'c')?, peeks(alloc, manager, b'b')?);
-    assert!(rt; third && !second);
-    Ok(())
+        first,
+        second,
+    })
 }
 
-// Admits both, and answers how many of the first call and whether exactly the first entry of the second went.
-fn second_evicts_first(
-    alloc: Global,
-    manager: &mut Manager,
-    first: CacheEntryKey,
-    second: CacheEntryKey,
-) -> Result<bool> {
-    let copy = first.copied()?;
-    let none = manager.admit(first, 1, NEVER_READ)?.is_empty();
-    let out = manager.admit(second, 1, NEVER_READ)?;
-    Ok(none && out.len() == 1 && out.first() == Some(&copy))
+fn are_told_apart(two: Result<Two>) -> bool {
+    match two {
+        Ok(mut two) => second_evicts_first(&mut two),
+        Err(_refused) => false,
+    }
 }
 
 #[test]
-fn entries_of_one_key_are_told_apart(rt: HostRuntime) -> std::result::Result<(), Fail> {
-    let alloc = rt.alloc();
-    let first = CacheEntryKey::identified(compact(alloc, b'a', "1")?, CacheEntryId::new(1));
-    let second = CacheEntryKey::identified(compact(alloc, b'a', "1")?, CacheEntryId::new(2));
-    let evicts = second_evicts_first(alloc, &mut Manager::new(alloc, 1)?, first, second)?;
-    assert!(rt; evicts);
-    Ok(())
+fn entries_of_one_key_are_told_apart(rt: HostRuntime) {
+    assert!(rt; are_told_apart(two_numbers(rt.alloc())));
 }
 
 #[test]
-fn tags_of_one_key_are_told_apart(rt: HostRuntime) -> std::result::Result<(), Fail> {
-    let alloc = rt.alloc();
-    let other = CacheEntryKey::key_only(compact(alloc, b'a', "2")?);
-    let mut manager = Manager::new(alloc, 1)?;
-    let evicts = second_evicts_first(alloc, &mut manager, entry(alloc, b'a')?, other)?;
-    assert!(rt; evicts);
-    assert_eq!(rt; manager.total_size(), 1);
-    Ok(())
+fn tags_of_one_key_are_told_apart(rt: HostRuntime) {
+    assert!(rt; are_told_apart(two_tags(rt.alloc())));
 }
 
-fn admits_and_raises(
-    rt: &impl Abort,
-    boxed: &mut Box<dyn EvictionManager + Send>,
-    a: &CacheEntryKey,
-    b: &CacheEntryKey,
-) -> Result<()> {
-    assert!(rt; boxed.admit(a.copied()?, 2, NEVER_READ)?.is_empty());
-    assert!(rt; !boxed.access(b, 1, NEVER_READ)?);
-    assert!(rt; boxed.peek(b));
-    let out = boxed.increment_weight(b, 3, None)?;
-    assert!(rt; out.len() == 1 && out.first() == Some(a));
-    assert_eq!(rt; (boxed.total_size(), boxed.total_items()), (4, 1));
-    assert_eq!(rt; (boxed.evicted_size(), boxed.evicted_items()), (2, 1));
+type Boxed = Box<dyn EvictionManager + Send>;
+
+// Admits both, by the trait.
+fn takes_both(boxed: &mut Boxed, a: &CacheEntryKey, b: &CacheEntryKey) -> bool {
+    let Ok(copy) = a.copied() else {
+        return false;
+    };
+    is_gone(boxed.admit(copy, 2, NEVER_READ), None)
+        && matches!(boxed.access(b, 1, NEVER_READ), Ok(false))
+        && boxed.peek(b)
+}
+
+// Whether the one goes when the other's weight is raised.
+fn is_raised(boxed: &mut Boxed, a: &CacheEntryKey, b: &CacheEntryKey) -> bool {
+    is_gone(boxed.increment_weight(b, 3, None), Some(a))
+        && boxed.total_size() == 4
+        && boxed.total_items() == 1
+        && boxed.evicted_size() == 2
+        && boxed.evicted_items() == 1
+}
+
+fn is_emptied(boxed: &mut Boxed, b: &CacheEntryKey) -> bool {
     boxed.remove(b);
-    assert_eq!(rt; boxed.entries()?.len(), 0);
-    Ok(())
+    match boxed.entries() {
+        Ok(entries) => entries.is_empty(),
+        Err(_refused) => false,
+    }
 }
 
 #[test]
 fn a_boxed_manager_is_one(rt: HostRuntime) -> std::result::Result<(), Fail> {
     let alloc = rt.alloc();
-    let manager = Manager::new(alloc, 4)?;
-    let mut boxed: Box<dyn EvictionManager + Send> = Box::new(alloc, manager)?;
-    Ok(admits_and_raises(&rt, &mut boxed, &entry(alloc, b'a')?, &entry(alloc, b'b')?)?)
+    let mut boxed: Boxed = Box::new(alloc, Manager::new(alloc, 4)?)?;
+    let (a, b) = (entry(alloc, b'a', "1")?, entry(alloc, b'b', "1")?);
+    let is_good = takes_both(&mut boxed, &a, &b)
+        && is_raised(&mut boxed, &a, &b)
+        && is_emptied(&mut boxed, &b);
+    assert!(rt; is_good);
+    Ok(())
+}
+
+// Admits 50,000 entries, if 5,000 have room.
+fn admits_all(alloc: Global, manager: &mut Manager) -> bool {
+    for number in 0..50000u64 {
+        if admit_number(alloc, manager, number).is_err() {
+            return false;
+        }
+    }
+    manager.evicted_items() == 45000
+}
+
+fn admit_number(alloc: Global, manager: &mut Manager, number: u64) -> Result<Vec<CacheEntryKey>> {
+    manager.admit(identified(alloc, number)?, 1, NEVER_READ)
 }
 
 #[test]
-fn many_admissions_are_fast(rt: HostRuntime) -> std::result::Result<(), Fail> {
-    let alloc = rt.alloc();
-    let mut manager = Manager::new(alloc, 5000)?;
-    admit_all(alloc, &mut manager)?;
-    assert_eq!(rt; manager.evicted_items(), 45000);
-    Ok(())
-}
-
-fn admit_all(alloc: Global, manager: &mut Manager) -> Result<()> {
-    for number in 0..50000u64 {
-        let key = compact(alloc, b'a', "1")?;
-        let item = CacheEntryKey::identified(key, CacheEntryId::new(number));
-        drop(manager.admit(item, 1, NEVER_READ)?);
-    }
-    Ok(())
+fn many_admissions_are_fast(rt: HostRuntime) {
+    let is_good = match Manager::new(rt.alloc(), 5000) {
+        Ok(mut manager) => admits_all(rt.alloc(), &mut manager),
+        Err(_refused) => false,
+    };
+    assert!(rt; is_good);
 }

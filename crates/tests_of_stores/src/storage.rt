@@ -1,3 +1,4 @@
+//! Targets of purges, and numbers of writes.
 use pcache_base::error::{ErrorType, Result};
 use pcache_base::key::CompactCacheKey;
 use pcache_base::text::Text;
@@ -5,7 +6,6 @@ use pcache_evict::eviction::{CacheEntryId, CacheEntryKey, CacheEntryKeyRef};
 use pcache_store::storage::PurgeTarget;
 use pcache_store::storage::streaming_write::{U32WriteId, U64WriteId};
 use std::alloc::Global;
-use std::test::Fail;
 
 fn compact(alloc: Global) -> Result<CompactCacheKey> {
     Ok(CompactCacheKey {
@@ -15,71 +15,100 @@ fn compact(alloc: Global) -> Result<CompactCacheKey> {
     })
 }
 
-fn entry_42(alloc: Global) -> Result<CacheEntryKey> {
-    Ok(CacheEntryKey::identified(compact(alloc)?, CacheEntryId::new(42)))
+// A key, and its entry of number 42.
+#[derive(Drop)]
+struct Named {
+    key: CompactCacheKey,
+    entry: CacheEntryKey,
 }
 
-#[test]
-fn a_removed_entry_is_the_one_named(rt: HostRuntime) -> std::result::Result<(), Fail> {
-    let id = CacheEntryId::new(42);
-    let key = compact(rt.alloc())?;
-    let entry = CacheEntryKey::identified(compact(rt.alloc())?, id);
-    let (target, active) = (PurgeTarget::Exact(&entry), PurgeTarget::Active(&key));
-    assert!(rt; target.removed_entry(None) == CacheEntryKeyRef::from(&entry));
-    assert!(rt; target.removed_entry(Some(id)) == CacheEntryKeyRef::from(&entry));
-    assert!(rt; active.removed_entry(Some(id)) == CacheEntryKeyRef::from(&entry));
-    assert!(rt; active.key() == target.key());
-    assert!(rt; active != target);
-    Ok(())
-}
-
-fn prints_as(
-    alloc: Global,
-    target: PurgeTarget<'_>,
-    wanted: &str,
-) -> std::result::Result<bool, Fail> {
-    let text = format!(in alloc; "{target}")?;
-    Ok(text.as_str() == wanted)
-}
-
-#[test]
-fn targets_are_printed(rt: HostRuntime) -> std::result::Result<(), Fail> {
-    let alloc = rt.alloc();
+fn name(alloc: Global) -> Result<Named> {
     let key = compact(alloc)?;
-    assert!(rt;
-        prints_as(
-            alloc,
-            PurgeTarget::Active(&key),
-            "active entry for abababababababababababababababab, user_tag: 1"
-        )?
-    );
-    let entry = entry_42(alloc)?;
-    assert!(rt;
-        prints_as(
-            alloc,
-            PurgeTarget::Exact(&entry),
-            "abababababababababababababababab, user_tag: 1, entry ID: 2a"
-        )?
-    );
-    Ok(())
+    let entry = CacheEntryKey::identified(compact(alloc)?, CacheEntryId::new(42));
+    Ok(Named { key, entry })
+}
+
+fn is_named(key: &CompactCacheKey, entry: &CacheEntryKey) -> bool {
+    let (target, active) = (PurgeTarget::Exact(entry), PurgeTarget::Active(key));
+    active.key() == target.key() && active != target
+}
+
+// Whether what is removed is the entry of number 42, of the one that a target names and of a key's active one.
+fn is_removed(alloc: Global) -> Result<bool> {
+    let id = CacheEntryId::new(42);
+    let key = compact(alloc)?;
+    let entry = CacheEntryKey::identified(compact(alloc)?, id);
+    let (target, active) = (PurgeTarget::Exact(&entry), PurgeTarget::Active(&key));
+    let removed = [
+        target.removed_entry(None) == CacheEntryKeyRef::from(&entry),
+        target.removed_entry(Some(id)) == CacheEntryKeyRef::from(&entry),
+        active.removed_entry(Some(id)) == CacheEntryKeyRef::from(&entry),
+    ];
+    Ok(removed == [true; 3] && is_named(&key, &entry))
 }
 
 #[test]
-fn numbers_of_writes_are_bytes(rt: HostRuntime) -> std::result::Result<(), Fail> {
-    let id = U64WriteId::from(0x0102_0304_0506_0708_u64);
-    assert_eq!(rt; id.as_bytes(), [1, 2, 3, 4, 5, 6, 7, 8].as_slice());
-    assert_eq!(rt;
-        u64::from(U64WriteId::try_from([0, 0, 0, 0, 0, 0, 1, 0].as_slice())?),
-        256
-    );
+fn a_removed_entry_is_the_one_named(rt: HostRuntime) {
+    assert!(rt; matches!(is_removed(rt.alloc()), Ok(true)));
+}
+
+fn prints_as(alloc: Global, target: PurgeTarget<'_>, wanted: &str) -> bool {
+    match format!(in alloc; "{target}") {
+        Ok(text) => text.as_str() == wanted,
+        Err(_refused) => false,
+    }
+}
+
+fn are_printed(alloc: Global, it: &Named) -> bool {
+    let active = "active entry for abababababababababababababababab, user_tag: 1";
+    let exact = "abababababababababababababababab, user_tag: 1, entry ID: 2a";
+    prints_as(alloc, PurgeTarget::Active(&it.key), active)
+        && prints_as(alloc, PurgeTarget::Exact(&it.entry), exact)
+}
+
+#[test]
+fn targets_are_printed(rt: HostRuntime) {
+    let is_good = match name(rt.alloc()) {
+        Ok(it) => are_printed(rt.alloc(), &it),
+        Err(_refused) => false,
+    };
+    assert!(rt; is_good);
+}
+
+fn long_of(bytes: &[u8]) -> Option<u64> {
+    match U64WriteId::try_from(bytes) {
+        Ok(id) => Some(u64::from(id)),
+        Err(_refused) => None,
+    }
+}
+
+fn short_of(bytes: &[u8]) -> Option<u32> {
+    match U32WriteId::try_from(bytes) {
+        Ok(id) => Some(u32::from(id)),
+        Err(_refused) => None,
+    }
+}
+
+fn are_read() -> bool {
+    long_of([0, 0, 0, 0, 0, 0, 1, 0].as_slice()) == Some(256)
+        && short_of([1, 0, 0, 0].as_slice()) == Some(0x0100_0000)
+}
+
+fn are_written() -> bool {
+    let long = U64WriteId::from(0x0102_0304_0506_0708_u64);
     let short = U32WriteId::from(7);
-    assert_eq!(rt; short.as_bytes(), [0, 0, 0, 7].as_slice());
-    assert_eq!(rt;
-        u32::from(U32WriteId::try_from([1, 0, 0, 0].as_slice())?),
-        0x0100_0000
-    );
-    let refused = U64WriteId::try_from([0; 4].as_slice()).map_err(|e| e.etype());
-    assert_eq!(rt; refused.is_err(), true);
-    assert_eq!(rt; refused.err(), Some(ErrorType::InternalError));
-    Ok(())
+    long.as_bytes() == [1, 2, 3, 4, 5, 6, 7, 8].as_slice()
+        && short.as_bytes() == [0, 0, 0, 7].as_slice()
+}
+
+fn is_too_short() -> bool {
+    match U64WriteId::try_from([0; 4].as_slice()) {
+        Ok(_id) => false,
+        Err(refused) => refused.etype() == ErrorType::InternalError,
+    }
+}
+
+#[test]
+fn numbers_of_writes_are_bytes(rt: HostRuntime) {
+    assert!(rt; are_written() && are_read() && is_too_short());
 }

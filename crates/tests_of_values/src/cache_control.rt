@@ -1,293 +1,353 @@
-//! Worked rows.
-
+//! Lines of Cache-Control: worked rows. A row's lines stand between bars.
+//! They are hand-computed from RFC 9111 (1.2.2, 4.2.1, 5.2), RFC 5861 and RFC 9110 (5.6.1, 5.6.4), some after
+//! upstream's tests.
+use crate::heads::append;
+use crate::rows::{Desk, Told, play, rest, unescape, word};
 use http::StatusCode;
-use http_header::HeaderValue;
-use pcache_base::error::{Error, ErrorType};
+use http_header::HeaderMap;
+use pcache_base::error::{ErrorType, Result};
 use pcache_control::cache_control::{
     CacheControl, Cacheable, DELTA_SECONDS_OVERFLOW_VALUE, DirectiveKey, DirectiveValue,
     InterpretCacheControl, ListValueIter, delta_seconds_overflow_duration,
 };
 use pcache_meta::header::ResponseHeader;
 use std::alloc::Global;
-use std::process::Abort;
-use std::test::Fail;
 use std::time::Duration;
 
-// A response with these lines of Cache-Control.
-fn with_lines(alloc: Global, lines: &[&[u8]]) -> Result<ResponseHeader, Fail> {
-    let mut header = ResponseHeader::build(alloc, StatusCode::OK);
-    for line in lines {
-        let value = HeaderValue::from_bytes(alloc, *line)?;
-        let _found = header.headers.append("cache-control", value)?;
-    }
-    Ok(header)
+// The bytes of one line.
+#[derive(Drop)]
+struct Lines {
+    alloc: Global,
+    line: Vec<u8>,
 }
 
-fn read(alloc: Global, lines: &[&[u8]]) -> Result<CacheControl, Fail> {
-    let header = with_lines(alloc, lines)?;
-    match CacheControl::from_resp_headers(alloc, &header)? {
-        Some(cc) => Ok(cc),
-        None => Err(Fail::from(Error::new(ErrorType::InternalError))),
+fn no_lines(alloc: Global) -> Lines {
+    Lines {
+        alloc,
+        line: Vec::new(alloc),
     }
 }
 
-// The directives in order, as text.
-fn listed(alloc: Global, cc: &CacheControl) -> Result<Vec<u8>, Fail> {
-    let mut text = Vec::new(alloc);
-    for (key, value) in &cc.directives {
-        text.extend_from_slice(key.as_str().as_bytes())?;
-        if let Some(value) = value {
-            text.push(b'=')?;
-            text.extend_from_slice(value.0.as_slice())?;
+impl Desk for Lines {
+    fn tell(&mut self, call: &'static str, told: &mut Told) {
+        match word(call, 0) {
+            "items" | "seconds" | "unquoted" => {
+                if unescape(rest(call), &mut self.line) {
+                    tell_of_text(self.alloc, self.line.as_slice(), word(call, 0), told);
+                }
+            }
+            "key" => tell_key(self.alloc, word(call, 1), told),
+            "owned-key" => tell_owned_key(self.alloc, word(call, 1), told),
+            _ => tell_of_lines(self.alloc, &mut self.line, call, told),
         }
-        text.push(b'|')?;
     }
-    Ok(text)
 }
 
-// Whether a line has these directives, as text.
-fn lists(alloc: Global, line: &[u8], wanted: &[u8]) -> Result<bool, Fail> {
-    let cc = read(alloc, &[line])?;
-    let text = listed(alloc, &cc)?;
-    Ok(text.as_slice() == wanted)
-}
-
-#[test]
-fn directives_by_name(rt: HostRuntime) -> Result<(), Fail> {
-    let rows: [(&[u8], &[u8]); 9] = [
-        (b"max-age=10;;public", b"max-age=10|public|"),
-        (b"a\xFF=1,\t b=2", b"b=2|"),
-        (b"a=b=c, d", b"a=b|d|"),
-        (b"max-age=", b"max-age|"),
-        (b"private, private=\"x\"", b"private=\"x\"|"),
-        (b" max-age=5", b""),
-        (b"private=\"a, b", b"private|b|"),
-        (
-            b"max-age=5; S-MaxAge=7, max-age=6",
-            b"max-age=6|s-maxage=7|",
-        ),
-        (b"a=\"b\\\",c\";,d", b"a=\"b\\\",c\"|d|"),
-    ];
-    for (line, wanted) in rows {
-        assert!(rt; lists(rt.alloc(), line, wanted)?);
+fn tell_of_lines(alloc: Global, bytes: &mut Vec<u8>, call: &'static str, told: &mut Told) {
+    let mut header = ResponseHeader::build(alloc, StatusCode::OK);
+    if append_all(alloc, &mut header.headers, bytes, rest(call)) {
+        tell_read(CacheControl::from_resp_headers(alloc, &header), call, told);
     }
-    Ok(())
 }
 
-// What a line says of storing, and for how many seconds.
-fn says(alloc: Global, line: &[u8]) -> Result<(Cacheable, Option<u64>), Fail> {
-    let cc = read(alloc, &[line])?;
-    Ok((
-        cc.is_cacheable(),
-        cc.fresh_duration().map(|it| it.as_secs()),
-    ))
-}
-
-#[test]
-fn what_lines_say(rt: HostRuntime) -> Result<(), Fail> {
-    let rows: [(&[u8], Cacheable, Option<u64>); 10] = [
-        (b"max-age=10;;public", Cacheable::Yes, Some(10)),
-        (b"max-age=", Cacheable::Yes, None),
-        (b"max-age=\"10\"", Cacheable::Yes, Some(10)),
-        (b"private, private=\"x\"", Cacheable::Default, None),
-        (b" max-age=5", Cacheable::Default, None),
-        (b"private=\"a, b", Cacheable::No, None),
-        (b"max-age=5; S-MaxAge=7, max-age=6", Cacheable::Yes, Some(7)),
-        (b"s-maxage=x, max-age=5", Cacheable::Yes, None),
-        (b"s-maxage, max-age=5", Cacheable::Yes, Some(5)),
-        (b"no-cache, max-age=5", Cacheable::Yes, Some(0)),
-    ];
-    for (line, cacheable, fresh) in rows {
-        assert!(rt; says(rt.alloc(), line)? == (cacheable, fresh));
+fn append_all(
+    alloc: Global,
+    headers: &mut HeaderMap,
+    bytes: &mut Vec<u8>,
+    lines: &'static str,
+) -> bool {
+    for line in lines.split('|') {
+        let is_taken = unescape(line, bytes)
+            && append(alloc, headers, "cache-control", bytes.as_slice());
+        if !is_taken {
+            return false;
+        }
     }
-    Ok(())
+    true
 }
 
-// Whether the lines make a response private, and what they say of storing.
-fn privacy(alloc: Global, lines: &[&[u8]]) -> Result<(bool, Cacheable), Fail> {
-    let cc = read(alloc, lines)?;
-    Ok((cc.private(), cc.is_cacheable()))
+fn tell_read(cc: Result<Option<CacheControl>>, call: &'static str, told: &mut Told) {
+    match cc {
+        Ok(Some(cc)) => tell_one(cc, word(call, 0), told),
+        Ok(None) => told.say("nothing"),
+        Err(refused) => told.refused(&refused),
+    }
 }
 
-#[test]
-fn the_last_value_of_a_directive_counts(rt: HostRuntime) -> Result<(), Fail> {
-    assert!(rt; privacy(rt.alloc(), &[b"private=\"x\"", b"private"])? == (true, Cacheable::No));
-    assert!(rt; !privacy(rt.alloc(), &[b"private, private=\"x\""])?.0);
-    Ok(())
+fn tell_one(cc: CacheControl, what: &str, told: &mut Told) {
+    if what == "float-max-age" {
+        tell_number(told, cc.with_float_seconds().max_age());
+    } else {
+        tell_of(&cc, what, told);
+    }
 }
 
-fn has_max_age(rt: &impl Abort, cc: &CacheControl) {
-    assert!(rt; cc.has_key("max-age"));
-    assert!(rt; !cc.has_key("Max-Age"));
-    assert!(rt; cc.has_directive(&DirectiveKey::MaxAge));
-    assert!(rt; !cc.only_if_cached());
+fn tell_of(cc: &CacheControl, what: &str, told: &mut Told) {
+    match what {
+        "lists" => list(cc, told),
+        "says" => says(cc, told),
+        "private" => told.yes_or_no(cc.private()),
+        "no-cache" => told.yes_or_no(cc.no_cache()),
+        _ => tell_whether(cc, what, told),
+    }
 }
 
-#[test]
-fn directives_are_found_by_their_lower_case_names(rt: HostRuntime) -> Result<(), Fail> {
-    has_max_age(&rt, &read(rt.alloc(), &[b"max-age=1"])?);
-    assert!(rt; read(rt.alloc(), &[b"Own-Name=1"])?.has_key("own-name"));
-    Ok(())
+fn tell_whether(cc: &CacheControl, what: &str, told: &mut Told) {
+    match what {
+        "has-max-age" => told.yes_or_no(cc.has_directive(&DirectiveKey::MaxAge)),
+        "only-if-cached" => told.yes_or_no(cc.only_if_cached()),
+        _ => tell_more_of(cc, what, told),
+    }
 }
 
-// The items, each behind a bar.
-fn joined(alloc: Global, items: Option<ListValueIter<'_>>) -> Result<Vec<u8>, Fail> {
-    let mut text = Vec::new(alloc);
+fn tell_more_of(cc: &CacheControl, what: &str, told: &mut Told) {
+    match what {
+        "no-cache-names" => join(cc.no_cache_field_names(), told),
+        "private-names" => join(cc.private_field_names(), told),
+        "flags" => flags(cc, told),
+        "windows" => windows(cc, told),
+        _ => has(cc, what, told),
+    }
+}
+
+// The directives in order.
+fn list(cc: &CacheControl, told: &mut Told) {
+    if cc.directives.is_empty() {
+        told.say("empty");
+    }
+    for (key, value) in &cc.directives {
+        list_one(key.as_str(), value.as_ref(), told);
+    }
+}
+
+fn list_one(key: &str, value: Option<&DirectiveValue>, told: &mut Told) {
+    told.say(key);
+    if let Some(value) = value {
+        told.say("=");
+        told.bytes(value.0.as_slice());
+    }
+    told.say(";");
+}
+
+// What is said of storing, and for how many seconds.
+fn says(cc: &CacheControl, told: &mut Told) {
+    told.say(match cc.is_cacheable() {
+        Cacheable::Yes => "yes",
+        Cacheable::No => "no",
+        Cacheable::Default => "default",
+    });
+    tell_seconds(told, cc.fresh_duration());
+}
+
+fn tell_seconds(told: &mut Told, time: Option<Duration>) {
+    told.say(" ");
+    match time {
+        Some(time) => told.number(time.as_secs()),
+        None => told.say("none"),
+    }
+}
+
+// Whether the directive that the call names after a colon is there.
+fn has(cc: &CacheControl, what: &str, told: &mut Told) {
+    match what.split_once(':') {
+        Some((_verb, name)) => told.yes_or_no(cc.has_key(name)),
+        None => told.say("no such call"),
+    }
+}
+
+// The items, each after a slash.
+fn join(items: Option<ListValueIter<'_>>, told: &mut Told) {
     if let Some(items) = items {
         for item in items {
-            text.push(b'|')?;
-            text.extend_from_slice(item)?;
+            told.say("/");
+            told.bytes(item);
         }
     }
-    Ok(text)
 }
 
-fn joins_as(alloc: Global, items: Option<ListValueIter<'_>>, wanted: &[u8]) -> Result<bool, Fail> {
-    let text = joined(alloc, items)?;
-    Ok(text.as_slice() == wanted)
+fn flags(cc: &CacheControl, told: &mut Told) {
+    flag(told, cc.no_store(), "no-store ");
+    flag(told, cc.must_revalidate(), "must-revalidate ");
+    flag(told, cc.proxy_revalidate(), "proxy-revalidate ");
+    flag(told, cc.public(), "public ");
+    flag(told, cc.allow_caching_authorized_req(), "authorized");
 }
 
-fn lists_its_names(rt: &impl Abort, alloc: Global, cc: &CacheControl) -> Result<(), Fail> {
-    assert!(rt; !cc.no_cache());
-    assert!(rt; joins_as(alloc, cc.no_cache_field_names(), b"|meta1|SeT-Cookie|meta2")?);
-    assert!(rt; joins_as(alloc, cc.private_field_names(), b"|a")?);
-    Ok(())
-}
-
-#[test]
-fn listed_field_names(rt: HostRuntime) -> Result<(), Fail> {
-    let alloc = rt.alloc();
-    let line = b"no-cache=\"meta1, SeT-Cookie ,meta2\", private=a";
-    lists_its_names(&rt, alloc, &read(alloc, &[line])?)?;
-    let value = value(alloc, b"\t,b\t c ")?;
-    assert!(rt; joins_as(alloc, Some(ListValueIter::from(&value)), b"||b\t c")?);
-    Ok(())
-}
-
-fn value(alloc: Global, text: &[u8]) -> Result<DirectiveValue, Fail> {
-    Ok(DirectiveValue(Vec::from_slice(alloc, text)?))
-}
-
-// The number, or none where the value was refused as unreadable.
-fn number(answer: Result<u32, Error>) -> Option<u32> {
-    match answer {
-        Ok(seconds) => Some(seconds),
-        Err(e) if e.etype() == ErrorType::InternalError => None,
-        Err(_) => Some(u32::MAX - 1),
+fn flag(told: &mut Told, is_set: bool, name: &str) {
+    if is_set {
+        told.say(name);
     }
 }
 
-// What a text is as whole seconds, and as seconds whose parts are cut off.
-fn seconds(alloc: Global, text: &[u8]) -> Result<(Option<u32>, Option<u32>), Fail> {
-    let value = value(alloc, text)?;
-    Ok((
-        number(value.parse_as_delta_seconds()),
-        number(value.parse_as_delta_seconds_floor()),
-    ))
-}
-
-#[test]
-fn numbers_of_seconds(rt: HostRuntime) -> Result<(), Fail> {
-    let alloc = rt.alloc();
-    let whole: [(&[u8], Option<u32>); 8] = [
-        (b"4294967295", Some(4294967295)),
-        (b"4294967296", Some(2147483647)),
-        (b"+7", Some(7)),
-        (b"99999999999x", None),
-        (b"", None),
-        (b"+", None),
-        (b"\"10\"", Some(10)),
-        (b"-1", None),
-    ];
-    for (text, wanted) in whole {
-        assert!(rt; seconds(alloc, text)? == (wanted, wanted));
+fn tell_number(told: &mut Told, number: Result<Option<u32>>) {
+    told.say(" ");
+    match number {
+        Ok(Some(number)) => told.number(u64::from(number)),
+        Ok(None) => told.say("none"),
+        Err(_refused) => told.say("unreadable"),
     }
-    let floor: [(&[u8], Option<u32>); 7] = [
-        (b"1.9", Some(1)),
-        (b".5", Some(0)),
-        (b"5.", Some(5)),
-        (b"4294967295.0", Some(2147483647)),
-        (b"1e3", None),
-        (b".", None),
-        (b"1.2.3", None),
-    ];
-    for (text, wanted) in floor {
-        assert!(rt; seconds(alloc, text)? == (None, wanted));
+}
+
+// The numbers, and how long what is stale is served.
+fn windows(cc: &CacheControl, told: &mut Told) {
+    tell_number(told, cc.max_age());
+    tell_number(told, cc.s_maxage());
+    tell_number(told, cc.stale_while_revalidate());
+    tell_number(told, cc.stale_if_error());
+    tell_seconds(told, cc.serve_stale_while_revalidate_duration());
+    tell_seconds(told, cc.serve_stale_if_error_duration());
+}
+
+fn tell_of_text(alloc: Global, text: &[u8], what: &str, told: &mut Told) {
+    if let Ok(text) = Vec::from_slice(alloc, text) {
+        tell_value(&DirectiveValue(text), what, told);
     }
-    assert_eq!(rt;
-        delta_seconds_overflow_duration(),
-        Duration::from_secs(u64::from(DELTA_SECONDS_OVERFLOW_VALUE))
-    );
-    Ok(())
 }
 
-fn is_read(rt: &impl Abort, cc: &CacheControl) {
-    assert!(rt; cc.max_age().is_err());
-    assert!(rt; cc.no_store() && cc.must_revalidate() && cc.proxy_revalidate() && !cc.public());
-    assert!(rt; cc.allow_caching_authorized_req());
-    assert!(rt; cc.serve_stale_if_error_duration() == Some(Duration::ZERO));
-    assert!(rt; cc.serve_stale_while_revalidate_duration() == Some(Duration::ZERO));
-    assert!(rt; matches!(cc.stale_while_revalidate(), Ok(Some(30))));
-    assert!(rt; matches!(cc.stale_if_error(), Ok(Some(60))));
-    assert!(rt; cc.s_maxage().is_err());
-}
-
-#[test]
-fn readings_of_a_field(rt: HostRuntime) -> Result<(), Fail> {
-    let alloc = rt.alloc();
-    let line =
-        b"max-age=1.5, s-maxage=x, stale-while-revalidate=30, stale-if-error=60, no-store, must-revalidate, proxy-revalidate";
-    let cc = read(alloc, &[line])?;
-    is_read(&rt, &cc);
-    let cc = cc.with_float_seconds();
-    assert!(rt; matches!(cc.max_age(), Ok(Some(1))));
-    Ok(())
-}
-
-#[test]
-fn values_without_their_quotes(rt: HostRuntime) -> Result<(), Fail> {
-    let quoted = value(rt.alloc(), b"\"a b\"")?;
-    assert!(rt; quoted.parse_as_bytes() == b"a b".as_slice());
-    assert!(rt; matches!(quoted.parse_as_str(), Ok("a b")));
-    assert!(rt; value(rt.alloc(), b"\"\xFF\"")?.parse_as_str().is_err());
-    Ok(())
-}
-
-#[test]
-fn keys(rt: HostRuntime) -> Result<(), Fail> {
-    let alloc = rt.alloc();
-    let names = [
-        "max-age",
-        "s-maxage",
-        "no-cache",
-        "no-store",
-        "private",
-        "public",
-        "must-revalidate",
-        "proxy-revalidate",
-        "must-understand",
-        "no-transform",
-        "immutable",
-        "stale-while-revalidate",
-        "stale-if-error",
-        "only-if-cached",
-    ];
-    for name in names {
-        let key = DirectiveKey::from_lowercase(alloc, name)?;
-        assert!(rt; key.is(name));
-        assert!(rt; key != unknown(alloc, name)?);
-        assert!(rt; prints_as(alloc, &key, name)?);
+// Whole seconds and seconds whose parts are cut off, or the items, or what stands between quotes.
+fn tell_value(value: &DirectiveValue, what: &str, told: &mut Told) {
+    match what {
+        "items" => join(Some(ListValueIter::from(value)), told),
+        "seconds" => {
+            tell_parsed(told, value.parse_as_delta_seconds());
+            tell_parsed(told, value.parse_as_delta_seconds_floor());
+        }
+        _ => {
+            let is_text = value.parse_as_str().is_ok();
+            told.say(if is_text { "text " } else { "bytes " });
+            told.bytes(value.parse_as_bytes());
+        }
     }
-    let other = DirectiveKey::from_lowercase_owned(String::from_str(alloc, "own")?);
-    assert!(rt; other == unknown(alloc, "own")?);
-    Ok(())
 }
 
-fn unknown(alloc: Global, name: &str) -> Result<DirectiveKey, Fail> {
-    Ok(DirectiveKey::Unknown(String::from_str(alloc, name)?))
+fn tell_parsed(told: &mut Told, number: Result<u32>) {
+    told.say(" ");
+    match number {
+        Ok(number) => told.number(u64::from(number)),
+        Err(refused) => {
+            let is_unreadable = refused.etype() == ErrorType::InternalError;
+            told.say(if is_unreadable { "-" } else { "refused" });
+        }
+    }
 }
 
-fn prints_as(alloc: Global, key: &DirectiveKey, wanted: &str) -> Result<bool, Fail> {
-    let text = format!(in alloc; "{key}")?;
-    Ok(text.as_str() == wanted)
+// Whether the name is known, and how its key prints.
+fn tell_key(alloc: Global, name: &'static str, told: &mut Told) {
+    if let Ok(key) = DirectiveKey::from_lowercase(alloc, name) {
+        let is_known = key.is(name) && is_known(alloc, &key, name);
+        told.say(if is_known { "known " } else { "unknown " });
+        told.shown(&key);
+    }
+}
+
+fn tell_owned_key(alloc: Global, name: &'static str, told: &mut Told) {
+    if let Ok(name_of_key) = String::from_str(alloc, name) {
+        let key = DirectiveKey::from_lowercase_owned(name_of_key);
+        let is_known = is_known(alloc, &key, name);
+        told.say(if is_known { "known" } else { "unknown" });
+    }
+}
+
+fn is_known(alloc: Global, key: &DirectiveKey, name: &str) -> bool {
+    match String::from_str(alloc, name) {
+        Ok(name) => *key != DirectiveKey::Unknown(name),
+        Err(_refused) => false,
+    }
+}
+
+const DIRECTIVES: &str = r#"
+    # directives by name
+    lists max-age=10;;public -> max-age=10;public;
+    lists a\f=1,\t b=2 -> b=2;
+    lists a=b=c, d -> a=b;d;
+    lists max-age= -> max-age;
+    lists private, private="x" -> private="x";
+    lists  max-age=5 -> empty
+    lists private="a, b -> private;b;
+    lists max-age=5; S-MaxAge=7, max-age=6 -> max-age=6;s-maxage=7;
+    lists a="b\\",c";,d -> a="b\",c";d;
+    # what lines say of storing
+    says max-age=10;;public -> yes 10
+    says max-age= -> yes none
+    says max-age="10" -> yes 10
+    says private, private="x" -> default none
+    says  max-age=5 -> default none
+    says private="a, b -> no none
+    says max-age=5; S-MaxAge=7, max-age=6 -> yes 7
+    says s-maxage=x, max-age=5 -> yes none
+    says s-maxage, max-age=5 -> yes 5
+    says no-cache, max-age=5 -> yes 0
+    # the last value of a directive counts
+    private private="x"|private -> yes
+    says private="x"|private -> no none
+    private private, private="x" -> no
+    # directives are found by their lower-case names
+    has:max-age max-age=1 -> yes
+    has:Max-Age max-age=1 -> no
+    has-max-age max-age=1 -> yes
+    only-if-cached max-age=1 -> no
+    has:own-name Own-Name=1 -> yes
+    # listed field names
+    no-cache no-cache="meta1, SeT-Cookie ,meta2", private=a -> no
+    no-cache-names no-cache="meta1, SeT-Cookie ,meta2", private=a -> /meta1/SeT-Cookie/meta2
+    private-names no-cache="meta1, SeT-Cookie ,meta2", private=a -> /a
+    items \t,b\t c  -> //b\t c"#;
+
+#[test]
+fn directives_by_name_and_what_they_say(rt: HostRuntime) {
+    play(&rt, rt.alloc(), &mut no_lines(rt.alloc()), DIRECTIVES);
+}
+
+const NUMBERS: &str = r#"
+    # whole seconds, and with parts that are cut off
+    seconds 4294967295 -> 4294967295 4294967295
+    seconds 4294967296 -> 2147483647 2147483647
+    seconds +7 -> 7 7
+    seconds 99999999999x -> - -
+    seconds -> - -
+    seconds + -> - -
+    seconds "10" -> 10 10
+    seconds -1 -> - -
+    seconds 1.9 -> - 1
+    seconds .5 -> - 0
+    seconds 5. -> - 5
+    seconds 4294967295.0 -> - 2147483647
+    seconds 1e3 -> - -
+    seconds . -> - -
+    seconds 1.2.3 -> - -
+    # readings of a field
+    flags max-age=1.5, s-maxage=x, stale-while-revalidate=30, stale-if-error=60, no-store, must-revalidate, proxy-revalidate -> no-store must-revalidate proxy-revalidate authorized
+    windows max-age=1.5, s-maxage=x, stale-while-revalidate=30, stale-if-error=60, no-store, must-revalidate, proxy-revalidate -> unreadable unreadable 30 60 0 0
+    float-max-age max-age=1.5, s-maxage=x, stale-while-revalidate=30, stale-if-error=60, no-store, must-revalidate, proxy-revalidate -> 1
+    # values without their quotes
+    unquoted "a b" -> text a b
+    unquoted "\f" -> bytes ÿ"#;
+
+#[test]
+fn numbers_of_seconds_and_readings_of_a_field(rt: HostRuntime) {
+    let overflow = Duration::from_secs(u64::from(DELTA_SECONDS_OVERFLOW_VALUE));
+    assert!(rt; delta_seconds_overflow_duration() == overflow);
+    play(&rt, rt.alloc(), &mut no_lines(rt.alloc()), NUMBERS);
+}
+
+const KEYS: &str = "
+    key max-age -> known max-age
+    key s-maxage -> known s-maxage
+    key no-cache -> known no-cache
+    key no-store -> known no-store
+    key private -> known private
+    key public -> known public
+    key must-revalidate -> known must-revalidate
+    key proxy-revalidate -> known proxy-revalidate
+    key must-understand -> known must-understand
+    key no-transform -> known no-transform
+    key immutable -> known immutable
+    key stale-while-revalidate -> known stale-while-revalidate
+    key stale-if-error -> known stale-if-error
+    key only-if-cached -> known only-if-cached
+    owned-key own -> unknown";
+
+#[test]
+fn keys(rt: HostRuntime) {
+    play(&rt, rt.alloc(), &mut no_lines(rt.alloc()), KEYS);
 }

@@ -1,132 +1,140 @@
-//! Maps with as many names as a header map holds: 24,576, of the library's `MAX_KEYS`.
-
+//! Heads with as many names as a head can have, and with one more.
+use crate::heads::append;
+use crate::rows::{Desk, Told, number, play, word};
 use http::{Method, StatusCode};
-use http_header::{HeaderMap, HeaderName, HeaderValue};
-use pcache_base::error::ErrorType;
+use http_header::HeaderMap;
+use pcache_base::error::{ErrorType, Result};
 use pcache_base::moment::Moment;
 use pcache_control::filters::upstream::request_filter;
 use pcache_meta::header::{RequestHeader, ResponseHeader};
 use pcache_meta::header_text::reader::header_deserialize;
 use pcache_meta::meta::CacheMeta;
 use std::alloc::Global;
-use std::process::Abort;
-use std::test::Fail;
+use std::fmt::Write;
 
-const NAMES: u32 = 24_576;
+// A request and a text, which each call writes anew, and what is stored.
+#[derive(Drop)]
+struct Full {
+    alloc: Global,
+    request: RequestHeader,
+    text: String,
+    stored: CacheMeta,
+}
 
-// A map with so many names.
-fn with_names(alloc: Global, names: u32) -> Result<HeaderMap, Fail> {
-    let mut headers = HeaderMap::new(alloc);
-    for number in 0..names {
-        let name = format!(in alloc; "x{number}")?;
-        let name = HeaderName::from_bytes(alloc, name.as_bytes())?;
-        let value = HeaderValue::from_bytes(alloc, b"1")?;
-        headers.insert(name, value)?;
+fn make_full(alloc: Global) -> Full {
+    Full {
+        alloc,
+        request: request(alloc),
+        text: String::new(alloc),
+        stored: stored(alloc),
     }
-    Ok(headers)
 }
 
-fn request(alloc: Global, names: u32) -> Result<RequestHeader, Fail> {
-    Ok(RequestHeader {
+impl Desk for Full {
+    fn tell(&mut self, call: &'static str, told: &mut Told) {
+        match word(call, 0) {
+            "store" => {
+                let kept = &mut self.stored.response_header_mut().headers;
+                told.yes_or_no(has_etag_and_date(self.alloc, kept));
+            }
+            "ask-with" => {
+                self.request = request(self.alloc);
+                let headers = &mut self.request.headers;
+                if fill(self.alloc, headers, &mut self.text, number(call, 1)) {
+                    ask(&mut self.request, &self.stored, told);
+                }
+            }
+            _ => {
+                if write_text(&mut self.text, number(call, 1)) {
+                    tell_read(header_deserialize(self.alloc, self.text.as_bytes()), told);
+                }
+            }
+        }
+    }
+}
+
+// Adds a name by its number.
+fn add(alloc: Global, headers: &mut HeaderMap, name: &mut String, number: u64) -> bool {
+    name.clear();
+    write!(name, "x{number}").is_ok() && append(alloc, headers, name.as_str(), b"1")
+}
+
+fn fill(alloc: Global, headers: &mut HeaderMap, name: &mut String, names: u64) -> bool {
+    for number in 0..names {
+        if !add(alloc, headers, name, number) {
+            return false;
+        }
+    }
+    true
+}
+
+fn request(alloc: Global) -> RequestHeader {
+    RequestHeader {
         method: Method::GET,
-        target: Vec::from_slice(alloc, b"/")?,
-        headers: with_names(alloc, names)?,
-    })
+        target: Vec::new(alloc),
+        headers: HeaderMap::new(alloc),
+    }
 }
 
-fn stored(alloc: Global) -> Result<CacheMeta, Fail> {
-    let mut header = ResponseHeader::build(alloc, StatusCode::OK);
-    let tag = HeaderValue::from_bytes(alloc, b"\"a\"")?;
-    header.headers.insert("etag", tag)?;
-    let date = HeaderValue::from_bytes(alloc, b"Thu, 01 Jan 1970 01:00:00 GMT")?;
-    header.headers.insert("last-modified", date)?;
+fn stored(alloc: Global) -> CacheMeta {
     let now = Moment::from_secs(1000);
-    Ok(CacheMeta::new(now, now, 0, 0, header))
+    CacheMeta::new(now, now, 0, 0, ResponseHeader::build(alloc, StatusCode::OK))
 }
 
-// The kind of the refusal, and how many names the request has then.
-fn asked(request: &mut RequestHeader, meta: &CacheMeta) -> (Option<ErrorType>, usize) {
-    let kind = match request_filter(request, Some(meta)) {
-        Ok(()) => None,
-        Err(refused) => Some(refused.etype()),
-    };
-    (kind, request.headers.keys_len())
+fn has_etag_and_date(alloc: Global, kept: &mut HeaderMap) -> bool {
+    append(alloc, kept, "etag", b"\"a\"")
+        && append(
+            alloc,
+            kept,
+            "last-modified",
+            b"Thu, 01 Jan 1970 01:00:00 GMT",
+        )
 }
 
-fn has_no_room(rt: &impl Abort, request: &mut RequestHeader, meta: &CacheMeta, left: usize) {
-    let found = asked(request, meta);
-    assert!(rt; found == (Some(ErrorType::InternalError), left));
+// What comes of asking whether what is stored is still good, and how many names the request has then.
+fn ask(request: &mut RequestHeader, meta: &CacheMeta, told: &mut Told) {
+    told.done(request_filter(request, Some(meta)));
+    tell_names(&request.headers, told);
 }
 
-#[test]
-fn a_full_request_has_no_room_to_ask(rt: HostRuntime) -> Result<(), Fail> {
-    let meta = stored(rt.alloc())?;
-    has_no_room(&rt, &mut request(rt.alloc(), NAMES)?, &meta, 24_576);
-    Ok(())
-}
-
-#[test]
-fn a_request_with_room_for_one_field_asks_in_part(rt: HostRuntime) -> Result<(), Fail> {
-    let meta = stored(rt.alloc())?;
-    has_no_room(&rt, &mut request(rt.alloc(), NAMES - 1)?, &meta, 24_576);
-    Ok(())
-}
-
-fn has_room(rt: &impl Abort, request: &mut RequestHeader, meta: &CacheMeta) {
-    let found = asked(request, meta);
-    assert!(rt; found == (None, 24_576));
-}
-
-#[test]
-fn a_request_with_room_for_two_fields_asks(rt: HostRuntime) -> Result<(), Fail> {
-    let meta = stored(rt.alloc())?;
-    has_room(&rt, &mut request(rt.alloc(), NAMES - 2)?, &meta);
-    Ok(())
+fn tell_names(headers: &HeaderMap, told: &mut Told) {
+    told.say(" ");
+    told.shown(&headers.keys_len());
 }
 
 // The text of a head with so many names.
-fn text(alloc: Global, names: u32) -> Result<String, Fail> {
-    let mut text = String::from_str(alloc, "HTTP/1.1 200\r\n")?;
+fn write_text(text: &mut String, names: u64) -> bool {
+    text.clear();
+    if text.push_str("HTTP/1.1 200\r\n").is_err() {
+        return false;
+    }
     for number in 0..names {
-        let line = format!(in alloc; "x{number}: 1\r\n")?;
-        text.push_str(line.as_str())?;
+        if write!(text, "x{number}: 1\r\n").is_err() {
+            return false;
+        }
     }
-    text.push_str("\r\n")?;
-    Ok(text)
+    text.push_str("\r\n").is_ok()
 }
 
-// How many names were read, or the kind of the refusal.
-fn names_read(alloc: Global, text: &str) -> Result<usize, ErrorType> {
-    match header_deserialize(alloc, text.as_bytes()) {
-        Ok(header) => Ok(header.headers.keys_len()),
-        Err(refused) => Err(refused.etype()),
+fn tell_read(header: Result<ResponseHeader>, told: &mut Told) {
+    match header {
+        Ok(header) => tell_names(&header.headers, told),
+        Err(refused) => told.refused(&refused),
     }
 }
 
-fn reads(rt: &impl Abort, alloc: Global, text: &str, names: Result<usize, ErrorType>) {
-    let found = names_read(alloc, text);
-    assert!(rt; found == names);
-}
+// A head has at most 24,576 names.
+const FULL: &str = "
+    store -> yes
+    # a full request has no room to ask, one with room for one field asks in part, and one with room for two asks
+    ask-with 24576 -> InternalError 24576
+    ask-with 24575 -> InternalError 24576
+    ask-with 24574 -> ok 24576
+    # a text of as many names is read, and one of one name more is unreadable
+    read 24576 -> 24576
+    read 24577 -> InternalError";
 
 #[test]
-fn a_text_of_as_many_names_is_read(rt: HostRuntime) -> Result<(), Fail> {
-    reads(
-        &rt,
-        rt.alloc(),
-        text(rt.alloc(), NAMES)?.as_str(),
-        Ok(24_576),
-    );
-    Ok(())
-}
-
-#[test]
-fn a_text_of_one_name_more_is_unreadable(rt: HostRuntime) -> Result<(), Fail> {
-    let many = text(rt.alloc(), NAMES + 1)?;
-    reads(
-        &rt,
-        rt.alloc(),
-        many.as_str(),
-        Err(ErrorType::InternalError),
-    );
-    Ok(())
+fn full_requests_and_texts(rt: HostRuntime) {
+    play(&rt, rt.alloc(), &mut make_full(rt.alloc()), FULL);
 }

@@ -1,174 +1,235 @@
 //! The text of heads.
-
+//! The rows are hand-computed from RFC 9112 (2.1) and the form in docs/FORMATS.md.
+use crate::heads::append;
+use crate::rows::{Desk, Told, number, play, rest, unescape, word};
 use http::StatusCode;
-use http_header::{HeaderName, HeaderValue};
-use pcache_base::error::ErrorType;
+use http_header::{HeaderMap, HeaderValue};
+use pcache_base::error::Result;
 use pcache_meta::header::{HttpVersion, ResponseHeader};
 use pcache_meta::header_text::form::is_header_text;
 use pcache_meta::header_text::reader::header_deserialize;
 use pcache_meta::header_text::writer::header_serialize;
 use std::alloc::Global;
-use std::process::Abort;
-use std::test::Fail;
+use std::fmt::Write;
 
-// Whether the bytes are refused as no head's text, and are told to be none.
-fn refused(alloc: Global, bytes: &[u8]) -> bool {
-    let refusal = header_deserialize(alloc, bytes).err();
-    refusal.map(|e| e.etype()) == Some(ErrorType::InternalError) && !is_header_text(bytes)
+// The bytes of a text, and a head that is written.
+#[derive(Drop)]
+struct Heads {
+    alloc: Global,
+    bytes: Vec<u8>,
+    header: ResponseHeader,
 }
 
-// Adds a field, and says whether it was taken.
-fn add(alloc: Global, header: &mut ResponseHeader, name: &[u8], value: &[u8]) -> bool {
-    let Ok(name) = HeaderName::from_bytes(alloc, name) else {
-        return false;
-    };
-    let Ok(value) = HeaderValue::from_bytes(alloc, value) else {
-        return false;
-    };
-    header.headers.append(name, value).is_ok()
-}
-
-// Whether this text is written of the head.
-fn writes(alloc: Global, header: &ResponseHeader, wanted: &[u8]) -> Result<bool, Fail> {
-    let text = header_serialize(alloc, header).ok().ok_or("written")?;
-    Ok(text.as_slice() == wanted)
-}
-
-fn read(alloc: Global, text: &[u8]) -> Result<ResponseHeader, Fail> {
-    Ok(header_deserialize(alloc, text).ok().ok_or("read")?)
-}
-
-fn has_one_field(rt: &impl Abort, read: &ResponseHeader) -> Result<(), Fail> {
-    assert_eq!(rt; read.version, HttpVersion::Http11);
-    assert_eq!(rt; read.status, StatusCode::OK);
-    assert_eq!(rt; read.headers.len(), 1);
-    let value = read.headers.get("foo1").ok_or("foo1")?;
-    assert!(rt; value.as_bytes() == b"bar1".as_slice());
-    Ok(())
-}
-
-#[test]
-fn a_head_is_written_and_read(rt: HostRuntime) -> Result<(), Fail> {
-    let alloc = rt.alloc();
-    let text = b"HTTP/1.1 200\r\nfoo1: bar1\r\n\r\n";
-    let mut header = ResponseHeader::build(alloc, StatusCode::OK);
-    assert!(rt; add(alloc, &mut header, b"foo1", b"bar1"));
-    assert!(rt; writes(alloc, &header, text)?);
-    has_one_field(&rt, &read(alloc, text)?)
-}
-
-fn with_values_apart(alloc: Global) -> (ResponseHeader, bool) {
-    let mut header = ResponseHeader::build(alloc, StatusCode::NOT_FOUND);
-    header.version = HttpVersion::Http3;
-    let added = add(alloc, &mut header, b"a", b"1")
-        && add(alloc, &mut header, b"B", b"")
-        && add(alloc, &mut header, b"a", b" 3");
-    (header, added)
-}
-
-#[test]
-fn values_of_a_name_stand_together(rt: HostRuntime) -> Result<(), Fail> {
-    let alloc = rt.alloc();
-    let text = b"HTTP/3.0 404\r\na: 1\r\na:  3\r\nb: \r\n\r\n";
-    let (header, added) = with_values_apart(alloc);
-    assert!(rt; added);
-    assert!(rt; writes(alloc, &header, text)?);
-    assert!(rt; read(alloc, text)?.headers == header.headers);
-    Ok(())
-}
-
-fn is_version_of(alloc: Global, version: HttpVersion, text: &[u8]) -> Result<bool, Fail> {
-    let mut header = ResponseHeader::build(alloc, StatusCode::OK);
-    header.version = version;
-    Ok(writes(alloc, &header, text)? && read(alloc, text)?.version == version)
-}
-
-#[test]
-fn each_version_has_its_text(rt: HostRuntime) -> Result<(), Fail> {
-    let rows = [
-        (HttpVersion::Http09, b"HTTP/0.9 200\r\n\r\n"),
-        (HttpVersion::Http10, b"HTTP/1.0 200\r\n\r\n"),
-        (HttpVersion::Http11, b"HTTP/1.1 200\r\n\r\n"),
-        (HttpVersion::Http2, b"HTTP/2.0 200\r\n\r\n"),
-        (HttpVersion::Http3, b"HTTP/3.0 200\r\n\r\n"),
-    ];
-    for (version, text) in rows {
-        assert!(rt; is_version_of(rt.alloc(), version, text.as_slice())?);
+impl Desk for Heads {
+    fn tell(&mut self, call: &'static str, told: &mut Told) {
+        match word(call, 0) {
+            "read" | "tell" => {
+                if unescape(rest(call), &mut self.bytes) {
+                    tell_of_text(self.alloc, self.bytes.as_slice(), word(call, 0), told);
+                }
+            }
+            "head" => {
+                self.header = head(self.alloc, call);
+                told.say("ok");
+            }
+            "add" => add(self.alloc, &mut self.header.headers, rest(call), told),
+            _ => tell_of(self.alloc, &self.header, call, told),
+        }
     }
-    Ok(())
 }
 
-#[test]
-fn what_is_no_head(rt: HostRuntime) {
-    let alloc = rt.alloc();
-    // No empty line, a status below 100, a name with an upper-case letter.
-    assert!(rt; refused(alloc, b"HTTP/1.1 200\r\n"));
-    assert!(rt; refused(alloc, b"HTTP/1.1 099\r\n\r\n"));
-    assert!(rt; refused(alloc, b"HTTP/1.1 200\r\nFoo1: bar1\r\n\r\n"));
-    // No value, no space behind the colon, no name, a byte behind, LF alone.
-    assert!(rt; refused(alloc, b"HTTP/1.1 200\r\nfoo1\r\n\r\n"));
-    assert!(rt; refused(alloc, b"HTTP/1.1 200\r\nfoo1:bar1\r\n\r\n"));
-    assert!(rt; refused(alloc, b"HTTP/1.1 200\r\n: bar1\r\n\r\n"));
-    assert!(rt; refused(alloc, b"HTTP/1.1 200\r\nfoo1: bar1\r\n\r\nx"));
-    assert!(rt; refused(alloc, b"HTTP/1.1 200\nfoo1: bar1\n\n"));
-    // Another version, a reason, a control character in a value.
-    assert!(rt; refused(alloc, b"HTTP/1.2 200\r\n\r\n"));
-    assert!(rt; refused(alloc, b"HTTP/1.1 200 OK\r\n\r\n"));
-    assert!(rt; refused(alloc, b"HTTP/1.1 200\r\nfoo1: b\x01\r\n\r\n"));
-    assert!(rt; refused(alloc, b""));
-    // A name that comes again behind another.
-    assert!(rt; refused(alloc, b"HTTP/1.1 200\r\na: 1\r\nb: 2\r\na: 3\r\n\r\n"));
+fn status(word: &str) -> StatusCode {
+    if word == "404" {
+        StatusCode::NOT_FOUND
+    } else {
+        StatusCode::OK
+    }
 }
+
+fn version(word: &str) -> Option<HttpVersion> {
+    match word {
+        "0.9" => Some(HttpVersion::Http09),
+        "1.0" => Some(HttpVersion::Http10),
+        "1.1" => Some(HttpVersion::Http11),
+        "2.0" => Some(HttpVersion::Http2),
+        "3.0" => Some(HttpVersion::Http3),
+        _ => None,
+    }
+}
+
+fn head(alloc: Global, call: &'static str) -> ResponseHeader {
+    let mut header = ResponseHeader::build(alloc, status(word(call, 1)));
+    if let Some(version) = version(word(call, 2)) {
+        header.version = version;
+    }
+    header
+}
+
+fn add(alloc: Global, headers: &mut HeaderMap, field: &'static str, told: &mut Told) {
+    let (name, value) = field.split_once(' ').unwrap_or((field, ""));
+    if append(alloc, headers, name, value.as_bytes()) {
+        told.say("ok");
+    }
+}
+
+fn tell_of_text(alloc: Global, bytes: &[u8], verb: &str, told: &mut Told) {
+    let is_one = is_header_text(bytes);
+    if verb == "tell" {
+        told.yes_or_no(is_one);
+    } else {
+        tell_deserialized(header_deserialize(alloc, bytes), is_one, told);
+    }
+}
+
+// What is read of the bytes, which are told to be a head's text exactly when they are read.
+fn tell_deserialized(read: Result<ResponseHeader>, is_one: bool, told: &mut Told) {
+    if is_one != read.is_ok() {
+        told.say("either read or told: ");
+    }
+    tell_read(read, told);
+}
+
+fn tell_read(read: Result<ResponseHeader>, told: &mut Told) {
+    match read {
+        Ok(header) => tell_head(&header, told),
+        Err(refused) => told.refused(&refused),
+    }
+}
+
+fn tell_of(alloc: Global, header: &ResponseHeader, call: &'static str, told: &mut Told) {
+    match word(call, 0) {
+        "copied" => tell_read(header.copied(), told),
+        "shown" => tell_head(header, told),
+        "write" => tell_written(header_serialize(alloc, header), told),
+        _ => are_told(String::new(alloc), call, told),
+    }
+}
+
+fn tell_written(text: Result<Vec<u8>>, told: &mut Told) {
+    match text {
+        Ok(text) => told.bytes(text.as_slice()),
+        Err(refused) => told.refused(&refused),
+    }
+}
+
+// The version, the status, and each value after its name.
+fn tell_head(header: &ResponseHeader, told: &mut Told) {
+    told.named(&header.version);
+    told.numbers(&[u64::from(header.status.as_u16())]);
+    for (name, value) in &header.headers {
+        tell_field(name.as_str(), value, told);
+    }
+}
+
+fn tell_field(name: &str, value: &HeaderValue, told: &mut Told) {
+    told.say(" ");
+    told.say(name);
+    told.say("=");
+    told.bytes(value.as_bytes());
+}
+
+// Whether a text with so many names is told to be a head's, with one line more.
+fn are_told(text: String, call: &'static str, told: &mut Told) {
+    let mut text = text;
+    if many_names(&mut text, number(call, 1), word(call, 2)) {
+        told.yes_or_no(is_header_text(text.as_bytes()));
+    }
+}
+
+fn many_names(text: &mut String, names: u64, line: &'static str) -> bool {
+    if text.push_str("HTTP/1.1 200\r\n").is_err() {
+        return false;
+    }
+    for number in 0..names {
+        if write!(text, "x{number}: 1\r\n").is_err() {
+            return false;
+        }
+    }
+    write!(text, "{line}: 2\r\n\r\n").is_ok()
+}
+
+fn no_heads(alloc: Global) -> Heads {
+    Heads {
+        alloc,
+        bytes: Vec::new(alloc),
+        header: ResponseHeader::build(alloc, StatusCode::OK),
+    }
+}
+
+const READ: &str = r"
+    # a head that was just made, and its copy
+    head 404
+    shown -> Http11 404
+    copied -> Http11 404
+    # a head is written and read
+    head 200 1.1
+    add foo1 bar1
+    write -> HTTP/1.1 200\r\nfoo1: bar1\r\n\r\n
+    read HTTP/1.1 200\r\nfoo1: bar1\r\n\r\n -> Http11 200 foo1=bar1
+    # values of a name stand together
+    head 404 3.0
+    add a 1
+    add B
+    add a  3
+    write -> HTTP/3.0 404\r\na: 1\r\na:  3\r\nb: \r\n\r\n
+    read HTTP/3.0 404\r\na: 1\r\na:  3\r\nb: \r\n\r\n -> Http3 404 a=1 a= 3 b=
+    # each version has its text
+    head 200 0.9
+    write -> HTTP/0.9 200\r\n\r\n
+    read HTTP/0.9 200\r\n\r\n -> Http09 200
+    head 200 1.0
+    write -> HTTP/1.0 200\r\n\r\n
+    read HTTP/1.0 200\r\n\r\n -> Http10 200
+    head 200 1.1
+    write -> HTTP/1.1 200\r\n\r\n
+    read HTTP/1.1 200\r\n\r\n -> Http11 200
+    head 200 2.0
+    write -> HTTP/2.0 200\r\n\r\n
+    read HTTP/2.0 200\r\n\r\n -> Http2 200
+    head 200 3.0
+    write -> HTTP/3.0 200\r\n\r\n
+    read HTTP/3.0 200\r\n\r\n -> Http3 200";
+
+#[test]
+fn heads_are_written_and_read(rt: HostRuntime) {
+    play(&rt, rt.alloc(), &mut no_heads(rt.alloc()), READ);
+}
+
+const TOLD: &str = r"
+    # no empty line, a status below 100, a name with an upper-case letter
+    read HTTP/1.1 200\r\n -> InternalError
+    read HTTP/1.1 099\r\n\r\n -> InternalError
+    read HTTP/1.1 200\r\nFoo1: bar1\r\n\r\n -> InternalError
+    # no value, no space behind the colon, no name, a byte behind, LF alone
+    read HTTP/1.1 200\r\nfoo1\r\n\r\n -> InternalError
+    read HTTP/1.1 200\r\nfoo1:bar1\r\n\r\n -> InternalError
+    read HTTP/1.1 200\r\n: bar1\r\n\r\n -> InternalError
+    read HTTP/1.1 200\r\nfoo1: bar1\r\n\r\nx -> InternalError
+    read HTTP/1.1 200\nfoo1: bar1\n\n -> InternalError
+    # another version, a reason, a control character in a value
+    read HTTP/1.2 200\r\n\r\n -> InternalError
+    read HTTP/1.1 200 OK\r\n\r\n -> InternalError
+    read HTTP/1.1 200\r\nfoo1: b\1\r\n\r\n -> InternalError
+    read -> InternalError
+    # a name that comes again behind another
+    read HTTP/1.1 200\r\na: 1\r\nb: 2\r\na: 3\r\n\r\n -> InternalError
+    # heads are told
+    tell HTTP/1.1 200\r\n\r\n -> yes
+    tell HTTP/3.0 404\r\na: 1\r\na:  3\r\nb: \r\n\r\n -> yes
+    tell HTTP/1.1 200\r\na: 1\r\nb: 2\r\nc: 3\r\n\r\n -> yes
+    tell HTTP/1.1 200\r\na: 1\r\nA: 2\r\n\r\n -> no
+    tell HTTP/1.1 200\r\na: 1\r\nb: 2\r\nb: 3\r\na: 4\r\n\r\n -> no
+    tell HTTP/1.1 200\r\na: 1\d\r\n\r\n -> no
+    tell HTTP/1.1 200\r\na: \t\f\r\n\r\n -> yes
+    # a name that comes again is told behind any number of names, which are looked for 64 at once
+    many 64 x63 -> yes
+    many 64 x0 -> no
+    many 65 x0 -> no
+    many 65 x64 -> yes
+    many 200 x130 -> no
+    many 200 y -> yes";
 
 #[test]
 fn heads_are_told(rt: HostRuntime) {
-    let rows = [
-        (b"HTTP/1.1 200\r\n\r\n".as_slice(), true),
-        (b"HTTP/3.0 404\r\na: 1\r\na:  3\r\nb: \r\n\r\n", true),
-        (b"HTTP/1.1 200\r\na: 1\r\nb: 2\r\nc: 3\r\n\r\n", true),
-        (b"HTTP/1.1 200\r\na: 1\r\nA: 2\r\n\r\n", false),
-        (
-            b"HTTP/1.1 200\r\na: 1\r\nb: 2\r\nb: 3\r\na: 4\r\n\r\n",
-            false,
-        ),
-        (b"HTTP/1.1 200\r\na: 1\x7f\r\n\r\n", false),
-        (b"HTTP/1.1 200\r\na: \t\xff\r\n\r\n", true),
-    ];
-    for (bytes, is_one) in rows {
-        assert!(rt; is_header_text(bytes) == is_one);
-    }
-}
-
-// The text of a head with so many names, and one line more.
-fn many_names(alloc: Global, names: u32, line: &str) -> Result<String, Fail> {
-    let mut text = String::from_str(alloc, "HTTP/1.1 200\r\n")?;
-    for number in 0..names {
-        let line = format!(in alloc; "x{number}: 1\r\n")?;
-        text.push_str(line.as_str())?;
-    }
-    text.push_str(line)?;
-    text.push_str("\r\n")?;
-    Ok(text)
-}
-
-// Whether such a text is told to be a head's.
-fn are_told(alloc: Global, names: u32, line: &str) -> Result<bool, Fail> {
-    Ok(is_header_text(many_names(alloc, names, line)?.as_bytes()))
-}
-
-// Names are looked for 64 at once.
-#[test]
-fn a_name_that_comes_again_is_told_behind_any_number_of_names(rt: HostRuntime) -> Result<(), Fail> {
-    let rows = [
-        (64, "x63: 2\r\n", true),
-        (64, "x0: 2\r\n", false),
-        (65, "x0: 2\r\n", false),
-        (65, "x64: 2\r\n", true),
-        (200, "x130: 2\r\n", false),
-        (200, "y: 2\r\n", true),
-    ];
-    for (names, line, is_one) in rows {
-        assert!(rt; are_told(rt.alloc(), names, line)? == is_one);
-    }
-    Ok(())
+    play(&rt, rt.alloc(), &mut no_heads(rt.alloc()), TOLD);
 }

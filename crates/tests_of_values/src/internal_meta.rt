@@ -1,203 +1,205 @@
 //! What metas say beside their header: worked rows, and upstream's tests of the versions.
-
-use pcache_base::error::ErrorType;
+//! The bytes are hand-computed from the layout in docs/FORMATS.md.
+use crate::rows::{Desk, Told, number, play, rest, some_byte, some_number, unhex, word};
+use pcache_base::error::Result;
+use pcache_base::key::HashBinary;
 use pcache_base::moment::Moment;
 use pcache_meta::meta::codec::deserialize_internal;
 use pcache_meta::meta::internal_meta::{InternalMetaV0, InternalMetaV1, InternalMetaV2};
 use std::alloc::Global;
-use std::test::Fail;
 
-fn at(secs: u64) -> Moment {
-    Moment::from_secs(secs)
+// The bytes that are read.
+#[derive(Drop)]
+struct Spelled {
+    alloc: Global,
+    bytes: Vec<u8>,
 }
 
-fn refused(bytes: &[u8]) -> bool {
-    match deserialize_internal(bytes) {
-        Ok(_) => false,
-        Err(e) => e.etype() == ErrorType::InternalError,
+impl Desk for Spelled {
+    fn tell(&mut self, call: &'static str, told: &mut Told) {
+        match word(call, 0) {
+            "read" => {
+                if unhex(rest(call), &mut self.bytes) {
+                    tell_read(deserialize_internal(self.bytes.as_slice()), told);
+                }
+            }
+            "write-0" => written(old(call).serialize(self.alloc), told),
+            "write-1" => written(next(call).serialize(self.alloc), told),
+            "write-2" => written(meta(call).serialize(self.alloc), told),
+            "from-0" => tell_meta(&InternalMetaV2::from(old(call)), told),
+            "from-1" => tell_meta(&InternalMetaV2::from(next(call)), told),
+            _ => tell_default(self.alloc, &InternalMetaV2::default(), told),
+        }
     }
 }
 
-#[test]
-fn version_0_reads(rt: HostRuntime) -> Result<(), Fail> {
-    // Nine bytes are too few, whatever they say.
-    assert!(rt; refused(&[0x94, 0x92, 1, 0, 0x92, 1, 0, 0, 0]));
-    let bytes = [0x94, 0x92, 0xcd, 1, 0x2c, 0, 0x92, 1, 0, 0, 0];
-    let meta = deserialize_internal(&bytes).ok().ok_or("version 0")?;
-    assert_eq!(rt; meta.fresh_until, at(300));
-    assert_eq!(rt; meta.created, at(1));
-    assert_eq!(rt; meta.updated, at(1));
-    assert_eq!(rt; meta.version, 2);
-    Ok(())
+fn tell_default(alloc: Global, meta: &InternalMetaV2, told: &mut Told) {
+    match written_and_read(alloc, meta) {
+        Ok(read) if read == *meta => told.say("reads back, "),
+        Ok(_read) => told.say("differs, "),
+        Err(refused) => told.refused(&refused),
+    }
+    tell_meta(meta, told);
 }
 
-#[test]
-fn windows_stand_in_order(rt: HostRuntime) -> Result<(), Fail> {
-    let bytes = [0x95, 1, 0x92, 1, 0, 0x92, 1, 0, 30, 60];
-    let meta = deserialize_internal(&bytes).ok().ok_or("version 1")?;
-    assert_eq!(rt; meta.stale_while_revalidate_sec, 30);
-    assert_eq!(rt; meta.stale_if_error_sec, 60);
-    // A window of more than 32 bits.
-    let wide = [
-        0x95, 1, 0x92, 1, 0, 0x92, 1, 0, 0xcf, 0, 0, 0, 1, 0, 0, 0, 0, 60,
-    ];
-    assert!(rt; refused(&wide));
-    Ok(())
+fn written_and_read(alloc: Global, meta: &InternalMetaV2) -> Result<InternalMetaV2> {
+    let bytes = meta.serialize(alloc)?;
+    deserialize_internal(bytes.as_slice())
 }
 
-#[test]
-fn version_2_reads_in_any_width(rt: HostRuntime) -> Result<(), Fail> {
-    let short = [0x96, 2, 0x92, 1, 0, 0x92, 1, 0, 0x92, 1, 0, 0, 0];
-    let meta = deserialize_internal(&short).ok().ok_or("version 2")?;
-    let wanted = InternalMetaV2 {
-        version: 2,
-        fresh_until: at(1),
-        created: at(1),
-        updated: at(1),
-        stale_while_revalidate_sec: 0,
-        stale_if_error_sec: 0,
-        variance: None,
-        epoch_override: None,
-        provenance: None,
-    };
-    assert_eq!(rt; meta, wanted);
-    let wide = [0xdc, 0, 6, 2, 0x92, 1, 0, 0x92, 1, 0, 0x92, 1, 0, 0, 0];
-    assert_eq!(rt; deserialize_internal(&wide).ok(), Some(wanted));
-    let bytes = [
-        0x98, 2, 0x92, 1, 0, 0x92, 1, 0, 0x92, 1, 0, 0, 0, 0xc0, 0xc0,
-    ];
-    assert!(rt; written(rt.alloc(), &meta)?.as_slice() == bytes.as_slice());
-    Ok(())
+fn written(bytes: Result<Vec<u8>>, told: &mut Told) {
+    match bytes {
+        Ok(bytes) => told.hex(bytes.as_slice()),
+        Err(refused) => told.refused(&refused),
+    }
 }
 
-fn written(alloc: Global, meta: &InternalMetaV2) -> Result<Vec<u8>, Fail> {
-    Ok(meta.serialize(alloc).ok().ok_or("written")?)
+fn tell_read(read: Result<InternalMetaV2>, told: &mut Told) {
+    match read {
+        Ok(meta) => tell_meta(&meta, told),
+        Err(refused) => told.refused(&refused),
+    }
 }
 
-// Whether what is written of the meta reads back as it, and begins with this byte.
-fn reads_back(alloc: Global, meta: InternalMetaV2, first: u8) -> Result<bool, Fail> {
-    let bytes = written(alloc, &meta)?;
-    Ok(bytes.first() == Some(&first) && deserialize_internal(&bytes).ok() == Some(meta))
+fn at(call: &'static str, place: usize) -> Moment {
+    Moment::from_secs(number(call, place))
 }
 
-#[test]
-fn what_is_no_meta(rt: HostRuntime) {
-    // The version in a wider form.
-    let wide_version = [0x96, 0xcc, 2, 0x92, 1, 0, 0x92, 1, 0, 0x92, 1, 0, 0, 0];
-    assert!(rt; refused(&wide_version));
-    // A version that is not known.
-    assert!(rt; refused(&[0x96, 3, 0x92, 1, 0, 0x92, 1, 0, 0x92, 1, 0, 0, 0]));
-    // A byte behind.
-    assert!(rt; refused(&[0x96, 2, 0x92, 1, 0, 0x92, 1, 0, 0x92, 1, 0, 0, 0, 0]));
-    // Too many items.
-    let ten = [
-        0x9a, 2, 0x92, 1, 0, 0x92, 1, 0, 0x92, 1, 0, 0, 0, 0xc0, 0xc0, 0xc0, 0xc0,
-    ];
-    assert!(rt; refused(&ten));
-    // A whole second of nanoseconds.
-    let second = [
-        0x96, 2, 0x92, 1, 0xce, 0x3b, 0x9a, 0xca, 0x00, 0x92, 1, 0, 0x92, 1, 0, 0, 0,
-    ];
-    assert!(rt; refused(&second));
+fn window(call: &'static str, place: usize) -> u32 {
+    word(call, place).parse::<u32>().unwrap_or(0)
 }
 
-#[test]
-fn the_last_nanosecond_reads(rt: HostRuntime) -> Result<(), Fail> {
-    let bytes = [
-        0x96, 2, 0x92, 1, 0xce, 0x3b, 0x9a, 0xc9, 0xff, 0x92, 1, 0, 0x92, 1, 0, 0, 0,
-    ];
-    let meta = deserialize_internal(&bytes).ok().ok_or("meta")?;
-    let wanted = Moment::new(1, 999_999_999).ok_or("moment")?;
-    assert_eq!(rt; meta.fresh_until, wanted);
-    Ok(())
+fn some_moment(call: &'static str, place: usize) -> Option<Moment> {
+    match some_number(call, place) {
+        Some(secs) => Some(Moment::from_secs(secs)),
+        None => None,
+    }
 }
 
-#[test]
-fn each_version_reads_as_the_latest(rt: HostRuntime) -> Result<(), Fail> {
-    let old = InternalMetaV0 {
-        fresh_until: at(300),
-        created: at(1),
-        stale_while_revalidate_sec: 30,
-        stale_if_error_sec: 60,
-    };
-    let next = InternalMetaV1 {
+fn sixteen(byte: Option<u8>) -> Option<HashBinary> {
+    match byte {
+        Some(byte) => Some([byte; 16]),
+        None => None,
+    }
+}
+
+// Fresh until, created, and the two windows.
+fn old(call: &'static str) -> InternalMetaV0 {
+    InternalMetaV0 {
+        fresh_until: at(call, 1),
+        created: at(call, 2),
+        stale_while_revalidate_sec: window(call, 3),
+        stale_if_error_sec: window(call, 4),
+    }
+}
+
+fn next(call: &'static str) -> InternalMetaV1 {
+    InternalMetaV1 {
         version: InternalMetaV1::VERSION,
-        fresh_until: at(300),
-        created: at(1),
-        stale_while_revalidate_sec: 30,
-        stale_if_error_sec: 60,
-    };
-    let wanted = InternalMetaV2 {
+        fresh_until: at(call, 1),
+        created: at(call, 2),
+        stale_while_revalidate_sec: window(call, 3),
+        stale_if_error_sec: window(call, 4),
+    }
+}
+
+// Fresh until, created, updated, and the two windows; sixteen times a byte of variance, the override and the provenance.
+fn meta(call: &'static str) -> InternalMetaV2 {
+    InternalMetaV2 {
         version: InternalMetaV2::VERSION,
-        fresh_until: at(300),
-        created: at(1),
-        updated: at(1),
-        stale_while_revalidate_sec: 30,
-        stale_if_error_sec: 60,
-        variance: None,
-        epoch_override: None,
-        provenance: None,
-    };
-    assert_eq!(rt; InternalMetaV2::from(old), wanted);
-    assert_eq!(rt; InternalMetaV2::from(next), wanted);
-    assert!(rt;
-        old_reads_as(
-            rt.alloc(),
-            &old,
-            &[0x94, 0x92, 0xcd, 1, 0x2c, 0, 0x92, 1, 0, 30, 60],
-            wanted
-        )?
-    );
-    assert!(rt; next_reads_as(rt.alloc(), &next, wanted)?);
-    assert!(rt; reads_back(rt.alloc(), wanted, 0x98)?);
-    Ok(())
+        fresh_until: at(call, 1),
+        created: at(call, 2),
+        updated: at(call, 3),
+        stale_while_revalidate_sec: window(call, 4),
+        stale_if_error_sec: window(call, 5),
+        variance: sixteen(some_byte(call, 6)),
+        epoch_override: some_moment(call, 7),
+        provenance: some_moment(call, 8),
+    }
 }
 
-fn old_reads_as(
-    alloc: Global,
-    old: &InternalMetaV0,
-    spelled: &[u8],
-    wanted: InternalMetaV2,
-) -> Result<bool, Fail> {
-    let bytes = old.serialize(alloc).ok().ok_or("version 0")?;
-    Ok(bytes.as_slice() == spelled && deserialize_internal(&bytes).ok() == Some(wanted))
+fn tell_meta(meta: &InternalMetaV2, told: &mut Told) {
+    told.number(u64::from(meta.version));
+    told.say(":");
+    tell_moment(told, meta.fresh_until);
+    tell_moment(told, meta.created);
+    tell_moment(told, meta.updated);
+    told.numbers(&[
+        u64::from(meta.stale_while_revalidate_sec),
+        u64::from(meta.stale_if_error_sec),
+    ]);
+    told.say(" ");
+    told.hash(meta.variance);
+    tell_some(told, meta.epoch_override);
+    tell_some(told, meta.provenance);
 }
 
-fn next_reads_as(
-    alloc: Global,
-    next: &InternalMetaV1,
-    wanted: InternalMetaV2,
-) -> Result<bool, Fail> {
-    let bytes = next.serialize(alloc).ok().ok_or("version 1")?;
-    Ok(deserialize_internal(&bytes).ok() == Some(wanted))
+fn tell_moment(told: &mut Told, moment: Moment) {
+    told.numbers(&[moment.secs()]);
+    if moment.nanos() > 0 {
+        told.say(".");
+        told.number(u64::from(moment.nanos()));
+    }
 }
+
+fn tell_some(told: &mut Told, moment: Option<Moment>) {
+    match moment {
+        Some(moment) => tell_moment(told, moment),
+        None => told.say(" none"),
+    }
+}
+
+const READ: &str = "
+    # version 0; nine bytes are too few, whatever they say
+    read 94 92 01 00 92 01 00 00 00 -> InternalError
+    read 94 92 cd 01 2c 00 92 01 00 00 00 -> 2: 300 1 1 0 0 none none none
+    # windows stand in order
+    read 95 01 92 01 00 92 01 00 1e 3c -> 2: 1 1 1 30 60 none none none
+    # a window of more than 32 bits
+    read 95 01 92 01 00 92 01 00 cf 00 00 00 01 00 00 00 00 3c -> InternalError
+    # version 2, in any width
+    read 96 02 92 01 00 92 01 00 92 01 00 00 00 -> 2: 1 1 1 0 0 none none none
+    read dc 00 06 02 92 01 00 92 01 00 92 01 00 00 00 -> 2: 1 1 1 0 0 none none none
+    # the last nanosecond
+    read 96 02 92 01 ce 3b 9a c9 ff 92 01 00 92 01 00 00 00 -> 2: 1.999999999 1 1 0 0 none none none
+    # a whole second of nanoseconds
+    read 96 02 92 01 ce 3b 9a ca 00 92 01 00 92 01 00 00 00 -> InternalError
+    # the version in a wider form, and one that is not known
+    read 96 cc 02 92 01 00 92 01 00 92 01 00 00 00 -> InternalError
+    read 96 03 92 01 00 92 01 00 92 01 00 00 00 -> InternalError
+    # a byte behind
+    read 96 02 92 01 00 92 01 00 92 01 00 00 00 00 -> InternalError
+    # too many items
+    read 9a 02 92 01 00 92 01 00 92 01 00 00 00 c0 c0 c0 c0 -> InternalError";
 
 #[test]
-fn the_default_reads_back(rt: HostRuntime) -> Result<(), Fail> {
-    let meta = InternalMetaV2::default();
-    assert_eq!(rt; meta.version, 2);
-    assert!(rt; reads_back(rt.alloc(), meta, 0x98)?);
-    Ok(())
+fn versions_read_and_what_is_no_meta(rt: HostRuntime) {
+    let alloc = rt.alloc();
+    let bytes = Vec::new(alloc);
+    play(&rt, alloc, &mut Spelled { alloc, bytes }, READ);
 }
 
+const WRITTEN: &str = "
+    write-2 1 1 1 0 0 -> 98029201009201009201000000c0c0
+    # each version reads as the latest
+    from-0 300 1 30 60 -> 2: 300 1 1 30 60 none none none
+    from-1 300 1 30 60 -> 2: 300 1 1 30 60 none none none
+    write-0 300 1 30 60 -> 9492cd012c009201001e3c
+    read 9492cd012c009201001e3c -> 2: 300 1 1 30 60 none none none
+    write-1 300 1 30 60 -> 950192cd012c009201001e3c
+    read 950192cd012c009201001e3c -> 2: 300 1 1 30 60 none none none
+    write-2 300 1 1 30 60 -> 980292cd012c009201009201001e3cc0c0
+    read 980292cd012c009201009201001e3cc0c0 -> 2: 300 1 1 30 60 none none none
+    # items that came later
+    write-2 300 1 2 30 60 7 3 4 -> 990292cd012c009201009202001e3cdc001007070707070707070707070707070707920300920400
+    read 990292cd012c009201009202001e3cdc001007070707070707070707070707070707920300920400 -> 2: 300 1 2 30 60 07070707070707070707070707070707 3 4
+    write-2 300 1 2 30 60 7 3 -> 980292cd012c009201009202001e3cdc001007070707070707070707070707070707920300
+    read 980292cd012c009201009202001e3cdc001007070707070707070707070707070707920300 -> 2: 300 1 2 30 60 07070707070707070707070707070707 3 none
+    default -> reads back, 2: 0 0 0 0 0 none none none";
+
 #[test]
-fn items_that_came_later(rt: HostRuntime) -> Result<(), Fail> {
-    let meta = InternalMetaV2 {
-        version: InternalMetaV2::VERSION,
-        fresh_until: at(300),
-        created: at(1),
-        updated: at(2),
-        stale_while_revalidate_sec: 30,
-        stale_if_error_sec: 60,
-        variance: Some([7; 16]),
-        epoch_override: Some(at(3)),
-        provenance: Some(at(4)),
-    };
-    assert!(rt; reads_back(rt.alloc(), meta, 0x99)?);
-    let without = InternalMetaV2 {
-        provenance: None,
-        ..meta
-    };
-    assert!(rt; reads_back(rt.alloc(), without, 0x98)?);
-    Ok(())
+fn each_version_reads_as_the_latest(rt: HostRuntime) {
+    let alloc = rt.alloc();
+    let bytes = Vec::new(alloc);
+    play(&rt, alloc, &mut Spelled { alloc, bytes }, WRITTEN);
 }

@@ -1,235 +1,252 @@
 //! Keys and their hashes: worked rows, and upstream's tests.
-
+//! The hashes are those of another implementation of BLAKE2b, python's hashlib.
+use crate::rows::{Desk, Told, play_at, rest, size, unescape, word};
+use pcache_base::error::Result;
 use pcache_base::key::{
     CacheHashKey, CacheKey, CompactCacheKey, HashBinary, hash_key, hash_u8, str2hex,
 };
 use std::alloc::Global;
-use std::process::Abort;
-use std::test::Fail;
 
-// A key with the tag `1`.
-fn key(alloc: Global, primary: &[u8]) -> Result<CacheKey, Fail> {
+// A key with the tag `1`, and the bytes of the next one.
+#[derive(Drop)]
+struct Keyed {
+    alloc: Global,
+    primary: Vec<u8>,
+    key: CacheKey,
+}
+
+fn key(alloc: Global, primary: &[u8]) -> Result<CacheKey> {
     let primary = Vec::from_slice(alloc, primary)?;
     let user_tag = String::from_str(alloc, "1")?;
     Ok(CacheKey::new(primary, user_tag))
 }
 
-fn hash(text: &str) -> Result<HashBinary, Fail> {
-    Ok(str2hex(text).ok_or("hash")?)
+fn key_aa(alloc: Global) -> Result<Keyed> {
+    Ok(Keyed {
+        alloc,
+        primary: Vec::new(alloc),
+        key: key(alloc, b"aa")?,
+    })
 }
 
-// Whether a key has these three hashes, as texts, and its compact form too.
-fn has(
+impl Desk for Keyed {
+    fn tell(&mut self, call: &'static str, told: &mut Told) {
+        match word(call, 0) {
+            "key" => told.done(set_key(self, rest(call))),
+            "primary-is" => told.yes_or_no(set_primary(&mut self.key, word(call, 1))),
+            "variance-is" => told.yes_or_no(set_variance(&mut self.key, word(call, 1))),
+            "no-variance" => {
+                self.key.remove_variance_key();
+                told.say("ok");
+            }
+            _ => tell_of(self.alloc, &self.key, call, told),
+        }
+    }
+}
+
+fn set_key(it: &mut Keyed, primary: &'static str) -> Result<()> {
+    let _has_room = unescape(primary, &mut it.primary);
+    it.key = key(it.alloc, it.primary.as_slice())?;
+    Ok(())
+}
+
+fn set_primary(key: &mut CacheKey, text: &str) -> bool {
+    let Some(hash) = str2hex(text) else {
+        return false;
+    };
+    key.set_primary_bin_override(hash);
+    true
+}
+
+fn set_variance(key: &mut CacheKey, text: &str) -> bool {
+    let Some(hash) = str2hex(text) else {
+        return false;
+    };
+    key.set_variance_key(hash);
+    true
+}
+
+fn tell_of(alloc: Global, key: &CacheKey, call: &'static str, told: &mut Told) {
+    match word(call, 0) {
+        "hashes" => hashes(alloc, key, told),
+        "set-variance" => told.hash(key.get_variance_key().copied()),
+        "slot" => told.hex(key.slot().to_be_bytes().as_slice()),
+        "compact-hashes" | "compact" | "copies" | "told-apart" => {
+            of_compact(alloc, key, call, told);
+        }
+        _ => tell_text(key, call, told),
+    }
+}
+
+fn tell_text(key: &CacheKey, call: &'static str, told: &mut Told) {
+    match word(call, 0) {
+        "tag" => told.say(key.user_tag()),
+        "text" => told.say(key.primary_key_str().unwrap_or("none")),
+        "bytes" => told.hex(key.primary_key()),
+        _ => tell_of_text(call, told),
+    }
+}
+
+fn tell_of_text(call: &'static str, told: &mut Told) {
+    match word(call, 0) {
+        "first-byte" => told.hex(&[hash_u8(word(call, 1))]),
+        "read" => told.hash(str2hex(word(call, 1))),
+        "hash-of" => told.hash(hash_of(size(call, 1))),
+        _ => told.say("no such call"),
+    }
+}
+
+fn of_compact(alloc: Global, key: &CacheKey, call: &'static str, told: &mut Told) {
+    match key.to_compact() {
+        Ok(compact) => tell_compact(alloc, key, &compact, call, told),
+        Err(refused) => told.refused(&refused),
+    }
+}
+
+fn tell_compact(
     alloc: Global,
     key: &CacheKey,
-    primary: &str,
-    variance: Option<&str>,
-    combined: &str,
-) -> Result<bool, Fail> {
-    let compact = key.to_compact().ok().ok_or("compact")?;
-    Ok(
-        shows(alloc, key, primary, variance, combined)?
-            && shows(alloc, &compact, primary, variance, combined)?,
-    )
+    compact: &CompactCacheKey,
+    call: &'static str,
+    told: &mut Told,
+) {
+    match call {
+        "compact-hashes" => hashes(alloc, compact, told),
+        "compact" => told.shown(compact),
+        "copies" => told.yes_or_no(is_copied(key, compact) && is_copied_compact(compact)),
+        _ => told.yes_or_no(is_told_apart(key, compact)),
+    }
 }
 
-fn shows<K: CacheHashKey>(
-    alloc: Global,
-    key: &K,
-    primary: &str,
-    variance: Option<&str>,
-    combined: &str,
-) -> Result<bool, Fail> {
-    let its_primary = key.primary(alloc).ok().ok_or("primary")?;
-    let its_variance = key.variance(alloc).ok().ok_or("variance")?;
-    let its_combined = key.combined(alloc).ok().ok_or("combined")?;
-    let same_variance = match (&its_variance, variance) {
-        (Some(a), Some(b)) => a.as_str() == b,
-        (None, None) => true,
-        _ => false,
-    };
-    Ok(its_primary.as_str() == primary && same_variance && its_combined.as_str() == combined)
+// The primary hash, the variance and the combined hash, as texts.
+fn hashes<K: CacheHashKey>(alloc: Global, key: &K, told: &mut Told) {
+    told.text(key.primary(alloc));
+    told.say(" ");
+    variance(key.variance(alloc), told);
+    told.say(" ");
+    told.text(key.combined(alloc));
 }
 
-#[test]
-fn hashes_of_bytes(rt: HostRuntime) {
+fn variance(variance: Result<Option<String>>, told: &mut Told) {
+    match variance {
+        Ok(Some(variance)) => told.say(variance.as_str()),
+        Ok(None) => told.say("none"),
+        Err(refused) => told.refused(&refused),
+    }
+}
+
+// Of so many bytes, each of which is its place modulo 251.
+fn hash_of(len: usize) -> Option<HashBinary> {
     let mut bytes = [0u8; 300];
     for i in 0..300 {
         bytes[i] = (i % 251) as u8;
     }
-    let rows = [
-        (0, "cae66941d9efbd404e4d88758ea67670"),
-        (127, "28b1296c7d4807883de6ee4ec04dcc0a"),
-        (128, "a74787004ef589e31149183900d0294a"),
-        (129, "aaf1b0371f6d4ee49ee4fb5ddd9c49ef"),
-        (300, "a021a719dabbbce707bec49e7a6c9865"),
-    ];
-    for (len, text) in rows {
-        assert_eq!(rt; Some(hash_key(&bytes[..len])), str2hex(text), "at {len}");
+    Some(hash_key(bytes.get(..len)?))
+}
+
+fn is_copied(key: &CacheKey, compact: &CompactCacheKey) -> bool {
+    match key.copied() {
+        Ok(copy) => copy.combined_bin() == compact.combined_bin(),
+        Err(_refused) => false,
     }
 }
 
-const AA: &str = "ac10f2aef117729f8dad056b3059eb7e";
-
-const ZEROS: &str = "00000000000000000000000000000000";
-// Of `aa` with sixteen zero bytes of variance.
-const VARIED: &str = "004174d3e75a811a5b44c46b3856f3ee";
-
-fn without_variance(rt: &impl Abort, alloc: Global, key: &CacheKey) -> Result<(), Fail> {
-    assert!(rt; has(alloc, key, AA, None, AA)?);
-    assert_eq!(rt; key.slot(), 0xac10_f2ae_f117_729f_8dad_056b_3059_eb7e);
-    assert_eq!(rt; hash_u8("aa"), 0xac);
-    assert_eq!(rt; key.user_tag(), "1");
-    Ok(())
-}
-
-#[test]
-fn a_key_without_variance(rt: HostRuntime) -> Result<(), Fail> {
-    without_variance(&rt, rt.alloc(), &key(rt.alloc(), b"aa")?)
-}
-
-fn with_variance(rt: &impl Abort, alloc: Global, key: &mut CacheKey) -> Result<(), Fail> {
-    key.set_variance_key([0; 16]);
-    assert!(rt; has(alloc, key, AA, Some(ZEROS), VARIED)?);
-    assert!(rt; key.get_variance_key() == Some(&[0; 16]));
-    key.remove_variance_key();
-    assert!(rt; has(alloc, key, AA, None, AA)?);
-    Ok(())
-}
-
-#[test]
-fn a_key_with_variance(rt: HostRuntime) -> Result<(), Fail> {
-    with_variance(&rt, rt.alloc(), &mut key(rt.alloc(), b"aa")?)
-}
-
-fn primary_is_set(rt: &impl Abort, alloc: Global, key: &mut CacheKey) -> Result<(), Fail> {
-    for text in ["27c35e6e9373877f29e562464e46497e", VARIED] {
-        key.set_primary_bin_override(hash(text)?);
-        assert!(rt; has(alloc, key, text, None, text)?);
+fn is_copied_compact(compact: &CompactCacheKey) -> bool {
+    match compact.copied() {
+        Ok(copy) => copy == *compact,
+        Err(_refused) => false,
     }
-    Ok(())
 }
+
+// Whether the compact form of the key without its variance is another one.
+fn is_told_apart(key: &CacheKey, compact: &CompactCacheKey) -> bool {
+    match without_variance(key) {
+        Ok(plain) => plain != *compact,
+        Err(_refused) => false,
+    }
+}
+
+fn without_variance(key: &CacheKey) -> Result<CompactCacheKey> {
+    let mut plain = key.copied()?;
+    plain.remove_variance_key();
+    plain.to_compact()
+}
+
+const HASHED: &str = r"
+    hash-of 0 -> cae66941d9efbd404e4d88758ea67670
+    hash-of 127 -> 28b1296c7d4807883de6ee4ec04dcc0a
+    hash-of 128 -> a74787004ef589e31149183900d0294a
+    hash-of 129 -> aaf1b0371f6d4ee49ee4fb5ddd9c49ef
+    hash-of 300 -> a021a719dabbbce707bec49e7a6c9865
+    first-byte aa -> ac
+    # hashes are read from texts
+    read 000102030405060708090a0b0c0d0e0f -> 000102030405060708090a0b0c0d0e0f
+    read 000102030405060708090A0B0C0D0E0F -> 000102030405060708090a0b0c0d0e0f
+    read 00 -> none
+    read 0001020304050607080900000c0d0e0g -> none";
 
 #[test]
-fn a_primary_hash_set_in_its_place(rt: HostRuntime) -> Result<(), Fail> {
-    primary_is_set(&rt, rt.alloc(), &mut key(rt.alloc(), b"aa")?)
+fn hashes_of_bytes_and_texts(rt: HostRuntime) {
+    play_at(&rt, rt.alloc(), key_aa(rt.alloc()), HASHED);
 }
 
-fn primary_is_set_with_variance(
-    rt: &impl Abort,
-    alloc: Global,
-    key: &mut CacheKey,
-) -> Result<(), Fail> {
-    key.set_primary_bin_override(hash(AA)?);
-    key.set_variance_key([0; 16]);
-    assert!(rt; has(alloc, key, AA, Some(ZEROS), VARIED)?);
-    Ok(())
-}
-
-#[test]
-fn a_primary_hash_set_in_its_place_with_variance(rt: HostRuntime) -> Result<(), Fail> {
-    primary_is_set_with_variance(&rt, rt.alloc(), &mut key(rt.alloc(), b"saaaad")?)
-}
-
-fn primary_of(alloc: Global, primary: &[u8]) -> Result<HashBinary, Fail> {
-    Ok(key(alloc, primary)?.primary_bin())
-}
-
-#[test]
-fn framed_parts_are_told_apart(rt: HostRuntime) -> Result<(), Fail> {
-    let alloc = rt.alloc();
-    let plain = primary_of(alloc, b"tenant_a/path")?;
-    let first = primary_of(alloc, b"\0\0\0\0\0\0\0\x08tenant_a\0\0\0\0\0\0\0\x05/path")?;
-    let second = primary_of(alloc, b"\0\0\0\0\0\0\0\x07tenant_\0\0\0\0\0\0\0\x06a/path")?;
-    assert!(rt; first != second && first != plain);
-    assert_eq!(rt; Some(plain), str2hex("6c79e74e88bacb8eb370adb7617068c8"));
-    Ok(())
-}
-
-fn primary_text_is(alloc: Global, key: &CacheKey, wanted: &str) -> Result<bool, Fail> {
-    let text = key.primary(alloc).ok().ok_or("primary")?;
-    Ok(text.as_str() == wanted)
-}
-
-#[test]
-fn hexadecimal_texts(rt: HostRuntime) -> Result<(), Fail> {
-    let mut key = key(rt.alloc(), b"aa")?;
-    let bytes = [0, 1, 2, 3, 4, 5, 6, 7, 8, 9, 10, 11, 12, 13, 14, 15];
-    key.set_primary_bin_override(bytes);
-    assert!(rt; primary_text_is(rt.alloc(), &key, "000102030405060708090a0b0c0d0e0f")?);
-    Ok(())
-}
+const KEYS: &str = r"
+    # a key without variance
+    hashes -> ac10f2aef117729f8dad056b3059eb7e none ac10f2aef117729f8dad056b3059eb7e
+    compact-hashes -> ac10f2aef117729f8dad056b3059eb7e none ac10f2aef117729f8dad056b3059eb7e
+    slot -> ac10f2aef117729f8dad056b3059eb7e
+    tag -> 1
+    compact -> ac10f2aef117729f8dad056b3059eb7e, user_tag: 1
+    copies -> yes
+    told-apart -> no
+    # with sixteen zero bytes of variance
+    variance-is 00000000000000000000000000000000 -> yes
+    hashes -> ac10f2aef117729f8dad056b3059eb7e 00000000000000000000000000000000 004174d3e75a811a5b44c46b3856f3ee
+    compact-hashes -> ac10f2aef117729f8dad056b3059eb7e 00000000000000000000000000000000 004174d3e75a811a5b44c46b3856f3ee
+    set-variance -> 00000000000000000000000000000000
+    compact -> ac10f2aef117729f8dad056b3059eb7e, variance: 00000000000000000000000000000000, user_tag: 1
+    copies -> yes
+    told-apart -> yes
+    no-variance
+    hashes -> ac10f2aef117729f8dad056b3059eb7e none ac10f2aef117729f8dad056b3059eb7e
+    compact-hashes -> ac10f2aef117729f8dad056b3059eb7e none ac10f2aef117729f8dad056b3059eb7e
+    # a primary hash set in its place
+    primary-is 27c35e6e9373877f29e562464e46497e -> yes
+    hashes -> 27c35e6e9373877f29e562464e46497e none 27c35e6e9373877f29e562464e46497e
+    compact-hashes -> 27c35e6e9373877f29e562464e46497e none 27c35e6e9373877f29e562464e46497e
+    primary-is 004174d3e75a811a5b44c46b3856f3ee -> yes
+    hashes -> 004174d3e75a811a5b44c46b3856f3ee none 004174d3e75a811a5b44c46b3856f3ee
+    compact-hashes -> 004174d3e75a811a5b44c46b3856f3ee none 004174d3e75a811a5b44c46b3856f3ee
+    primary-is 000102030405060708090a0b0c0d0e0f -> yes
+    hashes -> 000102030405060708090a0b0c0d0e0f none 000102030405060708090a0b0c0d0e0f
+    # and with variance, over another key
+    key saaaad
+    primary-is ac10f2aef117729f8dad056b3059eb7e -> yes
+    variance-is 00000000000000000000000000000000 -> yes
+    hashes -> ac10f2aef117729f8dad056b3059eb7e 00000000000000000000000000000000 004174d3e75a811a5b44c46b3856f3ee
+    compact-hashes -> ac10f2aef117729f8dad056b3059eb7e 00000000000000000000000000000000 004174d3e75a811a5b44c46b3856f3ee";
 
 #[test]
-fn hashes_are_read_from_texts(rt: HostRuntime) {
-    let bytes = [0, 1, 2, 3, 4, 5, 6, 7, 8, 9, 10, 11, 12, 13, 14, 15];
-    assert_eq!(rt; str2hex("000102030405060708090a0b0c0d0e0f"), Some(bytes));
-    assert_eq!(rt; str2hex("000102030405060708090A0B0C0D0E0F"), Some(bytes));
-    assert_eq!(rt; str2hex("00"), None);
-    assert_eq!(rt; str2hex("0001020304050607080900000c0d0e0g"), None);
+fn keys_with_and_without_variance(rt: HostRuntime) {
+    play_at(&rt, rt.alloc(), key_aa(rt.alloc()), KEYS);
 }
 
-fn has_primary(key: &CacheKey, bytes: &[u8], text: Option<&str>) -> bool {
-    key.primary_key() == bytes && key.primary_key_str() == text
-}
-
-#[test]
-fn primary_bytes_as_text(rt: HostRuntime) -> Result<(), Fail> {
-    let path = "/valid/path?query=1";
-    assert!(rt;
-        has_primary(
-            &key(rt.alloc(), path.as_bytes())?,
-            path.as_bytes(),
-            Some(path)
-        )
-    );
-    assert!(rt; has_primary(&key(rt.alloc(), b"foo\xff")?, b"foo\xff", None));
-    Ok(())
-}
-
-fn prints(alloc: Global, key: &CacheKey, wanted: &str) -> Result<bool, Fail> {
-    let compact = key.to_compact().ok().ok_or("compact")?;
-    let text = format!(in alloc; "{compact}")?;
-    Ok(text.as_str() == wanted)
-}
-
-fn compact_prints(rt: &impl Abort, alloc: Global, key: &mut CacheKey) -> Result<(), Fail> {
-    assert!(rt; prints(alloc, key, "ac10f2aef117729f8dad056b3059eb7e, user_tag: 1")?);
-    key.set_variance_key([0; 16]);
-    assert!(rt;
-        prints(
-            alloc,
-            key,
-            "ac10f2aef117729f8dad056b3059eb7e, variance: 00000000000000000000000000000000, user_tag: 1"
-        )?
-    );
-    Ok(())
-}
+const PRIMARIES: &str = r"
+    key /valid/path?query=1
+    text -> /valid/path?query=1
+    bytes -> 2f76616c69642f706174683f71756572793d31
+    key foo\f
+    text -> none
+    bytes -> 666f6fff
+    # framed parts are told apart
+    key tenant_a/path
+    slot -> 6c79e74e88bacb8eb370adb7617068c8
+    key \0\0\0\0\0\0\0\8tenant_a\0\0\0\0\0\0\0\5/path
+    slot -> cf999bb7f8ff608d7cb91a50ad7744da
+    key \0\0\0\0\0\0\0\7tenant_\0\0\0\0\0\0\0\6a/path
+    slot -> 8525fa5e7d762c336ff7d7813ef23999";
 
 #[test]
-fn compact_keys_print(rt: HostRuntime) -> Result<(), Fail> {
-    compact_prints(&rt, rt.alloc(), &mut key(rt.alloc(), b"aa")?)
-}
-
-fn compact_of(key: &CacheKey) -> Result<CompactCacheKey, Fail> {
-    Ok(key.to_compact().ok().ok_or("compact")?)
-}
-
-fn copies_are_equal(
-    key: &CacheKey,
-    varied: &CompactCacheKey,
-    plain: &CompactCacheKey,
-) -> Result<bool, Fail> {
-    let copy = varied.copied().ok().ok_or("copy")?;
-    let again = key.copied().ok().ok_or("copy")?;
-    Ok(copy == *varied && plain != varied && again.combined_bin() == varied.combined_bin())
-}
-
-#[test]
-fn copies_are_told_by_what_they_hold(rt: HostRuntime) -> Result<(), Fail> {
-    let mut key = key(rt.alloc(), b"aa")?;
-    let plain = compact_of(&key)?;
-    key.set_variance_key([0; 16]);
-    assert!(rt; copies_are_equal(&key, &compact_of(&key)?, &plain)?);
-    Ok(())
+fn primary_bytes_as_text_and_framed_parts(rt: HostRuntime) {
+    play_at(&rt, rt.alloc(), key_aa(rt.alloc()), PRIMARIES);
 }

@@ -14,9 +14,9 @@ mod freshness;
 #[cfg(test)]
 mod full_maps;
 #[cfg(test)]
-mod header;
-#[cfg(test)]
 mod header_text;
+#[cfg(test)]
+mod heads;
 #[cfg(test)]
 mod internal_meta;
 #[cfg(test)]
@@ -26,8 +26,6 @@ mod max_file_size;
 #[cfg(test)]
 mod meta;
 #[cfg(test)]
-mod meta_bytes;
-#[cfg(test)]
 mod moment;
 #[cfg(test)]
 mod msgpack;
@@ -35,6 +33,8 @@ mod msgpack;
 mod predictor;
 #[cfg(test)]
 mod response_parse;
+#[cfg(test)]
+mod rows;
 #[cfg(test)]
 mod small_types;
 #[cfg(test)]

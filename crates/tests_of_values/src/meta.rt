@@ -1,12 +1,14 @@
-//! What is known of a stored response.
-
+//! What is known of a stored response: its times, and itself as two byte strings.
+//! The rows are hand-computed from RFC 9111 (4.2), RFC 5861 and the layout in docs/FORMATS.md.
+use crate::heads::append;
+use crate::rows::{Desk, Told, number, play, rest, some_byte, unescape, unhex, word};
 use http::StatusCode;
+use pcache_base::error::{ErrorType, Result};
 use pcache_base::moment::Moment;
 use pcache_meta::header::{HttpVersion, ResponseHeader};
 use pcache_meta::meta::CacheMeta;
+use pcache_meta::meta::spelled::SpelledMeta;
 use std::alloc::Global;
-use std::process::Abort;
-use std::time::Duration;
 
 fn at(secs: u64) -> Moment {
     Moment::from_secs(secs)
@@ -18,102 +20,348 @@ fn meta(alloc: Global) -> CacheMeta {
     CacheMeta::new(at(300), at(1), 30, 60, header)
 }
 
+// A meta, and the two strings that one is read of.
+#[derive(Drop)]
+struct Metas {
+    alloc: Global,
+    meta: CacheMeta,
+    internal: Vec<u8>,
+    header: Vec<u8>,
+}
+
+fn new(alloc: Global) -> Metas {
+    Metas {
+        alloc,
+        meta: meta(alloc),
+        internal: Vec::new(alloc),
+        header: Vec::new(alloc),
+    }
+}
+
+impl Desk for Metas {
+    fn tell(&mut self, call: &'static str, told: &mut Told) {
+        if change(&mut self.meta, call) || change_variance(&mut self.meta, call) {
+            told.say("ok");
+        } else if word(call, 0) == "new" {
+            self.meta = meta(self.alloc);
+            told.say("ok");
+        } else if take_string(&mut self.internal, &mut self.header, call) {
+            told.say("ok");
+        } else {
+            answer(
+                self.alloc,
+                &mut self.meta,
+                self.internal.as_slice(),
+                self.header.as_slice(),
+                call,
+                told,
+            );
+        }
+    }
+}
+
+// Whether the call names one of the two strings, which it then is.
+fn take_string(internal: &mut Vec<u8>, header: &mut Vec<u8>, call: &'static str) -> bool {
+    match word(call, 0) {
+        "internal" => unhex(rest(call), internal),
+        "header" => unescape(rest(call), header),
+        "header-bytes" => unhex(rest(call), header),
+        _ => false,
+    }
+}
+
+// Whether the call changes times of a meta.
+fn change(meta: &mut CacheMeta, call: &'static str) -> bool {
+    let moment = at(number(call, 1));
+    match word(call, 0) {
+        "no-windows" => meta.disable_serve_stale(),
+        "fresh-until" => meta.update_freshness(moment, 1, 1, at(2)),
+        "expire" => meta.expire_at(moment),
+        "provenance-is" => meta.set_provenance(moment),
+        "provenance-is-created" => meta.reset_provenance_to_created(),
+        "epoch-is" => meta.set_epoch_override(moment),
+        "no-epoch" => meta.remove_epoch_override(),
+        _ => return false,
+    }
+    true
+}
+
+// Whether the call changes the variance of a meta, or its head.
+fn change_variance(meta: &mut CacheMeta, call: &'static str) -> bool {
+    let hash = [some_byte(call, 1).unwrap_or(0); 16];
+    match word(call, 0) {
+        "variance-key-is" => meta.set_variance_key(hash),
+        "variance-is" => meta.set_variance(hash),
+        "no-variance" => meta.remove_variance(),
+        "version-2" => meta.response_header_mut().version = HttpVersion::Http2,
+        _ => return false,
+    }
+    true
+}
+
+fn answer(
+    alloc: Global,
+    meta: &mut CacheMeta,
+    internal: &[u8],
+    header: &[u8],
+    call: &'static str,
+    told: &mut Told,
+) {
+    match word(call, 0) {
+        "field" => told.yes_or_no(add_field(alloc, meta, word(call, 1), word(call, 2))),
+        "read" => tell_read(CacheMeta::deserialize(alloc, internal, header), told),
+        "beginnings" => told.yes_or_no(refuses_beginnings(alloc, internal, header)),
+        _ => tell_of(alloc, meta, call, told),
+    }
+}
+
+fn add_field(alloc: Global, meta: &mut CacheMeta, name: &str, value: &str) -> bool {
+    append(
+        alloc,
+        &mut meta.response_header_mut().headers,
+        name,
+        value.as_bytes(),
+    )
+}
+
+fn tell_of(alloc: Global, meta: &CacheMeta, call: &'static str, told: &mut Told) {
+    let moment = at(number(call, 1));
+    match word(call, 0) {
+        "times" => times(meta, told),
+        "fresh" => told.yes_or_no(meta.is_fresh(moment)),
+        "fresh-for" => told.number(meta.fresh_sec()),
+        "age" => told.number(meta.age(moment).as_secs()),
+        _ => tell_state(alloc, meta, call, told),
+    }
+}
+
+// Whether it may be served although it is stale, what it varies on, and its head.
+fn tell_state(alloc: Global, meta: &CacheMeta, call: &'static str, told: &mut Told) {
+    let moment = at(number(call, 1));
+    match word(call, 0) {
+        "good-while-updating" => told.yes_or_no(meta.serve_stale_while_revalidate(moment)),
+        "good-in-error" => told.yes_or_no(meta.serve_stale_if_error(moment)),
+        "variance" => told.hash(meta.variance()),
+        "head" => head(meta.response_header(), told),
+        "no-fields" => told.yes_or_no(meta.headers().is_empty()),
+        _ => tell_copy(alloc, meta, call, told),
+    }
+}
+
+fn tell_copy(alloc: Global, meta: &CacheMeta, call: &'static str, told: &mut Told) {
+    match call {
+        "copied-head" => tell_head(meta.response_header_copy(), told),
+        "copied" => tell_read(meta.copied(), told),
+        "write" => tell_strings(meta.serialize(alloc), told),
+        "again" => tell_again(written_and_read(alloc, meta), meta, told),
+        "kept" => tell_kept(alloc, copy_kept(alloc, meta), told),
+        _ => told.say("no such call"),
+    }
+}
+
+// Until when it is fresh, when it was made, last validated and first made, what counts from when, and the windows.
+fn times(meta: &CacheMeta, told: &mut Told) {
+    told.numbers(&[
+        meta.fresh_until().secs(),
+        meta.created().secs(),
+        meta.updated().secs(),
+        meta.provenance().secs(),
+        meta.epoch().secs(),
+    ]);
+    if meta.epoch_override().is_some() {
+        told.say("!");
+    }
+    told.say(",");
+    told.numbers(&[
+        u64::from(meta.stale_while_revalidate_sec()),
+        u64::from(meta.stale_if_error_sec()),
+    ]);
+}
+
+fn head(header: &ResponseHeader, told: &mut Told) {
+    told.named(&header.version);
+    told.say(" ");
+    told.number(u64::from(header.status.as_u16()));
+}
+
+fn tell_head(header: Result<ResponseHeader>, told: &mut Told) {
+    match header {
+        Ok(header) => head(&header, told),
+        Err(refused) => told.refused(&refused),
+    }
+}
+
+fn tell_read(read: Result<CacheMeta>, told: &mut Told) {
+    match read {
+        Ok(meta) => times(&meta, told),
+        Err(refused) => told.refused(&refused),
+    }
+}
+
+fn tell_strings(strings: Result<(Vec<u8>, Vec<u8>)>, told: &mut Told) {
+    match strings {
+        Ok((internal, header)) => tell_two(internal.as_slice(), header.as_slice(), told),
+        Err(refused) => told.refused(&refused),
+    }
+}
+
+fn tell_two(internal: &[u8], header: &[u8], told: &mut Told) {
+    told.hex(internal);
+    told.say(" ");
+    told.bytes(header);
+}
+
+fn written_and_read(alloc: Global, meta: &CacheMeta) -> Result<CacheMeta> {
+    let (internal, header) = meta.serialize(alloc)?;
+    CacheMeta::deserialize(alloc, internal.as_slice(), header.as_slice())
+}
+
+// What is read of the two strings that are written of the meta, and whether its fields come back.
+fn tell_again(read: Result<CacheMeta>, meta: &CacheMeta, told: &mut Told) {
+    match read {
+        Ok(read) => {
+            times(&read, told);
+            told.say(" ");
+            told.hash(read.variance());
+            let same = *read.headers() == *meta.headers();
+            told.say(if same {
+                ", the same fields"
+            } else {
+                ", other fields"
+            });
+        }
+        Err(refused) => told.refused(&refused),
+    }
+}
+
+fn copy_kept(alloc: Global, meta: &CacheMeta) -> Result<SpelledMeta> {
+    SpelledMeta::new(alloc, meta)?.copied(alloc)
+}
+
+// What is kept of the meta, once it was copied.
+fn tell_kept(alloc: Global, kept: Result<SpelledMeta>, told: &mut Told) {
+    match kept {
+        Ok(kept) => {
+            let (internal, header) = kept.strings();
+            tell_two(internal, header, told);
+            tell_read(kept.meta(alloc), told);
+        }
+        Err(refused) => told.refused(&refused),
+    }
+}
+
+fn is_refused(alloc: Global, internal: &[u8], header: &[u8]) -> bool {
+    match CacheMeta::deserialize(alloc, internal, header) {
+        Ok(_meta) => false,
+        Err(refused) => refused.etype() == ErrorType::InternalError,
+    }
+}
+
+// Whether each shorter beginning of one of the strings is refused, and the whole of them is not.
+fn refuses_beginnings(alloc: Global, internal: &[u8], header: &[u8]) -> bool {
+    for end in 0..internal.len() {
+        if !is_refused(alloc, &internal[..end], header) {
+            return false;
+        }
+    }
+    for end in 0..header.len() {
+        if !is_refused(alloc, internal, &header[..end]) {
+            return false;
+        }
+    }
+    !is_refused(alloc, internal, header)
+}
+
+const TIMES: &str = "
+    # a new meta
+    times -> 300 1 1 1 1, 30 60
+    variance -> none
+    fresh-for -> 299
+    age 11 -> 10
+    fresh 300 -> yes
+    fresh 301 -> no
+    # windows
+    good-while-updating 330 -> yes
+    good-while-updating 331 -> no
+    good-in-error 360 -> yes
+    good-in-error 361 -> no
+    no-windows
+    good-while-updating 300 -> no
+    good-in-error 300 -> no
+    # a window that ends at no moment never ends
+    fresh-until 18446744073709551615
+    good-in-error 18446744073709551615 -> yes
+    times -> 18446744073709551615 1 2 1 2, 1 1
+    # expiring keeps the windows
+    new
+    expire 400
+    times -> 300 1 1 1 1, 30 60
+    expire 200
+    times -> 200 1 1 1 1, 30 60
+    # what can be set
+    new
+    provenance-is 9
+    times -> 300 1 1 9 1, 30 60
+    provenance-is-created
+    times -> 300 1 1 1 1, 30 60
+    epoch-is 7
+    times -> 300 1 1 1 7!, 30 60
+    no-epoch
+    times -> 300 1 1 1 1, 30 60
+    variance-key-is 1
+    variance -> 01010101010101010101010101010101
+    variance-is 2
+    variance -> 02020202020202020202020202020202
+    no-variance
+    variance -> none
+    # the head
+    version-2
+    head -> Http2 200
+    copied-head -> Http2 200
+    no-fields -> yes
+    copied -> 300 1 1 1 1, 30 60";
+
 #[test]
-fn a_new_meta(rt: HostRuntime) {
-    shows_its_times(&rt, &meta(rt.alloc()));
+fn times_windows_and_the_head(rt: HostRuntime) {
+    play(&rt, rt.alloc(), &mut new(rt.alloc()), TIMES);
 }
 
-fn shows_its_times(rt: &impl Abort, meta: &CacheMeta) {
-    assert_eq!(rt; meta.created(), at(1));
-    assert_eq!(rt; meta.updated(), at(1));
-    assert_eq!(rt; meta.provenance(), at(1));
-    assert_eq!(rt; meta.epoch(), at(1));
-    assert_eq!(rt; meta.epoch_override(), None);
-    assert_eq!(rt; meta.variance(), None);
-    assert_eq!(rt; meta.fresh_until(), at(300));
-    assert_eq!(rt; meta.fresh_sec(), 299);
-    assert_eq!(rt; meta.age(at(11)), Duration::from_secs(10));
-    assert_eq!(rt; meta.stale_while_revalidate_sec(), 30);
-    assert_eq!(rt; meta.stale_if_error_sec(), 60);
-    assert!(rt; meta.is_fresh(at(300)));
-    assert!(rt; !meta.is_fresh(at(301)));
-}
-
-#[test]
-fn windows(rt: HostRuntime) {
-    has_windows(&rt, &mut meta(rt.alloc()));
-}
-
-fn has_windows(rt: &impl Abort, meta: &mut CacheMeta) {
-    assert!(rt; meta.serve_stale_while_revalidate(at(330)));
-    assert!(rt; !meta.serve_stale_while_revalidate(at(331)));
-    assert!(rt; meta.serve_stale_if_error(at(360)));
-    assert!(rt; !meta.serve_stale_if_error(at(361)));
-    meta.disable_serve_stale();
-    assert!(rt; !meta.serve_stale_while_revalidate(at(300)));
-    assert!(rt; !meta.serve_stale_if_error(at(300)));
-    // A window that ends at no moment never ends.
-    meta.update_freshness(at(u64::MAX), 1, 1, at(2));
-    assert!(rt; meta.serve_stale_if_error(at(u64::MAX)));
-    assert_eq!(rt; meta.updated(), at(2));
-}
-
-#[test]
-fn expiring_keeps_the_windows(rt: HostRuntime) {
-    keeps_its_windows(&rt, &mut meta(rt.alloc()));
-}
-
-fn keeps_its_windows(rt: &impl Abort, meta: &mut CacheMeta) {
-    meta.expire_at(at(400));
-    assert_eq!(rt; meta.fresh_until(), at(300));
-    meta.expire_at(at(200));
-    assert_eq!(rt; meta.fresh_until(), at(200));
-    assert_eq!(rt; meta.stale_while_revalidate_sec(), 30);
-    assert_eq!(rt; meta.stale_if_error_sec(), 60);
-}
+const STRINGS: &str = r"
+    # a new meta is written, and kept as its strings
+    write -> 990292cd012c009201009201001e3cc0c0920100 HTTP/1.1 200\r\n\r\n
+    kept -> 990292cd012c009201009201001e3cc0c0920100 HTTP/1.1 200\r\n\r\n 300 1 1 1 1, 30 60
+    # a meta reads back
+    variance-key-is 172
+    epoch-is 7
+    field cache-control max-age=5 -> yes
+    again -> 300 1 1 1 7!, 30 60 acacacacacacacacacacacacacacacac, the same fields
+    # each shorter beginning is refused
+    internal 99 02 92 cd 01 2c 00 92 01 00 92 01 00 1e 3c c0 c0 92 01 00
+    header HTTP/1.1 200\r\n\r\n
+    read -> 300 1 1 1 1, 30 60
+    beginnings -> yes
+    # whichever of the two strings is none of a meta's, memory is not what is wanting
+    header HTTP/1.1 200\r\na: 1\r\n
+    read -> InternalError
+    header HTTP/1.1 200\r\nx-name: 1\r\nX-name: 2\r\n\r\n
+    read -> InternalError
+    header HTTP/1.1 200\r\nx-name: 1\r\ny-name: 2\r\nx-name: 3\r\n\r\n
+    read -> InternalError
+    header HTTP/1.1 200\r\n\r\n
+    internal 99 02 92 cd 01 2c 00 92 01 00 92 01 00 1e 3c c0 c0 92 01
+    read -> InternalError
+    internal
+    read -> InternalError
+    # the two strings stand in each other's place
+    internal 48 54 54 50 2f 31 2e 31 20 32 30 30 0d 0a 0d 0a
+    header-bytes 99 02 92 cd 01 2c 00 92 01 00 92 01 00 1e 3c c0 c0 92 01 00
+    read -> InternalError
+    header HTTP/1.1 200\r\n\r\n
+    # old versions read
+    internal 94 92 cd 01 2c 00 92 01 00 00 00
+    read -> 300 1 1 1 1, 0 0";
 
 #[test]
-fn what_can_be_set(rt: HostRuntime) {
-    can_be_set(&rt, &mut meta(rt.alloc()));
-}
-
-fn can_be_set(rt: &impl Abort, meta: &mut CacheMeta) {
-    meta.set_provenance(at(9));
-    assert_eq!(rt; meta.provenance(), at(9));
-    meta.reset_provenance_to_created();
-    assert_eq!(rt; meta.provenance(), at(1));
-    meta.set_epoch_override(at(7));
-    assert_eq!(rt; meta.epoch(), at(7));
-    assert_eq!(rt; meta.epoch_override(), Some(at(7)));
-    meta.remove_epoch_override();
-    assert_eq!(rt; meta.epoch(), at(1));
-    meta.set_variance_key([1; 16]);
-    assert_eq!(rt; meta.variance(), Some([1; 16]));
-    meta.set_variance([2; 16]);
-    assert_eq!(rt; meta.variance(), Some([2; 16]));
-    meta.remove_variance();
-    assert_eq!(rt; meta.variance(), None);
-}
-
-fn copied_head(meta: &CacheMeta) -> Option<(StatusCode, HttpVersion)> {
-    let copy = meta.response_header_copy().ok()?;
-    Some((copy.status, copy.version))
-}
-
-fn copied_until(meta: &CacheMeta) -> Option<Moment> {
-    let copy = meta.copied().ok()?;
-    Some(copy.fresh_until())
-}
-
-fn has_the_head(rt: &impl Abort, meta: &mut CacheMeta) {
-    meta.response_header_mut().version = HttpVersion::Http2;
-    assert_eq!(rt; meta.response_header().version, HttpVersion::Http2);
-    assert!(rt; copied_head(meta) == Some((StatusCode::OK, HttpVersion::Http2)));
-    assert!(rt; meta.headers().is_empty());
-    assert_eq!(rt; copied_until(meta), Some(at(300)));
-}
-
-#[test]
-fn the_head(rt: HostRuntime) {
-    has_the_head(&rt, &mut meta(rt.alloc()));
+fn metas_as_two_strings(rt: HostRuntime) {
+    play(&rt, rt.alloc(), &mut new(rt.alloc()), STRINGS);
 }

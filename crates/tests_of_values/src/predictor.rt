@@ -1,143 +1,223 @@
+//! Predictors, of one shard and of many.
+//! The rows are hand-computed from the plain list of marked keys.
+use crate::rows::{Desk, Told, play_at, word};
 use pcache_base::error::Result;
 use pcache_base::key::CacheKey;
 use pcache_base::reason::NoCacheReason;
 use pcache_predict::predictor::{CacheablePredictor, Predictor};
 use std::alloc::Global;
-use std::process::Abort;
-use std::test::Fail;
 
-type Tested<T> = std::result::Result<T, Fail>;
+#[derive(Drop)]
+struct Foretold<P> {
+    alloc: Global,
+    predictor: P,
+}
+
+fn at_desk<P: Drop>(alloc: Global, predictor: Result<P>) -> Result<Foretold<P>> {
+    let predictor = predictor?;
+    Ok(Foretold { alloc, predictor })
+}
 
 fn key(alloc: Global, primary: &str) -> Result<CacheKey> {
     let primary = primary.as_bytes().to_vec(alloc)?;
     Ok(CacheKey::new(primary, String::from_str(alloc, "1")?))
 }
 
-// What is done, and what is answered.
-#[derive(Clone, Copy)]
-enum Step {
-    Asks(bool),
-    Says(Option<NoCacheReason>),
-    Marks(NoCacheReason, Option<bool>),
-    Unmarks(bool),
-}
-
-fn answers<P: CacheablePredictor>(predictor: &mut P, key: &CacheKey, step: Step) -> Tested<bool> {
-    Ok(match step {
-        Step::Asks(wanted) => predictor.cacheable_prediction(key) == wanted,
-        Step::Says(wanted) => predictor.predicted_uncacheable_reason(key) == wanted,
-        Step::Marks(why, wanted) => predictor.mark_uncacheable(key, why)? == wanted,
-        Step::Unmarks(wanted) => predictor.mark_cacheable(key) == wanted,
-    })
-}
-
-fn play<P: CacheablePredictor>(
-    rt: &impl Abort,
-    alloc: Global,
-    predictor: &mut P,
-    steps: &[(&str, Step)],
-) -> Tested<()> {
-    for &(name, step) in steps {
-        let is_so = answers(predictor, &key(alloc, name)?, step)?;
-        assert!(rt; is_so, "at {name}");
+impl<P: CacheablePredictor> Desk for Foretold<P> {
+    fn tell(&mut self, call: &'static str, told: &mut Told) {
+        match key(self.alloc, word(call, 0)) {
+            Ok(key) => answer(&mut self.predictor, &key, call, told),
+            Err(refused) => told.refused(&refused),
+        }
     }
-    Ok(())
+}
+
+fn answer<P: CacheablePredictor>(
+    predictor: &mut P,
+    key: &CacheKey,
+    call: &'static str,
+    told: &mut Told,
+) {
+    match word(call, 1) {
+        "asks" => told.yes_or_no(predictor.cacheable_prediction(key)),
+        "says" => says(predictor.predicted_uncacheable_reason(key), told),
+        "marks" => marked(predictor.mark_uncacheable(key, reason(word(call, 2))), told),
+        _ => told.yes_or_no(predictor.mark_cacheable(key)),
+    }
+}
+
+fn says(reason: Option<NoCacheReason>, told: &mut Told) {
+    match reason {
+        Some(reason) => told.say(reason.as_str()),
+        None => told.say("none"),
+    }
+}
+
+fn marked(marked: Result<Option<bool>>, told: &mut Told) {
+    match marked {
+        Ok(Some(is_new)) => told.yes_or_no(is_new),
+        Ok(None) => told.say("skipped"),
+        Err(refused) => told.refused(&refused),
+    }
+}
+
+fn reason(word: &'static str) -> NoCacheReason {
+    match word {
+        "InternalError" => NoCacheReason::InternalError,
+        "StorageError" => NoCacheReason::StorageError,
+        "OriginNotCache" => NoCacheReason::OriginNotCache,
+        "ResponseTooLarge" => NoCacheReason::ResponseTooLarge,
+        own => NoCacheReason::Custom(own),
+    }
 }
 
 fn is_skipping(word: &str) -> bool {
     word == "Skipping"
 }
 
-use Step::{Asks, Marks, Says, Unmarks};
+const REASONS: &str = "
+    b asks -> yes
+    b marks InternalError -> skipped
+    b asks -> yes
+    b marks StorageError -> skipped
+    b asks -> yes
+    b marks OriginNotCache -> yes
+    b asks -> no
+    b unmarks -> no
+    b asks -> yes
+    b unmarks -> yes
+    # the last reason counts
+    b says -> none
+    b marks AuthorizationHeader -> yes
+    b says -> AuthorizationHeader
+    b marks ResponseTooLarge -> no
+    b says -> ResponseTooLarge
+    b marks InternalError -> skipped
+    b says -> ResponseTooLarge
+    b unmarks -> no
+    b says -> none";
 
 #[test]
-fn cacheability_and_last_reason(rt: HostRuntime) -> Tested<()> {
-    let mut predictor = Predictor::<1>::new(rt.alloc(), 10, None)?;
-    let custom = NoCacheReason::Custom("AuthorizationHeader");
-    let steps = [
-        ("b", Asks(true)),
-        ("b", Marks(NoCacheReason::InternalError, None)),
-        ("b", Asks(true)),
-        ("b", Marks(NoCacheReason::StorageError, None)),
-        ("b", Asks(true)),
-        ("b", Marks(NoCacheReason::OriginNotCache, Some(true))),
-        ("b", Asks(false)),
-        ("b", Unmarks(false)),
-        ("b", Asks(true)),
-        ("b", Unmarks(true)),
-        ("b", Says(None)),
-        ("b", Marks(custom, Some(true))),
-        ("b", Says(Some(custom))),
-        ("b", Marks(NoCacheReason::ResponseTooLarge, Some(false))),
-        ("b", Says(Some(NoCacheReason::ResponseTooLarge))),
-        ("b", Marks(NoCacheReason::InternalError, None)),
-        ("b", Says(Some(NoCacheReason::ResponseTooLarge))),
-        ("b", Unmarks(false)),
-        ("b", Says(None)),
-    ];
-    play(&rt, rt.alloc(), &mut predictor, &steps)
+fn cacheability_and_last_reason(rt: HostRuntime) {
+    let alloc = rt.alloc();
+    play_at(
+        &rt,
+        alloc,
+        at_desk(alloc, Predictor::<1>::new(alloc, 10, None)),
+        REASONS,
+    );
 }
 
-#[test]
-fn custom_skip_predicate(rt: HostRuntime) -> Tested<()> {
-    let mut predictor = Predictor::<1>::new(rt.alloc(), 10, Some(is_skipping))?;
-    let steps = [
-        ("b", Marks(NoCacheReason::InternalError, None)),
-        ("b", Asks(true)),
-        ("b", Marks(NoCacheReason::Custom("DontCacheMe"), Some(true))),
-        ("b", Asks(false)),
-        ("b", Unmarks(false)),
-        ("b", Marks(NoCacheReason::Custom("Skipping"), None)),
-        ("b", Asks(true)),
-    ];
-    play(&rt, rt.alloc(), &mut predictor, &steps)
-}
+const SKIPPED: &str = "
+    b marks InternalError -> skipped
+    b asks -> yes
+    b marks DontCacheMe -> yes
+    b asks -> no
+    b unmarks -> no
+    b marks Skipping -> skipped
+    b asks -> yes";
 
 #[test]
-fn forgets_the_first_marked(rt: HostRuntime) -> Tested<()> {
-    let mut predictor = Predictor::<1>::new(rt.alloc(), 3, None)?;
-    let marked = NoCacheReason::OriginNotCache;
-    let steps = [
-        ("b", Marks(marked, Some(true))),
-        ("bc", Marks(marked, Some(true))),
-        ("cd", Marks(marked, Some(true))),
-        ("b", Marks(marked, Some(false))),
-        ("de", Marks(marked, Some(true))),
-        ("b", Asks(false)),
-        ("bc", Asks(true)),
-        ("cd", Asks(false)),
-        ("de", Asks(false)),
-        ("cd", Unmarks(false)),
-        ("bc", Asks(true)),
-    ];
-    play(&rt, rt.alloc(), &mut predictor, &steps)
+fn custom_skip_predicate(rt: HostRuntime) {
+    let alloc = rt.alloc();
+    play_at(
+        &rt,
+        alloc,
+        at_desk(alloc, Predictor::<1>::new(alloc, 10, Some(is_skipping))),
+        SKIPPED,
+    );
 }
 
-#[test]
-fn many_shards(rt: HostRuntime) -> Tested<()> {
-    let mut predictor = Predictor::<64>::new(rt.alloc(), 10, None)?;
-    for name in ["a", "b", "c", "d", "e", "f", "g", "h"] {
-        let steps = [
-            (name, Asks(true)),
-            (name, Marks(NoCacheReason::OriginNotCache, Some(true))),
-            (name, Asks(false)),
-            (name, Unmarks(false)),
-            (name, Asks(true)),
-        ];
-        play(&rt, rt.alloc(), &mut predictor, &steps)?;
-    }
-    Ok(())
-}
+const FORGOTTEN: &str = "
+    b marks OriginNotCache -> yes
+    bc marks OriginNotCache -> yes
+    cd marks OriginNotCache -> yes
+    b marks OriginNotCache -> no
+    de marks OriginNotCache -> yes
+    b asks -> no
+    bc asks -> yes
+    cd asks -> no
+    de asks -> no
+    cd unmarks -> no
+    bc asks -> yes";
 
 #[test]
-fn no_capacity_counts_as_one(rt: HostRuntime) -> Tested<()> {
-    let mut predictor = Predictor::<1>::new(rt.alloc(), 0, None)?;
-    let marked = NoCacheReason::OriginNotCache;
-    let steps = [
-        ("a", Marks(marked, Some(true))),
-        ("b", Marks(marked, Some(true))),
-        ("a", Asks(true)),
-        ("b", Asks(false)),
-    ];
-    play(&rt, rt.alloc(), &mut predictor, &steps)
+fn forgets_the_first_marked(rt: HostRuntime) {
+    let alloc = rt.alloc();
+    play_at(
+        &rt,
+        alloc,
+        at_desk(alloc, Predictor::<1>::new(alloc, 3, None)),
+        FORGOTTEN,
+    );
+}
+
+const SPREAD: &str = "
+    a asks -> yes
+    a marks OriginNotCache -> yes
+    a asks -> no
+    a unmarks -> no
+    a asks -> yes
+    b asks -> yes
+    b marks OriginNotCache -> yes
+    b asks -> no
+    b unmarks -> no
+    b asks -> yes
+    c asks -> yes
+    c marks OriginNotCache -> yes
+    c asks -> no
+    c unmarks -> no
+    c asks -> yes
+    d asks -> yes
+    d marks OriginNotCache -> yes
+    d asks -> no
+    d unmarks -> no
+    d asks -> yes
+    e asks -> yes
+    e marks OriginNotCache -> yes
+    e asks -> no
+    e unmarks -> no
+    e asks -> yes
+    f asks -> yes
+    f marks OriginNotCache -> yes
+    f asks -> no
+    f unmarks -> no
+    f asks -> yes
+    g asks -> yes
+    g marks OriginNotCache -> yes
+    g asks -> no
+    g unmarks -> no
+    g asks -> yes
+    h asks -> yes
+    h marks OriginNotCache -> yes
+    h asks -> no
+    h unmarks -> no
+    h asks -> yes";
+
+#[test]
+fn many_shards(rt: HostRuntime) {
+    let alloc = rt.alloc();
+    play_at(
+        &rt,
+        alloc,
+        at_desk(alloc, Predictor::<64>::new(alloc, 10, None)),
+        SPREAD,
+    );
+}
+
+const OF_ONE: &str = "
+    a marks OriginNotCache -> yes
+    b marks OriginNotCache -> yes
+    a asks -> yes
+    b asks -> no";
+
+#[test]
+fn no_capacity_counts_as_one(rt: HostRuntime) {
+    let alloc = rt.alloc();
+    play_at(
+        &rt,
+        alloc,
+        at_desk(alloc, Predictor::<1>::new(alloc, 0, None)),
+        OF_ONE,
+    );
 }

@@ -1,14 +1,17 @@
+//! Spans, which have no effect.
 use pcache_base::moment::Moment;
 use pcache_base::trace::{Span, SpanOptionsPlaceholder, Tag};
 
-#[test]
-fn no_effect(rt: HostRuntime) {
+fn has_no_effect() -> bool {
     let mut span = Span::inactive();
     let child = span.child("hit", |options: SpanOptionsPlaceholder| options.start());
-    assert_eq!(rt; child, Span::inactive());
-    assert_eq!(rt; child.handle(), span.handle());
     span.set_tag(|| Tag::new("phase", 1u8));
     span.set_tags(|| [Tag::new("phase", 1u8)]);
     span.set_finish_time(|| Moment::from_secs(7));
-    assert_eq!(rt; span, Span::inactive());
+    child == Span::inactive() && child.handle() == span.handle() && span == Span::inactive()
+}
+
+#[test]
+fn no_effect(rt: HostRuntime) {
+    assert!(rt; has_no_effect());
 }

@@ -1,84 +1,82 @@
 //! Which values of which names a variance depends on: upstream's tests in our own words.
-
+use crate::rows::{Desk, Told, play, rest, word};
 use pcache_base::error::Result;
-use pcache_base::key::{HashBinary, hash_key};
+use pcache_base::key::HashBinary;
 use pcache_base::variance::VarianceBuilder;
 use std::alloc::Global;
-use std::test::Fail;
 
-fn of_nothing(alloc: Global) -> (bool, Option<HashBinary>) {
-    let empty = VarianceBuilder::new(alloc);
-    (empty.has_variance(), empty.finalize())
+#[derive(Drop)]
+struct Builds {
+    alloc: Global,
 }
 
-fn of_one(alloc: Global) -> Result<(bool, Option<HashBinary>)> {
-    let mut borrowed = VarianceBuilder::new(alloc);
-    borrowed.add_value("a", b"a")?;
-    Ok((borrowed.has_variance(), borrowed.finalize()))
-}
-
-fn of_owned_value(alloc: Global) -> Result<Option<HashBinary>> {
-    let mut owned = VarianceBuilder::new(alloc);
-    owned.add_owned_value("a", b"a".to_vec(alloc)?)?;
-    Ok(owned.finalize())
-}
-
-fn of_owned_name_and_value(alloc: Global) -> Result<Option<HashBinary>> {
-    let name = String::from_str(alloc, "a")?;
-    let value = b"a".to_vec(alloc)?;
-    let mut named = VarianceBuilder::new(alloc);
-    named.add_owned_name_value(name, value)?;
-    Ok(named.finalize())
-}
-
-#[test]
-fn basic(rt: HostRuntime) -> std::result::Result<(), Fail> {
-    assert!(rt; of_nothing(rt.alloc()) == (false, None));
-    let (has_variance, hash) = of_one(rt.alloc())?;
-    assert!(rt; has_variance && hash.is_some());
-    assert!(rt; of_owned_value(rt.alloc())? == hash);
-    assert!(rt; of_owned_name_and_value(rt.alloc())? == hash);
-    Ok(())
-}
-
-fn of_three(alloc: Global, names: [&str; 3]) -> Result<Option<HashBinary>> {
-    let mut builder = VarianceBuilder::new(alloc);
-    for name in names {
-        builder.add_value(name, name.as_bytes())?;
+impl Desk for Builds {
+    fn tell(&mut self, call: &'static str, told: &mut Told) {
+        let mut builder = VarianceBuilder::new(self.alloc);
+        if add_all(self.alloc, &mut builder, call) {
+            let varies = builder.has_variance();
+            tell_hash(told, varies, builder.finalize());
+        }
     }
-    Ok(builder.finalize())
 }
 
-#[test]
-fn value_ordering(rt: HostRuntime) -> std::result::Result<(), Fail> {
-    let hash = of_three(rt.alloc(), ["a", "b", "c"])?;
-    assert!(rt; hash.is_some());
-    assert_eq!(rt; of_three(rt.alloc(), ["b", "a", "c"])?, hash);
-    assert_eq!(rt; of_three(rt.alloc(), ["c", "b", "a"])?, hash);
-    Ok(())
-}
-
-fn of_values(alloc: Global, values: &[(&str, &[u8])]) -> Result<Option<HashBinary>> {
-    let mut builder = VarianceBuilder::new(alloc);
-    for &(name, value) in values {
-        builder.add_value(name, value)?;
+// There is a hash if there is a variance.
+fn tell_hash(told: &mut Told, varies: bool, hash: Option<HashBinary>) {
+    if varies == hash.is_some() {
+        told.hash(hash);
+    } else {
+        told.say("a hash, or a variance");
     }
-    Ok(builder.finalize())
 }
 
-#[test]
-fn value_overriding(rt: HostRuntime) -> std::result::Result<(), Fail> {
-    let once = of_values(rt.alloc(), &[("a", b"a")])?;
-    assert!(rt; of_values(rt.alloc(), &[("a", b"b"), ("a", b"a")])? == once);
-    Ok(())
+// Adds each pair of a name and a value, and answers whether they had room.
+fn add_all(alloc: Global, builder: &mut VarianceBuilder<'static>, call: &'static str) -> bool {
+    for pair in rest(call).split(' ') {
+        if let Some((name, value)) = pair.split_once('=')
+            && add(alloc, builder, word(call, 0), name, value.as_bytes()).is_err()
+        {
+            return false;
+        }
+    }
+    true
 }
 
-// A value may hold the bytes that stand between names and values.
+// Lends name and value, or gives the value away, or both.
+fn add(
+    alloc: Global,
+    builder: &mut VarianceBuilder<'static>,
+    kind: &str,
+    name: &'static str,
+    value: &'static [u8],
+) -> Result<()> {
+    match kind {
+        "lent" => builder.add_value(name, value),
+        "value" => builder.add_owned_value(name, value.to_vec(alloc)?),
+        _ => {
+            let name = String::from_str(alloc, name)?;
+            builder.add_owned_name_value(name, value.to_vec(alloc)?)
+        }
+    }
+}
+
+// The hashes are those of names and values, by name, with a byte 0 after each, as python's hashlib has them.
+const VARIANCES: &str = "
+    lent -> none
+    lent a=a -> a5ebffcdf1667531d459407d3dc748d3
+    value a=a -> a5ebffcdf1667531d459407d3dc748d3
+    both a=a -> a5ebffcdf1667531d459407d3dc748d3
+    # in any order
+    lent a=a b=b c=c -> 15f335223c45aeb47ea6983eb5218647
+    lent b=b a=a c=c -> 15f335223c45aeb47ea6983eb5218647
+    lent c=c b=b a=a -> 15f335223c45aeb47ea6983eb5218647
+    # the last value of a name counts
+    lent a=b a=a -> a5ebffcdf1667531d459407d3dc748d3
+    # a value may hold the bytes that stand between names and values
+    lent a=b\0c\0d -> 5636591d4f9912d34ed8955462dddff8
+    lent c=d a=b -> 5636591d4f9912d34ed8955462dddff8";
+
 #[test]
-fn zero_bytes(rt: HostRuntime) -> std::result::Result<(), Fail> {
-    let expected = Some(hash_key(&[0x61, 0x00, 0x62, 0x00, 0x63, 0x00, 0x64, 0x00]));
-    let one = of_values(rt.alloc(), &[("a", &[0x62, 0x00, 0x63, 0x00, 0x64])])?;
-    let two = of_values(rt.alloc(), &[("c", b"d"), ("a", b"b")])?;
-    assert!(rt; one == expected && two == expected);
-    Ok(())
+fn basic_ordering_overriding_and_zero_bytes(rt: HostRuntime) {
+    let alloc = rt.alloc();
+    play(&rt, alloc, &mut Builds { alloc }, VARIANCES);
 }

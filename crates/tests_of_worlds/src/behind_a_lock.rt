@@ -4,11 +4,12 @@ use crate::script::{Clock, asked_of};
 use pcache_base::error;
 use pcache_evict::eviction::simple_lru::Manager;
 use pingora_cache::world::World;
+use pingora_cache::world::policy::BySelf;
 use std::alloc::Global;
 use std::sync::{Mutex, Wait};
 use std::test::Fail;
 
-type Shared = Mutex<World<Manager>>;
+type Shared = Mutex<World<Manager, BySelf>>;
 
 // A request fills a key, another finds the write and a third purges it; then all end.
 const PURGED: &str = "open 1 -> Done\n\

@@ -6,6 +6,7 @@ use pcache_base::error::Result;
 use pcache_evict::eviction::{EvictionManager, sharded_lru, simple_lru};
 use pingora_cache::world::call::{Call, Reply};
 use pingora_cache::world::entry::Entry;
+use pingora_cache::world::policy::BySelf;
 use pingora_cache::world::{Totals, World};
 use std::alloc::Global;
 use std::process::Abort;
@@ -38,7 +39,7 @@ impl Limits {
 }
 
 /// A new world, whose manager has these limits. Permits are too old after ten seconds.
-pub fn world_of(alloc: Global, limits: Limits) -> Result<World<simple_lru::Manager>> {
+pub fn world_of(alloc: Global, limits: Limits) -> Result<World<simple_lru::Manager, BySelf>> {
     let Limits { weight, watermark } = limits;
     let manager = simple_lru::Manager::new_with_watermark(alloc, weight, watermark)?;
     Ok(World::new(alloc, manager, Duration::from_secs(10)))
@@ -48,7 +49,7 @@ pub fn world_of(alloc: Global, limits: Limits) -> Result<World<simple_lru::Manag
 pub fn sharded_world_of<const N: usize>(
     alloc: Global,
     limits: Limits,
-) -> Result<World<sharded_lru::Manager<N>>>
+) -> Result<World<sharded_lru::Manager<N>, BySelf>>
     requires { 0 < N }
 {
     let Limits { weight, watermark } = limits;
@@ -106,7 +107,7 @@ pub fn play_on_both(
 pub fn play_together<M: EvictionManager>(
     rt: &impl Abort,
     alloc: Global,
-    world: &mut World<M>,
+    world: &mut World<M, BySelf>,
     first: &'static str,
     text: &'static str,
 ) -> std::result::Result<(), Fail> {
@@ -121,7 +122,7 @@ pub fn play_together<M: EvictionManager>(
 fn play_apart<M: EvictionManager>(
     rt: &impl Abort,
     alloc: Global,
-    world: &mut World<M>,
+    world: &mut World<M, BySelf>,
     first: &'static str,
     text: &'static str,
 ) -> std::result::Result<(), Fail> {
@@ -149,7 +150,7 @@ fn add_calls(alloc: Global, text: &'static str, calls: &mut Vec<Call>) -> Result
     Ok(())
 }
 
-/// The call of a line, where it is one. A line that tells the time sets the clock.
+/// The call of a line, if it is one. A line that tells the time sets the clock.
 pub fn next_call(alloc: Global, asked: &'static str, clock: &mut Clock) -> Result<Option<Call>> {
     match line_of(asked) {
         Line::Call => call_of(alloc, asked, clock.next()),
@@ -163,7 +164,7 @@ pub fn next_call(alloc: Global, asked: &'static str, clock: &mut Clock) -> Resul
 
 fn told_together<M: EvictionManager>(
     alloc: Global,
-    world: &mut World<M>,
+    world: &mut World<M, BySelf>,
     text: &'static str,
 ) -> Result<String> {
     let before = world.history().len();
@@ -172,10 +173,10 @@ fn told_together<M: EvictionManager>(
     tell_all(alloc, world, before, replies.as_slice(), text)
 }
 
-// What is told of replies. Behind them it is said where the history has others.
+// What is told of replies. After them it is said where the history has others.
 fn tell_all<M: EvictionManager>(
     alloc: Global,
-    world: &World<M>,
+    world: &World<M, BySelf>,
     before: usize,
     replies: &[Reply],
     text: &'static str,
@@ -213,7 +214,7 @@ fn is_same(alloc: Global, left: &Reply, right: &Reply) -> Result<bool> {
 
 fn told_apart<M: EvictionManager>(
     alloc: Global,
-    world: &mut World<M>,
+    world: &mut World<M, BySelf>,
     text: &'static str,
 ) -> Result<String> {
     let mut told = String::new(alloc);
@@ -227,7 +228,7 @@ fn told_apart<M: EvictionManager>(
 // Makes the call of a line, and tells of it. Of a wrong one it is told where it changed a number.
 fn step<M: EvictionManager>(
     alloc: Global,
-    world: &mut World<M>,
+    world: &mut World<M, BySelf>,
     asked: &'static str,
     clock: &mut Clock,
     told: &mut String,
@@ -243,7 +244,7 @@ fn step<M: EvictionManager>(
     tell_reply(alloc, asked, Some(&reply), told)
 }
 
-/// Tells the reply to a call. There is none where the line could not be read.
+/// Tells the reply to a call. There is none if the line could not be read.
 pub fn tell_reply(
     alloc: Global,
     asked: &str,
@@ -282,7 +283,7 @@ struct Numbers {
     start: usize,
 }
 
-fn numbers_of<M: EvictionManager>(world: &World<M>) -> Numbers {
+fn numbers_of<M: EvictionManager>(world: &World<M, BySelf>) -> Numbers {
     Numbers {
         stored: world.stored_bytes(),
         slots: world.slots(),

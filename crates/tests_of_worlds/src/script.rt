@@ -1,7 +1,7 @@
-//! Reading the lines of a text: each is a call, with the reply that is wanted behind ` -> `.
+//! Reading the lines of a text: each is a call, with the reply that is wanted after ` -> `.
 //!
 //! A line `at S` says that it is second `S` from then on; as long as there is none, each call comes
-//! three seconds after the one before. A line `stat`, behind the calls, asks for the numbers.
+//! three seconds after the one before. A line `stat`, after the calls, asks for the numbers.
 
 use bytes::Bytes;
 use http::StatusCode;
@@ -13,6 +13,7 @@ use pcache_meta::header::ResponseHeader;
 use pcache_meta::meta::CacheMeta;
 use pcache_request::phase::HitStatus;
 use pingora_cache::admission::Decision;
+use pingora_cache::world::boxed::Boxed;
 use pingora_cache::world::call::Call;
 use pingora_cache::world::tokens::Tokens;
 use std::alloc::Global;
@@ -109,7 +110,7 @@ fn words_of(asked: &'static str) -> Option<Words> {
     })
 }
 
-/// The call that a line spells, without its reply; none where it spells none.
+/// The call that a line spells, without its reply; none if it spells none.
 pub fn call_of(alloc: Global, asked: &'static str, now: Moment) -> Result<Option<Call>> {
     match words_of(asked) {
         Some(words) => call_with_words(alloc, words, now),
@@ -117,7 +118,7 @@ pub fn call_of(alloc: Global, asked: &'static str, now: Moment) -> Result<Option
     }
 }
 
-/// The call that has these words; none where no call has them.
+/// The call that has these words; none if no call has them.
 pub fn call_with_words(alloc: Global, words: Words, now: Moment) -> Result<Option<Call>> {
     if let Some(call) = plain_call(words.call, words.request, now) {
         return Ok(Some(call));
@@ -125,13 +126,10 @@ pub fn call_with_words(alloc: Global, words: Words, now: Moment) -> Result<Optio
     if let Some(call) = set_call(alloc, words.call, words.request) {
         return Ok(Some(call));
     }
-    if words.call == "key" {
-        return Ok(Some(Call::Key {
-            request: words.request,
-            key: key_of(alloc, words)?,
-        }));
+    if let Some(call) = call_with(words, now) {
+        return Ok(Some(call));
     }
-    Ok(call_with(alloc, words, now))
+    boxed_call(alloc, words)
 }
 
 // A call that has nothing but its request and its moment.
@@ -161,6 +159,8 @@ fn plain_call(word: &str, request: u64, now: Moment) -> Option<Call> {
         "updating" => Call::Updating { request },
         "phase" => Call::Phase { request },
         "end" => Call::End { request },
+        "drop" => Call::Drop { request },
+        "close" => Call::Close { request },
         _ => return None,
     })
 }
@@ -171,11 +171,6 @@ fn set_call(alloc: Global, word: &str, request: u64) -> Option<Call> {
     Some(match word {
         "disable" => Call::Disable { request, reason },
         "release" => Call::Release { request, reason },
-        "uncacheable" => Call::Uncacheable {
-            request,
-            header: ResponseHeader::build(alloc, StatusCode::OK),
-            reason,
-        },
         "vary" => Call::Vary {
             request,
             variance: VARIANCE,
@@ -201,8 +196,38 @@ fn set_call(alloc: Global, word: &str, request: u64) -> Option<Call> {
     })
 }
 
+// A call that has a value behind a box.
+fn boxed_call(alloc: Global, words: Words) -> Result<Option<Call>> {
+    let request = words.request;
+    Ok(Some(match words.call {
+        "key" => Call::Key {
+            request,
+            key: Boxed::new(alloc, key_of(alloc, words)?)?,
+        },
+        "put" => Call::Put {
+            request,
+            key: Boxed::new(alloc, key(alloc, words.first, "1")?)?,
+            limit: limit_of(words.second),
+        },
+        "meta" => Call::Meta {
+            request,
+            meta: Boxed::new(alloc, meta_of(alloc, words.first))?,
+        },
+        "revalidate" => Call::Revalidate {
+            request,
+            meta: Boxed::new(alloc, meta_of(alloc, words.first))?,
+        },
+        "uncacheable" => Call::Uncacheable {
+            request,
+            header: Boxed::new(alloc, ResponseHeader::build(alloc, StatusCode::OK))?,
+            reason: NoCacheReason::InternalError,
+        },
+        _ => return Ok(None),
+    }))
+}
+
 // A call that has words of its own.
-fn call_with(alloc: Global, words: Words, now: Moment) -> Option<Call> {
+fn call_with(words: Words, now: Moment) -> Option<Call> {
     let request = words.request;
     match words.call {
         "look" => Some(Call::Look {
@@ -211,18 +236,15 @@ fn call_with(alloc: Global, words: Words, now: Moment) -> Option<Call> {
             decision: decision_of(words.first),
         }),
         "found" => found(request, words.first, now),
-        "meta" => Some(Call::Meta {
-            request,
-            meta: meta_of(alloc, words.first),
-        }),
-        "revalidate" => Some(Call::Revalidate {
-            request,
-            meta: meta_of(alloc, words.first),
-        }),
         "write" => Some(Call::Write {
             request,
             bytes: Bytes::from_static(words.first.as_bytes()),
             eof: words.second == "last",
+        }),
+        "feed" => Some(Call::Feed {
+            request,
+            bytes: Bytes::from_static(piece_of(words.first).as_bytes()),
+            now,
         }),
         _ => None,
     }
@@ -240,6 +262,24 @@ fn key_of(alloc: Global, words: Words) -> Result<CacheKey> {
         key.set_variance_key(VARIANCE);
     }
     Ok(key)
+}
+
+// `put R NAME [MAX]`: of a body that may have so many bytes, if that is given.
+fn limit_of(word: &str) -> Option<usize> {
+    word.parse::<usize>().ok()
+}
+
+// `feed R PIECE`: a head by its name, or bytes as they stand.
+fn piece_of(word: &'static str) -> &'static str {
+    match word {
+        "head" => "HTTP/1.1 200 OK\r\nCache-Control: max-age=60\r\nContent-Length: 4\r\n\r\n",
+        "endless" => "HTTP/1.1 200 OK\r\nCache-Control: max-age=60\r\n\r\n",
+        "no_store" => "HTTP/1.1 200 OK\r\nCache-Control: no-store\r\n\r\n",
+        "no_age" => "HTTP/1.1 200 OK\r\n\r\n",
+        "begun" => "HTTP/1.1 200 OK\r\nCache-Con",
+        "ended" => "trol: max-age=60\r\nContent-Length: 4\r\n\r\nru",
+        _ => word,
+    }
 }
 
 /// A key with this name, and this tag of the user.

@@ -1,6 +1,7 @@
 //! Calls of a world, each with the reply that is wanted.
 mod phases;
-mod plain;
+mod puts;
+mod random_script;
 mod shards;
 
 use crate::play::{Limits, play, play_on_both, play_together};
@@ -10,6 +11,7 @@ use pcache_base::key::CacheHashKey;
 use pcache_evict::eviction::CacheEntryKey;
 use pcache_evict::eviction::simple_lru::Manager;
 use pingora_cache::world::World;
+use pingora_cache::world::policy::BySelf;
 use std::alloc::Global;
 use std::process::Abort;
 use std::test::Fail;
@@ -72,7 +74,7 @@ fn calls_before_the_key(rt: HostRuntime) -> Result<(), Fail> {
     play(&rt, rt.alloc(), Limits::weight(9), "", rows)
 }
 
-// Where nothing was found, there is nothing to be taken.
+// If nothing was found, there is nothing to be taken.
 #[test]
 fn calls_behind_the_key(rt: HostRuntime) -> Result<(), Fail> {
     let rows = "open 1 -> Done\n\
@@ -145,7 +147,7 @@ fn a_look_up_is_ready(rt: HostRuntime) -> Result<(), Fail> {
     play(&rt, rt.alloc(), Limits::weight(9), "", rows)
 }
 
-// A decision is kept where something was found, and counts once nothing is; a hidden body asks no
+// A decision is kept if something was found, and counts once nothing is; a hidden body asks no
 // policy.
 #[test]
 fn decisions_beside_variants(rt: HostRuntime) -> Result<(), Fail> {
@@ -180,7 +182,7 @@ fn decisions_beside_variants(rt: HostRuntime) -> Result<(), Fail> {
     play(&rt, rt.alloc(), Limits::weight(9), stored, rows)
 }
 
-// There is one write at a time, and nothing behind its last bytes.
+// There is one write at a time, and nothing after its last bytes.
 #[test]
 fn calls_of_a_miss(rt: HostRuntime) -> Result<(), Fail> {
     let rows = "open 1 -> Done\n\
@@ -386,7 +388,11 @@ fn the_older_body_goes(rt: HostRuntime) -> Result<(), Fail> {
 }
 
 // A world over a manager that holds this entry.
-fn world_with(alloc: Global, entry: CacheEntryKey, weight: usize) -> error::Result<World<Manager>> {
+fn world_with(
+    alloc: Global,
+    entry: CacheEntryKey,
+    weight: usize,
+) -> error::Result<World<Manager, BySelf>> {
     let mut manager = Manager::new(alloc, 9)?;
     manager.load_entry(entry, weight)?;
     Ok(World::new(alloc, manager, Duration::from_secs(10)))
@@ -395,7 +401,7 @@ fn world_with(alloc: Global, entry: CacheEntryKey, weight: usize) -> error::Resu
 fn starts_with(
     rt: &impl Abort,
     alloc: Global,
-    world: &mut World<Manager>,
+    world: &mut World<Manager, BySelf>,
     entry: &CacheEntryKey,
 ) -> Result<(), Fail> {
     assert!(rt; world.start().is_empty() && world.history().is_empty());

@@ -173,7 +173,7 @@ fn two_keys_of_one_shard(rt: HostRuntime) -> Result<(), Fail> {
     check(&rt, rt.alloc(), &["9"], row, 0, "")
 }
 
-// The next look-up is for the variant only where what was found is another one.
+// The next look-up is for the variant only if what was found is another one.
 #[test]
 fn a_variant_is_looked_for(rt: HostRuntime) -> Result<(), Fail> {
     let row = "open 1 -> ok\n\

@@ -68,7 +68,7 @@ fn refusal(error: HeaderMapError) -> Error
     }
 }
 
-// The first value under one name of the stored fields is put under another, which is absent, where
+// The first value under one name of the stored fields is put under another, which is absent, if
 // there is one. A map that is full is found out before anything grows.
 fn copy_field(
     stored: &HeaderMap,
@@ -102,7 +102,7 @@ fn copy_field(
         Err(error) => Err(refusal(error)),
     }
 }
-// If-Modified-Since is the stored Last-Modified, where there is one.
+// If-Modified-Since is the stored Last-Modified, if there is one.
 fn ask_since(headers: &mut HeaderMap, meta: &CacheMeta) -> Result<()>
     ensures asks { OnOk result (AsksSince headers.old meta.now.header.fields headers.new) }
     ensures err { OnErr result (headers.new ≡ headers.old) }
@@ -115,7 +115,7 @@ fn ask_since(headers: &mut HeaderMap, meta: &CacheMeta) -> Result<()>
     copy_field(meta.headers(), &LAST_MODIFIED, headers, IF_MODIFIED_SINCE)
 }
 
-// If-None-Match is the stored ETag, where there is one.
+// If-None-Match is the stored ETag, if there is one.
 fn ask_unlike(headers: &mut HeaderMap, meta: &CacheMeta) -> Result<()>
     ensures asks { OnOk result (AsksUnlike headers.old meta.now.header.fields headers.new) }
     ensures err { OnErr result (headers.new ≡ headers.old) }
@@ -151,8 +151,8 @@ fn ask(headers: &mut HeaderMap, meta: &CacheMeta) -> Result<()>
 /// ranges are removed. With the meta of a stored response it asks for the response only if that
 /// changed: If-Modified-Since is the stored Last-Modified, and If-None-Match the stored ETag.
 ///
-/// It is refused as `InternalError` where the request has no room for another field, and as
-/// `OutOfMemory` only where it has. The method is then changed and the removals are done, and of the
+/// It is refused as `InternalError` if the request has no room for another field, and as
+/// `OutOfMemory` only if it has. The method is then changed and the removals are done, and of the
 /// two fields those that were still to be set are absent.
 pub fn request_filter(req: &mut RequestHeader, meta: Option<&CacheMeta>) -> Result<()>
     ensures method { req.new.method ≡ sent_method req.old.method }

@@ -11,7 +11,7 @@ use std::fmt;
 use std::hash::{Hash, Hasher};
 use std::marker::Model;
 
-/// The number that tells the entries of one key apart, where a storage keeps several of them.
+/// The number that tells the entries of one key apart, if a storage keeps several of them.
 /// A contract sees the number.
 #[derive(Clone, Copy, Debug, PartialEq, Eq, PartialOrd, Ord, Hash)]
 pub struct CacheEntryId {
@@ -68,7 +68,7 @@ fn number(hash: HashBinary) -> u128
 impl CacheEntryKey {
     ghost use Rattle.pcache_evict.specs.Entry.{entry_with, key_of, id_of};
 
-    /// The entry of a key with this number, or the key's only entry where there is none.
+    /// The entry of a key with this number, or the key's only entry if there is none.
     pub fn from_entry_id(key: CompactCacheKey, id: Option<CacheEntryId>) -> CacheEntryKey
         ensures { result ≡ entry_with key id }
     {
@@ -122,7 +122,7 @@ impl CacheEntryKey {
         }
     }
 
-    /// A second key, equal to this one. It is refused for want of memory alone.
+    /// A second key, equal to this one. It is refused only when memory runs out.
     pub fn copied(&self) -> Result<CacheEntryKey>
         ensures ok { IfOk result (λ copy. copy ≡ self.now) }
         ensures kind { IfErr result (λ e. e ≡ OutOfMemory) }
@@ -205,15 +205,15 @@ impl Ord for CacheEntryKey {
     }
 }
 
-/// The key, then `, entry ID: ` and the number in hexadecimal where there is one.
+/// The key, then `, entry ID: ` and the number in hexadecimal if there is one.
 impl fmt::Display for CacheEntryKey {
     fn fmt<W: fmt::Write>(&self, f: &mut fmt::Formatter<W>) -> fmt::Result {
         CacheEntryKeyRef::from(self).fmt(f)
     }
 }
 
-/// The key of an entry, with the stored key by reference: what look-ups need that have no key of
-/// their own to give away.
+/// The key of an entry, with the stored key by reference: what a look-up needs that has no key of
+/// its own to give away.
 #[derive(Clone, Copy, Debug)]
 pub enum CacheEntryKeyRef<'a> {
     /// The only entry of its key.
@@ -231,7 +231,7 @@ impl<'a> CacheEntryKeyRef<'a> {
     ghost use Rattle.pcache_evict.specs.Entry.{entry_with, key_of, id_of};
     ghost use Rattle.pcache_evict.specs.EntryRef.{referred};
 
-    /// The entry of a key with this number, or the key's only entry where there is none.
+    /// The entry of a key with this number, or the key's only entry if there is none.
     pub fn from_entry_id(key: &'a CompactCacheKey, id: Option<CacheEntryId>) -> CacheEntryKeyRef<'a>
         ensures { referred result ≡ entry_with key.now id }
     {
@@ -275,7 +275,7 @@ impl<'a> CacheEntryKeyRef<'a> {
         }
     }
 
-    /// An owned key of the same entry. It is refused for want of memory alone.
+    /// An owned key of the same entry. It is refused only when memory runs out.
     pub fn copied(&self) -> Result<CacheEntryKey>
         ensures ok { IfOk result (λ copy. copy ≡ referred self.now) }
         ensures kind { IfErr result (λ e. e ≡ OutOfMemory) }
@@ -338,7 +338,7 @@ impl<'a> Hash for CacheEntryKeyRef<'a> {
     }
 }
 
-/// The key, then `, entry ID: ` and the number in hexadecimal where there is one.
+/// The key, then `, entry ID: ` and the number in hexadecimal if there is one.
 impl<'a> fmt::Display for CacheEntryKeyRef<'a> {
     fn fmt<W: fmt::Write>(&self, f: &mut fmt::Formatter<W>) -> fmt::Result {
         let (key, id) = self.parts();

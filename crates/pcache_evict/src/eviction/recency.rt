@@ -5,10 +5,10 @@ ghost use Rattle.pcache_base.specs.declared.error.ErrorType.TheVariants.{OutOfMe
 ghost use Rattle.lru.specs.LruCache.{lru_cache, put_entries};
 ghost use Rattle.pcache_evict.specs.Entry.{entry_eq};
 ghost use Rattle.pcache_evict.specs.Tracked.{limits_of, raised};
-ghost use Rattle.pcache_evict.specs.Recency.{Recency, weight, weight_of, others, moved, incremented, loaded, loaded_all, IsInside, Evicts};
+ghost use Rattle.pcache_evict.specs.Recency.{Recency, weight, weight_of, others, moved, incremented, loaded, loaded_all, IsListWithin, Evicts};
 ghost use Rattle.pcache_evict.specs.Listed.{IsOnce, IsEnough};
 ghost use Rattle.pcache_evict.specs.Shards.{reweighed, last_key};
-ghost use Rattle.pcache_evict.specs.Chain.{AreSmall, Walks};
+ghost use Rattle.pcache_evict.specs.Chain.{AreWithin, Walks};
 
 use super::CacheEntryKey;
 use lru::{Iter, LruCache};
@@ -80,7 +80,7 @@ impl RecencyList {
         ensures err { OnErr result (self.new ≡ self.old) }
     {
         let before = self.cache.put(item, size)?.unwrap_or(0);
-        self.cache.len();
+        self.cache.len(); // for the prover: its contract says that the list is valid
         self.weight = self.weight - before as u128 + size as u128;
         Ok(())
     }
@@ -99,7 +99,7 @@ impl RecencyList {
         ensures once { IsOnce self.new }
     {
         let raised = raise_in(&mut self.cache, item, delta, max_weight);
-        self.cache.len();
+        self.cache.len(); // for the prover: its contract says that the list is valid
         let Some((before, after)) = raised else {
             return false;
         };
@@ -108,7 +108,7 @@ impl RecencyList {
     }
 
     /// Sets the weight of an entry that is there and moves it to the front, which takes no memory;
-    /// it is known what the other entries weigh.
+    /// the caller knows what the other entries weigh.
     pub(super) fn reweigh(&mut self, item: &CacheEntryKey, size: usize, rest: u128)
         requires there { IsSome (weight_of item.now self.old) }
         requires sum { rest ≡ weight (others item.now self.old) }
@@ -117,12 +117,12 @@ impl RecencyList {
         ensures once { IsOnce self.new }
     {
         set_weight(&mut self.cache, item, size);
-        self.cache.len();
+        self.cache.len(); // for the prover: its contract says that the list is valid
         self.weight = rest + size as u128;
     }
 
-    /// Sets the weight of an entry that is there, which stays where it is and takes no memory; it is
-    /// known what the other entries weigh.
+    /// Sets the weight of an entry that is there, which stays where it is and takes no memory; the
+    /// caller knows what the other entries weigh.
     pub(super) fn reweigh_in_place(&mut self, item: &CacheEntryKey, size: usize, rest: u128)
         requires there { IsSome (weight_of item.now self.old) }
         requires sum { rest ≡ weight (others item.now self.old) }
@@ -130,7 +130,7 @@ impl RecencyList {
         ensures list { self.new ≡ reweighed item.now size self.old }
     {
         write_weight(&mut self.cache, item, size);
-        self.cache.len();
+        self.cache.len(); // for the prover: its contract says that the list is valid
         self.weight = rest + size as u128;
     }
 
@@ -152,7 +152,7 @@ impl RecencyList {
         ensures missing { result ≡ false → self.new ≡ self.old }
     {
         let was = self.cache.promote(item);
-        self.cache.len();
+        self.cache.len(); // for the prover: its contract says that the list is valid
         was
     }
 
@@ -184,7 +184,7 @@ impl RecencyList {
         let copy = item.copied()?;
         self.put(item, size)?;
         self.cache.demote(&copy);
-        self.cache.len();
+        self.cache.len(); // for the prover: its contract says that the list is valid
         Ok(())
     }
 
@@ -201,7 +201,7 @@ impl RecencyList {
         self.push_last(item, size)
     }
 
-    /// Puts in entries that were read from a file, one after the other. Where it is refused, some of
+    /// Puts in entries that were read from a file, one after the other. If it is refused, some of
     /// them are in.
     pub(super) fn load_all(&mut self, entries: Vec<(CacheEntryKey, usize)>) -> Result<()>
         ensures ok { OnOk result (self.new ≡ loaded_all entries.items self.old) }
@@ -231,7 +231,7 @@ impl RecencyList {
         ensures rest { result ≡ self.now }
         ensures once { IsOnce self.now }
     {
-        self.cache.len();
+        self.cache.len(); // for the prover: its contract says that the list is valid
         self.cache.iter()
     }
 
@@ -269,7 +269,7 @@ impl RecencyList {
         requires { count < 2 ^ 63 }
         ensures once { IsOnce self.now }
         ensures inside { result ≡ true → (l : Recency) → weight l ≤ weight self.now + size → length l ≤ length self.now + count
-            → IsInside (limits_of limit watermark) l }
+            → IsListWithin (limits_of limit watermark) l }
     {
         !exceeds(
             self.weight + size as u128,
@@ -279,8 +279,8 @@ impl RecencyList {
         )
     }
 
-    /// Whether the limits hold once this entry is put; it is known what the other entries weigh and
-    /// how many there are.
+    /// Whether the limits hold once this entry is put; the caller knows what the other entries
+    /// weigh and how many there are.
     pub(super) fn fits(
         &self,
         item: &CacheEntryKey,
@@ -293,8 +293,8 @@ impl RecencyList {
         requires sum_fits { rest.0 + 2 ^ 64 < 2 ^ 128 }
         requires count { rest.1 ≡ length (others item.now self.now) }
         requires count_fits { rest.1 < 2 ^ 63 }
-        ensures inside { result ≡ true → IsInside (limits_of limit watermark) (moved item.now size self.now) }
-        ensures outside { result ≡ false → ¬ IsInside (limits_of limit watermark) (moved item.now size self.now) }
+        ensures inside { result ≡ true → IsListWithin (limits_of limit watermark) (moved item.now size self.now) }
+        ensures outside { result ≡ false → ¬ IsListWithin (limits_of limit watermark) (moved item.now size self.now) }
     {
         !exceeds(rest.0 + size as u128, rest.1 + 1, limit, watermark)
     }
@@ -332,8 +332,8 @@ impl RecencyList {
         room
     }
 
-    /// How many entries go at most when this one is put and the limits are then kept, without a look
-    /// whether it is there: some more where it is.
+    /// How many entries go at most when this one is put and the limits are then kept, without
+    /// looking whether it is there: some more if it is.
     pub(super) fn room_at_most(
         &self,
         item: &CacheEntryKey,
@@ -384,7 +384,7 @@ impl RecencyList {
     }
 
     /// Takes the last entries out until the limits hold, adds them to `out`, and answers what they
-    /// weighed (the largest `usize` where it is more).
+    /// weighed (the largest `usize` if it is more).
     pub(super) fn evict(
         &mut self,
         limit: usize,
@@ -444,6 +444,7 @@ fn set_weight(cache: &mut LruCache<CacheEntryKey, usize>, item: &CacheEntryKey, 
 
 /// Raises the weight of an entry, and moves it to the front: its weight before and after, if it is
 /// there.
+/// It is a function over the cache alone, since a weight is changed through a lend of it: so one lemma is enough.
 fn raise_in(
     cache: &mut LruCache<CacheEntryKey, usize>,
     item: &CacheEntryKey,
@@ -487,11 +488,11 @@ fn write_weight(cache: &mut LruCache<CacheEntryKey, usize>, item: &CacheEntryKey
 /// Whether a weight or a number of entries is above the limits.
 pub(super) fn exceeds(sum: u128, count: usize, limit: usize, watermark: Option<usize>) -> bool
     ensures over { result ≡ true → (l : Recency) → sum ≡ weight l → count ≡ length l
-        → ¬ IsInside (limits_of limit watermark) l }
+        → ¬ IsListWithin (limits_of limit watermark) l }
     ensures within { result ≡ false → (l : Recency) → sum ≡ weight l → count ≡ length l
-        → IsInside (limits_of limit watermark) l }
-    ensures above { result ≡ true → ¬ AreSmall (limits_of limit watermark) sum count }
-    ensures small { result ≡ false → AreSmall (limits_of limit watermark) sum count }
+        → IsListWithin (limits_of limit watermark) l }
+    ensures above { result ≡ true → ¬ AreWithin (limits_of limit watermark) sum count }
+    ensures small { result ≡ false → AreWithin (limits_of limit watermark) sum count }
 {
     if let Some(most) = watermark {
         if count > most {

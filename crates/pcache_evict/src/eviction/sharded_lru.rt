@@ -4,7 +4,7 @@ ghost use Rattle.std.specs.Prelude.{◌≡◌, ◌-◌, ◌^◌, ◌<◌, [], No
 ghost use Rattle.std.specs.Vec.{vec_capacity};
 ghost use Rattle.pcache_base.specs.declared.error.ErrorType.TheVariants.{OutOfMemory};
 ghost use Rattle.pcache_evict.specs.Tracked.{raised, limits_of};
-ghost use Rattle.pcache_evict.specs.Recency.{IsInside, weight, weight_of, others, moved, accessed};
+ghost use Rattle.pcache_evict.specs.Recency.{IsListWithin, weight, weight_of, others, moved, accessed};
 ghost use Rattle.pcache_evict.specs.Listed.{IsEnough};
 ghost use Rattle.pcache_evict.specs.Shards.{ArePlaced, Sharded, Runs, all, list_at, shard_of, in_shard, reweighed, joined_all, grown, last_key, empty_shards};
 ghost use Rattle.pcache_evict.specs.Chain.{chain};
@@ -21,7 +21,7 @@ use std::marker::Model;
 /// Entries with weights in `N` lists, each entry in the list of its key's shard, in the order of
 /// their last use; and limits on the sum of all weights and on the number of all entries.
 ///
-/// A contract sees the lists, most recent first, with the limits and the totals of evictions. Where
+/// A contract sees the lists, most recent first, with the limits and the totals of evictions. If
 /// the limits do not hold, the lists give up their last entries, and which list does is not
 /// promised. Each call takes a fixed number of look-ups, two steps for each entry that it evicts,
 /// and one for each empty list that it meets then.
@@ -59,7 +59,7 @@ impl<const N: usize> Manager<N> {
     }
 
     /// An empty manager whose entries weigh at most `limit` once it has evicted, and are at most
-    /// `watermark` where that is given.
+    /// `watermark` if that is given.
     pub fn with_capacity_and_watermark(
         alloc: Global,
         limit: usize,
@@ -99,11 +99,11 @@ impl<const N: usize> Manager<N> {
         ensures value { result ≡ N }
         ensures placed { ArePlaced N self.now.shards }
     {
-        self.shards.len();
+        self.shards.len(); // for the prover: once it is asked, the invariant is known
         N
     }
 
-    /// The weights of the entries of a shard, added up; the largest `usize` where they are more.
+    /// The weights of the entries of a shard, added up; the largest `usize` if they are more.
     pub fn shard_weight(&self, shard: usize) -> usize
         requires { shard < N }
         ensures { result ≡ min (weight (list_at self.now.shards shard)) (2 ^ 64 - 1) }
@@ -130,7 +130,7 @@ impl<const N: usize> Manager<N> {
         self.shards.place_of(key)
     }
 
-    /// The least recently used entry of a shard, where it has one. That is no use of it.
+    /// The least recently used entry of a shard, if it has one. That does not count as a use.
     pub fn peek_lru(&self, shard: usize) -> Option<&CacheEntryKey>
         requires { shard < N }
         ensures { option_copied result ≡ last_key (list_at self.now.shards shard) }
@@ -139,17 +139,17 @@ impl<const N: usize> Manager<N> {
         list.last()
     }
 
-    /// The weight of an entry, where it is there. That is no use of it.
+    /// The weight of an entry, if it is there. That does not count as a use.
     pub fn peek_weight(&self, item: &CacheEntryKey) -> Option<usize>
         ensures value { result ≡ weight_of item.now (list_at self.now.shards (shard_of N item.now)) }
         ensures placed { ArePlaced N self.now.shards }
     {
-        self.shards.len();
+        self.shards.len(); // for the prover: once it is asked, the invariant is known
         let list = self.shards.list(self.shards.place_of(item));
         list.weight_of(item)
     }
 
-    /// The weights of all entries, added up; the largest `usize` where they are more.
+    /// The weights of all entries, added up; the largest `usize` if they are more.
     pub fn total_size(&self) -> usize
         ensures value { result ≡ min (weight (all self.now.shards)) (2 ^ 64 - 1) }
         ensures placed { ArePlaced N self.now.shards }
@@ -165,14 +165,14 @@ impl<const N: usize> Manager<N> {
         self.shards.len()
     }
 
-    /// The weight of all that was evicted so far; the largest `usize` where it is more.
+    /// The weight of all that was evicted so far; the largest `usize` if it is more.
     pub fn evicted_size(&self) -> usize
         ensures { result ≡ self.now.evicted.weight }
     {
         self.evicted_size
     }
 
-    /// The number of entries that were evicted so far; the largest `usize` where they are more.
+    /// The number of entries that were evicted so far; the largest `usize` if they are more.
     pub fn evicted_items(&self) -> usize
         ensures { result ≡ self.now.evicted.count }
     {
@@ -213,10 +213,10 @@ impl<const N: usize> Manager<N> {
         self.put_and_evict(item, size)
     }
 
-    /// Adds to the weight of an entry, up to `max_weight` (the largest `usize` where that is
-    /// `None`), and then evicts as `admit` does. A weight never falls, and the entry stays where it
-    /// stands; a missing one comes in at the front with what is added, at least 1. It is not refused
-    /// where the entry is there and nothing is evicted.
+    /// Adds to the weight of an entry, up to `max_weight` (the largest `usize` if that is `None`),
+    /// and then evicts as `admit` does. A weight never falls, and the entry stays where it stands; a
+    /// missing one comes in at the front with what is added, at least 1. It is not refused if the
+    /// entry is there and nothing is evicted.
     pub fn increment_weight(
         &mut self,
         item: &CacheEntryKey,
@@ -226,7 +226,7 @@ impl<const N: usize> Manager<N> {
         ensures ok { IfOk result (λ out. Runs N self.old
             (in_shard N item.now (grown item.now delta max_weight) self.old.shards) self.new out.items) }
         ensures within { IsSome (weight_of item.now (list_at self.old.shards (shard_of N item.now)))
-            → IsInside self.old.limits (all (in_shard N item.now (grown item.now delta max_weight) self.old.shards))
+            → IsListWithin self.old.limits (all (in_shard N item.now (grown item.now delta max_weight) self.old.shards))
             → IsOk result }
         ensures placed { ArePlaced N self.old.shards }
         ensures kind { IfErr result (λ e. e ≡ OutOfMemory) }
@@ -246,13 +246,13 @@ impl<const N: usize> Manager<N> {
         ensures ok { self.new ≡ record self.old { shards = in_shard N item.now (others item.now) self.old.shards } }
         ensures placed { ArePlaced N self.old.shards }
     {
-        self.shards.len();
+        self.shards.len(); // for the prover: once it is asked, the invariant is known
         self.shards.remove(item);
     }
 
     /// Moves an entry to the front of its list and leaves its weight, or adds it there with this
     /// one. Answers whether it was there. Nothing is evicted; `fresh_until` is not read. It is not
-    /// refused where the entry is there.
+    /// refused if the entry is there.
     pub fn access(
         &mut self,
         item: &CacheEntryKey,
@@ -267,7 +267,7 @@ impl<const N: usize> Manager<N> {
         ensures kind { IfErr result (λ e. e ≡ OutOfMemory) }
         ensures err { OnErr result (self.new ≡ self.old) }
     {
-        self.shards.len();
+        self.shards.len(); // for the prover: once it is asked, the invariant is known
         if self.shards.promote(item) {
             return Ok(true);
         }
@@ -294,7 +294,7 @@ impl<const N: usize> Manager<N> {
         ensures rest { result ≡ list_at self.now.shards shard }
         ensures placed { ArePlaced N self.now.shards }
     {
-        self.shards.len();
+        self.shards.len(); // for the prover: once it is asked, the invariant is known
         let list = self.shards.list(shard);
         list.iter()
     }
@@ -307,7 +307,7 @@ impl<const N: usize> Manager<N> {
         ensures kind { IfErr result (λ e. e ≡ OutOfMemory) }
         ensures err { OnErr result (self.new ≡ self.old) }
     {
-        self.shards.len();
+        self.shards.len(); // for the prover: once it is asked, the invariant is known
         let place = self.shards.place_of(&item);
         let rest = self.shards.others(&item);
         let room = self
@@ -323,13 +323,13 @@ impl<const N: usize> Manager<N> {
         requires there { IsSome (weight_of item.now (list_at self.old.shards (shard_of N item.now))) }
         ensures ok { IfOk result (λ out. Runs N self.old
             (in_shard N item.now (reweighed item.now size) self.old.shards) self.new out.items) }
-        ensures within { IsInside self.old.limits (all (in_shard N item.now (reweighed item.now size) self.old.shards))
+        ensures within { IsListWithin self.old.limits (all (in_shard N item.now (reweighed item.now size) self.old.shards))
             → IsOk result }
         ensures placed { ArePlaced N self.old.shards }
         ensures kind { IfErr result (λ e. e ≡ OutOfMemory) }
         ensures err { OnErr result (self.new ≡ self.old) }
     {
-        self.shards.len();
+        self.shards.len(); // for the prover: once it is asked, the invariant is known
         let place = self.shards.place_of(item);
         let rest = self.shards.others(item);
         let fits = self
@@ -354,7 +354,7 @@ impl<const N: usize> Manager<N> {
         requires room { IsEnough self.old.limits (chain N place self.old.shards) (vec_capacity out) }
         ensures { Runs N self.old self.old.shards self.new result.items }
     {
-        self.shards.len();
+        self.shards.len(); // for the prover: once it is asked, the invariant is known
         let gone = self
             .shards
             .evict(place, self.limit, self.watermark, &mut out);

@@ -3,7 +3,7 @@ ghost use Rattle.std.specs.Prelude.{◌≡◌, ◌∷◌, ◌++◌, ◌+◌, ◌
 ghost use Rattle.std.specs.Vec.{vec_capacity};
 ghost use Rattle.pcache_base.specs.declared.error.ErrorType.TheVariants.{OutOfMemory};
 ghost use Rattle.pcache_evict.specs.Tracked.{limits_of};
-ghost use Rattle.pcache_evict.specs.Recency.{Recency, weight, weight_of, others, moved, IsInside};
+ghost use Rattle.pcache_evict.specs.Recency.{Recency, weight, weight_of, others, moved, IsListWithin};
 ghost use Rattle.pcache_evict.specs.Listed.{IsEnough};
 ghost use Rattle.pcache_evict.specs.Shards.{ArePlaced, all, shard_of, list_at, no_entries, in_shard, reweighed, joined, joined_all, AreLengths, AreLonger, RunsOut};
 ghost use Rattle.pcache_evict.specs.Chain.{span, chain, Pops, Walks, RoomFor, IsFirst, IsFirstFrom};
@@ -64,7 +64,7 @@ impl<const N: usize> RecencyShards<N> {
         ensures value { result ≡ shard_of N item.now }
         ensures in_range { result < N }
     {
-        let _ = &self.lists;
+        let _ = &self.lists; // for the prover: once a field is used, the invariant is known
         (item.key().slot() % N as u128) as usize
     }
 
@@ -128,8 +128,8 @@ impl<const N: usize> RecencyShards<N> {
         Ok(())
     }
 
-    /// Sets the weight of an entry that is there, which stays where it is and takes no memory; it is
-    /// known what the other entries weigh.
+    /// Sets the weight of an entry that is there, which stays where it is and takes no memory; the
+    /// caller knows what the other entries weigh.
     pub(super) fn reweigh(&mut self, item: &CacheEntryKey, size: usize, rest: u128)
         requires there { IsSome (weight_of item.now (list_at self.old (shard_of N item.now))) }
         requires sum { rest ≡ weight (others item.now (all self.old)) }
@@ -211,14 +211,14 @@ impl<const N: usize> RecencyShards<N> {
         Ok(())
     }
 
-    /// Puts in an entry at the back of its list, or leaves it alone where it is there.
+    /// Puts in an entry at the back of its list, or leaves it alone if it is there.
     fn join(&mut self, item: CacheEntryKey, size: usize) -> Result<()>
         ensures ok { OnOk result (self.new ≡ in_shard N item (joined item size) self.old) }
         ensures kind { IfErr result (λ e. e ≡ OutOfMemory) }
         ensures err { OnErr result (self.new ≡ self.old) }
         ensures placed { ArePlaced N self.old }
     {
-        self.len();
+        self.len(); // for the prover: once it is asked, the invariant is known
         let list = self.list(self.place_of(&item));
         if list.weight_of(&item).is_some() {
             return Ok(());
@@ -251,10 +251,10 @@ impl<const N: usize> RecencyShards<N> {
             → self.new ≡ shards }
     {
         for place in 0..N {
-            self.len();
+            self.len(); // for the prover: once it is asked, the invariant is known
             self.truncate(place, lens[place]);
         }
-        self.len();
+        self.len(); // for the prover: once it is asked, the invariant is known
     }
 
     /// Takes entries off the back of a list until it has at most so many.
@@ -263,10 +263,10 @@ impl<const N: usize> RecencyShards<N> {
         ensures { self.new ≡ slice_set self.old place (take len (list_at self.old place)) }
     {
         while self.list(place).len() > len {
-            self.len();
+            self.len(); // for the prover: once it is asked, the invariant is known
             self.pop(place);
         }
-        self.len();
+        self.len(); // for the prover: once it is asked, the invariant is known
     }
 
     /// Takes out the last entry of a list.
@@ -296,8 +296,8 @@ impl<const N: usize> RecencyShards<N> {
         Ok(entries)
     }
 
-    /// Whether the limits hold once the weight of an entry that is there is set; it is known what the
-    /// other entries weigh and how many there are.
+    /// Whether the limits hold once the weight of an entry that is there is set; the caller knows
+    /// what the other entries weigh and how many there are.
     pub(super) fn fits(
         &self,
         item: &CacheEntryKey,
@@ -311,15 +311,15 @@ impl<const N: usize> RecencyShards<N> {
         requires sum_fits { rest.0 + 2 ^ 64 < 2 ^ 128 }
         requires count { rest.1 ≡ length (others item.now (all self.now)) }
         requires count_fits { rest.1 < 2 ^ 63 }
-        ensures inside { result ≡ true → IsInside (limits_of limit watermark) (all (in_shard N item.now (reweighed item.now size) self.now)) }
-        ensures outside { result ≡ false → ¬ IsInside (limits_of limit watermark) (all (in_shard N item.now (reweighed item.now size) self.now)) }
+        ensures inside { result ≡ true → IsListWithin (limits_of limit watermark) (all (in_shard N item.now (reweighed item.now size) self.now)) }
+        ensures outside { result ≡ false → ¬ IsListWithin (limits_of limit watermark) (all (in_shard N item.now (reweighed item.now size) self.now)) }
     {
-        let _ = &self.lists;
+        let _ = &self.lists; // for the prover: once a field is used, the invariant is known
         !exceeds(rest.0 + size as u128, rest.1 + 1, limit, watermark)
     }
 
-    /// How many entries go at most when this one is put, or where it is there its weight is set,
-    /// and the limits are then kept; it is known what the other entries weigh and how many there
+    /// How many entries go at most when this one is put, or if it is there its weight is set, and
+    /// the limits are then kept; the caller knows what the other entries weigh and how many there
     /// are.
     pub(super) fn room_for(
         &self,
@@ -335,7 +335,7 @@ impl<const N: usize> RecencyShards<N> {
         requires count_fits { rest.1 < 2 ^ 63 }
         ensures { RoomFor N (limits_of limit watermark) item.now size self.now result }
     {
-        let _ = &self.lists;
+        let _ = &self.lists; // for the prover: once a field is used, the invariant is known
         let place = self.place_of(item);
         let start = Walk {
             sum: rest.0 + size as u128,
@@ -382,8 +382,8 @@ impl<const N: usize> RecencyShards<N> {
     }
 
     /// Takes entries out, each the last one of a list, until the limits hold, adds them to `out`,
-    /// and answers what they weighed (the largest `usize` where it is more). The lists give up
-    /// their entries in turn: first the one behind this place, last the one at it.
+    /// and answers what they weighed (the largest `usize` if it is more). The lists give up
+    /// their entries in turn: first the one after this place, last the one at it.
     pub(super) fn evict(
         &mut self,
         place: usize,
@@ -429,7 +429,7 @@ impl<const N: usize> RecencyShards<N> {
         ensures some { IfSome result (λ at. IsFirst N place self.now at) }
         ensures none { IfNone result (all self.now ≡ []) }
     {
-        let _ = &self.lists;
+        let _ = &self.lists; // for the prover: once a field is used, the invariant is known
         let behind = self.first_of(place + 1, N);
         if behind.is_some() {
             return behind;

@@ -2,7 +2,7 @@
 ghost use Rattle.std.specs.Prelude.{◌≡◌, ◌-◌, ◌^◌, [], None, is_some, length, OnOk, OnErr, IfOk, IfErr, IsOk, IsSome, min};
 ghost use Rattle.std.specs.Vec.{vec_capacity};
 ghost use Rattle.pcache_base.specs.declared.error.ErrorType.TheVariants.{OutOfMemory};
-ghost use Rattle.pcache_evict.specs.Recency.{IsInside, weight, weight_of, others, moved, incremented, accessed, loaded, loaded_all};
+ghost use Rattle.pcache_evict.specs.Recency.{IsListWithin, weight, weight_of, others, moved, incremented, accessed, loaded, loaded_all};
 ghost use Rattle.pcache_evict.specs.Listed.{Listed, empty_list, Moves, IsEnough, IsOnce};
 
 use super::recency::{RecencyList, raised_weight};
@@ -50,7 +50,7 @@ impl Manager {
     }
 
     /// An empty manager whose entries weigh at most `limit` once it has evicted, and are at most
-    /// `items_watermark` where that is given.
+    /// `items_watermark` if that is given.
     pub fn new_with_watermark(
         alloc: Global,
         limit: usize,
@@ -69,7 +69,7 @@ impl Manager {
         })
     }
 
-    /// The weights of the entries, added up; the largest `usize` where they are more.
+    /// The weights of the entries, added up; the largest `usize` if they are more.
     pub fn total_size(&self) -> usize
         ensures value { result ≡ min (weight self.now.entries) (2 ^ 64 - 1) }
         ensures once { IsOnce self.now.entries }
@@ -85,14 +85,14 @@ impl Manager {
         self.list.len()
     }
 
-    /// The weight of all that was evicted so far; the largest `usize` where it is more.
+    /// The weight of all that was evicted so far; the largest `usize` if it is more.
     pub fn evicted_size(&self) -> usize
         ensures { result ≡ self.now.evicted.weight }
     {
         self.evicted_size
     }
 
-    /// The number of entries that were evicted so far; the largest `usize` where they are more.
+    /// The number of entries that were evicted so far; the largest `usize` if they are more.
     pub fn evicted_items(&self) -> usize
         ensures { result ≡ self.now.evicted.count }
     {
@@ -131,9 +131,9 @@ impl Manager {
         self.put_and_evict(item, size)
     }
 
-    /// Adds to the weight of an entry, up to `max_weight` (the largest `usize` where that is
+    /// Adds to the weight of an entry, up to `max_weight` (the largest `usize` if that is
     /// `None`), and then does as `admit`. A weight never falls; a missing entry comes in with what
-    /// is added, at least 1. It is not refused where the entry is there and nothing is evicted.
+    /// is added, at least 1. It is not refused if the entry is there and nothing is evicted.
     pub fn increment_weight(
         &mut self,
         item: &CacheEntryKey,
@@ -143,7 +143,7 @@ impl Manager {
         ensures ok { IfOk result (λ out. Moves self.old
             (incremented item.now delta max_weight self.old.entries) self.new out.items) }
         ensures within { IsSome (weight_of item.now self.old.entries)
-            → IsInside self.old.limits (incremented item.now delta max_weight self.old.entries)
+            → IsListWithin self.old.limits (incremented item.now delta max_weight self.old.entries)
             → IsOk result }
         ensures once { IsOnce self.old.entries }
         ensures kind { IfErr result (λ e. e ≡ OutOfMemory) }
@@ -175,7 +175,7 @@ impl Manager {
     }
 
     /// Moves an entry to the front and leaves its weight, or adds it there with this one. Answers
-    /// whether it was there. Nothing is evicted; `fresh_until` is not read. It is not refused where
+    /// whether it was there. Nothing is evicted; `fresh_until` is not read. It is not refused if
     /// the entry is there.
     pub fn access(
         &mut self,

@@ -31,7 +31,7 @@ const N_SHARDS: usize = 16;
 pub struct CacheLock {
     cores: Table<LockCore>,
     standing: Shards<u64, N_SHARDS>,
-    // Wide, so that it can stand behind the last number.
+    // Wide, so that it can stand after the last number.
     next: u128,
     age_timeout: Duration,
 }
@@ -48,7 +48,7 @@ impl Model for CacheLock {
     ghost view = { λ a. record { cores = a.cores; standing = a.standing; next = a.next; age_timeout = as_nanos a.age_timeout } };
 }
 
-// Sets the number of a key's entry, where it has one.
+// Sets the number of a key's entry, if it has one.
 fn set_entry(standing: &mut Shards<u64, N_SHARDS>, slot: u128, number: u64)
     requires { IsSome (map.get standing.old slot) }
     ensures { standing.new ≡ map.insert standing.old slot number }
@@ -160,7 +160,7 @@ impl CacheLock {
         }
     }
 
-    /// A table with no lock, in a box. It is refused for want of memory alone.
+    /// A table with no lock, in a box. It is refused only when memory runs out.
     pub fn new_boxed(alloc: Global, age_timeout: Duration) -> Result<Box<CacheLock>>
         ensures made { IfOk result (λ b. b.value ≡ no_locks (as_nanos age_timeout)) }
         ensures kind { IfErr result (λ e. e ≡ OutOfMemory) }
@@ -185,7 +185,7 @@ impl CacheLock {
 
     /// A permit under no key, with an age limit of its own.
     ///
-    /// It is refused for want of memory, or where all 64-bit numbers of locks are used, and then
+    /// It is refused when memory runs out, or if all 64-bit numbers of locks are used, and then
     /// changes nothing.
     pub fn new_permit(
         &mut self,
@@ -210,7 +210,7 @@ impl CacheLock {
         ))
     }
 
-    // The number of the next lock, where one is left.
+    // The number of the next lock, if one is left.
     fn next_number(&self) -> Result<u64>
         ensures next { IfOk result (λ n. n ≡ self.now.next) }
         ensures kind { IfErr result (λ e. (e ≡ NumbersExhausted) × (2 ^ 64 ≤ self.now.next)) }
@@ -230,7 +230,7 @@ impl CacheLock {
         ReadLock::new(number)
     }
 
-    // Tells where a lock ended.
+    // Says with which status a lock ended.
     pub(super) fn unlock(&mut self, number: u64, reason: LockStatus)
         requires { IsReason reason }
         ensures { self.new ≡ unlocked self.old number reason }

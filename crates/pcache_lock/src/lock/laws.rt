@@ -6,7 +6,7 @@ pub fn at_most_one_waits()
     ensures { OneWaitsAlways }
 {}
 
-/// Where no permit was unlocked while it was held, a request gets the permit exactly where none
+/// If no permit was unlocked while it was held, a request gets the permit exactly when none
 /// waits under its key, and else a read lock on the one that does.
 pub fn request_finds_the_waiting()
     ensures { AskFindsTheWaitingAlways }

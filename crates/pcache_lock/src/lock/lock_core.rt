@@ -142,7 +142,7 @@ impl LockCore {
         self.held && matches!(self.status, LockStatus::Waiting | LockStatus::AgeTimeout)
     }
 
-    /// Tells where it ended.
+    /// Says with which status it ended.
     pub fn unlock(&mut self, reason: LockStatus)
         requires { IsReason reason }
         ensures { self.new ≡ ended reason self.old }

@@ -2,7 +2,7 @@
 ghost use Rattle.std.specs.Prelude.{◌≡◌, [], IfErr, IfOk, IsOk, IsSome, None, OnErr, OnOk, Some, is_some, option_copied, unwrap_or};
 ghost use Rattle.pcache_base.specs.declared.error.ErrorType.TheVariants.{OutOfMemory};
 ghost use Rattle.pcache_lock.specs.Locks.{is_permit, number_of_lock};
-ghost use Rattle.pcache_lock.specs.Waiting.{first_watch, looked, watch_at};
+ghost use Rattle.pcache_lock.specs.Waiting.{first_watch, watched, watch_at};
 
 use crate::lock::lock_core::LockCore;
 use pcache_base::error::Result;
@@ -98,7 +98,7 @@ impl Watch {
 
     // Looks at what was published since.
     fn look(&mut self, core: &LockCore) -> Option<UnusableFill>
-        ensures watch { self.new ≡ looked core.now self.old }
+        ensures watch { self.new ≡ watched core.now self.old }
         ensures told { result ≡ self.new.told }
     {
         self.told = self.told.or(core.first_told(&self.fills, self.seen));
@@ -153,8 +153,8 @@ impl ReadLock {
         core: &LockCore,
         fills: Option<&UnusableFills>,
     ) -> Result<Option<UnusableFill>>
-        ensures ok { OnOk result (self.new ≡ record self.old { watch = Some (looked core.now (watch_at core.now (option_copied fills.entry) self.old.watch)) }) }
-        ensures told { IfOk result (λ told. told ≡ (looked core.now (watch_at core.now (option_copied fills.entry) self.old.watch)).told) }
+        ensures ok { OnOk result (self.new ≡ record self.old { watch = Some (watched core.now (watch_at core.now (option_copied fills.entry) self.old.watch)) }) }
+        ensures told { IfOk result (λ told. told ≡ (watched core.now (watch_at core.now (option_copied fills.entry) self.old.watch)).told) }
         ensures err { OnErr result (self.new ≡ self.old) }
         ensures kind { IfErr result (λ e. e ≡ OutOfMemory) }
         ensures later { IsSome self.old.watch → IsOk result }

@@ -46,7 +46,7 @@ fn is_value(bytes: &[u8]) -> bool
     bytes.iter().all(|byte| is_value_byte(*byte))
 }
 
-// The bytes, where they are a name.
+// The bytes, if they are a name.
 fn name_in(bytes: &[u8]) -> Result<&[u8]>
     ensures { Gives (λ name. name.now) result (name_at bytes.now) }
 {
@@ -57,7 +57,7 @@ fn name_in(bytes: &[u8]) -> Result<&[u8]>
     }
 }
 
-// The bytes, where they are a value.
+// The bytes, if they are a value.
 fn value_in(bytes: &[u8]) -> Result<&[u8]>
     ensures { Gives (λ value. value.now) result (value_at bytes.now) }
 {
@@ -80,7 +80,7 @@ fn parts_of(line: &[u8]) -> Result<(&[u8], &[u8])>
     Ok((name, value))
 }
 
-// The name of the field that the first line is, and the bytes behind that line.
+// The name of the field that the first line is, and the bytes after that line.
 #[tactic(auto, unfolding(crate::specs::HeaderForm::name_then_at))]
 fn first_name(bytes: &[u8]) -> Result<(&[u8], &[u8])>
     ensures { Gives (λ x. (x.0.now, x.1.now)) result (name_then_at bytes.now) }
@@ -138,7 +138,7 @@ fn has_any(bytes: &[u8], names: &[&[u8]]) -> bool
 }
 
 // Whether the lines have no more names than a map holds, and those of one name stand together. There
-// is no memory to keep all names in: the lines behind each few of them are looked through for them.
+// is no memory to keep all names in: the lines after each few of them are looked through for them.
 fn are_grouped(bytes: &[u8]) -> bool
     ensures { result ≡ are_grouped 24576 (lines_at bytes.now) }
 {
@@ -175,7 +175,7 @@ fn are_lines(bytes: &[u8]) -> bool
 }
 
 /// Whether all of the bytes are the text of a head. It takes no memory, and so more time than to read
-/// the head where its lines have many names.
+/// the head if its lines have many names.
 pub fn is_header_text(bytes: &[u8]) -> bool
     ensures { IsTrue result ↔ IsHeaderText bytes.now }
 {

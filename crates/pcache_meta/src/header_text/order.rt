@@ -6,7 +6,7 @@ ghost use Rattle.pcache_meta.specs.HeaderText.{field_line, fields_text};
 
 use http_header::{HeaderMap, HeaderName, HeaderValue};
 
-// The bytes behind a text that they begin with.
+// The bytes after a text that they begin with.
 fn behind<'a>(bytes: &'a [u8], text: &[u8]) -> Option<&'a [u8]>
     ensures some { IfSome result (λ rest. bytes.now ≡ text.now ++ rest.now) }
     ensures none { IfNone result ((rest : List ℕ) → ¬ (bytes.now ≡ text.now ++ rest)) }
@@ -14,7 +14,7 @@ fn behind<'a>(bytes: &'a [u8], text: &[u8]) -> Option<&'a [u8]>
     bytes.strip_prefix(text)
 }
 
-// The bytes behind a field's line that they begin with.
+// The bytes after a field's line that they begin with.
 fn behind_line<'a>(bytes: &'a [u8], name: &HeaderName, value: &HeaderValue) -> Option<&'a [u8]>
     ensures some { IfSome result (λ rest. bytes.now ≡ field_line (name.now, value.now.bytes) ++ rest.now) }
     ensures none { IfNone result ((rest : List ℕ) → ¬ (bytes.now ≡ field_line (name.now, value.now.bytes) ++ rest)) }

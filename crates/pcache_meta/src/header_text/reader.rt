@@ -19,7 +19,7 @@ use http_header::{
 use pcache_base::error::{Error, ErrorType, Result};
 use std::alloc::Global;
 
-// The bytes before the first CR LF, and those behind it.
+// The bytes before the first CR LF, and those after it.
 pub(super) fn split_line(bytes: &[u8]) -> Result<(&[u8], &[u8])>
     ensures { Gives (λ x. (x.0.now, x.1.now)) result (line_from [] bytes.now) }
 {
@@ -33,7 +33,7 @@ pub(super) fn split_line(bytes: &[u8]) -> Result<(&[u8], &[u8])>
     Err(unreadable())
 }
 
-// The bytes before the first colon, and those behind it.
+// The bytes before the first colon, and those after it.
 pub(super) fn split_name(bytes: &[u8]) -> Result<(&[u8], &[u8])>
     ensures { Gives (λ x. (x.0.now, x.1.now)) result (name_from [] bytes.now) }
 {
@@ -133,7 +133,7 @@ fn field_of(alloc: Global, line: &[u8]) -> Result<(HeaderName, HeaderValue)>
     Ok((name, value))
 }
 
-// The bytes behind a space.
+// The bytes after a space.
 #[tactic(auto, unfolding(crate::specs::Reading::mark_at))]
 pub(super) fn behind_space(bytes: &[u8]) -> Result<&[u8]>
     ensures { Gives (λ x. x.now) result (mark_at 0x20 bytes.now) }
@@ -144,7 +144,7 @@ pub(super) fn behind_space(bytes: &[u8]) -> Result<&[u8]>
     }
 }
 
-// Adds a value to a map. A full one is unreadable, also where memory is short.
+// Adds a value to a map. A full one is unreadable, also if memory is short.
 fn append_field(headers: &mut HeaderMap, name: HeaderName, value: HeaderValue) -> Result<()>
     ensures reads { GivesOrWants (λ _. shown_fields headers.new) result (append_at (shown_fields headers.old) (name, value.bytes)) }
     ensures full { RefusesAppend headers.old name → IsErrOf result InternalError }
@@ -210,7 +210,7 @@ fn read_header(alloc: Global, bytes: &[u8]) -> Result<ResponseHeader>
 }
 
 /// The head that all of the bytes are the text of: its lines stand by name, in the order in which the
-/// names first come. It is refused for want of memory only where they are: what was read when memory
+/// names first come. It is refused when memory runs out only if they are: what was read when memory
 /// was refused says nothing of the rest, so the bytes are then looked through without memory.
 pub fn header_deserialize(alloc: Global, bytes: &[u8]) -> Result<ResponseHeader>
     ensures found { IfOk result (λ h. SpellsHeader bytes.now (shown h)) }

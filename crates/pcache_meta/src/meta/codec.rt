@@ -63,7 +63,7 @@ fn read_moment_item(reader: &mut Reader<'_>, present: bool) -> Result<Option<Mom
     Ok(Some(read_moment(reader)?))
 }
 
-// Version 0, behind the head.
+// Version 0, after the head.
 #[tactic(auto, unfolding(crate::specs::MetaReading::old_internal_at))]
 fn read_version0(reader: &mut Reader<'_>) -> Result<InternalMetaV0>
     ensures { Gives (λ m. (m, reader.new)) result (old_internal_at reader.old) }
@@ -80,7 +80,7 @@ fn read_version0(reader: &mut Reader<'_>) -> Result<InternalMetaV0>
     })
 }
 
-// Version 1, behind the head and the version.
+// Version 1, after the head and the version.
 #[tactic(auto, unfolding(crate::specs::MetaReading::old_internal_at))]
 fn read_version1(reader: &mut Reader<'_>) -> Result<InternalMetaV1>
     ensures { Gives (λ m. (m, reader.new)) result (old_internal_at reader.old) }
@@ -98,7 +98,7 @@ fn read_version1(reader: &mut Reader<'_>) -> Result<InternalMetaV1>
     })
 }
 
-// Version 2, behind the head and the version, with so many of the items that may be left out.
+// Version 2, after the head and the version, with so many of the items that may be left out.
 #[tactic(auto, unfolding(crate::specs::MetaReading::new_internal_at))]
 fn read_version2(reader: &mut Reader<'_>, extra: u64) -> Result<InternalMetaV2>
     ensures { Gives (λ m. (m, reader.new)) result (new_internal_at extra reader.old) }
@@ -197,7 +197,7 @@ fn put_optional_moment(out: &mut Vec<u8>, moment: Option<Moment>) -> Result<()>
     Ok(())
 }
 
-// The ninth item, where there is one.
+// The ninth item, if there is one.
 #[tactic(auto, unfolding(crate::specs::MetaWriting::last_written))]
 fn put_last_moment(out: &mut Vec<u8>, moment: Option<Moment>) -> Result<()>
     ensures written { OnOk result (out.new.items ≡ out.old.items ++ last_written moment) }
@@ -240,7 +240,7 @@ fn write_internal(alloc: Global, meta: &InternalMetaV2) -> Result<Vec<u8>>
     Ok(out)
 }
 
-// What versions 0 and 1 say, behind the head and the version.
+// What versions 0 and 1 say, after the head and the version.
 #[tactic(auto, unfolding(crate::specs::MetaWriting::old_written))]
 fn put_old(
     out: &mut Vec<u8>,
@@ -310,7 +310,7 @@ fn write_version1(alloc: Global, meta: &InternalMetaV1) -> Result<Vec<u8>>
 }
 
 impl InternalMetaV0 {
-    /// The bytes of version 0. Nothing reads them where they are fewer than ten.
+    /// The bytes of version 0. Nothing reads them if they are fewer than ten.
     pub fn serialize(&self, alloc: Global) -> Result<Vec<u8>>
         ensures written { IfOk result (λ v. v.items ≡ version0_written self.now) }
         ensures spelled { IfOk result (λ v. InternalThen v.items (upgraded self.now) []) }
@@ -346,7 +346,7 @@ impl InternalMetaV2 {
 
 impl CacheMeta {
     /// The meta as two byte strings: what it says beside its header, in version 2, and the text of
-    /// its header. Both read back as this meta. It is refused for want of memory alone.
+    /// its header. Both read back as this meta. It is refused only when memory runs out.
     pub fn serialize(&self, alloc: Global) -> Result<(Vec<u8>, Vec<u8>)>
         ensures written_internal { IfOk result (λ p. p.0.items ≡ internal_written (internal_of self.now)) }
         ensures written_header { IfOk result (λ p. p.1.items ≡ header_written self.now.header) }
@@ -369,7 +369,7 @@ impl CacheMeta {
         Ok((internal, header))
     }
 
-    /// The meta that two byte strings spell, in any version. It is refused for want of memory only where
+    /// The meta that two byte strings spell, in any version. It is refused when memory runs out only if
     /// they spell one, and else as bytes that can't be read.
     pub fn deserialize(alloc: Global, internal: &[u8], header: &[u8]) -> Result<CacheMeta>
         ensures found { IfOk result (λ m. SpellsMeta internal.now header.now m) }

@@ -32,7 +32,7 @@ impl Model for SpelledMeta {
 }
 
 impl SpelledMeta {
-    /// Keeps what is written of a meta. It is refused for want of memory alone.
+    /// Keeps what is written of a meta. It is refused only when memory runs out.
     pub fn new(alloc: Global, meta: &CacheMeta) -> Result<SpelledMeta>
         ensures ok { IfOk result (λ kept. kept ≡ meta.now) }
         ensures kind { IfErr result (λ e. e ≡ OutOfMemory) }
@@ -50,7 +50,7 @@ impl SpelledMeta {
         (self.internal.as_slice(), self.header.as_slice())
     }
 
-    /// The meta, read back. It is refused for want of memory alone.
+    /// The meta, read back. It is refused only when memory runs out.
     pub fn meta(&self, alloc: Global) -> Result<CacheMeta>
         ensures ok { IfOk result (λ m. m ≡ self.now) }
         ensures kind { IfErr result (λ e. e ≡ OutOfMemory) }
@@ -58,7 +58,7 @@ impl SpelledMeta {
         CacheMeta::deserialize(alloc, self.internal.as_slice(), self.header.as_slice())
     }
 
-    /// A second one of the same meta. It is refused for want of memory alone.
+    /// A second one of the same meta. It is refused only when memory runs out.
     pub fn copied(&self, alloc: Global) -> Result<SpelledMeta>
         ensures ok { IfOk result (λ copy. copy ≡ self.now) }
         ensures kind { IfErr result (λ e. e ≡ OutOfMemory) }

@@ -1,4 +1,4 @@
-//! Writing values behind what a buffer holds, each in its shortest form. Of a value that is refused
+//! Writing values after what a buffer holds, each in its shortest form. Of a value that is refused
 //! nothing is written.
 ghost use Rattle.std.specs.Prelude.{◌≡◌, ◌<◌, ◌≤◌, ◌^◌, ◌++◌, ◌↔◌, ◌⊎◌, ◌∷◌, [], length, take, OnOk, OnErr, IfErr, IfSome, IsErrOf};
 ghost use Rattle.pcache_meta.specs.Writing.{IsHash, number_written, array_written, text_head_written, text_written, hash_written, optional_written};
@@ -94,7 +94,7 @@ pub fn put_text(out: &mut Vec<u8>, text: &str) -> Result<()>
     Ok(())
 }
 
-// Writes the bytes of a hash, or, where memory is refused, some of them.
+// Writes the bytes of a hash, or, if memory is refused, some of them.
 #[tactic(auto, unfolding(crate::specs::Writing::hash_written))]
 fn put_each(out: &mut Vec<u8>, hash: &HashBinary) -> Result<()>
     ensures written { OnOk result (out.new.items ≡ out.old.items ++ hash_written hash.now) }

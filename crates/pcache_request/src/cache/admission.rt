@@ -30,7 +30,7 @@ impl<S: Storage> HttpCache<S> {
         self.has_policy = true;
     }
 
-    /// What the policy decided of the request, where it was asked.
+    /// What the policy decided of the request, if it was asked.
     pub fn admission_decision(&self) -> Option<Decision>
         ensures { result ≡ self.now.digest.admission }
     {
@@ -60,7 +60,7 @@ impl<S: Storage> HttpCache<S> {
         decision
     }
 
-    // Asks the policy where it is to be asked, and keeps its decision.
+    // Asks the policy if it is to be asked, and keeps its decision.
     fn decide<A: AdmissionPolicy>(&mut self, policy: &mut A) -> Option<Decision>
         ensures decides { IsTrue (observes self.old) → Decides (λ k d. A.decides policy.old k d policy.new) self.old.key self.new.digest.admission }
         ensures same_policy { result ≡ None → policy.new ≡ policy.old }
@@ -85,10 +85,10 @@ impl<S: Storage> HttpCache<S> {
         let _released = self.disable(storage, lock, NoCacheReason::Deferred);
     }
 
-    /// Looks the key up as `cache_lookup` does, and where the store has nothing and a policy in use has
-    /// not decided yet, asks the policy first. Where it defers, caching is turned off as deferred, and no
+    /// Looks the key up as `cache_lookup` does, and if the store has nothing and a policy in use has
+    /// not decided yet, asks the policy first. If it defers, caching is turned off as deferred, and no
     /// lock is asked for. Its decision is kept. Refused, the request is as before but for a decision, and
-    /// the lock table is as before; where the lock was refused, a hidden pair was let go.
+    /// the lock table is as before; if the lock was refused, a hidden pair was let go.
     pub fn cache_lookup_with<L: CacheKeyLock, A: AdmissionPolicy>(
         &mut self,
         storage: &mut S,

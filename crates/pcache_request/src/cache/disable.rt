@@ -85,7 +85,7 @@ impl<S: Storage> HttpCache<S> {
     }
 
     /// Turns caching off. The write is dropped, a permit is released with what the reason tells the
-    /// others, and the rest is let go; the key stays. Where caching was never turned on, nothing
+    /// others, and the rest is let go; the key stays. If caching was never turned on, nothing
     /// changes. Answers the lock that was released.
     pub fn disable<L: CacheKeyLock>(
         &mut self,

@@ -26,7 +26,7 @@ use std::alloc::Global;
 pub struct EndedWrite {
     /// What became of it.
     pub end: WriteEnd,
-    /// The entry of the body, where one was stored for good.
+    /// The entry of the body, if one was stored for good.
     pub entry: Option<CacheEntryKey>,
 }
 
@@ -55,7 +55,7 @@ fn purge_all<S: Storage>(storage: &mut S, entries: &[CacheEntryKey]) -> usize
     failed
 }
 
-// Admits the entry of a write that ended so, where a manager is in use.
+// Admits the entry of a write that ended so, if a manager is in use.
 fn admit<E: EvictionManager>(
     alloc: Global,
     is_used: bool,
@@ -157,9 +157,9 @@ fn told_size(kind: MissFinishType) -> usize
     }
 }
 
-/// Ends the write of a key and stores its body. Its entry is admitted where a manager is in use, and what is evicted for
+/// Ends the write of a key and stores its body. Its entry is admitted if a manager is in use, and what is evicted for
 /// it is purged, in order. A write that is refused is dropped, and a body whose admission is refused is purged again.
-/// The entry and the key are made first, so that want of memory for them drops the write.
+/// The entry and the key are made first, so that a lack of memory for them drops the write.
 pub fn end_writer<S: Storage, E: EvictionManager>(
     alloc: Global,
     is_used: bool,

@@ -13,18 +13,18 @@ use std::time::Duration;
 /// What a caller sets for the lock of a request.
 #[derive(Clone, Copy, Debug, Default, PartialEq, Eq)]
 pub struct CacheOptionOverrides {
-    /// For how long the request waits for locks, over all its waits, where that is limited.
+    /// For how long the request waits for locks, over all its waits, if that is limited.
     pub wait_timeout: Option<Duration>,
-    /// How often it is to look again after a wait, where that is limited. Its caller counts.
+    /// How often it is to look again after a wait, if that is limited. Its caller counts.
     pub max_lock_retries: Option<usize>,
 }
 
 /// How a request that uses a lock waits for it.
 #[derive(Clone, Copy, Debug, PartialEq, Eq)]
 pub struct LockCtx {
-    /// For how long it waits, over all its waits, where that is limited.
+    /// For how long it waits, over all its waits, if that is limited.
     pub wait_timeout: Option<Duration>,
-    /// How often it is to look again after a wait, where that is limited. Its caller counts.
+    /// How often it is to look again after a wait, if that is limited. Its caller counts.
     pub max_retries: Option<usize>,
 }
 
@@ -43,7 +43,7 @@ impl LockCtx {
         }
     }
 
-    // The limits that are set for a lock, where it is in use.
+    // The limits that are set for a lock, if it is in use.
     fn of(is_used: bool, overrides: Option<CacheOptionOverrides>) -> LockCtx
         ensures timeout { option_map as_nanos result.wait_timeout ≡ cond is_used (timeout_in overrides) None }
         ensures retries { result.max_retries ≡ cond is_used (retries_in overrides) None }
@@ -123,7 +123,7 @@ impl<S: Storage> HttpCache<S> {
         matches!(&self.held, Some(Locked::Write(_)))
     }
 
-    /// How often the request is to look again after a wait, where that is limited.
+    /// How often the request is to look again after a wait, if that is limited.
     pub fn cache_lock_max_retries(&self) -> Option<usize>
         requires { IsOn self.now.phase }
         ensures { result ≡ self.now.max_retries }
@@ -188,9 +188,9 @@ impl<S: Storage> HttpCache<S> {
         Some(ReleasedLock { lock, status })
     }
 
-    /// Publishes what was found out about the fill, where the permit is held: readers that cannot
+    /// Publishes what was found out about the fill, if the permit is held: readers that cannot
     /// use such a fill need not wait for it. Answers the permit for which it was published. It is
-    /// refused for want of memory alone, and changes nothing then; no tokens are never refused.
+    /// refused only when memory runs out, and changes nothing then; no tokens are never refused.
     pub fn lock_publish_fill_tokens<L: CacheKeyLock>(
         &self,
         lock: &mut L,

@@ -115,7 +115,7 @@ fn poll_read<L: CacheKeyLock>(
     })
 }
 
-// The moment of the first poll of a read lock, which is now where it was not polled before.
+// The moment of the first poll of a read lock, which is now if it was not polled before.
 fn first_poll(read: &ReadLock, waits_since: Option<Moment>, now: Moment) -> Moment
     ensures { result ≡ since_of now read.now.watch waits_since }
 {
@@ -125,7 +125,7 @@ fn first_poll(read: &ReadLock, waits_since: Option<Moment>, now: Moment) -> Mome
     }
 }
 
-// Holds a read lock again, where the wait goes on, and else lets it go.
+// Holds a read lock again, if the wait goes on, and else lets it go.
 fn end_poll<L: CacheKeyLock>(
     lock: &mut L,
     read: ReadLock,
@@ -160,7 +160,7 @@ fn end_wait(digest: &mut HttpCacheDigest, answer: Poll<LockWaitOutcome>, waited:
     }
 }
 
-// Polls a read lock that is not held at its place, and puts it there again where the wait goes on.
+// Polls a read lock that is not held at its place, and puts it there again if the wait goes on.
 fn wait_on<L: CacheKeyLock>(
     alloc: Global,
     lock: &mut L,
@@ -226,7 +226,7 @@ impl<S: Storage> HttpCache<S> {
     /// that the request cannot use; or else it waited for as long as it may, over all its waits. A
     /// wait that is over lets the read lock go, and its time is in the digest.
     ///
-    /// It is refused for want of memory alone, only at the first poll of a read lock, and only where
+    /// It is refused only when memory runs out, only at the first poll of a read lock, and only if
     /// the key names fills that the request cannot use; nothing has changed then.
     pub fn cache_lock_wait<L: CacheKeyLock>(
         &mut self,
@@ -288,7 +288,7 @@ impl<S: Storage> HttpCache<S> {
         self.digest.lock_duration
     }
 
-    /// The fill that the last wait that was told of one was told of.
+    /// The fill that a wait was told of last.
     pub fn lock_abandon(&self) -> Option<LockAbandon>
         ensures { result ≡ self.now.digest.abandoned }
     {

@@ -29,7 +29,7 @@ impl<S: Storage> HttpCache<S> {
         self.phase = CachePhase::Bypass;
     }
 
-    /// Why the response was expected not to be cacheable, where the cache was passed by with a
+    /// Why the response was expected not to be cacheable, if the cache was passed by with a
     /// predictor in use that knew a reason.
     pub fn predicted_uncacheable_reason(&self) -> Option<NoCacheReason>
         ensures { result ≡ self.now.predicted }
@@ -67,8 +67,8 @@ impl<S: Storage> HttpCache<S> {
 
     /// Tells a predictor in use that the response was not cacheable, for this reason. Answers what the
     /// predictor answers: whether the contrary was expected, or `None` for a reason that does not
-    /// count; `None` also without one in use, which is not touched then. It is refused for want of
-    /// memory alone, and changes nothing then.
+    /// count; `None` also without one in use, which is not touched then. It is refused only when
+    /// memory runs out, and changes nothing then.
     pub fn response_became_uncacheable<P: CacheablePredictor>(
         &self,
         predictor: &mut P,

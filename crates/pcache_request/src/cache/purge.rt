@@ -111,7 +111,7 @@ impl<S: Storage> HttpCache<S> {
     }
 
     /// Removes what stands under the key, as `purge` does, in any phase in which there is one. It is
-    /// done at once, and the context, which the Rust notes where that fails, is not read.
+    /// done at once, and the context, which the Rust notes if that fails, is not read.
     pub fn spawn_async_purge<E: EvictionManager>(
         &mut self,
         storage: &mut S,

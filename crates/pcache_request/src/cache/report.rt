@@ -49,7 +49,7 @@ pub struct ReleasedLock {
     /// What was held, and is gone.
     pub lock: LockName,
     /// The status that the permit was released with. Its readers are told that, or that it was too
-    /// old where it was found so before. A read lock was let go, and told nobody.
+    /// old if it was found so before. A read lock was let go, and told nobody.
     pub status: LockStatus,
 }
 
@@ -70,7 +70,7 @@ pub struct WaitReport {
 pub struct Access {
     /// The entry.
     pub entry: CacheEntryKey,
-    /// The weight that it came in with, where it was missing.
+    /// The weight that it came in with, if it was missing.
     pub weight: usize,
 }
 
@@ -78,7 +78,7 @@ pub struct Access {
 pub struct LookUp<H> {
     /// The meta and the reader of what stands under the key.
     pub found: Option<(CacheMeta, H)>,
-    /// The lock, where it was asked for.
+    /// The lock, if it was asked for.
     pub asked: Option<AskedLock>,
 }
 
@@ -105,7 +105,7 @@ pub struct Renewal {
 pub struct WriteReport {
     /// How it went.
     pub end: WriteEnd,
-    /// The entry of the body, where one was stored for good.
+    /// The entry of the body, if one was stored for good.
     pub entry: Option<CacheEntryKey>,
     /// The lock that was released.
     pub released: Option<LockName>,

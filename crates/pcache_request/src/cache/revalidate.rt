@@ -45,7 +45,7 @@ fn set_field(headers: &mut HeaderMap, name: &'static str, value: &HeaderValue) -
     }
 }
 
-// Adds a value behind those under a name.
+// Adds a value after those under a name.
 fn add_field(headers: &mut HeaderMap, name: &'static str, value: &HeaderValue) -> Result<()>
     requires { IsTrue (is_field_name name.now) }
     ensures ok { OnOk result (headers.new ≡ append headers.old (lowercase name.now) value.now) }
@@ -57,7 +57,7 @@ fn add_field(headers: &mut HeaderMap, name: &'static str, value: &HeaderValue) -
     }
 }
 
-// Adds all values behind those under a name, in order.
+// Adds all values after those under a name, in order.
 #[tactic(auto, using(crate::proofs::Fields::shown_append))]
 fn add_fields(
     headers: &mut HeaderMap,
@@ -114,7 +114,7 @@ impl<S: Storage> HttpCache<S> {
     /// Takes the meta of an answer that says that the stale body is good. It was created, and its body
     /// came, when that of the old meta was. The store sets it for the complete body under the key, and
     /// the permit is released as done. Answers whether there was such a body. The request goes on as
-    /// revalidated, with the new meta, also where the store refuses to set it, for want of memory.
+    /// revalidated, with the new meta, also if the store refuses to set it, since memory ran out.
     pub fn revalidate_cache_meta<L: CacheKeyLock>(
         &mut self,
         storage: &mut S,
@@ -173,8 +173,8 @@ impl<S: Storage> HttpCache<S> {
         Renewal { updated, released }
     }
     /// The head of the stale response with the fields that an answer renews: Cache-Control, Expires,
-    /// Cache-Tag, CDN-Cache-Control and ETag, each with the answer's values where it has any. It is
-    /// refused for want of memory, or as `InternalError` where the head has no room for another field.
+    /// Cache-Tag, CDN-Cache-Control and ETag, each with the answer's values if it has any. It is
+    /// refused when memory runs out, or as `InternalError` if the head has no room for another field.
     pub fn revalidate_merge_header(&self, resp: &RespHeader) -> Result<ResponseHeader>
         requires { MayRevalidate self.now }
         ensures ok { IfOk result (λ h. IfSome self.now.meta (λ m. shown h ≡ header_renewed (shown_fields resp.now.headers) m.header)) }

@@ -18,8 +18,8 @@ impl<S: Storage> HttpCache<S> {
     ghost use Rattle.pcache_request.specs.Requests.{found_for};
     ghost use Rattle.pcache_request.specs.Variants.{is_hidden, visible, seen_for, hides_for, searched, with_key_lock, table_key_locked, asked_for_key, asks_unseen, looked_for, table_looked_for};
 
-    /// What the store has for the key, also where that is hidden: the meta, and a reader that has to be
-    /// taken or let go. It is refused for want of memory alone, and changes nothing then.
+    /// What the store has for the key, also if that is hidden: the meta, and a reader that has to be
+    /// taken or let go. It is refused only when memory runs out, and changes nothing then.
     pub fn find(&self, storage: &mut S) -> Result<Option<(CacheMeta, S::Hit)>>
         requires { MayLookUp self.now.phase }
         ensures found { IfOk result (λ r. option_map (λ p. (p.0, S.Hit.reader p.1)) r ≡ found_for (S.state storage.old) self.now.key) }
@@ -43,7 +43,7 @@ impl<S: Storage> HttpCache<S> {
         }
     }
 
-    /// Asks for the key's lock, where one is in use, and lets an older one go once the new one was
+    /// Asks for the key's lock, if one is in use, and lets an older one go once the new one was
     /// given. Answers the lock that was asked for. Refused, it changes nothing.
     pub fn ask_for_key<L: CacheKeyLock>(
         &mut self,
@@ -101,8 +101,8 @@ impl<S: Storage> HttpCache<S> {
     }
 
     /// Looks for the key in the store, hides what was created before the moment from which variants
-    /// count, and asks for the key's lock where it hands nothing on and a lock is in use. It asks no
-    /// policy (`cache_lookup_with` does). Refused, the request and the lock table are as before; where
+    /// count, and asks for the key's lock if it hands nothing on and a lock is in use. It asks no
+    /// policy (`cache_lookup_with` does). Refused, the request and the lock table are as before; if
     /// the lock was refused, a hidden pair was let go.
     pub fn cache_lookup<L: CacheKeyLock>(
         &mut self,

@@ -45,7 +45,7 @@ impl<S: Storage> HttpCache<S> {
         )
     }
 
-    /// The key, where one is set and caching was turned on.
+    /// The key, if one is set and caching was turned on.
     pub fn maybe_cache_key(&self) -> Option<&CacheKey>
         ensures { option_copied result ≡ shown_key self.now }
     {
@@ -140,7 +140,7 @@ impl<S: Storage> HttpCache<S> {
         meta.serve_stale_while_revalidate(now)
     }
 
-    /// Takes this span for all of the request's calls, where caching is on.
+    /// Takes this span for all of the request's calls, if caching is on.
     pub fn enable_tracing(&mut self, cache_span: Span)
         ensures { self.new ≡ self.old }
     {
@@ -149,7 +149,7 @@ impl<S: Storage> HttpCache<S> {
         }
     }
 
-    /// The handle of the span of all the request's calls, where caching is on.
+    /// The handle of the span of all the request's calls, if caching is on.
     pub fn get_cache_span(&self) -> Option<SpanHandle>
         ensures { is_some result ≡ is_on self.now.phase }
     {
@@ -159,7 +159,7 @@ impl<S: Storage> HttpCache<S> {
         Some(self.traces.get_cache_span())
     }
 
-    /// The handle of the span of what the request stores, where caching is on.
+    /// The handle of the span of what the request stores, if caching is on.
     pub fn get_miss_span(&self) -> Option<SpanHandle>
         ensures { is_some result ≡ is_on self.now.phase }
     {
@@ -169,7 +169,7 @@ impl<S: Storage> HttpCache<S> {
         Some(self.traces.get_miss_span())
     }
 
-    /// The handle of the span of what the request found, where caching is on.
+    /// The handle of the span of what the request found, if caching is on.
     pub fn get_hit_span(&self) -> Option<SpanHandle>
         ensures { is_some result ≡ is_on self.now.phase }
     {
@@ -186,14 +186,14 @@ impl<S: Storage> HttpCache<S> {
         self.digest.add_lookup_duration(duration);
     }
 
-    /// What the look-ups took so far, where that was recorded.
+    /// What the look-ups took so far, if that was recorded.
     pub fn lookup_duration(&self) -> Option<Duration>
         ensures { option_map as_nanos result ≡ self.now.digest.look_ups }
     {
         self.digest.lookup_duration
     }
 
-    /// Whether the storage's writes can be read while they are made, where caching is on.
+    /// Whether the storage's writes can be read while they are made, if caching is on.
     pub fn support_streaming_partial_write(&self, storage: &S) -> Option<bool>
         ensures { result ≡ cond (is_on self.now.phase) (Some (S.streams storage.now)) None }
     {

@@ -16,7 +16,7 @@ impl<S: Storage> HttpCache<S> {
         self.size = Some(MaxFileSizeTracker::new(max_file_size_bytes));
     }
 
-    /// The limit, where there is one.
+    /// The limit, if there is one.
     pub fn max_file_size_bytes(&self) -> Option<usize>
         requires { WasEnabled self.now.phase }
         ensures { result ≡ option_map limit_of self.now.size }

@@ -60,7 +60,7 @@ impl<S: Storage> HttpCache<S> {
 
     /// Sets the variance that the next look-up looks for, by the meta that was found under the key.
     /// That look-up hides what was created before the meta's body came. Answers whether the meta is of
-    /// this variance: then, where the key named none, the body is the key's own, and the key names none
+    /// this variance: then, if the key named none, the body is the key's own, and the key names none
     /// on.
     pub fn cache_vary_lookup(&mut self, variance: HashBinary, meta: &CacheMeta) -> bool
         requires { MayLookUp self.old.phase }

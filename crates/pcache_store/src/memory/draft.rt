@@ -219,7 +219,7 @@ impl Draft {
         Ok(Body::new(meta, bytes))
     }
 
-    // The write as a complete body, where nobody reads it any more.
+    // The write as a complete body, if nobody reads it any more.
     pub(crate) fn into_body(self) -> Result<Body>
         ensures ok { IfOk result (λ b. b ≡ record { meta = self.meta; bytes = self.bytes }) }
         ensures kind { IfErr result (λ e. e ≡ OutOfMemory) }

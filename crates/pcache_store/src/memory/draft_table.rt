@@ -22,8 +22,8 @@ const MOST_RECORDS: usize = (1 << 63) - 1;
 /// sees one map.
 ///
 /// A call is handed a slot besides the number: the record is looked for in that slot's shard, and in
-/// the others only where it is not there. So whoever names the slot of the write's key takes time in
-/// the logarithm of the number of records, and a slot of another store's write finds the same.
+/// the others only if it is not there. So whoever names the slot of the write's key takes one look-up
+/// of a hash table, however many records there are, and with another slot the same record is found.
 #[derive(Drop)]
 pub(crate) struct DraftTable {
     shards: [HashedTable<Draft>; 16],
@@ -192,7 +192,7 @@ impl DraftTable {
     }
 }
 
-// The place of the shard that has a number, where one has it. That of the slot comes first.
+// The place of the shard that has a number, if one has it. That of the slot comes first.
 fn place_of(shards: &[HashedTable<Draft>; 16], slot: u128, number: u128) -> usize
     ensures within { result < 16 }
     ensures place { IsPlaceOf shards.now number result }
@@ -223,7 +223,7 @@ fn place_with(shards: &[HashedTable<Draft>; 16], number: u128) -> Option<usize>
     None
 }
 
-// One where a table has a record of a number, else none.
+// One if a table has a record of a number, else none.
 fn held(table: &HashedTable<Draft>, number: u128) -> usize
     ensures { result ≡ cond (is_some (map.get table.now number)) 1 0 }
 {
@@ -233,6 +233,8 @@ fn held(table: &HashedTable<Draft>, number: u128) -> usize
     }
 }
 
+// What follows changes one table. Each method above lends the table of a number to one of these functions, so that
+// the change has one clause over one table, and one lemma says what it makes of all tables together.
 fn write_in(
     writes: &mut HashedTable<Draft>,
     alloc: Global,
@@ -296,7 +298,7 @@ fn land_in(writes: &mut HashedTable<Draft>, number: u128)
     writes.remove(number);
 }
 
-// Where nobody reads the write its meta and bytes move into the body, and else the body shares them.
+// If nobody reads the write, its meta and bytes move into the body; else the body shares them.
 fn end_in(writes: &mut HashedTable<Draft>, alloc: Global, number: u128) -> Result<Body>
     requires { IsSome (map.get writes.old number) }
     ensures body { IfOk result (λ b. IsBodyOf (map.get writes.old number) b) }

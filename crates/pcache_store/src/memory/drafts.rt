@@ -63,7 +63,7 @@ impl Drafts {
         self.writes.get(slot, number)
     }
 
-    // The number of the next write, where it has 64 bits.
+    // The number of the next write, if it has 64 bits.
     pub(crate) fn next(&self) -> Option<u64>
         ensures value { IfSome result (λ n. n ≡ self.now.next) }
         ensures some { IsSome result ↔ (self.now.next < 2 ^ 64) }

@@ -4,7 +4,7 @@ ghost use Rattle.std.specs.FinMap as map;
 ghost use Rattle.pcache_meta.specs.Meta as meta_of;
 ghost use Rattle.pcache_base.specs.declared.error.ErrorType.TheVariants.{OutOfMemory};
 ghost use Rattle.pcache_table.specs.Sharding.{part_of};
-ghost use Rattle.pcache_store.specs.Store.{opened, shut_on, stored_on, body_of, meta_changed_on};
+ghost use Rattle.pcache_store.specs.Store.{opened, shut_on, stored_on, complete_body, meta_changed_on};
 
 use crate::memory::body::{Body, KeySlot};
 use pcache_base::error::{Error, ErrorType, Result};
@@ -106,7 +106,7 @@ impl SlotTable {
     pub(crate) fn shut(&mut self, key: u128, number: u128)
         ensures { self.new ≡ shut_on self.old key number (map.get self.old key) }
     {
-        let _ = &self.shards;
+        let _ = &self.shards; // for the prover: once a field is used, the invariant is known
         let place = (key % SHARDS) as usize;
         let table = &mut self.shards[place];
         let was = held(table, key);
@@ -118,10 +118,10 @@ impl SlotTable {
     // A write of the key ends, and its body stands in place of an older one, which is answered.
     pub(crate) fn store(&mut self, key: u128, number: u128, body: Body) -> Option<Body>
         requires { IsSome (map.get self.old key) }
-        ensures older { result ≡ body_of (map.get self.old key) }
+        ensures older { result ≡ complete_body (map.get self.old key) }
         ensures slots { self.new ≡ stored_on self.old key number body (map.get self.old key) }
     {
-        let _ = &self.shards;
+        let _ = &self.shards; // for the prover: once a field is used, the invariant is known
         let place = (key % SHARDS) as usize;
         let table = &mut self.shards[place];
         store_in(table, key, number, body)
@@ -132,7 +132,7 @@ impl SlotTable {
         ensures before { result ≡ map.get self.old key }
         ensures removed { self.new ≡ map.remove self.old key }
     {
-        let _ = &self.shards;
+        let _ = &self.shards; // for the prover: once a field is used, the invariant is known
         let place = (key % SHARDS) as usize;
         let table = &mut self.shards[place];
         let was = held(table, key);
@@ -143,10 +143,10 @@ impl SlotTable {
 
     // Sets the meta of the complete body, and answers whether there is one.
     pub(crate) fn set_meta(&mut self, key: u128, meta: SpelledMeta) -> bool
-        ensures there { result ≡ is_some (body_of (map.get self.old key)) }
+        ensures there { result ≡ is_some (complete_body (map.get self.old key)) }
         ensures slots { self.new ≡ meta_changed_on (λ _. meta) self.old key (map.get self.old key) }
     {
-        let _ = &self.shards;
+        let _ = &self.shards; // for the prover: once a field is used, the invariant is known
         let place = (key % SHARDS) as usize;
         let table = &mut self.shards[place];
         set_meta_in(table, key, meta)
@@ -154,20 +154,20 @@ impl SlotTable {
 
     // Ends the freshness of the complete body, and answers whether there is one.
     pub(crate) fn expire(&mut self, alloc: Global, key: u128, now: Moment) -> Result<bool>
-        ensures there { IfOk result (λ b. b ≡ is_some (body_of (map.get self.old key))) }
+        ensures there { IfOk result (λ b. b ≡ is_some (complete_body (map.get self.old key))) }
         ensures slots { OnOk result (self.new ≡ meta_changed_on (meta_of.expired_at now) self.old key (map.get self.old key)) }
-        ensures something { OnErr result (is_some (body_of (map.get self.old key)) ≡ true) }
+        ensures something { OnErr result (is_some (complete_body (map.get self.old key)) ≡ true) }
         ensures kind { IfErr result (λ e. e ≡ OutOfMemory) }
         ensures err { OnErr result (self.new ≡ self.old) }
     {
-        let _ = &self.shards;
+        let _ = &self.shards; // for the prover: once a field is used, the invariant is known
         let place = (key % SHARDS) as usize;
         let table = &mut self.shards[place];
         expire_in(table, alloc, key, now)
     }
 }
 
-// One where a key has a slot, else none.
+// One if a key has a slot, else none.
 fn held(table: &HashedTable<KeySlot>, key: u128) -> usize
     ensures { result ≡ cond (is_some (map.get table.now key)) 1 0 }
 {
@@ -177,6 +177,8 @@ fn held(table: &HashedTable<KeySlot>, key: u128) -> usize
     }
 }
 
+// What follows changes one table. Each method above lends the table of a key to one of these functions, so that
+// the change has one clause over one table, and one lemma says what it makes of all tables together.
 fn open_in(slots: &mut HashedTable<KeySlot>, alloc: Global, key: u128, number: u128) -> Result<()>
     ensures ok { OnOk result (slots.new ≡ opened slots.old key number) }
     ensures kind { IfErr result (λ e. e ≡ OutOfMemory) }
@@ -206,7 +208,7 @@ fn shut_in(slots: &mut HashedTable<KeySlot>, key: u128, number: u128)
 // Answers the older body.
 fn store_in(slots: &mut HashedTable<KeySlot>, key: u128, number: u128, body: Body) -> Option<Body>
     requires { IsSome (map.get slots.old key) }
-    ensures older { result ≡ body_of (map.get slots.old key) }
+    ensures older { result ≡ complete_body (map.get slots.old key) }
     ensures slots { slots.new ≡ stored_on slots.old key number body (map.get slots.old key) }
 {
     let Some(slot) = slots.get_mut(key) else {
@@ -216,7 +218,7 @@ fn store_in(slots: &mut HashedTable<KeySlot>, key: u128, number: u128, body: Bod
 }
 
 fn set_meta_in(slots: &mut HashedTable<KeySlot>, key: u128, meta: SpelledMeta) -> bool
-    ensures there { result ≡ is_some (body_of (map.get slots.old key)) }
+    ensures there { result ≡ is_some (complete_body (map.get slots.old key)) }
     ensures slots { slots.new ≡ meta_changed_on (λ _. meta) slots.old key (map.get slots.old key) }
 {
     let Some(slot) = slots.get_mut(key) else {
@@ -231,9 +233,9 @@ fn expire_in(
     key: u128,
     now: Moment,
 ) -> Result<bool>
-    ensures there { IfOk result (λ b. b ≡ is_some (body_of (map.get slots.old key))) }
+    ensures there { IfOk result (λ b. b ≡ is_some (complete_body (map.get slots.old key))) }
     ensures slots { OnOk result (slots.new ≡ meta_changed_on (meta_of.expired_at now) slots.old key (map.get slots.old key)) }
-    ensures something { OnErr result (is_some (body_of (map.get slots.old key)) ≡ true) }
+    ensures something { OnErr result (is_some (complete_body (map.get slots.old key)) ≡ true) }
     ensures kind { IfErr result (λ e. e ≡ OutOfMemory) }
     ensures err { OnErr result (slots.new ≡ slots.old) }
 {

@@ -5,7 +5,7 @@ ghost use Rattle.pcache_meta.specs.Meta as meta_of;
 ghost use Rattle.pcache_base.specs.Totals.{total, share};
 ghost use Rattle.pcache_base.specs.declared.error.ErrorType.TheVariants.{OutOfMemory};
 ghost use Rattle.pcache_table.specs.Sharding.{part_of};
-ghost use Rattle.pcache_store.specs.Store.{Stored, opened, shut_on, stored_on, body_of, meta_changed_on, is_fresh_in};
+ghost use Rattle.pcache_store.specs.Store.{Stored, opened, shut_on, stored_on, complete_body, meta_changed_on, is_fresh_in};
 ghost use Rattle.pcache_store.specs.Totals.{body_count, body_size, body_len, one};
 
 use crate::memory::body::{Body, KeySlot};
@@ -92,7 +92,7 @@ impl Slots {
 
     // Whether there is a complete body.
     pub(crate) fn has_body(&self, key: u128) -> bool
-        ensures { result ≡ is_some (body_of (map.get self.now key)) }
+        ensures { result ≡ is_some (complete_body (map.get self.now key)) }
     {
         match self.slots.get(key) {
             Some(slot) => slot.body().is_some(),
@@ -144,7 +144,7 @@ impl Slots {
 
     // Sets the meta of the complete body, and answers whether there is one.
     pub(crate) fn set_meta(&mut self, key: u128, meta: SpelledMeta) -> bool
-        ensures there { result ≡ is_some (body_of (map.get self.old key)) }
+        ensures there { result ≡ is_some (complete_body (map.get self.old key)) }
         ensures slots { self.new ≡ meta_changed_on (λ _. meta) self.old key (map.get self.old key) }
     {
         self.slots.set_meta(key, meta)
@@ -152,9 +152,9 @@ impl Slots {
 
     // Ends the freshness of the complete body, and answers whether there is one.
     pub(crate) fn expire(&mut self, alloc: Global, key: u128, now: Moment) -> Result<bool>
-        ensures there { IfOk result (λ b. b ≡ is_some (body_of (map.get self.old key))) }
+        ensures there { IfOk result (λ b. b ≡ is_some (complete_body (map.get self.old key))) }
         ensures slots { OnOk result (self.new ≡ meta_changed_on (meta_of.expired_at now) self.old key (map.get self.old key)) }
-        ensures something { OnErr result (is_some (body_of (map.get self.old key)) ≡ true) }
+        ensures something { OnErr result (is_some (complete_body (map.get self.old key)) ≡ true) }
         ensures kind { IfErr result (λ e. e ≡ OutOfMemory) }
         ensures err { OnErr result (self.new ≡ self.old) }
     {

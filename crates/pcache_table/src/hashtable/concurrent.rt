@@ -58,7 +58,7 @@ impl<V, const N: usize> ConcurrentHashTable<V, N> {
         &tables[(key % N as u128) as usize]
     }
 
-    /// The lock of the shard at a place, where there is one.
+    /// The lock of the shard at a place, if there is one.
     pub fn get_shard_at_idx(&self, place: usize) -> Option<&ShardLock<V, N>>
         ensures found { IsSome result ↔ (place < N) }
         ensures place { IfSome result (λ lock. lock.now ≡ place) }
@@ -134,7 +134,7 @@ impl<V: Drop, const N: usize> ConcurrentLruCache<V, N> {
     /// `N` empty shards, each at its place and for as many keys as the capacity. A capacity of 0
     /// counts as 1.
     ///
-    /// It is refused for want of memory alone.
+    /// It is refused only when memory runs out.
     pub fn new(alloc: Global, shard_capacity: usize) -> Result<ConcurrentLruCache<V, N>>
         requires { 0 < N }
         ensures made { IfOk result (λ t. t ≡ max shard_capacity 1) }

@@ -13,7 +13,7 @@ use std::sync::{RwLock, RwLockReadGuard, Wait};
 /// The lock of one of `N` shards. A contract sees the place and the capacity of its shard.
 ///
 /// Of what a lock lends nothing is known but its type. So both stand beside the lock as well, and
-/// a shard is lent only where it says the same itself. It does so at the first try: `at` puts one
+/// a shard is lent only if it says the same itself. It does so at the first try: `at` puts one
 /// that does under the lock, and nobody can put another there, since `write` lends the calls of a
 /// shard and never the shard to be changed.
 #[derive(Drop)]
@@ -37,7 +37,7 @@ impl<V, const N: usize> Model for LruLock<V, N> {
 impl<V: Drop, const N: usize> LruLock<V, N> {
     // The lock of an empty shard at a place. A capacity of 0 counts as 1.
     //
-    // It is refused for want of memory alone.
+    // It is refused only when memory runs out.
     pub(crate) fn at(alloc: Global, place: usize, capacity: usize) -> Result<LruLock<V, N>>
         requires { place < N }
         ensures made { IfOk result (λ l. l ≡ record { place = place; cap = max capacity 1 }) }

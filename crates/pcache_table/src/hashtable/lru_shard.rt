@@ -37,7 +37,7 @@ impl<V: Drop, const N: usize> LruShard<V, N> {
     // An empty shard at a place. A capacity of 0 counts as 1. Nobody outside makes one, so none comes
     // under the lock of another.
     //
-    // It is refused for want of memory alone.
+    // It is refused only when memory runs out.
     pub(crate) fn at(alloc: Global, place: usize, capacity: usize) -> Result<LruShard<V, N>>
         requires { place < N }
         ensures made { IfOk result (λ s. s ≡ record { place = place; cap = max capacity 1; entries = [] }) }

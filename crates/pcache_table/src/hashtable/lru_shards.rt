@@ -29,7 +29,7 @@ impl<V, const N: usize> Model for LruShards<V, N> {
 impl<V: Drop, const N: usize> LruShards<V, N> {
     /// `N` empty shards, each for as many keys as the capacity. A capacity of 0 counts as 1.
     ///
-    /// It is refused for want of memory alone.
+    /// It is refused only when memory runs out.
     pub fn new(alloc: Global, shard_capacity: usize) -> Result<LruShards<V, N>>
         requires { 0 < N }
         ensures made { IfOk result (λ s. s ≡ fresh_lists N (max shard_capacity 1)) }
@@ -69,7 +69,7 @@ impl<V: Drop, const N: usize> LruShards<V, N> {
         ensures err { OnErr result (self.new ≡ self.old) }
         ensures value_returned { IfErr result (λ y. y.value ≡ (key, value)) }
     {
-        let _ = &self.shards;
+        let _ = &self.shards; // for the prover: once a field is used, the invariant is known
         let place = (key % N as u128) as usize;
         let shard = &mut self.shards[place];
         shard.put(key, value)
@@ -80,7 +80,7 @@ impl<V: Drop, const N: usize> LruShards<V, N> {
         ensures before { result ≡ lookup (nat_eq key) (list_at self.old (key % N)).entries }
         ensures gone { self.new ≡ slice_set self.old (key % N) (part_without key (list_at self.old (key % N))) }
     {
-        let _ = &self.shards;
+        let _ = &self.shards; // for the prover: once a field is used, the invariant is known
         let place = (key % N as u128) as usize;
         let shard = &mut self.shards[place];
         shard.pop(key)

@@ -11,7 +11,7 @@ use std::sync::{RwLock, RwLockReadGuard, Wait};
 /// The lock of one of `N` shards. A contract sees the place of its shard.
 ///
 /// Of what a lock lends nothing is known but its type. So the place stands beside the lock as well,
-/// and a shard is lent only where it says that place itself. It does so at the first try: `at` puts
+/// and a shard is lent only if it says that place itself. It does so at the first try: `at` puts
 /// one that does under the lock, and nobody can put another there, since `write` lends the calls of
 /// a shard and never the shard to be changed.
 #[derive(Drop)]

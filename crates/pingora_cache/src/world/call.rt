@@ -14,10 +14,11 @@ use pcache_lock::lock::LockWaitOutcome;
 use pcache_meta::header::ResponseHeader;
 use pcache_meta::meta::CacheMeta;
 use pcache_predict::admission::Decision;
+use pcache_put_ctx::boxed::Boxed;
 use pcache_request::cache::CacheOptionOverrides;
 use pcache_request::phase::{CachePhase, HitStatus};
 
-/// A call of a request. Requests are named by numbers.
+/// A call of a request or a put. They are named by numbers, which they share.
 #[derive(Drop)]
 pub enum Call {
     /// Makes the request and turns caching on, with the manager and the lock in use, and these options
@@ -39,9 +40,9 @@ pub enum Call {
     /// Sets the key.
     Key {
         request: u64,
-        key: CacheKey,
+        key: Boxed<CacheKey>,
     },
-    /// Looks the key up. A decision that it carries, where the request looks its key up first, is that
+    /// Looks the key up. A decision that it carries, if the request looks its key up first, is that
     /// of an admission policy, which is in use from then on and decides so until another is carried.
     Look {
         request: u64,
@@ -70,7 +71,7 @@ pub enum Call {
     /// Sets the meta of the response that is to be stored.
     Meta {
         request: u64,
-        meta: CacheMeta,
+        meta: Boxed<CacheMeta>,
     },
     /// Begins the write.
     Begin {
@@ -90,7 +91,7 @@ pub enum Call {
     Read {
         request: u64,
     },
-    /// Has the reader give the body from `start` on, and before `end` where one is given, anew.
+    /// Has the reader give the body from `start` on, and before `end` if one is given, anew.
     Seek {
         request: u64,
         start: usize,
@@ -119,7 +120,7 @@ pub enum Call {
         request: u64,
         now: Moment,
     },
-    /// Publishes what was found out about the fill, where the permit is held.
+    /// Publishes what was found out about the fill, if the permit is held.
     Publish {
         request: u64,
         tokens: Tokens,
@@ -143,7 +144,7 @@ pub enum Call {
     /// answer is not stored, for this reason.
     Uncacheable {
         request: u64,
-        header: ResponseHeader,
+        header: Boxed<ResponseHeader>,
         reason: NoCacheReason,
     },
     /// Sets what the response varies on, before its write begins.
@@ -154,7 +155,7 @@ pub enum Call {
     /// Takes the meta of an answer that says that the stale body is good, also for the stored body.
     Revalidate {
         request: u64,
-        meta: CacheMeta,
+        meta: Boxed<CacheMeta>,
     },
     /// Tells the phase that the request is in.
     Phase {
@@ -164,10 +165,31 @@ pub enum Call {
     End {
         request: u64,
     },
+    /// Makes a put of the key, whose body may have so many bytes if there is a limit.
+    Put {
+        request: u64,
+        key: Boxed<CacheKey>,
+        limit: Option<usize>,
+    },
+    /// Takes in the next piece of the put's response, at a moment.
+    Feed {
+        request: u64,
+        bytes: Bytes,
+        now: Moment,
+    },
+    /// Ends the put before its response has come, and drops its write. Its number is free then.
+    Drop {
+        request: u64,
+    },
+    /// Ends the put if its response has come, and stores the body. Its number is free then, also if
+    /// it is refused.
+    Close {
+        request: u64,
+    },
 }
 
 impl Call {
-    /// The number of the request that the call names.
+    /// The number of the request or the put that the call names.
     pub fn request(&self) -> u64
         ensures { result ≡ number_of self.now }
     {
@@ -236,6 +258,18 @@ impl Call {
             Call::Revalidate { request, meta: _ } => request,
             Call::Phase { request } => request,
             Call::End { request } => request,
+            Call::Put {
+                request,
+                key: _,
+                limit: _,
+            } => request,
+            Call::Feed {
+                request,
+                bytes: _,
+                now: _,
+            } => request,
+            Call::Drop { request } => request,
+            Call::Close { request } => request,
         }
     }
 }
@@ -262,14 +296,16 @@ pub enum Reply {
     Hit(usize),
     /// A write was found that can be read while it is made.
     Part,
-    /// Nothing was found; the lock that was asked for, where one was.
+    /// Nothing was found; the lock that was asked for, if one was.
     NotFound(Option<LockKind>),
-    /// What was found is taken: the phase, and the lock that was asked for, where one was.
+    /// What was found is taken: the phase, and the lock that was asked for, if one was.
     Taken(CachePhase, Option<LockKind>),
     /// The body is stored: its size, and how many entries were evicted.
     Stored { size: usize, evicted: usize },
     /// There was nothing to be finished.
     Nothing,
+    /// Nothing is stored of the put, for this reason.
+    NotCached(NoCacheReason),
     /// Bytes were read.
     Data(Bytes),
     /// There is nothing to read yet.
@@ -299,7 +335,7 @@ pub enum Reply {
 }
 
 impl Reply {
-    /// A second reply, equal to this one. It is refused for want of memory alone, and only where the
+    /// A second reply, equal to this one. It is refused only when memory runs out, and only if the
     /// reply has bytes.
     pub fn copied(&self) -> Result<Reply>
         ensures ok { IfOk result (λ copy. copy ≡ self.now) }
@@ -319,6 +355,7 @@ impl Reply {
                 evicted: *evicted,
             },
             Reply::Nothing => Reply::Nothing,
+            Reply::NotCached(reason) => Reply::NotCached(*reason),
             Reply::Data(bytes) => Reply::Data(bytes.clone()?),
             Reply::Pending => Reply::Pending,
             Reply::Finished => Reply::Finished,

@@ -6,7 +6,7 @@ use crate::world::call::Call;
 use pcache_base::error::Result;
 
 impl Call {
-    /// A second call, equal to this one. It is refused for want of memory alone.
+    /// A second call, equal to this one. It is refused only when memory runs out.
     pub fn copied(&self) -> Result<Call>
         ensures ok { IfOk result (λ copy. copy ≡ self.now) }
         ensures kind { IfErr result (λ e. e ≡ OutOfMemory) }
@@ -26,7 +26,7 @@ impl Call {
             },
             Call::Key { request, key } => Call::Key {
                 request: *request,
-                key: key.copied()?,
+                key: key.beside(key.get().copied()?)?,
             },
             Call::Look {
                 request,
@@ -54,7 +54,7 @@ impl Call {
             Call::Miss { request } => Call::Miss { request: *request },
             Call::Meta { request, meta } => Call::Meta {
                 request: *request,
-                meta: meta.copied()?,
+                meta: meta.beside(meta.get().copied()?)?,
             },
             Call::Begin { request } => Call::Begin { request: *request },
             Call::Write {
@@ -110,7 +110,7 @@ impl Call {
                 reason,
             } => Call::Uncacheable {
                 request: *request,
-                header: header.copied()?,
+                header: header.beside(header.get().copied()?)?,
                 reason: *reason,
             },
             Call::Variance { request, variance } => Call::Variance {
@@ -119,10 +119,30 @@ impl Call {
             },
             Call::Revalidate { request, meta } => Call::Revalidate {
                 request: *request,
-                meta: meta.copied()?,
+                meta: meta.beside(meta.get().copied()?)?,
             },
             Call::Phase { request } => Call::Phase { request: *request },
             Call::End { request } => Call::End { request: *request },
+            Call::Put {
+                request,
+                key,
+                limit,
+            } => Call::Put {
+                request: *request,
+                key: key.beside(key.get().copied()?)?,
+                limit: *limit,
+            },
+            Call::Feed {
+                request,
+                bytes,
+                now,
+            } => Call::Feed {
+                request: *request,
+                bytes: bytes.clone()?,
+                now: *now,
+            },
+            Call::Drop { request } => Call::Drop { request: *request },
+            Call::Close { request } => Call::Close { request: *request },
         })
     }
 }

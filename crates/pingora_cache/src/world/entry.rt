@@ -8,6 +8,7 @@ use pcache_base::moment::Moment;
 use pcache_base::poll::Poll;
 use pcache_evict::eviction::CacheEntryKey;
 use pcache_meta::meta::CacheMeta;
+use pcache_put_ctx::boxed::Boxed;
 use std::marker::Model;
 
 /// What a look-up found.
@@ -16,9 +17,9 @@ pub enum Answer {
     /// Nothing.
     Nothing,
     /// A complete body, with its meta.
-    Complete { meta: CacheMeta, body: Bytes },
+    Complete { meta: Boxed<CacheMeta>, body: Bytes },
     /// A write that can be read while it is made, with its meta.
-    Streaming { meta: CacheMeta, write: u128 },
+    Streaming { meta: Boxed<CacheMeta>, write: u128 },
 }
 
 /// One thing that a call did.
@@ -35,7 +36,7 @@ pub enum Event {
         lock: u64,
         is_permit: bool,
     },
-    /// A use of an entry was noted; it came in with this weight where it was missing.
+    /// A use of an entry was noted; it came in with this weight if it was missing.
     Access {
         entry: CacheEntryKey,
         weight: usize,
@@ -44,7 +45,7 @@ pub enum Event {
     Begin {
         write: u128,
         slot: u128,
-        meta: CacheMeta,
+        meta: Boxed<CacheMeta>,
     },
     /// Bytes of a write came, and whether they are the last.
     Wrote {
@@ -83,7 +84,7 @@ pub enum Event {
     Purge {
         slot: u128,
     },
-    /// The freshness of the complete body under a key, where there is one, ended at this moment.
+    /// The freshness of the complete body under a key, if there is one, ended at this moment.
     Expire {
         slot: u128,
         now: Moment,
@@ -91,7 +92,7 @@ pub enum Event {
     /// The complete body under a key has this meta from then on: the stale body was found good.
     Renew {
         slot: u128,
-        meta: CacheMeta,
+        meta: Boxed<CacheMeta>,
     },
     /// An entry was taken out of the manager.
     Untrack {

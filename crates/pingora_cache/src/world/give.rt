@@ -1,27 +1,28 @@
 //! A call that names two requests: one hands its permit to the other.
-ghost use Rattle.std.specs.Prelude.{◌≡◌, ◌≤◌, ◌⊎◌, ◌++◌, ◌+◌, [], cond, IsSome, IsTrue, ◌↔◌, Some, None, ℕ, vec_len};
+ghost use Rattle.std.specs.Prelude.{◌≡◌, ◌≤◌, ◌⊎◌, ◌++◌, ◌+◌, [], cond, IfSome, IsSome, IsTrue, ◌↔◌, Some, None, ℕ, vec_len};
 ghost use Rattle.std.specs.Vec.{vec_capacity};
 ghost use Rattle.pingora_cache.specs.Handing.{Acts, HandsOver, IsHandedTo, IsTaken, open_at, table_given};
 ghost use Rattle.pingora_cache.specs.Held.{permit_held, handed_by};
 ghost use Rattle.pingora_cache.specs.Rules.{MayTake, each, given_up};
-ghost use Rattle.pingora_cache.specs.Step.{IsOfWorldIn, spare_of};
+ghost use Rattle.pingora_cache.specs.Step.{IsOfWorldIn, IsRequestIn, spare_of};
 ghost use Rattle.pingora_cache.specs.declared.world.entry.Event.TheVariants.{LetGo};
 
 use crate::world::call::{Call, Reply};
 use crate::world::entry::Event;
+use crate::world::open::Open;
 use crate::world::parts::Parts;
-use crate::world::request::{OpenRequest, permit_in};
+use crate::world::policy::PutPolicy;
 use crate::world::turn::apply;
 use crate::world::vary::Spare;
 use pcache_evict::eviction::EvictionManager;
-use pcache_lock::lock::{CacheLock, Locked, WritePermit};
+use pcache_lock::lock::{CacheLock, WritePermit};
 use std::alloc::Global;
 use std::collections::BTreeMap;
 
-/// One call over the parts, of one request or of two.
-pub(crate) fn act<M: EvictionManager>(
+/// One call over the parts, of one request or put, or of two requests.
+pub(crate) fn act<M: EvictionManager, P: PutPolicy>(
     alloc: Global,
-    requests: &mut BTreeMap<u64, OpenRequest>,
+    requests: &mut BTreeMap<u64, Open<P>>,
     parts: &mut Parts<M>,
     events: &mut Vec<Event>,
     call: &Call,
@@ -30,7 +31,7 @@ pub(crate) fn act<M: EvictionManager>(
     requires spare { spare.old ≡ spare_of call.now }
     requires none { events.old.items ≡ [] }
     requires room { 3 ≤ vec_capacity events.old }
-    ensures acts { Acts (M.limits parts.old.manager) call.now requests.old.entries parts.old.store (M.tracked parts.old.manager) parts.old.lock result events.new.items requests.new.entries parts.new.store (M.tracked parts.new.manager) parts.new.lock }
+    ensures acts { Acts (M.limits parts.old.manager) P.says call.now requests.old.entries parts.old.store (M.tracked parts.old.manager) parts.old.lock result events.new.items requests.new.entries parts.new.store (M.tracked parts.new.manager) parts.new.lock }
     ensures limits { M.limits parts.new.manager ≡ M.limits parts.old.manager }
 {
     match call {
@@ -40,8 +41,8 @@ pub(crate) fn act<M: EvictionManager>(
 }
 
 // Hands the permit of one request to another.
-fn give(
-    requests: &mut BTreeMap<u64, OpenRequest>,
+fn give<P: PutPolicy>(
+    requests: &mut BTreeMap<u64, Open<P>>,
     lock: &mut CacheLock,
     events: &mut Vec<Event>,
     from: u64,
@@ -64,31 +65,29 @@ fn give(
     Reply::Done
 }
 
-// Whether a request is open, and on.
-fn takes(requests: &BTreeMap<u64, OpenRequest>, number: u64) -> bool
+// Whether a request of this number is open, and on.
+fn takes<P: PutPolicy>(requests: &BTreeMap<u64, Open<P>>, number: u64) -> bool
     ensures { IsTrue result ↔ MayTake (open_at number requests.now.entries) }
 {
     match requests.get(&number) {
-        Some(request) => request.cache.phase().is_on(),
+        Some(open) => open.is_on(),
         None => false,
     }
 }
 
 // The permit of a request, which holds none then.
-fn take(requests: &mut BTreeMap<u64, OpenRequest>, number: u64) -> Option<WritePermit>
+fn take<P: PutPolicy>(requests: &mut BTreeMap<u64, Open<P>>, number: u64) -> Option<WritePermit>
     ensures permit { result ≡ permit_held (open_at number requests.old.entries) }
+    ensures plain { IfSome result (λ _. IsRequestIn (open_at number requests.old.entries)) }
     ensures requests { IsTaken number requests.old.entries requests.new.entries }
 {
-    let request = requests.get_mut(&number)?;
-    let Some(Locked::Write(_)) = request.cache.held() else {
-        return None;
-    };
-    Some(request.cache.take_write_lock())
+    let open = requests.get_mut(&number)?;
+    open.take_permit()
 }
 
 // Hands a permit to a request that is open, and on. Answers the number of a permit that is let go.
-fn hand(
-    requests: &mut BTreeMap<u64, OpenRequest>,
+fn hand<P: PutPolicy>(
+    requests: &mut BTreeMap<u64, Open<P>>,
     lock: &mut CacheLock,
     permit: WritePermit,
     to: u64,
@@ -98,8 +97,8 @@ fn hand(
     ensures requests { IsHandedTo to permit requests.old.entries requests.new.entries }
     ensures table { lock.new ≡ table_given (Some permit) (open_at to requests.old.entries) lock.old }
 {
-    let Some(request) = requests.get_mut(&to) else {
+    let Some(open) = requests.get_mut(&to) else {
         unreachable!()
     };
-    permit_in(request.cache.set_write_lock(lock, permit))
+    open.put_permit(lock, permit)
 }

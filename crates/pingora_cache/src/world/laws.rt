@@ -1,7 +1,7 @@
 //! What is promised of every legal history, whatever calls it has.
-ghost use Rattle.pingora_cache.specs.Headline.{EvictsFairly, FindsExactly, FinishesExactly, GivesThePermitExactly, HandsOnExactly, IsWithinLimits, IsWrongExactly, LooksAreTrue, OnePermitWaits, ReadsABeginning, ReadsAreTrue, ReadsTheLast, ReadsTheWhole, ReadsWhatWasFound, TellsExactly, TracksExactly, WaitsAreTrue};
+ghost use Rattle.pingora_cache.specs.Headline.{EvictsFairly, FindsExactly, FinishesExactly, GivesThePermitExactly, HandsOnExactly, IsWithinLimits, IsWrongExactly, LooksAreTrue, OnePermitWaits, PutsAreWritten, ReadsABeginning, ReadsAreTrue, ReadsTheLast, ReadsTheWhole, ReadsWhatWasFound, TellsExactly, TracksExactly, WaitsAreTrue};
 
-/// A call is answered as a wrong one exactly where its condition fails.
+/// A call is answered as a wrong one exactly when its condition fails.
 pub fn is_wrong_exactly()
     ensures { IsWrongExactly }
 {}
@@ -16,13 +16,13 @@ pub fn reads_are_true()
     ensures { ReadsAreTrue }
 {}
 
-/// The store finds a key exactly where a write of it, in flight or finished, met no removal since
+/// The store finds a key exactly when a write of it, in flight or finished, met no removal since
 /// it began.
 pub fn finds_exactly()
     ensures { FindsExactly }
 {}
 
-/// A write's finish succeeds exactly where it met no removal since it began.
+/// A write's finish succeeds exactly when it met no removal since it began.
 pub fn finishes_exactly()
     ensures { FinishesExactly }
 {}
@@ -55,7 +55,7 @@ pub fn tracks_exactly()
     ensures { TracksExactly }
 {}
 
-/// A request for the lock of a key is given the permit exactly where no permit waits under its key.
+/// A request for the lock of a key is given the permit exactly when no permit waits under its key.
 pub fn gives_the_permit_exactly()
     ensures { GivesThePermitExactly }
 {}
@@ -71,7 +71,7 @@ pub fn waits_are_true()
     ensures { WaitsAreTrue }
 {}
 
-/// The reply to a look-up tells that something was found exactly where a write of the key, in
+/// The reply to a look-up tells that something was found exactly when a write of the key, in
 /// flight or finished, met no removal since it began: of a request that looked for no variant.
 pub fn tells_exactly()
     ensures { TellsExactly }
@@ -92,4 +92,10 @@ pub fn reads_the_whole()
 /// the key which had finished last then.
 pub fn reads_what_was_found()
     ensures { ReadsWhatWasFound }
+{}
+
+/// What the history says was written of an open put, and with what meta, is the body of its write and
+/// the meta that this began with.
+pub fn puts_are_written()
+    ensures { PutsAreWritten }
 {}

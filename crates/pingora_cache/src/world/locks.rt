@@ -69,7 +69,7 @@ pub(crate) fn wait(
     wait_on(&mut request.cache, lock, events, now)
 }
 
-// Waits on the read lock, and notes where its permit is too old.
+// Waits on the read lock, and notes if its permit is too old.
 #[tactic(auto, using(crate::proofs::LockSteps::none_noted))]
 fn wait_on(
     cache: &mut HttpCache<MemCache>,
@@ -82,7 +82,7 @@ fn wait_on(
     requires room { 3 ≤ vec_capacity events.old }
     ensures answers { (s : Store) → Waits (facts_in s lock.old cache.old) now cache.old result events.new.items }
     ensures other { IsOther result }
-    ensures moves { (s : Store) (p : Option (Meta × Reader)) (d : Option Decision) → MovesStore (Some (record { request = cache.old; pair = p; carried = d })) s events.new.items (Some (record { request = cache.new; pair = p; carried = d })) s }
+    ensures moves { (s : Store) (p : Option (Meta × Reader)) (d : Option Decision) → MovesStore (Some (record { request = cache.old; pair = p; carried = d; put = None })) s events.new.items (Some (record { request = cache.new; pair = p; carried = d; put = None })) s }
     ensures keeps { KeepsIn cache.old cache.new }
     ensures row { untold_request cache.new ≡ untold_request (waited_by (outcome result) now cache.old) }
     ensures locks { (r : ℕ) → MovesLocks r (deeds_in (calls.Wait r now) (outcome result) events.new.items None) cache.old.held lock.old cache.new.held lock.new }

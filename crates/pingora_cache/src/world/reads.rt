@@ -49,7 +49,7 @@ pub(crate) fn read(
     reply
 }
 
-// What a read answers. The bytes went by also where their copy is refused.
+// What a read answers. The bytes went by also if their copy is refused.
 fn reply_of(answer: &Poll<Option<Bytes>>) -> Reply
     ensures reply { (result ≡ read_reply answer.now) ⊎ (result ≡ replies.Refused OutOfMemory) }
     ensures other { IsOther result }
@@ -78,6 +78,8 @@ pub(crate) fn seek(request: &mut OpenRequest, start: usize, end: Option<usize>) 
     seek_in(&mut request.cache, start, end)
 }
 
+// The second half of `seek`, once its condition was tested: it has clauses of its own, from which those of
+// `seek` are found.
 fn seek_in(cache: &mut HttpCache<MemCache>, start: usize, end: Option<usize>) -> Reply
     requires { IsSome cache.old.reader }
     ensures reply { result ≡ seek_reply (sought_in start end cache.old.reader) }
@@ -90,7 +92,7 @@ fn seek_in(cache: &mut HttpCache<MemCache>, start: usize, end: Option<usize>) ->
     Reply::Done
 }
 
-/// Ends the reader, also where that is refused.
+/// Ends the reader, also if that is refused.
 pub(crate) fn done(request: &mut OpenRequest, store: &mut MemCache) -> Reply
     ensures answers { Answers no_facts (calls.Done 0) (Some request.old) result [] }
     ensures moves { MovesStore (Some request.old) store.old [] (Some request.new) store.new }

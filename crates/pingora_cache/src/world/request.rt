@@ -1,13 +1,16 @@
 //! An open request, with what its last look-up gave.
 ghost use Rattle.std.specs.Prelude.{◌≡◌, None, Some, option_map};
 ghost use Rattle.pcache_store.specs.Readers.{reader_of};
-ghost use Rattle.pingora_cache.specs.Held.{world_use};
-ghost use Rattle.pingora_cache.specs.Rules.{permit_of};
+ghost use Rattle.pcache_request.specs.Phases.{IsOn};
+ghost use Rattle.pingora_cache.specs.Handing.{table_given, without_permit};
+ghost use Rattle.pingora_cache.specs.Held.{handed_by, permit_held, world_use};
+ghost use Rattle.pingora_cache.specs.Rules.{each, given_up, permit_of};
+ghost use Rattle.pingora_cache.specs.declared.world.entry.Event.TheVariants.{LetGo};
 ghost use Rattle.pcache_request.specs.Requests.{Request, left_by, let_go_by};
 ghost use Rattle.pingora_cache.specs.Sound.{pair_reader};
 ghost use Rattle.pingora_cache.specs.Step.{permit_in, permit_released, store_ended};
 
-use pcache_lock::lock::CacheLock;
+use pcache_lock::lock::{CacheLock, Locked, WritePermit};
 use pcache_meta::meta::CacheMeta;
 use pcache_predict::admission::Decision;
 use pcache_request::cache::{HttpCache, LockName, ReleasedLock};
@@ -29,24 +32,53 @@ pub struct OpenRequest {
 }
 
 impl Model for OpenRequest {
-    ghost use Rattle.std.specs.Prelude.{option_map};
+    ghost use Rattle.std.specs.Prelude.{None, option_map};
     ghost use Rattle.pcache_store.specs.Readers.{reader_of};
     ghost use Rattle.pingora_cache.specs.Held.{Held};
 
     ghost Value = { Held };
 
-    ghost view = { λ a. record { request = a.cache; pair = option_map (λ p. (p.0, reader_of p.1)) a.pair; carried = a.carried } };
+    ghost view = { λ a. record { request = a.cache; pair = option_map (λ p. (p.0, reader_of p.1)) a.pair; carried = a.carried; put = None } };
 }
 
 impl OpenRequest {
     pub(crate) fn new(cache: HttpCache<MemCache>) -> OpenRequest
-        ensures { result ≡ record { request = cache; pair = None; carried = None } }
+        ensures { result ≡ record { request = cache; pair = None; carried = None; put = None } }
     {
         OpenRequest {
             cache,
             pair: None,
             carried: None,
         }
+    }
+
+    /// This is no put. It does nothing.
+    pub(crate) fn is_plain(&self)
+        ensures { self.now.put ≡ None }
+    {
+        let _ = &self.carried; // for the prover: once a field is used, the invariant is known
+    }
+
+    /// The permit that is held, which is held no more then.
+    pub(crate) fn take_permit(&mut self) -> Option<WritePermit>
+        ensures permit { result ≡ permit_held (Some self.old) }
+        ensures plain { self.old.put ≡ None }
+        ensures left { Some self.new ≡ without_permit (permit_held (Some self.old)) (Some self.old) }
+    {
+        let Some(Locked::Write(_)) = self.cache.held() else {
+            return None;
+        };
+        Some(self.cache.take_write_lock())
+    }
+
+    /// Takes a permit, if it is on. Answers the number of a permit that is let go.
+    pub(crate) fn put_permit(&mut self, lock: &mut CacheLock, permit: WritePermit) -> Option<u64>
+        requires { IsOn self.old.request.phase }
+        ensures let_go { each LetGo result ≡ given_up (Some permit) (Some self.old) }
+        ensures held { self.new ≡ handed_by (Some permit) self.old }
+        ensures table { lock.new ≡ table_given (Some permit) (Some self.old) lock.old }
+    {
+        permit_in(self.cache.set_write_lock(lock, permit))
     }
 
     /// Gives back all that is held, and answers the number of a permit that is let go.
@@ -104,7 +136,7 @@ pub(crate) fn permit_released(released: Option<ReleasedLock>) -> Option<u64>
     permit_in(Some(released?.lock))
 }
 
-/// The number of a lock, where it is a permit.
+/// The number of a lock, if it is a permit.
 pub(crate) fn permit_in(lock: Option<LockName>) -> Option<u64>
     ensures { result ≡ permit_in lock }
 {

@@ -34,7 +34,7 @@ impl Tokens {
         self.tokens.as_slice()
     }
 
-    /// A second list of the same tokens. It is refused for want of memory alone.
+    /// A second list of the same tokens. It is refused only when memory runs out.
     pub fn copied(&self) -> Result<Tokens>
         ensures ok { IfOk result (λ copy. copy ≡ self.now) }
         ensures kind { IfErr result (λ e. e ≡ OutOfMemory) }

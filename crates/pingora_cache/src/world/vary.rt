@@ -26,6 +26,7 @@ use pcache_base::error::Result;
 use pcache_base::key::{CacheHashKey, HashBinary};
 use pcache_lock::lock::CacheLock;
 use pcache_meta::meta::CacheMeta;
+use pcache_put_ctx::boxed::Boxed;
 use pcache_request::cache::{HttpCache, Renewal};
 use pcache_store::memory::MemCache;
 
@@ -76,7 +77,7 @@ pub(crate) fn variance(
 
 /// Copies of what a call brings that it hands on: the meta of a revalidation, for the request and for
 /// what is noted.
-pub(crate) type Spare = (CacheMeta, CacheMeta);
+pub(crate) type Spare = (CacheMeta, Boxed<CacheMeta>);
 
 /// The copies that a call needs. They are made before it, since it is not to be refused half way.
 pub(crate) fn spare_of(call: &Call) -> Result<Option<Spare>>
@@ -84,7 +85,11 @@ pub(crate) fn spare_of(call: &Call) -> Result<Option<Spare>>
     ensures kind { IfErr result (λ e. e ≡ OutOfMemory) }
 {
     match call {
-        Call::Revalidate { request: _, meta } => Ok(Some((meta.copied()?, meta.copied()?))),
+        Call::Revalidate { request: _, meta } => {
+            let own = meta.get().copied()?;
+            let noted = meta.beside(meta.get().copied()?)?;
+            Ok(Some((own, noted)))
+        }
         _ => Ok(None),
     }
 }
@@ -96,7 +101,7 @@ pub(crate) fn revalidate(
     store: &mut MemCache,
     lock: &mut CacheLock,
     events: &mut Vec<Event>,
-    meta: &CacheMeta,
+    meta: &Boxed<CacheMeta>,
     spare: &mut Option<Spare>,
 ) -> Reply
     requires spare { spare.old ≡ Some (meta.now, meta.now) }
@@ -124,7 +129,7 @@ fn renew(
     lock: &mut CacheLock,
     events: &mut Vec<Event>,
     meta: CacheMeta,
-    mut noted: CacheMeta,
+    mut noted: Boxed<CacheMeta>,
 ) -> Reply
     requires may { MayRevalidate cache.old }
     requires same { noted ≡ meta }
@@ -133,7 +138,7 @@ fn renew(
     ensures answers { Renews (facts_in store.old lock.old cache.old) meta cache.old result events.new.items }
     ensures other { IsOther result }
     ensures request { cache.new ≡ renewed meta cache.old }
-    ensures moves { (p : Option (Meta × Reader)) (d : Option Decision) → MovesStore (Some (record { request = cache.old; pair = p; carried = d })) store.old events.new.items (Some (record { request = cache.new; pair = p; carried = d })) store.new }
+    ensures moves { (p : Option (Meta × Reader)) (d : Option Decision) → MovesStore (Some (record { request = cache.old; pair = p; carried = d; put = None })) store.old events.new.items (Some (record { request = cache.new; pair = p; carried = d; put = None })) store.new }
     ensures locks { (r : ℕ) → MovesLocks r (deeds_by r 0 Done events.new.items) cache.old.held lock.old cache.new.held lock.new }
 {
     let Some(key) = cache.key() else {
@@ -151,10 +156,10 @@ fn renew(
     reply
 }
 
-// Notes the new meta, where the store set it.
+// Notes the new meta, if the store set it.
 fn note_renewal(
     slot: u128,
-    meta: CacheMeta,
+    meta: Boxed<CacheMeta>,
     updated: Result<bool>,
     events: &mut Vec<Event>,
 ) -> Reply

@@ -1,360 +1,159 @@
-//! Requests of one key, step by step: which phase each call leads to, and where it may not be made.
+//! Requests of one key: which phase each call leads to, and where it may not be made.
 use super::*;
-use pcache_meta::trace::Span;
 
-// One call, or a look-up with what is made of it.
-#[derive(Clone, Copy)]
-enum Step {
-    Key,
-    Found(HitStatus),
-    Miss,
-    Meta,
-    Begin,
-    Finish,
-    Bypass,
-    Expire,
-    Updating,
-    Uncacheable(NoCacheReason),
-    FinishHit,
-    Disable(NoCacheReason),
-    Enable,
-}
-
-// Makes a call where its condition holds, and answers whether it did.
-fn make(
-    rt: &impl Abort,
-    parts: &mut Parts,
-    cache: &mut HttpCache<MemCache>,
-    step: Step,
-) -> std::result::Result<bool, Fail> {
-    match step {
-        Step::Key => set_key(parts, cache),
-        Step::Found(status) => found(rt, parts, cache, status),
-        Step::Miss => Ok(miss(cache)),
-        Step::Meta => Ok(set_meta(parts, cache)),
-        Step::Begin => set_handler(parts, cache),
-        Step::Finish => finish(parts, cache),
-        Step::Bypass => Ok(bypass(cache)),
-        Step::Expire => expire(parts, cache),
-        Step::Updating => Ok(update(cache)),
-        Step::Uncacheable(reason) => Ok(revalidate(parts, cache, reason)),
-        Step::FinishHit => finish_hit(parts, cache),
-        Step::Disable(reason) => Ok(disable(parts, cache, reason)),
-        Step::Enable => Ok(enable(cache)),
-    }
-}
-
-fn set_key(parts: &mut Parts, cache: &mut HttpCache<MemCache>) -> std::result::Result<bool, Fail> {
-    let may = cache.phase().may_take_key();
-    if may {
-        cache.set_cache_key(key_of(parts.alloc, "k")?);
-    }
-    Ok(may)
-}
-
-// Looks the key up, and takes what is found with this status.
-fn found(
-    rt: &impl Abort,
-    parts: &mut Parts,
-    cache: &mut HttpCache<MemCache>,
-    status: HitStatus,
-) -> std::result::Result<bool, Fail> {
-    if !cache.phase().may_look_up() {
-        return Ok(false);
-    }
-    take(rt, parts, cache, status)?;
-    Ok(true)
-}
-
-fn miss(cache: &mut HttpCache<MemCache>) -> bool {
-    let may = cache.phase().may_miss();
-    if may {
-        cache.cache_miss();
-    }
-    may
-}
-
-fn set_meta(parts: &mut Parts, cache: &mut HttpCache<MemCache>) -> bool {
-    let may = cache.may_take_meta();
-    if may {
-        cache.set_cache_meta(meta_until(parts.alloc, 60));
-    }
-    may
-}
-
-fn set_handler(
-    parts: &mut Parts,
-    cache: &mut HttpCache<MemCache>,
-) -> std::result::Result<bool, Fail> {
-    let may = cache.may_write();
-    if may {
-        cache.set_miss_handler(&mut parts.store, &mut parts.lock)?;
-    }
-    Ok(may)
-}
-
-fn finish(parts: &mut Parts, cache: &mut HttpCache<MemCache>) -> std::result::Result<bool, Fail> {
-    if !cache.phase().is_filling() {
-        return Ok(false);
-    }
-    let report = cache.finish_miss_handler(&mut parts.store, &mut parts.manager, &mut parts.lock)?;
-    Ok(report.is_some())
-}
-
-fn bypass(cache: &mut HttpCache<MemCache>) -> bool {
-    let may = cache.phase().may_bypass();
-    if may {
-        cache.bypass();
-    }
-    may
-}
-
-// Expires what stands under the key, and answers whether a body does.
-fn expire(parts: &mut Parts, cache: &mut HttpCache<MemCache>) -> std::result::Result<bool, Fail> {
-    if !cache.phase().may_purge() {
-        return Ok(false);
-    }
-    let was_there = cache.expire(&mut parts.store, &mut parts.manager, Moment::EPOCH)?;
-    Ok(was_there)
-}
-
-fn update(cache: &mut HttpCache<MemCache>) -> bool {
-    let may = cache.phase().is_stale();
-    if may {
-        cache.set_stale_updating();
-    }
-    may
-}
-
-fn revalidate(parts: &mut Parts, cache: &mut HttpCache<MemCache>, reason: NoCacheReason) -> bool {
-    if !cache.may_revalidate() || !cache.may_release(reason) {
-        return false;
-    }
-    let header = ResponseHeader::build(parts.alloc, StatusCode::OK);
-    let released = cache.revalidate_uncacheable(&mut parts.lock, header, reason);
-    released.is_some()
-}
-
-fn finish_hit(
-    parts: &mut Parts,
-    cache: &mut HttpCache<MemCache>,
-) -> std::result::Result<bool, Fail> {
-    let may = cache.phase().may_finish_hit();
-    if may {
-        cache.finish_hit_handler(&mut parts.store)?;
-    }
-    Ok(may)
-}
-
-fn disable(parts: &mut Parts, cache: &mut HttpCache<MemCache>, reason: NoCacheReason) -> bool {
-    let may = cache.may_disable(reason);
-    if may {
-        let _released = cache.disable(&mut parts.store, &mut parts.lock, reason);
-    }
-    may
-}
-
-fn enable(cache: &mut HttpCache<MemCache>) -> bool {
-    let may = cache.phase().is_disabled();
-    if may {
-        cache.enable(ALL_BUT_THE_PREDICTOR);
-    }
-    may
-}
-
-// Plays the steps: each is made, or is none that may be, and leads to the phase beside it.
-fn play(
-    rt: &impl Abort,
-    parts: &mut Parts,
-    cache: &mut HttpCache<MemCache>,
-    steps: &[(Step, bool, CachePhase)],
-) -> std::result::Result<(), Fail> {
-    for (call, is_made, phase) in steps {
-        let made = make(rt, parts, cache, *call)?;
-        assert_eq!(rt; made, *is_made);
-        assert_eq!(rt; cache.phase(), *phase);
-    }
-    Ok(())
-}
-
-// Makes a request, plays the steps and ends it.
-fn run_steps(
-    rt: &impl Abort,
-    parts: &mut Parts,
-    steps: &[(Step, bool, CachePhase)],
-) -> std::result::Result<(), Fail> {
-    let mut cache = HttpCache::new(parts.alloc);
-    let done = play(rt, parts, &mut cache, steps);
-    let _let_go = cache.end(&mut parts.store, &mut parts.lock);
-    done
-}
-
-const FILL: [(Step, bool, CachePhase); 7] = [
-    (Step::Enable, true, CachePhase::Uninit),
-    (Step::Key, true, CachePhase::CacheKey),
-    (Step::Miss, true, CachePhase::Miss),
-    (Step::Bypass, false, CachePhase::Miss),
-    (Step::Meta, true, CachePhase::Miss),
-    (Step::Begin, true, CachePhase::Miss),
-    (Step::Finish, true, CachePhase::Miss),
-];
-
-const OVERWRITE: [(Step, bool, CachePhase); 8] = [
-    (Step::Enable, true, CachePhase::Uninit),
-    (Step::Key, true, CachePhase::CacheKey),
-    (Step::Expire, true, CachePhase::CacheKey),
-    (Step::Meta, false, CachePhase::CacheKey),
-    (Step::Found(HitStatus::Expired), true, CachePhase::Stale),
-    (Step::Meta, true, CachePhase::Expired),
-    (Step::Begin, true, CachePhase::Expired),
-    (Step::Finish, true, CachePhase::Expired),
-];
-
-const UPDATING: [(Step, bool, CachePhase); 6] = [
-    (Step::Enable, true, CachePhase::Uninit),
-    (Step::Key, true, CachePhase::CacheKey),
-    (Step::Updating, false, CachePhase::CacheKey),
-    (Step::Found(HitStatus::Expired), true, CachePhase::Stale),
-    (Step::Updating, true, CachePhase::StaleUpdating),
-    (Step::FinishHit, true, CachePhase::StaleUpdating),
-];
-
-const UNCACHEABLE: [(Step, bool, CachePhase); 6] = [
-    (Step::Enable, true, CachePhase::Uninit),
-    (Step::Key, true, CachePhase::CacheKey),
-    (Step::FinishHit, false, CachePhase::CacheKey),
-    (Step::Found(HitStatus::Expired), true, CachePhase::Stale),
-    (
-        Step::Uncacheable(NoCacheReason::CacheLockTimeout),
-        false,
-        CachePhase::Stale,
-    ),
-    (
-        Step::Uncacheable(NoCacheReason::OriginNotCache),
-        true,
-        CachePhase::RevalidatedNoCache(NoCacheReason::OriginNotCache),
-    ),
-];
-
-const DISABLED: [(Step, bool, CachePhase); 7] = [
-    (
-        Step::Disable(NoCacheReason::InternalError),
-        true,
-        CachePhase::Disabled(NoCacheReason::NeverEnabled),
-    ),
-    (Step::Enable, true, CachePhase::Uninit),
-    (Step::Key, true, CachePhase::CacheKey),
-    (Step::Bypass, true, CachePhase::Bypass),
-    (
-        Step::Disable(NoCacheReason::NeverEnabled),
-        false,
-        CachePhase::Bypass,
-    ),
-    (
-        Step::Disable(NoCacheReason::CacheLockTimeout),
-        true,
-        CachePhase::Disabled(NoCacheReason::CacheLockTimeout),
-    ),
-    (Step::Enable, true, CachePhase::Uninit),
-];
+const STEPS: &str = "
+    # a key is filled
+    1 enable
+    1 phase -> Uninit
+    1 key
+    1 phase -> CacheKey
+    1 miss
+    1 phase -> Miss
+    1 bypass -> wrong
+    1 phase -> Miss
+    1 meta 60
+    1 phase -> Miss
+    1 begin
+    1 phase -> Miss
+    1 finish -> stored 0
+    1 phase -> Miss
+    1 leaves
+    # it is expired, and filled anew
+    2 enable
+    2 phase -> Uninit
+    2 key
+    2 phase -> CacheKey
+    2 expire -> there
+    2 phase -> CacheKey
+    2 meta 60 -> wrong
+    2 phase -> CacheKey
+    2 expired
+    2 phase -> Stale
+    2 meta 60
+    2 phase -> Expired
+    2 begin
+    2 phase -> Expired
+    2 finish -> stored 0
+    2 phase -> Expired
+    2 leaves
+    # it is served while another request renews it
+    3 enable
+    3 phase -> Uninit
+    3 key
+    3 phase -> CacheKey
+    3 updating -> wrong
+    3 phase -> CacheKey
+    3 expired
+    3 phase -> Stale
+    3 updating
+    3 phase -> StaleUpdating
+    3 close
+    3 phase -> StaleUpdating
+    3 leaves
+    # it is good, and the answer that says so is not to be stored
+    4 enable
+    4 phase -> Uninit
+    4 key
+    4 phase -> CacheKey
+    4 close -> wrong
+    4 phase -> CacheKey
+    4 expired
+    4 phase -> Stale
+    4 uncacheable CacheLockTimeout -> wrong
+    4 phase -> Stale
+    4 uncacheable OriginNotCache
+    4 phase -> RevalidatedNoCache(OriginNotCache)
+    4 leaves
+    # caching is turned off and on again
+    5 disable InternalError
+    5 phase -> Disabled(NeverEnabled)
+    5 enable
+    5 phase -> Uninit
+    5 key
+    5 phase -> CacheKey
+    5 bypass
+    5 phase -> Bypass
+    5 disable NeverEnabled -> wrong
+    5 phase -> Bypass
+    5 disable CacheLockTimeout
+    5 phase -> Disabled(CacheLockTimeout)
+    5 enable
+    5 phase -> Uninit";
 
 #[test]
-fn calls_lead_from_phase_to_phase(rt: HostRuntime) -> std::result::Result<(), Fail> {
-    let mut parts = Parts::new(rt.alloc())?;
-    run_steps(&rt, &mut parts, FILL.as_slice())?;
-    run_steps(&rt, &mut parts, OVERWRITE.as_slice())?;
-    run_steps(&rt, &mut parts, UPDATING.as_slice())?;
-    run_steps(&rt, &mut parts, UNCACHEABLE.as_slice())?;
-    run_steps(&rt, &mut parts, DISABLED.as_slice())
+fn calls_lead_from_phase_to_phase(rt: HostRuntime) {
+    run(&rt, rt.alloc(), STEPS);
 }
 
-// What a request shows once its body was found stale.
-fn shows_a_stale_body(
-    rt: &impl Abort,
-    parts: &mut Parts,
-    cache: &mut HttpCache<MemCache>,
-) -> std::result::Result<(), Fail> {
-    assert!(rt; !cache.enabled() && cache.upstream_used() && cache.maybe_cache_key().is_none());
-    assert!(rt;
-        cache
-            .support_streaming_partial_write(&parts.store)
-            .is_none()
-    );
-    play(rt, parts, cache, UPDATING.as_slice())?;
-    cache.record_lookup_duration(Duration::from_secs(1));
-    cache.record_lookup_duration(Duration::from_secs(2));
-    assert!(rt; cache.lookup_duration() == Some(Duration::from_secs(3)));
-    assert!(rt; cache.enabled() && !cache.bypassing() && !cache.upstream_used());
-    assert!(rt; cache.support_streaming_partial_write(&parts.store) == Some(true));
-    assert!(rt; cache.maybe_cache_key().is_some() && cache.has_cache_meta());
-    assert_eq!(rt; cache.cache_key().primary_key(), b"k".as_slice());
-    assert_eq!(rt; cache.cache_meta().fresh_until().secs(), 60);
-    assert!(rt; cache.maybe_cache_meta().is_some());
-    assert!(rt; !cache.can_serve_stale_error(Moment::EPOCH));
-    assert!(rt; !cache.can_serve_stale_updating(Moment::EPOCH));
-    Ok(())
-}
+// What a request shows before caching is on, and once its body was found stale.
+const SHOWN: &str = "
+    1 enable
+    1 key
+    1 miss
+    1 meta 60
+    1 begin
+    1 finish -> stored 0
+    1 leaves
+    2 is enabled -> no
+    2 is upstream-used -> yes
+    2 has shown-key -> no
+    2 streaming -> None
+    2 enable
+    2 key
+    2 expired
+    2 updating
+    2 close
+    2 phase -> StaleUpdating
+    2 looked-for 1
+    2 looked-for 2
+    2 lookup-time -> 3
+    2 is enabled -> yes
+    2 is bypassing -> no
+    2 is upstream-used -> no
+    2 streaming -> Some(true)
+    2 has shown-key -> yes
+    2 has named-key -> yes
+    2 has meta -> yes
+    2 until -> 60
+    2 is good-in-error -> no
+    2 is good-while-updating -> no";
 
 #[test]
-fn a_request_shows_a_stale_body(rt: HostRuntime) -> std::result::Result<(), Fail> {
-    let mut parts = Parts::new(rt.alloc())?;
-    run_steps(&rt, &mut parts, FILL.as_slice())?;
-    let mut cache = HttpCache::new(parts.alloc);
-    let done = shows_a_stale_body(&rt, &mut parts, &mut cache);
-    let _let_go = cache.end(&mut parts.store, &mut parts.lock);
-    done
+fn a_request_shows_a_stale_body(rt: HostRuntime) {
+    run(&rt, rt.alloc(), SHOWN);
 }
 
-// The spans that a request has, before caching is on and after.
-fn has_spans(cache: &HttpCache<MemCache>) -> [bool; 3] {
-    [
-        cache.get_cache_span().is_some(),
-        cache.get_miss_span().is_some(),
-        cache.get_hit_span().is_some(),
-    ]
-}
-
-// Sends the reader of a stale body to its second byte, and past its end.
-fn seeks(
-    rt: &impl Abort,
-    parts: &mut Parts,
-    cache: &mut HttpCache<MemCache>,
-) -> std::result::Result<(), Fail> {
-    cache.enable_tracing(Span::inactive());
-    assert_eq!(rt; has_spans(cache), [false; 3]);
-    play(rt, parts, cache, SOUGHT.as_slice())?;
-    cache.enable_tracing(Span::inactive());
-    assert_eq!(rt; has_spans(cache), [true; 3]);
-    if !cache.has_body_reader() {
-        panic!(rt; "a body was found");
-    }
-    assert!(rt; cache.seek(2, None).is_err());
-    cache.seek(1, None)?;
-    Ok(())
-}
-
-const SOUGHT: [(Step, bool, CachePhase); 3] = [
-    (Step::Enable, true, CachePhase::Uninit),
-    (Step::Key, true, CachePhase::CacheKey),
-    (Step::Found(HitStatus::Fresh), true, CachePhase::Hit),
-];
-
-// Stores `ab` under the key.
-fn store(rt: &impl Abort, parts: &mut Parts) -> std::result::Result<(), Fail> {
-    let key = key_of(parts.alloc, "k")?;
-    let mut cache = HttpCache::new(parts.alloc);
-    start(rt, &mut cache, key);
-    let done = fill(rt, parts, &mut cache);
-    let _let_go = cache.end(&mut parts.store, &mut parts.lock);
-    done
-}
+// The reader of a body of two bytes is sent to its second byte, and not past its end. Spans are there once
+// caching is on.
+const SOUGHT: &str = "
+    1 enable
+    1 key
+    1 look -> none
+    1 miss
+    1 meta 60
+    1 begin
+    1 write ab
+    1 finish -> stored 2
+    1 leaves
+    2 trace
+    2 has cache-span -> no
+    2 has miss-span -> no
+    2 has hit-span -> no
+    2 enable
+    2 phase -> Uninit
+    2 key
+    2 phase -> CacheKey
+    2 fresh
+    2 phase -> Hit
+    2 trace
+    2 has cache-span -> yes
+    2 has miss-span -> yes
+    2 has hit-span -> yes
+    2 has reader -> yes
+    2 seek 2 -> refused
+    2 seek 1";
 
 #[test]
-fn a_reader_is_sent_to_another_byte(rt: HostRuntime) -> std::result::Result<(), Fail> {
-    let mut parts = Parts::new(rt.alloc())?;
-    store(&rt, &mut parts)?;
-    let mut cache = HttpCache::new(parts.alloc);
-    let done = seeks(&rt, &mut parts, &mut cache);
-    let _let_go = cache.end(&mut parts.store, &mut parts.lock);
-    done
+fn a_reader_is_sent_to_another_byte(rt: HostRuntime) {
+    run(&rt, rt.alloc(), SOUGHT);
 }

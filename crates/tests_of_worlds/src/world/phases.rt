@@ -1,4 +1,4 @@
-//! Each call in each phase, with its reply: a wrong call exactly where the phase table does not have
+//! Each call in each phase, with its reply: a wrong call exactly when the phase table does not have
 //! it.
 use crate::play::{Limits, calls_of, tell_reply, world_of};
 use crate::script::{asked_of, call_of};
@@ -7,6 +7,7 @@ use pcache_base::moment::Moment;
 use pcache_evict::eviction::simple_lru::Manager;
 use pingora_cache::world::World;
 use pingora_cache::world::call::{Call, Reply};
+use pingora_cache::world::policy::BySelf;
 use std::alloc::Global;
 use std::test::Fail;
 
@@ -43,7 +44,7 @@ const STATES: &str = " -> WrongCall\n\
 
 // For each call, what it answers in each of these states, in their order: `-` that it is a wrong
 // call, `+` that it is done, and a letter for another reply (`mark_of`). Written by hand from the
-// phase table. No other request holds the permit of its key, so none waits; where a look-up found
+// phase table. No other request holds the permit of its key, so none waits; if a look-up found
 // nothing, or what was found is stale, it holds the permit itself.
 const ROWS: &str = "+-------------- open 1\n\
     -+------------- enable 1\n\
@@ -100,7 +101,7 @@ fn mark_of(reply: &Reply) -> char {
     }
 }
 
-// Adds a call of a line to others, where the line is one.
+// Adds a call of a line to others, if the line is one.
 fn add(alloc: Global, calls: &mut Vec<Call>, asked: &'static str) -> error::Result<()> {
     if let Some(call) = call_of(alloc, asked, Moment::EPOCH)? {
         calls.push(call)?;
@@ -133,7 +134,7 @@ fn last_reply(
 
 fn last_reply_of(
     alloc: Global,
-    world: &mut World<Manager>,
+    world: &mut World<Manager, BySelf>,
     state: &'static str,
     call: &'static str,
 ) -> error::Result<Option<Reply>> {

@@ -7,6 +7,7 @@ use pcache_evict::eviction::sharded_lru::Manager;
 use pingora_cache::world::World;
 use pingora_cache::world::call::Reply;
 use pingora_cache::world::entry::{Entry, Event};
+use pingora_cache::world::policy::BySelf;
 use std::alloc::Global;
 use std::process::Abort;
 use std::test::Fail;
@@ -239,7 +240,7 @@ fn looked_up(entry: &Entry) -> Option<u128> {
     None
 }
 
-// How many look-ups a part of the history has that found a body exactly where no list of what was
+// How many look-ups a part of the history has that found a body exactly when no list of what was
 // evicted names the key.
 fn true_look_ups(part: &[Entry], history: &[Entry]) -> usize {
     let mut look_ups = 0usize;
@@ -255,13 +256,21 @@ fn true_look_ups(part: &[Entry], history: &[Entry]) -> usize {
 }
 
 // Makes the calls of a text, whatever they answer.
-fn make(alloc: Global, world: &mut World<Manager<2>>, text: &'static str) -> error::Result<()> {
+fn make(
+    alloc: Global,
+    world: &mut World<Manager<2>, BySelf>,
+    text: &'static str,
+) -> error::Result<()> {
     let calls = calls_of(alloc, text)?;
     world.run(calls)?;
     Ok(())
 }
 
-fn within_four(rt: &impl Abort, alloc: Global, world: &mut World<Manager<2>>) -> Result<(), Fail> {
+fn within_four(
+    rt: &impl Abort,
+    alloc: Global,
+    world: &mut World<Manager<2>, BySelf>,
+) -> Result<(), Fail> {
     make(alloc, world, FOUR_BODIES)?;
     assert!(rt; world.totals().weight <= 4 && world.stored_bytes() <= 4);
     let before = world.history().len();

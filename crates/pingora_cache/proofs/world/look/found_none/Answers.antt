@@ -19,7 +19,7 @@ returns-then-decide-clause-moves c =
     let x : Held = c.args.request.now in
     let s = c.args.store.now in
     let kept = c.decide.ensures.request in
-    let now : c.defer.new.request ≡ off_with (decides Nothing x) x = c.defer.ensures.request ∙ ap (λ (z : Held). let r : Held = record { request = disabled_for Deferred z.request; pair = None; carried = None } in r) kept in
+    let now : c.defer.new.request ≡ off_with (decides Nothing x) x = c.defer.ensures.request ∙ ap (λ (z : Held). let r : Held = record { request = disabled_for Deferred z.request; pair = None; carried = None; put = z.put } in r) kept in
     deferred-moves s c.args.lock.now x c.defer.new.request c.defer.new.store c.requires.nothing c.defer.result c.defer.new.events.items (sym c.decide.ensures.defers ∙ c.if-decide.true) now
     (subst (λ (z : Held). DefersKey z.request c.defer.new.events.items) kept c.defer.ensures.events) c.defer.ensures.held (c.defer.ensures.store ∙ ap (λ (z : Held). store_ended z s) kept)
 
@@ -30,7 +30,7 @@ returns-clause-answers c =
     let t = c.args.lock.now in
     let events = c.miss.new.events.items in
     let kept = c.decide.ensures.request in
-    let now : c.miss.new.request ≡ on_with (decides Nothing x) events None x = c.miss.ensures.request ∙ ap (λ (z : Held). let r : Held = record { request = asked false events z.request; pair = None; carried = z.carried } in r) kept in
+    let now : c.miss.new.request ≡ on_with (decides Nothing x) events None x = c.miss.ensures.request ∙ ap (λ (z : Held). let r : Held = record { request = asked false events z.request; pair = None; carried = z.carried; put = z.put } in r) kept in
     missed-looks s t x c.miss.new.request c.miss.new.store c.requires.nothing c.miss.result events (sym c.decide.ensures.defers ∙ c.if-decide.false)
     (subst (λ (z : Held). MissesKey (facts_in s t z.request) Nothing z.request c.miss.result events) kept (c.miss.ensures.answers s)) now
 
@@ -41,7 +41,7 @@ returns-clause-moves c =
     let t = c.args.lock.now in
     let events = c.miss.new.events.items in
     let kept = c.decide.ensures.request in
-    let now : c.miss.new.request ≡ on_with (decides Nothing x) events None x = c.miss.ensures.request ∙ ap (λ (z : Held). let r : Held = record { request = asked false events z.request; pair = None; carried = z.carried } in r) kept in
+    let now : c.miss.new.request ≡ on_with (decides Nothing x) events None x = c.miss.ensures.request ∙ ap (λ (z : Held). let r : Held = record { request = asked false events z.request; pair = None; carried = z.carried; put = z.put } in r) kept in
     missed-moves s t x c.miss.new.request c.miss.new.store c.requires.nothing c.miss.result events (sym c.decide.ensures.defers ∙ c.if-decide.false)
     (subst (λ (z : Held). MissesKey (facts_in s t z.request) Nothing z.request c.miss.result events) kept (c.miss.ensures.answers s)) now (c.miss.ensures.store ∙ ap (λ (z : Held). left_by (pair_reader z.pair) s) kept)
 
@@ -52,7 +52,7 @@ returns-clause-keeps c =
     let t = c.args.lock.now in
     let events = c.miss.new.events.items in
     let kept = c.decide.ensures.request in
-    let now : c.miss.new.request ≡ on_with (decides Nothing x) events None x = c.miss.ensures.request ∙ ap (λ (z : Held). let r : Held = record { request = asked false events z.request; pair = None; carried = z.carried } in r) kept in
+    let now : c.miss.new.request ≡ on_with (decides Nothing x) events None x = c.miss.ensures.request ∙ ap (λ (z : Held). let r : Held = record { request = asked false events z.request; pair = None; carried = z.carried; put = z.put } in r) kept in
     missed-keeps s t x c.miss.new.request c.miss.new.store c.requires.nothing c.miss.result events (sym c.decide.ensures.defers ∙ c.if-decide.false)
     (subst (λ (z : Held). MissesKey (facts_in s t z.request) Nothing z.request c.miss.result events) kept (c.miss.ensures.answers s)) now
 
@@ -63,7 +63,7 @@ returns-clause-row c =
     let t = c.args.lock.now in
     let events = c.miss.new.events.items in
     let kept = c.decide.ensures.request in
-    let now : c.miss.new.request ≡ on_with (decides Nothing x) events None x = c.miss.ensures.request ∙ ap (λ (z : Held). let r : Held = record { request = asked false events z.request; pair = None; carried = z.carried } in r) kept in
+    let now : c.miss.new.request ≡ on_with (decides Nothing x) events None x = c.miss.ensures.request ∙ ap (λ (z : Held). let r : Held = record { request = asked false events z.request; pair = None; carried = z.carried; put = z.put } in r) kept in
     missed-row s t x c.miss.new.request c.miss.new.store c.requires.nothing c.miss.result events (sym c.decide.ensures.defers ∙ c.if-decide.false)
     (subst (λ (z : Held). MissesKey (facts_in s t z.request) Nothing z.request c.miss.result events) kept (c.miss.ensures.answers s)) now
 

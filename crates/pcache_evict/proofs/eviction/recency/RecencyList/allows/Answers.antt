@@ -2,7 +2,7 @@ use Rattle.std.proofs.Common.{◌≡◌, ◌∙◌, ap, arith, length}
 use Rattle.std.proofs.lemmas.Bool.{not-true}
 use Rattle.pcache_evict.specs.Recency.{Recency, weight}
 use Rattle.pcache_evict.proofs.Recency.{weight_bound}
-use Rattle.pcache_evict.proofs.Raised.{small_inside}
+use Rattle.pcache_evict.proofs.Chains.{small_inside}
 use Rattle.pcache_evict.proofs.eviction.recency.RecencyList.allows.Goals as goal
 
 pub overflow_add-self-inside : goal.overflow_add-self-inside

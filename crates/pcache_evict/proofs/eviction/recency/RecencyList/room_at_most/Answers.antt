@@ -2,7 +2,7 @@ use Rattle.std.proofs.Common.{◌≡◌, ap, subst, ◌∙◌, refl, arith, leng
 use Rattle.pcache_evict.specs.Recency.{Recency, weight}
 use Rattle.pcache_evict.specs.Listed.{IsOnce}
 use Rattle.pcache_evict.proofs.Recency.{weight_bound, weight-others, length-others}
-use Rattle.pcache_evict.proofs.Raised.{enough_above}
+use Rattle.pcache_evict.proofs.Chains.{enough_above}
 use Rattle.pcache_evict.proofs.eviction.recency.RecencyList.room_at_most.Goals as goal
 
 pub overflow_add-start : goal.overflow_add-start

@@ -4,7 +4,7 @@ use Rattle.std.specs.FinMap as map
 use Rattle.std.proofs.lemmas.List.{set-get_or}
 use Rattle.std.proofs.lemmas.Result.{IfOk-weaker, on_ok_weaker, on_err_weaker}
 use Rattle.pcache_meta.specs.Meta.{expired_at}
-use Rattle.pcache_store.specs.Store.{body_of, meta_changed_on}
+use Rattle.pcache_store.specs.Store.{complete_body, meta_changed_on}
 use Rattle.pcache_table.specs.Sharding.{joined}
 use Rattle.pcache_store.specs.Shards.{AreShards, parts}
 use Rattle.pcache_store.proofs.Writes.{on_both}
@@ -21,7 +21,7 @@ invariant_of-self c =
     (λ e. subst (λ x. AreShards x c.self.inside.count) (sym (ap (λ x. slice_set c.self.inside.shards (c.args.key % 16) x) e ∙ set-get_or c.self.inside.shards (c.args.key % 16) c.index-self-place.result)) c.self.invariant) c.expire_in.ensures.slots c.expire_in.ensures.err
 
 pub returns-clause-there : goal.returns-clause-there
-returns-clause-there c = IfOk-weaker c.expire_in.result _ _ (λ b h. h ∙ ap (λ o. is_some (body_of o)) (here c.self.inside.shards c.args.key c.index-self-place.result c.self.invariant.long c.self.invariant.placed ∙ ap (λ m. map.get m c.args.key) c.self.view_is)) c.expire_in.ensures.there
+returns-clause-there c = IfOk-weaker c.expire_in.result _ _ (λ b h. h ∙ ap (λ o. is_some (complete_body o)) (here c.self.inside.shards c.args.key c.index-self-place.result c.self.invariant.long c.self.invariant.placed ∙ ap (λ m. map.get m c.args.key) c.self.view_is)) c.expire_in.ensures.there
 
 pub returns-clause-slots : goal.returns-clause-slots
 returns-clause-slots c = on_ok_weaker c.expire_in.result (λ e.
@@ -30,4 +30,4 @@ returns-clause-slots c = on_ok_weaker c.expire_in.result (λ e.
     ∙ ap (λ m. meta_changed_on (expired_at c.args.now) m c.args.key (map.get m c.args.key)) c.self.view_is) c.expire_in.ensures.slots
 
 pub returns-clause-something : goal.returns-clause-something
-returns-clause-something c = on_err_weaker c.expire_in.result (λ h. ap (λ o. is_some (body_of o)) (sym (here c.self.inside.shards c.args.key c.index-self-place.result c.self.invariant.long c.self.invariant.placed ∙ ap (λ m. map.get m c.args.key) c.self.view_is)) ∙ h) c.expire_in.ensures.something
+returns-clause-something c = on_err_weaker c.expire_in.result (λ h. ap (λ o. is_some (complete_body o)) (sym (here c.self.inside.shards c.args.key c.index-self-place.result c.self.invariant.long c.self.invariant.placed ∙ ap (λ m. map.get m c.args.key) c.self.view_is)) ∙ h) c.expire_in.ensures.something

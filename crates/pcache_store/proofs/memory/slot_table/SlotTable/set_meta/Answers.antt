@@ -1,7 +1,7 @@
 use Rattle.std.proofs.Common.{◌∙◌, ◌%◌, ap, sym, subst, arith, is_some}
 use Rattle.std.specs.Prelude.{slice_index_or, slice_set}
 use Rattle.std.specs.FinMap as map
-use Rattle.pcache_store.specs.Store.{body_of, meta_changed_on}
+use Rattle.pcache_store.specs.Store.{complete_body, meta_changed_on}
 use Rattle.pcache_table.specs.Sharding.{joined}
 use Rattle.pcache_store.specs.Shards.{AreShards, parts}
 use Rattle.pcache_store.proofs.SlotShards.{here, changed-meta, held-meta, kept-changed}
@@ -16,7 +16,7 @@ invariant_of-self c =
     (kept-changed c.self.inside.shards c.args.key c.self.inside.count c.self.inside.count c.index-self-place.result _ _ c.self.invariant changed (omega arith) few)
 
 pub returns-clause-there : goal.returns-clause-there
-returns-clause-there c = c.set_meta_in.ensures.there ∙ ap (λ o. is_some (body_of o)) (here c.self.inside.shards c.args.key c.index-self-place.result c.self.invariant.long c.self.invariant.placed ∙ ap (λ m. map.get m c.args.key) c.self.view_is)
+returns-clause-there c = c.set_meta_in.ensures.there ∙ ap (λ o. is_some (complete_body o)) (here c.self.inside.shards c.args.key c.index-self-place.result c.self.invariant.long c.self.invariant.placed ∙ ap (λ m. map.get m c.args.key) c.self.view_is)
 
 pub returns-clause-slots : goal.returns-clause-slots
 returns-clause-slots c =

@@ -2,7 +2,7 @@ use Rattle.std.proofs.Common.{◌∙◌, ◌%◌, ap, sym, subst, arith}
 use Rattle.std.specs.Prelude.{slice_index_or, slice_set}
 use Rattle.std.specs.FinMap as map
 use Rattle.std.specs.Prelude.{IsSome}
-use Rattle.pcache_store.specs.Store.{body_of, stored_on}
+use Rattle.pcache_store.specs.Store.{complete_body, stored_on}
 use Rattle.pcache_table.specs.Sharding.{joined}
 use Rattle.pcache_store.specs.Shards.{AreShards, parts}
 use Rattle.pcache_store.proofs.SlotShards.{here, changed-stored, held-stored, kept-changed}
@@ -20,7 +20,7 @@ invariant_of-self c =
     (kept-changed c.self.inside.shards c.args.key c.self.inside.count c.self.inside.count c.index-self-place.result _ _ c.self.invariant changed (omega arith) few)
 
 pub returns-clause-older : goal.returns-clause-older
-returns-clause-older c = c.store_in.ensures.older ∙ ap body_of (here c.self.inside.shards c.args.key c.index-self-place.result c.self.invariant.long c.self.invariant.placed ∙ ap (λ m. map.get m c.args.key) c.self.view_is)
+returns-clause-older c = c.store_in.ensures.older ∙ ap complete_body (here c.self.inside.shards c.args.key c.index-self-place.result c.self.invariant.long c.self.invariant.placed ∙ ap (λ m. map.get m c.args.key) c.self.view_is)
 
 pub returns-clause-slots : goal.returns-clause-slots
 returns-clause-slots c =

@@ -1,0 +1,26 @@
+#!/bin/sh
+# How many bytes an entry of a world's history takes, of a wrong call and of a look-up that finds nothing, and how many a stored
+# body of eight bytes takes in the store and in the manager's list together. The program is proved and built in a copy of the
+# repository.
+set -eu
+. "$(dirname "$0")/in_a_copy.sh"
+mkdir -p crates/world_memory/src
+cp bench/world_memory.rt.txt crates/world_memory/src/main.rt
+echo 'world_memory: pingora_cache bytes http' >>crates.txt
+(cd crates/world_memory && rt run -- wrong 1 >&2)
+python3 - <<'MEASURE'
+import os, sys
+
+COUNT = 200_000
+
+def peak(kind, count):
+    """Bytes of the greatest resident memory of the program with so many of a kind."""
+    child = os.posix_spawn("crates/world_memory/out/world_memory", ["world_memory", kind, str(count)], os.environ)
+    _, status, used = os.wait4(child, 0)
+    if status != 0:
+        sys.exit(f"the program with {count} of {kind} ended with {status}")
+    return used.ru_maxrss * 1024
+
+for kind, what in [("wrong", "an entry of a wrong call"), ("look", "an entry of a look-up that finds nothing"), ("body", "a stored body of 8 bytes")]:
+    print(f"{what}: bytes={(peak(kind, COUNT) - peak(kind, 1)) / (COUNT - 1):.0f}")
+MEASURE

@@ -1,0 +1,133 @@
+//! Calls of permits, read locks and stubs that are lent their table.
+ghost use Rattle.std.specs.Prelude.{◌≡◌, [], IfErr, IfOk, IsOk, None, OnErr, OnOk, Some};
+ghost use Rattle.std.specs.FinMap.{get};
+ghost use Rattle.pcache_base.specs.declared.error.ErrorType.TheVariants.{OutOfMemory};
+ghost use Rattle.pcache_lock.specs.Locks.{locked_at, status_kept, unlocked, with_read_lock};
+ghost use Rattle.pcache_lock.specs.Statuses.{IsReason};
+ghost use Rattle.pcache_lock.specs.Waiting.{after_poll, expired_at, polled, published, reader_polled, status_seen};
+
+use crate::lock::CacheKeyLock;
+use crate::lock::cache_lock::CacheLock;
+use crate::lock::outcome::WaitOutcome;
+use crate::lock::permit::{LockStub, ReadLock, WritePermit};
+use crate::lock::status::LockStatus;
+use pcache_base::error::Result;
+use pcache_base::fills::UnusableFills;
+use pcache_base::moment::Moment;
+use pcache_base::poll::Poll;
+use std::alloc::Global;
+
+impl WritePermit {
+    /// Says with which status the fill ended, before the permit itself is spent.
+    pub fn unlock(&mut self, lock: &mut CacheLock, reason: LockStatus)
+        requires { IsReason reason }
+        ensures table { lock.new ≡ unlocked lock.old self.old.number reason }
+        ensures same { self.new ≡ self.old }
+    {
+        lock.unlock(self.number(), reason);
+    }
+
+    /// Where its lock stands.
+    pub fn lock_status(&self, lock: &CacheLock) -> LockStatus
+        ensures { result ≡ status_kept (get lock.now.cores self.now.number) }
+    {
+        match lock.core(self.number()) {
+            Some(core) => core.lock_status(),
+            None => LockStatus::Dangling,
+        }
+    }
+
+    /// Publishes what its holder found out about the fill, in place of what stood.
+    ///
+    /// It is refused only when memory runs out, and then changes nothing. No tokens clear what
+    /// stood, which is never refused.
+    pub fn publish<L: CacheKeyLock>(
+        &self,
+        alloc: Global,
+        lock: &mut L,
+        tokens: &[u64],
+    ) -> Result<()>
+        ensures ok { OnOk result (L.table lock.new ≡ published (L.table lock.old) self.now.number tokens.now) }
+        ensures clears { tokens.now ≡ [] → IsOk result }
+        ensures err { OnErr result (L.table lock.new ≡ L.table lock.old) }
+        ensures kind { IfErr result (λ e. e ≡ OutOfMemory) }
+    {
+        lock.publish(alloc, self, tokens)
+    }
+}
+
+impl ReadLock {
+    /// Asks whether the wait is over, whatever its writer publishes.
+    pub fn wait<L: CacheKeyLock>(
+        &mut self,
+        alloc: Global,
+        lock: &mut L,
+        now: Moment,
+    ) -> Poll<WaitOutcome>
+        ensures answer { result ≡ polled now None self.old.watch (get (L.table lock.old).cores self.old.number) }
+        ensures reader { self.new ≡ reader_polled now None self.old (get (L.table lock.old).cores self.old.number) }
+        ensures table { L.table lock.new ≡ after_poll (L.table lock.old) now self.old.number (get (L.table lock.old).cores self.old.number) }
+    {
+        match lock.poll_wait(alloc, self, None, now) {
+            Ok(answer) => answer,
+            Err(_) => unreachable!(),
+        }
+    }
+
+    /// Asks whether the wait is over, or its writer published a fill that is of no use.
+    ///
+    /// It is refused only when memory runs out, and then changes nothing.
+    pub fn wait_unless_published<L: CacheKeyLock>(
+        &mut self,
+        alloc: Global,
+        lock: &mut L,
+        unusable: &UnusableFills,
+        now: Moment,
+    ) -> Result<Poll<WaitOutcome>>
+        ensures answer { IfOk result (λ p. p ≡ polled now (Some unusable.now) self.old.watch (get (L.table lock.old).cores self.old.number)) }
+        ensures reader { OnOk result (self.new ≡ reader_polled now (Some unusable.now) self.old (get (L.table lock.old).cores self.old.number)) }
+        ensures ok { OnOk result (L.table lock.new ≡ after_poll (L.table lock.old) now self.old.number (get (L.table lock.old).cores self.old.number)) }
+        ensures err { OnErr result (L.table lock.new ≡ L.table lock.old) }
+        ensures same_reader { OnErr result (self.new ≡ self.old) }
+        ensures kind { IfErr result (λ e. e ≡ OutOfMemory) }
+    {
+        lock.poll_wait(alloc, self, Some(unusable), now)
+    }
+
+    /// Whether the permit that it waits on is still held, and was not unlocked.
+    pub fn locked(&self, lock: &CacheLock) -> bool
+        ensures { result ≡ locked_at (get lock.now.cores self.now.number) }
+    {
+        match lock.core(self.number()) {
+            Some(core) => core.locked(),
+            None => false,
+        }
+    }
+
+    /// Whether that permit has been held for too long at this moment, found so by a poll or not.
+    pub fn expired(&self, lock: &CacheLock, now: Moment) -> bool
+        ensures { result ≡ expired_at now (get lock.now.cores self.now.number) }
+    {
+        match lock.core(self.number()) {
+            Some(core) => core.expired(now),
+            None => false,
+        }
+    }
+
+    /// Where the lock stands: too old as soon as that moment has come.
+    pub fn lock_status<L: CacheKeyLock>(&self, lock: &L, now: Moment) -> LockStatus
+        ensures { result ≡ status_seen now (get (L.table lock.now).cores self.now.number) }
+    {
+        lock.lock_status(self, now)
+    }
+}
+
+impl LockStub {
+    /// A read lock more on its lock.
+    pub fn read_lock(&self, lock: &mut CacheLock) -> ReadLock
+        ensures reader { result ≡ record { number = self.now; watch = None } }
+        ensures table { lock.new ≡ with_read_lock lock.old self.now (get lock.old.cores self.now) }
+    {
+        lock.read_lock(self.number())
+    }
+}

@@ -1,7 +1,0 @@
--- What is counted of a body.
-use Rattle.std.specs.Prelude.{ℕ}
-
--- the bytes counted, and how many are allowed
-pub record Tracked : Type 0 where
-  pub bytes : ℕ
-  pub limit : ℕ

@@ -1,0 +1,65 @@
+//! Values behind boxes, for what a put tells and for the calls and events of worlds.
+ghost use Rattle.std.specs.Prelude.{◌≡◌, IfErr, IfOk, Some};
+ghost use Rattle.pcache_base.specs.declared.error.ErrorType.TheVariants.{OutOfMemory};
+
+use pcache_base::error::Result;
+use pcache_base::moment::Moment;
+use pcache_meta::meta::CacheMeta;
+use std::alloc::Global;
+use std::marker::Model;
+
+/// A value behind a box, so that what has it takes no more room than a pointer. A contract sees the
+/// value.
+#[derive(Drop)]
+pub struct Boxed<T> {
+    place: Box<T>,
+}
+
+impl<T> Model for Boxed<T> {
+    ghost Value = { T };
+
+    ghost view = { λ a. a.place.value };
+}
+
+impl<T: Drop> Boxed<T> {
+    /// Puts a value behind a box. It is refused only when memory runs out.
+    pub fn new(alloc: Global, value: T) -> Result<Boxed<T>>
+        ensures ok { IfOk result (λ boxed. boxed ≡ value) }
+        ensures kind { IfErr result (λ e. e ≡ OutOfMemory) }
+    {
+        Ok(Boxed {
+            place: Box::new(alloc, value)?,
+        })
+    }
+
+    /// Puts another value behind a box of its own. It is refused only when memory runs out.
+    pub fn beside(&self, value: T) -> Result<Boxed<T>>
+        ensures ok { IfOk result (λ boxed. boxed ≡ value) }
+        ensures kind { IfErr result (λ e. e ≡ OutOfMemory) }
+    {
+        Boxed::new(*Box::allocator(&self.place), value)
+    }
+
+    /// The value.
+    pub fn get(&self) -> &T
+        ensures { result.now ≡ self.now }
+    {
+        &self.place
+    }
+}
+
+impl Boxed<CacheMeta> {
+    /// Sets when the body was fetched.
+    pub fn set_provenance(&mut self, provenance: Moment)
+        ensures { self.new ≡ record self.old { provenance = Some provenance } }
+    {
+        self.place.set_provenance(provenance);
+    }
+
+    /// Sets when the response was first stored.
+    pub fn set_created(&mut self, created: Moment)
+        ensures { self.new ≡ record self.old { created = created } }
+    {
+        self.place.set_created(created);
+    }
+}

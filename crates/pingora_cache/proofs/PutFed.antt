@@ -1,0 +1,337 @@
+-- What a piece of a put does, by what its context promises.
+use Rattle.std.proofs.Common.{◌≡◌, ℕ, ◌≤◌, ◌^◌, ◌⊎◌, length, Option, None, Some, List, [], ◌∷◌, ◌++◌, refl, ap, sym, subst, ◌∙◌, inl, inr, option_map}
+use Rattle.pcache_base.specs.Key.{Key, slot}
+use Rattle.pcache_base.specs.declared.error.ErrorType.{ErrorType}
+use Rattle.pcache_base.specs.declared.error.ErrorType.TheVariants as error
+use Rattle.pcache_base.specs.declared.reason.NoCacheReason.{NoCacheReason}
+use Rattle.pcache_evict.specs.Tracked.{Tracked, Limits}
+use Rattle.pcache_lock.specs.Locks.{Locks}
+use Rattle.pcache_meta.specs.Meta.{Meta}
+use Rattle.pcache_put.specs.Parts.{left_behind}
+use Rattle.pcache_put.specs.Progress.{Parsed, AtBody, AtHead, HasFailed}
+use Rattle.pcache_put.specs.Counted.{Counted}
+use Rattle.pcache_put_ctx.specs.Puts.{Piece, Says, joined}
+use Rattle.pcache_put_ctx.specs.State.{Stage, InHead, InBody, HasDeclined, IsOver, Filled, TakenBy, limit_of, write_in}
+use Rattle.pcache_put_ctx.specs.Steps.{AnswersAgain, BeginsAtHead, EndsPiece, IfRefused, MayRefusePiece, filled_on, filled_wrote, stage_begun, store_after}
+use Rattle.pcache_put_ctx.specs.declared.report.PieceEnd.{PieceEnd}
+use Rattle.pcache_put_ctx.specs.declared.report.PieceEnd.TheVariants as piece
+use Rattle.pcache_put_ctx.specs.declared.report.Written.{Written}
+use Rattle.pcache_request.specs.Requests.{dropped_by}
+use Rattle.pcache_store.specs.Store.{Store, is_told}
+use Rattle.std.specs.FinMap.{get}
+use Rattle.pingora_cache.specs.declared.world.call.Call.TheVariants as C
+use Rattle.pingora_cache.specs.declared.world.call.Reply.{Reply}
+use Rattle.pingora_cache.specs.declared.world.call.Reply.TheVariants as R
+use Rattle.pingora_cache.specs.declared.world.entry.Event.{Event}
+use Rattle.pingora_cache.specs.declared.world.entry.Event.TheVariants as E
+use Rattle.pingora_cache.specs.Due.{slot_of}
+use Rattle.pingora_cache.specs.Facts.{Facts, facts_in}
+use Rattle.pingora_cache.specs.Held.{Held, Outcome, was_declined, was_done, was_refused, fed, held_put, stage_fed, stage_noted, untold}
+use Rattle.pingora_cache.specs.Moved.{At, Moves, MovesBy, MovesStore, at_call}
+use Rattle.pingora_cache.specs.PutHistory.{PutTurn, TakenIn, filled_by}
+use Rattle.pingora_cache.specs.Rules.{Feeds, FeedsAt, IsFeedRefusal, TakesPiece, began_noted, drop_of, piece_noted, wrote_noted}
+use Rattle.pingora_cache.specs.Step.{IsRow}
+use Rattle.pingora_cache.specs.Taking.{Taking, counted_none, uncounted}
+use Rattle.pingora_cache.specs.Waiting.{AreOfNoLock}
+use Rattle.pingora_cache.proofs.MovesOf.{does, drops, stop}
+
+pub none-some : {A B : Type 0} (a : A) → ◌≡◌ {A = Option A} (Some a) None → B
+none-some a is = absurd (cc)
+
+append-nil : (xs : List Event) → xs ++ [] ≡ xs
+append-nil [] = refl
+append-nil (e ∷ xs) = ap (λ ys. e ∷ ys) (append-nil xs)
+
+-- ---- the parts move by what is noted
+
+module _ (limits : Limits) (q : Option Held) (k : Key) (count : ℕ → ℕ) (s : Store) (m : Tracked) (own : slot_of q ≡ Some (slot k)) where
+  abbrev pub before : Stage → At
+  before stage = record { count = count; write = write_in stage; owed = None; store = s; tracked = m }
+
+  abbrev pub behind : Stage → Option Meta → Option Written → At
+  behind stage began b = record { count = count; write = write_in (stage_begun stage began s.next None); owed = None; store = store_after k stage began b None s; tracked = m }
+
+  pub noted : (stage : Stage) (began : Option Meta) (b : Option Written) (rest : List Event) (last : At) → BeginsAtHead stage began → MovesBy limits q rest (behind stage began b) last
+      → MovesBy limits q (piece_noted (slot k) (write_in (stage_begun stage began s.next None)) began b ++ rest) (before stage) last
+  noted InHead None b rest last begins moves = moves
+  noted InHead (Some n) None rest last begins moves = does limits q (E.Begin s.next (slot k) n) rest (before InHead) last (refl, refl, own) moves
+  noted InHead (Some n) (Some b) rest last begins moves =
+      does limits q (E.Begin s.next (slot k) n) (E.Wrote s.next b.bytes b.eof ∷ rest) (before InHead) last (refl, refl, own)
+      (does limits q (E.Wrote s.next b.bytes b.eof) rest (behind InHead (Some n) None) last refl moves)
+  noted (InBody w id until) None None rest last begins moves = moves
+  noted (InBody w id until) None (Some b) rest last begins moves = does limits q (E.Wrote w b.bytes b.eof) rest (before (InBody w id until)) last refl moves
+  noted (InBody w id until) (Some n) b rest last begins moves = none-some n begins
+  noted (HasDeclined reason) None b rest last begins moves = moves
+  noted (HasDeclined reason) (Some n) b rest last begins moves = none-some n begins
+  noted (IsOver kind) None b rest last begins moves = moves
+  noted (IsOver kind) (Some n) b rest last begins moves = none-some n begins
+
+-- nothing is noted if no write is in flight then
+none-noted : (k : ℕ) (w : Option ℕ) (began : Option Meta) (b : Option Written) → w ≡ None → piece_noted k w began b ≡ []
+none-noted k None began b is = refl
+none-noted k (Some w) began b is = none-some w is
+
+-- and the store stays
+none-stored : (k : Key) (stage : Stage) (began : Option Meta) (b : Option Written) (s : Store) → BeginsAtHead stage began → write_in (stage_begun stage began s.next None) ≡ None → store_after k stage began b None s ≡ s
+none-stored k InHead None b s begins is = refl
+none-stored k InHead (Some n) b s begins is = none-some s.next is
+none-stored k (InBody w id until) None b s begins is = none-some w is
+none-stored k (InBody w id until) (Some n) b s begins is = none-some n begins
+none-stored k (HasDeclined reason) None b s begins is = refl
+none-stored k (HasDeclined reason) (Some n) b s begins is = none-some n begins
+none-stored k (IsOver kind) None b s begins is = refl
+none-stored k (IsOver kind) (Some n) b s begins is = none-some n begins
+
+none-before : (stage : Stage) (began : Option Meta) (n : ℕ) → BeginsAtHead stage began → write_in (stage_begun stage began n None) ≡ None → write_in stage ≡ None
+none-before InHead began n begins is = refl
+none-before (InBody w id until) None n begins is = is
+none-before (InBody w id until) (Some m) n begins is = none-some m begins
+none-before (HasDeclined reason) began n begins is = refl
+none-before (IsOver kind) began n begins is = refl
+
+module _ (p p' : Taking) (s s1 : Store) (began : Option Meta) (b : Option Written) (j : ℕ) (at : j ≡ slot p.key) (begins : BeginsAtHead p.stage began) (to : s1 ≡ store_after p.key p.stage began b None s) where
+  abbrev pub now : Stage
+  now = stage_begun p.stage began s.next None
+
+  abbrev pub x : Held
+  x = held_put p
+
+  abbrev pub y : Held
+  y = held_put p'
+
+  -- it goes on
+  pub goes-moves : (w : Option ℕ) (old events : List Event) → old ≡ [] → w ≡ write_in p'.stage → p'.stage ≡ now → events ≡ old ++ piece_noted j w began b → MovesStore (Some x) s events (Some y) s1
+  goes-moves w old events none has stands is limits m =
+      subst (λ es. Moves limits (Some x) s m es (Some y) s1 m) (sym (is ∙ (λ i. none i ++ piece_noted (at i) ((has ∙ ap write_in stands) i) began b) ∙ sym (append-nil (piece_noted (slot p.key) (write_in now) began b))))
+      (noted limits (Some x) p.key (λ v. 0) s m refl p.stage began b [] (at_call (Some y) s1 m) begins
+      (stop limits (Some x) (behind limits (Some x) p.key (λ v. 0) s m refl p.stage began b) (at_call (Some y) s1 m) (record { count = λ v. refl; write = ap write_in stands; owed = refl; store = to; tracked = refl })))
+
+  -- nothing is stored
+  pub declined-moves : (events : List Event) → events ≡ [] → write_in now ≡ None → write_in p'.stage ≡ None → MovesStore (Some x) s events (Some y) s1
+  declined-moves events none before-none after-none limits m =
+      subst (λ es. Moves limits (Some x) s m es (Some y) s1 m) (sym none)
+      (stop limits (Some x) (at_call (Some x) s m) (at_call (Some y) s1 m) (record { count = λ v. refl; write = after-none ∙ sym (none-before p.stage began s.next begins before-none); owed = refl; store = to ∙ none-stored p.key p.stage began b s begins before-none; tracked = refl }))
+
+  -- it is refused, and the write is dropped
+  pub refused-moves : (u : Store) (w : Option ℕ) (old mid events : List Event) → old ≡ [] → w ≡ write_in now → write_in p'.stage ≡ None → mid ≡ old ++ piece_noted j w began b → events ≡ mid ++ drop_of w → u ≡ dropped_by w s1 → MovesStore (Some x) s events (Some y) u
+  refused-moves u w old mid events none has over one is left limits m =
+      let first = behind limits (Some x) p.key (λ v. 0) s m refl p.stage began b in
+      subst (λ es. Moves limits (Some x) s m es (Some y) u m)
+      (sym (is ∙ ap (λ es. es ++ drop_of w) (one ∙ (λ i. none i ++ piece_noted (at i) (has i) began b)) ∙ ap (λ o. piece_noted (slot p.key) (write_in now) began b ++ drop_of o) has ∙ ap (λ es. piece_noted (slot p.key) (write_in now) began b ++ es) (sym (append-nil (drop_of (write_in now))))))
+      (noted limits (Some x) p.key (λ v. 0) s m refl p.stage began b (drop_of (write_in now) ++ []) (at_call (Some y) u m) begins
+      (drops limits (Some x) (write_in now) [] first (at_call (Some y) u m) refl refl
+      (stop limits (Some x) (record first { write = None; store = dropped_by (write_in now) first.store }) (at_call (Some y) u m)
+      (record { count = λ v. refl; write = over; owed = refl; store = left ∙ (λ i. dropped_by (has i) (to i)); tracked = refl }))))
+
+-- ---- the row
+
+limit-sizes : (c : Option Counted) → option_map uncounted c ≡ option_map counted_none (limit_of c)
+limit-sizes None = refl
+limit-sizes (Some c) = refl
+
+alike : (p p' : Taking) (z : Stage) → p'.key ≡ p.key → limit_of p'.size ≡ limit_of p.size → p'.stage ≡ z → untold (held_put p') ≡ untold (held_put (record { key = p.key; size = p.size; parser = p.parser; stage = z }))
+alike p p' z key limit stands =
+    let sizes = limit-sizes p'.size ∙ ap (option_map counted_none) limit ∙ sym (limit-sizes p.size) in
+    λ i. held_put (record { key = key i; size = sizes i; parser = AtHead []; stage = stands i })
+
+begun-stage : (k n : ℕ) (stage : Stage) (began : Option Meta) (b : Option Written) → BeginsAtHead stage began → stage_noted (piece_noted k (write_in (stage_begun stage began n None)) began b) stage ≡ stage_begun stage began n None
+begun-stage k n InHead None b begins = refl
+begun-stage k n InHead (Some m) b begins = refl
+begun-stage k n (InBody w id until) None None begins = refl
+begun-stage k n (InBody w id until) None (Some b) begins = refl
+begun-stage k n (InBody w id until) (Some m) b begins = none-some m begins
+begun-stage k n (HasDeclined reason) None b begins = refl
+begun-stage k n (HasDeclined reason) (Some m) b begins = none-some m begins
+begun-stage k n (IsOver kind) None b begins = refl
+begun-stage k n (IsOver kind) (Some m) b begins = none-some m begins
+
+pub goes-row : (p p' : Taking) (bytes : List ℕ) (t n j : ℕ) (began : Option Meta) (b : Option Written) (w : Option ℕ) (old events : List Event) → p'.key ≡ p.key → limit_of p'.size ≡ limit_of p.size → BeginsAtHead p.stage began → old ≡ [] → w ≡ write_in p'.stage → p'.stage ≡ stage_begun p.stage began n None → events ≡ old ++ piece_noted j w began b
+    → IsRow (C.Feed 0 bytes t) R.Done events (Some (held_put p)) (Some (held_put p'))
+goes-row p p' bytes t n j began b w old events key limit begins none has stands is =
+    let noted-as : events ≡ piece_noted j (write_in (stage_begun p.stage began n None)) began b = is ∙ (λ i. none i ++ piece_noted j ((has ∙ ap write_in stands) i) began b) in
+    ap Some (alike p p' (stage_noted events p.stage) key limit (stands ∙ sym (ap (λ es. stage_noted es p.stage) noted-as ∙ begun-stage j n p.stage began b begins)))
+
+pub declined-row : (p p' : Taking) (bytes : List ℕ) (t : ℕ) (reason : NoCacheReason) (events : List Event) → p'.key ≡ p.key → limit_of p'.size ≡ limit_of p.size → p'.stage ≡ HasDeclined reason → IsRow (C.Feed 0 bytes t) (R.NotCached reason) events (Some (held_put p)) (Some (held_put p'))
+declined-row p p' bytes t reason events key limit stands = ap Some (alike p p' (HasDeclined reason) key limit stands)
+
+pub refused-row : (p p' : Taking) (bytes : List ℕ) (t : ℕ) (e kind : ErrorType) (events : List Event) → kind ≡ e → p'.key ≡ p.key → limit_of p'.size ≡ limit_of p.size → p'.stage ≡ IsOver e → IsRow (C.Feed 0 bytes t) (R.Refused kind) events (Some (held_put p)) (Some (held_put p'))
+refused-row p p' bytes t e kind events same key limit stands = ap Some (alike p p' (IsOver kind) key limit (stands ∙ ap IsOver (sym same)))
+
+-- ---- what was taken in
+
+begun-filled : (says : Says) (size : Option Counted) (parser : Parsed) (pieces : List Piece) (k n : ℕ) (stage : Stage) (began : Option Meta) (b : Option Written) (f : Option Filled) → BeginsAtHead stage began → TakenBy says size parser stage pieces f → (write_in (stage_begun stage began n None) ≡ None → f ≡ None)
+    → filled_by (piece_noted k (write_in (stage_begun stage began n None)) began b) f ≡ filled_on began b f
+begun-filled says size parser pieces k n InHead None None f begins t none = refl
+begun-filled says size parser pieces k n InHead None (Some b) f begins t none = none refl ∙ ap (filled_wrote (Some b)) (sym (none refl))
+begun-filled says size parser pieces k n InHead (Some m) None f begins t none = refl
+begun-filled says size parser pieces k n InHead (Some m) (Some b) f begins t none = refl
+begun-filled says size parser pieces k n (InBody w id until) None None f begins t none = refl
+begun-filled says size parser pieces k n (InBody w id until) None (Some b) None begins t none = refl
+begun-filled says size parser pieces k n (InBody w id until) None (Some b) (Some f) begins t none = refl
+begun-filled says size parser pieces k n (InBody w id until) (Some m) b f begins t none = none-some m begins
+begun-filled says size parser pieces k n (HasDeclined reason) None None f begins t none = refl
+begun-filled says size parser pieces k n (HasDeclined reason) None (Some b) f begins t none = none refl ∙ ap (filled_wrote (Some b)) (sym (none refl))
+begun-filled says size parser pieces k n (HasDeclined reason) (Some m) b f begins t none = none-some m begins
+begun-filled says size parser pieces k n (IsOver kind) None None f begins t none = refl
+begun-filled says size parser pieces k n (IsOver kind) None (Some b) f begins t none = none refl ∙ ap (filled_wrote (Some b)) (sym (none refl))
+begun-filled says size parser pieces k n (IsOver kind) (Some m) b f begins t none = none-some m begins
+
+-- if a put goes on, it made no write before its head ended
+head-filled : (says : Says) (size : Option Counted) (parser : Parsed) (pieces : List Piece) (stage : Stage) (f : Option Filled) → TakenBy says size parser stage pieces f → ((kind : ErrorType) → stage ≡ IsOver kind → ⊥) → write_in stage ≡ None → f ≡ None
+head-filled says size parser pieces InHead f t on none = t.1
+head-filled says size parser pieces (InBody w id until) f t on none = none-some w none
+head-filled says size parser pieces (HasDeclined reason) f t on none = t.1
+head-filled says size parser pieces (IsOver kind) f t on none = absurd (on kind refl)
+
+abbrev pub OnTaken : Says → Taking → Taking → Piece → Option Meta → Option Written → Type 0
+OnTaken says p p' q began b = (pieces : List Piece) (f : Option Filled) → TakenBy says p.size p.parser p.stage pieces f → TakenBy says p'.size p'.parser p'.stage (pieces ++ q ∷ []) (filled_on began b f)
+
+pub goes-puts : (says : Says) (p p' : Taking) (bytes : List ℕ) (t n j : ℕ) (began : Option Meta) (b : Option Written) (w : Option ℕ) (old events : List Event) → BeginsAtHead p.stage began → ((kind : ErrorType) → p.stage ≡ IsOver kind → ⊥) → OnTaken says p p' (record { bytes = bytes; now = t }) began b → old ≡ [] → w ≡ write_in p'.stage → p'.stage ≡ stage_begun p.stage began n None
+    → events ≡ old ++ piece_noted j w began b → PutTurn says (C.Feed 0 bytes t) R.Done events (Some (held_put p)) (Some (held_put p'))
+goes-puts says p p' bytes t n j began b w old events begins on taken none has stands is = record {
+  taken = λ pieces f got.
+      let noted-as : events ≡ piece_noted j (write_in (stage_begun p.stage began n None)) began b = is ∙ (λ i. none i ++ piece_noted j ((has ∙ ap write_in stands) i) began b) in
+      let same : filled_by events f ≡ filled_on began b f = ap (λ es. filled_by es f) noted-as ∙ begun-filled says p.size p.parser pieces j n p.stage began b f begins got (λ z. head-filled says p.size p.parser pieces p.stage f got on (none-before p.stage began n begins z)) in
+      subst (TakenBy says p'.size p'.parser p'.stage (pieces ++ record { bytes = bytes; now = t } ∷ [])) (sym same) (taken pieces f got);
+  closes = λ pieces f got. tt;
+}
+
+declined-as : (says : Says) (size : Option Counted) (parser : Parsed) (stage : Stage) (reason : NoCacheReason) (pieces : List Piece) (f g : Option Filled) → stage ≡ HasDeclined reason → f ≡ None → TakenBy says size parser stage pieces g → TakenBy says size parser stage pieces f
+declined-as says size parser stage reason pieces f g is none t =
+    subst (λ (z : Stage). TakenBy says size parser z pieces f) (sym is) (let u : TakenBy says size parser (HasDeclined reason) pieces g = subst (λ (z : Stage). TakenBy says size parser z pieces g) is t in (u.0, none))
+
+pub declined-puts : (says : Says) (p p' : Taking) (bytes : List ℕ) (t : ℕ) (began : Option Meta) (b : Option Written) (reason : NoCacheReason) (events : List Event) → ((kind : ErrorType) → p.stage ≡ IsOver kind → ⊥) → write_in p.stage ≡ None → OnTaken says p p' (record { bytes = bytes; now = t }) began b → events ≡ []
+    → p'.stage ≡ HasDeclined reason → PutTurn says (C.Feed 0 bytes t) (R.NotCached reason) events (Some (held_put p)) (Some (held_put p'))
+declined-puts says p p' bytes t began b reason events on unwritten taken none stands = record {
+  taken = λ pieces f got.
+      let nothing : f ≡ None = head-filled says p.size p.parser pieces p.stage f got on unwritten in
+      declined-as says p'.size p'.parser p'.stage reason (pieces ++ record { bytes = bytes; now = t } ∷ []) (filled_by events f) (filled_on began b f) stands (ap (λ es. filled_by es f) none ∙ nothing) (taken pieces f got);
+  closes = λ pieces f got. tt;
+}
+
+over-as : (says : Says) (size : Option Counted) (parser : Parsed) (stage : Stage) (kind : ErrorType) (pieces : List Piece) (f g : Option Filled) → stage ≡ IsOver kind → TakenBy says size parser stage pieces g → TakenBy says size parser stage pieces f
+over-as says size parser stage kind pieces f g is t = subst (λ (z : Stage). TakenBy says size parser z pieces f) (sym is) (subst (λ (z : Stage). TakenBy says size parser z pieces g) is t)
+
+pub refused-puts : (says : Says) (p p' : Taking) (bytes : List ℕ) (t : ℕ) (began : Option Meta) (b : Option Written) (e kind : ErrorType) (events : List Event) → OnTaken says p p' (record { bytes = bytes; now = t }) began b → p'.stage ≡ IsOver e
+    → PutTurn says (C.Feed 0 bytes t) (R.Refused kind) events (Some (held_put p)) (Some (held_put p'))
+refused-puts says p p' bytes t began b e kind events taken stands = record {
+  taken = λ pieces f got. over-as says p'.size p'.parser p'.stage e (pieces ++ record { bytes = bytes; now = t } ∷ []) (filled_by events f) (filled_on began b f) stands (taken pieces f got);
+  closes = λ pieces f got. tt;
+}
+
+-- ---- what is answered
+
+module _ (s : Store) (t : Locks) where
+  abbrev pub facts : Key → Stage → Facts
+  facts k stage = facts_in s t (held_put (record { key = k; size = None; parser = AtHead []; stage = stage })).request
+
+  abbrev pub AtStage : Key → Stage → Reply → List Event → Type 0
+  AtStage k stage reply events = FeedsAt (facts k stage) (slot k) stage reply events
+
+  head-refusal : (f : Facts) (e : ErrorType) → f.next ≡ s.next → MayRefusePiece InHead s e → IsFeedRefusal f InHead e
+  head-refusal f error.OutOfMemory is may = tt
+  head-refusal f error.InvalidHttpHeader is may = tt
+  head-refusal f error.ResponseTooLarge is may = tt
+  head-refusal f error.NumbersExhausted is may = subst (λ n. 2 ^ 64 ≤ n) (sym is) may
+  head-refusal f e is may = absurd may
+
+  body-refusal : (f : Facts) (w : ℕ) (id : Option ℕ) (until : ℕ) (e : ErrorType) → f.told ≡ is_told (get s.writes w) → MayRefusePiece (InBody w id until) s e → IsFeedRefusal f (InBody w id until) e
+  body-refusal f w id until error.OutOfMemory is may = tt
+  body-refusal f w id until error.InvalidHttpHeader is may = tt
+  body-refusal f w id until error.ResponseTooLarge is may = tt
+  body-refusal f w id until error.InternalError is may = is ∙ may
+  body-refusal f w id until e is may = absurd may
+
+  -- a parser that has failed takes in nothing more
+  pub not-failed : (says : Says) (size : Option Counted) (parser : Parsed) (stage : Stage) (pieces : List Piece) (f : Option Filled) (e : ErrorType) → TakenBy says size parser stage pieces f → ((kind : ErrorType) → stage ≡ IsOver kind → ⊥) → ((reason : NoCacheReason) → stage ≡ HasDeclined reason → ⊥) → parser ≡ HasFailed e → ⊥
+  not-failed says size parser InHead pieces f e taken on off is = let g : ◌≡◌ {A = Parsed} (HasFailed e) (AtHead (joined pieces)) = sym is ∙ taken.0.stands in cc
+  not-failed says size parser (InBody w id until) pieces None e taken on off is = taken
+  not-failed says size parser (InBody w id until) pieces (Some f) e taken on off is = let r = taken.0 in let g : ◌≡◌ {A = Parsed} (HasFailed e) (AtBody (left_behind r.r.size (length r.r.behind))) = sym is ∙ r.stands in cc
+  not-failed says size parser (HasDeclined reason) pieces f e taken on off is = off reason refl
+  not-failed says size parser (IsOver kind) pieces f e taken on off is = on kind refl
+
+module _ {M : Type 0} (s : Store) (t : Locks) where
+  pub not-over : (stage : Stage) (end : PieceEnd M) → AnswersAgain stage end → end ≡ piece.GoesOn → (kind : ErrorType) → stage ≡ IsOver kind → ⊥
+  not-over stage end again on kind is = let g : piece.GoesOn ≡ piece.Refused kind None = sym on ∙ subst (λ (z : Stage). AnswersAgain z end) is again in cc
+
+  pub goes-answers : (k : Key) (stage : Stage) (end : PieceEnd M) (began : Option Meta) (b : Option Written) (events : List Event) → AnswersAgain stage end → end ≡ piece.GoesOn → BeginsAtHead stage began → events ≡ piece_noted (slot k) (write_in (stage_begun stage began s.next None)) began b → AtStage s t k stage R.Done events
+  goes-answers k InHead end began b events again on begins is = (began, b, inl (refl, is))
+  goes-answers k (InBody w id until) end None b events again on begins is = (b, inl (refl, is))
+  goes-answers k (InBody w id until) end (Some m) b events again on begins is = none-some m begins
+  goes-answers k (HasDeclined reason) end began b events again on begins is = absurd (let g : piece.GoesOn ≡ piece.NotCached reason = sym on ∙ again in cc)
+  goes-answers k (IsOver kind) end began b events again on begins is = absurd (let g : piece.GoesOn ≡ piece.Refused kind None = sym on ∙ again in cc)
+
+  pub declined-answers : (k : Key) (stage : Stage) (end : PieceEnd M) (began : Option Meta) (b : Option Written) (reason : NoCacheReason) (events : List Event) → AnswersAgain stage end → end ≡ piece.NotCached reason → BeginsAtHead stage began → write_in (stage_begun stage began s.next None) ≡ None → events ≡ []
+      → AtStage s t k stage (R.NotCached reason) events
+  declined-answers k InHead end began b reason events again on begins none is = (began, b, inr (inl (reason, none, (refl, is))))
+  declined-answers k (InBody w id until) end None b reason events again on begins none is = none-some w none
+  declined-answers k (InBody w id until) end (Some m) b reason events again on begins none is = none-some m begins
+  declined-answers k (HasDeclined why) end began b reason events again on begins none is = let g : ◌≡◌ {A = PieceEnd M} (piece.NotCached reason) (piece.NotCached why) = sym on ∙ again in let same : reason ≡ why = cc in (ap R.NotCached same, is)
+  declined-answers k (IsOver kind) end began b reason events again on begins none is = absurd (let g : ◌≡◌ {A = PieceEnd M} (piece.NotCached reason) (piece.Refused kind None) = sym on ∙ again in cc)
+
+  pub refused-answers : (says : Says) (size : Option Counted) (parser : Parsed) (pieces : List Piece) (f : Option Filled) (k : Key) (stage : Stage) (end : PieceEnd M) (began : Option Meta) (b : Option Written) (e kind : ErrorType) (writer : Option M) (w : Option ℕ) (events : List Event)
+      → TakenBy says size parser stage pieces f → AnswersAgain stage end → end ≡ piece.Refused e writer → kind ≡ e → BeginsAtHead stage began → MayRefusePiece stage s e ⊎ (parser ≡ HasFailed e) → w ≡ write_in (stage_begun stage began s.next None) → events ≡ piece_noted (slot k) w began b ++ drop_of w
+      → AtStage s t k stage (R.Refused kind) events
+  refused-answers says size parser pieces f k InHead end began b e kind writer w events taken again on same begins why has is =
+      let may : MayRefusePiece InHead s e = elim why [ inl may ↦ may | inr failed ↦ absurd (not-failed s t says size parser InHead pieces f e taken (λ z h. absurd (cc)) (λ z h. absurd (cc)) failed) ] in
+      (began, b, inr (inr (e, head-refusal s t (facts s t k InHead) e refl may, ap R.Refused same, is ∙ ap (λ o. piece_noted (slot k) o began b ++ drop_of o) has)))
+  refused-answers says size parser pieces f k (InBody v id until) end None b e kind writer w events taken again on same begins why has is =
+      let may : MayRefusePiece (InBody v id until) s e = elim why [ inl may ↦ may | inr failed ↦ absurd (not-failed s t says size parser (InBody v id until) pieces f e taken (λ z h. absurd (cc)) (λ z h. absurd (cc)) failed) ] in
+      (b, inr (inr (e, body-refusal s t (facts s t k (InBody v id until)) v id until e refl may, ap R.Refused same, is ∙ ap (λ o. piece_noted (slot k) o None b ++ drop_of o) has)))
+  refused-answers says size parser pieces f k (InBody v id until) end (Some m) b e kind writer w events taken again on same begins why has is = none-some m begins
+  refused-answers says size parser pieces f k (HasDeclined reason) end began b e kind writer w events taken again on same begins why has is = absurd (let g : ◌≡◌ {A = PieceEnd M} (piece.Refused e writer) (piece.NotCached reason) = sym on ∙ again in cc)
+  refused-answers says size parser pieces f k (IsOver over) end None b e kind writer w events taken again on same begins why has is =
+      let g : ◌≡◌ {A = PieceEnd M} (piece.Refused e writer) (piece.Refused over None) = sym on ∙ again in
+      let which : e ≡ over = cc in
+      (ap R.Refused (same ∙ which), is ∙ ap (λ o. piece_noted (slot k) o None b ++ drop_of o) has)
+  refused-answers says size parser pieces f k (IsOver over) end (Some m) b e kind writer w events taken again on same begins why has is = none-some m begins
+
+-- ---- no lock is spoken of
+
+quiet-both : (xs ys : List Event) → AreOfNoLock xs → AreOfNoLock ys → AreOfNoLock (xs ++ ys)
+quiet-both [] ys a b = b
+quiet-both (e ∷ xs) ys a b = (a.0, quiet-both xs ys a.1 b)
+
+quiet-began : (k : ℕ) (w : Option ℕ) (m : Option Meta) → AreOfNoLock (began_noted k w m)
+quiet-began k None m = tt
+quiet-began k (Some w) None = tt
+quiet-began k (Some w) (Some m) = (tt, tt)
+
+quiet-wrote : (w : Option ℕ) (b : Option Written) → AreOfNoLock (wrote_noted w b)
+quiet-wrote None b = tt
+quiet-wrote (Some w) None = tt
+quiet-wrote (Some w) (Some b) = (tt, tt)
+
+pub quiet-dropped : (w : Option ℕ) → AreOfNoLock (drop_of w)
+quiet-dropped None = tt
+quiet-dropped (Some w) = (tt, tt)
+
+pub quiet-piece : (k : ℕ) (w : Option ℕ) (m : Option Meta) (b : Option Written) (old events : List Event) → old ≡ [] → events ≡ old ++ piece_noted k w m b → AreOfNoLock events
+quiet-piece k w m b old events none is = subst AreOfNoLock (sym (is ∙ ap (λ es. es ++ piece_noted k w m b) none)) (quiet-both (began_noted k w m) (wrote_noted w b) (quiet-began k w m) (quiet-wrote w b))
+
+pub quiet-refused-piece : (k : ℕ) (w : Option ℕ) (m : Option Meta) (b : Option Written) (old mid events : List Event) → old ≡ [] → mid ≡ old ++ piece_noted k w m b → events ≡ mid ++ drop_of w → AreOfNoLock events
+quiet-refused-piece k w m b old mid events none one is = subst AreOfNoLock (sym is) (quiet-both mid (drop_of w) (quiet-piece k w m b old mid none one) (quiet-dropped w))
+
+-- ---- how a piece ended, as it is known
+
+pub ends-on : {M : Type 0} (write : M → ℕ) (end : PieceEnd M) (before after : Stage) → end ≡ piece.GoesOn → EndsPiece write end before after → after ≡ before
+ends-on write end before after is ends = subst (λ z. EndsPiece write z before after) is ends
+
+pub ends-declined : {M : Type 0} (write : M → ℕ) (end : PieceEnd M) (reason : NoCacheReason) (before after : Stage) → end ≡ piece.NotCached reason → EndsPiece write end before after → (after ≡ HasDeclined reason) × (write_in before ≡ None)
+ends-declined write end reason before after is ends = subst (λ z. EndsPiece write z before after) is ends
+
+pub ends-refused : {M : Type 0} (write : M → ℕ) (end : PieceEnd M) (e : ErrorType) (writer : Option M) (before after : Stage) → end ≡ piece.Refused e writer → EndsPiece write end before after → (after ≡ IsOver e) × (option_map write writer ≡ write_in before)
+ends-refused write end e writer before after is ends = subst (λ z. EndsPiece write z before after) is ends
+
+pub noted-drop : (w v : Option ℕ) (mid events : List Event) → w ≡ v → events ≡ mid ++ drop_of v → events ≡ mid ++ drop_of w
+noted-drop w v mid events same is = is ∙ ap (λ o. mid ++ drop_of o) (sym same)
+
+pub left-drop : (w v : Option ℕ) (s u : Store) → w ≡ v → u ≡ dropped_by v s → u ≡ dropped_by w s
+left-drop w v s u same is = is ∙ ap (λ o. dropped_by o s) (sym same)
+
+pub refused-answers-of : {M : Type 0} (s : Store) (t : Locks) (says : Says) (p : Taking) (pieces : List Piece) (f : Option Filled) (end : PieceEnd M) (began : Option Meta) (b : Option Written) (e kind : ErrorType) (writer : Option M) (w : Option ℕ) (j : ℕ) (old mid events : List Event)
+    → TakenBy says p.size p.parser p.stage pieces f → AnswersAgain p.stage end → end ≡ piece.Refused e writer → kind ≡ e → BeginsAtHead p.stage began → IfRefused end (λ z. MayRefusePiece p.stage s z ⊎ (p.parser ≡ HasFailed z)) → w ≡ write_in (stage_begun p.stage began s.next None) → j ≡ slot p.key
+    → old ≡ [] → mid ≡ old ++ piece_noted j w began b → events ≡ mid ++ drop_of w → Feeds (facts_in s t (held_put p).request) (Some p) (R.Refused kind) events
+refused-answers-of s t says p pieces f end began b e kind writer w j old mid events taken again on same begins why has at none one is =
+    refused-answers s t says p.size p.parser pieces f p.key p.stage end began b e kind writer w events taken again on same begins
+    (subst (λ z. IfRefused z (λ y. MayRefusePiece p.stage s y ⊎ (p.parser ≡ HasFailed y))) on why) has (is ∙ ap (λ es. es ++ drop_of w) (one ∙ (λ i. none i ++ piece_noted (at i) w began b)))

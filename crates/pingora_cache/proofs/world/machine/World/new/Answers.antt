@@ -1,5 +1,0 @@
-use Rattle.pingora_cache.proofs.Worlds.{sound-new}
-use Rattle.pingora_cache.proofs.world.machine.World.new.Goals as goal
-
-pub invariant_of-result : goal.invariant_of-result
-invariant_of-result g c = (sound-new _ _ c.new.result c.new-2.result _ c.new-3.result.entries c.new-4.result.items c.new.ensures c.new-2.ensures c.new-3.ensures.empty c.new-4.ensures.items, λ _. c.new-4.ensures.items)

@@ -1,0 +1,8 @@
+use Rattle.std.proofs.Common.{Some, subst}
+use Rattle.pingora_cache.specs.Held.{Held, held_put}
+use Rattle.pingora_cache.specs.Moved.{MovesStore}
+use Rattle.pingora_cache.specs.Taking.{taking}
+use Rattle.pingora_cache.proofs.world.puts.feed.Goals as goal
+
+pub returns-clause-moves : goal.returns-clause-moves
+returns-clause-moves g c = subst (λ (x : Held). MovesStore (Some x) c.args.store.now c.feed_in.new.events.items (Some (held_put (taking c.feed_in.new.ctx))) c.feed_in.new.store) c.put.view_is c.feed_in.ensures.moves

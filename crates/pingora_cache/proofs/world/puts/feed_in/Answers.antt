@@ -1,0 +1,29 @@
+use Rattle.std.proofs.Common.{◌∙◌, ap}
+use Rattle.pcache_base.specs.Key.{slot}
+use Rattle.pcache_put_ctx.specs.State.{write_in}
+use Rattle.pingora_cache.specs.Taking.{taking}
+use Rattle.pingora_cache.proofs.PutFed.{declined-moves, ends-declined, ends-on, ends-refused, goes-moves, left-drop, noted-drop, refused-answers-of, refused-moves}
+use Rattle.pingora_cache.proofs.world.puts.feed_in.Goals as goal
+
+pub returns-in-GoesOn-clause-moves : goal.returns-in-GoesOn-clause-moves
+returns-in-GoesOn-clause-moves g c =
+    goes-moves (taking c.args.ctx.now) (taking c.take_piece-began.new.self) c.args.store.now c.take_piece-began.new.storage c.take_piece-began.result.began c.take_piece-began.result.wrote c.slot-slot.result (c.slot-slot.ensures ∙ ap slot c.key.ensures) c.take_piece-began.ensures.began c.take_piece-began.ensures.store
+    c.write_of.result c.args.events.now.items c.note_piece.new.events.items c.requires.none c.write_of.ensures (ends-on _ _ _ _ c.in-GoesOn.is c.take_piece-began.ensures.ends) c.note_piece.ensures.events
+
+pub returns-in-NotCached-clause-moves : goal.returns-in-NotCached-clause-moves
+returns-in-NotCached-clause-moves g c =
+    let how = ends-declined _ _ _ _ _ c.in-NotCached.is c.take_piece-began.ensures.ends in
+    declined-moves (taking c.args.ctx.now) (taking c.take_piece-began.new.self) c.args.store.now c.take_piece-began.new.storage c.take_piece-began.result.began c.take_piece-began.result.wrote c.slot-slot.result (c.slot-slot.ensures ∙ ap slot c.key.ensures) c.take_piece-began.ensures.began c.take_piece-began.ensures.store
+    c.args.events.now.items c.requires.none how.1 (ap write_in how.0)
+
+pub returns-in-Refused-clause-moves : goal.returns-in-Refused-clause-moves
+returns-in-Refused-clause-moves g c =
+    let how = ends-refused _ _ _ _ _ _ c.in-Refused.is c.take_piece-began.ensures.ends in
+    refused-moves (taking c.args.ctx.now) (taking c.take_piece-began.new.self) c.args.store.now c.take_piece-began.new.storage c.take_piece-began.result.began c.take_piece-began.result.wrote c.slot-slot.result (c.slot-slot.ensures ∙ ap slot c.key.ensures) c.take_piece-began.ensures.began c.take_piece-began.ensures.store
+    c.drop_write.new.store c.number_in.result c.args.events.now.items c.note_piece-in-Refused.new.events.items c.drop_write.new.events.items c.requires.none (c.number_in.ensures ∙ how.1) (ap write_in how.0) c.note_piece-in-Refused.ensures.events (noted-drop _ _ _ _ c.number_in.ensures c.drop_write.ensures.events) (left-drop _ _ _ _ c.number_in.ensures c.drop_write.ensures.store)
+
+pub returns-in-Refused-clause-answers : goal.returns-in-Refused-clause-answers
+returns-in-Refused-clause-answers g c t some =
+    let how = ends-refused _ _ _ _ _ _ c.in-Refused.is c.take_piece-began.ensures.ends in
+    refused-answers-of c.args.store.now t g.P.PutPolicy.says (taking c.args.ctx.now) some.0 some.1 c.take_piece-began.result.end c.take_piece-began.result.began c.take_piece-began.result.wrote c.in-Refused.refused c.etype.result c.in-Refused.writer c.number_in.result c.slot-slot.result c.args.events.now.items c.note_piece-in-Refused.new.events.items c.drop_write.new.events.items
+    some.2 c.take_piece-began.ensures.again c.in-Refused.is c.etype.ensures c.take_piece-began.ensures.began c.take_piece-began.ensures.kind (c.number_in.ensures ∙ how.1) (c.slot-slot.ensures ∙ ap slot c.key.ensures) c.requires.none c.note_piece-in-Refused.ensures.events (noted-drop _ _ _ _ c.number_in.ensures c.drop_write.ensures.events)

@@ -1,0 +1,37 @@
+use Rattle.std.proofs.Common.{rules, ◌++◌, ◌∷◌, [], ◌∙◌, ap}
+use Rattle.pingora_cache.specs.Log.{Log}
+use Rattle.pingora_cache.proofs.PutSound.{puts-same}
+use Rattle.pingora_cache.proofs.Worlds.{not-both, puts-step, same-age, sound-same, sound-step, started-once}
+use Rattle.pingora_cache.proofs.world.world_type.World.step.Goals as goal
+
+pub invariant_of-self : goal.invariant_of-self
+invariant_of-self g c = (
+  sound-same _ _ _ _ _ _ _ c.self.inside.history.items _ c.self.invariant.0 c.make_ready.ensures.same_start c.make_ready.ensures.same_history,
+  λ none. c.make_ready.ensures.same_history ∙ c.self.invariant.1 (c.make_ready.ensures.kept none),
+  puts-same _ _ c.self.inside.history.items _ c.self.invariant.2 c.make_ready.ensures.same_history,
+)
+
+pub invariant_of-self-2 : goal.invariant_of-self-2
+invariant_of-self-2 g c = (
+  sound-step _ _ _ _ _ _ _ _ _ _ _ _ _ c.self.inside.history.items _ c.args.call _ _ _ c.self.invariant.0 c.self.invariant.2 (search rules) c.act-reply.ensures.acts c.doubled-noted.ensures.copy c.act-reply.ensures.limits
+      (started-once (λ v. v.items) _ _ _ c.in_ok-make_ready.ensures.known ∙ c.make_ready.ensures.same_start)
+      (c.note.ensures ∙ ap (λ xs. xs ++ record { call = c.args.call; reply = c.doubled-noted.result.0; events = c.act-reply.new.events.items } ∷ []) c.make_ready.ensures.same_history),
+  λ none. not-both _ none c.in_ok-make_ready.ensures.known,
+  puts-step _ _ _ _ _ _ _ _ _ _ _ c.self.inside.history.items _ c.args.call _ _ _ c.self.invariant.0 c.self.invariant.2 (search rules) c.act-reply.ensures.acts c.doubled-noted.ensures.copy
+      (c.note.ensures ∙ ap (λ xs. xs ++ record { call = c.args.call; reply = c.doubled-noted.result.0; events = c.act-reply.new.events.items } ∷ []) c.make_ready.ensures.same_history),
+)
+
+pub returns-clause-legal : goal.returns-clause-legal
+returns-clause-legal g c = (invariant_of-self-2 g c).0.legal
+
+pub returns-clause-puts : goal.returns-clause-puts
+returns-clause-puts g c = (invariant_of-self-2 g c).2.told
+
+pub returns-clause-ok : goal.returns-clause-ok
+returns-clause-ok g c = record {
+  events = c.act-reply.new.events.items;
+  history = search rules;
+  start = search rules;
+  limits = search rules;
+  age = same-age _ _ _ _ _ _ _ _ _ _ _ c.self.inside.history.items c.args.call _ _ c.self.invariant.0 c.self.invariant.2 (search rules) c.act-reply.ensures.acts ∙ ap (λ (l : Log). l.age) c.self.view_is;
+}

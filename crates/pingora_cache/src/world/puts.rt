@@ -1,0 +1,303 @@
+//! Calls of puts: responses that are pushed in, in pieces.
+ghost use Rattle.std.specs.Prelude.{◌≡◌, ◌+◌, ◌≤◌, ◌++◌, [], Some, None, IsSome, List, Option, option_map, vec_len};
+ghost use Rattle.std.specs.Vec.{vec_capacity};
+ghost use Rattle.pcache_lock.specs.Locks.{Locks};
+ghost use Rattle.pcache_put_ctx.specs.Puts.{Piece};
+ghost use Rattle.pcache_put_ctx.specs.State.{Filled, write_in};
+ghost use Rattle.pcache_request.specs.Requests.{dropped_by};
+ghost use Rattle.pingora_cache.specs.Due.{IsOfWorld, KeepsKey};
+ghost use Rattle.pingora_cache.specs.Facts.{facts_in};
+ghost use Rattle.pingora_cache.specs.Held.{IsHeldPut, held_put};
+ghost use Rattle.pingora_cache.specs.Moved.{Moves, MovesStore};
+ghost use Rattle.pingora_cache.specs.PutHistory.{ClosesBy, HasSome, PutTurn, TakenIn};
+ghost use Rattle.pingora_cache.specs.PutSteps.{IsUnwritten, IsWritten, end_noted, end_reply};
+ghost use Rattle.pingora_cache.specs.Rules.{Closes, Feeds, IsOther, drop_of, piece_noted};
+ghost use Rattle.pingora_cache.specs.Step.{IsRow};
+ghost use Rattle.pingora_cache.specs.Taking.{new_put, taking};
+ghost use Rattle.pingora_cache.specs.Waiting.{AreOfNoLock};
+ghost use Rattle.pingora_cache.specs.declared.world.call.Call.TheVariants as calls;
+
+use crate::world::call::Reply;
+use crate::world::entry::Event;
+use crate::world::fill::{end_refused, note_stored};
+use crate::world::parts::Parts;
+use crate::world::policy::{ByType, PutPolicy};
+use bytes::Bytes;
+use pcache_base::key::{CacheHashKey, CacheKey};
+use pcache_base::moment::Moment;
+use pcache_evict::eviction::{CacheEntryKey, EvictionManager};
+use pcache_meta::meta::CacheMeta;
+use pcache_put_ctx::boxed::Boxed;
+use pcache_put_ctx::context::CachePutCtx;
+use pcache_put_ctx::report::{PieceEnd, PieceReport, PutEnd, PutReport, Written};
+use pcache_store::memory::{MemCache, MemMissHandler};
+use pcache_store::storage::HandleMiss;
+use std::alloc::Global;
+use std::marker::Model;
+
+/// An open put.
+pub struct OpenPut<P: PutPolicy> {
+    ctx: CachePutCtx<ByType<P>, MemCache>,
+}
+
+impl<P: PutPolicy> Model for OpenPut<P> {
+    ghost use Rattle.pingora_cache.specs.Held.{Held, held_put};
+    ghost use Rattle.pingora_cache.specs.Taking.{taking};
+
+    ghost Value = { Held };
+
+    ghost view = { λ a. held_put (taking a.ctx) };
+}
+
+impl<P: PutPolicy> OpenPut<P> {
+    /// A put of a key, whose body may have so many bytes if there is a limit.
+    pub(crate) fn new(alloc: Global, key: CacheKey, limit: Option<usize>) -> OpenPut<P>
+        ensures put { result ≡ held_put (new_put key limit) }
+        ensures taken { TakenIn P.says (Some result) [] None }
+    {
+        let mut ctx = CachePutCtx::new(alloc, ByType::new(), key);
+        if let Some(limit) = limit {
+            ctx.set_max_file_size_bytes(limit);
+        }
+        OpenPut { ctx }
+    }
+
+    /// This is a put. It does nothing.
+    pub(crate) fn is_held(&self)
+        ensures held { IsHeldPut self.now }
+        ensures some { IsSome self.now.put }
+    {
+        let _ = &self.ctx; // for the prover: once a field is used, the invariant is known
+    }
+
+    /// Drops the write, if one is in flight.
+    pub(crate) fn end(self, store: &mut MemCache)
+        ensures { store.new ≡ dropped_by self.request.write store.old }
+    {
+        let OpenPut { ctx } = self;
+        ctx.end(store);
+    }
+}
+
+// The number of the write of a put, if one is in flight.
+fn write_of<P: PutPolicy>(ctx: &CachePutCtx<ByType<P>, MemCache>) -> Option<u128>
+    ensures { result ≡ write_in ctx.now.stage }
+{
+    match ctx.writer() {
+        Some(writer) => Some(u128::from(writer.number())),
+        None => None,
+    }
+}
+
+// The number of a write that was handed out, if one was.
+fn number_in(writer: &Option<MemMissHandler>) -> Option<u128>
+    ensures { result ≡ option_map (λ w. w.number) writer.now }
+{
+    match writer {
+        Some(writer) => Some(u128::from(writer.number())),
+        None => None,
+    }
+}
+
+/// Takes in a piece.
+pub(crate) fn feed<P: PutPolicy>(
+    put: &mut OpenPut<P>,
+    store: &mut MemCache,
+    events: &mut Vec<Event>,
+    bytes: &Bytes,
+    now: Moment,
+) -> Reply
+    requires none { events.old.items ≡ [] }
+    requires room { 3 ≤ vec_capacity events.old }
+    ensures answers { (t : Locks) → HasSome P.says (Some put.old) → Feeds (facts_in store.old t put.old.request) put.old.put result events.new.items }
+    ensures other { IsOther result }
+    ensures moves { MovesStore (Some put.old) store.old events.new.items (Some put.new) store.new }
+    ensures keeps { KeepsKey (Some put.old) (Some put.new) }
+    ensures row { IsRow (calls.Feed 0 bytes.now now) result events.new.items (Some put.old) (Some put.new) }
+    ensures puts { PutTurn P.says (calls.Feed 0 bytes.now now) result events.new.items (Some put.old) (Some put.new) }
+    ensures quiet { AreOfNoLock events.new.items }
+{
+    feed_in(&mut put.ctx, store, events, bytes, now)
+}
+
+// Takes in a piece of the response that a context takes in.
+// It is the second half of `feed`: a function over the context alone, whose clauses those of `feed` are found from.
+fn feed_in<P: PutPolicy>(
+    ctx: &mut CachePutCtx<ByType<P>, MemCache>,
+    store: &mut MemCache,
+    events: &mut Vec<Event>,
+    bytes: &Bytes,
+    now: Moment,
+) -> Reply
+    requires none { events.old.items ≡ [] }
+    requires room { 3 ≤ vec_capacity events.old }
+    ensures answers { (t : Locks) → HasSome P.says (Some (held_put (taking ctx.old))) → Feeds (facts_in store.old t (held_put (taking ctx.old)).request) (Some (taking ctx.old)) result events.new.items }
+    ensures other { IsOther result }
+    ensures moves { MovesStore (Some (held_put (taking ctx.old))) store.old events.new.items (Some (held_put (taking ctx.new))) store.new }
+    ensures keeps { KeepsKey (Some (held_put (taking ctx.old))) (Some (held_put (taking ctx.new))) }
+    ensures row { IsRow (calls.Feed 0 bytes.now now) result events.new.items (Some (held_put (taking ctx.old))) (Some (held_put (taking ctx.new))) }
+    ensures puts { PutTurn P.says (calls.Feed 0 bytes.now now) result events.new.items (Some (held_put (taking ctx.old))) (Some (held_put (taking ctx.new))) }
+    ensures quiet { AreOfNoLock events.new.items }
+{
+    let slot = ctx.key().slot();
+    let PieceReport { began, wrote, end } = ctx.take_piece(bytes.as_slice(), store, now);
+    match end {
+        PieceEnd::GoesOn => {
+            note_piece(slot, write_of(ctx), began, wrote, events);
+            Reply::Done
+        }
+        PieceEnd::NotCached(reason) => Reply::NotCached(reason),
+        PieceEnd::Refused(refused, writer) => {
+            note_piece(slot, number_in(&writer), began, wrote, events);
+            drop_write(writer, store, events);
+            Reply::Refused(refused.etype())
+        }
+    }
+}
+
+// Notes what a piece did to the write that is in flight.
+fn note_piece(
+    slot: u128,
+    write: Option<u128>,
+    began: Option<Boxed<CacheMeta>>,
+    wrote: Option<Written>,
+    events: &mut Vec<Event>,
+)
+    requires { vec_len events.old + 2 ≤ vec_capacity events.old }
+    ensures events { events.new.items ≡ events.old.items ++ piece_noted slot write began wrote }
+    ensures len { vec_len events.new ≤ vec_len events.old + 2 }
+    ensures room { vec_capacity events.new ≡ vec_capacity events.old }
+{
+    let Some(write) = write else {
+        return;
+    };
+    if let Some(meta) = began {
+        events.push_reserved(Event::Begin { write, slot, meta });
+    }
+    if let Some(Written { bytes, eof }) = wrote {
+        events.push_reserved(Event::Wrote { write, bytes, eof });
+    }
+}
+
+// Drops a write, if there is one, and notes that.
+fn drop_write(writer: Option<MemMissHandler>, store: &mut MemCache, events: &mut Vec<Event>)
+    requires { vec_len events.old + 1 ≤ vec_capacity events.old }
+    ensures events { events.new.items ≡ events.old.items ++ drop_of (option_map (λ w. w.number) writer) }
+    ensures store { store.new ≡ dropped_by (option_map (λ w. w.number) writer) store.old }
+{
+    if let Some(writer) = writer {
+        let write = u128::from(writer.number());
+        writer.drop_write(store);
+        events.push_reserved(Event::Dropped { write });
+    }
+}
+
+/// Ends a put before its response has come.
+pub(crate) fn drop_put<P: PutPolicy>(put: OpenPut<P>, store: &mut MemCache, events: &mut Vec<Event>)
+    requires none { events.old.items ≡ [] }
+    requires room { 3 ≤ vec_capacity events.old }
+    ensures events { events.new.items ≡ drop_of put.request.write }
+    ensures moves { MovesStore (Some put) store.old events.new.items None store.new }
+{
+    let OpenPut { ctx } = put;
+    let write = write_of(&ctx);
+    ctx.end(store);
+    if let Some(write) = write {
+        events.push_reserved(Event::Dropped { write });
+    }
+}
+
+/// Ends a put whose response has come.
+pub(crate) fn close_put<M: EvictionManager, P: PutPolicy>(
+    put: OpenPut<P>,
+    parts: &mut Parts<M>,
+    events: &mut Vec<Event>,
+) -> Reply
+    requires none { events.old.items ≡ [] }
+    requires room { 3 ≤ vec_capacity events.old }
+    ensures answers { HasSome P.says (Some put) → Closes (facts_in parts.old.store parts.old.lock put.request) put.put result events.new.items }
+    ensures other { IsOther result }
+    ensures moves { IsOfWorld put.request → HasSome P.says (Some put) → Moves (M.limits parts.old.manager) (Some put) parts.old.store (M.tracked parts.old.manager) events.new.items None parts.new.store (M.tracked parts.new.manager) }
+    ensures closes { (pieces : List Piece) (f : Option Filled) → TakenIn P.says (Some put) pieces f → ClosesBy P.says (calls.Close 0) (Some put) pieces f result }
+    ensures quiet { AreOfNoLock events.new.items }
+    ensures lock { parts.new.lock ≡ parts.old.lock }
+    ensures limits { M.limits parts.new.manager ≡ M.limits parts.old.manager }
+{
+    let OpenPut { ctx } = put;
+    close_in(ctx, parts, events)
+}
+
+// Ends the put of a context.
+// It is the second half of a close: a function over the context alone, whose clauses those of the call are found
+// from.
+fn close_in<M: EvictionManager, P: PutPolicy>(
+    ctx: CachePutCtx<ByType<P>, MemCache>,
+    parts: &mut Parts<M>,
+    events: &mut Vec<Event>,
+) -> Reply
+    requires none { events.old.items ≡ [] }
+    requires room { 3 ≤ vec_capacity events.old }
+    ensures answers { HasSome P.says (Some (held_put (taking ctx))) → Closes (facts_in parts.old.store parts.old.lock (held_put (taking ctx)).request) (Some (taking ctx)) result events.new.items }
+    ensures other { IsOther result }
+    ensures moves { IsOfWorld (held_put (taking ctx)).request → HasSome P.says (Some (held_put (taking ctx))) → Moves (M.limits parts.old.manager) (Some (held_put (taking ctx))) parts.old.store (M.tracked parts.old.manager) events.new.items None parts.new.store (M.tracked parts.new.manager) }
+    ensures closes { (pieces : List Piece) (f : Option Filled) → TakenIn P.says (Some (held_put (taking ctx))) pieces f → ClosesBy P.says (calls.Close 0) (Some (held_put (taking ctx))) pieces f result }
+    ensures quiet { AreOfNoLock events.new.items }
+    ensures lock { parts.new.lock ≡ parts.old.lock }
+    ensures limits { M.limits parts.new.manager ≡ M.limits parts.old.manager }
+{
+    let mut ctx = ctx;
+    let write = write_of(&ctx);
+    let slot = ctx.key().slot();
+    let PutReport { end, entry } = ctx.end_put(&mut parts.store, &mut parts.manager);
+    ctx.end(&mut parts.store);
+    match write {
+        Some(write) => end_written(write, slot, end, entry, events),
+        None => end_unwritten(end),
+    }
+}
+
+// What is answered at the end of a put that made no write.
+fn end_unwritten(end: PutEnd) -> Reply
+    requires { IsUnwritten end }
+    ensures { result ≡ end_reply end }
+{
+    match end {
+        PutEnd::NotCached(reason) => Reply::NotCached(reason),
+        PutEnd::Refused(refused) => Reply::Refused(refused.etype()),
+        PutEnd::Dropped(_) | PutEnd::Stored(_) | PutEnd::Withdrawn(_) => unreachable!(),
+    }
+}
+
+// What is noted and answered at the end of a put's write.
+fn end_written(
+    write: u128,
+    slot: u128,
+    end: PutEnd,
+    entry: Option<CacheEntryKey>,
+    events: &mut Vec<Event>,
+) -> Reply
+    requires none { events.old.items ≡ [] }
+    requires room { 3 ≤ vec_capacity events.old }
+    requires written { IsWritten end entry }
+    ensures noted { events.new.items ≡ end_noted write slot end entry }
+    ensures reply { result ≡ end_reply end }
+{
+    match end {
+        PutEnd::NotCached(_) | PutEnd::Refused(_) => unreachable!(),
+        PutEnd::Stored(report) => {
+            let Some(entry) = entry else { unreachable!() };
+            note_stored(write, entry.into_key(), report, None, events)
+        }
+        PutEnd::Dropped(refused) => {
+            let kind = refused.etype();
+            events.push_reserved(end_refused(write, kind));
+            Reply::Refused(kind)
+        }
+        PutEnd::Withdrawn(refused) => {
+            let is_stored = true;
+            events.push_reserved(Event::Finish { write, is_stored });
+            events.push_reserved(Event::Purge { slot });
+            Reply::Refused(refused.etype())
+        }
+    }
+}

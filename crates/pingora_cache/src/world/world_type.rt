@@ -1,0 +1,317 @@
+//! The world itself.
+ghost use Rattle.std.specs.Prelude.{◌≡◌, ◌≢◌, ◌+◌, ◌<◌, ◌≤◌, ◌⊎◌, ◌++◌, ◌∷◌, [], Some, None, IsSome, IfSome, option_map, IfOk, IfErr, OnOk, OnErr, min, ◌^◌, ◌-◌, vec_len};
+ghost use Rattle.pcache_base.specs.declared.error.ErrorType.TheVariants.{OutOfMemory};
+ghost use Rattle.std.specs.Vec.{vec_capacity};
+ghost use Rattle.pingora_cache.specs.Log.{started};
+ghost use Rattle.pingora_cache.specs.Rules.{IsCopy};
+
+use crate::world::call::{Call, Reply};
+use crate::world::entry::{Entry, Event, Events};
+use crate::world::give::act;
+use crate::world::open::Open;
+use crate::world::parts::Parts;
+use crate::world::policy::PutPolicy;
+use crate::world::vary::spare_of;
+use pcache_base::error::{ErrorType, Result};
+use pcache_evict::eviction::{CacheEntryKey, EvictionManager};
+use pcache_files::saved::SavedManager;
+use pcache_lock::lock::CacheLock;
+use pcache_store::memory::MemCache;
+use std::alloc::Global;
+use std::collections::BTreeMap;
+use std::fs::Files;
+use std::marker::Model;
+use std::time::Duration;
+
+// How many events a call has at the most.
+const MOST_EVENTS: usize = 3;
+
+/// The totals that an eviction manager reports.
+#[derive(Clone, Copy, Debug, PartialEq, Eq)]
+pub struct Totals {
+    pub weight: usize,
+    pub items: usize,
+    pub evicted_weight: usize,
+    pub evicted_items: usize,
+}
+
+/// Requests and puts over one store, one eviction manager and one lock table, with the history of what
+/// was asked. Each call is whole: it is asked, answered and noted before the next.
+///
+/// The history is legal at all times: each entry is one that the entries before it give. All puts go by
+/// the policy `P`.
+pub struct World<M: EvictionManager, P: PutPolicy> {
+    alloc: Global,
+    parts: Parts<M>,
+    requests: BTreeMap<u64, Open<P>>,
+    start: Option<Vec<(CacheEntryKey, usize)>>,
+    history: Vec<Entry>,
+}
+
+impl<M: EvictionManager, P: PutPolicy> Model for World<M, P> {
+    ghost use Rattle.std.specs.Prelude.{◌≡◌, None, [], reverse};
+    ghost use Rattle.std.specs.Option.{option_map};
+    ghost use Rattle.std.specs.FinMap as map;
+    ghost use Rattle.pingora_cache.specs.Log.{Log, started};
+    ghost use Rattle.pingora_cache.specs.LogCode.{log_code};
+    ghost use Rattle.pingora_cache.specs.PutHistory.{PutsSound};
+    ghost use Rattle.pingora_cache.specs.Sound.{IsSound};
+
+    ghost Value = { Log };
+
+    ghost coded = { log_code };
+
+    ghost view = { λ w. record { history = w.history.items; start = started (option_map (λ v. v.items) w.start) (M.tracked w.parts.manager); limits = M.limits w.parts.manager; evicted = M.evicted w.parts.manager; age = w.parts.lock.age_timeout } };
+
+    ghost invariant = { λ w. IsSound (M.limits w.parts.manager) (started (option_map (λ v. v.items) w.start) (M.tracked w.parts.manager)) (M.tracked w.parts.manager) w.parts.store w.parts.lock (map.from_entries w.requests.entries) (reverse w.history.items) × (w.start ≡ None → w.history.items ≡ []) × PutsSound P.says (map.from_entries w.requests.entries) (reverse w.history.items) };
+}
+
+impl<M: EvictionManager, P: PutPolicy> World<M, P> {
+    ghost use Rattle.std.specs.Duration.{as_nanos};
+    ghost use Rattle.std.specs.FinMap as map;
+    ghost use Rattle.pingora_cache.specs.Events.{stored, slots, tracked};
+    ghost use Rattle.pingora_cache.specs.Log.{Log, Adds, AddsAll, AddsSome, HasLegal, events_in};
+    ghost use Rattle.pingora_cache.specs.PutHistory.{AreTold};
+    ghost use Rattle.std.specs.Prelude.{reverse};
+    ghost use Rattle.pcache_base.specs.declared.error.ErrorType.TheVariants.{OutOfMemory};
+    ghost use Rattle.pcache_evict.specs.Tracked.{weight};
+    ghost use Rattle.pingora_cache.specs.Headline.{EvictsNothingWithin, FindsUntouched, FinishesUntouched, GivesWhereNoneWaits, HandsOnUnhidden, HitsTheLast, StaysWithin};
+
+    /// A world with no requests, nothing stored and an empty history. Permits age out after
+    /// `age_timeout`.
+    pub fn new(alloc: Global, manager: M, age_timeout: Duration) -> World<M, P>
+        ensures { result ≡ record { history = []; start = M.tracked manager; limits = M.limits manager; evicted = M.evicted manager; age = as_nanos age_timeout } }
+    {
+        World {
+            alloc,
+            parts: Parts {
+                store: MemCache::new(alloc),
+                manager,
+                lock: CacheLock::new(alloc, age_timeout),
+            },
+            requests: BTreeMap::new(alloc),
+            start: None,
+            history: Vec::new(alloc),
+        }
+    }
+
+    /// What was asked, answered and done, in order.
+    pub fn history(&self) -> &[Entry]
+        ensures entries { result.now ≡ self.now.history }
+        ensures legal { HasLegal self.now }
+        ensures puts { AreTold P.says (reverse self.now.history) }
+    {
+        self.history.as_slice()
+    }
+
+    /// What is promised of the history, whatever calls were made: a look-up finds a key exactly when
+    /// a write of it, in flight or finished, met no removal since it began, and hands on what it finds
+    /// unless a variant hides it; the finish of a write
+    /// succeeds exactly when it met none; a complete hit reads the body that was finished last; the
+    /// complete bodies sum to at most the limit; nothing is evicted within the limits; a request for
+    /// a lock is given the permit exactly when no permit waits under its key.
+    ///
+    /// It does nothing. Who calls it has these facts of the world at that moment, also behind a lock.
+    pub fn headline(&self)
+        ensures finds { FindsUntouched self.now }
+        ensures hands_on { HandsOnUnhidden self.now }
+        ensures finishes { FinishesUntouched self.now }
+        ensures hits { HitsTheLast self.now }
+        ensures within { StaysWithin self.now }
+        ensures evicts { EvictsNothingWithin self.now }
+        ensures locks { GivesWhereNoneWaits self.now }
+    {
+        let _history = self.history();
+    }
+
+    /// What the manager held before the first call, in no order; nothing before that call.
+    pub fn start(&self) -> &[(CacheEntryKey, usize)]
+        ensures { (map.from_entries result.now ≡ self.now.start) ⊎ ((result.now ≡ []) × (self.now.history ≡ [])) }
+    {
+        match &self.start {
+            Some(start) => start.as_slice(),
+            None => &[],
+        }
+    }
+
+    /// The lengths of the complete bodies, added up: at most the manager's limit on weight.
+    pub fn stored_bytes(&self) -> u128
+        ensures value { result ≡ stored (events_in self.now) }
+        ensures within { result ≤ self.now.limits.weight }
+    {
+        self.parts.store.stored_bytes()
+    }
+
+    /// The number of complete bodies: at most the manager's watermark, if it has one.
+    pub fn slots(&self) -> usize
+        ensures value { result ≡ slots (events_in self.now) }
+        ensures within { IfSome self.now.limits.watermark (λ most. result ≤ most) }
+    {
+        self.parts.store.slots()
+    }
+
+    /// The manager's totals.
+    pub fn totals(&self) -> Totals
+        ensures weight { result.weight ≡ min (weight (tracked self.now.start (events_in self.now))) (2 ^ 64 - 1) }
+        ensures items { result.items ≡ map.len (tracked self.now.start (events_in self.now)) }
+        ensures evicted_weight { result.evicted_weight ≡ self.now.evicted.weight }
+        ensures evicted_items { result.evicted_items ≡ self.now.evicted.count }
+    {
+        Totals {
+            weight: self.parts.manager.total_size(),
+            items: self.parts.manager.total_items(),
+            evicted_weight: self.parts.manager.evicted_size(),
+            evicted_items: self.parts.manager.evicted_items(),
+        }
+    }
+
+    /// Makes one call and notes it. Refused when memory runs out, it changes nothing and notes
+    /// nothing; a refusal inside the call is its reply.
+    pub fn step(&mut self, call: Call) -> Result<Reply>
+        ensures ok { IfOk result (λ reply. Adds self.old call reply self.new) }
+        ensures legal { HasLegal self.new }
+        ensures puts { AreTold P.says (reverse self.new.history) }
+        ensures err { OnErr result (self.new ≡ self.old) }
+        ensures kind { IfErr result (λ e. e ≡ OutOfMemory) }
+    {
+        // That the requests are fewer than their numbers bounds their read locks.
+        let _open = self.requests.len();
+        let mut events = Vec::with_capacity(self.alloc, MOST_EVENTS)?;
+        let mut spare = spare_of(&call)?;
+        make_ready(&mut self.history, &mut self.start, &self.parts.manager)?;
+        let reply = act(
+            self.alloc,
+            &mut self.requests,
+            &mut self.parts,
+            &mut events,
+            &call,
+            &mut spare,
+        );
+        let (noted, answered) = doubled(reply);
+        note(&mut self.history, call, noted, events);
+        Ok(answered)
+    }
+
+    /// Makes the calls in order, and answers their replies. Refused when memory runs out, it made
+    /// those of a beginning of the list.
+    pub fn run(&mut self, calls: Vec<Call>) -> Result<Vec<Reply>>
+        ensures ok { IfOk result (λ replies. AddsAll self.old calls.items replies.items self.new) }
+        ensures legal { HasLegal self.new }
+        ensures err { OnErr result (AddsSome self.old calls.items self.new) }
+        ensures kind { IfErr result (λ e. e ≡ OutOfMemory) }
+    {
+        let mut replies = Vec::with_capacity(self.alloc, calls.len())?;
+        for call in calls {
+            let reply = self.step(call)?;
+            replies.push_reserved(reply);
+        }
+        Ok(replies)
+    }
+}
+
+impl<M: SavedManager, P: PutPolicy> World<M, P> {
+    ghost use Rattle.pingora_cache.specs.Log.{Log, HasLegal};
+    ghost use Rattle.pcache_base.specs.declared.error.ErrorType.TheVariants.{InternalError, Io, OutOfMemory};
+
+    /// Saves what the manager holds in a folder, which is made with its parents if it is missing.
+    /// Each file is written under a temporary name, which ends in the suffix, and then renamed. It is
+    /// no call, and stands in no history.
+    pub fn save<R: Files>(&self, files: &R, dir: &str, suffix: u32) -> Result<()>
+        ensures kinds { IfErr result (λ e. (e ≡ OutOfMemory) ⊎ (e ≡ InternalError) ⊎ (e ≡ Io)) }
+    {
+        self.parts.manager.save(self.alloc, files, dir, suffix)
+    }
+
+    /// Puts in what was saved in a folder, before the first call: the history then starts from what the
+    /// manager holds. Answers how many of several files were skipped, or nothing if a call was
+    /// made, and then changes nothing. Nothing is evicted. It is no call itself, and stands in no
+    /// history.
+    pub fn load<R: Files>(&mut self, files: &R, dir: &str) -> Result<Option<usize>>
+        ensures late { self.old.history ≢ [] → (IfOk result (λ skipped. skipped ≡ None) × IfErr result (λ e. ⊥) × (self.new ≡ self.old)) }
+        ensures first { self.old.history ≡ [] → IfOk result (λ skipped. IsSome skipped) }
+        ensures history { self.new.history ≡ self.old.history }
+        ensures limits { self.new.limits ≡ self.old.limits }
+        ensures evicted { self.new.evicted ≡ self.old.evicted }
+        ensures age { self.new.age ≡ self.old.age }
+        ensures legal { HasLegal self.new }
+        ensures err { OnErr result (self.new ≡ self.old) }
+        ensures kinds { IfErr result (λ e. (e ≡ OutOfMemory) ⊎ (e ≡ InternalError) ⊎ (e ≡ Io)) }
+    {
+        if !self.history.is_empty() {
+            return Ok(None);
+        }
+        let skipped = self.parts.manager.load(self.alloc, files, dir)?;
+        self.start = None;
+        Ok(Some(skipped))
+    }
+}
+
+impl<M: EvictionManager, P: PutPolicy> Drop for World<M, P> {
+    // Ends what is open.
+    fn drop(self) {
+        let World {
+            alloc: _,
+            parts,
+            mut requests,
+            start: _,
+            history: _,
+        } = self;
+        let Parts {
+            mut store,
+            manager,
+            mut lock,
+        } = parts;
+        while let Some((_number, open)) = requests.pop_first() {
+            open.end(&mut store, &mut lock);
+        }
+        requests.destroy_empty();
+        drop(manager);
+    }
+}
+
+// Makes room for one entry more, and before the first call takes down what the manager holds.
+fn make_ready<M: EvictionManager>(
+    history: &mut Vec<Entry>,
+    start: &mut Option<Vec<(CacheEntryKey, usize)>>,
+    manager: &M,
+) -> Result<()>
+    ensures same_history { history.new.items ≡ history.old.items }
+    ensures same_start { started (option_map (λ v. v.items) start.new) (M.tracked manager.now) ≡ started (option_map (λ v. v.items) start.old) (M.tracked manager.now) }
+    ensures kept { start.new ≡ None → start.old ≡ None }
+    ensures known { OnOk result (IsSome start.new) }
+    ensures room { OnOk result (vec_len history.new < vec_capacity history.new) }
+    ensures kind { IfErr result (λ e. e ≡ OutOfMemory) }
+{
+    history.reserve(1)?;
+    if start.is_none() {
+        *start = Some(manager.entries()?);
+    }
+    Ok(())
+}
+
+// A reply for the history and one to be answered. If the copy is refused, that is the reply.
+fn doubled(reply: Reply) -> (Reply, Reply)
+    ensures same { result.0 ≡ result.1 }
+    ensures copy { IsCopy reply result.0 }
+{
+    match reply.copied() {
+        Ok(copy) => (reply, copy),
+        Err(_) => (
+            Reply::Refused(ErrorType::OutOfMemory),
+            Reply::Refused(ErrorType::OutOfMemory),
+        ),
+    }
+}
+
+// Adds an entry to a history that has room for it. Its events keep no more room than they take.
+fn note(history: &mut Vec<Entry>, call: Call, reply: Reply, mut events: Vec<Event>)
+    requires { vec_len history.old < vec_capacity history.old }
+    ensures { history.new.items ≡ history.old.items ++ record { call = call; reply = reply; events = events.items } ∷ [] }
+{
+    events.shrink_to_fit();
+    history.push_reserved(Entry {
+        call,
+        reply,
+        events: Events::new(events),
+    });
+}

@@ -1,0 +1,125 @@
+//! Calls of a world, written in words.
+ghost use Rattle.std.specs.Prelude.{◌≡◌, IfOk};
+
+use bytes::Bytes;
+use http::StatusCode;
+use pcache_base::error::Result;
+use pcache_base::key::CacheKey;
+use pcache_base::moment::Moment;
+use pcache_evict::eviction::simple_lru::Manager;
+use pcache_meta::header::ResponseHeader;
+use pcache_meta::meta::CacheMeta;
+use pcache_shared::{Opening, SharedWorld};
+use pingora_cache::HitStatus;
+use pingora_cache::world::World;
+use pingora_cache::world::boxed::Boxed;
+use pingora_cache::world::call::Call;
+use pingora_cache::world::policy::BySelf;
+use std::alloc::Global;
+use std::time::Duration;
+
+/// A world over one recency list.
+pub type ListWorld = World<Manager, BySelf>;
+
+/// The same before it is shared.
+pub type ListOpening = Opening<Manager, BySelf>;
+
+/// The same, shared under a mark.
+pub type SharedList<K> = SharedWorld<Manager, BySelf, K>;
+
+const NOW: Moment = Moment::EPOCH;
+
+// A key with this primary part.
+fn key_of(alloc: Global, name: &str) -> Result<CacheKey> {
+    let primary = name.as_bytes().to_vec(alloc)?;
+    Ok(CacheKey::new(primary, String::from_str(alloc, "1")?))
+}
+
+fn meta_of(alloc: Global) -> CacheMeta {
+    let header = ResponseHeader::build(alloc, StatusCode::OK);
+    CacheMeta::new(Moment::from_secs(60), NOW, 0, 0, header)
+}
+
+fn key_call(alloc: Global, request: u64, name: &str) -> Result<Call> {
+    let key = Boxed::new(alloc, key_of(alloc, name)?)?;
+    Ok(Call::Key { request, key })
+}
+
+fn write_call(request: u64, text: &'static str, eof: bool) -> Call {
+    let bytes = Bytes::from_static(text.as_bytes());
+    Call::Write {
+        request,
+        bytes,
+        eof,
+    }
+}
+
+// The call with this word of this request, and with a text that not all calls need.
+fn call_of(alloc: Global, word: &str, request: u64, text: &'static str) -> Result<Option<Call>> {
+    Ok(Some(match word {
+        "open" => Call::Open {
+            request,
+            options: None,
+        },
+        "key" => key_call(alloc, request, text)?,
+        "look" => Call::Look {
+            request,
+            now: NOW,
+            decision: None,
+        },
+        "found" => Call::Found {
+            request,
+            status: HitStatus::Fresh,
+            now: NOW,
+        },
+        "miss" => Call::Miss { request },
+        "meta" => Call::Meta {
+            request,
+            meta: Boxed::new(alloc, meta_of(alloc))?,
+        },
+        "begin" => Call::Begin { request },
+        "write" => write_call(request, text, false),
+        "write_last" => write_call(request, text, true),
+        "finish" => Call::Finish { request },
+        "read" => Call::Read { request },
+        "purge" => Call::Purge { request },
+        "end" => Call::End { request },
+        _ => return Ok(None),
+    }))
+}
+
+/// The call of a line: its word, the number of its request and perhaps a text.
+pub fn read_call(alloc: Global, line: &'static str) -> Result<Option<Call>> {
+    let mut words = line.split(' ');
+    let word = words.next().unwrap_or("");
+    let number = words.next().unwrap_or("");
+    let text = words.next().unwrap_or("");
+    match number.parse::<u64>() {
+        Ok(request) => call_of(alloc, word, request, text),
+        Err(_) => Ok(None),
+    }
+}
+
+/// The calls of a text, one a line. A line that is none is left out.
+pub fn read_script(alloc: Global, text: &'static str) -> Result<Vec<Call>> {
+    let mut calls = Vec::new(alloc);
+    for line in text.lines() {
+        if let Some(call) = read_call(alloc, line)? {
+            calls.push(call)?;
+        }
+    }
+    Ok(calls)
+}
+
+/// An empty world of at most nine bytes.
+pub fn world_of(alloc: Global) -> Result<ListWorld> {
+    let manager = Manager::new(alloc, 9)?;
+    Ok(World::new(alloc, manager, Duration::from_secs(10)))
+}
+
+/// The same, to be shared by two.
+pub fn opening_of(alloc: Global) -> Result<ListOpening>
+    ensures { IfOk result (λ opening. opening.shares ≡ 2) }
+{
+    Ok(Opening::new(alloc, world_of(alloc)?, 2)?)
+}

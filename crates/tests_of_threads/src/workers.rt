@@ -1,0 +1,207 @@
+//! Two workers, each in a thread of its own.
+ghost use Rattle.std.specs.Prelude.{◌≡◌, length};
+
+use crate::calls::{ListOpening, ListWorld, SharedList, opening_of, read_script};
+use crate::gates::{Held, Open};
+use pcache_base::error::Result;
+use pcache_shared::{Gate, Mark, Receipt, run_workers};
+use pingora_cache::world::call::Call;
+use pingora_cache::world::entry::Entry;
+use std::alloc::Global;
+use std::marker::Brand;
+use std::sync::Wait;
+use std::test::Fail;
+use std::thread::Threads;
+
+type Ended = (ListWorld, Vec<Vec<Receipt>>);
+
+fn run_named<K: Mark + Send + Sync, G: Gate + Sync, R: Threads + Wait + Sync>(
+    rt: &R,
+    alloc: Global,
+    opening: ListOpening,
+    scripts: &[Vec<Call>],
+    gate: &G,
+) -> Result<Ended>
+    requires mark { opening ≡ K.opened }
+    requires count { length scripts.now ≡ opening.shares }
+{
+    let (shared, mut shares) = SharedList::<K>::new(alloc, opening)?;
+    run_workers(rt, &shared, scripts, shares.as_mut_slice(), gate)?;
+    Ok(shared.close(shares))
+}
+
+// Runs two scripts, each in a thread of its own.
+fn run<G: Gate + Sync, R: Threads + Wait + Sync>(
+    rt: &R,
+    alloc: Global,
+    first: &'static str,
+    second: &'static str,
+    gate: &G,
+) -> Result<Ended> {
+    let scripts = [read_script(alloc, first)?, read_script(alloc, second)?];
+    let opening = opening_of(alloc)?;
+    run_named::<Brand, G, R>(rt, alloc, opening, &scripts, gate)
+}
+
+// Whether each place below `count` is that of one receipt, and no other place is.
+fn are_the_places(receipts: &[Vec<Receipt>], count: usize) -> bool {
+    let mut seen = 0usize;
+    let mut places = 0u64;
+    for list in receipts {
+        for receipt in list {
+            if receipt.place >= count {
+                return false;
+            }
+            seen = seen.wrapping_add(1);
+            places |= bit(receipt.place);
+        }
+    }
+    seen == count && places == bit(count).wrapping_sub(1)
+}
+
+// The number with this bit alone.
+fn bit(place: usize) -> u64 {
+    match u32::try_from(place) {
+        Ok(place) => 1u64.wrapping_shl(place),
+        Err(_) => 0,
+    }
+}
+
+// Whether an entry has a receipt's request and reply.
+fn is_of(alloc: Global, entry: &Entry, receipt: &Receipt) -> Result<bool> {
+    let noted = format!(in alloc; "{} {:?}", entry.call.request(), entry.reply)?;
+    let told = format!(in alloc; "{} {:?}", receipt.call.request(), receipt.reply)?;
+    Ok(noted == told)
+}
+
+// Whether the history has each receipt's request and reply at the receipt's place.
+fn stand(alloc: Global, history: &[Entry], receipts: &[Vec<Receipt>]) -> Result<bool> {
+    for list in receipts {
+        for receipt in list {
+            let Some(entry) = history.get(receipt.place) else {
+                return Ok(false);
+            };
+            if !is_of(alloc, entry, receipt)? {
+                return Ok(false);
+            }
+        }
+    }
+    Ok(true)
+}
+
+// Whether the receipts are those of the entries, each once, and there are so many.
+fn are_exact(
+    alloc: Global,
+    history: &[Entry],
+    receipts: &[Vec<Receipt>],
+    count: usize,
+) -> Result<bool> {
+    Ok(
+        history.len() == count
+            && receipts.len() == 2
+            && are_the_places(receipts, count)
+            && stand(alloc, history, receipts)?,
+    )
+}
+
+// The receipt of a call of a worker. Both are counted from 0.
+fn receipt(receipts: &[Vec<Receipt>], (worker, index): (usize, usize)) -> Option<&Receipt> {
+    receipts.get(worker)?.get(index)
+}
+
+// Whether the call that the gate held stands after the one that it waited for, and was answered so.
+fn came_behind(alloc: Global, receipts: &[Vec<Receipt>], gate: &Held, reply: &str) -> Result<bool> {
+    let held = receipt(receipts, gate.held());
+    let awaited = receipt(receipts, gate.awaited());
+    match (held, awaited) {
+        (Some(held), Some(awaited)) => {
+            let told = format!(in alloc; "{:?}", held.reply)?;
+            Ok(awaited.place < held.place && told.as_str() == reply)
+        }
+        _ => Ok(false),
+    }
+}
+
+// Runs two scripts of so many calls together, which nobody holds back.
+fn runs_freely<R: Threads + Wait + Sync>(
+    rt: &R,
+    alloc: Global,
+    first: &'static str,
+    second: &'static str,
+    count: usize,
+) -> Result<bool> {
+    let (world, receipts) = run(rt, alloc, first, second, &Open)?;
+    are_exact(alloc, world.history(), receipts.as_slice(), count)
+}
+
+// The same of receipts that are exact, of a gate that did not give up.
+fn ended_behind(
+    alloc: Global,
+    history: &[Entry],
+    receipts: &[Vec<Receipt>],
+    count: usize,
+    gate: &Held,
+    reply: &str,
+) -> Result<bool> {
+    Ok(
+        !gate.is_late()
+            && are_exact(alloc, history, receipts, count)?
+            && came_behind(alloc, receipts, gate, reply)?,
+    )
+}
+
+// Runs two scripts of so many calls together, of which a gate holds one call back. Answers whether
+// that call came after the one that it waited for, in time, and was answered so.
+fn runs_held<R: Threads + Wait + Sync>(
+    rt: &R,
+    alloc: Global,
+    first: &'static str,
+    second: &'static str,
+    count: usize,
+    gate: &Held,
+    reply: &str,
+) -> Result<bool> {
+    let (world, receipts) = run(rt, alloc, first, second, gate)?;
+    ended_behind(
+        alloc,
+        world.history(),
+        receipts.as_slice(),
+        count,
+        gate,
+        reply,
+    )
+}
+
+#[test]
+fn two_workers_of_three_calls(rt: HostRuntime) -> std::result::Result<(), Fail> {
+    let first = "open 1\nkey 1 k\nlook 1";
+    let second = "open 2\nkey 2 other\nlook 2";
+    let are_exact = runs_freely(&rt, rt.alloc(), first, second, 6)?;
+    assert!(rt; are_exact);
+    Ok(())
+}
+
+// Two bytes are stored by the first worker before the second looks.
+#[test]
+fn a_hit_behind_the_finish(rt: HostRuntime) -> std::result::Result<(), Fail> {
+    let first = "open 1\nkey 1 k\nlook 1\nmiss 1\nmeta 1\nbegin 1\nwrite_last 1 ab\nfinish 1";
+    let second = "open 2\nkey 2 k\nlook 2";
+    let gate = Held::new((1, 2), (0, 7));
+    let is_hit = runs_held(&rt, rt.alloc(), first, second, 11, &gate, "Hit(2)")?;
+    assert!(rt; is_hit);
+    Ok(())
+}
+
+// A worker's first call waits for the other's second, which can only be answered if the scripts run
+// at the same time: run one after the other, in any order, one of the two waits in vain.
+#[test]
+fn scripts_run_at_the_same_time(rt: HostRuntime) -> std::result::Result<(), Fail> {
+    let first = "open 1\nkey 1 k\nlook 1";
+    let second = "open 2\nkey 2 k\nlook 2";
+    for (held, other) in [(0usize, 1usize), (1, 0)] {
+        let gate = Held::new((held, 0), (other, 1));
+        let is_behind = runs_held(&rt, rt.alloc(), first, second, 6, &gate, "Done")?;
+        assert!(rt; is_behind, "{held}");
+    }
+    Ok(())
+}
