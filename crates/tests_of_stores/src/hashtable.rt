@@ -1,6 +1,8 @@
 //! Tables, in one piece and in shards, also behind locks.
-use pcache_table::hashtable::{ConcurrentHashTable, ConcurrentLruCache, LruShards, Shards, Table};
-use std::alloc::AllocFailed;
+use pcache_table::hashtable::{
+    ConcurrentHashTable, ConcurrentLruCache, HashedTable, LruShards, Shards, Table,
+};
+use std::alloc::{AllocFailed, Global};
 use std::sync::Wait;
 
 // Whether a call gave back this value of before.
@@ -262,4 +264,87 @@ fn values_go_in_and_out_of_a_table(rt: HostRuntime) {
     let mut table: Table<u64> = Table::new(rt.alloc());
     assert!(rt; goes_in(&mut table) && is_set(&mut table));
     assert!(rt; is_there(&table) && goes_out(&mut table));
+}
+
+// The same table twice: found by a hash of the number, and in the order of the numbers.
+#[derive(Drop)]
+struct Pair {
+    hashed: HashedTable<u64>,
+    ordered: Table<u64>,
+}
+
+impl Pair {
+    fn new(alloc: Global) -> Pair {
+        Pair {
+            hashed: HashedTable::new(alloc),
+            ordered: Table::new(alloc),
+        }
+    }
+
+    // Each of these makes a call on both, and tells whether they answered alike.
+
+    fn insert(&mut self, number: u128, value: u64) -> bool {
+        match self.hashed.insert(number, value) {
+            Ok(before) => gave(self.ordered.insert(number, value), before),
+            Err(_refused) => false,
+        }
+    }
+
+    fn set(&mut self, number: u128, value: u64) -> bool {
+        set_in(self.hashed.get_mut(number), value) == set_in(self.ordered.get_mut(number), value)
+    }
+
+    fn remove(&mut self, number: u128) -> bool {
+        self.hashed.remove(number) == self.ordered.remove(number)
+    }
+
+    fn look(&self, number: u128) -> bool {
+        self.hashed.get(number) == self.ordered.get(number)
+            && self.hashed.contains(number) == self.ordered.contains(number)
+            && self.hashed.len() == self.ordered.len()
+            && self.hashed.is_empty() == self.ordered.is_empty()
+    }
+
+    fn turn(&mut self, random: u64) -> bool {
+        let number = u128::from(random % 50);
+        let value = random / 50;
+        match value % 5 {
+            0 | 1 => self.insert(number, value),
+            2 => self.set(number, value),
+            3 => self.remove(number),
+            _ => self.look(number),
+        }
+    }
+}
+
+// The value of before.
+fn set_in(place: Option<&mut u64>, value: u64) -> Option<u64> {
+    match place {
+        Some(place) => {
+            let before = *place;
+            *place = value;
+            Some(before)
+        }
+        None => None,
+    }
+}
+
+// Makes 5,000 turns on both, as a linear congruence draws them.
+fn turn_alike(pair: &mut Pair) -> bool {
+    let mut state = 1u64;
+    for _turn in 0..5_000 {
+        state = state
+            .wrapping_mul(6_364_136_223_846_793_005)
+            .wrapping_add(1_442_695_040_888_963_407);
+        if !pair.turn(state / 8_589_934_592) {
+            return false;
+        }
+    }
+    !pair.hashed.is_empty()
+}
+
+#[test]
+fn a_hashed_table_answers_as_an_ordered_one(rt: HostRuntime) {
+    let mut pair = Pair::new(rt.alloc());
+    assert!(rt; turn_alike(&mut pair));
 }
