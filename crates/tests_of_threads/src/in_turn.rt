@@ -105,6 +105,20 @@ fn tell_end(
     Ok(())
 }
 
+// The same, and tells of the shares only that there are as many.
+fn ask_all<K: Mark, R: Wait>(
+    rt: &R,
+    alloc: Global,
+    shared: &SharedList<K>,
+    shares: &mut Vec<Share<K>>,
+    table: Table,
+    told: &mut String,
+) -> Result<()>
+    ensures { length shares.new.items ≡ length shares.old.items }
+{
+    ask(rt, alloc, shared, shares.as_mut_slice(), table, told)
+}
+
 fn play_named<K: Mark, R: Wait>(
     rt: &R,
     alloc: Global,
@@ -115,7 +129,7 @@ fn play_named<K: Mark, R: Wait>(
     requires { opening ≡ K.opened }
 {
     let (shared, mut shares) = SharedList::<K>::new(alloc, opening)?;
-    ask(rt, alloc, &shared, shares.as_mut_slice(), table, told)?;
+    ask_all(rt, alloc, &shared, &mut shares, table, told)?;
     let (world, receipts) = shared.close(shares);
     tell_end(alloc, told, world.history().len(), receipts.as_slice())
 }

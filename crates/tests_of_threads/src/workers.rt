@@ -4,7 +4,7 @@ ghost use Rattle.std.specs.Prelude.{◌≡◌, length};
 use crate::calls::{ListOpening, ListWorld, SharedList, opening_of, read_script};
 use crate::gates::{Held, Open};
 use pcache_base::error::Result;
-use pcache_shared::{Gate, Mark, Receipt, run_workers};
+use pcache_shared::{Gate, Mark, Receipt, Share, run_workers};
 use pingora_cache::world::call::Call;
 use pingora_cache::world::entry::Entry;
 use std::alloc::Global;
@@ -14,6 +14,21 @@ use std::test::Fail;
 use std::thread::Threads;
 
 type Ended = (ListWorld, Vec<Vec<Receipt>>);
+
+// Runs the scripts, and tells of the shares only that there are as many.
+fn work<K: Mark + Send + Sync, G: Gate + Sync, R: Threads + Wait + Sync>(
+    rt: &R,
+    shared: &SharedList<K>,
+    scripts: &[Vec<Call>],
+    shares: &mut Vec<Share<K>>,
+    gate: &G,
+) -> Result<()>
+    requires { length scripts.now ≡ length shares.old.items }
+    ensures { length shares.new.items ≡ length shares.old.items }
+{
+    run_workers(rt, shared, scripts, shares.as_mut_slice(), gate)?;
+    Ok(())
+}
 
 fn run_named<K: Mark + Send + Sync, G: Gate + Sync, R: Threads + Wait + Sync>(
     rt: &R,
@@ -26,7 +41,7 @@ fn run_named<K: Mark + Send + Sync, G: Gate + Sync, R: Threads + Wait + Sync>(
     requires count { length scripts.now ≡ opening.shares }
 {
     let (shared, mut shares) = SharedList::<K>::new(alloc, opening)?;
-    run_workers(rt, &shared, scripts, shares.as_mut_slice(), gate)?;
+    work(rt, &shared, scripts, &mut shares, gate)?;
     Ok(shared.close(shares))
 }
 
