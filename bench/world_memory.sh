@@ -11,10 +11,11 @@ echo 'world_memory: pingora_cache bytes http' >>crates.txt
 python3 - <<'MEASURE'
 import os, sys
 
-COUNT = 200_000
+FEW, MANY = 200_000, 1_000_000
 
 def peak(kind, count):
-    """Bytes of the greatest resident memory of the program with so many of a kind."""
+    """Bytes of the greatest resident memory of the program with so many of a kind. It is never less than what this
+    script itself takes, so two large numbers are compared."""
     child = os.posix_spawn("crates/world_memory/out/world_memory", ["world_memory", kind, str(count)], os.environ)
     _, status, used = os.wait4(child, 0)
     if status != 0:
@@ -22,5 +23,5 @@ def peak(kind, count):
     return used.ru_maxrss * 1024
 
 for kind, what in [("wrong", "an entry of a wrong call"), ("look", "an entry of a look-up that finds nothing"), ("body", "a stored body of 8 bytes")]:
-    print(f"{what}: bytes={(peak(kind, COUNT) - peak(kind, 1)) / (COUNT - 1):.0f}")
+    print(f"{what}: bytes={(peak(kind, MANY) - peak(kind, FEW)) / (MANY - FEW):.0f}")
 MEASURE

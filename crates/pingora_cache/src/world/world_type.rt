@@ -188,7 +188,7 @@ impl<M: EvictionManager, P: PutPolicy> World<M, P> {
             &mut spare,
         );
         let (noted, answered) = doubled(reply);
-        note(&mut self.history, call, noted, events);
+        note(self.alloc, &mut self.history, call, noted, events);
         Ok(answered)
     }
 
@@ -303,15 +303,28 @@ fn doubled(reply: Reply) -> (Reply, Reply)
     }
 }
 
-// Adds an entry to a history that has room for it. Its events keep no more room than they take.
-fn note(history: &mut Vec<Entry>, call: Call, reply: Reply, mut events: Vec<Event>)
+// The same events in a list of just their size, if there is memory for one. A list that is cut down
+// in place leaves a hole behind it that the next call's list does not fit in.
+fn fitted(alloc: Global, mut events: Vec<Event>) -> Vec<Event>
+    ensures { result.items ≡ events.items }
+{
+    let Ok(mut exact) = Vec::with_capacity(alloc, events.len()) else {
+        return events;
+    };
+    match exact.append(&mut events) {
+        Ok(()) => exact,
+        Err(_) => events,
+    }
+}
+
+// Adds an entry to a history that has room for it.
+fn note(alloc: Global, history: &mut Vec<Entry>, call: Call, reply: Reply, events: Vec<Event>)
     requires { vec_len history.old < vec_capacity history.old }
     ensures { history.new.items ≡ history.old.items ++ record { call = call; reply = reply; events = events.items } ∷ [] }
 {
-    events.shrink_to_fit();
     history.push_reserved(Entry {
         call,
         reply,
-        events: Events::new(events),
+        events: Events::new(fitted(alloc, events)),
     });
 }
