@@ -1,14 +1,7 @@
 #![tactic(auto)]
 //! `cache_replay LIMIT [WATERMARK]`: runs a script of cache calls from standard input.
 
-mod policy;
-mod replay;
-mod reply;
-mod script;
-#[cfg(test)]
-mod tests;
-
-use replay::replay;
+use cache_script::replay::replay;
 use std::process::ExitCode;
 use std::{env, io};
 

@@ -5,7 +5,9 @@
 //!
 //! - `script`: a line of a text as a call
 //! - `play`: a text on a world
-//! - `world`, `behind_a_lock`: the tests
+//! - `world`, `behind_a_lock`: the tests of these
+//! - `scripts`: whole scripts, as `cache_replay` runs them
+//! - `surface`: every public item named once
 
 #[cfg(test)]
 mod behind_a_lock;
@@ -13,5 +15,9 @@ mod behind_a_lock;
 mod play;
 #[cfg(test)]
 mod script;
+#[cfg(test)]
+mod scripts;
+#[cfg(test)]
+pub mod surface;
 #[cfg(test)]
 mod world;

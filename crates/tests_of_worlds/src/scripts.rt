@@ -7,7 +7,7 @@ mod puts;
 mod variants;
 mod waits;
 
-use crate::replay::replay;
+use cache_script::replay::replay;
 use std::alloc::Global;
 use std::fs::Files;
 use std::process::Abort;

@@ -72,6 +72,11 @@ impl<'a> Words<'a> {
         self.next().ok_or(Unread::BadCall)
     }
 
+    // The next word, where it is one that scripts have: they are texts.
+    fn name(&mut self) -> Result<&'a str, Unread> {
+        name(self.word()?)
+    }
+
     fn number(&mut self) -> Result<u64, Unread> {
         number(self.word()?)
     }
@@ -102,81 +107,68 @@ pub fn read(alloc: Global, line: &[u8], now: Moment) -> Result<Line, Unread> {
         return Ok(Line::Skip);
     }
     let mut words = Words(line);
-    let word = words.word()?;
-    if word == b"stat".as_slice() {
-        words.end()?;
-        return Ok(Line::Stat);
-    }
-    if word == b"at".as_slice() {
-        let seconds = words.number()?;
-        words.end()?;
-        return Ok(Line::At(Moment::from_secs(seconds)));
-    }
-    if word == b"save".as_slice() || word == b"load".as_slice() {
-        let dir = text_of(alloc, words.word()?)?;
-        words.end()?;
-        return Ok(if word == b"save".as_slice() {
-            Line::Save(dir)
-        } else {
-            Line::Load(dir)
-        });
-    }
-    let request = words.number()?;
-    let call = read_call(alloc, word, request, &mut words, now)?;
+    let word = words.name()?;
+    let line = match word {
+        "stat" => Line::Stat,
+        "at" => Line::At(Moment::from_secs(words.number()?)),
+        "save" => Line::Save(text_of(alloc, words.word()?)?),
+        "load" => Line::Load(text_of(alloc, words.word()?)?),
+        _ => Line::Call(read_call(alloc, word, &mut words, now)?),
+    };
     words.end()?;
-    Ok(Line::Call(call))
+    Ok(line)
 }
 
 fn read_call(
     alloc: Global,
-    word: &[u8],
-    request: u64,
+    word: &str,
     words: &mut Words<'_>,
     now: Moment,
 ) -> Result<Call, Unread> {
+    let request = words.number()?;
     match word {
-        b"open" => Ok(Call::Open {
+        "open" => Ok(Call::Open {
             request,
             options: options(words)?,
         }),
-        b"enable" => Ok(Call::Enable {
+        "enable" => Ok(Call::Enable {
             request,
             options: options(words)?,
         }),
-        b"disable" => Ok(Call::Disable {
+        "disable" => Ok(Call::Disable {
             request,
-            reason: reason(words.word()?)?,
+            reason: reason(words.name()?)?,
         }),
-        b"key" => Ok(Call::Key {
+        "key" => Ok(Call::Key {
             request,
             key: boxed(alloc, key(alloc, words)?)?,
         }),
-        b"look" => Ok(Call::Look {
+        "look" => Ok(Call::Look {
             request,
             now,
             decision: None,
         }),
-        b"found" => Ok(Call::Found {
+        "found" => Ok(Call::Found {
             request,
-            status: status(words.word()?)?,
+            status: status(words.name()?)?,
             now,
         }),
-        b"bypass" => Ok(Call::Bypass { request }),
-        b"miss" => Ok(Call::Miss { request }),
-        b"meta" => Ok(Call::Meta {
+        "bypass" => Ok(Call::Bypass { request }),
+        "miss" => Ok(Call::Miss { request }),
+        "meta" => Ok(Call::Meta {
             request,
             meta: boxed(alloc, meta(alloc, words, now)?)?,
         }),
-        b"purge" => Ok(Call::Purge { request }),
-        b"expire" => Ok(Call::Expire { request, now }),
-        b"updating" => Ok(Call::Updating { request }),
-        b"phase" => Ok(Call::Phase { request }),
-        b"end" => Ok(Call::End { request }),
-        b"begin" | b"write" | b"finish" | b"read" | b"seek" | b"done" => {
+        "purge" => Ok(Call::Purge { request }),
+        "expire" => Ok(Call::Expire { request, now }),
+        "updating" => Ok(Call::Updating { request }),
+        "phase" => Ok(Call::Phase { request }),
+        "end" => Ok(Call::End { request }),
+        "begin" | "write" | "finish" | "read" | "seek" | "done" => {
             read_body_call(alloc, word, request, words)
         }
-        b"put" | b"feed" | b"drop" | b"close" => read_put_call(alloc, word, request, words, now),
-        b"vary" | b"variance" | b"revalidate" => {
+        "put" | "feed" | "drop" | "close" => read_put_call(alloc, word, request, words, now),
+        "vary" | "variance" | "revalidate" => {
             read_variant_call(alloc, word, request, words, now)
         }
         _ => read_lock_call(alloc, word, request, words, now),
@@ -186,13 +178,13 @@ fn read_call(
 // A line about the body that a request writes or reads.
 fn read_body_call(
     alloc: Global,
-    word: &[u8],
+    word: &str,
     request: u64,
     words: &mut Words<'_>,
 ) -> Result<Call, Unread> {
     match word {
-        b"begin" => Ok(Call::Begin { request }),
-        b"write" => {
+        "begin" => Ok(Call::Begin { request }),
+        "write" => {
             let bytes = text(alloc, words.word()?)?;
             let eof = ends_with_eof(words)?;
             Ok(Call::Write {
@@ -201,14 +193,14 @@ fn read_body_call(
                 eof,
             })
         }
-        b"finish" => Ok(Call::Finish { request }),
-        b"read" => Ok(Call::Read { request }),
-        b"seek" => Ok(Call::Seek {
+        "finish" => Ok(Call::Finish { request }),
+        "read" => Ok(Call::Read { request }),
+        "seek" => Ok(Call::Seek {
             request,
             start: place(words.word()?)?,
             end: words.next().map(place).transpose()?,
         }),
-        b"done" => Ok(Call::Done { request }),
+        "done" => Ok(Call::Done { request }),
         _ => Err(Unread::BadCall),
     }
 }
@@ -216,24 +208,24 @@ fn read_body_call(
 // A line about a put.
 fn read_put_call(
     alloc: Global,
-    word: &[u8],
+    word: &str,
     request: u64,
     words: &mut Words<'_>,
     now: Moment,
 ) -> Result<Call, Unread> {
     match word {
-        b"put" => Ok(Call::Put {
+        "put" => Ok(Call::Put {
             request,
             key: boxed(alloc, plain_key(alloc, words)?)?,
             limit: words.next().map(place).transpose()?,
         }),
-        b"feed" => Ok(Call::Feed {
+        "feed" => Ok(Call::Feed {
             request,
             bytes: Bytes::from_vec(text(alloc, words.word()?)?)?,
             now,
         }),
-        b"drop" => Ok(Call::Drop { request }),
-        b"close" => Ok(Call::Close { request }),
+        "drop" => Ok(Call::Drop { request }),
+        "close" => Ok(Call::Close { request }),
         _ => Err(Unread::BadCall),
     }
 }
@@ -241,21 +233,21 @@ fn read_put_call(
 // A line about the variants of a key, or the meta of a stale body that is good.
 fn read_variant_call(
     alloc: Global,
-    word: &[u8],
+    word: &str,
     request: u64,
     words: &mut Words<'_>,
     now: Moment,
 ) -> Result<Call, Unread> {
     match word {
-        b"vary" => Ok(Call::Vary {
+        "vary" => Ok(Call::Vary {
             request,
-            variance: hash(words.word()?)?,
+            variance: hash(words.name()?)?,
         }),
-        b"variance" => Ok(Call::Variance {
+        "variance" => Ok(Call::Variance {
             request,
-            variance: hash_or_none(words.word()?)?,
+            variance: hash_or_none(words.name()?)?,
         }),
-        b"revalidate" => Ok(Call::Revalidate {
+        "revalidate" => Ok(Call::Revalidate {
             request,
             meta: boxed(alloc, fresh_until(alloc, words.number()?, now))?,
         }),
@@ -263,9 +255,9 @@ fn read_variant_call(
     }
 }
 
-fn hash_or_none(word: &[u8]) -> Result<Option<HashBinary>, Unread> {
+fn hash_or_none(word: &str) -> Result<Option<HashBinary>, Unread> {
     match word {
-        b"none" => Ok(None),
+        "none" => Ok(None),
         _ => Ok(Some(hash(word)?)),
     }
 }
@@ -284,33 +276,33 @@ fn place(word: &[u8]) -> Result<usize, Unread> {
 // A line about the lock that a request holds.
 fn read_lock_call(
     alloc: Global,
-    word: &[u8],
+    word: &str,
     request: u64,
     words: &mut Words<'_>,
     now: Moment,
 ) -> Result<Call, Unread> {
     match word {
-        b"wait" => Ok(Call::Wait { request, now }),
-        b"lock" => Ok(Call::Lock {
+        "wait" => Ok(Call::Wait { request, now }),
+        "lock" => Ok(Call::Lock {
             request,
-            is_used: is_on(words.word()?)?,
+            is_used: is_on(words.name()?)?,
         }),
-        b"publish" => Ok(Call::Publish {
+        "publish" => Ok(Call::Publish {
             request,
             tokens: Tokens::new(tokens(alloc, words)?),
         }),
-        b"release" => Ok(Call::Release {
+        "release" => Ok(Call::Release {
             request,
-            reason: reason(words.word()?)?,
+            reason: reason(words.name()?)?,
         }),
-        b"give" => Ok(Call::Give {
+        "give" => Ok(Call::Give {
             request,
             to: words.number()?,
         }),
-        b"uncacheable" => Ok(Call::Uncacheable {
+        "uncacheable" => Ok(Call::Uncacheable {
             request,
             header: boxed(alloc, ResponseHeader::build(alloc, StatusCode::OK))?,
-            reason: reason(words.word()?)?,
+            reason: reason(words.name()?)?,
         }),
         _ => Err(Unread::BadCall),
     }
@@ -340,29 +332,29 @@ fn options(words: &mut Words<'_>) -> Result<Option<CacheOptionOverrides>, Unread
     }))
 }
 
-fn is_on(word: &[u8]) -> Result<bool, Unread> {
+fn is_on(word: &str) -> Result<bool, Unread> {
     match word {
-        b"on" => Ok(true),
-        b"off" => Ok(false),
+        "on" => Ok(true),
+        "off" => Ok(false),
         _ => Err(Unread::BadCall),
     }
 }
 
 // A reason by its word. A caller's own has none.
-fn reason(word: &[u8]) -> Result<NoCacheReason, Unread> {
+fn reason(word: &str) -> Result<NoCacheReason, Unread> {
     match word {
-        b"NeverEnabled" => Ok(NoCacheReason::NeverEnabled),
-        b"OriginNotCache" => Ok(NoCacheReason::OriginNotCache),
-        b"ResponseTooLarge" => Ok(NoCacheReason::ResponseTooLarge),
-        b"PredictedResponseTooLarge" => Ok(NoCacheReason::PredictedResponseTooLarge),
-        b"StorageError" => Ok(NoCacheReason::StorageError),
-        b"InternalError" => Ok(NoCacheReason::InternalError),
-        b"Deferred" => Ok(NoCacheReason::Deferred),
-        b"DeclinedToUpstream" => Ok(NoCacheReason::DeclinedToUpstream),
-        b"UpstreamError" => Ok(NoCacheReason::UpstreamError),
-        b"CacheLockGiveUp" => Ok(NoCacheReason::CacheLockGiveUp),
-        b"CacheLockTimeout" => Ok(NoCacheReason::CacheLockTimeout),
-        b"CacheLockRetryLimit" => Ok(NoCacheReason::CacheLockRetryLimit),
+        "NeverEnabled" => Ok(NoCacheReason::NeverEnabled),
+        "OriginNotCache" => Ok(NoCacheReason::OriginNotCache),
+        "ResponseTooLarge" => Ok(NoCacheReason::ResponseTooLarge),
+        "PredictedResponseTooLarge" => Ok(NoCacheReason::PredictedResponseTooLarge),
+        "StorageError" => Ok(NoCacheReason::StorageError),
+        "InternalError" => Ok(NoCacheReason::InternalError),
+        "Deferred" => Ok(NoCacheReason::Deferred),
+        "DeclinedToUpstream" => Ok(NoCacheReason::DeclinedToUpstream),
+        "UpstreamError" => Ok(NoCacheReason::UpstreamError),
+        "CacheLockGiveUp" => Ok(NoCacheReason::CacheLockGiveUp),
+        "CacheLockTimeout" => Ok(NoCacheReason::CacheLockTimeout),
+        "CacheLockRetryLimit" => Ok(NoCacheReason::CacheLockRetryLimit),
         _ => Err(Unread::BadCall),
     }
 }
@@ -377,7 +369,7 @@ fn plain_key(alloc: Global, words: &mut Words<'_>) -> Result<CacheKey, Unread> {
 fn key(alloc: Global, words: &mut Words<'_>) -> Result<CacheKey, Unread> {
     let mut key = plain_key(alloc, words)?;
     if let Some(word) = words.option(b"v=") {
-        key.set_variance_key(hash(word)?);
+        key.set_variance_key(hash(name(word)?)?);
     }
     if let Some(word) = words.option(b"u=") {
         key.unusable = Some(unusable(alloc, word)?);
@@ -395,10 +387,7 @@ fn text_of(alloc: Global, word: &[u8]) -> Result<String, Unread> {
     String::from_utf8(text(alloc, word)?).map_err(|_| Unread::BadCall)
 }
 
-fn hash(word: &[u8]) -> Result<HashBinary, Unread> {
-    let Ok(digits) = std::str::from_utf8(word) else {
-        return Err(Unread::BadCall);
-    };
+fn hash(digits: &str) -> Result<HashBinary, Unread> {
     str2hex(digits).ok_or(Unread::BadCall)
 }
 
@@ -414,15 +403,15 @@ fn unusable(alloc: Global, word: &[u8]) -> Result<UnusableFills, Unread> {
     Ok(UnusableFills::new(fills))
 }
 
-fn status(word: &[u8]) -> Result<HitStatus, Unread> {
+fn status(word: &str) -> Result<HitStatus, Unread> {
     match word {
-        b"expired" => Ok(HitStatus::Expired),
-        b"force_expired" => Ok(HitStatus::ForceExpired),
-        b"force_expired_serve_stale" => Ok(HitStatus::ForceExpiredServeStale),
-        b"force_miss" => Ok(HitStatus::ForceMiss),
-        b"failed_hit_filter" => Ok(HitStatus::FailedHitFilter),
-        b"fresh" => Ok(HitStatus::Fresh),
-        b"force_fresh" => Ok(HitStatus::ForceFresh),
+        "expired" => Ok(HitStatus::Expired),
+        "force_expired" => Ok(HitStatus::ForceExpired),
+        "force_expired_serve_stale" => Ok(HitStatus::ForceExpiredServeStale),
+        "force_miss" => Ok(HitStatus::ForceMiss),
+        "failed_hit_filter" => Ok(HitStatus::FailedHitFilter),
+        "fresh" => Ok(HitStatus::Fresh),
+        "force_fresh" => Ok(HitStatus::ForceFresh),
         _ => Err(Unread::BadCall),
     }
 }
@@ -448,9 +437,14 @@ fn window(word: &[u8]) -> Result<u32, Unread> {
 fn ends_with_eof(words: &mut Words<'_>) -> Result<bool, Unread> {
     match words.next() {
         None => Ok(false),
-        Some(b"eof") => Ok(true),
+        Some(word) if word == b"eof".as_slice() => Ok(true),
         Some(_) => Err(Unread::BadCall),
     }
+}
+
+// A word that is to be one of those that scripts have: they are texts.
+fn name(word: &[u8]) -> Result<&str, Unread> {
+    std::str::from_utf8(word).map_err(|_| Unread::BadCall)
 }
 
 /// A decimal number of 64 bits.

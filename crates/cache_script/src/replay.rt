@@ -1,4 +1,5 @@
 //! Running a script.
+ghost use Rattle.std.specs.Prelude.{◌≤◌};
 
 use crate::policy::OneSecond;
 use crate::reply::{write_reply, write_stat};
@@ -43,7 +44,9 @@ pub fn replay<F: Files, R: Read + Drop, W: Write + Drop, E: Write>(
     input: R,
     output: W,
     errors: &mut E,
-) -> u8 {
+) -> u8
+    ensures { result ≤ 1 }
+{
     let stop = match run(alloc, args, files, input, output) {
         Ok(()) => return 0,
         Err(stop) => stop,

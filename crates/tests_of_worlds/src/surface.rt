@@ -1,6 +1,5 @@
-#![tactic(auto)]
-//! Each public item of the cache named once, under the modules of upstream and those of its own. If one is gone, this
-//! crate does not build. It has no functions.
+//! Each public item of the cache named once, under the modules of upstream and those of its own. If one is gone, these
+//! tests do not build. There are no functions here.
 
 /// The crate's root.
 pub mod root {
