@@ -1,6 +1,6 @@
 """The bytes that names of directives begin with which all have one hash under the fixed seed of the map.
 
-The hasher multiplies `a ^ state` by another number, where `a` are the first 8 of 16 bytes. So where `a` is the state, the
+The hasher multiplies `a ^ state` by another number, where `a` are the first 8 of 16 bytes. So if `a` is the state, the
 product is 0 whatever the other 8 bytes are. The first 16 bytes are searched such that the state after them is text."""
 import random
 import sys

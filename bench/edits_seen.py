@@ -11,8 +11,8 @@ wrong-bodies/ too, checks the edited text once for each file, in a copy, and loo
   only below   the function is refused because of another one that it calls, also with this edit alone
   let through  the crate is proved with this edit alone
 
-It ends non-zero where any edit is not refused by itself. An edit outside a function, as of a constant, is tried alone and is
-refused by itself where anything is refused.
+It ends non-zero if any edit is not refused by itself. An edit outside a function, as of a constant, is tried alone and is
+refused by itself if anything is refused.
 """
 import os
 import re
@@ -171,7 +171,7 @@ def is_named_in(parts, ours, owner, name):
 
 
 def outcome(said, turned):
-    """What was said of the functions that an edit turned: 'by itself', 'only below', 'proved', or None where there is no such function."""
+    """What was said of the functions that an edit turned: 'by itself', 'only below', 'proved', or None if there is no such function."""
     best = None
     for module, owner, name in turned:
         for path, words in said.items():

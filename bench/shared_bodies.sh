@@ -1,6 +1,6 @@
 #!/bin/sh
 # Whether readers of one stored body share it: the greatest resident memory of a program with one reader of a body of 1 MiB, and
-# with 1,000 that all keep what they read. It ends non-zero where a reader takes a hundredth of a body or more. The program is
+# with 1,000 that all keep what they read. It ends non-zero if a reader takes a hundredth of a body or more. The program is
 # proved and built in a copy of the repository.
 set -eu
 . "$(dirname "$0")/in_a_copy.sh"

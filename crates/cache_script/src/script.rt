@@ -81,7 +81,7 @@ impl<'a> Words<'a> {
         number(self.word()?)
     }
 
-    // What stands after this prefix, where the next word begins with it.
+    // What stands after this prefix, if the next word begins with it.
     fn option(&mut self, prefix: &[u8]) -> Option<&'a [u8]> {
         let before = self.0;
         let word = self.next()?;

@@ -63,7 +63,7 @@ abbrev pub after_request : Locks → ℕ → Bool → ℕ → Option ℕ → Loc
 after_request t k stale now None = with_permit t k stale now
 after_request t k stale now (Some n) = with_read_lock t n (get t.cores n)
 
--- the entries without that of this lock, where it stands under its key
+-- the entries without that of this lock, if it stands under its key
 abbrev pub stands_as : ℕ → Option ℕ → Bool
 stands_as n None = false
 stands_as n (Some m) = m == n

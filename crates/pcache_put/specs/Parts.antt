@@ -32,7 +32,7 @@ abbrev pub body_parts : Option ℕ → List ℕ → List ParsePart
 body_parts left bytes =
     if length (declared_body left bytes) == 0 then [] else part.Body (declared_body left bytes) (is_whole left bytes) ∷ []
 
--- what is left of a body behind some bytes of it
+-- what is left of a body after some bytes of it
 abbrev pub left_behind : Option ℕ → ℕ → Option ℕ
 left_behind None count = None
 left_behind (Some n) count = Some (n - count)

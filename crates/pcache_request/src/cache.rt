@@ -322,8 +322,8 @@ impl<S: Storage> HttpCache<S> {
         }
     }
 
-    /// Turns caching on, with these parts in use and all else fresh but the digest. A disabled
-    /// request holds nothing, so that nothing is lost.
+    /// Turns caching on, with these parts in use and all else but the digest as in a new request. A
+    /// disabled request holds nothing, so that nothing is lost.
     pub fn enable(&mut self, uses: InUse)
         requires { IsDisabled self.old.phase }
         ensures request { self.new ≡ enabled_with uses self.old }

@@ -98,7 +98,7 @@ asked-untold : (stale : Bool) (es : List Event) (x : Request) → untold_request
 asked-untold stale [] x = refl
 asked-untold stale (e ∷ es) x = asked-untold stale es (with_given stale e x) ∙ ap (asked stale es) (given-untold stale e x)
 
--- where a test tells which it is
+-- if a test tells which it is
 either-held : (b : Bool) (x y u v : Held) → untold x ≡ u → untold y ≡ v → untold (cond b x y) ≡ cond b u v
 either-held true x y u v e f = e
 either-held false x y u v e f = f

@@ -33,7 +33,7 @@ use Rattle.pingora_cache.specs.Untold.{untold_request}
 use Rattle.pingora_cache.proofs.MovesOf.{AreQuiet}
 use Rattle.pingora_cache.proofs.Untold.{waited-untold}
 
--- where a wait is refused
+-- if a wait is refused
 
 refused-first : (A X : Type 0) (w : Option Watch) (e : X) → (IsSome w → IsOk {T = A} {E = X} (Err e)) → is_some w ≡ false
 refused-first A X None e f = refl

@@ -38,7 +38,7 @@ owes es (Admit e n out) owed = None
 owes es (Purge k) owed = None
 owes es _ owed = owed
 
--- Where a request q makes the write o, or none, and nothing is owed: a look-up and a read tell what the history says; a write
+-- If a request q makes the write o, or none, and nothing is owed: a look-up and a read tell what the history says; a write
 -- has the next number and the request's slot; only the request's own is written to and ended; it is stored exactly when it is
 -- untouched; an entry is untracked whose key has no complete body.
 abbrev pub MayCome : List Event → Option Held → Option ℕ → Event → Type 0
@@ -53,7 +53,7 @@ MayCome es q o (Untrack e) = (k : ℕ) → names_slot k e ≡ true → complete 
 MayCome es q o (Read a) = (rd : Reader) × (reader_for q ≡ Some rd) × (a ≡ reads es rd)
 MayCome es q o _ = Unit {0}
 
--- Where this weight is owed for the request's key: the entry of the key is admitted with it, by a fair eviction, or the key is
+-- If this weight is owed for the request's key: the entry of the key is admitted with it, by a fair eviction, or the key is
 -- purged; before that only a permit is released.
 abbrev pub MaySettle : Limits → Tracked → Option Held → ℕ → Event → Type 0
 MaySettle limits m q owed (Admit e n out) = (n ≡ owed) × ((k : ℕ) × (slot_of q ≡ Some k) × (names_slot k e ≡ true)) × IsFair limits (map.insert m e n) out

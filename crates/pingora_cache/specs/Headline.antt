@@ -91,7 +91,7 @@ ReadsABeginning = (age : ℕ) (limits : Limits) (start : Tracked) (before : List
     → HasRead (events_of before) reader (read_by r before)
 
 -- whatever an admission evicts is a fair eviction from what is tracked then, with the entry that is admitted: nothing goes
--- where the limits hold, and no more than they want
+-- if the limits hold, and no more than they want
 abbrev pub EvictsFairly : Type 0
 EvictsFairly = (age : ℕ) (limits : Limits) (start : Tracked) (before : List Entry) (entry : Entry) (earlier rest : List Event) (e : CacheEntryKey) (n : ℕ) (out : List CacheEntryKey) → IsLegal age limits start (entry ∷ before)
     → entry.events ≡ earlier ++ Admit e n out ∷ rest

@@ -103,7 +103,7 @@ fn z_is_not_saved<R: Files>(alloc: Global, files: &R, dir: &str, suffix: u32) ->
     Ok(refuses_to_save(alloc, files, &manager, dir, suffix))
 }
 
-// A folder without the file, and a file if the folder would be.
+// A folder without the file, and a file in the place of a folder.
 #[test]
 fn folders_that_cannot_be_opened(rt: HostRuntime) -> std::result::Result<(), Fail> {
     let alloc = rt.alloc();

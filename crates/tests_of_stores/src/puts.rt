@@ -452,7 +452,7 @@ const ANSWERS: &str = r#"
     finish -> stored 4
     total -> 4 bytes, weight 4, 0 writes
 
-    # bytes behind the body
+    # bytes after the body
     feed HTTP/1.1 200 OK\r\nContent-Length: 4\r\n\r\nrust -> goes on
     feed XX -> goes on
     finish -> stored 4
@@ -525,7 +525,7 @@ const REMOVED: &str = r"
     finish -> WriteRemoved
     total -> 0 bytes, weight 0, 0 writes
 
-    # it is ended behind its last piece, and never finished
+    # it is ended after its last piece, and never finished
     feed HTTP/1.1 200 OK\r\nContent-Length: 4\r\n\r\nrust -> goes on
     drop
     total -> 0 bytes, weight 0, 0 writes";

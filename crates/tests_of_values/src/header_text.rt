@@ -200,7 +200,7 @@ const TOLD: &str = r"
     read HTTP/1.1 200\r\n -> InternalError
     read HTTP/1.1 099\r\n\r\n -> InternalError
     read HTTP/1.1 200\r\nFoo1: bar1\r\n\r\n -> InternalError
-    # no value, no space behind the colon, no name, a byte behind, LF alone
+    # no value, no space after the colon, no name, a byte after the end, LF alone
     read HTTP/1.1 200\r\nfoo1\r\n\r\n -> InternalError
     read HTTP/1.1 200\r\nfoo1:bar1\r\n\r\n -> InternalError
     read HTTP/1.1 200\r\n: bar1\r\n\r\n -> InternalError
@@ -211,7 +211,7 @@ const TOLD: &str = r"
     read HTTP/1.1 200 OK\r\n\r\n -> InternalError
     read HTTP/1.1 200\r\nfoo1: b\1\r\n\r\n -> InternalError
     read -> InternalError
-    # a name that comes again behind another
+    # a name that comes again after another
     read HTTP/1.1 200\r\na: 1\r\nb: 2\r\na: 3\r\n\r\n -> InternalError
     # heads are told
     tell HTTP/1.1 200\r\n\r\n -> yes
@@ -221,7 +221,7 @@ const TOLD: &str = r"
     tell HTTP/1.1 200\r\na: 1\r\nb: 2\r\nb: 3\r\na: 4\r\n\r\n -> no
     tell HTTP/1.1 200\r\na: 1\d\r\n\r\n -> no
     tell HTTP/1.1 200\r\na: \t\f\r\n\r\n -> yes
-    # a name that comes again is told behind any number of names, which are looked for 64 at once
+    # a name that comes again is told after any number of names, which are looked for 64 at once
     many 64 x63 -> yes
     many 64 x0 -> no
     many 65 x0 -> no

@@ -167,7 +167,7 @@ const READ: &str = "
     # the version in a wider form, and one that is not known
     read 96 cc 02 92 01 00 92 01 00 92 01 00 00 00 -> InternalError
     read 96 03 92 01 00 92 01 00 92 01 00 00 00 -> InternalError
-    # a byte behind
+    # a byte after the end
     read 96 02 92 01 00 92 01 00 92 01 00 00 00 00 -> InternalError
     # too many items
     read 9a 02 92 01 00 92 01 00 92 01 00 00 00 c0 c0 c0 c0 -> InternalError";

@@ -1,4 +1,5 @@
-//! Keys and their hashes: worked rows, and upstream's tests.
+//! Keys and their hashes: worked rows, and upstream's `test_hex_str`, `test_cache_key_hash`, `test_cache_key_vary_hash`,
+//! both with `_override`, `test_caller_framed_primary_avoids_ambiguous_component_boundaries` and `test_primary_key_str_..`.
 //! The hashes are those of another implementation of BLAKE2b, python's hashlib.
 use crate::rows::{Desk, Told, play_at, rest, size, unescape, word};
 use pcache_base::error::Result;

@@ -80,7 +80,7 @@ fn hash() -> [u8; 16] {
     hash
 }
 
-// What stands if nil, a hash and a hash or none were put.
+// What is read where nil, a hash, and a hash or none were put.
 fn read_nil_and_hashes(reader: &mut Reader<'_>, told: &mut Told) {
     told.shown(&reader.remaining());
     told.say(" ");
@@ -164,7 +164,7 @@ fn numbers_arrays_texts_hashes_and_marks(rt: HostRuntime) {
     play(&rt, rt.alloc(), &mut Spelled { bytes }, FORMS);
 }
 
-// Whether an array that is too long is refused, if what stands before it is left.
+// Whether an array that is too long is refused, and what stands before it is left.
 fn is_refused(out: &mut Vec<u8>) -> bool {
     let len = out.len();
     let refused = put_array(out, 1 << 32);

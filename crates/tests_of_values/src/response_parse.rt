@@ -1,5 +1,6 @@
 //! The parser of a response that is pushed in, piece by piece.
-//! The rows are hand-computed from RFC 9112 (2, 6.3) and RFC 9110 (6.4.1), some after upstream's tests.
+//! The rows are hand-computed from RFC 9112 (2, 6.3) and RFC 9110 (6.4.1), some after upstream's tests
+//! from `test_basic_response` to `test_200_with_zero_content_length_more_data`.
 use crate::rows::{Desk, Told, number, play, rest, unescape, word};
 use pcache_base::error::{ErrorType, Result};
 use pcache_meta::header::ResponseHeader;

@@ -58,7 +58,7 @@ fn set_entry(standing: &mut Shards<u64, N_SHARDS>, slot: u128, number: u64)
     };
 }
 
-// Takes out the entry of a lock, where it stands under its key.
+// Takes out the entry of a lock, if it stands under its key.
 fn leave_entry(standing: &mut Shards<u64, N_SHARDS>, place: u128, slot: Option<u128>)
     ensures { standing.new ≡ without_entry place slot standing.old }
 {

@@ -69,8 +69,8 @@ impl<S: Storage> HttpCache<S> {
     ghost use Rattle.pcache_request.specs.Reports.{name_of, released_as};
     ghost use Rattle.pcache_request.specs.Requests.{HoldsNothing, settled};
 
-    /// Turns caching on, with these parts in use and these options of its lock, and all else fresh
-    /// but the digest. A disabled request holds nothing, so that nothing is lost.
+    /// Turns caching on, with these parts in use and these options of its lock, and all else but the
+    /// digest as in a new request. A disabled request holds nothing, so that nothing is lost.
     pub fn enable_with(&mut self, uses: InUse, overrides: Option<CacheOptionOverrides>)
         requires { IsDisabled self.old.phase }
         ensures request { self.new ≡ enabled_waiting uses overrides self.old }

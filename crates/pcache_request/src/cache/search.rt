@@ -72,7 +72,7 @@ impl<S: Storage> HttpCache<S> {
         )
     }
 
-    // Hands a found pair on, or lets it go where it is hidden, and asks for the lock then.
+    // Hands a found pair on, or lets it go if it is hidden, and asks for the lock then.
     pub(super) fn hand_on<L: CacheKeyLock>(
         &mut self,
         storage: &mut S,

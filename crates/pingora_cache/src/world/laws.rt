@@ -44,7 +44,7 @@ pub fn reads_a_beginning()
     ensures { ReadsABeginning }
 {}
 
-/// Whatever an admission evicts is fair: nothing goes where the limits hold, and no more than they
+/// Whatever an admission evicts is fair: nothing goes if the limits hold, and no more than they
 /// want.
 pub fn evicts_fairly()
     ensures { EvictsFairly }
