@@ -6,5 +6,6 @@ pub mod Key
 pub mod MomentParts
 pub mod Moments
 pub mod Reasons
+pub mod Text
 pub mod Variance
 pub mod Totals

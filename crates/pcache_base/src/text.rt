@@ -1,7 +1,8 @@
 //! Owned text that contracts see as the list of its bytes.
 //!
 //! A `String` in a struct would put its buffer's place and room into every contract that compares
-//! such structs; a `Text` does not.
+//! such structs; a `Text` does not. The tags of users are short: a short text stands in the value
+//! itself, so that a key is copied, compared and let go without a look at the heap.
 ghost use Rattle.std.specs.Prelude.{◌≡◌, IfOk, IfErr, nat_eq, string_bytes};
 ghost use Rattle.std.specs.Ordering.{nat_cmp, as_partial_cmp};
 ghost use Rattle.std.specs.Cmp.{partial_equiv_from_equiv, partial_order_from_own_ties};
@@ -12,24 +13,38 @@ ghost use Rattle.std.proofs.Common.{rules};
 ghost use Rattle.pcache_base.specs.declared.error.ErrorType.TheVariants.{OutOfMemory};
 
 use crate::error::Result;
+use arrayvec::ArrayString;
 use std::alloc::AllocError;
 use std::cmp::Ordering;
 use std::fmt;
 use std::hash::{Hash, Hasher};
 use std::marker::Model;
 
+// The most bytes of a short text: with them it takes as much room as a `String`.
+const SHORT: usize = 16;
+
+// Where the bytes of a text stand.
+#[derive(Drop)]
+pub(crate) enum Place {
+    // In the value: at most 16 of them.
+    Inside(ArrayString<16>),
+    // On the heap.
+    Outside(String),
+}
+
 /// An owned text. A contract sees the list of its bytes.
 #[derive(Drop)]
 pub struct Text {
-    text: String,
+    place: Place,
 }
 
 impl Model for Text {
-    ghost use Rattle.std.specs.Prelude.{ℕ, List, string_bytes};
+    ghost use Rattle.std.specs.Prelude.{ℕ, List};
+    ghost use Rattle.pcache_base.specs.Text.{bytes_at};
 
     ghost Value = { List ℕ };
 
-    ghost view = { λ a. string_bytes a.text };
+    ghost view = { λ a. bytes_at a.place };
 }
 
 impl Text {
@@ -37,13 +52,25 @@ impl Text {
     pub fn new(text: String) -> Text
         ensures { result ≡ string_bytes text }
     {
-        Text { text }
+        if text.len() > SHORT {
+            return Text {
+                place: Place::Outside(text),
+            };
+        }
+        let mut short = ArrayString::new();
+        short.push_str(text.as_str());
+        Text {
+            place: Place::Inside(short),
+        }
     }
 
     pub fn as_str(&self) -> &str
         ensures { result.now ≡ self.now }
     {
-        self.text.as_str()
+        match &self.place {
+            Place::Inside(text) => text.as_str(),
+            Place::Outside(text) => text.as_str(),
+        }
     }
 
     /// A second text with the same bytes. It is refused only when memory runs out.
@@ -51,7 +78,7 @@ impl Text {
         ensures ok { IfOk result (λ copy. copy ≡ self.now) }
         ensures kind { IfErr result (λ e. e ≡ OutOfMemory) }
     {
-        Ok(Text::new(self.text.clone()?))
+        Ok(self.clone()?)
     }
 }
 
@@ -67,9 +94,11 @@ impl Clone for Text {
     ghost is_clone = { λ text copy. copy ≡ text };
 
     fn clone(&self) -> std::result::Result<Text, AllocError> {
-        Ok(Text {
-            text: self.text.clone()?,
-        })
+        let place = match &self.place {
+            Place::Inside(text) => Place::Inside(*text),
+            Place::Outside(text) => Place::Outside(text.clone()?),
+        };
+        Ok(Text { place })
     }
 }
 
