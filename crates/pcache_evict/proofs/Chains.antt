@@ -13,10 +13,10 @@ use Rattle.pcache_evict.specs.declared.eviction.entry_key.CacheEntryKey.{CacheEn
 use Rattle.pcache_evict.specs.declared.eviction.recency.Walk.{Walk}
 use Rattle.pcache_evict.specs.Entry.{entry_eq}
 use Rattle.pcache_evict.specs.Tracked.{Limits}
-use Rattle.pcache_evict.specs.Recency.{Recency, weight, weight_of, others, moved, IsListWithin}
+use Rattle.pcache_evict.specs.Recency.{Recency, weight, weight_of, others, moved, IsWithinAsList}
 use Rattle.pcache_evict.specs.Listed.{IsOnce, IsEnough}
 use Rattle.pcache_evict.specs.Shards.{ArePlaced, AreKept, RunsOut, all, list_at, shard_of, in_shard, reweighed}
-use Rattle.pcache_evict.specs.Chain.{span, chain, Pops, AreWithin, Walks, RoomFor, IsFirst, IsFirstFrom}
+use Rattle.pcache_evict.specs.Chain.{span, chain, Pops, IsWithinTotals, Walks, RoomFor, IsFirst, IsFirstFrom}
 use Rattle.pcache_evict.proofs.Recency.{distinct-front, length-others, others-none, weight-moved}
 use Rattle.pcache_evict.proofs.Reweighs.{weight-reweighed}
 use Rattle.pcache_evict.proofs.Walks.{append_nil}
@@ -100,7 +100,7 @@ chain-all n place shards long lt =
     let second = rest.1 in
     (omega arith, omega arith)
 
-pub inside-chain : (limits : Limits) (n place : ℕ) (shards : List Recency) → length shards ≡ n → place < n → IsListWithin limits (chain n place shards) → IsListWithin limits (all shards)
+pub inside-chain : (limits : Limits) (n place : ℕ) (shards : List Recency) → length shards ≡ n → place < n → IsWithinAsList limits (chain n place shards) → IsWithinAsList limits (all shards)
 inside-chain limits n place shards long lt i =
     let same = chain-all n place shards long lt in
     record { weight = subst (λ m. m ≤ limits.weight) same.0 i.weight; count = subst (λ m. IfSome limits.watermark (λ most. m ≤ most)) same.1 i.count }
@@ -186,7 +186,7 @@ pub walks-none : (limits : Limits) (k : CacheEntryKey) (a : Walk) → Walks limi
 walks-none limits k a = record { left = []; passed = []; split = refl; sum = let e : a.sum ≡ a.sum + 0 = omega arith in e; count = let e : a.count ≡ a.count + 0 = omega arith in e; room = let e : a.room ≡ a.room + 0 = omega arith in e; ends = inl refl }
 
 -- a walk that goes on over the list before
-pub walks-on : (limits : Limits) (k : CacheEntryKey) (t s : Recency) (a b c : Walk) → Walks limits k s a b → (AreWithin limits b.sum b.count → ⊥) → Walks limits k t b c → Walks limits k (t ++ s) a c
+pub walks-on : (limits : Limits) (k : CacheEntryKey) (t s : Recency) (a b c : Walk) → Walks limits k s a b → (IsWithinTotals limits b.sum b.count → ⊥) → Walks limits k t b c → Walks limits k (t ++ s) a c
 walks-on limits k t s a b c v over w = elim v.ends [
   | inr small ↦ absurd (over small)
   | inl none ↦
@@ -207,7 +207,7 @@ walks-on limits k t s a b c v over w = elim v.ends [
 ]
 
 -- a walk that ended stays where it is
-pub walks-stop : (limits : Limits) (k : CacheEntryKey) (t s : Recency) (a b : Walk) → Walks limits k s a b → AreWithin limits b.sum b.count → Walks limits k (t ++ s) a b
+pub walks-stop : (limits : Limits) (k : CacheEntryKey) (t s : Recency) (a b : Walk) → Walks limits k s a b → IsWithinTotals limits b.sum b.count → Walks limits k (t ++ s) a b
 walks-stop limits k t s a b v small = record {
   left = t ++ v.left;
   passed = v.passed;
@@ -231,7 +231,7 @@ walks-fit limits k u t s a b v sum count =
     (omega arith, omega arith)
 
 -- the limits hold for nothing
-pub inside-none : (limits : Limits) → IsListWithin limits []
+pub inside-none : (limits : Limits) → IsWithinAsList limits []
 inside-none limits = record { weight = let e : 0 ≤ limits.weight = omega arith in e; count = none limits.watermark }
   where
     none : (o : Option ℕ) → IfSome o (λ most. 0 ≤ most)
@@ -243,7 +243,7 @@ some_less None a b le h = tt
 some_less (Some most) a b le h = omega (arith, le, h)
 
 -- a list that is no heavier and no longer than what is within the limits
-pub small_inside : (limits : Limits) (sum count : ℕ) → AreWithin limits sum count → (l : Recency) → weight l ≤ sum → length l ≤ count → IsListWithin limits l
+pub small_inside : (limits : Limits) (sum count : ℕ) → IsWithinTotals limits sum count → (l : Recency) → weight l ≤ sum → length l ≤ count → IsWithinAsList limits l
 small_inside limits sum count s l light short =
     let most = s.weight in
     record { weight = omega (arith, light, most); count = some_less limits.watermark (length l) count short s.count }
@@ -352,7 +352,7 @@ room-found n limits k size shards a b p v start sum count =
     }
 
 -- within the limits nothing goes
-pub room-none : (n : ℕ) (limits : Limits) (k : CacheEntryKey) (size : ℕ) (shards : List Recency) (sum count : ℕ) → ArePlaced n shards → AreWithin limits sum count → sum ≡ weight (others k (all shards)) + size → count ≡ length (others k (all shards)) + 1
+pub room-none : (n : ℕ) (limits : Limits) (k : CacheEntryKey) (size : ℕ) (shards : List Recency) (sum count : ℕ) → ArePlaced n shards → IsWithinTotals limits sum count → sum ≡ weight (others k (all shards)) + size → count ≡ length (others k (all shards)) + 1
     → RoomFor n limits k size shards 0
 room-none n limits k size shards sum count p small is many =
     let same = others-chain n shards k p in
@@ -366,7 +366,7 @@ room-none n limits k size shards sum count p small is many =
         [],
         append_nil (chain n (shard_of n k) (in_shard n k (moved k size) shards)),
         omega arith,
-        subst (IsListWithin limits) (sym (chain-moved n shards k size p)) (small_inside limits sum count small (moved k size c) (omega arith) (omega arith)),
+        subst (IsWithinAsList limits) (sym (chain-moved n shards k size p)) (small_inside limits sum count small (moved k size c) (omega arith) (omega arith)),
       );
       set = λ there.
           let h = home n shards k p in
@@ -379,7 +379,7 @@ room-none n limits k size shards sum count p small is many =
             [],
             append_nil (chain n (shard_of n k) (in_shard n k (reweighed k size) shards)),
             omega arith,
-            subst (IsListWithin limits) (sym (chain-reweighed n shards k size p there)) (small_inside limits sum count small (reweighed k size c) (omega arith) (omega arith)),
+            subst (IsWithinAsList limits) (sym (chain-reweighed n shards k size p there)) (small_inside limits sum count small (reweighed k size c) (omega arith) (omega arith)),
           );
     }
 
@@ -448,14 +448,14 @@ popped-first n place shards at front k size long f is =
 abbrev pub RunsTo : Limits → List Recency → List CacheEntryKey → List Recency → Type 0
 RunsTo limits shards [] now = now ≡ shards
 RunsTo limits shards (k ∷ out) now =
-    (¬ IsListWithin limits (all shards)) × (before : List Recency) × (list : Recency) × (n : ℕ) × (behind : List Recency) × (shards ≡ before ++ (list ++ (k, n) ∷ []) ∷ behind) × RunsTo limits (before ++ list ∷ behind) out now
+    (¬ IsWithinAsList limits (all shards)) × (before : List Recency) × (list : Recency) × (n : ℕ) × (behind : List Recency) × (shards ≡ before ++ (list ++ (k, n) ∷ []) ∷ behind) × RunsTo limits (before ++ list ∷ behind) out now
 
-pub runs-more : (limits : Limits) (n place : ℕ) (out : List CacheEntryKey) (shards now next : List Recency) (k : CacheEntryKey) → RunsTo limits shards out now → ¬ IsListWithin limits (all now) → Pops n place now k next → RunsTo limits shards (out ++ k ∷ []) next
-runs-more limits n place [] shards now next k r over p = (subst (λ s. ¬ IsListWithin limits (all s)) r over, p.before, p.list, p.size, p.behind, sym r ∙ p.was, p.is)
+pub runs-more : (limits : Limits) (n place : ℕ) (out : List CacheEntryKey) (shards now next : List Recency) (k : CacheEntryKey) → RunsTo limits shards out now → ¬ IsWithinAsList limits (all now) → Pops n place now k next → RunsTo limits shards (out ++ k ∷ []) next
+runs-more limits n place [] shards now next k r over p = (subst (λ s. ¬ IsWithinAsList limits (all s)) r over, p.before, p.list, p.size, p.behind, sym r ∙ p.was, p.is)
 runs-more limits n place (x ∷ out) shards now next k (o, before, list, m, behind, is, r) over p = (o, before, list, m, behind, is, runs-more limits n place out (before ++ list ∷ behind) now next k r over p)
 
-pub runs-done : (limits : Limits) (out : List CacheEntryKey) (shards now : List Recency) → RunsTo limits shards out now → IsListWithin limits (all now) → RunsOut limits shards out now
-runs-done limits [] shards now r inside = (r, subst (λ s. IsListWithin limits (all s)) r inside)
+pub runs-done : (limits : Limits) (out : List CacheEntryKey) (shards now : List Recency) → RunsTo limits shards out now → IsWithinAsList limits (all now) → RunsOut limits shards out now
+runs-done limits [] shards now r inside = (r, subst (λ s. IsWithinAsList limits (all s)) r inside)
 runs-done limits (x ∷ out) shards now (o, before, list, m, behind, is, r) inside = (o, before, list, m, behind, is, runs-done limits out (before ++ list ∷ behind) now r inside)
 
 pub all-parts : (before : List Recency) (l : Recency) (behind : List Recency) → all (before ++ l ∷ behind) ≡ all before ++ (l ++ all behind)
@@ -534,12 +534,12 @@ parts-others n shards k place p at =
     let many : length (others k (chain n place shards)) ≡ length (others k a) + length (others k b) = ap (λ (l : Recency). length l) apart ∙ length-append (others k a) (others k b) in
     (sym sum ∙ ap (λ l. weight (others k l)) whole ∙ same.0, sym many ∙ ap (λ l. length (others k l)) whole ∙ same.1)
 
-pub room-stopped : (n : ℕ) (limits : Limits) (k : CacheEntryKey) (size : ℕ) (shards : List Recency) (place : ℕ) (a b : Walk) → ArePlaced n shards → place ≡ shard_of n k → Walks limits k (span shards (place + 1) (n - (place + 1))) a b → AreWithin limits b.sum b.count → a.room ≡ 0 → a.sum ≡ weight (others k (all shards)) + size → a.count ≡ length (others k (all shards)) + 1
+pub room-stopped : (n : ℕ) (limits : Limits) (k : CacheEntryKey) (size : ℕ) (shards : List Recency) (place : ℕ) (a b : Walk) → ArePlaced n shards → place ≡ shard_of n k → Walks limits k (span shards (place + 1) (n - (place + 1))) a b → IsWithinTotals limits b.sum b.count → a.room ≡ 0 → a.sum ≡ weight (others k (all shards)) + size → a.count ≡ length (others k (all shards)) + 1
     → RoomFor n limits k size shards (b.room + 1)
 room-stopped n limits k size shards place a b p at v small start sum count =
     room-found n limits k size shards a b p (subst (λ i. Walks limits k (chain n i shards) a b) at (walks-stop limits k (span shards 0 (place + 1)) (span shards (place + 1) (n - (place + 1))) a b v small)) start sum count
 
-pub room-whole : (n : ℕ) (limits : Limits) (k : CacheEntryKey) (size : ℕ) (shards : List Recency) (place m : ℕ) (a b c : Walk) → ArePlaced n shards → place ≡ shard_of n k → Walks limits k (span shards (place + 1) (n - (place + 1))) a b → (AreWithin limits b.sum b.count → ⊥) → m ≡ place + 1 → Walks limits k (span shards 0 m) b c → a.room ≡ 0 → a.sum ≡ weight (others k (all shards)) + size → a.count ≡ length (others k (all shards)) + 1
+pub room-whole : (n : ℕ) (limits : Limits) (k : CacheEntryKey) (size : ℕ) (shards : List Recency) (place m : ℕ) (a b c : Walk) → ArePlaced n shards → place ≡ shard_of n k → Walks limits k (span shards (place + 1) (n - (place + 1))) a b → (IsWithinTotals limits b.sum b.count → ⊥) → m ≡ place + 1 → Walks limits k (span shards 0 m) b c → a.room ≡ 0 → a.sum ≡ weight (others k (all shards)) + size → a.count ≡ length (others k (all shards)) + 1
     → RoomFor n limits k size shards (c.room + 1)
 room-whole n limits k size shards place m a b c p at v over same w start sum count =
     room-found n limits k size shards a c p (subst (λ i. Walks limits k (chain n i shards) a c) at (walks-on limits k (span shards 0 (place + 1)) (span shards (place + 1) (n - (place + 1))) a b c v over (subst (λ m. Walks limits k (span shards 0 m) b c) same w))) start sum count
@@ -578,19 +578,19 @@ steps limits k shards from to place a b low high v sum count =
     let count_v = v.count in let room_v = v.room in
     record { sum = fit.0; count = fit.1; fits = omega arith }
 
-pub walk-next : (limits : Limits) (k : CacheEntryKey) (shards : List Recency) (from place : ℕ) (a b c : Walk) → from ≤ place → Walks limits k (span shards from (place - from)) a b → (AreWithin limits b.sum b.count → ⊥) → Walks limits k (list_at shards place) b c → Walks limits k (span shards from (place + 1 - from)) a c
+pub walk-next : (limits : Limits) (k : CacheEntryKey) (shards : List Recency) (from place : ℕ) (a b c : Walk) → from ≤ place → Walks limits k (span shards from (place - from)) a b → (IsWithinTotals limits b.sum b.count → ⊥) → Walks limits k (list_at shards place) b c → Walks limits k (span shards from (place + 1 - from)) a c
 walk-next limits k shards from place a b c low v over w = subst (λ l. Walks limits k l a c) (sym (span-next shards from place low)) (walks-on limits k (list_at shards place) (span shards from (place - from)) a b c v over w)
 
 pub walk-first : (limits : Limits) (k : CacheEntryKey) (shards : List Recency) (from : ℕ) (a : Walk) → Walks limits k (span shards from (from - from)) a a
 walk-first limits k shards from a = subst (λ m. Walks limits k (span shards from m) a a) (let e : 0 ≡ from - from = omega arith in e) (walks-none limits k a)
 
-pub walk-stops : (limits : Limits) (k : CacheEntryKey) (shards : List Recency) (from to place : ℕ) (a b : Walk) → from ≤ place → place ≤ to → Walks limits k (span shards from (place - from)) a b → AreWithin limits b.sum b.count → Walks limits k (span shards from (to - from)) a b
+pub walk-stops : (limits : Limits) (k : CacheEntryKey) (shards : List Recency) (from to place : ℕ) (a b : Walk) → from ≤ place → place ≤ to → Walks limits k (span shards from (place - from)) a b → IsWithinTotals limits b.sum b.count → Walks limits k (span shards from (to - from)) a b
 walk-stops limits k shards from to place a b low high v small =
     subst (λ l. Walks limits k l a b) (sym (span-split shards from place (place - from) (to - place) (to - from) (omega arith) (omega arith))) (walks-stop limits k (span shards place (to - place)) (span shards from (place - from)) a b v small)
 
 -- ---- the limits hold as it is
 
-pub enough-now : (limits : Limits) (n place m : ℕ) (shards : List Recency) → ArePlaced n shards → place < n → IsListWithin limits (all shards) → IsEnough limits (chain n place shards) m
+pub enough-now : (limits : Limits) (n place m : ℕ) (shards : List Recency) → ArePlaced n shards → place < n → IsWithinAsList limits (all shards) → IsEnough limits (chain n place shards) m
 enough-now limits n place m shards p lt i =
     let same = chain-all n place shards p.long lt in
     (chain n place shards, [], append_nil (chain n place shards), omega arith, record { weight = subst (λ m. m ≤ limits.weight) (sym same.0) i.weight; count = subst (λ m. IfSome limits.watermark (λ most. m ≤ most)) (sym same.1) i.count })

@@ -14,7 +14,7 @@ use Rattle.pcache_evict.proofs.EntryOrder.{exact_entries, same_test}
 use Rattle.pcache_base.proofs.Totals.{made-total, made-len}
 use Rattle.pcache_evict.specs.Tracked.{Tracked, Limits, IsWithin, IsFair, without, added, weight_in, evicted_with}
 use Rattle.pcache_evict.specs.Tracked as tracked
-use Rattle.pcache_evict.specs.Recency.{Recency, weight, weight_of, others, moved, accessed, IsListWithin, Evicts}
+use Rattle.pcache_evict.specs.Recency.{Recency, weight, weight_of, others, moved, accessed, IsWithinAsList, Evicts}
 use Rattle.pcache_evict.specs.Listed.{Listed, Moves, map_of, IsOnce}
 use Rattle.pcache_evict.proofs.Evictions.{Gone, gone-none, gone-more, without-push}
 use Rattle.pcache_evict.proofs.Recency.{same_key, laws, distinct-front}
@@ -124,15 +124,15 @@ weight-map_of l d = made-total entries_total (λ n. n) exact_entries l (ones-tie
 pub len-map_of : (l : Recency) → IsOnce l → fin.len (map_of l) ≡ length l
 len-map_of l d = made-len entries_total exact_entries l (ones-tie l d)
 
-pub within : (limits : Limits) (l : Recency) → IsOnce l → IsListWithin limits l → IsWithin limits (map_of l)
+pub within : (limits : Limits) (l : Recency) → IsOnce l → IsWithinAsList limits l → IsWithin limits (map_of l)
 within limits l d i = record { weight = subst (λ n. n ≤ limits.weight) (sym (weight-map_of l d)) i.weight; count = subst (λ n. IfSome limits.watermark (λ most. n ≤ most)) (sym (len-map_of l d)) i.count }
 
-pub inside : (limits : Limits) (l : Recency) → IsOnce l → IsWithin limits (map_of l) → IsListWithin limits l
+pub inside : (limits : Limits) (l : Recency) → IsOnce l → IsWithin limits (map_of l) → IsWithinAsList limits l
 inside limits l d i = record { weight = subst (λ n. n ≤ limits.weight) (weight-map_of l d) i.weight; count = subst (λ n. IfSome limits.watermark (λ most. n ≤ most)) (len-map_of l d) i.count }
 
 -- what the list says of its tail, the map says of what went
 popped : (limits : Limits) (tail list front : Recency) → list ≡ front ++ tail → IsOnce list
-    → ((f b : Recency) → list ≡ f ++ b → length b < length tail → ¬ IsListWithin limits f) → Gone limits (map_of list) (reverse (keys_of tail))
+    → ((f b : Recency) → list ≡ f ++ b → length b < length tail → ¬ IsWithinAsList limits f) → Gone limits (map_of list) (reverse (keys_of tail))
 popped limits [] list front is d short = gone-none limits (map_of list)
 popped limits (e ∷ tail) list front is d short =
     let split : list ≡ (front ++ e ∷ []) ++ tail = is ∙ sym (append_assoc front (e ∷ []) tail) in

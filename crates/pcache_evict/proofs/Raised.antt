@@ -2,7 +2,7 @@
 use Rattle.std.proofs.Common.{◌≡◌, ℕ, ◌+◌, ◌-◌, ◌≤◌, true, Option, None, Some, is_some, cond, unwrap_or, [], refl, ap, sym, subst, arith, length, append-nil}
 use Rattle.pcache_evict.specs.declared.eviction.entry_key.CacheEntryKey.{CacheEntryKey}
 use Rattle.pcache_evict.specs.Tracked.{Limits, raised}
-use Rattle.pcache_evict.specs.Recency.{Recency, weight, weight_of, others, moved, incremented, IsListWithin}
+use Rattle.pcache_evict.specs.Recency.{Recency, weight, weight_of, others, moved, incremented, IsWithinAsList}
 use Rattle.pcache_evict.specs.Listed.{IsEnough, IsOnce}
 use Rattle.pcache_evict.proofs.Recency.{weight-others, length-others, weight-moved}
 
@@ -13,7 +13,7 @@ left_over k l w once e =
     (omega (arith, whole, e), omega (arith, whole, e))
 
 -- if the limits hold, nothing has to go
-pub enough_inside : (limits : Limits) (l : Recency) (room : ℕ) → IsListWithin limits l → IsEnough limits l room
+pub enough_inside : (limits : Limits) (l : Recency) (room : ℕ) → IsWithinAsList limits l → IsEnough limits l room
 enough_inside limits l room inside = (l, [], sym (append-nil l), omega arith, inside)
 
 -- an entry in front makes a list heavier by its weight at most, and longer by one

@@ -10,7 +10,7 @@ use Rattle.pcache_evict.specs.declared.eviction.entry_key.CacheEntryKey.{CacheEn
 use Rattle.pcache_evict.specs.Entry.{entry_eq}
 use Rattle.pcache_evict.specs.declared.eviction.recency.Walk.{Walk}
 use Rattle.pcache_evict.specs.Tracked.{Limits}
-use Rattle.pcache_evict.specs.Recency.{Recency, weight, others, moved, IsListWithin, Evicts}
+use Rattle.pcache_evict.specs.Recency.{Recency, weight, others, moved, IsWithinAsList, Evicts}
 use Rattle.pcache_evict.specs.Listed.{IsEnough}
 
 -- what went so far
@@ -18,7 +18,7 @@ pub record Pops (limits : Limits) (before now : Recency) (out : List CacheEntryK
   pub tail : Recency
   pub split : before ≡ now ++ tail
   pub order : out ≡ reverse (keys_of tail)
-  pub shortest : (front back : Recency) → before ≡ front ++ back → length back < length tail → ¬ IsListWithin limits front
+  pub shortest : (front back : Recency) → before ≡ front ++ back → length back < length tail → ¬ IsWithinAsList limits front
 
 pub append_nil : {X : Type 0} (xs : List X) → xs ≡ xs ++ []
 append_nil [] = refl
@@ -38,7 +38,7 @@ same_front a b c d e h =
 reverse-cons : {X : Type 0} (x : X) (xs : List X) → reverse (x ∷ xs) ≡ reverse xs ++ x ∷ []
 reverse-cons x xs = reverse-append (x ∷ []) xs
 
-pub pops-more : (limits : Limits) (before now front : Recency) (e : CacheEntryKey × ℕ) (out : List CacheEntryKey) → Pops limits before now out → now ≡ front ++ e ∷ [] → ¬ IsListWithin limits now → Pops limits before front (out ++ e.0 ∷ [])
+pub pops-more : (limits : Limits) (before now front : Recency) (e : CacheEntryKey × ℕ) (out : List CacheEntryKey) → Pops limits before now out → now ≡ front ++ e ∷ [] → ¬ IsWithinAsList limits now → Pops limits before front (out ++ e.0 ∷ [])
 pops-more limits before now front e out p is over =
     record {
       tail = e ∷ p.tail;
@@ -46,7 +46,7 @@ pops-more limits before now front e out p is over =
       order = ap (λ l. l ++ e.0 ∷ []) p.order ∙ sym (reverse-cons e.0 (keys_of p.tail));
       shortest = λ f b s less. elim (cases_lt (length b) (length p.tail)) [
         | inl lt ↦ p.shortest f b s lt
-        | inr ge ↦ subst (λ l. ¬ IsListWithin limits l) (same_front now p.tail f b (sym p.split ∙ s) (omega arith)) over
+        | inr ge ↦ subst (λ l. ¬ IsWithinAsList limits l) (same_front now p.tail f b (sym p.split ∙ s) (omega arith)) over
       ];
     }
 
@@ -59,18 +59,18 @@ length-reverse [] = refl
 length-reverse {X = X} (x ∷ xs) = ap (λ (l : List X). length l) (reverse-cons x xs) ∙ (let a = length-append (reverse xs) (x ∷ []) in let r = length-reverse xs in omega arith)
 
 -- while the limits don't hold, fewer went than are enough
-pub pops-room : (limits : Limits) (before now : Recency) (out : List CacheEntryKey) (m : ℕ) → Pops limits before now out → ¬ IsListWithin limits now → IsEnough limits before m → length out < m
+pub pops-room : (limits : Limits) (before now : Recency) (out : List CacheEntryKey) (m : ℕ) → Pops limits before now out → ¬ IsWithinAsList limits now → IsEnough limits before m → length out < m
 pops-room limits before now out m p over (front, back, split, le, inside) =
     let count : length out ≡ length p.tail = ap (λ (l : List CacheEntryKey). length l) p.order ∙ length-reverse (keys_of p.tail) ∙ length-keys p.tail in
     elim (cases_lt (length p.tail) (length back)) [
       | inl lt ↦ omega arith
       | inr ge ↦ elim (cases_lt (length back) (length p.tail)) [
         | inl less ↦ absurd (p.shortest front back split less inside)
-        | inr eq ↦ absurd (over (subst (IsListWithin limits) (same_front front back now p.tail (sym split ∙ p.split) (omega arith)) inside))
+        | inr eq ↦ absurd (over (subst (IsWithinAsList limits) (same_front front back now p.tail (sym split ∙ p.split) (omega arith)) inside))
       ]
     ]
 
-pub pops-done : (limits : Limits) (before now : Recency) (out : List CacheEntryKey) → Pops limits before now out → IsListWithin limits now → Evicts limits before now out
+pub pops-done : (limits : Limits) (before now : Recency) (out : List CacheEntryKey) → Pops limits before now out → IsWithinAsList limits now → Evicts limits before now out
 pops-done limits before now out p inside = record { tail = p.tail; split = p.split; order = p.order; enough = inside; shortest = p.shortest }
 
 -- a walk over the list as it was, that leaves out the entry to be moved
@@ -84,7 +84,7 @@ pub record Walks (k : CacheEntryKey) (n : ℕ) (l left : Recency) (total items g
 moved_split : (k : CacheEntryKey) (n : ℕ) (l left passed : Recency) → l ≡ left ++ passed → moved k n l ≡ moved k n left ++ others k passed
 moved_split k n l left passed is = ap (λ xs. (k, n) ∷ xs) (ap (others k) is ∙ filter-append (λ (e : CacheEntryKey × ℕ). not (entry_eq k e.0)) left passed)
 
-pub walks-enough : (limits : Limits) (k : CacheEntryKey) (n : ℕ) (l left : Recency) (total items gone : ℕ) → Walks k n l left total items gone → IsListWithin limits (moved k n left) → IsEnough limits (moved k n l) gone
+pub walks-enough : (limits : Limits) (k : CacheEntryKey) (n : ℕ) (l left : Recency) (total items gone : ℕ) → Walks k n l left total items gone → IsWithinAsList limits (moved k n left) → IsEnough limits (moved k n l) gone
 walks-enough limits k n l left total items gone w inside = (moved k n left, others k w.passed, moved_split k n l left w.passed w.split, (let room = w.room in omega arith), inside)
 
 pub walks-start : (k : CacheEntryKey) (n : ℕ) (l : Recency) (total items : ℕ) → total ≡ n + weight (others k l) → items ≡ 1 + length (others k l) → Walks k n l l total items 0
@@ -105,7 +105,7 @@ walks-room k n l left total items gone w =
     let longer = length-append left w.passed in
     omega arith
 
-pub walks-inside : (limits : Limits) (k : CacheEntryKey) (n : ℕ) (l left : Recency) (total items gone : ℕ) → Walks k n l left total items gone → ((l : Recency) → total ≡ weight l → items ≡ length l → IsListWithin limits l) → IsListWithin limits (moved k n left)
+pub walks-inside : (limits : Limits) (k : CacheEntryKey) (n : ℕ) (l left : Recency) (total items gone : ℕ) → Walks k n l left total items gone → ((l : Recency) → total ≡ weight l → items ≡ length l → IsWithinAsList limits l) → IsWithinAsList limits (moved k n left)
 walks-inside limits k n l left total items gone w within = within (moved k n left) (w.sum ∙ sym (moved-sum k n left)) (let count = w.count in omega arith)
 
 -- what an eviction leaves and what goes is fixed by the list

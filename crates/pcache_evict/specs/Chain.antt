@@ -27,7 +27,7 @@ pub record Pops (n place : ℕ) (old : List Recency) (k : CacheEntryKey) (new : 
   pub last : chain n place old ≡ chain n place new ++ (k, size) ∷ []
 
 -- numbers within the limits
-pub record AreWithin (limits : Limits) (sum items : ℕ) : Type 0 where
+pub record IsWithinTotals (limits : Limits) (sum items : ℕ) : Type 0 where
   pub weight : sum ≤ limits.weight
   pub count : IfSome limits.watermark (λ most. items ≤ most)
 
@@ -39,7 +39,7 @@ pub record Walks (limits : Limits) (k : CacheEntryKey) (l : Recency) (from to : 
   pub sum : from.sum ≡ to.sum + weight (others k passed)
   pub count : from.count ≡ to.count + length (others k passed)
   pub room : to.room ≡ from.room + length (others k passed)
-  pub ends : (left ≡ []) ⊎ AreWithin limits to.sum to.count
+  pub ends : (left ≡ []) ⊎ IsWithinTotals limits to.sum to.count
 
 -- so much room is enough for what goes once an entry is put, or its weight is set where it stands
 pub record RoomFor (n : ℕ) (limits : Limits) (k : CacheEntryKey) (size : ℕ) (shards : List Recency) (room : ℕ) : Type 0 where

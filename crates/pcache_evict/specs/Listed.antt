@@ -7,7 +7,7 @@ use Rattle.lru.specs.LruCache.{LruCache}
 use Rattle.pcache_evict.specs.declared.eviction.entry_key.CacheEntryKey.{CacheEntryKey}
 use Rattle.pcache_evict.specs.Entry.{entry_cmp, entry_eq}
 use Rattle.pcache_evict.specs.Tracked.{Tracked, Limits, Evicted, limits_of}
-use Rattle.pcache_evict.specs.Recency.{Recency, weight, IsListWithin, Evicts}
+use Rattle.pcache_evict.specs.Recency.{Recency, weight, IsWithinAsList, Evicts}
 
 -- the list, the limits, and what was evicted so far
 pub record Listed : Type 0 where
@@ -44,4 +44,4 @@ pub record IsKept (cache : LruCache CacheEntryKey ℕ) (total : ℕ) : Type 0 wh
 
 -- as many entries at the end are enough to bring a list within the limits
 abbrev pub IsEnough : Limits → Recency → ℕ → Type 0
-IsEnough limits l m = (front : Recency) × (back : Recency) × (l ≡ front ++ back) × (length back ≤ m) × IsListWithin limits front
+IsEnough limits l m = (front : Recency) × (back : Recency) × (l ≡ front ++ back) × (length back ≤ m) × IsWithinAsList limits front

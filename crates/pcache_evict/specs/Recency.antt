@@ -42,7 +42,7 @@ loaded_all [] l = l
 loaded_all (e ∷ entries) l = loaded_all entries (loaded e.0 e.1 l)
 
 -- the limits hold for a list
-pub record IsListWithin (limits : Limits) (l : Recency) : Type 0 where
+pub record IsWithinAsList (limits : Limits) (l : Recency) : Type 0 where
   pub weight : weight l ≤ limits.weight
   pub count : IfSome limits.watermark (λ most. length l ≤ most)
 
@@ -51,5 +51,5 @@ pub record Evicts (limits : Limits) (before after : Recency) (out : List CacheEn
   pub tail : Recency
   pub split : before ≡ after ++ tail
   pub order : out ≡ reverse (keys_of tail)
-  pub enough : IsListWithin limits after
-  pub shortest : (front back : Recency) → before ≡ front ++ back → length back < length tail → ¬ IsListWithin limits front
+  pub enough : IsWithinAsList limits after
+  pub shortest : (front back : Recency) → before ≡ front ++ back → length back < length tail → ¬ IsWithinAsList limits front

@@ -6,7 +6,7 @@ use Rattle.pcache_base.specs.CompactKey.{compact_slot}
 use Rattle.pcache_evict.specs.declared.eviction.entry_key.CacheEntryKey.{CacheEntryKey}
 use Rattle.pcache_evict.specs.Entry.{entry_eq, key_of}
 use Rattle.pcache_evict.specs.Tracked.{Limits, Evicted, raised, limits_of}
-use Rattle.pcache_evict.specs.Recency.{Recency, weight, weight_of, moved, IsListWithin}
+use Rattle.pcache_evict.specs.Recency.{Recency, weight, weight_of, moved, IsWithinAsList}
 use Rattle.pcache_evict.specs.Listed.{IsOnce}
 
 -- the shard of an entry: the combined hash of its key, as a number, modulo the number of shards
@@ -74,9 +74,9 @@ pub record AreLonger (old new : List Recency) : Type 0 where
 
 -- entries are popped, each from the end of a nonempty list, as long as the limits don't hold
 abbrev pub RunsOut : Limits → List Recency → List CacheEntryKey → List Recency → Type 0
-RunsOut limits shards [] after = (after ≡ shards) × IsListWithin limits (all shards)
+RunsOut limits shards [] after = (after ≡ shards) × IsWithinAsList limits (all shards)
 RunsOut limits shards (k ∷ out) after =
-    (¬ IsListWithin limits (all shards)) × (before : List Recency) × (list : Recency) × (n : ℕ) × (behind : List Recency) × (shards ≡ before ++ (list ++ (k, n) ∷ []) ∷ behind) × RunsOut limits (before ++ list ∷ behind) out after
+    (¬ IsWithinAsList limits (all shards)) × (before : List Recency) × (list : Recency) × (n : ℕ) × (behind : List Recency) × (shards ≡ before ++ (list ++ (k, n) ∷ []) ∷ behind) × RunsOut limits (before ++ list ∷ behind) out after
 
 -- the lists, the limits, and what was evicted so far
 pub record Sharded : Type 0 where

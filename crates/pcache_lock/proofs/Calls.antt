@@ -10,7 +10,7 @@ use Rattle.pcache_lock.specs.declared.lock.permit.Locked.TheVariants.{Write, Rea
 use Rattle.pcache_lock.specs.declared.lock.status.LockStatus.{LockStatus}
 use Rattle.pcache_lock.specs.declared.lock.status.LockStatus.TheVariants as status
 use Rattle.pcache_lock.specs.Statuses.{IsReason, is_free, is_waiting, is_aged}
-use Rattle.pcache_lock.specs.Permits.{Core, fresh_core, is_named, with_reader, without_reader, spent, dropped_status}
+use Rattle.pcache_lock.specs.Permits.{Core, new_core, is_named, with_reader, without_reader, spent, dropped_status}
 use Rattle.pcache_lock.specs.Locks.{Locks, no_locks, holder, after_request, with_read_lock, without_entry, kept, released_on, let_go, permit_dropped, reader_dropped, changed, ended, with_free_permit}
 use Rattle.pcache_lock.specs.Waiting.{after_poll, table_at, stage_of, aged, with_publication}
 use Rattle.pcache_lock.specs.Waits.{Call, Asked, Released, LetGo, Polled, Published, Made, Joined, Unlocked, is_unlock, Leads, LeadsAll, OneWaitsAlways, AskFindsTheWaitingAlways, waiting_slot, waits_under}
@@ -61,7 +61,7 @@ module _ (unlocks : Bool) where
   start_tidy age = record {
     entries = λ slot n h. none_some (get (no_locks age).standing slot) n (get-empty nat_cmp slot) h;
     waiting = λ slot n h. none_some (waits_under (no_locks age) n) slot (ap waiting_slot (get-empty nat_cmp n)) h;
-    fresh = λ n le. get-empty nat_cmp n;
+    unused = λ n le. get-empty nat_cmp n;
   }
 
   -- a lock written back, or gone with its entry
@@ -134,19 +134,19 @@ module _ (unlocks : Bool) where
   -- a permit under no key
   made_tidy : (t : Locks) (age : ℕ) (stale : Bool) (now : ℕ) → Tidy unlocks t → Tidy unlocks (with_free_permit t age stale now)
   made_tidy t age stale now tidy =
-      let c : Core = fresh_core None age stale now in
+      let c : Core = new_core None age stale now in
       record {
         entries = λ slot m h.
             let old = tidy.entries slot m h in
             by_test m t.next (eq_by_cmp nat_cmp m t.next) refl
-            (λ same. absurd (subst (Stands unlocks slot) (ap (get t.cores) same ∙ tidy.fresh t.next (omega arith)) old))
+            (λ same. absurd (subst (Stands unlocks slot) (ap (get t.cores) same ∙ tidy.unused t.next (omega arith)) old))
             (λ off. subst (Stands unlocks slot) (sym (get-insert-off t.cores t.next c m off)) old);
         waiting = λ slot m h. by_test m t.next (eq_by_cmp nat_cmp m t.next) refl
             (λ same. none_some (waiting_slot (get (insert t.cores t.next c) m)) slot (ap waiting_slot (ap (get (insert t.cores t.next c)) same ∙ get-insert-at t.cores t.next c)) h)
             (λ off. tidy.waiting slot m (ap waiting_slot (sym (get-insert-off t.cores t.next c m off)) ∙ h));
-        fresh = λ m le. by_test m t.next (eq_by_cmp nat_cmp m t.next) refl
+        unused = λ m le. by_test m t.next (eq_by_cmp nat_cmp m t.next) refl
             (λ same. absurd (omega arith))
-            (λ off. get-insert-off t.cores t.next c m off ∙ tidy.fresh m (omega arith));
+            (λ off. get-insert-off t.cores t.next c m off ∙ tidy.unused m (omega arith));
       }
 
   -- a permit told where its lock ended, which takes nobody's place

@@ -13,7 +13,7 @@ use Rattle.pcache_lock.specs.declared.lock.outcome.Stage.{Stage}
 use Rattle.pcache_lock.specs.declared.lock.outcome.Stage.TheVariants as stage
 use Rattle.pcache_lock.specs.declared.lock.status.LockStatus.{LockStatus}
 use Rattle.pcache_lock.specs.Statuses.{IsReason, is_waiting, is_aged}
-use Rattle.pcache_lock.specs.Permits.{Core, fresh_core, is_named, with_reader, without_reader, spent, released_status, dropped_status}
+use Rattle.pcache_lock.specs.Permits.{Core, new_core, is_named, with_reader, without_reader, spent, released_status, dropped_status}
 use Rattle.pcache_lock.specs.Locks.{Locks, with_read_lock, without_entry, kept, left, released_on, permit_dropped, reader_dropped, changed, ended}
 use Rattle.pcache_lock.specs.Waiting.{after_poll, table_at, stage_of, is_old, aged, with_publication, first_told}
 use Rattle.pcache_lock.proofs.Calls.{reason_ends}
@@ -122,7 +122,7 @@ waits_until_its_end = record {
   leaving = λ t r n. left_at t r.number n (get t.cores r.number) refl;
   polling = λ t now m n. polled_at t now m n (get t.cores m);
   publishing = λ t m tokens n. published_at t m tokens n (get t.cores m) refl;
-  making = λ t age stale now n. at_insert t t.next (fresh_core None age stale now) n;
+  making = λ t age stale now n. at_insert t t.next (new_core None age stale now) n;
   reading = λ t m n. joined_at t m n (get t.cores m) refl;
   unlocking = λ t m reason n r. unlocked_at t m reason n (get t.cores m) refl r;
 }

@@ -9,7 +9,7 @@ use Rattle.pcache_lock.specs.declared.lock.permit.Locked.{Locked}
 use Rattle.pcache_lock.specs.declared.lock.permit.Locked.TheVariants.{Write, Read}
 use Rattle.pcache_lock.specs.declared.lock.status.LockStatus.{LockStatus}
 use Rattle.pcache_lock.specs.Statuses.{is_aged}
-use Rattle.pcache_lock.specs.Permits.{Core, fresh_core, is_named, with_reader, without_reader, spent, released_status, dropped_status}
+use Rattle.pcache_lock.specs.Permits.{Core, new_core, is_named, with_reader, without_reader, spent, released_status, dropped_status}
 use Rattle.pcache_lock.specs.Locks.{Locks, no_locks, holder, after_request, with_read_lock, without_entry, kept, left, released_on, let_go, permit_dropped, reader_dropped, changed, ended}
 use Rattle.pcache_lock.specs.Waiting.{after_poll, table_at, stage_of, aged, with_publication}
 use Rattle.pcache_lock.specs.Waits.{Call, Asked, Released, LetGo, Polled, Published, Made, Joined, Unlocked, Leads, LeadsAll, AllNamed, NothingRemainsAlways}
@@ -46,7 +46,7 @@ read_named t n None all = all
 read_named t n (Some c) all = insert_named t n (with_reader c) (reads c.held c.readers) all
 
 request_named : (t : Locks) (k : ℕ) (stale : Bool) (now : ℕ) (o : Option ℕ) → AllNamed t → AllNamed (after_request t k stale now o)
-request_named t k stale now None all = insert_named t t.next (fresh_core (Some k) t.age_timeout stale now) refl all
+request_named t k stale now None all = insert_named t t.next (new_core (Some k) t.age_timeout stale now) refl all
 request_named t k stale now (Some n) all = read_named t n (get t.cores n) all
 
 left_named : (b : Bool) (t : Locks) (st : FinMap nat_cmp ℕ) → AllNamed t → AllNamed (cond b t (record t { standing = st }))
@@ -96,7 +96,7 @@ call_named (Released n reason) s t h all = subst AllNamed (sym h.1) (release_nam
 call_named (LetGo l) s t h all = subst AllNamed (sym h) (let_go_named s l all)
 call_named (Polled n now) s t h all = either h all (poll_named s now n (get s.cores n) refl all)
 call_named (Published n tokens) s t h all = either h all (publish_named s n tokens (get s.cores n) refl all)
-call_named (Made age stale now) s t h all = either h all (insert_named s s.next (fresh_core None age stale now) refl all)
+call_named (Made age stale now) s t h all = either h all (insert_named s s.next (new_core None age stale now) refl all)
 call_named (Joined n) s t h all = subst AllNamed (sym h) (read_named s n (get s.cores n) all)
 call_named (Unlocked n reason) s t h all = subst AllNamed (sym h.1) (unlock_named s n reason (get s.cores n) refl all)
 

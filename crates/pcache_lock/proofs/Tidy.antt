@@ -7,7 +7,7 @@ use Rattle.std.specs.FinMap.{FinMap, get, insert, remove, get-remove}
 use Rattle.pcache_lock.specs.declared.lock.status.LockStatus.{LockStatus}
 use Rattle.pcache_lock.specs.declared.lock.status.LockStatus.TheVariants as status
 use Rattle.pcache_lock.specs.Statuses.{is_free, is_waiting}
-use Rattle.pcache_lock.specs.Permits.{Core, fresh_core}
+use Rattle.pcache_lock.specs.Permits.{Core, new_core}
 use Rattle.pcache_lock.specs.Locks.{Locks, holder, held_by, unless_free, with_permit, without_entry, stands_as}
 use Rattle.pcache_lock.specs.Waits.{waiting_slot, waits_under}
 use Rattle.pcache_table.proofs.Sharded.{by_test, get-insert-at, get-insert-off, same_key}
@@ -25,7 +25,7 @@ module _ (unlocks : Bool) where
   pub record Tidy (t : Locks) : Type 0 where
     pub entries : (slot n : ℕ) → get t.standing slot ≡ Some n → Stands slot (get t.cores n)
     pub waiting : (slot n : ℕ) → waits_under t n ≡ Some slot → get t.standing slot ≡ Some n
-    pub fresh : (n : ℕ) → t.next ≤ n → get t.cores n ≡ None
+    pub unused : (n : ℕ) → t.next ≤ n → get t.cores n ≡ None
 
 -- what stands under the keys once a lock's entry is gone
 picked : (b : Bool) (st : FinMap nat_cmp ℕ) (k s : ℕ) → get (cond b (remove st k) st) s ≡ cond b (cond (eq_by_cmp nat_cmp s k) None (get st s)) (get st s)
@@ -113,9 +113,9 @@ module _ (unlocks : Bool) where
         (λ same. tidy.waiting slot m (ap waiting_slot (ap (get t.cores) same ∙ is)
         ∙ open_of (d.held && is_waiting d.status) (c.held && is_waiting c.status) d.slot c.slot slot w e (sym (ap waiting_slot (ap (get (insert t.cores n d)) same ∙ get-insert-at t.cores n d)) ∙ h)))
         (λ off. tidy.waiting slot m (ap waiting_slot (sym (get-insert-off t.cores n d m off)) ∙ h));
-    fresh = λ m le. by_test m n (eq_by_cmp nat_cmp m n) refl
-        (λ same. none_some (get t.cores m) c (tidy.fresh m le) (ap (get t.cores) same ∙ is))
-        (λ off. get-insert-off t.cores n d m off ∙ tidy.fresh m le);
+    unused = λ m le. by_test m n (eq_by_cmp nat_cmp m n) refl
+        (λ same. none_some (get t.cores m) c (tidy.unused m le) (ap (get t.cores) same ∙ is))
+        (λ off. get-insert-off t.cores n d m off ∙ tidy.unused m le);
   }
 
   -- a lock that does not wait any more, with its entry gone
@@ -131,9 +131,9 @@ module _ (unlocks : Bool) where
     waiting = λ slot m h. by_test m n (eq_by_cmp nat_cmp m n) refl
         (λ same. none_some (waiting_slot (get cores m)) slot (ap (λ x. waiting_slot (get cores x)) same ∙ none) h)
         (λ off. ap (λ s. get s slot) gone ∙ other_stays n c.slot t.standing slot m (tidy.waiting slot m (ap waiting_slot (sym (rest m off)) ∙ h)) (sym (unsigned_tied m n) ∙ off));
-    fresh = λ m le. by_test m n (eq_by_cmp nat_cmp m n) refl
-        (λ same. none_some (get t.cores m) c (tidy.fresh m le) (ap (get t.cores) same ∙ is))
-        (λ off. rest m off ∙ tidy.fresh m le);
+    unused = λ m le. by_test m n (eq_by_cmp nat_cmp m n) refl
+        (λ same. none_some (get t.cores m) c (tidy.unused m le) (ap (get t.cores) same ∙ is))
+        (λ off. rest m off ∙ tidy.unused m le);
   }
 
   pub found : (t : Locks) → Tidy unlocks t → (slot n : ℕ) → waits_under t n ≡ Some slot → holder t slot ≡ Some n
@@ -142,7 +142,7 @@ module _ (unlocks : Bool) where
   -- a new permit
   pub asked_tidy : (t : Locks) (k : ℕ) (stale : Bool) (now : ℕ) → holder t k ≡ None → Tidy unlocks t → Tidy unlocks (with_permit t k stale now)
   asked_tidy t k stale now free tidy =
-      let c : Core = fresh_core (Some k) t.age_timeout stale now in
+      let c : Core = new_core (Some k) t.age_timeout stale now in
       record {
         entries = λ slot m h. by_test slot k (eq_by_cmp nat_cmp slot k) refl
             (λ same.
@@ -152,7 +152,7 @@ module _ (unlocks : Bool) where
             (λ off.
             let old = tidy.entries slot m (sym (get-insert-off t.standing k t.next slot off) ∙ h) in
             by_test m t.next (eq_by_cmp nat_cmp m t.next) refl
-            (λ same. absurd (subst (Stands unlocks slot) (ap (get t.cores) same ∙ tidy.fresh t.next (omega arith)) old))
+            (λ same. absurd (subst (Stands unlocks slot) (ap (get t.cores) same ∙ tidy.unused t.next (omega arith)) old))
             (λ other. subst (Stands unlocks slot) (sym (get-insert-off t.cores t.next c m other)) old));
         waiting = λ slot m h. by_test m t.next (eq_by_cmp nat_cmp m t.next) refl
             (λ same.
@@ -164,9 +164,9 @@ module _ (unlocks : Bool) where
             by_test slot k (eq_by_cmp nat_cmp slot k) refl
             (λ same. none_some (holder t slot) m (ap (holder t) same ∙ free) (found t tidy slot m old))
             (λ off. get-insert-off t.standing k t.next slot off ∙ tidy.waiting slot m old));
-        fresh = λ m le. by_test m t.next (eq_by_cmp nat_cmp m t.next) refl
+        unused = λ m le. by_test m t.next (eq_by_cmp nat_cmp m t.next) refl
             (λ same. absurd (omega arith))
-            (λ other. get-insert-off t.cores t.next c m other ∙ tidy.fresh m (omega arith));
+            (λ other. get-insert-off t.cores t.next c m other ∙ tidy.unused m (omega arith));
       }
 
 -- if none was unlocked, what a request finds waits

@@ -9,7 +9,7 @@ use Rattle.pcache_lock.specs.declared.lock.permit.Locked.TheVariants.{Write, Rea
 use Rattle.pcache_lock.specs.declared.lock.status.LockStatus.{LockStatus}
 use Rattle.pcache_lock.specs.declared.lock.status.LockStatus.TheVariants.{Dangling}
 use Rattle.pcache_lock.specs.Statuses.{is_free, is_aged}
-use Rattle.pcache_lock.specs.Permits.{Core, fresh_core, is_locked, is_named, with_reader, without_reader, spent, released_status, dropped_status}
+use Rattle.pcache_lock.specs.Permits.{Core, new_core, is_locked, is_named, with_reader, without_reader, spent, released_status, dropped_status}
 
 -- the locks that are still named, by number; under each key the number of its entry; the number of
 -- the next lock; and after how many nanoseconds a permit is too old
@@ -53,7 +53,7 @@ with_core t k c = record t {
 }
 
 abbrev pub with_permit : Locks → ℕ → Bool → ℕ → Locks
-with_permit t k stale now = with_core t k (fresh_core (Some k) t.age_timeout stale now)
+with_permit t k stale now = with_core t k (new_core (Some k) t.age_timeout stale now)
 
 abbrev pub with_read_lock : Locks → ℕ → Option Core → Locks
 with_read_lock t n None = t
@@ -142,7 +142,7 @@ unlocked t n reason = record t { cores = changed (ended reason) t.cores n (get t
 -- a lock under no key
 abbrev pub with_free_permit : Locks → ℕ → Bool → ℕ → Locks
 with_free_permit t age_timeout stale now = record t {
-  cores = insert t.cores t.next (fresh_core None age_timeout stale now);
+  cores = insert t.cores t.next (new_core None age_timeout stale now);
   next = t.next + 1;
 }
 

@@ -33,8 +33,8 @@ pub record Core : Type 0 where
   pub publications : List (List ℕ)  -- the one that stands is the last
 
 -- a lock whose permit is given now
-abbrev pub fresh_core : Option ℕ → ℕ → Bool → ℕ → Core
-fresh_core slot age_timeout stale now = record {
+abbrev pub new_core : Option ℕ → ℕ → Bool → ℕ → Core
+new_core slot age_timeout stale now = record {
   slot = slot;
   status = Waiting;
   start = now;

@@ -8,7 +8,7 @@ use Rattle.std.proofs.lemmas.List.FromFn.{get_or-map-range_with_len, length-map-
 use Rattle.std.proofs.lemmas.Option.{get_or_from_slice_get, slice_get-get_or, slice_get_within}
 use Rattle.lru.specs.LruCache.{lru_cache}
 use Rattle.pcache_base.specs.declared.reason.NoCacheReason.{NoCacheReason}
-use Rattle.pcache_table.specs.Sharding.{LruPart, fresh_lists, list_at, part_with, part_without}
+use Rattle.pcache_table.specs.Sharding.{LruPart, new_lists, list_at, part_with, part_without}
 use Rattle.pcache_table.proofs.ShardLists.{each-set}
 use Rattle.pcache_predict.specs.Lists.{AreKept, IsKept, list_seen, seen}
 use Rattle.pcache_predict.specs.Remembered.{Shard, empty_shard, found, marked, unmarked, place, shard_of, reason_of, after_mark, after_unmark}
@@ -22,8 +22,8 @@ seen-range : (a n c : ℕ) → seen (map (λ place. record { place = place; cap 
 seen-range a zero c = refl
 seen-range a (suc n) c = ap (λ ss. record { capacity = c; keys = [] } ∷ ss) (seen-range (a + 1) n c)
 
-pub seen-fresh : (n c : ℕ) → seen (fresh_lists n (max c 1)) ≡ replicate n (empty_shard c)
-seen-fresh n c = seen-range 0 n (max c 1)
+pub seen-new : (n c : ℕ) → seen (new_lists n (max c 1)) ≡ replicate n (empty_shard c)
+seen-new n c = seen-range 0 n (max c 1)
 
 distinct-none : IsDistinct nat_eq []
 unfolding IsDistinct
@@ -33,17 +33,17 @@ above : (c : ℕ) → 0 < max c 1
 above zero = omega arith
 above (suc c) = omega arith
 
-kept-fresh : (n c : ℕ) → 0 < c → AreKept (fresh_lists n c)
-kept-fresh n c some place p at =
+kept-new : (n c : ℕ) → 0 < c → AreKept (new_lists n c)
+kept-new n c some place p at =
     let made : ℕ → Part = λ place. record { place = place; cap = c; entries = [] } in
-    let within : place < n = subst (λ m. place < m) (length-map-range_with_len made 0 n) (slice_get_within (fresh_lists n c) place p at) in
-    let is : p ≡ made place = sym (get_or_from_slice_get (fresh_lists n c) place p p at) ∙ get_or-map-range_with_len made 0 n place place p within (omega arith) in
+    let within : place < n = subst (λ m. place < m) (length-map-range_with_len made 0 n) (slice_get_within (new_lists n c) place p at) in
+    let is : p ≡ made place = sym (get_or_from_slice_get (new_lists n c) place p p at) ∙ get_or-map-range_with_len made 0 n place place p within (omega arith) in
     subst IsKept (sym is) (distinct-none, omega arith, some)
 
-pub fresh-kept : (n c : ℕ) (ps : List Part) → 0 < n → ps ≡ fresh_lists n (max c 1) → (0 < n) × (length ps ≡ n) × AreKept ps
-fresh-kept n c ps some is =
+pub new-kept : (n c : ℕ) (ps : List Part) → 0 < n → ps ≡ new_lists n (max c 1) → (0 < n) × (length ps ≡ n) × AreKept ps
+new-kept n c ps some is =
     let made : ℕ → Part = λ place. record { place = place; cap = max c 1; entries = [] } in
-    subst (λ l. (0 < n) × (length l ≡ n) × AreKept l) (sym is) (some, length-map-range_with_len made 0 n, kept-fresh n (max c 1) (above c))
+    subst (λ l. (0 < n) × (length l ≡ n) × AreKept l) (sym is) (some, length-map-range_with_len made 0 n, kept-new n (max c 1) (above c))
 
 module _ (n k : ℕ) (ps : List Part) (some : 0 < n) (long : length ps ≡ n) (kept : AreKept ps) where
   within : k % n < length ps

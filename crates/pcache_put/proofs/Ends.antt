@@ -9,7 +9,7 @@ use Rattle.std.proofs.lemmas.List.Elements.{All-nil, All-cons, All-head, All-tai
 use Rattle.pcache_put.specs.HeadEnd.{IsEmpty, IsFull, IsWhole, EndsAt, IsUnfinished, joined}
 use Rattle.pcache_put.specs.Places.{next, place_after, CutsAt, NeverCuts}
 use Rattle.pcache_put.specs.declared.head_end.Place.{Place}
-use Rattle.pcache_put.specs.declared.head_end.Place.TheVariants.{Blank, BlankReturn, Inside, Fresh, FreshReturn, Ended}
+use Rattle.pcache_put.specs.declared.head_end.Place.TheVariants.{Blank, BlankReturn, Inside, LineStart, LineReturn, Ended}
 use Rattle.pcache_put.proofs.Joins.{place-append, CutsAt-unique}
 
 joined-cons : (l : List ℕ) (ls : List (List ℕ)) → joined (l ∷ ls) ≡ l ++ joined ls
@@ -23,21 +23,21 @@ text_inside (b ∷ text) all =
     let feed : (b == 0x0A) ≡ false = ne_eqb b 0x0A (All-head (λ x. x ≢ 0x0A) b text all) in
     rw feed (text_inside text (All-tail (λ x. x ≢ 0x0A) b text all))
 
-line_inside : (text : List ℕ) → All (λ b. b ≢ 0x0A) text → place_after Inside (text ++ 0x0A ∷ []) ≡ Fresh
+line_inside : (text : List ℕ) → All (λ b. b ≢ 0x0A) text → place_after Inside (text ++ 0x0A ∷ []) ≡ LineStart
 line_inside text all = place-append Inside text (0x0A ∷ []) ∙ ap (λ p. place_after p (0x0A ∷ [])) (text_inside text all)
 
 -- a line that is not empty, from a place at the start of a line
-full_from : (p q : Place) → ((b : ℕ) → b ≢ 0x0A → b ≢ 0x0D → next p b ≡ Inside) → next p 0x0D ≡ q → ((b : ℕ) → b ≢ 0x0A → next q b ≡ Inside) → (l : List ℕ) → IsFull l → place_after p l ≡ Fresh
+full_from : (p q : Place) → ((b : ℕ) → b ≢ 0x0A → b ≢ 0x0D → next p b ≡ Inside) → next p 0x0D ≡ q → ((b : ℕ) → b ≢ 0x0A → next q b ≡ Inside) → (l : List ℕ) → IsFull l → place_after p l ≡ LineStart
 full_from p q other return behind l full = by_text full.0.0 full.0.1 full.0.2 where
-  by_text : (text : List ℕ) → All (λ b. b ≢ 0x0A) text → l ≡ text ++ 0x0A ∷ [] → place_after p l ≡ Fresh
+  by_text : (text : List ℕ) → All (λ b. b ≢ 0x0A) text → l ≡ text ++ 0x0A ∷ [] → place_after p l ≡ LineStart
   by_text [] all is = absurd (full.1 (inl is))
-  by_text (b ∷ []) all is = elim (b == 0x0D) as (λ t. (b == 0x0D) ≡ t → place_after p l ≡ Fresh) [
+  by_text (b ∷ []) all is = elim (b == 0x0D) as (λ t. (b == 0x0D) ≡ t → place_after p l ≡ LineStart) [
     | true ↦ λ t. absurd (full.1 (inr (is ∙ ap (λ x. x ∷ 0x0A ∷ []) (eqb-true b 0x0D t))))
     | false ↦ λ t. ap (place_after p) is ∙ ap (λ r. place_after r (0x0A ∷ [])) (other b (All-head (λ x. x ≢ 0x0A) b [] all) (eqb-false b 0x0D t))
   ] refl
   by_text (b ∷ c ∷ text) all is =
       let rest = All-tail (λ x. x ≢ 0x0A) b (c ∷ text) all in
-      elim (b == 0x0D) as (λ t. (b == 0x0D) ≡ t → place_after p l ≡ Fresh) [
+      elim (b == 0x0D) as (λ t. (b == 0x0D) ≡ t → place_after p l ≡ LineStart) [
         | true ↦ λ t.
             let back : next p b ≡ q = ap (next p) (eqb-true b 0x0D t) ∙ return in
             ap (place_after p) is ∙ ap (λ r. place_after r (c ∷ text ++ 0x0A ∷ [])) back
@@ -52,10 +52,10 @@ blank_other b feed return = rw (ne_eqb b 0x0A feed, ne_eqb b 0x0D return) refl
 blank_return : (b : ℕ) → b ≢ 0x0A → next BlankReturn b ≡ Inside
 blank_return b feed = rw (ne_eqb b 0x0A feed) refl
 
-fresh_other : (b : ℕ) → b ≢ 0x0A → b ≢ 0x0D → next Fresh b ≡ Inside
-fresh_other b feed return = rw (ne_eqb b 0x0A feed, ne_eqb b 0x0D return) refl
+line_start_other : (b : ℕ) → b ≢ 0x0A → b ≢ 0x0D → next LineStart b ≡ Inside
+line_start_other b feed return = rw (ne_eqb b 0x0A feed, ne_eqb b 0x0D return) refl
 
-fresh_return : (b : ℕ) → b ≢ 0x0A → next FreshReturn b ≡ Inside
+fresh_return : (b : ℕ) → b ≢ 0x0A → next LineReturn b ≡ Inside
 fresh_return b feed = rw (ne_eqb b 0x0A feed) refl
 
 empty_skipped : (l : List ℕ) → IsEmpty l → place_after Blank l ≡ Blank
@@ -67,14 +67,14 @@ all_skipped [] all = refl
 all_skipped (l ∷ ls) all =
     ap (place_after Blank) (joined-cons l ls) ∙ place-append Blank l (joined ls) ∙ ap (λ p. place_after p (joined ls)) (empty_skipped l (All-head IsEmpty l ls all)) ∙ all_skipped ls (All-tail IsEmpty l ls all)
 
-all_fresh : (ls : List (List ℕ)) → All IsFull ls → place_after Fresh (joined ls) ≡ Fresh
+all_fresh : (ls : List (List ℕ)) → All IsFull ls → place_after LineStart (joined ls) ≡ LineStart
 all_fresh [] all = refl
 all_fresh (l ∷ ls) all =
-    ap (place_after Fresh) (joined-cons l ls) ∙ place-append Fresh l (joined ls)
-    ∙ ap (λ p. place_after p (joined ls)) (full_from Fresh FreshReturn fresh_other refl fresh_return l (All-head IsFull l ls all)) ∙ all_fresh ls (All-tail IsFull l ls all)
+    ap (place_after LineStart) (joined-cons l ls) ∙ place-append LineStart l (joined ls)
+    ∙ ap (λ p. place_after p (joined ls)) (full_from LineStart LineReturn line_start_other refl fresh_return l (All-head IsFull l ls all)) ∙ all_fresh ls (All-tail IsFull l ls all)
 
 -- the place before the last line
-before_last : (h : List ℕ) (w : IsWhole h) → place_after Blank (joined w.skipped ++ (w.first ++ joined w.lines)) ≡ Fresh
+before_last : (h : List ℕ) (w : IsWhole h) → place_after Blank (joined w.skipped ++ (w.first ++ joined w.lines)) ≡ LineStart
 before_last h w =
     place-append Blank (joined w.skipped) (w.first ++ joined w.lines) ∙ ap (λ p. place_after p (w.first ++ joined w.lines)) (all_skipped w.skipped w.empty)
     ∙ place-append Blank w.first (joined w.lines) ∙ ap (λ p. place_after p (joined w.lines)) (full_from Blank BlankReturn blank_other refl blank_return w.first w.begins) ∙ all_fresh w.lines w.full
@@ -108,19 +108,19 @@ last_of h w = by_last w.ends where
         front = front;
         byte = 0x0A;
         parts = parts;
-        open_there = λ e. (let both : Fresh ≡ Ended = sym place ∙ e in cc both);
+        open_there = λ e. (let both : LineStart ≡ Ended = sym place ∙ e in cc both);
         ended_there = ap (place_after Blank) parts ∙ place-append Blank front (0x0A ∷ []) ∙ ap (λ p. place_after p (0x0A ∷ [])) place;
       }
   by_last (inr is) =
       let front = front_of h w in
       let place = before_last h w in
       let parts : h ≡ (front ++ 0x0D ∷ []) ++ 0x0A ∷ [] = whole_of h w ∙ ap (λ x. front ++ x) is ∙ sym (append_assoc front (0x0D ∷ []) (0x0A ∷ [])) in
-      let there : place_after Blank (front ++ 0x0D ∷ []) ≡ FreshReturn = place-append Blank front (0x0D ∷ []) ∙ ap (λ p. place_after p (0x0D ∷ [])) place in
+      let there : place_after Blank (front ++ 0x0D ∷ []) ≡ LineReturn = place-append Blank front (0x0D ∷ []) ∙ ap (λ p. place_after p (0x0D ∷ [])) place in
       record {
         front = front ++ 0x0D ∷ [];
         byte = 0x0A;
         parts = parts;
-        open_there = λ e. (let both : FreshReturn ≡ Ended = sym there ∙ e in cc both);
+        open_there = λ e. (let both : LineReturn ≡ Ended = sym there ∙ e in cc both);
         ended_there = ap (place_after Blank) parts ∙ place-append Blank (front ++ 0x0D ∷ []) (0x0A ∷ []) ∙ ap (λ p. place_after p (0x0A ∷ [])) there;
       }
 
@@ -258,8 +258,8 @@ whole_more l w empty h = record {
 -- what each place leads to
 record Leads (w : List ℕ) : Type 0 where
   inside : (f : List ℕ) → IsFront f → Stops Inside w → Begun f w
-  fresh : Stops Fresh w → Left w
-  fresh_return : Stops FreshReturn w → Left (0x0D ∷ w)
+  starting : Stops LineStart w → Left w
+  fresh_return : Stops LineReturn w → Left (0x0D ∷ w)
   blank : Stops Blank w → IsWhole w
   blank_return : Stops BlankReturn w → IsWhole (0x0D ∷ w)
 
@@ -276,32 +276,32 @@ leads_more b w s = record {
         line = f ++ 0x0A ∷ [];
         full = front_full f k;
         left = w;
-        rest = s.fresh (stops_step Inside Fresh b w (rw t refl) stops);
+        rest = s.starting (stops_step Inside LineStart b w (rw t refl) stops);
         whole = ap (λ x. f ++ x ∷ w) (eqb-true b 0x0A t) ∙ sym (append_assoc f (0x0A ∷ []) w);
       })
       (λ t.
       let on = s.inside (f ++ b ∷ []) (front_push f b (eqb-false b 0x0A t) k) (stops_step Inside Inside b w (rw t refl) stops) in
       record { line = on.line; full = on.full; left = on.left; rest = on.rest; whole = sym (append_assoc f (b ∷ []) w) ∙ on.whole });
-  fresh = λ stops. by_byte b 0x0A
+  starting = λ stops. by_byte b 0x0A
       (λ t. record {
         lines = [];
         last = 0x0A ∷ [];
         full = All-nil IsFull;
         ends = inl refl;
-        whole = ap (λ x. x ∷ w) (eqb-true b 0x0A t) ∙ ap (λ x. 0x0A ∷ x) (stops_over w (stops_step Fresh Ended b w (rw t refl) stops));
+        whole = ap (λ x. x ∷ w) (eqb-true b 0x0A t) ∙ ap (λ x. 0x0A ∷ x) (stops_over w (stops_step LineStart Ended b w (rw t refl) stops));
       })
       (λ t. by_byte b 0x0D
-      (λ u. subst (λ x. Left (x ∷ w)) (sym (eqb-true b 0x0D u)) (s.fresh_return (stops_step Fresh FreshReturn b w (rw (t, u) refl) stops)))
-      (λ u. more_left (b ∷ []) w (s.inside (b ∷ []) (front_one b (eqb-false b 0x0A t) (eqb-false b 0x0D u)) (stops_step Fresh Inside b w (rw (t, u) refl) stops))));
+      (λ u. subst (λ x. Left (x ∷ w)) (sym (eqb-true b 0x0D u)) (s.fresh_return (stops_step LineStart LineReturn b w (rw (t, u) refl) stops)))
+      (λ u. more_left (b ∷ []) w (s.inside (b ∷ []) (front_one b (eqb-false b 0x0A t) (eqb-false b 0x0D u)) (stops_step LineStart Inside b w (rw (t, u) refl) stops))));
   fresh_return = λ stops. by_byte b 0x0A
       (λ t. record {
         lines = [];
         last = 0x0D ∷ 0x0A ∷ [];
         full = All-nil IsFull;
         ends = inr refl;
-        whole = ap (λ x. 0x0D ∷ x ∷ w) (eqb-true b 0x0A t) ∙ ap (λ x. 0x0D ∷ 0x0A ∷ x) (stops_over w (stops_step FreshReturn Ended b w (rw t refl) stops));
+        whole = ap (λ x. 0x0D ∷ x ∷ w) (eqb-true b 0x0A t) ∙ ap (λ x. 0x0D ∷ 0x0A ∷ x) (stops_over w (stops_step LineReturn Ended b w (rw t refl) stops));
       })
-      (λ t. more_left (0x0D ∷ b ∷ []) w (s.inside (0x0D ∷ b ∷ []) (front_two b (eqb-false b 0x0A t)) (stops_step FreshReturn Inside b w (rw t refl) stops)));
+      (λ t. more_left (0x0D ∷ b ∷ []) w (s.inside (0x0D ∷ b ∷ []) (front_two b (eqb-false b 0x0A t)) (stops_step LineReturn Inside b w (rw t refl) stops)));
   blank = λ stops. by_byte b 0x0A
       (λ t. subst (λ x. IsWhole (x ∷ w)) (sym (eqb-true b 0x0A t)) (whole_more (0x0A ∷ []) w (inl refl) (s.blank (stops_step Blank Blank b w (rw t refl) stops))))
       (λ t. by_byte b 0x0D
@@ -315,8 +315,8 @@ leads_more b w s = record {
 leads_all : (w : List ℕ) → Leads w
 leads_all [] = record {
   inside = λ f k s. open_end Inside (λ e. cc e) s;
-  fresh = λ s. open_end Fresh (λ e. cc e) s;
-  fresh_return = λ s. open_end FreshReturn (λ e. cc e) s;
+  starting = λ s. open_end LineStart (λ e. cc e) s;
+  fresh_return = λ s. open_end LineReturn (λ e. cc e) s;
   blank = λ s. open_end Blank (λ e. cc e) s;
   blank_return = λ s. open_end BlankReturn (λ e. cc e) s;
 }

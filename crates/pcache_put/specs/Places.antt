@@ -1,15 +1,15 @@
 -- How the code finds the end of a head, byte by byte (`HeadEnd` says where it is).
 use Rattle.std.specs.Prelude.{◌≡◌, ◌≢◌, ℕ, ◌<◌, ◌≤◌, List, length, take, fold, ◌==◌, if◌then◌else◌}
 use Rattle.pcache_put.specs.declared.head_end.Place.{Place}
-use Rattle.pcache_put.specs.declared.head_end.Place.TheVariants.{Blank, BlankReturn, Inside, Fresh, FreshReturn, Ended}
+use Rattle.pcache_put.specs.declared.head_end.Place.TheVariants.{Blank, BlankReturn, Inside, LineStart, LineReturn, Ended}
 
 -- where the next byte stands, after b
 abbrev pub next : Place → ℕ → Place
 next Blank b = if b == 10 then Blank else if b == 13 then BlankReturn else Inside
 next BlankReturn b = if b == 10 then Blank else Inside
-next Inside b = if b == 10 then Fresh else Inside
-next Fresh b = if b == 10 then Ended else if b == 13 then FreshReturn else Inside
-next FreshReturn b = if b == 10 then Ended else Inside
+next Inside b = if b == 10 then LineStart else Inside
+next LineStart b = if b == 10 then Ended else if b == 13 then LineReturn else Inside
+next LineReturn b = if b == 10 then Ended else Inside
 next Ended b = Ended
 
 -- where the byte after these stands

@@ -18,9 +18,9 @@ pub(crate) enum Place {
     // In a line.
     Inside,
     // At the start of a line after the first.
-    Fresh,
+    LineStart,
     // After a CR there.
-    FreshReturn,
+    LineReturn,
     // After the empty line that ends the head.
     Ended,
 }
@@ -31,9 +31,9 @@ fn next(place: Place, byte: u8) -> Place
     match (place, byte) {
         (Place::Blank, b'\n') | (Place::BlankReturn, b'\n') => Place::Blank,
         (Place::Blank, b'\r') => Place::BlankReturn,
-        (Place::Inside, b'\n') => Place::Fresh,
-        (Place::Fresh, b'\n') | (Place::FreshReturn, b'\n') | (Place::Ended, _) => Place::Ended,
-        (Place::Fresh, b'\r') => Place::FreshReturn,
+        (Place::Inside, b'\n') => Place::LineStart,
+        (Place::LineStart, b'\n') | (Place::LineReturn, b'\n') | (Place::Ended, _) => Place::Ended,
+        (Place::LineStart, b'\r') => Place::LineReturn,
         _ => Place::Inside,
     }
 }

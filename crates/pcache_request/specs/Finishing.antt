@@ -11,7 +11,7 @@ use Rattle.pcache_evict.specs.Entry.{key_of, id_of}
 use Rattle.pcache_evict.specs.Tracked.{Tracked, Limits, IsFair, without, raised}
 use Rattle.pcache_lock.specs.declared.lock.status.LockStatus.{LockStatus}
 use Rattle.pcache_lock.specs.declared.lock.status.LockStatus.TheVariants.{Done, TransientError}
-use Rattle.pcache_store.specs.Store.{Store, stands, finished, dropped, purged}
+use Rattle.pcache_store.specs.Store.{Store, is_untouched, finished, dropped, purged}
 use Rattle.pcache_store.specs.Refusals.{MayRefuseFinish}
 use Rattle.pcache_store.specs.declared.storage.MissFinishType.{MissFinishType}
 use Rattle.pcache_store.specs.declared.storage.MissFinishType.TheVariants.{Created, Appended}
@@ -49,7 +49,7 @@ Admits false limits kind e m out m' = (out ≡ []) × (m' ≡ m)
 -- the write w of the key k, whose entry has the number id, is stored and admitted if a manager is used, and what is
 -- evicted is purged; `Lets` says what becomes of a lock that is held, by the status that a permit is released with
 pub record Stores (always_purges used : Bool) (id : Option ℕ) (Lets : LockStatus → Type 0) (k : Key) (w : ℕ) (kind : MissFinishType) (limits : Limits) (size failed : ℕ) (out : List CacheEntryKey) (s s' : Store) (m m' : Tracked) : Type 0 where
-  pub untouched : stands s w ≡ true
+  pub untouched : is_untouched s w ≡ true
   pub size_is : size ≡ size_told kind
   pub admitted : Admits used limits kind (entry_of k id) m out m'
   pub purges : PurgesAll (finished s w) out failed s'
@@ -66,7 +66,7 @@ pub record Drops (Lets : LockStatus → Type 0) (w : ℕ) (e : ErrorType) (s s' 
 -- the write w of the key k is stored, but its admission is refused, and its key is purged again
 pub record Withdraws (always_purges : Bool) (Lets : LockStatus → Type 0) (k : Key) (w : ℕ) (e : ErrorType) (s s' : Store) (m m' : Tracked) : Type 0 where
   pub why : e ≡ OutOfMemory
-  pub untouched : stands s w ≡ true
+  pub untouched : is_untouched s w ≡ true
   pub purged : (s' ≡ purged (finished s w) (slot k)) ⊎ ((always_purges ≡ false) × (s' ≡ finished s w))
   pub tracked : m' ≡ m
   pub released : Lets Done

@@ -64,12 +64,12 @@ abbrev pub new_request : Request
 new_request = record { phase = phase.Disabled reason.NeverEnabled; uses = nothing_used; key = None; meta = None; held = None; reader = None; write = None; entry = None; wait_timeout = None; max_retries = None; waits_since = None; valid_after = None; stale_variance = None; size = None; predicted = None; has_policy = false; digest = empty_digest }
 
 -- a request that was just enabled
-abbrev pub fresh_request : InUse → Request
-fresh_request uses = record { phase = phase.Uninit; uses = uses; key = None; meta = None; held = None; reader = None; write = None; entry = None; wait_timeout = None; max_retries = None; waits_since = None; valid_after = None; stale_variance = None; size = None; predicted = None; has_policy = false; digest = empty_digest }
+abbrev pub enabled_request : InUse → Request
+enabled_request uses = record { phase = phase.Uninit; uses = uses; key = None; meta = None; held = None; reader = None; write = None; entry = None; wait_timeout = None; max_retries = None; waits_since = None; valid_after = None; stale_variance = None; size = None; predicted = None; has_policy = false; digest = empty_digest }
 
 -- a request that is enabled keeps its digest
 abbrev pub enabled_with : InUse → Request → Request
-enabled_with uses r = let fresh : Request = fresh_request uses in record fresh { digest = r.digest }
+enabled_with uses r = let made : Request = enabled_request uses in record made { digest = r.digest }
 
 -- a phase after the key's has a key
 abbrev pub HasKey : {K : Type 0} → CachePhase → Option K → Type 0

@@ -121,7 +121,7 @@ module _ (xs : FinMap nat_cmp Slot) (b s : ℕ) (h : IsCounted xs b s) where
         ] refl
 
     pub counted_shut : (n : ℕ) → IsCounted (shut_on xs k n (get xs k)) b s
-    counted_shut n = elim (get xs k) as (λ o. get xs k ≡ o → IsCounted (shut_on xs k n o) b s) [ None ↦ λ e. h | Some x ↦ λ e. with_slot_counted (record x { fresh = remove x.fresh n }) (ap complete_body (sym e)) ] refl
+    counted_shut n = elim (get xs k) as (λ o. get xs k ≡ o → IsCounted (shut_on xs k n o) b s) [ None ↦ λ e. h | Some x ↦ λ e. with_slot_counted (record x { untouched = remove x.untouched n }) (ap complete_body (sym e)) ] refl
 
     pub counted_changed : (f : Meta → Meta) → IsCounted (meta_changed_on f xs k (get xs k)) b s
     counted_changed f = elim (get xs k) as (λ o. get xs k ≡ o → IsCounted (meta_changed_on f xs k o) b s) [ None ↦ λ e. h | Some x ↦ λ e. inside x (x.body) (ap complete_body (sym e)) ] refl
@@ -136,5 +136,5 @@ module _ (xs : FinMap nat_cmp Slot) (b s : ℕ) (h : IsCounted xs b s) where
         let q = has_bytes in
         elim (get xs k) as (λ o. IsSome o → IsCounted (stored_on xs k n c o) (b - fewer + 1) (s - less + size)) [
           | None ↦ λ t. cc
-          | Some x ↦ λ t. counted_insert (record { body = Some c; fresh = remove x.fresh n }) (b - fewer + 1) (s - less + size) (omega arith) (omega arith) (subst (λ m. m < 2 ^ 63) es lt)
+          | Some x ↦ λ t. counted_insert (record { body = Some c; untouched = remove x.untouched n }) (b - fewer + 1) (s - less + size) (omega arith) (omega arith) (subst (λ m. m < 2 ^ 63) es lt)
         ] there

@@ -102,12 +102,12 @@ module _ (ms : List Map) (key : ℕ) (d : Map) (long : length ms ≡ 16) (placed
   pub changed-shut : (n : ℕ) → Changed ms key (shut_on (slice_index_or ms (key % 16) d) key n (get (slice_index_or ms (key % 16) d) key)) (shut_on (joined (parts 0 ms)) key n (get (joined (parts 0 ms)) key))
   changed-shut n =
       subst (λ o. Changed ms key (shut_on (slice_index_or ms (key % 16) d) key n (get (slice_index_or ms (key % 16) d) key)) (shut_on (joined (parts 0 ms)) key n o)) here
-      (elim (get (slice_index_or ms (key % 16) d) key) as (λ o. Changed ms key (shut_on (slice_index_or ms (key % 16) d) key n o) (shut_on (joined (parts 0 ms)) key n o)) [ None ↦ changed-same | Some x ↦ changed-with (record x { fresh = remove x.fresh n }) ])
+      (elim (get (slice_index_or ms (key % 16) d) key) as (λ o. Changed ms key (shut_on (slice_index_or ms (key % 16) d) key n o) (shut_on (joined (parts 0 ms)) key n o)) [ None ↦ changed-same | Some x ↦ changed-with (record x { untouched = remove x.untouched n }) ])
 
   pub changed-stored : (n : ℕ) (b : Stored) → Changed ms key (stored_on (slice_index_or ms (key % 16) d) key n b (get (slice_index_or ms (key % 16) d) key)) (stored_on (joined (parts 0 ms)) key n b (get (joined (parts 0 ms)) key))
   changed-stored n b =
       subst (λ o. Changed ms key (stored_on (slice_index_or ms (key % 16) d) key n b (get (slice_index_or ms (key % 16) d) key)) (stored_on (joined (parts 0 ms)) key n b o)) here
-      (elim (get (slice_index_or ms (key % 16) d) key) as (λ o. Changed ms key (stored_on (slice_index_or ms (key % 16) d) key n b o) (stored_on (joined (parts 0 ms)) key n b o)) [ None ↦ changed-same | Some x ↦ changed-insert (record { body = Some b; fresh = remove x.fresh n }) ])
+      (elim (get (slice_index_or ms (key % 16) d) key) as (λ o. Changed ms key (stored_on (slice_index_or ms (key % 16) d) key n b o) (stored_on (joined (parts 0 ms)) key n b o)) [ None ↦ changed-same | Some x ↦ changed-insert (record { body = Some b; untouched = remove x.untouched n }) ])
 
   changed-meta-in : (f : Meta → Meta) (x : Slot) (o : Option Stored) → Changed ms key (meta_changed_in f (slice_index_or ms (key % 16) d) key x o) (meta_changed_in f (joined (parts 0 ms)) key x o)
   changed-meta-in f x None = changed-same
@@ -124,7 +124,7 @@ module _ (ms : List Map) (key : ℕ) (d : Map) (long : length ms ≡ 16) (placed
 
 -- which calls leave a key where it is
 pub held-stored : (m : Map) (key n : ℕ) (b : Stored) → held (get (stored_on m key n b (get m key)) key) ≡ held (get m key)
-held-stored m key n b = elim (get m key) as (λ o. get m key ≡ o → held (get (stored_on m key n b o) key) ≡ held o) [ None ↦ λ e. ap held e | Some x ↦ λ e. ap held (get-insert-at m key (record { body = Some b; fresh = remove x.fresh n })) ] refl
+held-stored m key n b = elim (get m key) as (λ o. get m key ≡ o → held (get (stored_on m key n b o) key) ≡ held o) [ None ↦ λ e. ap held e | Some x ↦ λ e. ap held (get-insert-at m key (record { body = Some b; untouched = remove x.untouched n })) ] refl
 
 pub held-meta : (m : Map) (key : ℕ) (f : Meta → Meta) → held (get (meta_changed_on f m key (get m key)) key) ≡ held (get m key)
 held-meta m key f = elim (get m key) as (λ o. get m key ≡ o → held (get (meta_changed_on f m key o) key) ≡ held o) [ None ↦ λ e. ap held e | Some x ↦ λ e. inside x x.body e ] refl

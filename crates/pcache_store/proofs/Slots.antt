@@ -13,13 +13,13 @@ module _ (xs : FinMap nat_cmp Slot) (k : ℕ) (x v : Slot) (m : FinMap nat_cmp S
   pub same_slot : v ≡ x → m ≡ xs
   same_slot e = set ∙ ap (insert xs k) e ∙ insert_same xs k x is
 
-  pub shut_there : (n : ℕ) → v ≡ record x { fresh = remove x.fresh n } → is_idle v ≡ false → m ≡ shut_on xs k n (get xs k)
+  pub shut_there : (n : ℕ) → v ≡ record x { untouched = remove x.untouched n } → is_idle v ≡ false → m ≡ shut_on xs k n (get xs k)
   shut_there n e busy = set ∙ ap (λ b. cond b (remove xs k) (insert xs k v)) (sym busy) ∙ ap (with_slot xs k) e ∙ ap (shut_on xs k n) is
 
-  pub shut_gone : (n : ℕ) (r : FinMap nat_cmp Slot) → v ≡ record x { fresh = remove x.fresh n } → is_idle v ≡ true → r ≡ remove m k → r ≡ shut_on xs k n (get xs k)
+  pub shut_gone : (n : ℕ) (r : FinMap nat_cmp Slot) → v ≡ record x { untouched = remove x.untouched n } → is_idle v ≡ true → r ≡ remove m k → r ≡ shut_on xs k n (get xs k)
   shut_gone n r e idle out = out ∙ ap (λ y. remove y k) set ∙ remove-insert xs k v ∙ ap (λ b. cond b (remove xs k) (insert xs k v)) (sym idle) ∙ ap (with_slot xs k) e ∙ ap (shut_on xs k n) is
 
-  pub stored_there : (n : ℕ) (b : Stored) → v ≡ record { body = Some b; fresh = remove x.fresh n } → m ≡ stored_on xs k n b (get xs k)
+  pub stored_there : (n : ℕ) (b : Stored) → v ≡ record { body = Some b; untouched = remove x.untouched n } → m ≡ stored_on xs k n b (get xs k)
   stored_there n b e = set ∙ ap (insert xs k) e ∙ ap (stored_on xs k n b) is
 
   changed_in : (f : Meta → Meta) (o : Option Stored) → v ≡ with_meta f x o → m ≡ meta_changed_in f xs k x o

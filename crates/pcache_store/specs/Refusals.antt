@@ -2,7 +2,7 @@
 use Rattle.std.specs.Prelude.{◌≡◌, ◌<◌, ◌≤◌, ◌^◌, false, true, ℕ}
 use Rattle.pcache_base.specs.declared.error.ErrorType.{ErrorType}
 use Rattle.pcache_base.specs.declared.error.ErrorType.TheVariants.{OutOfMemory, WriteRemoved, NumbersExhausted}
-use Rattle.pcache_store.specs.Store.{Store, stands}
+use Rattle.pcache_store.specs.Store.{Store, is_untouched}
 
 -- a new write: a lack of memory, or exactly when all numbers are used, that
 abbrev pub MayRefuseWrite : Store → ErrorType → Type 0
@@ -12,6 +12,6 @@ MayRefuseWrite s _ = ⊥
 
 -- the end of a write: a lack of memory, or exactly when its key was removed since it began, that
 abbrev pub MayRefuseFinish : Store → ℕ → ErrorType → Type 0
-MayRefuseFinish s n OutOfMemory = stands s n ≡ true
-MayRefuseFinish s n WriteRemoved = stands s n ≡ false
+MayRefuseFinish s n OutOfMemory = is_untouched s n ≡ true
+MayRefuseFinish s n WriteRemoved = is_untouched s n ≡ false
 MayRefuseFinish s n _ = ⊥

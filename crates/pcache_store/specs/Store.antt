@@ -24,7 +24,7 @@ pub record Written : Type 0 where
 -- what stands under a key: a complete body, and the numbers of the writes in flight that met no removal
 pub record Slot : Type 0 where
   pub body : Option Stored
-  pub fresh : FinMap nat_cmp (Unit {0})
+  pub untouched : FinMap nat_cmp (Unit {0})
 
 -- the slots by key, the writes by number, and the number of the next write
 pub record Store : Type 0 where
@@ -52,7 +52,7 @@ found_first ws (Some n) b = found_part n (get ws n)
 
 abbrev pub found_in : FinMap nat_cmp Written → Option Slot → Option (Meta × Reader)
 found_in ws None = None
-found_in ws (Some x) = found_first ws (least x.fresh) x.body
+found_in ws (Some x) = found_first ws (least x.untouched) x.body
 
 abbrev pub find : Store → ℕ → Option (Meta × Reader)
 find s k = found_in s.writes (get s.slots k)
@@ -101,18 +101,18 @@ left s (Part n place) = record s { writes = left_on s.writes n (get s.writes n) 
 
 -- a slot that holds nothing is taken out
 abbrev pub is_idle : Slot → Bool
-is_idle x = is_none x.body && (len x.fresh == 0)
+is_idle x = is_none x.body && (len x.untouched == 0)
 
 abbrev pub with_slot : FinMap nat_cmp Slot → ℕ → Slot → FinMap nat_cmp Slot
 with_slot xs k x = cond (is_idle x) (remove xs k) (insert xs k x)
 
 -- a new write of a key
 abbrev pub slot_or_new : Option Slot → Slot
-slot_or_new None = record { body = None; fresh = empty }
+slot_or_new None = record { body = None; untouched = empty }
 slot_or_new (Some x) = x
 
 abbrev pub opened_in : Slot → ℕ → Slot
-opened_in x n = record x { fresh = insert x.fresh n tt }
+opened_in x n = record x { untouched = insert x.untouched n tt }
 
 abbrev pub opened : FinMap nat_cmp Slot → ℕ → ℕ → FinMap nat_cmp Slot
 opened xs k n = insert xs k (opened_in (slot_or_new (get xs k)) n)
@@ -137,16 +137,16 @@ is_told None = false
 is_told (Some w) = w.told
 
 -- whether a write is in flight and met no removal: its number is in its key's slot
-abbrev pub is_fresh_in : ℕ → Option Slot → Bool
-is_fresh_in n None = false
-is_fresh_in n (Some x) = contains_key x.fresh n
+abbrev pub is_untouched_in : ℕ → Option Slot → Bool
+is_untouched_in n None = false
+is_untouched_in n (Some x) = contains_key x.untouched n
 
-abbrev pub stands_on : Store → ℕ → Option Written → Bool
-stands_on s n None = false
-stands_on s n (Some w) = is_fresh_in n (get s.slots w.slot)
+abbrev pub is_untouched_on : Store → ℕ → Option Written → Bool
+is_untouched_on s n None = false
+is_untouched_on s n (Some w) = is_untouched_in n (get s.slots w.slot)
 
-abbrev pub stands : Store → ℕ → Bool
-stands s n = stands_on s n (get s.writes n)
+abbrev pub is_untouched : Store → ℕ → Bool
+is_untouched s n = is_untouched_on s n (get s.writes n)
 
 -- a write whose handler is gone, and its number gone from its key's slot
 abbrev pub grounded : FinMap nat_cmp Written → ℕ → Written → FinMap nat_cmp Written
@@ -158,7 +158,7 @@ grounded_on ws n (Some w) = grounded ws n w
 
 abbrev pub shut_on : FinMap nat_cmp Slot → ℕ → ℕ → Option Slot → FinMap nat_cmp Slot
 shut_on xs k n None = xs
-shut_on xs k n (Some x) = with_slot xs k (record x { fresh = remove x.fresh n })
+shut_on xs k n (Some x) = with_slot xs k (record x { untouched = remove x.untouched n })
 
 abbrev pub shut : FinMap nat_cmp Slot → ℕ → ℕ → FinMap nat_cmp Slot
 shut xs k n = shut_on xs k n (get xs k)
@@ -174,7 +174,7 @@ dropped s n = dropped_on s n (get s.writes n)
 -- a write finished: its body stands in place of an older one
 abbrev pub stored_on : FinMap nat_cmp Slot → ℕ → ℕ → Stored → Option Slot → FinMap nat_cmp Slot
 stored_on xs k n b None = xs
-stored_on xs k n b (Some x) = insert xs k (record { body = Some b; fresh = remove x.fresh n })
+stored_on xs k n b (Some x) = insert xs k (record { body = Some b; untouched = remove x.untouched n })
 
 abbrev pub finished_on : Store → ℕ → Option Written → Store
 finished_on s n None = s

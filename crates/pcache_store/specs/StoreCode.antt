@@ -23,8 +23,8 @@ abbrev pub slot_code : Coded Slot
 slot_code =
     code_by (Option Stored × FinMap nat_cmp (Unit {0}))
     (coded× (coded_option stored_code) (set.code coded_ℕ))
-    (λ x. (x.body, x.fresh))
-    (λ p. record { body = p.0; fresh = p.1 })
+    (λ x. (x.body, x.untouched))
+    (λ p. record { body = p.0; untouched = p.1 })
     (λ _. refl)
 
 abbrev pub store_code : Coded Store

@@ -7,7 +7,7 @@ ghost use Rattle.pcache_store.specs.Finishes.{created};
 ghost use Rattle.pcache_store.specs.Purge.{target_slot};
 ghost use Rattle.pcache_store.specs.Refusals.{MayRefuseFinish};
 ghost use Rattle.pcache_store.specs.Shards.{of_shard};
-ghost use Rattle.pcache_store.specs.Store.{joined, left, wrote, dropped, finished, stands, left_on, found_part};
+ghost use Rattle.pcache_store.specs.Store.{joined, left, wrote, dropped, finished, is_untouched, left_on, found_part};
 ghost use Rattle.pcache_store.specs.Tag.{named_by};
 ghost use Rattle.pcache_store.specs.Totals.{stored_bytes, slots};
 
@@ -172,7 +172,7 @@ impl MemCache {
     pub(crate) fn finish(&mut self, slot: u128, number: u128) -> Result<MissFinishType>
         ensures answer { IfOk result (λ f. f ≡ created self.old number) }
         ensures ok { OnOk result (self.new ≡ finished self.old number) }
-        ensures untouched { OnOk result (stands self.old number ≡ true) }
+        ensures untouched { OnOk result (is_untouched self.old number ≡ true) }
         ensures kind { IfErr result (λ e. MayRefuseFinish self.old number e) }
         ensures err { OnErr result (self.new ≡ dropped self.old number) }
     {
@@ -180,7 +180,7 @@ impl MemCache {
             return Err(Error::new(ErrorType::WriteRemoved));
         };
         let slot = draft.slot();
-        if !self.slots.is_fresh(slot, number) {
+        if !self.slots.is_untouched(slot, number) {
             self.drop_write(slot, number);
             return Err(Error::new(ErrorType::WriteRemoved));
         }

@@ -12,7 +12,7 @@ ghost use Rattle.pcache_store.specs.declared.storage.MissFinishType.{MissFinishT
 ghost use Rattle.pcache_store.specs.declared.storage.PurgeOutcome.TheVariants.{Expired};
 ghost use Rattle.pcache_store.specs.Purge.{target_key, removed_entry, IsNumberOf, target_slot, purged_at, purge_answer, expired_at, expire_answer};
 ghost use Rattle.pcache_store.specs.Refusals.{MayRefuseWrite, MayRefuseFinish};
-ghost use Rattle.pcache_store.specs.Store.{Store, Reader, find, find_write, followed, left, begun, wrote, dropped, finished, stands, complete_body, meta_changed, is_told, gives_piece, read_of, reader_after, sought, can_seek, counts_access, reader_weight};
+ghost use Rattle.pcache_store.specs.Store.{Store, Reader, find, find_write, followed, left, begun, wrote, dropped, finished, is_untouched, complete_body, meta_changed, is_told, gives_piece, read_of, reader_after, sought, can_seek, counts_access, reader_weight};
 ghost use Rattle.pcache_store.specs.Tag.{named_by};
 
 use bytes::Bytes;
@@ -311,7 +311,7 @@ pub trait HandleMiss<S: StoreMeaning> {
     fn finish(self, store: &mut S) -> Result<MissFinishType>
         ensures answer { IfOk result (λ f. f ≡ S.finishes store.old (write self)) }
         ensures ok { OnOk result (S.state store.new ≡ finished (S.state store.old) (write self)) }
-        ensures untouched { OnOk result (stands (S.state store.old) (write self) ≡ true) }
+        ensures untouched { OnOk result (is_untouched (S.state store.old) (write self) ≡ true) }
         ensures kind { IfErr result (λ e. MayRefuseFinish (S.state store.old) (write self) e) }
         ensures err { OnErr result (S.state store.new ≡ dropped (S.state store.old) (write self)) };
 

@@ -9,7 +9,7 @@ use Rattle.std.proofs.lemmas.List.FromFn.{get_or-map-range_with_len, length-map-
 use Rattle.std.proofs.lemmas.Option.{get_or_from_slice_get, slice_get-get_or, slice_get_within}
 use Rattle.lru.specs.LruCache.{LruCache, lru_cache, put_entries}
 use Rattle.lru.proofs.CallerLemmas.{Contains-put_entries, Contains-remove_entry}
-use Rattle.pcache_table.specs.Sharding.{AllInPlace, InPlace, LruPart, OwnKeys, fresh_lists, part_with, part_without}
+use Rattle.pcache_table.specs.Sharding.{AllInPlace, InPlace, LruPart, OwnKeys, new_lists, part_with, part_without}
 use Rattle.pcache_table.proofs.Sharded.{by_test, off_not}
 
 none_of : {X P : Type 0} (x : X) → Contains [] x → P
@@ -41,27 +41,27 @@ module _ {V : Type 0} where
   in-place-without shards place key p d is old = subst (InPlace shards place) (sym is) (old.0, own-remove shards place key p.entries old.1)
 
   -- shards that were just made
-  abbrev fresh : ℕ → ℕ → LruPart V
-  fresh c place = record { place = place; cap = c; entries = [] }
+  abbrev new_part : ℕ → ℕ → LruPart V
+  new_part c place = record { place = place; cap = c; entries = [] }
 
-  fresh_at : (shards c i : ℕ) (r : LruPart V) → slice_get (fresh_lists shards c) i ≡ Some r → r ≡ fresh c i
-  fresh_at shards c i r e =
-      let within : i < shards = subst (λ n. i < n) (length-map-range_with_len (fresh c) 0 shards) (slice_get_within (fresh_lists shards c) i r e) in
-      sym (get_or_from_slice_get (fresh_lists shards c) i r r e) ∙ get_or-map-range_with_len (fresh c) 0 shards i i r within (omega arith)
+  new_at : (shards c i : ℕ) (r : LruPart V) → slice_get (new_lists shards c) i ≡ Some r → r ≡ new_part c i
+  new_at shards c i r e =
+      let within : i < shards = subst (λ n. i < n) (length-map-range_with_len (new_part c) 0 shards) (slice_get_within (new_lists shards c) i r e) in
+      sym (get_or_from_slice_get (new_lists shards c) i r r e) ∙ get_or-map-range_with_len (new_part c) 0 shards i i r within (omega arith)
 
-  pub fresh-in-place : (shards c : ℕ) → AllInPlace {V = V} shards (fresh_lists shards c)
-  fresh-in-place shards c i r e =
-      let is = fresh_at shards c i r e in
+  pub new-in-place : (shards c : ℕ) → AllInPlace {V = V} shards (new_lists shards c)
+  new-in-place shards c i r e =
+      let is = new_at shards c i r e in
       subst (InPlace shards i) (sym is) (refl, λ x h. none_of x h)
 
-  pub fresh-more : (shards c : ℕ) → fresh_lists {V = V} (shards + 1) c ≡ fresh_lists shards c ++ fresh c shards ∷ []
-  fresh-more shards c = map-range_with_len_more (fresh c) 0 shards shards (omega arith)
+  pub new-more : (shards c : ℕ) → new_lists {V = V} (shards + 1) c ≡ new_lists shards c ++ new_part c shards ∷ []
+  new-more shards c = map-range_with_len_more (new_part c) 0 shards shards (omega arith)
 
-  pub made-in-place : (shards n c : ℕ) (ps : List (LruPart V)) → n ≡ shards → ps ≡ fresh_lists n c → (length ps ≡ shards) × AllInPlace shards ps
+  pub made-in-place : (shards n c : ℕ) (ps : List (LruPart V)) → n ≡ shards → ps ≡ new_lists n c → (length ps ≡ shards) × AllInPlace shards ps
   made-in-place shards n c ps e is =
-      let all : ps ≡ fresh_lists shards c = is ∙ ap (λ x. fresh_lists x c) e in (
-        ap length all ∙ length-map-range_with_len (fresh c) 0 shards,
-        subst (AllInPlace shards) (sym all) (fresh-in-place shards c),
+      let all : ps ≡ new_lists shards c = is ∙ ap (λ x. new_lists x c) e in (
+        ap length all ∙ length-map-range_with_len (new_part c) 0 shards,
+        subst (AllInPlace shards) (sym all) (new-in-place shards c),
       )
 
 -- one element changed at its place

@@ -75,8 +75,8 @@ abbrev pub list_at : {V : Type 0} → List (LruPart V) → ℕ → LruPart V
 list_at ps place = slice_index_or ps place (record { place = place; cap = 1; entries = [] })
 
 -- so many empty ones
-abbrev pub fresh_lists : {V : Type 0} → ℕ → ℕ → List (LruPart V)
-fresh_lists shards cap = map (λ place. record { place = place; cap = cap; entries = [] }) (range_with_len 0 shards)
+abbrev pub new_lists : {V : Type 0} → ℕ → ℕ → List (LruPart V)
+new_lists shards cap = map (λ place. record { place = place; cap = cap; entries = [] }) (range_with_len 0 shards)
 
 -- what a contract sees of the lock of such a shard: its place, and how many keys the shard may have
 pub record Seat : Type 0 where

@@ -207,7 +207,7 @@ published-table : (ds : List Deed) (n : ℕ → ℕ) (t : Locks) (l : ℕ) (toke
 published-table ds n t l tokens c k is =
     let new : Core = with_publication tokens c in
     record {
-      fresh = k.fresh;
+      unasked = k.unasked;
       locks = table.changed-at t.cores (insert t.cores l new) t.age_timeout ds (Published l tokens ∷ ds) n n l (Some new) (get-set t.cores l new) k.locks (ap (option_map plain) (sym is) ∙ k.locks l) (λ q f. refl);
       known = k.known;
       over = k.over;

@@ -12,7 +12,7 @@ use Rattle.pcache_lock.specs.declared.lock.permit.Locked.TheVariants.{Write, Rea
 use Rattle.pcache_lock.specs.declared.lock.status.LockStatus.{LockStatus}
 use Rattle.pcache_lock.specs.declared.lock.status.LockStatus.TheVariants as status
 use Rattle.pcache_lock.specs.Statuses.{IsReason, is_aged, is_pending, is_waiting}
-use Rattle.pcache_lock.specs.Permits.{Core, Permit, Reader, fresh_core, is_named, with_reader, without_reader, spent, released_status, dropped_status}
+use Rattle.pcache_lock.specs.Permits.{Core, Permit, Reader, new_core, is_named, with_reader, without_reader, spent, released_status, dropped_status}
 use Rattle.pcache_lock.specs.Locks.{Locks, no_locks, with_permit, with_read_lock, without_entry, kept, left, released, released_on, permit_dropped, reader_dropped, let_go}
 use Rattle.pcache_lock.specs.Waiting.{after_poll, table_at, stage_of, is_old, aged}
 use Rattle.pcache_lock.specs.Waits.{is_old_at}
@@ -200,7 +200,7 @@ aged-as age held s n o c k =
 
 pub table-none : (age : ℕ) → IsTable [] (λ l. 0) (no_locks age)
 table-none age = record {
-  fresh = λ l h. refl;
+  unasked = λ l h. refl;
   locks = λ l. ap (option_map plain) (get-empty nat_cmp l);
   known = λ l lt. absurd (omega arith);
   over = λ l asked h. absurd (cc);
@@ -261,7 +261,7 @@ module _ (ds : List Deed) (n : ℕ → ℕ) (t : Locks) (k : IsTable ds n t) whe
   given-asked l asked =
       elim (nat_lt l t.next) as (λ b. nat_lt l t.next ≡ b → l < t.next) [
         | true ↦ λ lt. ltb-true l t.next lt
-        | false ↦ λ f. let le : t.next ≤ l = grind (arith, nat_tests) in let no : false ≡ true = sym (ap is_some (k.fresh l le)) ∙ asked in absurd (cc)
+        | false ↦ λ f. let le : t.next ≤ l = grind (arith, nat_tests) in let no : false ≡ true = sym (ap is_some (k.unasked l le)) ∙ asked in absurd (cc)
       ] refl
 
   pub held-given : (l : ℕ) → is_held l ds ≡ true → l < t.next
@@ -270,7 +270,7 @@ module _ (ds : List Deed) (n : ℕ → ℕ) (t : Locks) (k : IsTable ds n t) whe
   unread : (l : ℕ) → t.next ≤ l → n l ≡ 0
   unread l le =
       elim (nat_lt 0 (n l)) as (λ b. nat_lt 0 (n l) ≡ b → n l ≡ 0) [
-        | true ↦ λ lt. let f : false ≡ true = sym (ap is_some (k.fresh l le)) ∙ k.known l (ltb-true 0 (n l) lt) in absurd (cc)
+        | true ↦ λ lt. let f : false ≡ true = sym (ap is_some (k.unasked l le)) ∙ k.known l (ltb-true 0 (n l) lt) in absurd (cc)
         | false ↦ λ f. grind (arith, nat_tests)
       ] refl
 
@@ -283,7 +283,7 @@ module _ (ds : List Deed) (n : ℕ → ℕ) (t : Locks) (k : IsTable ds n t) whe
       let was = kept-at t.cores u.cores t l o c refl set is says in
       record {
         table = record {
-          fresh = λ q le. asks q ∙ k.fresh q (omega (arith, next, le));
+          unasked = λ q le. asks q ∙ k.unasked q (omega (arith, next, le));
           locks = λ q. changed-at t.cores u.cores t.age_timeout ds es n m l o set k.locks here off q ∙ ap (λ a. lock_of a q (m q) es) (sym age);
           known = λ q lt. ap is_some (asks q) ∙ known q lt;
           over = λ q asked h. over q (sym (ap is_some (asks q)) ∙ asked) h;
@@ -297,7 +297,7 @@ module _ (ds : List Deed) (n : ℕ → ℕ) (t : Locks) (k : IsTable ds n t) whe
   -- the permit is given
   pub gives : (r slot : ℕ) (stale : Bool) (now : ℕ) → Follows (Asked r slot t.next true now ∷ ds) n t (with_permit t slot stale now)
   gives r slot stale now =
-      let new : Core = fresh_core (Some slot) t.age_timeout stale now in
+      let new : Core = new_core (Some slot) t.age_timeout stale now in
       let none : n t.next ≡ 0 = unread t.next (omega arith) in
       let made : option_map plain (Some new) ≡ lock_of t.age_timeout t.next (n t.next) (Asked r slot t.next true now ∷ ds) =
       sym (ap (λ b. if is_some (if b then Some r else who_holds t.next ds) || nat_lt 0 (n t.next)
@@ -305,7 +305,7 @@ module _ (ds : List Deed) (n : ℕ → ℕ) (t : Locks) (k : IsTable ds n t) whe
       ∙ ap (λ r. Some (lock_as t.age_timeout true status.Waiting r (slot, now))) none) in
       record {
         table = record {
-          fresh = λ l le. let old : t.next ≤ l = omega arith in ap (λ b. if b then Some (slot, now) else ask_of l ds) (ne_eqb t.next l (λ same. absurd (omega (arith, same)))) ∙ k.fresh l old;
+          unasked = λ l le. let old : t.next ≤ l = omega arith in ap (λ b. if b then Some (slot, now) else ask_of l ds) (ne_eqb t.next l (λ same. absurd (omega (arith, same)))) ∙ k.unasked l old;
           locks = changed-at t.cores (insert t.cores t.next new) t.age_timeout ds (Asked r slot t.next true now ∷ ds) n n t.next (Some new) (get-set t.cores t.next new) k.locks made (λ q f. rw f refl);
           known = λ l lt. elim (t.next == l) as (λ b. is_some (if b then Some (slot, now) else ask_of l ds) ≡ true) [ true ↦ refl | false ↦ k.known l lt ];
           over = λ l asked h. over-asked (t.next == l) r (slot, now) (who_holds l ds) (ask_of l ds) (status_of l ds) (k.over l) asked h;
@@ -404,7 +404,7 @@ module _ (ds : List Deed) (n : ℕ → ℕ) (t : Locks) (k : IsTable ds n t) whe
   -- a poll changes nothing
   pub polls : (r : ℕ) → Follows (Polled r ∷ ds) n t t
   polls r = record {
-    table = record { fresh = k.fresh; locks = k.locks; known = k.known; over = k.over; said = k.said };
+    table = record { unasked = k.unasked; locks = k.locks; known = k.known; over = k.over; said = k.said };
     age = refl;
     next = omega arith;
     kept = λ l c _ is. record { core = c; is = is; same = refl };
@@ -416,7 +416,7 @@ module _ (ds : List Deed) (n : ℕ → ℕ) (t : Locks) (k : IsTable ds n t) whe
       let same : (q : ℕ) → is_held q (Handed l r ∷ ds) ≡ is_held q ds = λ q. held-handed (l == q) r (who_holds q ds) in
       record {
         table = record {
-          fresh = k.fresh;
+          unasked = k.unasked;
           locks = λ q. k.locks q ∙ sym (ap (λ b. locked t.age_timeout b (status_of q ds) (n q) (ask_of q ds)) (same q));
           known = k.known;
           over = λ q asked h. k.over q asked (sym (same q) ∙ h);

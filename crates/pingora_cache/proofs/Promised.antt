@@ -25,7 +25,7 @@ use Rattle.pingora_cache.specs.declared.world.entry.Event.TheVariants as E
 use Rattle.pingora_cache.specs.Deeds.{deeds_of}
 use Rattle.pingora_cache.specs.Events.{begin_of, in_flight, body_of, is_told}
 use Rattle.pingora_cache.specs.Facts.{Facts, Says}
-use Rattle.pingora_cache.specs.Headline.{is_found, HasUntouched, HandsOnExactly, HandsOnUnhidden, told_found, TellsExactly, ReadsTheWhole, IsEntryOf, FindsUntouched, FinishesUntouched, HitsTheLast, StaysWithin, EvictsNothingWithin, GivesWhereNoneWaits}
+use Rattle.pingora_cache.specs.Headline.{is_found, HasUntouched, HandsOnExactly, HandsOnUnhidden, told_found, TellsExactly, ReadsTheWhole, IsEntryOf, FindsUntouched, FinishesUntouched, HitsTheLast, IsWithinAlways, EvictsNothingWithin, GivesWhereNoneWaits}
 use Rattle.pingora_cache.specs.Held.{Held, carrying, decides, number_of, pair_of, request_of}
 use Rattle.pingora_cache.specs.History.{events_of, reads, written_of}
 use Rattle.pingora_cache.specs.Legal.{IsLegal, Gives}
@@ -184,7 +184,7 @@ module _ (log : Log) (legal : HasLegal log) where
       let l = at-entry entry before at in
       reads_the_last log.age log.limits log.start before k m body l.1 (looks_are_true log.age log.limits log.start before entry k (A.Complete m body) rest l is)
 
-  pub stays_within : StaysWithin log
+  pub stays_within : IsWithinAlways log
   stays_within = is_within_limits log.age log.limits log.start (reverse log.history) legal
 
   pub evicts_nothing_within : EvictsNothingWithin log

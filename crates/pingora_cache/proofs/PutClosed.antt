@@ -28,7 +28,7 @@ use Rattle.pcache_request.specs.declared.cache.finish.WriteEnd.TheVariants as wr
 use Rattle.pcache_request.specs.declared.cache.finish.FinishReport.{FinishReport}
 use Rattle.pcache_store.specs.Finishes.{created}
 use Rattle.pcache_store.specs.Refusals.{MayRefuseFinish}
-use Rattle.pcache_store.specs.Store.{Reader, Store, dropped, stands}
+use Rattle.pcache_store.specs.Store.{Reader, Store, dropped, is_untouched}
 use Rattle.pingora_cache.specs.declared.world.call.Reply.{Reply}
 use Rattle.pingora_cache.specs.declared.world.call.Reply.TheVariants as R
 use Rattle.pingora_cache.specs.declared.world.entry.Event.{Event}

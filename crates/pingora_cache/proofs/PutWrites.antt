@@ -37,21 +37,21 @@ Gave f None es = Unit {0}
 Gave f (Some w) es = (g : Filled) × (f ≡ Some g) × (g.body ≡ body_of w es) × ((k : ℕ) × (begin_of w es ≡ Some (k, g.meta)))
 
 -- no number that is free has bytes, and a write has a number that was given
-abbrev AreFresh : List Event → Type 0
-AreFresh es = (w : ℕ) → begun es ≤ w → body_of w es ≡ []
+abbrev AreUnwritten : List Event → Type 0
+AreUnwritten es = (w : ℕ) → begun es ≤ w → body_of w es ≡ []
 
 abbrev IsBelow : Option ℕ → List Event → Type 0
 IsBelow None es = Unit {0}
 IsBelow (Some w) es = w < begun es
 
-fresh-next : (limits : Limits) (m : Tracked) (es : List Event) (q : Option Held) (o owed : Option ℕ) (e : Event) → IsNext limits m es q o owed e → AreFresh es → IsBelow o es → AreFresh (e ∷ es)
-fresh-next limits m es q o None (E.Begin w k n) due fresh low = λ x h. fresh x (omega (arith, h))
-fresh-next limits m es q o (Some n) (E.Begin w k y) due fresh low = absurd due
-fresh-next limits m es q o None (E.Wrote w bytes eof) due fresh low = λ x h.
+unwritten-next : (limits : Limits) (m : Tracked) (es : List Event) (q : Option Held) (o owed : Option ℕ) (e : Event) → IsNext limits m es q o owed e → AreUnwritten es → IsBelow o es → AreUnwritten (e ∷ es)
+unwritten-next limits m es q o None (E.Begin w k n) due unwritten low = λ x h. unwritten x (omega (arith, h))
+unwritten-next limits m es q o (Some n) (E.Begin w k y) due unwritten low = absurd due
+unwritten-next limits m es q o None (E.Wrote w bytes eof) due unwritten low = λ x h.
     let lt : w < begun es = subst (λ z. IsBelow z es) due low in
-    ap (λ b. if b then body_of x es ++ bytes else body_of x es) (ne_eqb w x (λ same. omega arith)) ∙ fresh x h
-fresh-next limits m es q o (Some n) (E.Wrote w bytes eof) due fresh low = absurd due
-fresh-next limits m es q o owed e due fresh low = fresh
+    ap (λ b. if b then body_of x es ++ bytes else body_of x es) (ne_eqb w x (λ same. omega arith)) ∙ unwritten x h
+unwritten-next limits m es q o (Some n) (E.Wrote w bytes eof) due unwritten low = absurd due
+unwritten-next limits m es q o owed e due unwritten low = unwritten
 
 below-next : (limits : Limits) (m : Tracked) (es : List Event) (q : Option Held) (o owed : Option ℕ) (e : Event) → IsNext limits m es q o owed e → IsBelow o es → IsBelow (makes e o) (e ∷ es)
 below-next limits m es q o None (E.Begin w k n) due low = let is : w ≡ begun es = due.0 in omega (arith, is)
@@ -69,27 +69,27 @@ wrote-more es w bytes eof f h = (
   h.3,
 )
 
-gave-next : (limits : Limits) (m : Tracked) (es : List Event) (q : Option Held) (o owed : Option ℕ) (e : Event) (f : Option Filled) → IsNext limits m es q o owed e → AreFresh es → Gave f o es → Gave (filled_noted e f) (makes e o) (e ∷ es)
-gave-next limits m es q o None (E.Begin w k n) f due fresh h =
+gave-next : (limits : Limits) (m : Tracked) (es : List Event) (q : Option Held) (o owed : Option ℕ) (e : Event) (f : Option Filled) → IsNext limits m es q o owed e → AreUnwritten es → Gave f o es → Gave (filled_noted e f) (makes e o) (e ∷ es)
+gave-next limits m es q o None (E.Begin w k n) f due unwritten h =
     let is : w ≡ begun es = due.0 in
-    (record { meta = n; body = [] }, refl, sym (fresh w (omega (arith, is))), (k, ap (λ b. if b then Some (k, n) else begin_of w es) (same-number w)))
-gave-next limits m es q o (Some x) (E.Begin w k n) f due fresh h = absurd due
-gave-next limits m es q o None (E.Wrote w bytes eof) f due fresh h = subst (λ z. Gave (filled_noted (E.Wrote w bytes eof) f) z (E.Wrote w bytes eof ∷ es)) (sym due) (wrote-more es w bytes eof f (subst (λ z. Gave f z es) due h))
-gave-next limits m es q o (Some x) (E.Wrote w bytes eof) f due fresh h = absurd due
-gave-next limits m es q o owed (E.Finish w kept) f due fresh h = tt
-gave-next limits m es q o owed (E.Dropped w) f due fresh h = tt
-gave-next limits m es q None owed e f due fresh h = tt
-gave-next limits m es q (Some w) owed e f due fresh h = h
+    (record { meta = n; body = [] }, refl, sym (unwritten w (omega (arith, is))), (k, ap (λ b. if b then Some (k, n) else begin_of w es) (same-number w)))
+gave-next limits m es q o (Some x) (E.Begin w k n) f due unwritten h = absurd due
+gave-next limits m es q o None (E.Wrote w bytes eof) f due unwritten h = subst (λ z. Gave (filled_noted (E.Wrote w bytes eof) f) z (E.Wrote w bytes eof ∷ es)) (sym due) (wrote-more es w bytes eof f (subst (λ z. Gave f z es) due h))
+gave-next limits m es q o (Some x) (E.Wrote w bytes eof) f due unwritten h = absurd due
+gave-next limits m es q o owed (E.Finish w kept) f due unwritten h = tt
+gave-next limits m es q o owed (E.Dropped w) f due unwritten h = tt
+gave-next limits m es q None owed e f due unwritten h = tt
+gave-next limits m es q (Some w) owed e f due unwritten h = h
 
 -- the events of a call of the put
-run-own : (limits : Limits) (start : Tracked) (q : Option Held) (events es : List Event) (o owed o' : Option ℕ) (f : Option Filled) → AreDue limits start es q o owed events o' → AreFresh es → IsBelow o es → Gave f o es → Gave (filled_by events f) o' (reverse events ++ es)
-run-own limits start q [] es o owed o' f due fresh low h = subst (λ z. Gave f z es) (sym due.0) h
-run-own limits start q (e ∷ events) es o owed o' f due fresh low h =
+run-own : (limits : Limits) (start : Tracked) (q : Option Held) (events es : List Event) (o owed o' : Option ℕ) (f : Option Filled) → AreDue limits start es q o owed events o' → AreUnwritten es → IsBelow o es → Gave f o es → Gave (filled_by events f) o' (reverse events ++ es)
+run-own limits start q [] es o owed o' f due unwritten low h = subst (λ z. Gave f z es) (sym due.0) h
+run-own limits start q (e ∷ events) es o owed o' f due unwritten low h =
     subst (Gave (filled_by events (filled_noted e f)) o') (sym (turned e events es))
     (run-own limits start q events (e ∷ es) (makes e o) (owes es e owed) o' (filled_noted e f) due.1
-    (fresh-next limits (tracked start es) es q o owed e due.0 fresh low)
+    (unwritten-next limits (tracked start es) es q o owed e due.0 unwritten low)
     (below-next limits (tracked start es) es q o owed e due.0 low)
-    (gave-next limits (tracked start es) es q o owed e f due.0 fresh h))
+    (gave-next limits (tracked start es) es q o owed e f due.0 unwritten h))
 
 -- an event of a call of another
 gave-away : (limits : Limits) (m : Tracked) (es : List Event) (q : Option Held) (o owed : Option ℕ) (e : Event) (f : Option Filled) (w : ℕ) → IsNext limits m es q o owed e → w < begun es → (o ≡ Some w → ⊥) → Gave f (Some w) es → Gave f (Some w) (e ∷ es)
@@ -159,22 +159,22 @@ none-gave true g es = tt
 none-gave false g es = tt
 
 -- a call of the put itself, by what it answers
-own-call : (limits : Limits) (start : Tracked) (f : Facts) (call : Call) (q : Option Held) (reply : Reply) (events es : List Event) (g : Option Filled) → Replies f call q reply events → AreDue limits start es q (makes_of q) None events (makes_of (row call reply events q)) → AreFresh es → IsBelow (makes_of q) es → GaveIn g q es
+own-call : (limits : Limits) (start : Tracked) (f : Facts) (call : Call) (q : Option Held) (reply : Reply) (events es : List Event) (g : Option Filled) → Replies f call q reply events → AreDue limits start es q (makes_of q) None events (makes_of (row call reply events q)) → AreUnwritten es → IsBelow (makes_of q) es → GaveIn g q es
     → GaveIn (filled_after call (outcome reply) events g) (row call reply events q) (reverse events ++ es)
-own-call limits start f call q reply events es g (inr (other, idle)) due fresh low h = wrong-call call q reply events es g idle h
-own-call limits start f call q reply events es g (inl (kind, inr (fails, idle))) due fresh low h = wrong-call call q reply events es g idle h
-own-call limits start f (C.Put n k limit) None reply events es g (inl (kind, inl (may, other, does))) due fresh low h = begun-put (is_done (outcome reply)) k limit g (reverse events ++ es)
-own-call limits start f (C.Put n k limit) (Some x) reply events es g (inl (kind, inl (may, other, does))) due fresh low h = absurd may
-own-call limits start f (C.Feed n bytes t) None reply events es g (inl (kind, inl (may, other, does))) due fresh low h = tt
-own-call limits start f (C.Feed n bytes t) (Some x) reply events es g (inl (kind, inl (may, other, does))) due fresh low h =
+own-call limits start f call q reply events es g (inr (other, idle)) due unwritten low h = wrong-call call q reply events es g idle h
+own-call limits start f call q reply events es g (inl (kind, inr (fails, idle))) due unwritten low h = wrong-call call q reply events es g idle h
+own-call limits start f (C.Put n k limit) None reply events es g (inl (kind, inl (may, other, does))) due unwritten low h = begun-put (is_done (outcome reply)) k limit g (reverse events ++ es)
+own-call limits start f (C.Put n k limit) (Some x) reply events es g (inl (kind, inl (may, other, does))) due unwritten low h = absurd may
+own-call limits start f (C.Feed n bytes t) None reply events es g (inl (kind, inl (may, other, does))) due unwritten low h = tt
+own-call limits start f (C.Feed n bytes t) (Some x) reply events es g (inl (kind, inl (may, other, does))) due unwritten low h =
     gave-put (filled_by events g) (row (C.Feed n bytes t) reply events (Some x)) (reverse events ++ es)
-    (run-own limits start (Some x) events es x.request.write None (makes_of (row (C.Feed n bytes t) reply events (Some x))) g due fresh low (put-gave g x es kind h))
-own-call limits start f (C.Drop n) None reply events es g (inl (kind, inl (may, other, does))) due fresh low h = none-gave (is_done (outcome reply)) g (reverse events ++ es)
-own-call limits start f (C.Drop n) (Some x) reply events es g (inl (kind, inl (may, other, does))) due fresh low h = subst (λ (z : Reply). GaveIn g (row (C.Drop n) z events (Some x)) (reverse events ++ es)) (sym does.0) tt
-own-call limits start f (C.Close n) None reply events es g (inl (kind, inl (may, other, does))) due fresh low h = none-gave (is_wrong (outcome reply)) g (reverse events ++ es)
-own-call limits start f (C.Close n) (Some x) reply events es g (inl (kind, inl (may, other, does))) due fresh low h = subst (λ b. GaveIn g (cond b (Some x) None) (reverse events ++ es)) (sym (right-kept reply other)) tt
-own-call limits start f call None reply events es g (inl (kind, inl (may, other, does))) due fresh low h = gave-plain (filled_after call (outcome reply) events g) (row call reply events None) (reverse events ++ es) (plain-kept (change_of call) (outcome reply) events None tt tt)
-own-call limits start f call (Some x) reply events es g (inl (kind, inl (may, other, does))) due fresh low h = gave-plain (filled_after call (outcome reply) events g) (row call reply events (Some x)) (reverse events ++ es) (plain-kept (change_of call) (outcome reply) events (Some x) kind tt)
+    (run-own limits start (Some x) events es x.request.write None (makes_of (row (C.Feed n bytes t) reply events (Some x))) g due unwritten low (put-gave g x es kind h))
+own-call limits start f (C.Drop n) None reply events es g (inl (kind, inl (may, other, does))) due unwritten low h = none-gave (is_done (outcome reply)) g (reverse events ++ es)
+own-call limits start f (C.Drop n) (Some x) reply events es g (inl (kind, inl (may, other, does))) due unwritten low h = subst (λ (z : Reply). GaveIn g (row (C.Drop n) z events (Some x)) (reverse events ++ es)) (sym does.0) tt
+own-call limits start f (C.Close n) None reply events es g (inl (kind, inl (may, other, does))) due unwritten low h = none-gave (is_wrong (outcome reply)) g (reverse events ++ es)
+own-call limits start f (C.Close n) (Some x) reply events es g (inl (kind, inl (may, other, does))) due unwritten low h = subst (λ b. GaveIn g (cond b (Some x) None) (reverse events ++ es)) (sym (right-kept reply other)) tt
+own-call limits start f call None reply events es g (inl (kind, inl (may, other, does))) due unwritten low h = gave-plain (filled_after call (outcome reply) events g) (row call reply events None) (reverse events ++ es) (plain-kept (change_of call) (outcome reply) events None tt tt)
+own-call limits start f call (Some x) reply events es g (inl (kind, inl (may, other, does))) due unwritten low h = gave-plain (filled_after call (outcome reply) events g) (row call reply events (Some x)) (reverse events ++ es) (plain-kept (change_of call) (outcome reply) events (Some x) kind tt)
 
 -- one write more, of another
 away-held : (limits : Limits) (start : Tracked) (q : Option Held) (events es : List Event) (o' : Option ℕ) (f : Option Filled) (p : Option Held) → AreDue limits start es q (makes_of q) None events o' → IsBelow (makes_of p) es → ((w : ℕ) → makes_of p ≡ Some w → makes_of q ≡ Some w → ⊥) → GaveIn f p es → GaveIn f p (reverse events ++ es)

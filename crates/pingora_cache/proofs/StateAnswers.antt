@@ -12,7 +12,7 @@ use Rattle.std.proofs.lemmas.Bool.{and_parts}
 use Rattle.pcache_meta.specs.Meta.{Meta}
 use Rattle.pcache_base.specs.declared.poll.Poll.TheVariants.{Ready, Pending}
 use Rattle.pcache_table.specs.Numbers.{first_key, least}
-use Rattle.pcache_store.specs.Store.{Store, Slot, Stored, Written, Reader, Whole, Part, found_body, found_part, found_first, found_in, find, found_flying, find_write, followed, is_fresh_in, is_idle, stands_on, stands, read_part, read_of, place_after, reader_after}
+use Rattle.pcache_store.specs.Store.{Store, Slot, Stored, Written, Reader, Whole, Part, found_body, found_part, found_first, found_in, find, found_flying, find_write, followed, is_untouched_in, is_idle, is_untouched_on, is_untouched, read_part, read_of, place_after, reader_after}
 use Rattle.pcache_store.specs.Store as store
 use Rattle.pingora_cache.specs.declared.world.entry.Answer.{Answer}
 use Rattle.pingora_cache.specs.declared.world.entry.Answer.TheVariants as A
@@ -89,7 +89,7 @@ answer-first ws (Some w) b = answer-part w (get ws w)
 
 answer-in : (ws : FinMap nat_cmp Written) (o : Option Slot) → (a : Answer) × (pair_of a ≡ found_in ws o)
 answer-in ws None = (A.Nothing, refl)
-answer-in ws (Some x) = answer-first ws (least x.fresh) x.body
+answer-in ws (Some x) = answer-first ws (least x.untouched) x.body
 
 pub found-answer : (s : Store) (k : ℕ) → (a : Answer) × (pair_of a ≡ find s k)
 found-answer s k = answer-in s.writes (get s.slots k)
@@ -106,7 +106,7 @@ kept-first ws (Some w) b v h = kept-part ws w v (get ws w) refl h
 
 kept-in : (ws : FinMap nat_cmp Written) (o : Option Slot) (v : ℕ) → part_of (found_in ws o) ≡ Some v → is_some (get ws v) ≡ true
 kept-in ws None v h = absurd (cc)
-kept-in ws (Some x) v h = kept-first ws (least x.fresh) x.body v h
+kept-in ws (Some x) v h = kept-first ws (least x.untouched) x.body v h
 
 pub found-kept : (s : Store) (k w : ℕ) → part_of (find s k) ≡ Some w → is_some (get s.writes w) ≡ true
 found-kept s k w h = kept-in s.writes (get s.slots k) w h
@@ -130,11 +130,11 @@ open-flying es k w h = (and_parts _ _ (and_parts _ _ h).1).0
 
 module _ (es : List Event) (n : ℕ → ℕ) (s : Store) (st : IsState es n s) (k : ℕ) where
   finds-nothing : get s.slots k ≡ None → Finds es k A.Nothing
-  finds-nothing e = (λ q. sym (st.fresh k q) ∙ ap (is_fresh_in q) e, sym (st.bodies k) ∙ ap store.complete_body e)
+  finds-nothing e = (λ q. sym (st.untouched k q) ∙ ap (is_untouched_in q) e, sym (st.bodies k) ∙ ap store.complete_body e)
 
   module _ (x : Slot) (there : get s.slots k ≡ Some x) where
-    open-is : (q : ℕ) → is_open k q es ≡ contains_key x.fresh q
-    open-is q = sym (st.fresh k q) ∙ ap (is_fresh_in q) there
+    open-is : (q : ℕ) → is_open k q es ≡ contains_key x.untouched q
+    open-is q = sym (st.untouched k q) ∙ ap (is_untouched_in q) there
 
     complete-is : complete k es ≡ x.body
     complete-is = sym (st.bodies k) ∙ ap store.complete_body there
@@ -155,18 +155,18 @@ module _ (es : List Event) (n : ℕ → ℕ) (s : Store) (st : IsState es n s) (
         let same : v ≡ w = cc in
         subst (λ y. Finds es k (A.Streaming m y)) (sym same) (here, below, ap (option_map (λ (p : ℕ × Meta). p.1)) is ∙ ap meta_of (sym h))
 
-    finds-first : (f : Option ℕ) → least x.fresh ≡ f → (a : Answer) → pair_of a ≡ found_first s.writes f x.body → Finds es k a
-    finds-first None l a h = finds-body (λ q. open-is q ∙ least-none x.fresh l q) x.body refl a h
+    finds-first : (f : Option ℕ) → least x.untouched ≡ f → (a : Answer) → pair_of a ≡ found_first s.writes f x.body → Finds es k a
+    finds-first None l a h = finds-body (λ q. open-is q ∙ least-none x.untouched l q) x.body refl a h
     finds-first (Some w) l a h =
-        let f = least-some x.fresh w l in
+        let f = least-some x.untouched w l in
         let here : is_open k w es ≡ true = open-is w ∙ f.0 in
         let g = begun-flying w es (open-flying es k w here) in
         finds-part w g.0 here (λ q lt. open-is q ∙ f.1 q lt) g.1 a (h ∙ ap (found_part w) (record-flying es n s st w g.0 (open-flying es k w here) g.1))
 
-    any-here : (f : Option ℕ) → least x.fresh ≡ f → HasAny es k true
-    any-here (Some w) l = inl (w, open-is w ∙ (least-some x.fresh w l).0)
+    any-here : (f : Option ℕ) → least x.untouched ≡ f → HasAny es k true
+    any-here (Some w) l = inl (w, open-is w ∙ (least-some x.untouched w l).0)
     any-here None l =
-        let empty : len x.fresh ≡ 0 = least-empty x.fresh l in
+        let empty : len x.untouched ≡ 0 = least-empty x.untouched l in
         let busy : (is_none x.body && true) ≡ false = ap (λ m. is_none x.body && (m == 0)) (sym empty) ∙ st.filled k x there in
         inr (subst (λ o. IsSome o) (sym complete-is) (elim x.body as (λ o. (is_none o && true) ≡ false → IsSome o) [ None ↦ λ e. absurd (cc) | Some b ↦ λ _. refl ] busy))
 
@@ -174,7 +174,7 @@ module _ (es : List Event) (n : ℕ → ℕ) (s : Store) (st : IsState es n s) (
   finds-in None e A.Nothing h = finds-nothing e
   finds-in None e (A.Complete m body) h = absurd (cc)
   finds-in None e (A.Streaming m w) h = absurd (cc)
-  finds-in (Some x) e a h = finds-first x e (least x.fresh) refl a h
+  finds-in (Some x) e a h = finds-first x e (least x.untouched) refl a h
 
   pub finds-is : (a : Answer) → pair_of a ≡ find s k → Finds es k a
   finds-is a h = finds-in (get s.slots k) refl a h
@@ -182,7 +182,7 @@ module _ (es : List Event) (n : ℕ → ℕ) (s : Store) (st : IsState es n s) (
   pub any-is : HasAny es k (is_some (get s.slots k))
   any-is = elim (get s.slots k) as (λ o. get s.slots k ≡ o → HasAny es k (is_some o)) [
     | None ↦ λ e. finds-nothing e
-    | Some x ↦ λ e. any-here x e (least x.fresh) refl
+    | Some x ↦ λ e. any-here x e (least x.untouched) refl
   ] refl
 
 -- ---- readers
@@ -216,11 +216,11 @@ read-past s (Part w place) = past-part w place (get s.writes w)
 -- ---- a write in flight
 
 module _ (es : List Event) (n : ℕ → ℕ) (s : Store) (st : IsState es n s) (w : ℕ) (fly : in_flight w es ≡ true) where
-  pub stands-is : stands s w ≡ not (is_removed w es)
+  pub stands-is : is_untouched s w ≡ not (is_removed w es)
   stands-is =
       let f = begun-flying w es fly in
       let b = f.0 in
-      ap (stands_on s w) (record-flying es n s st w b fly f.1) ∙ st.fresh b.0 w
+      ap (is_untouched_on s w) (record-flying es n s st w b fly f.1) ∙ st.untouched b.0 w
       ∙ (λ i. ev.option_any (λ (c : ℕ × Meta). c.0 == b.0) (f.1 i) && (fly i && not (is_removed w es)))
       ∙ ap (λ t. t && not (is_removed w es)) (same-number b.0)
 

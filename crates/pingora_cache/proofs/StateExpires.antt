@@ -5,7 +5,7 @@ use Rattle.std.specs.Ordering.{nat_cmp}
 use Rattle.std.specs.FinMap.{FinMap, get, contains_key}
 use Rattle.std.proofs.lemmas.Bool.{eqb-true}
 use Rattle.pcache_meta.specs.Meta.{Meta, expired_at}
-use Rattle.pcache_store.specs.Store.{Store, Slot, Stored, is_fresh_in, is_idle, complete_body, with_meta, meta_changed_in, meta_changed_on, meta_changed}
+use Rattle.pcache_store.specs.Store.{Store, Slot, Stored, is_untouched_in, is_idle, complete_body, with_meta, meta_changed_in, meta_changed_on, meta_changed}
 use Rattle.pingora_cache.specs.declared.world.entry.Event.{Event}
 use Rattle.pingora_cache.specs.declared.world.entry.Event.TheVariants.{Expire, Renew}
 use Rattle.pingora_cache.specs.Events.{complete, is_open}
@@ -32,9 +32,9 @@ get-changed-on f xs k q (Some x) e = get-changed-in f xs k q x x.body e
 get-changed : (f : Meta → Meta) (xs : FinMap nat_cmp Slot) (k q : ℕ) → get (meta_changed_on f xs k (get xs k)) q ≡ cond (k == q) (changed_slot f (get xs k)) (get xs q)
 get-changed f xs k q = get-changed-on f xs k q (get xs k) refl
 
-same-fresh : (f : Meta → Meta) (q : ℕ) (o : Option Slot) → is_fresh_in q (changed_slot f o) ≡ is_fresh_in q o
-same-fresh f q None = refl
-same-fresh f q (Some x) = elim x.body as (λ b. contains_key (with_meta f x b).fresh q ≡ contains_key x.fresh q) [ None ↦ refl | Some b ↦ refl ]
+same-untouched : (f : Meta → Meta) (q : ℕ) (o : Option Slot) → is_untouched_in q (changed_slot f o) ≡ is_untouched_in q o
+same-untouched f q None = refl
+same-untouched f q (Some x) = elim x.body as (λ b. contains_key (with_meta f x b).untouched q ≡ contains_key x.untouched q) [ None ↦ refl | Some b ↦ refl ]
 
 altered-slot : (f : Meta → Meta) (o : Option Slot) → complete_body (changed_slot f o) ≡ option_map (altered_body f) (complete_body o)
 altered-slot f None = refl
@@ -56,14 +56,14 @@ module _ (es : List Event) (n : ℕ → ℕ) (s : Store) (k : ℕ) (f : Meta →
   set : (q : ℕ) → get ys q ≡ cond (k == q) (changed_slot f (get s.slots k)) (get s.slots q)
   set q = get-changed f s.slots k q
 
-  changed-fresh : (q w : ℕ) → is_fresh_in w (get ys q) ≡ is_open q w es
-  changed-fresh q w =
-      ap (is_fresh_in w) (set q)
-      ∙ elim (k == q) as (λ b. (k == q) ≡ b → is_fresh_in w (cond b (changed_slot f (get s.slots k)) (get s.slots q)) ≡ is_fresh_in w (get s.slots q)) [
-        | true ↦ λ is. same-fresh f w (get s.slots k) ∙ ap (λ j. is_fresh_in w (get s.slots j)) (eqb-true k q is)
+  changed-untouched : (q w : ℕ) → is_untouched_in w (get ys q) ≡ is_open q w es
+  changed-untouched q w =
+      ap (is_untouched_in w) (set q)
+      ∙ elim (k == q) as (λ b. (k == q) ≡ b → is_untouched_in w (cond b (changed_slot f (get s.slots k)) (get s.slots q)) ≡ is_untouched_in w (get s.slots q)) [
+        | true ↦ λ is. same-untouched f w (get s.slots k) ∙ ap (λ j. is_untouched_in w (get s.slots j)) (eqb-true k q is)
         | false ↦ λ _. refl
       ] refl
-      ∙ st.fresh q w
+      ∙ st.untouched q w
 
   changed-bodies : (q : ℕ) → complete_body (get ys q) ≡ (if k == q then option_map (altered_body f) (complete q es) else complete q es)
   changed-bodies q =
@@ -80,7 +80,7 @@ pub state-expire : (es : List Event) (n : ℕ → ℕ) (s : Store) (k t : ℕ) �
 state-expire es n s k t tidy st = record {
   next = st.next;
   writes = st.writes;
-  fresh = changed-fresh es n s k (expired_at t) st;
+  untouched = changed-untouched es n s k (expired_at t) st;
   bodies = λ q. changed-bodies es n s k (expired_at t) st q ∙ sym (complete-expire es k t tidy q);
   filled = still-filled es n s k (expired_at t) st;
   known = st.known;
@@ -90,7 +90,7 @@ pub state-renew : (es : List Event) (n : ℕ → ℕ) (s : Store) (k : ℕ) (m :
 state-renew es n s k m tidy st = record {
   next = st.next;
   writes = st.writes;
-  fresh = changed-fresh es n s k (λ _. m) st;
+  untouched = changed-untouched es n s k (λ _. m) st;
   bodies = λ q. changed-bodies es n s k (λ _. m) st q ∙ sym (complete-renew es k m tidy q);
   filled = still-filled es n s k (λ _. m) st;
   known = st.known;

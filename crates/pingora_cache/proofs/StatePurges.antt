@@ -6,7 +6,7 @@ use Rattle.std.proofs.lemmas.Bool.{eqb-true}
 use Rattle.std.proofs.Math.Bool.{or-false, or_assoc}
 use Rattle.pcache_meta.specs.Meta.{Meta}
 use Rattle.pcache_evict.specs.declared.eviction.entry_key.CacheEntryKey.{CacheEntryKey}
-use Rattle.pcache_store.specs.Store.{Store, Slot, is_fresh_in, is_idle, complete_body, purged}
+use Rattle.pcache_store.specs.Store.{Store, Slot, is_untouched_in, is_idle, complete_body, purged}
 use Rattle.pcache_store.specs.Purge.{purged_at}
 use Rattle.pcache_request.specs.Finishing.{PurgesAll, entry_slot}
 use Rattle.pingora_cache.specs.declared.world.entry.Event.{Event}
@@ -20,7 +20,7 @@ use Rattle.pingora_cache.proofs.StateWrites.{get-unset}
 record IsPurged (p : ℕ → Bool) (es : List Event) (n : ℕ → ℕ) (s : Store) : Type 0 where
   next : s.next ≡ begun es
   writes : (w : ℕ) → get s.writes w ≡ record_of w (n w) es
-  fresh : (k w : ℕ) → is_fresh_in w (get s.slots k) ≡ (if p k then false else is_open k w es)
+  untouched : (k w : ℕ) → is_untouched_in w (get s.slots k) ≡ (if p k then false else is_open k w es)
   bodies : (k : ℕ) → complete_body (get s.slots k) ≡ (if p k then None else complete k es)
   filled : (k : ℕ) (x : Slot) → get s.slots k ≡ Some x → is_idle x ≡ false
   known : (w : ℕ) → 0 < n w → is_some (begin_of w es) ≡ true
@@ -32,7 +32,7 @@ both false true z x = refl
 both false false z x = refl
 
 purged-none : (es : List Event) (n : ℕ → ℕ) (s : Store) → IsState es n s → IsPurged (λ _. false) es n s
-purged-none es n s st = record { next = st.next; writes = st.writes; fresh = st.fresh; bodies = st.bodies; filled = st.filled; known = st.known }
+purged-none es n s st = record { next = st.next; writes = st.writes; untouched = st.untouched; bodies = st.bodies; filled = st.filled; known = st.known }
 
 -- one key more
 purged-more : (p r : ℕ → Bool) (es : List Event) (n : ℕ → ℕ) (s : Store) (k : ℕ) → ((q : ℕ) → r q ≡ (p q || k == q)) → IsPurged p es n s → IsPurged r es n (purged s k)
@@ -40,7 +40,7 @@ purged-more p r es n s k h st =
     record {
       next = st.next;
       writes = st.writes;
-      fresh = λ q w. ap (is_fresh_in w) (get-unset s.slots k q) ∙ inside w (k == q) (get s.slots q) ∙ ap (cond (k == q) false) (st.fresh q w) ∙ both (p q) (k == q) false (is_open q w es) ∙ ap (λ b. if b then false else is_open q w es) (sym (h q));
+      untouched = λ q w. ap (is_untouched_in w) (get-unset s.slots k q) ∙ inside w (k == q) (get s.slots q) ∙ ap (cond (k == q) false) (st.untouched q w) ∙ both (p q) (k == q) false (is_open q w es) ∙ ap (λ b. if b then false else is_open q w es) (sym (h q));
       bodies = λ q. ap complete_body (get-unset s.slots k q) ∙ under (k == q) (get s.slots q) ∙ ap (cond (k == q) None) (st.bodies q) ∙ both (p q) (k == q) None (complete q es) ∙ ap (λ b. if b then None else complete q es) (sym (h q));
       filled = λ q x is. elim (k == q) as (λ b. get (remove s.slots k) q ≡ cond b None (get s.slots q) → is_idle x ≡ false) [
         | true ↦ λ e. let no_slot : ◌≡◌ {A = Option Slot} None (Some x) = sym e ∙ is in cc
@@ -49,7 +49,7 @@ purged-more p r es n s k h st =
       known = st.known;
     }
   where
-    inside : (w : ℕ) (b : Bool) (o : Option Slot) → is_fresh_in w (cond b None o) ≡ cond b false (is_fresh_in w o)
+    inside : (w : ℕ) (b : Bool) (o : Option Slot) → is_untouched_in w (cond b None o) ≡ cond b false (is_untouched_in w o)
     inside w true o = refl
     inside w false o = refl
 
@@ -83,7 +83,7 @@ state-purge es n s k tidy st =
     record {
       next = p.next;
       writes = p.writes;
-      fresh = λ q w. p.fresh q w ∙ sym (removed-open (λ x. k == x) q (begin_of w es) (in_flight w es) (since w es));
+      untouched = λ q w. p.untouched q w ∙ sym (removed-open (λ x. k == x) q (begin_of w es) (in_flight w es) (since w es));
       bodies = λ q. p.bodies q ∙ sym (complete-purge es k tidy q);
       filled = p.filled;
       known = p.known;
@@ -110,7 +110,7 @@ state-admit es n s t e weight out tidy h st =
     record {
       next = p.next;
       writes = p.writes;
-      fresh = λ q w. p.fresh q w ∙ sym (removed-open (λ x. names_key x out) q (begin_of w es) (in_flight w es) (since w es));
+      untouched = λ q w. p.untouched q w ∙ sym (removed-open (λ x. names_key x out) q (begin_of w es) (in_flight w es) (since w es));
       bodies = λ q. p.bodies q ∙ sym (complete-admit es e weight out tidy q);
       filled = p.filled;
       known = p.known;

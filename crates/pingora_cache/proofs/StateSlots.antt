@@ -5,7 +5,7 @@ use Rattle.std.specs.Ordering.{nat_cmp}
 use Rattle.std.specs.FinMap.{FinMap, get, insert, remove, contains_key, len, get-empty, empty_of_len}
 use Rattle.std.proofs.lemmas.Bool.{eqb-true, both_ways, and_parts, cases_lt, false_from_ne_true, and_right}
 use Rattle.pcache_meta.specs.Meta.{Meta}
-use Rattle.pcache_store.specs.Store.{Store, Slot, Stored, is_fresh_in, is_idle, complete_body, with_slot, slot_or_new, opened_in, opened, new_write, begun, grounded, shut_on, shut, dropped_on, dropped, stored_on, finished_on, finished}
+use Rattle.pcache_store.specs.Store.{Store, Slot, Stored, is_untouched_in, is_idle, complete_body, with_slot, slot_or_new, opened_in, opened, new_write, begun, grounded, shut_on, shut, dropped_on, dropped, stored_on, finished_on, finished}
 use Rattle.pingora_cache.specs.declared.world.entry.Event.{Event}
 use Rattle.pingora_cache.specs.declared.world.entry.Event.TheVariants.{Begin, Finish, Dropped}
 use Rattle.pingora_cache.specs.Events as ev
@@ -25,9 +25,9 @@ no-body None e = refl
 no-body (Some b) e = cc
 
 -- a slot that has a number, or a body, is not idle
-pub busy-key : (x : Slot) (w : ℕ) → contains_key x.fresh w ≡ true → is_idle x ≡ false
+pub busy-key : (x : Slot) (w : ℕ) → contains_key x.untouched w ≡ true → is_idle x ≡ false
 busy-key x w h =
-    let apart : (len x.fresh == 0) ≡ false = false_from_ne_true _ (λ e. both_ways _ (no-keys x.fresh e w) h) in
+    let apart : (len x.untouched == 0) ≡ false = false_from_ne_true _ (λ e. both_ways _ (no-keys x.untouched e w) h) in
     ap (λ b. is_none x.body && b) apart ∙ and_right (is_none x.body) false refl
 
 -- a slot as it stays: taken out if it holds nothing
@@ -37,8 +37,8 @@ tidied y = cond (is_idle y) None (Some y)
 tidied-body : (y : Slot) → complete_body (tidied y) ≡ y.body
 tidied-body y = elim (is_idle y) as (λ t. is_idle y ≡ t → complete_body (cond t None (Some y)) ≡ y.body) [ true ↦ λ e. sym (no-body y.body (and_parts _ _ e).0) | false ↦ λ _. refl ] refl
 
-tidied-fresh : (y : Slot) (q : ℕ) → is_fresh_in q (tidied y) ≡ contains_key y.fresh q
-tidied-fresh y q = elim (is_idle y) as (λ t. is_idle y ≡ t → is_fresh_in q (cond t None (Some y)) ≡ contains_key y.fresh q) [ true ↦ λ e. sym (no-keys y.fresh (and_parts _ _ e).1 q) | false ↦ λ _. refl ] refl
+tidied-untouched : (y : Slot) (q : ℕ) → is_untouched_in q (tidied y) ≡ contains_key y.untouched q
+tidied-untouched y q = elim (is_idle y) as (λ t. is_idle y ≡ t → is_untouched_in q (cond t None (Some y)) ≡ contains_key y.untouched q) [ true ↦ λ e. sym (no-keys y.untouched (and_parts _ _ e).1 q) | false ↦ λ _. refl ] refl
 
 tidied-filled : (y z : Slot) → tidied y ≡ Some z → is_idle z ≡ false
 tidied-filled y z h =
@@ -52,7 +52,7 @@ get-with_slot xs k y q = elim (is_idle y) as (λ b. get (cond b (remove xs k) (i
 
 -- a slot without the number of a write
 abbrev cut : ℕ → Slot → Slot
-cut w x = record x { fresh = remove x.fresh w }
+cut w x = record x { untouched = remove x.untouched w }
 
 abbrev cut_of : ℕ → Option Slot → Option Slot
 cut_of w None = None
@@ -71,9 +71,9 @@ gone-key m w q = ap is_some (get-unset m w q) ∙ elim (w == q) as (λ b. is_som
 new-key : {X : Type 0} (m : FinMap nat_cmp X) (w : ℕ) (v : X) (q : ℕ) → contains_key (insert m w v) q ≡ cond (w == q) true (contains_key m q)
 new-key m w v q = ap is_some (get-set m w v q) ∙ elim (w == q) as (λ b. is_some (cond b (Some v) (get m q)) ≡ cond b true (contains_key m q)) [ true ↦ refl | false ↦ refl ]
 
-cut-fresh : (w : ℕ) (o : Option Slot) (q : ℕ) → is_fresh_in q (cut_of w o) ≡ cond (w == q) false (is_fresh_in q o)
-cut-fresh w None q = elim (w == q) as (λ b. false ≡ cond b false false) [ true ↦ refl | false ↦ refl ]
-cut-fresh w (Some x) q = tidied-fresh (cut w x) q ∙ gone-key x.fresh w q
+cut-untouched : (w : ℕ) (o : Option Slot) (q : ℕ) → is_untouched_in q (cut_of w o) ≡ cond (w == q) false (is_untouched_in q o)
+cut-untouched w None q = elim (w == q) as (λ b. false ≡ cond b false false) [ true ↦ refl | false ↦ refl ]
+cut-untouched w (Some x) q = tidied-untouched (cut w x) q ∙ gone-key x.untouched w q
 
 cut-body : (w : ℕ) (o : Option Slot) → complete_body (cut_of w o) ≡ complete_body o
 cut-body w None = refl
@@ -114,13 +114,13 @@ apart-open : (es : List Event) (w k : ℕ) (b : ℕ × Meta) → begin_of w es �
 apart-open es w k b is apart = (λ i. option_any (λ (c : ℕ × Meta). c.0 == k) (is i) && (in_flight w es && not (is_removed w es))) ∙ ap (λ t. t && (in_flight w es && not (is_removed w es))) apart
 
 module _ (es : List Event) (n : ℕ → ℕ) (s : Store) (st : IsState es n s) (w : ℕ) (b : ℕ × Meta) (is : begin_of w es ≡ Some b) where
-  ended-fresh : (ys : FinMap nat_cmp Slot) (o : Option Slot) → ((k : ℕ) → get ys k ≡ cond (b.0 == k) o (get s.slots k)) → ((q : ℕ) → is_fresh_in q o ≡ cond (w == q) false (is_fresh_in q (get s.slots b.0)))
-      → (k q : ℕ) → is_fresh_in q (get ys k) ≡ is_open k q (Dropped w ∷ es)
-  ended-fresh ys o set gone k q =
-      ap (is_fresh_in q) (set k)
-      ∙ elim (b.0 == k) as (λ t. (b.0 == k) ≡ t → is_fresh_in q (cond t o (get s.slots k)) ≡ cond (w == q) false (is_open k q es)) [
-        | true ↦ λ t. gone q ∙ ap (λ j. cond (w == q) false (is_fresh_in q (get s.slots j))) (eqb-true b.0 k t) ∙ ap (cond (w == q) false) (st.fresh k q)
-        | false ↦ λ f. st.fresh k q ∙ elim (w == q) as (λ t. (w == q) ≡ t → is_open k q es ≡ cond t false (is_open k q es)) [
+  ended-untouched : (ys : FinMap nat_cmp Slot) (o : Option Slot) → ((k : ℕ) → get ys k ≡ cond (b.0 == k) o (get s.slots k)) → ((q : ℕ) → is_untouched_in q o ≡ cond (w == q) false (is_untouched_in q (get s.slots b.0)))
+      → (k q : ℕ) → is_untouched_in q (get ys k) ≡ is_open k q (Dropped w ∷ es)
+  ended-untouched ys o set gone k q =
+      ap (is_untouched_in q) (set k)
+      ∙ elim (b.0 == k) as (λ t. (b.0 == k) ≡ t → is_untouched_in q (cond t o (get s.slots k)) ≡ cond (w == q) false (is_open k q es)) [
+        | true ↦ λ t. gone q ∙ ap (λ j. cond (w == q) false (is_untouched_in q (get s.slots j))) (eqb-true b.0 k t) ∙ ap (cond (w == q) false) (st.untouched k q)
+        | false ↦ λ f. st.untouched k q ∙ elim (w == q) as (λ t. (w == q) ≡ t → is_open k q es ≡ cond t false (is_open k q es)) [
           | true ↦ λ t. ap (λ x. is_open k x es) (sym (eqb-true w q t)) ∙ apart-open es w k b is f
           | false ↦ λ _. refl
         ] refl
@@ -143,7 +143,7 @@ state-dropped es n s w fly st =
     subst (λ o. IsState (Dropped w ∷ es) n (dropped_on s w o)) (sym (record-flying es n s st w b fly f.1)) (record {
       next = st.next;
       writes = ended-writes es n s st w b f.1;
-      fresh = ended-fresh es n s st w b f.1 (shut s.slots b.0 w) (cut_of w (get s.slots b.0)) set (cut-fresh w (get s.slots b.0));
+      untouched = ended-untouched es n s st w b f.1 (shut s.slots b.0 w) (cut_of w (get s.slots b.0)) set (cut-untouched w (get s.slots b.0));
       bodies = λ k. bodies-at s.slots (shut s.slots b.0 w) b.0 (cut_of w (get s.slots b.0)) set (cut-body w (get s.slots b.0)) k ∙ st.bodies k;
       filled = filled-at s.slots (shut s.slots b.0 w) b.0 (cut_of w (get s.slots b.0)) set (cut-filled w (get s.slots b.0)) st.filled;
       known = st.known;
@@ -152,10 +152,10 @@ state-dropped es n s w fly st =
 pub state-refused : (es : List Event) (n : ℕ → ℕ) (s : Store) (w : ℕ) → in_flight w es ≡ true → IsState es n s → IsState (Finish w false ∷ es) n (dropped s w)
 state-refused es n s w fly st =
     let d = state-dropped es n s w fly st in
-    record { next = d.next; writes = d.writes; fresh = d.fresh; bodies = d.bodies; filled = d.filled; known = d.known }
+    record { next = d.next; writes = d.writes; untouched = d.untouched; bodies = d.bodies; filled = d.filled; known = d.known }
 
 -- the slot of a write that stands is there
-standing-slot : (o : Option Slot) (w : ℕ) → is_fresh_in w o ≡ true → (x : Slot) × (o ≡ Some x)
+standing-slot : (o : Option Slot) (w : ℕ) → is_untouched_in w o ≡ true → (x : Slot) × (o ≡ Some x)
 standing-slot None w h = absurd (cc)
 standing-slot (Some x) w h = (x, refl)
 
@@ -167,16 +167,16 @@ state-finished es n s w tidy fly kept st =
     let f = begun-flying w es fly in
     let b = f.0 in
     let c : Stored = record { meta = b.1; bytes = ev.body_of w es } in
-    let g = standing-slot (get s.slots b.0) w (st.fresh b.0 w ∙ open-standing es w b f.1 fly kept) in
+    let g = standing-slot (get s.slots b.0) w (st.untouched b.0 w ∙ open-standing es w b f.1 fly kept) in
     let x = g.0 in
-    let y : Slot = record { body = Some c; fresh = remove x.fresh w } in
+    let y : Slot = record { body = Some c; untouched = remove x.untouched w } in
     let set = get-set s.slots b.0 y in
     let ys : FinMap nat_cmp Slot = insert s.slots b.0 y in
     subst (λ o. IsState (Finish w true ∷ es) n (finished_on s w o)) (sym (record-flying es n s st w b fly f.1))
     (subst (λ o. IsState (Finish w true ∷ es) n (record { slots = stored_on s.slots b.0 w c o; writes = grounded s.writes w (kept_as true (n w) (ev.body_of w es) (is_told w es) b); next = s.next })) (sym g.1) (record {
       next = st.next;
       writes = ended-writes es n s st w b f.1;
-      fresh = ended-fresh es n s st w b f.1 ys (Some y) set (λ q. gone-key x.fresh w q ∙ ap (λ o. cond (w == q) false (is_fresh_in q o)) (sym g.1));
+      untouched = ended-untouched es n s st w b f.1 ys (Some y) set (λ q. gone-key x.untouched w q ∙ ap (λ o. cond (w == q) false (is_untouched_in q o)) (sym g.1));
       bodies = λ k. ap complete_body (set k)
           ∙ elim (b.0 == k) as (λ t. complete_body (cond t (Some y) (get s.slots k)) ≡ (if t then Some c else complete_body (get s.slots k))) [ true ↦ refl | false ↦ refl ]
           ∙ ap (λ o. if b.0 == k then Some c else o) (st.bodies k) ∙ sym (complete-finish es w b.0 b.1 tidy fly f.1 kept k);
@@ -186,9 +186,9 @@ state-finished es n s w tidy fly kept st =
 
 -- ---- the begin of a write
 
-new-fresh : (o : Option Slot) (q : ℕ) → contains_key (slot_or_new o).fresh q ≡ is_fresh_in q o
-new-fresh None q = ap is_some (get-empty nat_cmp q)
-new-fresh (Some x) q = refl
+new-untouched : (o : Option Slot) (q : ℕ) → contains_key (slot_or_new o).untouched q ≡ is_untouched_in q o
+new-untouched None q = ap is_some (get-empty nat_cmp q)
+new-untouched (Some x) q = refl
 
 new-body : (o : Option Slot) → (slot_or_new o).body ≡ complete_body o
 new-body None = refl
@@ -200,7 +200,7 @@ module _ (es : List Event) (n : ℕ → ℕ) (s : Store) (k : ℕ) (m : Meta) (t
 
   -- nobody reads a write that was not begun
   unread : n s.next ≡ 0
-  unread = elim (cases_lt 0 (n s.next)) [ inl lt ↦ absurd (both_ways _ (ap is_some (tidy.fresh s.next first-number)) (st.known s.next lt)) | inr le ↦ omega arith ]
+  unread = elim (cases_lt 0 (n s.next)) [ inl lt ↦ absurd (both_ways _ (ap is_some (tidy.unbegun s.next first-number)) (st.known s.next lt)) | inr le ↦ omega arith ]
 
   begun-writes : (q : ℕ) → get (insert s.writes s.next (new_write k m)) q ≡ record_of q (n q) (Begin s.next k m ∷ es)
   begun-writes =
@@ -215,7 +215,7 @@ module _ (es : List Event) (n : ℕ → ℕ) (s : Store) (k : ℕ) (m : Meta) (t
 
   -- a number that was not given is of no key
   new-closed : (j : ℕ) → is_open j s.next es ≡ false
-  new-closed j = ap (λ o. option_any (λ (c : ℕ × Meta). c.0 == j) o && (in_flight s.next es && not (is_removed s.next es))) (tidy.fresh s.next first-number)
+  new-closed j = ap (λ o. option_any (λ (c : ℕ × Meta). c.0 == j) o && (in_flight s.next es && not (is_removed s.next es))) (tidy.unbegun s.next first-number)
 
   begun-open : (j q : ℕ) → is_open j q (Begin s.next k m ∷ es) ≡ (if s.next == q then k == j else is_open j q es)
   begun-open j q =
@@ -235,12 +235,12 @@ module _ (es : List Event) (n : ℕ → ℕ) (s : Store) (k : ℕ) (m : Meta) (t
       last_true true = refl
       last_true false = refl
 
-  begun-fresh : (j q : ℕ) → is_fresh_in q (get (opened s.slots k s.next) j) ≡ is_open j q (Begin s.next k m ∷ es)
-  begun-fresh j q =
-      ap (is_fresh_in q) (get-set s.slots k (opened_in (slot_or_new (get s.slots k)) s.next) j)
-      ∙ elim (k == j) as (λ b. (k == j) ≡ b → is_fresh_in q (cond b (Some (opened_in (slot_or_new (get s.slots k)) s.next)) (get s.slots j)) ≡ (if s.next == q then b else is_open j q es)) [
-        | true ↦ λ t. new-key (slot_or_new (get s.slots k)).fresh s.next tt q ∙ ap (cond (s.next == q) true) (new-fresh (get s.slots k) q ∙ ap (λ x. is_fresh_in q (get s.slots x)) (eqb-true k j t) ∙ st.fresh j q)
-        | false ↦ λ _. st.fresh j q ∙ elim (s.next == q) as (λ b. (s.next == q) ≡ b → is_open j q es ≡ (if b then false else is_open j q es)) [
+  begun-untouched : (j q : ℕ) → is_untouched_in q (get (opened s.slots k s.next) j) ≡ is_open j q (Begin s.next k m ∷ es)
+  begun-untouched j q =
+      ap (is_untouched_in q) (get-set s.slots k (opened_in (slot_or_new (get s.slots k)) s.next) j)
+      ∙ elim (k == j) as (λ b. (k == j) ≡ b → is_untouched_in q (cond b (Some (opened_in (slot_or_new (get s.slots k)) s.next)) (get s.slots j)) ≡ (if s.next == q then b else is_open j q es)) [
+        | true ↦ λ t. new-key (slot_or_new (get s.slots k)).untouched s.next tt q ∙ ap (cond (s.next == q) true) (new-untouched (get s.slots k) q ∙ ap (λ x. is_untouched_in q (get s.slots x)) (eqb-true k j t) ∙ st.untouched j q)
+        | false ↦ λ _. st.untouched j q ∙ elim (s.next == q) as (λ b. (s.next == q) ≡ b → is_open j q es ≡ (if b then false else is_open j q es)) [
           | true ↦ λ t. ap (λ x. is_open j x es) (sym (eqb-true s.next q t)) ∙ new-closed j
           | false ↦ λ _. refl
         ] refl
@@ -251,11 +251,11 @@ module _ (es : List Event) (n : ℕ → ℕ) (s : Store) (k : ℕ) (m : Meta) (t
   state-begin =
       let y : Slot = opened_in (slot_or_new (get s.slots k)) s.next in
       let set = get-set s.slots k y in
-      let has : contains_key y.fresh s.next ≡ true = new-key (slot_or_new (get s.slots k)).fresh s.next tt s.next ∙ ap (λ b. cond b true (contains_key (slot_or_new (get s.slots k)).fresh s.next)) (same-number s.next) in
+      let has : contains_key y.untouched s.next ≡ true = new-key (slot_or_new (get s.slots k)).untouched s.next tt s.next ∙ ap (λ b. cond b true (contains_key (slot_or_new (get s.slots k)).untouched s.next)) (same-number s.next) in
       record {
         next = ap (λ x. x + 1) st.next;
         writes = begun-writes;
-        fresh = begun-fresh;
+        untouched = begun-untouched;
         bodies = λ j. bodies-at s.slots (opened s.slots k s.next) k (Some y) set (new-body (get s.slots k)) j ∙ st.bodies j ∙ sym (ap (λ x. complete j (Begin x k m ∷ es)) st.next ∙ complete-begin es k m tidy j);
         filled = filled-at s.slots (opened s.slots k s.next) k (Some y) set (λ z e. let same : y ≡ z = cc in ap is_idle (sym same) ∙ busy-key y s.next has) st.filled;
         known = λ q lt. elim (s.next == q) as (λ b. is_some (if b then Some (k, m) else begin_of q es) ≡ true) [ true ↦ refl | false ↦ st.known q lt ];

@@ -128,7 +128,7 @@ module _ (es : List Event) (n m : ℕ → ℕ) (s : Store) (w : ℕ) (there : is
   state-joined = record {
     next = st.next;
     writes = joined-writes (get s.writes w) refl;
-    fresh = st.fresh;
+    untouched = st.untouched;
     bodies = st.bodies;
     filled = st.filled;
     known = λ q lt. elim (w == q) as (λ b. (w == q) ≡ b → is_some (begin_of q es) ≡ true) [
@@ -157,7 +157,7 @@ module _ (es : List Event) (n m : ℕ → ℕ) (s : Store) (w place : ℕ) (coun
   state-left = record {
     next = st.next;
     writes = left-writes (get s.writes w) refl;
-    fresh = st.fresh;
+    untouched = st.untouched;
     bodies = st.bodies;
     filled = st.filled;
     known = λ q lt. st.known q (let e = count q in omega arith);

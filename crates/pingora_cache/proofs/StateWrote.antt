@@ -26,7 +26,7 @@ module _ (es : List Event) (n : ℕ → ℕ) (s : Store) (w : ℕ) (bytes : List
       subst (λ o. IsState (Wrote w bytes eof ∷ es) n (record s { writes = wrote_on s.writes w bytes eof o })) (sym (record-flying es n s st w f.0 fly f.1)) (record {
         next = st.next;
         writes = wrote-writes f.0 f.1;
-        fresh = st.fresh;
+        untouched = st.untouched;
         bodies = λ k. st.bodies k ∙ sym (complete-wrote es w bytes eof tidy fly k);
         filled = st.filled;
         known = st.known;

@@ -4,7 +4,7 @@ use Rattle.std.specs.Ordering.{nat_cmp}
 use Rattle.std.specs.FinMap as map
 use Rattle.pcache_base.specs.declared.poll.Poll.{Poll}
 use Rattle.pcache_evict.specs.declared.eviction.entry_key.CacheEntryKey.{CacheEntryKey}
-use Rattle.pcache_store.specs.Store.{Store, Slot, complete_body, is_fresh_in}
+use Rattle.pcache_store.specs.Store.{Store, Slot, complete_body, is_untouched_in}
 use Rattle.pingora_cache.specs.declared.world.entry.Answer.{Answer}
 use Rattle.pingora_cache.specs.declared.world.entry.Event.{Event}
 use Rattle.pingora_cache.specs.declared.world.entry.Event.TheVariants.{Look, Ask, Access, Release, LetGo, Aged, Untrack, Read}
@@ -16,7 +16,7 @@ state-none s slots writes next =
     record {
       next = next;
       writes = λ w. ap (λ m. map.get m w) writes ∙ map.get-empty nat_cmp w;
-      fresh = λ k w. ap (is_fresh_in w) (none k);
+      untouched = λ k w. ap (is_untouched_in w) (none k);
       bodies = λ k. ap complete_body (none k);
       filled = λ k x is. let e : ◌≡◌ {A = Option Slot} None (Some x) = sym (none k) ∙ is in cc;
       known = λ w lt. absurd (omega arith);
@@ -27,25 +27,25 @@ state-same es n m s same st = subst (λ f. IsState es f s) (λ i w. same w i) st
 
 module _ (es : List Event) (n : ℕ → ℕ) (s : Store) (st : IsState es n s) where
   pub state-look : (k : ℕ) (a : Answer) → IsState (Look k a ∷ es) n s
-  state-look k a = record { next = st.next; writes = st.writes; fresh = st.fresh; bodies = st.bodies; filled = st.filled; known = st.known }
+  state-look k a = record { next = st.next; writes = st.writes; untouched = st.untouched; bodies = st.bodies; filled = st.filled; known = st.known }
 
   pub state-ask : (k lock : ℕ) (is_permit : Bool) → IsState (Ask k lock is_permit ∷ es) n s
-  state-ask k lock is_permit = record { next = st.next; writes = st.writes; fresh = st.fresh; bodies = st.bodies; filled = st.filled; known = st.known }
+  state-ask k lock is_permit = record { next = st.next; writes = st.writes; untouched = st.untouched; bodies = st.bodies; filled = st.filled; known = st.known }
 
   pub state-access : (e : CacheEntryKey) (weight : ℕ) → IsState (Access e weight ∷ es) n s
-  state-access e weight = record { next = st.next; writes = st.writes; fresh = st.fresh; bodies = st.bodies; filled = st.filled; known = st.known }
+  state-access e weight = record { next = st.next; writes = st.writes; untouched = st.untouched; bodies = st.bodies; filled = st.filled; known = st.known }
 
   pub state-release : (lock : ℕ) → IsState (Release lock ∷ es) n s
-  state-release lock = record { next = st.next; writes = st.writes; fresh = st.fresh; bodies = st.bodies; filled = st.filled; known = st.known }
+  state-release lock = record { next = st.next; writes = st.writes; untouched = st.untouched; bodies = st.bodies; filled = st.filled; known = st.known }
 
   pub state-let_go : (lock : ℕ) → IsState (LetGo lock ∷ es) n s
-  state-let_go lock = record { next = st.next; writes = st.writes; fresh = st.fresh; bodies = st.bodies; filled = st.filled; known = st.known }
+  state-let_go lock = record { next = st.next; writes = st.writes; untouched = st.untouched; bodies = st.bodies; filled = st.filled; known = st.known }
 
   pub state-aged : (lock : ℕ) → IsState (Aged lock ∷ es) n s
-  state-aged lock = record { next = st.next; writes = st.writes; fresh = st.fresh; bodies = st.bodies; filled = st.filled; known = st.known }
+  state-aged lock = record { next = st.next; writes = st.writes; untouched = st.untouched; bodies = st.bodies; filled = st.filled; known = st.known }
 
   pub state-untrack : (e : CacheEntryKey) → IsState (Untrack e ∷ es) n s
-  state-untrack e = record { next = st.next; writes = st.writes; fresh = st.fresh; bodies = st.bodies; filled = st.filled; known = st.known }
+  state-untrack e = record { next = st.next; writes = st.writes; untouched = st.untouched; bodies = st.bodies; filled = st.filled; known = st.known }
 
   pub state-read : (a : Poll (Option (List ℕ))) → IsState (Read a ∷ es) n s
-  state-read a = record { next = st.next; writes = st.writes; fresh = st.fresh; bodies = st.bodies; filled = st.filled; known = st.known }
+  state-read a = record { next = st.next; writes = st.writes; untouched = st.untouched; bodies = st.bodies; filled = st.filled; known = st.known }

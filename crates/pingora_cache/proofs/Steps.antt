@@ -17,7 +17,7 @@ pub flies : (w : ℕ) (es : List Event) → in_flight w es ≡ true → (is_some
 flies w es h = let p = and_parts _ _ h in (p.0, not-true _ p.1)
 
 pub below : (w : ℕ) (es : List Event) → IsTidy es → is_some (begin_of w es) ≡ true → w < begun es
-below w es tidy h = elim (cases_lt w (begun es)) [ inl lt ↦ lt | inr ge ↦ absurd (both_ways _ (ap is_some (tidy.fresh w ge)) h) ]
+below w es tidy h = elim (cases_lt w (begun es)) [ inl lt ↦ lt | inr ge ↦ absurd (both_ways _ (ap is_some (tidy.unbegun w ge)) h) ]
 
 -- a write of a key was begun
 pub begun_of : (k w : ℕ) (es : List Event) → is_of k w es ≡ true → is_some (begin_of w es) ≡ true
@@ -79,8 +79,8 @@ meta-later : (es : List Event) (w x : ℕ) → (w == x) ≡ false → meta_kept 
 meta-later es w x apart = ap (λ (b : Bool). λ (k : ℕ) (m : Meta). altered_by k (if b then [] else Finish w true ∷ until (stores x) es) m) apart
 
 -- nothing came after a finish that is the newest event
-meta-fresh : (es : List Event) (w : ℕ) → meta_kept w (Finish w true ∷ es) ≡ (λ k m. m)
-meta-fresh es w = ap (λ (b : Bool). λ (k : ℕ) (m : Meta). altered_by k (if b then [] else Finish w true ∷ until (stores w) es) m) (same-number w)
+meta-unaltered : (es : List Event) (w : ℕ) → meta_kept w (Finish w true ∷ es) ≡ (λ k m. m)
+meta-unaltered es w = ap (λ (b : Bool). λ (k : ℕ) (m : Meta). altered_by k (if b then [] else Finish w true ∷ until (stores w) es) m) (same-number w)
 
 -- a finish that stores
 pub complete-finish : (es : List Event) (w k : ℕ) (m : Meta) → IsTidy es → in_flight w es ≡ true → begin_of w es ≡ Some (k, m) → is_removed w es ≡ false
@@ -88,7 +88,7 @@ pub complete-finish : (es : List Event) (w k : ℕ) (m : Meta) → IsTidy es →
 complete-finish es w k m tidy fly is kept q =
     ap (λ o. option_and_then now (if option_any (λ (b : ℕ × Meta). b.0 == q) o then Some w else last_finished q es)) is
     ∙ elim (k == q) as (λ b. option_and_then now (if b then Some w else last_finished q es) ≡ (if b then Some (body_with m (body_of w es)) else complete q es)) [
-      | true ↦ ap (λ b. unless_removed b (begin_of w es) (meta_kept w (Finish w true ∷ es)) (body_of w es)) kept ∙ (λ i. unless_removed false (is i) (meta-fresh es w i) (body_of w es))
+      | true ↦ ap (λ b. unless_removed b (begin_of w es) (meta_kept w (Finish w true ∷ es)) (body_of w es)) kept ∙ (λ i. unless_removed false (is i) (meta-unaltered es w i) (body_of w es))
       | false ↦ by_last (last_finished q es) now _ (λ x last.
           let apart : (w == x) ≡ false = ne_eqb w x (λ same. both_ways _ (flies w es fly).1 (subst (λ y. has_ended y es ≡ true) (sym same) (tidy.finished q x last).0)) in
           ap (λ f. unless_removed (is_removed x es) (begin_of x es) f (body_of x es)) (meta-later es w x apart))

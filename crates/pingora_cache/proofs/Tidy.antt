@@ -20,37 +20,37 @@ unremoved p k None rest of kept = absurd (cc)
 unremoved p k (Some e) rest of kept = let q = or_parts (p e.0) (list_any (removes e.0) rest) kept in (sym (ap p (eqb-true e.0 k of)) ∙ q.0, q.1)
 
 pub tidy-none : IsTidy []
-tidy-none = record { fresh = λ w h. refl; not_ended = λ w h. refl; no_body = λ w h. refl; not_told = λ w h. refl; not_stored = λ w h. refl; finished = λ k w h. absurd (cc); survives = λ k w h. absurd (cc) }
+tidy-none = record { unbegun = λ w h. refl; not_ended = λ w h. refl; no_body = λ w h. refl; not_told = λ w h. refl; not_stored = λ w h. refl; finished = λ k w h. absurd (cc); survives = λ k w h. absurd (cc) }
 
 -- events that say nothing of writes
 pub tidy-look : (es : List Event) (k : ℕ) (a : Answer) → IsTidy es → IsTidy (Look k a ∷ es)
-tidy-look es k a t = record { fresh = t.fresh; not_ended = t.not_ended; no_body = t.no_body; not_told = t.not_told; not_stored = t.not_stored; finished = t.finished; survives = t.survives }
+tidy-look es k a t = record { unbegun = t.unbegun; not_ended = t.not_ended; no_body = t.no_body; not_told = t.not_told; not_stored = t.not_stored; finished = t.finished; survives = t.survives }
 
 pub tidy-ask : (es : List Event) (k n : ℕ) (b : Bool) → IsTidy es → IsTidy (Ask k n b ∷ es)
-tidy-ask es k n b t = record { fresh = t.fresh; not_ended = t.not_ended; no_body = t.no_body; not_told = t.not_told; not_stored = t.not_stored; finished = t.finished; survives = t.survives }
+tidy-ask es k n b t = record { unbegun = t.unbegun; not_ended = t.not_ended; no_body = t.no_body; not_told = t.not_told; not_stored = t.not_stored; finished = t.finished; survives = t.survives }
 
 pub tidy-access : (es : List Event) (e : CacheEntryKey) (n : ℕ) → IsTidy es → IsTidy (Access e n ∷ es)
-tidy-access es e n t = record { fresh = t.fresh; not_ended = t.not_ended; no_body = t.no_body; not_told = t.not_told; not_stored = t.not_stored; finished = t.finished; survives = t.survives }
+tidy-access es e n t = record { unbegun = t.unbegun; not_ended = t.not_ended; no_body = t.no_body; not_told = t.not_told; not_stored = t.not_stored; finished = t.finished; survives = t.survives }
 
 pub tidy-release : (es : List Event) (n : ℕ) → IsTidy es → IsTidy (Release n ∷ es)
-tidy-release es n t = record { fresh = t.fresh; not_ended = t.not_ended; no_body = t.no_body; not_told = t.not_told; not_stored = t.not_stored; finished = t.finished; survives = t.survives }
+tidy-release es n t = record { unbegun = t.unbegun; not_ended = t.not_ended; no_body = t.no_body; not_told = t.not_told; not_stored = t.not_stored; finished = t.finished; survives = t.survives }
 
 pub tidy-let_go : (es : List Event) (n : ℕ) → IsTidy es → IsTidy (LetGo n ∷ es)
-tidy-let_go es n t = record { fresh = t.fresh; not_ended = t.not_ended; no_body = t.no_body; not_told = t.not_told; not_stored = t.not_stored; finished = t.finished; survives = t.survives }
+tidy-let_go es n t = record { unbegun = t.unbegun; not_ended = t.not_ended; no_body = t.no_body; not_told = t.not_told; not_stored = t.not_stored; finished = t.finished; survives = t.survives }
 
 pub tidy-aged : (es : List Event) (n : ℕ) → IsTidy es → IsTidy (Aged n ∷ es)
-tidy-aged es n t = record { fresh = t.fresh; not_ended = t.not_ended; no_body = t.no_body; not_told = t.not_told; not_stored = t.not_stored; finished = t.finished; survives = t.survives }
+tidy-aged es n t = record { unbegun = t.unbegun; not_ended = t.not_ended; no_body = t.no_body; not_told = t.not_told; not_stored = t.not_stored; finished = t.finished; survives = t.survives }
 
 pub tidy-untrack : (es : List Event) (e : CacheEntryKey) → IsTidy es → IsTidy (Untrack e ∷ es)
-tidy-untrack es e t = record { fresh = t.fresh; not_ended = t.not_ended; no_body = t.no_body; not_told = t.not_told; not_stored = t.not_stored; finished = t.finished; survives = t.survives }
+tidy-untrack es e t = record { unbegun = t.unbegun; not_ended = t.not_ended; no_body = t.no_body; not_told = t.not_told; not_stored = t.not_stored; finished = t.finished; survives = t.survives }
 
 pub tidy-read : (es : List Event) (a : _) → IsTidy es → IsTidy (Read a ∷ es)
-tidy-read es a t = record { fresh = t.fresh; not_ended = t.not_ended; no_body = t.no_body; not_told = t.not_told; not_stored = t.not_stored; finished = t.finished; survives = t.survives }
+tidy-read es a t = record { unbegun = t.unbegun; not_ended = t.not_ended; no_body = t.no_body; not_told = t.not_told; not_stored = t.not_stored; finished = t.finished; survives = t.survives }
 
 -- removals
 pub tidy-purge : (es : List Event) (k : ℕ) → IsTidy es → IsTidy (Purge k ∷ es)
 tidy-purge es k t = record {
-  fresh = t.fresh;
+  unbegun = t.unbegun;
   not_ended = t.not_ended;
   no_body = t.no_body;
   not_told = t.not_told;
@@ -63,7 +63,7 @@ tidy-purge es k t = record {
 
 pub tidy-admit : (es : List Event) (e : CacheEntryKey) (n : ℕ) (out : List CacheEntryKey) → IsTidy es → IsTidy (Admit e n out ∷ es)
 tidy-admit es e n out t = record {
-  fresh = t.fresh;
+  unbegun = t.unbegun;
   not_ended = t.not_ended;
   no_body = t.no_body;
   not_told = t.not_told;
@@ -82,7 +82,7 @@ still-some false g o = refl
 
 pub tidy-expire : (es : List Event) (k now : ℕ) → IsTidy es → IsTidy (Expire k now ∷ es)
 tidy-expire es k now t = record {
-  fresh = t.fresh;
+  unbegun = t.unbegun;
   not_ended = t.not_ended;
   no_body = t.no_body;
   not_told = t.not_told;
@@ -93,7 +93,7 @@ tidy-expire es k now t = record {
 
 pub tidy-renew : (es : List Event) (k : ℕ) (m : Meta) → IsTidy es → IsTidy (Renew k m ∷ es)
 tidy-renew es k m t = record {
-  fresh = t.fresh;
+  unbegun = t.unbegun;
   not_ended = t.not_ended;
   no_body = t.no_body;
   not_told = t.not_told;
@@ -106,7 +106,7 @@ tidy-renew es k m t = record {
 pub tidy-begin : (es : List Event) (k : ℕ) (m : Meta) → IsTidy es → IsTidy (Begin (begun es) k m ∷ es)
 tidy-begin es k m t =
     record {
-      fresh = λ q h. let le : begun es ≤ q = omega arith in ap (λ b. if b then Some (k, m) else begin_of q es) (ne_eqb (begun es) q (omega arith)) ∙ t.fresh q le;
+      unbegun = λ q h. let le : begun es ≤ q = omega arith in ap (λ b. if b then Some (k, m) else begin_of q es) (ne_eqb (begun es) q (omega arith)) ∙ t.unbegun q le;
       not_ended = λ q h. let le : begun es ≤ q = omega arith in t.not_ended q le;
       no_body = λ q h. let le : begun es ≤ q = omega arith in t.no_body q le;
       not_told = λ q h. let le : begun es ≤ q = omega arith in t.not_told q le;
@@ -127,7 +127,7 @@ pub tidy-wrote : (es : List Event) (w : ℕ) (bs : List ℕ) (eof : Bool) → in
 tidy-wrote es w bs eof fly t =
     let lt : w < begun es = below w es t (flies w es fly).0 in
     record {
-      fresh = t.fresh;
+      unbegun = t.unbegun;
       not_ended = t.not_ended;
       no_body = λ q h. ap (λ b. if b then body_of q es ++ bs else body_of q es) (ne_eqb w q (omega arith)) ∙ t.no_body q h;
       not_told = λ q h. ap (λ b. if b then eof else is_told q es) (ne_eqb w q (omega arith)) ∙ t.not_told q h;
@@ -140,7 +140,7 @@ pub tidy-refused : (es : List Event) (w : ℕ) → in_flight w es ≡ true → I
 tidy-refused es w fly t =
     let lt : w < begun es = below w es t (flies w es fly).0 in
     record {
-      fresh = t.fresh;
+      unbegun = t.unbegun;
       not_ended = λ q h. ap (λ b. b || has_ended q es) (ne_eqb w q (omega arith)) ∙ t.not_ended q h;
       no_body = t.no_body;
       not_told = t.not_told;
@@ -153,7 +153,7 @@ pub tidy-dropped : (es : List Event) (w : ℕ) → in_flight w es ≡ true → I
 tidy-dropped es w fly t =
     let lt : w < begun es = below w es t (flies w es fly).0 in
     record {
-      fresh = t.fresh;
+      unbegun = t.unbegun;
       not_ended = λ q h. ap (λ b. b || has_ended q es) (ne_eqb w q (omega arith)) ∙ t.not_ended q h;
       no_body = t.no_body;
       not_told = t.not_told;
@@ -166,7 +166,7 @@ pub tidy-finish : (es : List Event) (w k : ℕ) (m : Meta) → begin_of w es ≡
 tidy-finish es w k m is whole fly t =
     let lt : w < begun es = below w es t (flies w es fly).0 in
     record {
-      fresh = t.fresh;
+      unbegun = t.unbegun;
       not_ended = λ q h. ap (λ b. b || has_ended q es) (ne_eqb w q (omega arith)) ∙ t.not_ended q h;
       no_body = t.no_body;
       not_told = t.not_told;

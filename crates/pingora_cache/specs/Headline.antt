@@ -183,8 +183,8 @@ HitsTheLast log = (before : List Entry) (entry : Entry) (k : ℕ) (m : _) (body 
     → (w : ℕ) × (last_finished k (events_of before) ≡ Some w) × (is_removed w (events_of before) ≡ false) × (body ≡ body_of w (events_of before))
 
 -- complete bodies sum to at most the weight limit, and are at most as many as the watermark
-abbrev pub StaysWithin : Log → Type 0
-StaysWithin log = (stored (events_in log) ≤ log.limits.weight) × IfSome log.limits.watermark (λ most. slots (events_in log) ≤ most)
+abbrev pub IsWithinAlways : Log → Type 0
+IsWithinAlways log = (stored (events_in log) ≤ log.limits.weight) × IfSome log.limits.watermark (λ most. slots (events_in log) ≤ most)
 
 -- nothing is evicted within the limits
 abbrev pub EvictsNothingWithin : Log → Type 0

@@ -26,7 +26,7 @@ use Rattle.pcache_request.specs.Releasing.{bypassed, disabled_for}
 use Rattle.pcache_request.specs.Stale.{updating, uncacheable}
 use Rattle.pcache_request.specs.Variants.{looks_for_variance, varied, visible}
 use Rattle.pcache_request.specs.declared.cache.lock_use.CacheOptionOverrides.{CacheOptionOverrides}
-use Rattle.pcache_request.specs.Requests.{Request, fresh_request, with_key, missed, with_meta, without_reader, placed, asks_as_stale}
+use Rattle.pcache_request.specs.Requests.{Request, enabled_request, with_key, missed, with_meta, without_reader, placed, asks_as_stale}
 use Rattle.pcache_request.specs.declared.phase.HitStatus.{HitStatus}
 use Rattle.pcache_request.specs.declared.phase.InUse.{InUse}
 use Rattle.pingora_cache.specs.declared.world.call.Call.{Call}
@@ -135,7 +135,7 @@ abbrev pub world_use : InUse
 world_use = record { eviction = true; predictor = false; lock = true }
 
 abbrev pub opened : Option CacheOptionOverrides → Held
-opened options = record { request = with_options true options (fresh_request world_use); pair = None; carried = None; put = None }
+opened options = record { request = with_options true options (enabled_request world_use); pair = None; carried = None; put = None }
 
 -- the pair of a look-up's answer
 abbrev pub pair_of : Answer → Option (Meta × Reader)

@@ -48,7 +48,7 @@ last_of ps = unwrap_or (slice_get ps (length ps - 1)) []
 -- with n read locks on each lock
 pub record IsTable (ds : List Deed) (n : ℕ → ℕ) (t : Locks) : Type 0 where
   -- numbers are given in order
-  pub fresh : (l : ℕ) → t.next ≤ l → ask_of l ds ≡ None
+  pub unasked : (l : ℕ) → t.next ≤ l → ask_of l ds ≡ None
   pub locks : (l : ℕ) → option_map plain (get t.cores l) ≡ lock_of t.age_timeout l (n l) ds
   -- only a lock that was asked for is read
   pub known : (l : ℕ) → 0 < n l → is_some (ask_of l ds) ≡ true

@@ -8,7 +8,7 @@ use Rattle.pcache_meta.specs.Meta.{Meta}
 use Rattle.pcache_base.specs.Totals.{total}
 use Rattle.pcache_evict.specs.declared.eviction.entry_key.CacheEntryKey.{CacheEntryKey}
 use Rattle.pcache_evict.specs.Tracked.{Tracked, Limits}
-use Rattle.pcache_store.specs.Store.{Store, Slot, Written, Reader, Whole, Part, complete_body, is_fresh_in, is_idle}
+use Rattle.pcache_store.specs.Store.{Store, Slot, Written, Reader, Whole, Part, complete_body, is_untouched_in, is_idle}
 use Rattle.pingora_cache.specs.declared.world.entry.Entry.{Entry}
 use Rattle.pingora_cache.specs.declared.world.entry.Event.{Event}
 use Rattle.pingora_cache.specs.declared.world.entry.Event.TheVariants.{Admit}
@@ -52,7 +52,7 @@ record_of w n es =
 
 -- numbers are given in order, and what finished was begun under its key
 pub record IsTidy (es : List Event) : Type 0 where
-  pub fresh : (w : ℕ) → begun es ≤ w → begin_of w es ≡ None
+  pub unbegun : (w : ℕ) → begun es ≤ w → begin_of w es ≡ None
   pub not_ended : (w : ℕ) → begun es ≤ w → has_ended w es ≡ false
   pub no_body : (w : ℕ) → begun es ≤ w → ev.body_of w es ≡ []
   pub not_told : (w : ℕ) → begun es ≤ w → is_told w es ≡ false
@@ -65,7 +65,7 @@ pub record IsTidy (es : List Event) : Type 0 where
 pub record IsState (es : List Event) (n : ℕ → ℕ) (s : Store) : Type 0 where
   pub next : s.next ≡ begun es
   pub writes : (w : ℕ) → map.get s.writes w ≡ record_of w (n w) es
-  pub fresh : (k w : ℕ) → is_fresh_in w (map.get s.slots k) ≡ is_open k w es
+  pub untouched : (k w : ℕ) → is_untouched_in w (map.get s.slots k) ≡ is_open k w es
   pub bodies : (k : ℕ) → complete_body (map.get s.slots k) ≡ complete k es
   pub filled : (k : ℕ) (x : Slot) → map.get s.slots k ≡ Some x → is_idle x ≡ false
   -- only a write that was begun is read

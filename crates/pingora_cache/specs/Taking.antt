@@ -6,7 +6,7 @@ use Rattle.pcache_base.specs.Key.{Key}
 use Rattle.pcache_put.specs.Progress.{Parsed, AtHead}
 use Rattle.pcache_put.specs.Counted.{Counted}
 use Rattle.pcache_put_ctx.specs.State.{Put, Stage, InHead, InBody, HasDeclined, IsOver}
-use Rattle.pcache_request.specs.Requests.{Request, fresh_request}
+use Rattle.pcache_request.specs.Requests.{Request, enabled_request}
 use Rattle.pcache_request.specs.declared.phase.CachePhase.TheVariants as phase
 use Rattle.pcache_request.specs.declared.phase.InUse.{InUse}
 
@@ -37,7 +37,7 @@ put_use = record { eviction = true; predictor = false; lock = false }
 
 -- a request that fills this key with this write, if it does, for the entry of a number, and does nothing else
 abbrev pub filling : Key → Option ℕ → Option ℕ → Request
-filling k w id = let fresh : Request = fresh_request put_use in record fresh { phase = phase.Miss; key = Some k; write = w; entry = id }
+filling k w id = let made : Request = enabled_request put_use in record made { phase = phase.Miss; key = Some k; write = w; entry = id }
 
 -- the number of the entry that the write fills
 abbrev pub entry_in : Stage → Option ℕ

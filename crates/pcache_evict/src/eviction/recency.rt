@@ -5,10 +5,10 @@ ghost use Rattle.pcache_base.specs.declared.error.ErrorType.TheVariants.{OutOfMe
 ghost use Rattle.lru.specs.LruCache.{lru_cache, put_entries};
 ghost use Rattle.pcache_evict.specs.Entry.{entry_eq};
 ghost use Rattle.pcache_evict.specs.Tracked.{limits_of, raised};
-ghost use Rattle.pcache_evict.specs.Recency.{Recency, weight, weight_of, others, moved, incremented, loaded, loaded_all, IsListWithin, Evicts};
+ghost use Rattle.pcache_evict.specs.Recency.{Recency, weight, weight_of, others, moved, incremented, loaded, loaded_all, IsWithinAsList, Evicts};
 ghost use Rattle.pcache_evict.specs.Listed.{IsOnce, IsEnough};
 ghost use Rattle.pcache_evict.specs.Shards.{reweighed, last_key};
-ghost use Rattle.pcache_evict.specs.Chain.{AreWithin, Walks};
+ghost use Rattle.pcache_evict.specs.Chain.{IsWithinTotals, Walks};
 
 use super::CacheEntryKey;
 use lru::{Iter, LruCache};
@@ -269,7 +269,7 @@ impl RecencyList {
         requires { count < 2 ^ 63 }
         ensures once { IsOnce self.now }
         ensures inside { result ≡ true → (l : Recency) → weight l ≤ weight self.now + size → length l ≤ length self.now + count
-            → IsListWithin (limits_of limit watermark) l }
+            → IsWithinAsList (limits_of limit watermark) l }
     {
         !exceeds(
             self.weight + size as u128,
@@ -293,8 +293,8 @@ impl RecencyList {
         requires sum_fits { rest.0 + 2 ^ 64 < 2 ^ 128 }
         requires count { rest.1 ≡ length (others item.now self.now) }
         requires count_fits { rest.1 < 2 ^ 63 }
-        ensures inside { result ≡ true → IsListWithin (limits_of limit watermark) (moved item.now size self.now) }
-        ensures outside { result ≡ false → ¬ IsListWithin (limits_of limit watermark) (moved item.now size self.now) }
+        ensures inside { result ≡ true → IsWithinAsList (limits_of limit watermark) (moved item.now size self.now) }
+        ensures outside { result ≡ false → ¬ IsWithinAsList (limits_of limit watermark) (moved item.now size self.now) }
     {
         !exceeds(rest.0 + size as u128, rest.1 + 1, limit, watermark)
     }
@@ -488,11 +488,11 @@ fn write_weight(cache: &mut LruCache<CacheEntryKey, usize>, item: &CacheEntryKey
 /// Whether a weight or a number of entries is above the limits.
 pub(super) fn exceeds(sum: u128, count: usize, limit: usize, watermark: Option<usize>) -> bool
     ensures over { result ≡ true → (l : Recency) → sum ≡ weight l → count ≡ length l
-        → ¬ IsListWithin (limits_of limit watermark) l }
+        → ¬ IsWithinAsList (limits_of limit watermark) l }
     ensures within { result ≡ false → (l : Recency) → sum ≡ weight l → count ≡ length l
-        → IsListWithin (limits_of limit watermark) l }
-    ensures above { result ≡ true → ¬ AreWithin (limits_of limit watermark) sum count }
-    ensures small { result ≡ false → AreWithin (limits_of limit watermark) sum count }
+        → IsWithinAsList (limits_of limit watermark) l }
+    ensures above { result ≡ true → ¬ IsWithinTotals (limits_of limit watermark) sum count }
+    ensures small { result ≡ false → IsWithinTotals (limits_of limit watermark) sum count }
 {
     if let Some(most) = watermark {
         if count > most {

@@ -4,7 +4,7 @@ ghost use Rattle.std.specs.Prelude.{◌≡◌, ◌-◌, ◌^◌, ◌<◌, [], No
 ghost use Rattle.std.specs.Vec.{vec_capacity};
 ghost use Rattle.pcache_base.specs.declared.error.ErrorType.TheVariants.{OutOfMemory};
 ghost use Rattle.pcache_evict.specs.Tracked.{raised, limits_of};
-ghost use Rattle.pcache_evict.specs.Recency.{IsListWithin, weight, weight_of, others, moved, accessed};
+ghost use Rattle.pcache_evict.specs.Recency.{IsWithinAsList, weight, weight_of, others, moved, accessed};
 ghost use Rattle.pcache_evict.specs.Listed.{IsEnough};
 ghost use Rattle.pcache_evict.specs.Shards.{ArePlaced, Sharded, Runs, all, list_at, shard_of, in_shard, reweighed, joined_all, grown, last_key, empty_shards};
 ghost use Rattle.pcache_evict.specs.Chain.{chain};
@@ -226,7 +226,7 @@ impl<const N: usize> Manager<N> {
         ensures ok { IfOk result (λ out. Runs N self.old
             (in_shard N item.now (grown item.now delta max_weight) self.old.shards) self.new out.items) }
         ensures within { IsSome (weight_of item.now (list_at self.old.shards (shard_of N item.now)))
-            → IsListWithin self.old.limits (all (in_shard N item.now (grown item.now delta max_weight) self.old.shards))
+            → IsWithinAsList self.old.limits (all (in_shard N item.now (grown item.now delta max_weight) self.old.shards))
             → IsOk result }
         ensures placed { ArePlaced N self.old.shards }
         ensures kind { IfErr result (λ e. e ≡ OutOfMemory) }
@@ -323,7 +323,7 @@ impl<const N: usize> Manager<N> {
         requires there { IsSome (weight_of item.now (list_at self.old.shards (shard_of N item.now))) }
         ensures ok { IfOk result (λ out. Runs N self.old
             (in_shard N item.now (reweighed item.now size) self.old.shards) self.new out.items) }
-        ensures within { IsListWithin self.old.limits (all (in_shard N item.now (reweighed item.now size) self.old.shards))
+        ensures within { IsWithinAsList self.old.limits (all (in_shard N item.now (reweighed item.now size) self.old.shards))
             → IsOk result }
         ensures placed { ArePlaced N self.old.shards }
         ensures kind { IfErr result (λ e. e ≡ OutOfMemory) }

@@ -3,7 +3,7 @@ ghost use Rattle.std.specs.Prelude.{◌≡◌, ◌∷◌, ◌++◌, ◌+◌, ◌
 ghost use Rattle.std.specs.Vec.{vec_capacity};
 ghost use Rattle.pcache_base.specs.declared.error.ErrorType.TheVariants.{OutOfMemory};
 ghost use Rattle.pcache_evict.specs.Tracked.{limits_of};
-ghost use Rattle.pcache_evict.specs.Recency.{Recency, weight, weight_of, others, moved, IsListWithin};
+ghost use Rattle.pcache_evict.specs.Recency.{Recency, weight, weight_of, others, moved, IsWithinAsList};
 ghost use Rattle.pcache_evict.specs.Listed.{IsEnough};
 ghost use Rattle.pcache_evict.specs.Shards.{ArePlaced, all, shard_of, list_at, no_entries, in_shard, reweighed, joined, joined_all, AreLengths, AreLonger, RunsOut};
 ghost use Rattle.pcache_evict.specs.Chain.{span, chain, Pops, Walks, RoomFor, IsFirst, IsFirstFrom};
@@ -311,8 +311,8 @@ impl<const N: usize> RecencyShards<N> {
         requires sum_fits { rest.0 + 2 ^ 64 < 2 ^ 128 }
         requires count { rest.1 ≡ length (others item.now (all self.now)) }
         requires count_fits { rest.1 < 2 ^ 63 }
-        ensures inside { result ≡ true → IsListWithin (limits_of limit watermark) (all (in_shard N item.now (reweighed item.now size) self.now)) }
-        ensures outside { result ≡ false → ¬ IsListWithin (limits_of limit watermark) (all (in_shard N item.now (reweighed item.now size) self.now)) }
+        ensures inside { result ≡ true → IsWithinAsList (limits_of limit watermark) (all (in_shard N item.now (reweighed item.now size) self.now)) }
+        ensures outside { result ≡ false → ¬ IsWithinAsList (limits_of limit watermark) (all (in_shard N item.now (reweighed item.now size) self.now)) }
     {
         let _ = &self.lists; // for the prover: once a field is used, the invariant is known
         !exceeds(rest.0 + size as u128, rest.1 + 1, limit, watermark)

@@ -2,7 +2,7 @@
 ghost use Rattle.std.specs.Prelude.{◌≡◌, ◌-◌, ◌^◌, [], None, is_some, length, OnOk, OnErr, IfOk, IfErr, IsOk, IsSome, min};
 ghost use Rattle.std.specs.Vec.{vec_capacity};
 ghost use Rattle.pcache_base.specs.declared.error.ErrorType.TheVariants.{OutOfMemory};
-ghost use Rattle.pcache_evict.specs.Recency.{IsListWithin, weight, weight_of, others, moved, incremented, accessed, loaded, loaded_all};
+ghost use Rattle.pcache_evict.specs.Recency.{IsWithinAsList, weight, weight_of, others, moved, incremented, accessed, loaded, loaded_all};
 ghost use Rattle.pcache_evict.specs.Listed.{Listed, empty_list, Moves, IsEnough, IsOnce};
 
 use super::recency::{RecencyList, raised_weight};
@@ -143,7 +143,7 @@ impl Manager {
         ensures ok { IfOk result (λ out. Moves self.old
             (incremented item.now delta max_weight self.old.entries) self.new out.items) }
         ensures within { IsSome (weight_of item.now self.old.entries)
-            → IsListWithin self.old.limits (incremented item.now delta max_weight self.old.entries)
+            → IsWithinAsList self.old.limits (incremented item.now delta max_weight self.old.entries)
             → IsOk result }
         ensures once { IsOnce self.old.entries }
         ensures kind { IfErr result (λ e. e ≡ OutOfMemory) }

@@ -3,7 +3,7 @@ ghost use Rattle.std.specs.Prelude.{◌≡◌, ◌==◌, ◌-◌, [], IfErr, IsO
 ghost use Rattle.pcache_base.specs.declared.error.ErrorType.TheVariants.{OutOfMemory};
 ghost use Rattle.std.specs.Duration.{as_nanos};
 ghost use Rattle.pcache_lock.specs.Locks.{ended};
-ghost use Rattle.pcache_lock.specs.Permits.{fresh_core, is_locked, is_named, with_reader, without_reader, spent, dropped_status};
+ghost use Rattle.pcache_lock.specs.Permits.{new_core, is_locked, is_named, with_reader, without_reader, spent, dropped_status};
 ghost use Rattle.pcache_lock.specs.Statuses.{IsReason};
 ghost use Rattle.pcache_lock.specs.Waiting.{aged, first_told, is_expired, says_nothing, stage_of, status_at, with_publication};
 
@@ -99,7 +99,7 @@ impl Model for LockCore {
 impl LockCore {
     /// A lock whose permit is given now, under no key.
     pub fn new(alloc: Global, age_timeout: Duration, stale_writer: bool, now: Moment) -> LockCore
-        ensures { result ≡ fresh_core None (as_nanos age_timeout) stale_writer now }
+        ensures { result ≡ new_core None (as_nanos age_timeout) stale_writer now }
     {
         LockCore {
             slot: None,
@@ -121,7 +121,7 @@ impl LockCore {
         stale_writer: bool,
         now: Moment,
     ) -> LockCore
-        ensures { result ≡ fresh_core (Some slot) (as_nanos age_timeout) stale_writer now }
+        ensures { result ≡ new_core (Some slot) (as_nanos age_timeout) stale_writer now }
     {
         LockCore {
             slot: Some(slot),

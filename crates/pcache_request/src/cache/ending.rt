@@ -6,7 +6,7 @@ ghost use Rattle.pcache_base.specs.CompactKey.{compact_of};
 ghost use Rattle.pcache_evict.specs.Tracked.{evicted_with};
 ghost use Rattle.pcache_store.specs.Purge.{purged_at};
 ghost use Rattle.pcache_store.specs.Refusals.{MayRefuseFinish};
-ghost use Rattle.pcache_store.specs.Store.{dropped, finished, stands};
+ghost use Rattle.pcache_store.specs.Store.{dropped, finished, is_untouched};
 ghost use Rattle.pcache_request.specs.Finishing.{PurgesAll, Admits, entry_slot, size_told, with_entry};
 ghost use Rattle.pcache_request.specs.Reports.{entry_stored};
 ghost use Rattle.pcache_request.specs.Requests.{entry_of};
@@ -133,7 +133,7 @@ fn finish_writer<S: Storage>(
     ensures compact { IfOk result (λ p. p.1 ≡ compact_of key.now) }
     ensures answer { IfOk result (λ p. p.2 ≡ S.finishes storage.old (S.Miss.write writer)) }
     ensures ok { OnOk result (S.state storage.new ≡ finished (S.state storage.old) (S.Miss.write writer)) }
-    ensures untouched { OnOk result (stands (S.state storage.old) (S.Miss.write writer) ≡ true) }
+    ensures untouched { OnOk result (is_untouched (S.state storage.old) (S.Miss.write writer) ≡ true) }
     ensures err { OnErr result (S.state storage.new ≡ dropped (S.state storage.old) (S.Miss.write writer)) }
     ensures kind { IfErr result (λ e. (e ≡ OutOfMemory) ⊎ MayRefuseFinish (S.state storage.old) (S.Miss.write writer) e) }
 {

@@ -81,7 +81,7 @@ impl Body {
 #[derive(Drop)]
 pub(crate) struct KeySlot {
     body: Option<Body>,
-    fresh: Table<()>,
+    untouched: Table<()>,
 }
 
 impl Model for KeySlot {
@@ -92,16 +92,16 @@ impl Model for KeySlot {
 
     ghost coded = { slot_code };
 
-    ghost view = { λ s. record { body = s.body; fresh = s.fresh } };
+    ghost view = { λ s. record { body = s.body; untouched = s.untouched } };
 }
 
 impl KeySlot {
     pub(crate) fn new(alloc: Global) -> KeySlot
-        ensures { result ≡ record { body = None; fresh = map.empty } }
+        ensures { result ≡ record { body = None; untouched = map.empty } }
     {
         KeySlot {
             body: None,
-            fresh: Table::new(alloc),
+            untouched: Table::new(alloc),
         }
     }
 
@@ -112,21 +112,21 @@ impl KeySlot {
     }
 
     pub(crate) fn least(&self) -> Option<u128>
-        ensures { result ≡ least self.now.fresh }
+        ensures { result ≡ least self.now.untouched }
     {
-        self.fresh.least()
+        self.untouched.least()
     }
 
-    pub(crate) fn is_fresh(&self, number: u128) -> bool
-        ensures { result ≡ map.contains_key self.now.fresh number }
+    pub(crate) fn is_untouched(&self, number: u128) -> bool
+        ensures { result ≡ map.contains_key self.now.untouched number }
     {
-        self.fresh.contains(number)
+        self.untouched.contains(number)
     }
 
     pub(crate) fn is_idle(&self) -> bool
         ensures { result ≡ is_idle self.now }
     {
-        self.body.is_none() && self.fresh.is_empty()
+        self.body.is_none() && self.untouched.is_empty()
     }
 
     pub(crate) fn open(&mut self, number: u128) -> Result<()>
@@ -134,22 +134,22 @@ impl KeySlot {
         ensures kind { IfErr result (λ e. e ≡ OutOfMemory) }
         ensures err { OnErr result (self.new ≡ self.old) }
     {
-        self.fresh.insert(number, ())?;
+        self.untouched.insert(number, ())?;
         Ok(())
     }
 
     pub(crate) fn shut(&mut self, number: u128)
-        ensures { self.new ≡ record self.old { fresh = map.remove self.old.fresh number } }
+        ensures { self.new ≡ record self.old { untouched = map.remove self.old.untouched number } }
     {
-        self.fresh.remove(number);
+        self.untouched.remove(number);
     }
 
     // Puts a body in place of the one that is answered.
     pub(crate) fn store(&mut self, number: u128, body: Body) -> Option<Body>
         ensures before { result ≡ self.old.body }
-        ensures after { self.new ≡ record { body = Some body; fresh = map.remove self.old.fresh number } }
+        ensures after { self.new ≡ record { body = Some body; untouched = map.remove self.old.untouched number } }
     {
-        self.fresh.remove(number);
+        self.untouched.remove(number);
         self.body.replace(body)
     }
 
@@ -183,8 +183,8 @@ impl KeySlot {
     pub(crate) fn into_body(self) -> Option<Body>
         ensures { result ≡ self.body }
     {
-        let KeySlot { body, fresh } = self;
-        drop(fresh);
+        let KeySlot { body, untouched } = self;
+        drop(untouched);
         body
     }
 }

@@ -73,7 +73,7 @@ impl Drafts {
 
     pub(crate) fn begin(&mut self, draft: Draft) -> Result<()>
         requires { self.old.next < 2 ^ 64 }
-        ensures fresh { map.get self.old.writes self.old.next ≡ None }
+        ensures unused { map.get self.old.writes self.old.next ≡ None }
         ensures ok { OnOk result (self.new ≡ record { writes = map.insert self.old.writes self.old.next draft; next = self.old.next + 1 }) }
         ensures kind { IfErr result (λ e. e ≡ OutOfMemory) }
         ensures err { OnErr result (self.new ≡ self.old) }

@@ -5,7 +5,7 @@ ghost use Rattle.pcache_meta.specs.Meta as meta_of;
 ghost use Rattle.pcache_base.specs.Totals.{total, share};
 ghost use Rattle.pcache_base.specs.declared.error.ErrorType.TheVariants.{OutOfMemory};
 ghost use Rattle.pcache_table.specs.Sharding.{part_of};
-ghost use Rattle.pcache_store.specs.Store.{Stored, opened, shut_on, stored_on, complete_body, meta_changed_on, is_fresh_in};
+ghost use Rattle.pcache_store.specs.Store.{Stored, opened, shut_on, stored_on, complete_body, meta_changed_on, is_untouched_in};
 ghost use Rattle.pcache_store.specs.Totals.{body_count, body_size, body_len, one};
 
 use crate::memory::body::{Body, KeySlot};
@@ -81,11 +81,11 @@ impl Slots {
     }
 
     // Whether a write of the key is in flight and met no removal.
-    pub(crate) fn is_fresh(&self, key: u128, number: u128) -> bool
-        ensures { result ≡ is_fresh_in number (map.get self.now key) }
+    pub(crate) fn is_untouched(&self, key: u128, number: u128) -> bool
+        ensures { result ≡ is_untouched_in number (map.get self.now key) }
     {
         match self.slots.get(key) {
-            Some(slot) => slot.is_fresh(number),
+            Some(slot) => slot.is_untouched(number),
             None => false,
         }
     }

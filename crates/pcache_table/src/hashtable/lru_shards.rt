@@ -2,7 +2,7 @@
 ghost use Rattle.std.specs.Prelude.{◌≡◌, ◌<◌, ◌%◌, IfErr, IfOk, OnErr, OnOk, max, nat_eq, option_copied, slice_set};
 ghost use Rattle.std.specs.Map.{lookup};
 ghost use Rattle.pcache_base.specs.declared.error.ErrorType.TheVariants.{OutOfMemory};
-ghost use Rattle.pcache_table.specs.Sharding.{fresh_lists, list_at, part_with, part_without};
+ghost use Rattle.pcache_table.specs.Sharding.{new_lists, list_at, part_with, part_without};
 
 use crate::hashtable::lru_shard::LruShard;
 use pcache_base::error::Result;
@@ -32,7 +32,7 @@ impl<V: Drop, const N: usize> LruShards<V, N> {
     /// It is refused only when memory runs out.
     pub fn new(alloc: Global, shard_capacity: usize) -> Result<LruShards<V, N>>
         requires { 0 < N }
-        ensures made { IfOk result (λ s. s ≡ fresh_lists N (max shard_capacity 1)) }
+        ensures made { IfOk result (λ s. s ≡ new_lists N (max shard_capacity 1)) }
         ensures kind { IfErr result (λ e. e ≡ OutOfMemory) }
     {
         let mut shards = Vec::new(alloc);

@@ -75,7 +75,7 @@ impl<M: EvictionManager, P: PutPolicy> World<M, P> {
     ghost use Rattle.std.specs.Prelude.{reverse};
     ghost use Rattle.pcache_base.specs.declared.error.ErrorType.TheVariants.{OutOfMemory};
     ghost use Rattle.pcache_evict.specs.Tracked.{weight};
-    ghost use Rattle.pingora_cache.specs.Headline.{EvictsNothingWithin, FindsUntouched, FinishesUntouched, GivesWhereNoneWaits, HandsOnUnhidden, HitsTheLast, StaysWithin};
+    ghost use Rattle.pingora_cache.specs.Headline.{EvictsNothingWithin, FindsUntouched, FinishesUntouched, GivesWhereNoneWaits, HandsOnUnhidden, HitsTheLast, IsWithinAlways};
 
     /// A world with no requests, nothing stored and an empty history. Permits age out after
     /// `age_timeout`.
@@ -117,7 +117,7 @@ impl<M: EvictionManager, P: PutPolicy> World<M, P> {
         ensures hands_on { HandsOnUnhidden self.now }
         ensures finishes { FinishesUntouched self.now }
         ensures hits { HitsTheLast self.now }
-        ensures within { StaysWithin self.now }
+        ensures within { IsWithinAlways self.now }
         ensures evicts { EvictsNothingWithin self.now }
         ensures locks { GivesWhereNoneWaits self.now }
     {

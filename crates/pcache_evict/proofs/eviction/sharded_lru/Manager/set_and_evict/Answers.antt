@@ -1,5 +1,5 @@
 use Rattle.std.proofs.Common.{arith, subst, sym}
-use Rattle.pcache_evict.specs.Recency.{IsListWithin}
+use Rattle.pcache_evict.specs.Recency.{IsWithinAsList}
 use Rattle.pcache_evict.specs.Shards.{ArePlaced, all}
 use Rattle.pcache_evict.proofs.Sharded.{placed-reweighed}
 use Rattle.pcache_evict.proofs.Chains.{enough-now}
@@ -15,7 +15,7 @@ keep_limits-requires g c =
           c.new.ensures.items,
           enough-now (record { weight = c.self.inside.limit; watermark = c.self.inside.watermark }) g.row.N c.place_of-place.result _ c.reweigh.new.self
               (subst (ArePlaced g.row.N) (sym c.reweigh.ensures) (placed-reweighed g.row.N c.args.item.now c.args.size c.self.inside.shards c.len.ensures.placed)) within
-              (subst (λ s. IsListWithin (record { weight = c.self.inside.limit; watermark = c.self.inside.watermark }) (all s)) (sym c.reweigh.ensures) (c.fits-fits.ensures.inside c.if-fits.true)),
+              (subst (λ s. IsWithinAsList (record { weight = c.self.inside.limit; watermark = c.self.inside.watermark }) (all s)) (sym c.reweigh.ensures) (c.fits-fits.ensures.inside c.if-fits.true)),
         ),
       ),
     )

@@ -1,7 +1,7 @@
 use Rattle.std.proofs.Common.{◌∙◌, arith, sym, ap, ◌++◌, [], ◌∷◌}
 use Rattle.std.specs.Prelude.{max}
-use Rattle.pcache_table.specs.Sharding.{fresh_lists}
-use Rattle.pcache_table.proofs.ShardLists.{fresh-more, made-in-place}
+use Rattle.pcache_table.specs.Sharding.{new_lists}
+use Rattle.pcache_table.proofs.ShardLists.{new-more, made-in-place}
 use Rattle.pcache_table.proofs.hashtable.lru_shards.LruShards.new.Goals as goal
 
 pub loop-place-preserved : goal.loop-place-preserved
@@ -10,8 +10,8 @@ loop-place-preserved g c =
     let most = max c.args.shard_capacity 1 in
     c.in_ok-push.ensures.items
     ∙ ap (λ l. l ++ c.in_ok-at.field-0 ∷ []) c.loop-place.invariant
-    ∙ ap (λ x. fresh_lists n most ++ x ∷ []) c.in_ok-at.ensures.made
-    ∙ sym (fresh-more n most)
+    ∙ ap (λ x. new_lists n most ++ x ∷ []) c.in_ok-at.ensures.made
+    ∙ sym (new-more n most)
 
 pub invariant_of-result : goal.invariant_of-result
 invariant_of-result g c =

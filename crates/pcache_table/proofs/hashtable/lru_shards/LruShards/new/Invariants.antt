@@ -1,8 +1,8 @@
 use Rattle.std.proofs.Common.{◌≡◌}
 use Rattle.std.specs.Prelude.{max}
-use Rattle.pcache_table.specs.Sharding.{fresh_lists}
+use Rattle.pcache_table.specs.Sharding.{new_lists}
 use Rattle.pcache_table.proofs.hashtable.lru_shards.LruShards.new.Given as goal
 
 -- the shards below the place are made
 abbrev pub invariant-loop-place : goal.invariant-loop-place
-invariant-loop-place g l = l.shards.items ≡ fresh_lists l.place (max l.shard_capacity 1)
+invariant-loop-place g l = l.shards.items ≡ new_lists l.place (max l.shard_capacity 1)
