@@ -218,4 +218,7 @@ def main(names):
 
 
 if __name__ == "__main__":
+    unknown = [it for it in sys.argv[1:] if not os.path.isdir(f"{TOP}/crates/{it}/src")]
+    if unknown:
+        sys.exit(f"{__doc__.strip()}\n\nno crate: {' '.join(unknown)}")
     sys.exit(main(sys.argv[1:]))

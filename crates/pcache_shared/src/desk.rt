@@ -50,6 +50,7 @@ impl<M: EvictionManager, P: PutPolicy, K: Mark> Desk<M, P, K> {
         ensures value { IsTold K.opened.log (λ log. result ≡ stored (events_in log)) }
         ensures within { result ≤ K.opened.log.limits.weight }
     {
+        // For the prover: the call tells what is promised of the history.
         let _history = self.world.history();
         self.world.stored_bytes()
     }
@@ -59,6 +60,7 @@ impl<M: EvictionManager, P: PutPolicy, K: Mark> Desk<M, P, K> {
         ensures value { IsTold K.opened.log (λ log. result ≡ slots (events_in log)) }
         ensures within { IfSome K.opened.log.limits.watermark (λ most. result ≤ most) }
     {
+        // For the prover: the call tells what is promised of the history.
         let _history = self.world.history();
         self.world.slots()
     }

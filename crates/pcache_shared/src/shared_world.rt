@@ -153,6 +153,7 @@ impl<M: EvictionManager, P: PutPolicy, K: Mark> SharedWorld<M, P, K> {
             all.push_reserved(receipts);
         }
         room.shared.load::<Settling>(&mut keeper, 0);
+        // For the prover: the call tells that the history is legal.
         let _history = world.history();
         (world, all)
     }

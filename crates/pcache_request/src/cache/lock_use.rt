@@ -218,6 +218,6 @@ impl<S: Storage> HttpCache<S> {
         requires { IsOn self.old.phase }
         ensures { self.new ≡ self.old }
     {
-        let _tagged = self.phase;
+        let _tagged = self.phase; // for the prover: once a field is used, the invariant is known
     }
 }

@@ -122,6 +122,7 @@ impl Slots {
         ensures { self.new ≡ stored_on self.old key number body (map.get self.old key) }
     {
         let size = body.len() as u128;
+        // For the prover: the call bounds how many slots there are.
         let _count = self.slots.len();
         let (fewer, less) = count(self.slots.store(key, number, body));
         self.bodies = self.bodies - fewer + 1;

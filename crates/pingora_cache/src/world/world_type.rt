@@ -121,6 +121,7 @@ impl<M: EvictionManager, P: PutPolicy> World<M, P> {
         ensures evicts { EvictsNothingWithin self.now }
         ensures locks { GivesWhereNoneWaits self.now }
     {
+        // For the prover: the call tells what is promised of the history.
         let _history = self.history();
     }
 
