@@ -270,9 +270,9 @@ impl Manager {
         Ok(Vec::with_capacity(self.alloc, room)?)
     }
 
-    // Evicts into a list that has the room for what goes. It stands in line, since a list that it
-    // handed back by memory would be read only once every write before it is done, also those to
-    // entries that the processor still waits for: that took as long as two look-ups.
+    // Evicts into a list that has the room for what goes. It stands in line: a list that it handed
+    // back through memory was read only once all writes before were done, also those to entries
+    // that the processor still waited for, which took a quarter of `increment_weight`.
     #[inline(always)]
     fn keep_limits(&mut self, mut out: Vec<CacheEntryKey>) -> Vec<CacheEntryKey>
         requires none { out.items ≡ [] }
