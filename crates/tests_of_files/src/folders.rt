@@ -103,21 +103,24 @@ fn z_is_not_saved<R: Files>(alloc: Global, files: &R, dir: &str, suffix: u32) ->
     Ok(refuses_to_save(alloc, files, &manager, dir, suffix))
 }
 
-// A folder without the file, and a file in the place of a folder.
+// Whether no call succeeds on a folder without the file, or where a file stands in place of the folder.
+fn are_blocked<R: Files>(alloc: Global, files: &R) -> Result<bool> {
+    Ok(
+        refuses_to_load(alloc, files, "blocked/empty")?
+            && refuses_to_load(alloc, files, "blocked/file")?
+            && z_is_not_saved(alloc, files, "blocked/file", 1)?
+            && z_is_not_saved(alloc, files, "blocked/file/inner", 1)?,
+    )
+}
+
 #[test]
 fn folders_that_cannot_be_opened(rt: HostRuntime) -> std::result::Result<(), Fail> {
     let alloc = rt.alloc();
     let _ = fs::remove_dir_all(&rt, "blocked");
     fs::create_dir_all(&rt, "blocked/empty")?;
-    let is_refused = refuses_to_load(alloc, &rt, "blocked/empty")?;
-    assert!(rt; is_refused);
     fs::write(&rt, "blocked/file", b"x")?;
-    let is_refused = refuses_to_load(alloc, &rt, "blocked/file")?;
-    assert!(rt; is_refused);
-    let is_refused = z_is_not_saved(alloc, &rt, "blocked/file", 1)?;
-    assert!(rt; is_refused);
-    let is_refused = z_is_not_saved(alloc, &rt, "blocked/file/inner", 1)?;
-    assert!(rt; is_refused);
+    let are_refused = are_blocked(alloc, &rt)?;
+    assert!(rt; are_refused);
     assert!(rt; has(&rt, "blocked/file", b"x"));
     fs::remove_dir_all(&rt, "blocked")?;
     Ok(())
@@ -188,15 +191,26 @@ fn shards_in_a_folder(rt: HostRuntime) -> std::result::Result<(), Fail> {
     two_shards(alloc)?.save(alloc, &rt, "shards", 7)?;
     let is_loaded = shards_load(alloc, &rt, "shards", "0", " b2 a1")?;
     assert!(rt; is_loaded);
+    // a torn file is skipped
     fs::write(&rt, "shards/lru.data.1", &AA[..33])?;
     let is_skipped = shards_load(alloc, &rt, "shards", "1", " b2")?;
     assert!(rt; is_skipped);
-    fs::remove_file(&rt, "shards/lru.data.1")?;
-    let is_skipped = shards_load(alloc, &rt, "shards", "1", " b2")?;
-    assert!(rt; is_skipped);
     fs::remove_dir_all(&rt, "shards")?;
-    let is_skipped = shards_load(alloc, &rt, "shards", "2", "")?;
+    Ok(())
+}
+
+// A file that is not there is skipped, and so is each file of a folder that is not there.
+#[test]
+fn shards_that_are_not_there(rt: HostRuntime) -> std::result::Result<(), Fail> {
+    let alloc = rt.alloc();
+    let _ = fs::remove_dir_all(&rt, "missing_shards");
+    two_shards(alloc)?.save(alloc, &rt, "missing_shards", 7)?;
+    fs::remove_file(&rt, "missing_shards/lru.data.1")?;
+    let is_skipped = shards_load(alloc, &rt, "missing_shards", "1", " b2")?;
     assert!(rt; is_skipped);
+    fs::remove_dir_all(&rt, "missing_shards")?;
+    let are_skipped = shards_load(alloc, &rt, "missing_shards", "2", "")?;
+    assert!(rt; are_skipped);
     Ok(())
 }
 
