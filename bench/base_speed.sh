@@ -6,8 +6,8 @@ set -eu
 . "$(dirname "$0")/in_a_copy.sh"
 mkdir -p crates/base_speed/src
 cp bench/base_speed.rt.txt crates/base_speed/src/main.rt
-echo 'base_speed: pcache_base pcache_meta http http_header' >>crates.txt
-(cd crates/base_speed && rt run | grep -E '^(hash|meta|head) ')
+build 'base_speed: pcache_base pcache_meta http http_header'
+crates/base_speed/out/base_speed | grep -E '^(hash|meta|head) '
 python3 - <<'SPEED'
 import hashlib, time
 for length, rounds in ((64, 300000), (65536, 2000)):

@@ -5,6 +5,6 @@ set -eu
 . "$(dirname "$0")/in_a_copy.sh"
 mkdir -p crates/eviction_speed/src
 cp bench/eviction_speed.rt.txt crates/eviction_speed/src/main.rt
-echo 'eviction_speed: pcache_base pcache_evict' >>crates.txt
-(cd crates/eviction_speed && rt run | grep -E '^(simple_lru|sharded_lru) ')
+build 'eviction_speed: pcache_base pcache_evict'
+crates/eviction_speed/out/eviction_speed | grep -E '^(simple_lru|sharded_lru) '
 echo "cores=$(nproc) load=$(cut -d' ' -f1 /proc/loadavg)"

@@ -5,6 +5,6 @@ set -eu
 . "$(dirname "$0")/in_a_copy.sh"
 mkdir -p crates/files_speed/src
 cp bench/files_speed.rt.txt crates/files_speed/src/main.rt
-echo 'files_speed: pcache_base pcache_evict pcache_files' >>crates.txt
-(cd crates/files_speed && rt run | grep -E '^(simple_lru|sharded_lru) ')
+build 'files_speed: pcache_base pcache_evict pcache_files'
+crates/files_speed/out/files_speed | grep -E '^(simple_lru|sharded_lru) '
 echo "cores=$(nproc) load=$(cut -d' ' -f1 /proc/loadavg)"

@@ -14,6 +14,6 @@ with open("bench/hostile_line.rt.txt", encoding="utf-8") as it:
 with open("crates/hostile_line/src/main.rt", "w", encoding="utf-8") as it:
     it.write(text.replace("THE BEGINNING OF NAMES", prefix(14, 8).decode()))
 BEGINNING
-echo 'hostile_line: pcache_control pcache_meta http http_header' >>crates.txt
-(cd crates/hostile_line && rt run | grep '^names=')
+build 'hostile_line: pcache_control pcache_meta http http_header'
+crates/hostile_line/out/hostile_line | grep '^names='
 echo "cores=$(nproc) load=$(cut -d' ' -f1 /proc/loadavg)"

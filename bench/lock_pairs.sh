@@ -12,6 +12,6 @@ use Rattle.lock_pairs.proofs.measure.Given as goal
 abbrev pub decreases-loop-permit : goal.decreases-loop-permit
 decreases-loop-permit l = vec_len l.permits
 PROOF
-echo 'lock_pairs: pcache_base pcache_lock' >>crates.txt
-(cd crates/lock_pairs && rt run | grep '^keys=')
+build 'lock_pairs: pcache_base pcache_lock'
+crates/lock_pairs/out/lock_pairs | grep '^keys='
 echo "cores=$(nproc)"

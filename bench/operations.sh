@@ -7,7 +7,6 @@ mkdir -p crates/operations/src
 for file in bench/operations/*.rt.txt; do
 	cp "$file" "crates/operations/src/$(basename "$file" .txt)"
 done
-grep -q '^operations:' crates.txt ||
-	echo 'operations: pcache_base pcache_control pcache_evict pcache_lock pcache_meta pcache_put pcache_put_ctx pcache_store bytes http http_header' >>crates.txt
-(cd crates/operations && rt run | grep ': nanoseconds=')
+build 'operations: pcache_base pcache_control pcache_evict pcache_lock pcache_meta pcache_put pcache_put_ctx pcache_store bytes http http_header'
+crates/operations/out/operations | grep ': nanoseconds='
 echo "cores=$(nproc) load=$(cut -d' ' -f1 /proc/loadavg)"

@@ -5,6 +5,6 @@ set -eu
 . "$(dirname "$0")/in_a_copy.sh"
 mkdir -p crates/put_speed/src
 cp bench/put_speed.rt.txt crates/put_speed/src/main.rt
-echo 'put_speed: pcache_base pcache_control pcache_evict pcache_meta pcache_put_ctx pcache_store http' >>crates.txt
-(cd crates/put_speed && rt run | grep -E '^put ')
+build 'put_speed: pcache_base pcache_control pcache_evict pcache_meta pcache_put_ctx pcache_store http'
+crates/put_speed/out/put_speed | grep -E '^put '
 echo "cores=$(nproc) load=$(cut -d' ' -f1 /proc/loadavg)"

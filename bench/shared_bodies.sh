@@ -13,8 +13,7 @@ use Rattle.shared_bodies.proofs.let_all_go.Given as goal
 abbrev pub decreases-loop-reader : goal.decreases-loop-reader
 decreases-loop-reader l = vec_len l.readers
 PROOF
-echo 'shared_bodies: pcache_base pcache_meta pcache_store bytes http' >>crates.txt
-(cd crates/shared_bodies && rt run >&2)
+build 'shared_bodies: pcache_base pcache_meta pcache_store bytes http'
 python3 - <<'MEASURE'
 import os, sys
 

@@ -11,6 +11,6 @@ use Rattle.shared_calls.proofs.together.Given as goal
 abbrev pub ghosts-run_named : goal.ghosts-run_named
 ghosts-run_named g a = record { opened = a.opening }
 PROOF
-echo 'shared_calls: pcache_base pcache_evict pcache_meta pcache_shared pingora_cache bytes http' >>crates.txt
-(cd crates/shared_calls && rt run | grep -E '^(one thread|workers=)')
+build 'shared_calls: pcache_base pcache_evict pcache_meta pcache_shared pingora_cache bytes http'
+crates/shared_calls/out/shared_calls | grep -E '^(one thread|workers=)'
 echo "cores=$(nproc) load=$(cut -d' ' -f1 /proc/loadavg)"

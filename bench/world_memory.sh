@@ -6,8 +6,7 @@ set -eu
 . "$(dirname "$0")/in_a_copy.sh"
 mkdir -p crates/world_memory/src
 cp bench/world_memory.rt.txt crates/world_memory/src/main.rt
-echo 'world_memory: pingora_cache bytes http' >>crates.txt
-(cd crates/world_memory && rt run -- wrong 1 >&2)
+build 'world_memory: pingora_cache bytes http'
 python3 - <<'MEASURE'
 import os, sys
 
