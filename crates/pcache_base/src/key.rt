@@ -138,6 +138,8 @@ fn slot_number(hash: HashBinary) -> u128
 #[derive(Drop)]
 pub struct CacheKey {
     primary: Vec<u8>,
+    // The hash of the primary bytes, made once.
+    own_hash: HashBinary,
     primary_override: Option<HashBinary>,
     variance: Option<HashBinary>,
     /// The tag of the user whom the entry is counted for.
@@ -148,7 +150,9 @@ pub struct CacheKey {
 }
 
 impl Model for CacheKey {
+    ghost use Rattle.std.specs.Prelude.{◌≡◌};
     ghost use Rattle.pcache_base.specs.Key.{Key};
+    ghost use Rattle.pcache_base.specs.Blake2b.{blake2b_128};
 
     ghost Value = { Key };
 
@@ -159,6 +163,8 @@ impl Model for CacheKey {
       user_tag = k.user_tag;
       unusable = k.unusable;
     } };
+
+    ghost invariant = { λ k. k.own_hash ≡ blake2b_128 k.primary.items };
 }
 
 impl CacheKey {
@@ -171,8 +177,10 @@ impl CacheKey {
     pub fn new(primary: Vec<u8>, user_tag: String) -> CacheKey
         ensures { result ≡ record { primary = primary.items; primary_override = None; variance = None; user_tag = string_bytes user_tag; unusable = None } }
     {
+        let own_hash = hash_key(primary.as_slice());
         CacheKey {
             primary,
+            own_hash,
             primary_override: None,
             variance: None,
             user_tag: Text::new(user_tag),
@@ -242,6 +250,7 @@ impl CacheKey {
     {
         Ok(CacheKey {
             primary: self.primary.clone()?,
+            own_hash: self.own_hash,
             primary_override: self.primary_override,
             variance: self.variance,
             user_tag: self.user_tag.copied()?,
@@ -265,7 +274,7 @@ impl CacheHashKey for CacheKey {
     fn primary_bin(&self) -> HashBinary {
         match self.primary_override {
             Some(hash) => hash,
-            None => hash_key(self.primary.as_slice()),
+            None => self.own_hash,
         }
     }
 
