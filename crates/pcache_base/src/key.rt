@@ -43,6 +43,19 @@ pub fn str2hex(text: &str) -> Option<HashBinary>
     <HashBinary as FromHex>::from_hex(text).ok()
 }
 
+// The primary hash, or if there is a variance the hash of both.
+fn combined_hash(primary: HashBinary, variance: Option<HashBinary>) -> HashBinary
+    ensures { result ≡ combined_of primary variance }
+{
+    let Some(variance) = variance else {
+        return primary;
+    };
+    let mut hasher = Hasher::new();
+    hasher.update(&primary);
+    hasher.update(&variance);
+    hasher.finish()
+}
+
 // The lower-case hexadecimal text of a hash.
 fn hex_text(alloc: Global, hash: &[u8]) -> Result<String>
     requires { length hash.now ≡ 16 }
@@ -76,14 +89,7 @@ pub trait CacheHashKey {
     fn combined_bin(&self) -> HashBinary
         ensures { result ≡ combined_of (primary_hash self.now) (variance_hash self.now) }
     {
-        let primary = self.primary_bin();
-        let Some(variance) = self.variance_bin() else {
-            return primary;
-        };
-        let mut hasher = Hasher::new();
-        hasher.update(&primary);
-        hasher.update(&variance);
-        hasher.finish()
+        combined_hash(self.primary_bin(), self.variance_bin())
     }
 
     /// The combined hash as a number, big end first.
@@ -138,8 +144,10 @@ fn slot_number(hash: HashBinary) -> u128
 #[derive(Drop)]
 pub struct CacheKey {
     primary: Vec<u8>,
-    // The hash of the primary bytes, made once.
+    // The hash of the primary bytes, and the combined hash: both are asked for at each use of a
+    // store, a lock or a manager, so they are made when the key is made or changed, and not again.
     own_hash: HashBinary,
+    combined: HashBinary,
     primary_override: Option<HashBinary>,
     variance: Option<HashBinary>,
     /// The tag of the user whom the entry is counted for.
@@ -150,8 +158,8 @@ pub struct CacheKey {
 }
 
 impl Model for CacheKey {
-    ghost use Rattle.std.specs.Prelude.{◌≡◌};
-    ghost use Rattle.pcache_base.specs.Key.{Key};
+    ghost use Rattle.std.specs.Prelude.{◌≡◌, unwrap_or};
+    ghost use Rattle.pcache_base.specs.Key.{Key, combined_of};
     ghost use Rattle.pcache_base.specs.Blake2b.{blake2b_128};
 
     ghost Value = { Key };
@@ -164,7 +172,8 @@ impl Model for CacheKey {
       unusable = k.unusable;
     } };
 
-    ghost invariant = { λ k. k.own_hash ≡ blake2b_128 k.primary.items };
+    ghost invariant = { λ k. (k.own_hash ≡ blake2b_128 k.primary.items)
+        × (k.combined ≡ combined_of (unwrap_or k.primary_override (blake2b_128 k.primary.items)) k.variance) };
 }
 
 impl CacheKey {
@@ -181,6 +190,7 @@ impl CacheKey {
         CacheKey {
             primary,
             own_hash,
+            combined: own_hash,
             primary_override: None,
             variance: None,
             user_tag: Text::new(user_tag),
@@ -207,6 +217,7 @@ impl CacheKey {
     pub fn set_variance_key(&mut self, key: HashBinary)
         ensures { self.new ≡ record self.old { variance = Some key } }
     {
+        self.combined = combined_hash(self.primary_bin(), Some(key));
         self.variance = Some(key);
     }
 
@@ -221,6 +232,7 @@ impl CacheKey {
     pub fn remove_variance_key(&mut self)
         ensures { self.new ≡ record self.old { variance = None } }
     {
+        self.combined = self.primary_bin();
         self.variance = None;
     }
 
@@ -228,6 +240,7 @@ impl CacheKey {
     pub fn set_primary_bin_override(&mut self, hash: HashBinary)
         ensures { self.new ≡ record self.old { primary_override = Some hash } }
     {
+        self.combined = combined_hash(hash, self.variance);
         self.primary_override = Some(hash);
     }
 
@@ -251,6 +264,7 @@ impl CacheKey {
         Ok(CacheKey {
             primary: self.primary.clone()?,
             own_hash: self.own_hash,
+            combined: self.combined,
             primary_override: self.primary_override,
             variance: self.variance,
             user_tag: self.user_tag.copied()?,
@@ -276,6 +290,10 @@ impl CacheHashKey for CacheKey {
             Some(hash) => hash,
             None => self.own_hash,
         }
+    }
+
+    fn combined_bin(&self) -> HashBinary {
+        self.combined
     }
 
     fn variance_bin(&self) -> Option<HashBinary> {
