@@ -1,5 +1,5 @@
 -- How a state and a buffer follow a message as it grows.
-use Rattle.std.proofs.Common.{◌≡◌, ℕ, zero, suc, ◌+◌, ◌-◌, ◌*◌, ◌/◌, ◌%◌, ◌^◌, ◌<◌, ◌≤◌, Bool, true, false, List, [], ◌∷◌, ◌++◌, length, take, drop, replicate, slice_index, refl, sym, ap, ◌∙◌, arith, length-append, length-drop, add-one}
+use Rattle.std.proofs.Common.{◌≡◌, ℕ, zero, suc, ◌+◌, ◌-◌, ◌*◌, ◌/◌, ◌%◌, ◌^◌, ◌<◌, ◌≤◌, Bool, true, false, List, [], ◌∷◌, ◌++◌, length, take, drop, replicate, slice_index, refl, sym, ap, ◌∙◌, append_assoc, arith, length-append, length-drop, add-one}
 use Rattle.std.proofs.lemmas.List.{take-append-le, drop-append-le, take_all, drop_all, append-nil, drop-take, take-take, take-append-drop, length-take-le}
 use Rattle.std.proofs.lemmas.Slice.{take-put_mid}
 use borrow.Rule.Slice.PartMut.{put_mid, post_of}
@@ -78,6 +78,29 @@ IsAbsorbed_grown h b c d used n m held e = record {
   rest = e ∙ rw held.rest (sym (drop-append-le (128 * n) m d (omega (arith, held.size))));
 }
 
+-- a block that is taken in from where it stands, while the buffer has nothing
+pub HasRoom_block : (s r : Hasher) (m d : List ℕ) → HasRoomAfter s m → s.used ≡ 0 → length d ≡ 128
+    → r.count ≡ (s.count + 128) % 2 ^ 128 → r.state ≡ compress s.state d r.count false → r.used ≡ 0 → HasRoomAfter r (m ++ d)
+unfolding HasRoomAfter
+HasRoom_block s r m d held empty len ec er eu =
+    let n : ℕ = held.1 in
+    let absorbed : IsAbsorbed s.state s.buffer 0 n m = used_at s.state s.buffer s.used 0 n m empty held.2 in
+    let size : length m ≡ 128 * n = omega (arith, absorbed.size) in
+    let counted : r.count ≡ length (m ++ d) % 2 ^ 128 = count_append s.count r.count m d held.0 (ec ∙ rw len refl) in
+    let longer : length (m ++ d) ≡ 128 * n + 128 = omega (arith, length-append m d, size, len) in
+    let behind : drop (128 * n) (m ++ d) ≡ d = rw (drop-append-le (128 * n) m d (omega arith), drop_all (128 * n) m (omega arith)) refl in
+    let block : take 128 (drop (128 * n) (m ++ d)) ≡ d = rw (behind, take_all 128 d (omega arith)) refl in
+    let same : compress s.state d r.count false ≡ compress s.state d (128 * n + 128) false =
+    compress-count s.state d r.count (128 * n + 128) false (rw (← longer) counted) in (
+      counted,
+      n + 1,
+      record {
+        state = er ∙ same ∙ rw (state_after_next (m ++ d) n, block, state_after-append m d n (omega arith), ← absorbed.state) refl;
+        size = rw eu (omega arith);
+        rest = rw eu (sym (drop_all (128 * (n + 1)) (m ++ d) (omega arith)));
+      },
+    )
+
 -- what the filling of the buffer leaves
 pub Holds_filled : (s r : Hasher) (m d ys : List ℕ) (j : ℕ) → HasRoomAfter s m → length s.buffer ≡ 128 → s.used + length d ≤ 128
     → 0 < length d → ys ≡ d → r.state ≡ s.state → r.buffer ≡ put_mid s.used j s.buffer ys → r.used ≡ s.used + length d
@@ -115,6 +138,18 @@ take_piece xs a b le =
     let whole : take a (take b xs) ++ drop a (take b xs) ≡ take b xs = take-append-drop a (take b xs) in
     let back : drop a (take (a + (b - a)) xs) ≡ take (b - a) (drop a xs) = drop-take a (b - a) xs in
     sym whole ∙ rw (take-take a b xs le) (ap (λ (z : List ℕ). take a xs ++ z) (rw e at back))
+
+-- the bytes up to a place, as those before, a number of bytes of the rest, and what follows
+pub take_pieces : (m xs : List ℕ) (a n e : ℕ) → a + n ≤ e
+    → m ++ take e xs ≡ (m ++ take a xs ++ take n (take (length xs - a) (drop a xs))) ++ take (e - (a + n)) (drop (a + n) xs)
+take_pieces m xs a n e le =
+    let some : a + n - a ≡ n = omega arith in
+    let rest : take (length xs - a) (drop a xs) ≡ drop a xs = take_all _ (drop a xs) (omega (arith, length-drop a xs)) in
+    let first : take (a + n) xs ≡ take a xs ++ take n (take (length xs - a) (drop a xs)) =
+    take_piece xs a (a + n) (omega arith) ∙ rw (some, rest) refl in
+    ap (λ (z : List ℕ). m ++ z) (take_piece xs (a + n) e le ∙ ap (λ (z : List ℕ). z ++ take (e - (a + n)) (drop (a + n) xs)) first)
+    ∙ sym (append_assoc m (take a xs ++ take n (take (length xs - a) (drop a xs))) _)
+    ∙ ap (λ (z : List ℕ). z ++ take (e - (a + n)) (drop (a + n) xs)) (sym (append_assoc m (take a xs) _))
 
 -- a buffer whose rest is set to zeros
 pub zeros_behind : (u j : ℕ) (b ys : List ℕ) → length b ≡ 128 → u ≤ 128 → j ≡ 128 - u → ys ≡ replicate (length (take j (drop u b))) 0
