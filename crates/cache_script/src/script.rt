@@ -10,7 +10,7 @@ use pingora_cache::meta::CacheMeta;
 use pingora_cache::moment::Moment;
 use pingora_cache::phase::HitStatus;
 use pingora_cache::world::boxed::Boxed;
-use pingora_cache::world::call::Call;
+use pingora_cache::world::call::{Act, Call, RequestAct};
 use pingora_cache::world::tokens::Tokens;
 use pingora_cache::{CacheOptionOverrides, NoCacheReason};
 use std::alloc::{AllocError, AllocFailed, Global};
@@ -127,43 +127,20 @@ fn read_call(
 ) -> Result<Call, Unread> {
     let request = words.number()?;
     match word {
-        "open" => Ok(Call::Open {
-            request,
-            options: options(words)?,
-        }),
-        "enable" => Ok(Call::Enable {
-            request,
-            options: options(words)?,
-        }),
-        "disable" => Ok(Call::Disable {
-            request,
-            reason: reason(words.name()?)?,
-        }),
-        "key" => Ok(Call::Key {
-            request,
-            key: boxed(alloc, key(alloc, words)?)?,
-        }),
-        "look" => Ok(Call::Look {
-            request,
-            now,
-            decision: None,
-        }),
-        "found" => Ok(Call::Found {
-            request,
-            status: status(words.name()?)?,
-            now,
-        }),
-        "bypass" => Ok(Call::Bypass { request }),
-        "miss" => Ok(Call::Miss { request }),
-        "meta" => Ok(Call::Meta {
-            request,
-            meta: boxed(alloc, meta(alloc, words, now)?)?,
-        }),
-        "purge" => Ok(Call::Purge { request }),
-        "expire" => Ok(Call::Expire { request, now }),
-        "updating" => Ok(Call::Updating { request }),
-        "phase" => Ok(Call::Phase { request }),
-        "end" => Ok(Call::End { request }),
+        "open" => Ok(Act::Open { options: options(words)? }.of(request)),
+        "enable" => Ok(RequestAct::Enable { options: options(words)? }.of(request)),
+        "disable" => Ok(RequestAct::Disable { reason: reason(words.name()?)? }.of(request)),
+        "key" => Ok(RequestAct::Key { key: boxed(alloc, key(alloc, words)?)? }.of(request)),
+        "look" => Ok(RequestAct::Look { now, decision: None }.of(request)),
+        "found" => Ok(RequestAct::Found { status: status(words.name()?)?, now }.of(request)),
+        "bypass" => Ok(RequestAct::Bypass.of(request)),
+        "miss" => Ok(RequestAct::Miss.of(request)),
+        "meta" => Ok(RequestAct::Meta { meta: boxed(alloc, meta(alloc, words, now)?)? }.of(request)),
+        "purge" => Ok(RequestAct::Purge.of(request)),
+        "expire" => Ok(RequestAct::Expire { now }.of(request)),
+        "updating" => Ok(RequestAct::Updating.of(request)),
+        "phase" => Ok(RequestAct::Phase.of(request)),
+        "end" => Ok(Act::End.of(request)),
         "begin" | "write" | "finish" | "read" | "seek" | "done" => {
             read_body_call(alloc, word, request, words)
         }
@@ -183,24 +160,16 @@ fn read_body_call(
     words: &mut Words<'_>,
 ) -> Result<Call, Unread> {
     match word {
-        "begin" => Ok(Call::Begin { request }),
+        "begin" => Ok(RequestAct::Begin.of(request)),
         "write" => {
             let bytes = text(alloc, words.word()?)?;
             let eof = ends_with_eof(words)?;
-            Ok(Call::Write {
-                request,
-                bytes: Bytes::from_vec(bytes)?,
-                eof,
-            })
+            Ok(RequestAct::Write { bytes: Bytes::from_vec(bytes)?, eof }.of(request))
         }
-        "finish" => Ok(Call::Finish { request }),
-        "read" => Ok(Call::Read { request }),
-        "seek" => Ok(Call::Seek {
-            request,
-            start: place(words.word()?)?,
-            end: words.next().map(place).transpose()?,
-        }),
-        "done" => Ok(Call::Done { request }),
+        "finish" => Ok(RequestAct::Finish.of(request)),
+        "read" => Ok(RequestAct::Read.of(request)),
+        "seek" => Ok(RequestAct::Seek { start: place(words.word()?)?, end: words.next().map(place).transpose()? }.of(request)),
+        "done" => Ok(RequestAct::Done.of(request)),
         _ => Err(Unread::BadCall),
     }
 }
@@ -214,18 +183,10 @@ fn read_put_call(
     now: Moment,
 ) -> Result<Call, Unread> {
     match word {
-        "put" => Ok(Call::Put {
-            request,
-            key: boxed(alloc, plain_key(alloc, words)?)?,
-            limit: words.next().map(place).transpose()?,
-        }),
-        "feed" => Ok(Call::Feed {
-            request,
-            bytes: Bytes::from_vec(text(alloc, words.word()?)?)?,
-            now,
-        }),
-        "drop" => Ok(Call::Drop { request }),
-        "close" => Ok(Call::Close { request }),
+        "put" => Ok(Act::Put { key: boxed(alloc, plain_key(alloc, words)?)?, limit: words.next().map(place).transpose()? }.of(request)),
+        "feed" => Ok(Act::Feed { bytes: Bytes::from_vec(text(alloc, words.word()?)?)?, now }.of(request)),
+        "drop" => Ok(Act::Drop.of(request)),
+        "close" => Ok(Act::Close.of(request)),
         _ => Err(Unread::BadCall),
     }
 }
@@ -239,18 +200,9 @@ fn read_variant_call(
     now: Moment,
 ) -> Result<Call, Unread> {
     match word {
-        "vary" => Ok(Call::Vary {
-            request,
-            variance: hash(words.name()?)?,
-        }),
-        "variance" => Ok(Call::Variance {
-            request,
-            variance: hash_or_none(words.name()?)?,
-        }),
-        "revalidate" => Ok(Call::Revalidate {
-            request,
-            meta: boxed(alloc, fresh_until(alloc, words.number()?, now))?,
-        }),
+        "vary" => Ok(RequestAct::Vary { variance: hash(words.name()?)? }.of(request)),
+        "variance" => Ok(RequestAct::Variance { variance: hash_or_none(words.name()?)? }.of(request)),
+        "revalidate" => Ok(RequestAct::Revalidate { meta: boxed(alloc, fresh_until(alloc, words.number()?, now))? }.of(request)),
         _ => Err(Unread::BadCall),
     }
 }
@@ -282,28 +234,12 @@ fn read_lock_call(
     now: Moment,
 ) -> Result<Call, Unread> {
     match word {
-        "wait" => Ok(Call::Wait { request, now }),
-        "lock" => Ok(Call::Lock {
-            request,
-            is_used: is_on(words.name()?)?,
-        }),
-        "publish" => Ok(Call::Publish {
-            request,
-            tokens: Tokens::new(tokens(alloc, words)?),
-        }),
-        "release" => Ok(Call::Release {
-            request,
-            reason: reason(words.name()?)?,
-        }),
-        "give" => Ok(Call::Give {
-            request,
-            to: words.number()?,
-        }),
-        "uncacheable" => Ok(Call::Uncacheable {
-            request,
-            header: boxed(alloc, ResponseHeader::build(alloc, StatusCode::OK))?,
-            reason: reason(words.name()?)?,
-        }),
+        "wait" => Ok(Act::Wait { now }.of(request)),
+        "lock" => Ok(RequestAct::Lock { is_used: is_on(words.name()?)? }.of(request)),
+        "publish" => Ok(RequestAct::Publish { tokens: Tokens::new(tokens(alloc, words)?) }.of(request)),
+        "release" => Ok(RequestAct::Release { reason: reason(words.name()?)? }.of(request)),
+        "give" => Ok(Act::Give { to: words.number()? }.of(request)),
+        "uncacheable" => Ok(RequestAct::Uncacheable { header: boxed(alloc, ResponseHeader::build(alloc, StatusCode::OK))?, reason: reason(words.name()?)? }.of(request)),
         _ => Err(Unread::BadCall),
     }
 }

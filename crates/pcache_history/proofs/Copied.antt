@@ -1,7 +1,7 @@
 -- A reply and its copy move a request alike, and tell alike whether the call was a wrong one.
 use Rattle.std.proofs.Common.{◌≡◌, Option, List, refl, ap, sym, subst, ◌∙◌, inl, inr}
 use Rattle.pcache_base.specs.declared.error.ErrorType.TheVariants.{OutOfMemory}
-use Rattle.pcache_history.specs.declared.call.Call.{Call}
+use Rattle.pcache_history.specs.declared.call.Act.{Act}
 use Rattle.pcache_history.specs.declared.call.Reply.{Reply}
 use Rattle.pcache_history.specs.declared.call.Reply.TheVariants as R
 use Rattle.pcache_history.specs.declared.entry.Event.{Event}
@@ -12,8 +12,8 @@ pub outcome-copied : (reply told : Reply) → IsCopy reply told → outcome told
 outcome-copied reply told (inl same) = ap outcome same
 outcome-copied reply told (inr (refused, given)) = let same : outcome (R.Refused OutOfMemory) ≡ outcome (R.Data given.0) = refl in ap outcome refused ∙ same ∙ ap outcome (sym given.1)
 
-pub row-copied : (call : Call) (reply told : Reply) (events : List Event) (q : Option Held) → IsCopy reply told → row call told events q ≡ row call reply events q
-row-copied call reply told events q copy = ap (λ o. row_by call o events q) (outcome-copied reply told copy)
+pub row-copied : (act : Act) (reply told : Reply) (events : List Event) (q : Option Held) → IsCopy reply told → row act told events q ≡ row act reply events q
+row-copied act reply told events q copy = ap (λ o. row_by act o events q) (outcome-copied reply told copy)
 
 pub other-copied : (reply told : Reply) → IsCopy reply told → IsOther reply → IsOther told
 other-copied reply told (inl same) is = subst IsOther (sym same) is

@@ -25,7 +25,7 @@ use Rattle.pcache_history.specs.declared.entry.Entry.{Entry}
 use Rattle.pcache_history.specs.declared.entry.Event.{Event}
 use Rattle.pcache_history.specs.declared.entry.Event.TheVariants as E
 use Rattle.pcache_history.specs.Headline.{IsFoundBy, ReadsWhatWasFound}
-use Rattle.pcache_history.specs.Held.{Held, Change, fed_in, held_put, opens, closes, stays, turns, turns_by, shuts, looks, takes, begins, ends, reads_on, seeks, reads_no_more, renews, waits, pushes, feeds, goes, change_of, changed, turned_by, shut_by, sought_in, with_sought, number_of, Outcome, outcome, is_wrong, is_done, is_taken, opened, asked, carrying, decides, looked_by, looked_with, pair_of, placed_by, taken_by, without_pair, began, ended, read_past, has_read, on_request, row, request_of, pair_reader}
+use Rattle.pcache_history.specs.Held.{Held, Change, fed_in, held_put, opens, closes, stays, turns, turns_by, shuts, looks, takes, begins, ends, reads_on, seeks, reads_no_more, renews, waits, pushes, feeds, goes, change_of, changed, turned_by, shut_by, sought_in, with_sought, Outcome, outcome, is_wrong, is_done, is_taken, opened, asked, carrying, decides, looked_by, looked_with, pair_of, placed_by, taken_by, without_pair, began, ended, read_past, has_read, on_request, row, request_of, pair_reader}
 use Rattle.pcache_history.specs.Taking.{Taking, new_put}
 use Rattle.pcache_history.specs.History.{events_of}
 use Rattle.pcache_history.specs.Legal.{IsLegal}
@@ -172,8 +172,8 @@ held-found r (e ∷ h) =
     let q = request_of r h in
     let P = IsFoundBy (e ∷ h) r in
     let old : AreOf P q = are-of-more (IsFoundBy h r) P q (λ body f. found-more e h r body f) (held-found r h) in
-    taken_keeps (AreOf P) (λ x l is. is) e.call (outcome e.reply) r (request_of (number_of e.call) h) (if number_of e.call == r then row e.call e.reply e.events q else q) (elim (number_of e.call == r) as (λ b. (number_of e.call == r) ≡ b → AreOf P (if b then row e.call e.reply e.events q else q)) [
-      | true ↦ λ is. change-of P e.events (λ k m body rest all. ([], e, h, k, m, rest, refl, eqb-true (number_of e.call) r is, all)) (outcome e.reply) (change_of e.call) q old
+    taken_keeps (AreOf P) (λ x l is. is) e.call.act (outcome e.reply) r (request_of e.call.request h) (if e.call.request == r then row e.call.act e.reply e.events q else q) (elim (e.call.request == r) as (λ b. (e.call.request == r) ≡ b → AreOf P (if b then row e.call.act e.reply e.events q else q)) [
+      | true ↦ λ is. change-of P e.events (λ k m body rest all. ([], e, h, k, m, rest, refl, eqb-true e.call.request r is, all)) (outcome e.reply) (change_of e.call.act) q old
       | false ↦ λ _. old
     ] refl)
 

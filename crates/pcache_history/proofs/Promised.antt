@@ -12,8 +12,9 @@ use Rattle.pcache_request.specs.Admissions.{is_deferral}
 use Rattle.pcache_request.specs.Requests.{Request}
 use Rattle.pcache_request.specs.Variants.{hides_pair, is_hidden, is_unseen}
 use Rattle.pcache_store.specs.Store.{Reader, Part, read_part}
-use Rattle.pcache_history.specs.declared.call.Call.{Call}
-use Rattle.pcache_history.specs.declared.call.Call.TheVariants as C
+use Rattle.pcache_history.specs.declared.call.Act.{Act}
+use Rattle.pcache_history.specs.declared.call.Act.TheVariants as C
+use Rattle.pcache_history.specs.declared.call.RequestAct.TheVariants as Q
 use Rattle.pcache_history.specs.declared.call.LockKind.{LockKind}
 use Rattle.pcache_history.specs.declared.call.Reply.{Reply}
 use Rattle.pcache_history.specs.declared.call.Reply.TheVariants as R
@@ -26,7 +27,7 @@ use Rattle.pcache_history.specs.Deeds.{deeds_of}
 use Rattle.pcache_history.specs.Events.{begin_of, in_flight, body_of, is_told}
 use Rattle.pcache_history.specs.Facts.{Facts, Says}
 use Rattle.pcache_history.specs.Headline.{is_found, HasUntouched, HandsOnExactly, HandsOnUnhidden, told_found, TellsExactly, ReadsTheWhole, IsEntryOf, FindsUntouched, FinishesUntouched, HitsTheLast, IsWithinAlways, EvictsNothingWithin, GivesWhereNoneWaits}
-use Rattle.pcache_history.specs.Held.{Held, carrying, decides, number_of, pair_of, request_of}
+use Rattle.pcache_history.specs.Held.{Held, carrying, decides, pair_of, request_of}
 use Rattle.pcache_history.specs.History.{events_of, reads, written_of}
 use Rattle.pcache_history.specs.Legal.{IsLegal, Gives}
 use Rattle.pcache_history.specs.Log.{Log, HasLegal}
@@ -97,29 +98,29 @@ module _ (b : Bool) (x : Held) where
       let first = looks-first (is_deferral (decides a y)) (is_unseen y.request.valid_after (pair_of a)) f (slot k) a y.request reply events refl on in
       (k, a, first.0, key, found, first.1, looks-tell f (slot k) y reply events b told a on)
 
-  by-answers : (es : List Event) (f : Facts) (r t : ℕ) (d : Option Decision) (reply : Reply) (events : List Event) → told_found reply ≡ Some b → Answers f (C.Look r t d) (Some x) reply events → Tells es f events
-  by-answers es f r t d reply events told (inl a) = by-looks es f d reply events told a.2
-  by-answers es f r t d reply events told (inr a) = tells-none reply R.WrongCall b a.1.0 refl told
+  by-answers : (es : List Event) (f : Facts) (t : ℕ) (d : Option Decision) (reply : Reply) (events : List Event) → told_found reply ≡ Some b → Answers f (C.Request (Q.Look t d)) (Some x) reply events → Tells es f events
+  by-answers es f t d reply events told (inl a) = by-looks es f d reply events told a.2
+  by-answers es f t d reply events told (inr a) = tells-none reply R.WrongCall b a.1.0 refl told
 
-  by-replies : (es : List Event) (f : Facts) (r t : ℕ) (d : Option Decision) (reply : Reply) (events : List Event) → told_found reply ≡ Some b → Replies f (C.Look r t d) (Some x) reply events → Tells es f events
-  by-replies es f r t d reply events told (inl a) = by-answers es f r t d reply events told a.1
-  by-replies es f r t d reply events told (inr a) = tells-none reply R.WrongCall b a.1.0 refl told
+  by-replies : (es : List Event) (f : Facts) (t : ℕ) (d : Option Decision) (reply : Reply) (events : List Event) → told_found reply ≡ Some b → Replies f (C.Request (Q.Look t d)) (Some x) reply events → Tells es f events
+  by-replies es f t d reply events told (inl a) = by-answers es f t d reply events told a.1
+  by-replies es f t d reply events told (inr a) = tells-none reply R.WrongCall b a.1.0 refl told
 
-  by-copy : (es : List Event) (f : Facts) (r t : ℕ) (d : Option Decision) (reply told : Reply) (events : List Event) → told_found told ≡ Some b → IsCopy reply told → Replies f (C.Look r t d) (Some x) reply events → Tells es f events
-  by-copy es f r t d reply told events is (inl same) a = by-replies es f r t d reply events (ap told_found (sym same) ∙ is) a
-  by-copy es f r t d reply told events is (inr other) a = tells-none told (R.Refused _) b other.0 refl is
+  by-copy : (es : List Event) (f : Facts) (t : ℕ) (d : Option Decision) (reply told : Reply) (events : List Event) → told_found told ≡ Some b → IsCopy reply told → Replies f (C.Request (Q.Look t d)) (Some x) reply events → Tells es f events
+  by-copy es f t d reply told events is (inl same) a = by-replies es f t d reply events (ap told_found (sym same) ∙ is) a
+  by-copy es f t d reply told events is (inr other) a = tells-none told (R.Refused _) b other.0 refl is
 
-  by-entry : (age : ℕ) (limits : Limits) (start : Tracked) (before : List Entry) (entry : Entry) (r t : ℕ) (d : Option Decision) → IsLegal age limits start (entry ∷ before) → entry.call ≡ C.Look r t d → request_of r before ≡ Some x → told_found entry.reply ≡ Some b
-      → (f : Facts) × Says age (events_of before) (deeds_of before) r x.request f × Tells (events_of before) f entry.events
-  by-entry age limits start before entry r t d l call has told =
-      let opened-as : request_of (number_of entry.call) before ≡ Some x = ap (λ c. request_of (number_of c) before) call ∙ has in
-      let moved = subst (λ q. Gives age limits start (events_of before) (deeds_of before) q entry.call entry.reply entry.events) opened-as l.0 in
-      let looked = subst (λ c. Gives age limits start (events_of before) (deeds_of before) (Some x) c entry.reply entry.events) call moved in
-      (looked.facts, looked.says, by-copy (events_of before) looked.facts r t d looked.told entry.reply entry.events told looked.copy looked.answers)
+  by-entry : (age : ℕ) (limits : Limits) (start : Tracked) (before : List Entry) (entry : Entry) (t : ℕ) (d : Option Decision) → IsLegal age limits start (entry ∷ before) → entry.call.act ≡ C.Request (Q.Look t d) → request_of entry.call.request before ≡ Some x → told_found entry.reply ≡ Some b
+      → (f : Facts) × Says age (events_of before) (deeds_of before) entry.call.request x.request f × Tells (events_of before) f entry.events
+  by-entry age limits start before entry t d l act has told =
+      let r = entry.call.request in
+      let moved = subst (λ q. Gives age limits start (events_of before) (deeds_of before) r q entry.call.act entry.reply entry.events) has l.0 in
+      let looked = subst (λ c. Gives age limits start (events_of before) (deeds_of before) r (Some x) c entry.reply entry.events) act moved in
+      (looked.facts, looked.says, by-copy (events_of before) looked.facts t d looked.told entry.reply entry.events told looked.copy looked.answers)
 
 pub tells_exactly : TellsExactly
-tells_exactly age limits start before entry r t d x k b l call has key bare told =
-    let h = by-entry b x age limits start before entry r t d l call has told in
+tells_exactly age limits start before entry t d x k b l act has key bare told =
+    let h = by-entry b x age limits start before entry t d l act has told in
     let n = h.2 in
     let same : ◌≡◌ {A = Option Key} (Some n.0) (Some k) = sym n.3 ∙ key in
     let at : n.0 ≡ k = cc in
@@ -128,8 +129,8 @@ tells_exactly age limits start before entry r t d x k b l call has key bare told
     subst (λ q. (b ≡ true) ↔ HasUntouched (slot q) (events_of before)) at ((λ is. law.0 (n.6.0 is).0), (λ u. n.6.1 (law.1 u, unhidden)))
 
 pub hands_on_exactly : HandsOnExactly
-hands_on_exactly age limits start before entry r t d x k answer rest b l call has is told =
-    let h = by-entry b x age limits start before entry r t d l call has told in
+hands_on_exactly age limits start before entry t d x k answer rest b l act has is told =
+    let h = by-entry b x age limits start before entry t d l act has told in
     let n = h.2 in
     let all : ◌≡◌ {A = List Event} (E.Look (slot n.0) n.1 ∷ n.2) (E.Look k answer ∷ rest) = sym n.5 ∙ is in
     let same : n.1 ≡ answer = cc in
@@ -152,10 +153,10 @@ reads_the_whole age limits start before entry rest x w place l is has reader beg
     let readers : ◌≡◌ {A = Option Reader} (Some told.1) (Some (Part w place)) = sym told.3 ∙ ap (λ (y : Held). y.request.reader) same ∙ reader in
     let own : told.1 ≡ Part w place = cc in
     let gave = told.4 ∙ ap (reads es) own in
-    let h = reads_a_beginning age limits start before (number_of entry.call) x (Part w place) l.1 has reader in
-    elim (begin_of w es) as (λ o. begin_of w es ≡ o → IsSome o → read_by (number_of entry.call) before ≡ body_of w es) [
+    let h = reads_a_beginning age limits start before entry.call.request x (Part w place) l.1 has reader in
+    elim (begin_of w es) as (λ o. begin_of w es ≡ o → IsSome o → read_by entry.call.request before ≡ body_of w es) [
       | None ↦ λ _ none. absurd (cc)
-      | Some p ↦ λ b _. gave-all place (body_of w es) (in_flight w es && not (is_told w es)) (read_by (number_of entry.call) before) (gave ∙ ap (λ o. read_part place (option_map (written_as w es) o)) b) h
+      | Some p ↦ λ b _. gave-all place (body_of w es) (in_flight w es && not (is_told w es)) (read_by entry.call.request before) (gave ∙ ap (λ o. read_part place (option_map (written_as w es) o)) b) h
     ] refl begun
 
 -- ---- a world's own history
@@ -174,7 +175,7 @@ module _ (log : Log) (legal : HasLegal log) where
       finds_exactly log.age log.limits log.start before k answer l.1 (looks_are_true log.age log.limits log.start before entry k answer rest l is)
 
   pub hands_on_unhidden : HandsOnUnhidden log
-  hands_on_unhidden before entry r t d x k answer rest b at = hands_on_exactly log.age log.limits log.start before entry r t d x k answer rest b (at-entry entry before at)
+  hands_on_unhidden before entry t d x k answer rest b at = hands_on_exactly log.age log.limits log.start before entry t d x k answer rest b (at-entry entry before at)
 
   pub finishes_untouched : FinishesUntouched log
   finishes_untouched before entry w is_stored rest at = finishes_exactly log.age log.limits log.start before entry w is_stored rest (at-entry entry before at)

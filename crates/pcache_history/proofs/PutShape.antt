@@ -7,8 +7,10 @@ use Rattle.pcache_base.specs.declared.reason.NoCacheReason.TheVariants.{Deferred
 use Rattle.pcache_request.specs.Admissions.{is_deferral, with_decision}
 use Rattle.pcache_request.specs.Releasing.{disabled_for}
 use Rattle.pcache_request.specs.Variants.{visible}
-use Rattle.pcache_history.specs.declared.call.Call.{Call}
-use Rattle.pcache_history.specs.declared.call.Call.TheVariants as C
+use Rattle.pcache_history.specs.declared.call.Act.{Act}
+use Rattle.pcache_history.specs.declared.call.Act.TheVariants as C
+use Rattle.pcache_history.specs.declared.call.RequestAct.{RequestAct}
+use Rattle.pcache_history.specs.declared.call.RequestAct.TheVariants as Q
 use Rattle.pcache_history.specs.declared.call.Reply.{Reply}
 use Rattle.pcache_history.specs.declared.call.Reply.TheVariants as R
 use Rattle.pcache_history.specs.declared.entry.Answer.{Answer}
@@ -18,8 +20,10 @@ use Rattle.pcache_history.specs.declared.entry.Event.TheVariants as E
 use Rattle.pcache_history.specs.Facts.{Facts}
 use Rattle.pcache_lock.specs.Permits.{Permit}
 use Rattle.pcache_request.specs.LockUse.{unheld}
-use Rattle.pcache_history.specs.Held.{Held, Outcome, was_done, was_wrong, handed_by, on_request, permit_held, row_by, taken_over, taker_in, Change, opens, closes, stays, turns, turns_by, shuts, looks, takes, begins, ends, reads_on, seeks, reads_no_more, renews, waits, pushes, feeds, goes, asked, carrying, change_of, changed, decides, fed_in, held_put, is_done, is_taken, is_wrong, looked_by, looked_with, number_of, outcome, pair_of, request_of, row}
+use Rattle.pcache_history.specs.Held.{Held, Outcome, was_done, was_wrong, handed_by, on_request, permit_held, row_by, taken_over, taker_in, Change, opens, closes, stays, turns, turns_by, shuts, looks, takes, begins, ends, reads_on, seeks, reads_no_more, renews, waits, pushes, feeds, goes, asked, carrying, change_of, changed, decides, fed_in, held_put, is_done, is_taken, is_wrong, looked_by, looked_with, outcome, pair_of, request_of, row}
 use Rattle.pcache_history.specs.Legal.{IsLegal}
+use Rattle.pcache_history.specs.PutHistory.{filled_after}
+use Rattle.pcache_put_ctx.specs.State.{Filled}
 use Rattle.pcache_history.specs.Rules.{FindsKind, IsIdle, MayBe, MayTake, Replies}
 use Rattle.pcache_history.specs.Taking.{Taking, new_put}
 use Rattle.pcache_history.proofs.Copied.{outcome-copied, row-copied}
@@ -65,8 +69,8 @@ wrong-change feeds None = refl
 wrong-change feeds (Some x) = refl
 wrong-change goes q = refl
 
-pub wrong-row : (call : Call) (reply : Reply) (events : List Event) (q : Option Held) → IsIdle R.WrongCall reply events → row call reply events q ≡ q
-wrong-row call reply events q idle = (λ i. row call (idle.0 i) (idle.1 i) q) ∙ wrong-change (change_of call) q
+pub wrong-row : (act : Act) (reply : Reply) (events : List Event) (q : Option Held) → IsIdle R.WrongCall reply events → row act reply events q ≡ q
+wrong-row act reply events q idle = (λ i. row act (idle.0 i) (idle.1 i) q) ∙ wrong-change (change_of act) q
 
 -- a request stays none of the puts
 abbrev off-held : Option Decision → Held → Held
@@ -134,36 +138,43 @@ fed-shaped : (o : Outcome) (events : List Event) (x : Held) (p : Option Taking) 
 fed-shaped o events x None is h = h
 fed-shaped o events x (Some p) is h = refl
 
--- a call of the right kind leaves a shaped one
-shaped-change : (call : Call) (o : Outcome) (events : List Event) (q : Option Held) → FindsKind call q → IsShaped q → IsShaped (changed (change_of call) o events q)
-shaped-change (C.Put r k limit) o events q finds h = one-of IsShaped (is_done o) (Some (held_put (new_put k limit))) q refl h
-shaped-change (C.Feed r bytes t) o events None finds h = tt
-shaped-change (C.Feed r bytes t) o events (Some x) finds h = elim (is_wrong o) as (λ b. IsShaped (Some (cond b x (fed_in o events x x.put)))) [ true ↦ h | false ↦ fed-shaped o events x x.put refl h ]
-shaped-change (C.Drop r) o events q finds h = one-of IsShaped (is_done o) None q tt h
-shaped-change (C.Close r) o events q finds h = one-of IsShaped (is_wrong o) q None h tt
-shaped-change call o events None finds h = shaped-plain (changed (change_of call) o events None) (plain-kept (change_of call) o events None tt tt)
-shaped-change call o events (Some x) finds h = shaped-plain (changed (change_of call) o events (Some x)) (plain-kept (change_of call) o events (Some x) finds tt)
+-- what an open request does makes no put
+pub no-push : (a : RequestAct) → IsNoPush (change_of (C.Request a))
+no-push Q.Phase = tt
+no-push a = tt
 
-shaped-row : (f : Facts) (call : Call) (reply : Reply) (events : List Event) (q : Option Held) → Replies f call q reply events → IsShaped q → IsShaped (row call reply events q)
-shaped-row f call reply events q (inl (finds, a)) h = shaped-change call (outcome reply) events q finds h
-shaped-row f call reply events q (inr (why, idle)) h = subst IsShaped (sym (wrong-row call reply events q idle)) h
+-- a call of the right kind leaves a shaped one
+shaped-change : (act : Act) (o : Outcome) (events : List Event) (q : Option Held) → FindsKind act q → IsShaped q → IsShaped (changed (change_of act) o events q)
+shaped-change (C.Put k limit) o events q finds h = one-of IsShaped (is_done o) (Some (held_put (new_put k limit))) q refl h
+shaped-change (C.Feed bytes t) o events None finds h = tt
+shaped-change (C.Feed bytes t) o events (Some x) finds h = elim (is_wrong o) as (λ b. IsShaped (Some (cond b x (fed_in o events x x.put)))) [ true ↦ h | false ↦ fed-shaped o events x x.put refl h ]
+shaped-change C.Drop o events q finds h = one-of IsShaped (is_done o) None q tt h
+shaped-change C.Close o events q finds h = one-of IsShaped (is_wrong o) q None h tt
+shaped-change (C.Request a) o events None finds h = shaped-plain (changed (change_of (C.Request a)) o events None) (plain-kept (change_of (C.Request a)) o events None tt (no-push a))
+shaped-change (C.Request a) o events (Some x) finds h = shaped-plain (changed (change_of (C.Request a)) o events (Some x)) (plain-kept (change_of (C.Request a)) o events (Some x) finds (no-push a))
+shaped-change act o events None finds h = shaped-plain (changed (change_of act) o events None) (plain-kept (change_of act) o events None tt tt)
+shaped-change act o events (Some x) finds h = shaped-plain (changed (change_of act) o events (Some x)) (plain-kept (change_of act) o events (Some x) finds tt)
+
+shaped-row : (f : Facts) (act : Act) (reply : Reply) (events : List Event) (q : Option Held) → Replies f act q reply events → IsShaped q → IsShaped (row act reply events q)
+shaped-row f act reply events q (inl (finds, a)) h = shaped-change act (outcome reply) events q finds h
+shaped-row f act reply events q (inr (why, idle)) h = subst IsShaped (sym (wrong-row act reply events q idle)) h
 
 -- who takes a permit is no put
 handed-plain : (p : Option Permit) (q : Option Held) → HasPut None q → HasPut None (option_map (handed_by p) q)
 handed-plain p None h = tt
 handed-plain p (Some x) h = handed-keeps (HasPut None) (λ x l is. is) p x h
 
-abbrev TakesPlain : Call → Outcome → ℕ → Option Held → Type 0
-TakesPlain (C.Give from to) was_done r q = (to == r) ≡ true → HasPut None q
-TakesPlain call o r q = Unit {0}
+abbrev TakesPlain : Act → Outcome → ℕ → Option Held → Type 0
+TakesPlain (C.Give to) was_done r q = (to == r) ≡ true → HasPut None q
+TakesPlain act o r q = Unit {0}
 
-taken-shaped : (call : Call) (o : Outcome) (r : ℕ) (giver q : Option Held) → TakesPlain call o r q → IsShaped q → IsShaped (taken_over call o r giver q)
-taken-shaped (C.Give from to) was_done r giver q plain h =
+taken-shaped : (act : Act) (o : Outcome) (r : ℕ) (giver q : Option Held) → TakesPlain act o r q → IsShaped q → IsShaped (taken_over act o r giver q)
+taken-shaped (C.Give to) was_done r giver q plain h =
     elim (to == r) as (λ b. ((to == r) ≡ b) → IsShaped (cond b (option_map (handed_by (permit_held giver)) q) q)) [
       | true ↦ λ is. shaped-plain (option_map (handed_by (permit_held giver)) q) (handed-plain (permit_held giver) q (plain is))
       | false ↦ λ _. h
     ] refl
-taken-shaped call o r giver q plain h = h
+taken-shaped act o r giver q plain h = h
 
 taker-plain : (b : Bool) (q : Option Held) → MayTake (cond b (option_map (on_request unheld) q) q) → HasPut None q
 taker-plain true None may = absurd may
@@ -171,43 +182,43 @@ taker-plain true (Some y) may = may.1
 taker-plain false None may = absurd may
 taker-plain false (Some y) may = may.1
 
-give-plain : (from to : ℕ) (o : Outcome) (events : List Event) (b : Bool) (q : Option Held) → HasPut None q → HasPut None (if b then row_by (C.Give from to) o events q else q)
-give-plain from to o events true q h = plain-kept (change_of (C.Give from to)) o events q h tt
-give-plain from to o events false q h = h
+give-plain : (to : ℕ) (o : Outcome) (events : List Event) (b : Bool) (q : Option Held) → HasPut None q → HasPut None (if b then row_by (C.Give to) o events q else q)
+give-plain to o events true q h = plain-kept (change_of (C.Give to)) o events q h tt
+give-plain to o events false q h = h
 
-given-plain : (f : Facts) (from to : ℕ) (h : List Entry) (reply : Reply) (events : List Event) → Replies f (C.Give from to) (request_of from h) reply events → f.taker ≡ taker_in (C.Give from to) h → outcome reply ≡ was_done → HasPut None (request_of to h)
+given-plain : (f : Facts) (from to : ℕ) (h : List Entry) (reply : Reply) (events : List Event) → Replies f (C.Give to) (request_of from h) reply events → f.taker ≡ taker_in from (C.Give to) h → outcome reply ≡ was_done → HasPut None (request_of to h)
 given-plain f from to h reply events (inl (kind, inl (may, other, does))) taker done = by (request_of from h) may
   where
-    by : (q : Option Held) → MayBe f (C.Give from to) q → HasPut None (request_of to h)
+    by : (q : Option Held) → MayBe f (C.Give to) q → HasPut None (request_of to h)
     by None m = absurd m
     by (Some x) m = taker-plain (from == to) (request_of to h) (subst MayTake taker m.1)
 given-plain f from to h reply events (inl (kind, inr (fails, idle))) taker done = let no : was_wrong ≡ was_done = sym (ap outcome idle.0) ∙ done in absurd (cc)
 given-plain f from to h reply events (inr (other, idle)) taker done = let no : was_wrong ≡ was_done = sym (ap outcome idle.0) ∙ done in absurd (cc)
 
-takes-plain : (f : Facts) (call : Call) (h : List Entry) (reply : Reply) (events : List Event) (r : ℕ) → Replies f call (request_of (number_of call) h) reply events → f.taker ≡ taker_in call h → TakesPlain call (outcome reply) r (if number_of call == r then row call reply events (request_of r h) else request_of r h)
-takes-plain f (C.Give from to) h reply events r replies taker = by (outcome reply) refl
+takes-plain : (f : Facts) (n : ℕ) (act : Act) (h : List Entry) (reply : Reply) (events : List Event) (r : ℕ) → Replies f act (request_of n h) reply events → f.taker ≡ taker_in n act h → TakesPlain act (outcome reply) r (if n == r then row act reply events (request_of r h) else request_of r h)
+takes-plain f from (C.Give to) h reply events r replies taker = by (outcome reply) refl
   where
-    by : (o : Outcome) → outcome reply ≡ o → TakesPlain (C.Give from to) o r (if from == r then row_by (C.Give from to) (outcome reply) events (request_of r h) else request_of r h)
-    by was_done done = λ same. give-plain from to (outcome reply) events (from == r) (request_of r h) (subst (λ n. HasPut None (request_of n h)) (eqb-true to r same) (given-plain f from to h reply events replies taker done))
+    by : (o : Outcome) → outcome reply ≡ o → TakesPlain (C.Give to) o r (if from == r then row_by (C.Give to) (outcome reply) events (request_of r h) else request_of r h)
+    by was_done done = λ same. give-plain to (outcome reply) events (from == r) (request_of r h) (subst (λ n. HasPut None (request_of n h)) (eqb-true to r same) (given-plain f from to h reply events replies taker done))
     by o done = tt
-takes-plain f call h reply events r replies taker = tt
+takes-plain f n act h reply events r replies taker = tt
 
 pub legal_shaped : (age : ℕ) (limits : Limits) (start : Tracked) (h : List Entry) → IsLegal age limits start h → (r : ℕ) → IsShaped (request_of r h)
 legal_shaped age limits start [] l r = tt
 legal_shaped age limits start (e ∷ h) l r =
     let old = legal_shaped age limits start h l.1 in
     let g = l.0 in
-    let n = number_of e.call in
+    let n = e.call.request in
     let same = outcome-copied g.told e.reply g.copy in
-    let mid : Option Held = if n == r then row e.call e.reply e.events (request_of r h) else request_of r h in
-    let now : IsShaped (row e.call e.reply e.events (request_of n h)) = subst IsShaped (sym (row-copied e.call g.told e.reply e.events (request_of n h) g.copy)) (shaped-row g.facts e.call g.told e.events (request_of n h) g.answers (old n)) in
-    taken-shaped e.call (outcome e.reply) r (request_of n h) mid
-    (subst (λ o. TakesPlain e.call o r (if n == r then row_by e.call o e.events (request_of r h) else request_of r h)) (sym same) (takes-plain g.facts e.call h g.told e.events r g.answers l.2))
-    (elim (n == r) as (λ b. (n == r) ≡ b → IsShaped (if b then row e.call e.reply e.events (request_of r h) else request_of r h)) [
-      | true ↦ λ is. subst (λ x. IsShaped (row e.call e.reply e.events (request_of x h))) (eqb-true n r is) now
+    let mid : Option Held = if n == r then row e.call.act e.reply e.events (request_of r h) else request_of r h in
+    let now : IsShaped (row e.call.act e.reply e.events (request_of n h)) = subst IsShaped (sym (row-copied e.call.act g.told e.reply e.events (request_of n h) g.copy)) (shaped-row g.facts e.call.act g.told e.events (request_of n h) g.answers (old n)) in
+    taken-shaped e.call.act (outcome e.reply) r (request_of n h) mid
+    (subst (λ o. TakesPlain e.call.act o r (if n == r then row_by e.call.act o e.events (request_of r h) else request_of r h)) (sym same) (takes-plain g.facts n e.call.act h g.told e.events r g.answers l.2))
+    (elim (n == r) as (λ b. (n == r) ≡ b → IsShaped (if b then row e.call.act e.reply e.events (request_of r h) else request_of r h)) [
+      | true ↦ λ is. subst (λ x. IsShaped (row e.call.act e.reply e.events (request_of x h))) (eqb-true n r is) now
       | false ↦ λ _. old r
     ] refl)
 
-pub wrong-filled : (call : Call) (f : Option Filled) → filled_after call was_wrong [] f ≡ f
-wrong-filled (C.Put r k limit) f = refl
-wrong-filled call f = refl
+pub wrong-filled : (act : Act) (f : Option Filled) → filled_after act was_wrong [] f ≡ f
+wrong-filled (C.Put k limit) f = refl
+wrong-filled act f = refl

@@ -5,8 +5,8 @@ use Rattle.pcache_base.specs.Key.{Key}
 use Rattle.pcache_evict.specs.Tracked.{Tracked, Limits}
 use Rattle.pcache_meta.specs.Meta.{Meta}
 use Rattle.pcache_put_ctx.specs.State.{Filled}
-use Rattle.pcache_history.specs.declared.call.Call.{Call}
-use Rattle.pcache_history.specs.declared.call.Call.TheVariants as C
+use Rattle.pcache_history.specs.declared.call.Act.{Act}
+use Rattle.pcache_history.specs.declared.call.Act.TheVariants as C
 use Rattle.pcache_history.specs.declared.call.Reply.{Reply}
 use Rattle.pcache_history.specs.declared.call.Reply.TheVariants as R
 use Rattle.pcache_history.specs.declared.entry.Entry.{Entry}
@@ -16,7 +16,7 @@ use Rattle.pcache_history.specs.Due.{makes, makes_of, owes, AreDue, IsNext}
 use Rattle.pcache_history.specs.Events.{begun, begin_of, body_of, tracked}
 use Rattle.pcache_history.specs.Facts.{Facts}
 use Rattle.pcache_history.specs.Headline.{PutsAreWritten}
-use Rattle.pcache_history.specs.Held.{Held, Outcome, was_wrong, change_of, is_done, is_wrong, held_put, number_of, outcome, request_of, row, row_by}
+use Rattle.pcache_history.specs.Held.{Held, Outcome, was_wrong, change_of, is_done, is_wrong, held_put, outcome, request_of, row, row_by}
 use Rattle.pcache_history.specs.History.{events_of}
 use Rattle.pcache_history.specs.Legal.{IsLegal}
 use Rattle.pcache_history.specs.PutHistory.{filled_after, filled_by, filled_noted, filled_of}
@@ -24,7 +24,7 @@ use Rattle.pcache_history.specs.Rules.{IsIdle, IsOther, Replies}
 use Rattle.pcache_history.specs.Taking.{Taking, new_put}
 use Rattle.pcache_history.proofs.Copied.{outcome-copied, row-copied}
 use Rattle.pcache_history.proofs.WriteLaws.{IsKept, legal_kept, legal_tidy}
-use Rattle.pcache_history.proofs.PutShape.{HasPut, plain-kept, wrong-filled, wrong-row}
+use Rattle.pcache_history.proofs.PutShape.{HasPut, no-push, plain-kept, wrong-filled, wrong-row}
 use Rattle.pcache_history.proofs.Runs.{turned}
 use Rattle.pcache_history.proofs.Steps.{below}
 use Rattle.pcache_history.proofs.Sums.{same-number}
@@ -143,10 +143,10 @@ right-kept R.WrongCall other = absurd other
 right-kept reply other = refl
 
 -- a wrong call
-wrong-call : (call : Call) (q : Option Held) (reply : Reply) (events es : List Event) (g : Option Filled) → IsIdle R.WrongCall reply events → GaveIn g q es → GaveIn (filled_after call (outcome reply) events g) (row call reply events q) (reverse events ++ es)
-wrong-call call q reply events es g idle h =
-    subst (λ (r : Option Held). GaveIn (filled_after call (outcome reply) events g) r (reverse events ++ es)) (sym (wrong-row call reply events q idle))
-    (subst (λ (z : Option Filled). GaveIn z q (reverse events ++ es)) (sym ((λ i. filled_after call (outcome (idle.0 i)) (idle.1 i) g) ∙ wrong-filled call g))
+wrong-call : (act : Act) (q : Option Held) (reply : Reply) (events es : List Event) (g : Option Filled) → IsIdle R.WrongCall reply events → GaveIn g q es → GaveIn (filled_after act (outcome reply) events g) (row act reply events q) (reverse events ++ es)
+wrong-call act q reply events es g idle h =
+    subst (λ (r : Option Held). GaveIn (filled_after act (outcome reply) events g) r (reverse events ++ es)) (sym (wrong-row act reply events q idle))
+    (subst (λ (z : Option Filled). GaveIn z q (reverse events ++ es)) (sym ((λ i. filled_after act (outcome (idle.0 i)) (idle.1 i) g) ∙ wrong-filled act g))
     (subst (λ (xs : List Event). GaveIn g q (reverse xs ++ es)) (sym idle.1) h))
 
 begun-put : (b : Bool) (k : Key) (limit : Option ℕ) (g : Option Filled) (es : List Event) → GaveIn (cond b None g) (cond b (Some (held_put (new_put k limit))) None) es
@@ -158,22 +158,24 @@ none-gave true g es = tt
 none-gave false g es = tt
 
 -- a call of the put itself, by what it answers
-own-call : (limits : Limits) (start : Tracked) (f : Facts) (call : Call) (q : Option Held) (reply : Reply) (events es : List Event) (g : Option Filled) → Replies f call q reply events → AreDue limits start es q (makes_of q) None events (makes_of (row call reply events q)) → AreUnwritten es → IsBelow (makes_of q) es → GaveIn g q es
-    → GaveIn (filled_after call (outcome reply) events g) (row call reply events q) (reverse events ++ es)
-own-call limits start f call q reply events es g (inr (other, idle)) due unwritten low h = wrong-call call q reply events es g idle h
-own-call limits start f call q reply events es g (inl (kind, inr (fails, idle))) due unwritten low h = wrong-call call q reply events es g idle h
-own-call limits start f (C.Put n k limit) None reply events es g (inl (kind, inl (may, other, does))) due unwritten low h = begun-put (is_done (outcome reply)) k limit g (reverse events ++ es)
-own-call limits start f (C.Put n k limit) (Some x) reply events es g (inl (kind, inl (may, other, does))) due unwritten low h = absurd may
-own-call limits start f (C.Feed n bytes t) None reply events es g (inl (kind, inl (may, other, does))) due unwritten low h = tt
-own-call limits start f (C.Feed n bytes t) (Some x) reply events es g (inl (kind, inl (may, other, does))) due unwritten low h =
-    gave-put (filled_by events g) (row (C.Feed n bytes t) reply events (Some x)) (reverse events ++ es)
-    (run-own limits start (Some x) events es x.request.write None (makes_of (row (C.Feed n bytes t) reply events (Some x))) g due unwritten low (put-gave g x es kind h))
-own-call limits start f (C.Drop n) None reply events es g (inl (kind, inl (may, other, does))) due unwritten low h = none-gave (is_done (outcome reply)) g (reverse events ++ es)
-own-call limits start f (C.Drop n) (Some x) reply events es g (inl (kind, inl (may, other, does))) due unwritten low h = subst (λ (z : Reply). GaveIn g (row (C.Drop n) z events (Some x)) (reverse events ++ es)) (sym does.0) tt
-own-call limits start f (C.Close n) None reply events es g (inl (kind, inl (may, other, does))) due unwritten low h = none-gave (is_wrong (outcome reply)) g (reverse events ++ es)
-own-call limits start f (C.Close n) (Some x) reply events es g (inl (kind, inl (may, other, does))) due unwritten low h = subst (λ b. GaveIn g (cond b (Some x) None) (reverse events ++ es)) (sym (right-kept reply other)) tt
-own-call limits start f call None reply events es g (inl (kind, inl (may, other, does))) due unwritten low h = gave-plain (filled_after call (outcome reply) events g) (row call reply events None) (reverse events ++ es) (plain-kept (change_of call) (outcome reply) events None tt tt)
-own-call limits start f call (Some x) reply events es g (inl (kind, inl (may, other, does))) due unwritten low h = gave-plain (filled_after call (outcome reply) events g) (row call reply events (Some x)) (reverse events ++ es) (plain-kept (change_of call) (outcome reply) events (Some x) kind tt)
+own-call : (limits : Limits) (start : Tracked) (f : Facts) (act : Act) (q : Option Held) (reply : Reply) (events es : List Event) (g : Option Filled) → Replies f act q reply events → AreDue limits start es q (makes_of q) None events (makes_of (row act reply events q)) → AreUnwritten es → IsBelow (makes_of q) es → GaveIn g q es
+    → GaveIn (filled_after act (outcome reply) events g) (row act reply events q) (reverse events ++ es)
+own-call limits start f act q reply events es g (inr (other, idle)) due unwritten low h = wrong-call act q reply events es g idle h
+own-call limits start f act q reply events es g (inl (kind, inr (fails, idle))) due unwritten low h = wrong-call act q reply events es g idle h
+own-call limits start f (C.Put k limit) None reply events es g (inl (kind, inl (may, other, does))) due unwritten low h = begun-put (is_done (outcome reply)) k limit g (reverse events ++ es)
+own-call limits start f (C.Put k limit) (Some x) reply events es g (inl (kind, inl (may, other, does))) due unwritten low h = absurd may
+own-call limits start f (C.Feed bytes t) None reply events es g (inl (kind, inl (may, other, does))) due unwritten low h = tt
+own-call limits start f (C.Feed bytes t) (Some x) reply events es g (inl (kind, inl (may, other, does))) due unwritten low h =
+    gave-put (filled_by events g) (row (C.Feed bytes t) reply events (Some x)) (reverse events ++ es)
+    (run-own limits start (Some x) events es x.request.write None (makes_of (row (C.Feed bytes t) reply events (Some x))) g due unwritten low (put-gave g x es kind h))
+own-call limits start f C.Drop None reply events es g (inl (kind, inl (may, other, does))) due unwritten low h = none-gave (is_done (outcome reply)) g (reverse events ++ es)
+own-call limits start f C.Drop (Some x) reply events es g (inl (kind, inl (may, other, does))) due unwritten low h = subst (λ (z : Reply). GaveIn g (row C.Drop z events (Some x)) (reverse events ++ es)) (sym does.0) tt
+own-call limits start f C.Close None reply events es g (inl (kind, inl (may, other, does))) due unwritten low h = none-gave (is_wrong (outcome reply)) g (reverse events ++ es)
+own-call limits start f C.Close (Some x) reply events es g (inl (kind, inl (may, other, does))) due unwritten low h = subst (λ b. GaveIn g (cond b (Some x) None) (reverse events ++ es)) (sym (right-kept reply other)) tt
+own-call limits start f (C.Request a) None reply events es g (inl (kind, inl (may, other, does))) due unwritten low h = gave-plain (filled_after (C.Request a) (outcome reply) events g) (row (C.Request a) reply events None) (reverse events ++ es) (plain-kept (change_of (C.Request a)) (outcome reply) events None tt (no-push a))
+own-call limits start f (C.Request a) (Some x) reply events es g (inl (kind, inl (may, other, does))) due unwritten low h = gave-plain (filled_after (C.Request a) (outcome reply) events g) (row (C.Request a) reply events (Some x)) (reverse events ++ es) (plain-kept (change_of (C.Request a)) (outcome reply) events (Some x) kind (no-push a))
+own-call limits start f act None reply events es g (inl (kind, inl (may, other, does))) due unwritten low h = gave-plain (filled_after act (outcome reply) events g) (row act reply events None) (reverse events ++ es) (plain-kept (change_of act) (outcome reply) events None tt tt)
+own-call limits start f act (Some x) reply events es g (inl (kind, inl (may, other, does))) due unwritten low h = gave-plain (filled_after act (outcome reply) events g) (row act reply events (Some x)) (reverse events ++ es) (plain-kept (change_of act) (outcome reply) events (Some x) kind tt)
 
 -- one write more, of another
 away-held : (limits : Limits) (start : Tracked) (q : Option Held) (events es : List Event) (o' : Option ℕ) (f : Option Filled) (p : Option Held) → AreDue limits start es q (makes_of q) None events o' → IsBelow (makes_of p) es → ((w : ℕ) → makes_of p ≡ Some w → makes_of q ≡ Some w → ⊥) → GaveIn f p es → GaveIn f p (reverse events ++ es)
@@ -188,21 +190,21 @@ legal-gave : (age : ℕ) (limits : Limits) (start : Tracked) (h : List Entry) �
 legal-gave age limits start [] l r = tt
 legal-gave age limits start (e ∷ h) l r =
     let es = events_of h in
-    let n = number_of e.call in
+    let n = e.call.request in
     let q = request_of n h in
     let k = legal_kept age limits start h l.1 in
     let g = l.0 in
     let old = legal-gave age limits start h l.1 in
     let same = outcome-copied g.told e.reply g.copy in
     let low : (s : ℕ) → IsBelow (makes_of (request_of s h)) es = λ s. elim (makes_of (request_of s h)) as (λ o. makes_of (request_of s h) ≡ o → IsBelow o es) [ None ↦ λ _. tt | Some w ↦ λ is. below w es k.tidy (and_parts _ _ (k.made.flies s w is)).0 ] refl in
-    let due : AreDue limits start es q (makes_of q) None e.events (makes_of (row e.call g.told e.events q)) = subst (λ z. AreDue limits start es q (makes_of q) None e.events (makes_of z)) (row-copied e.call g.told e.reply e.events q g.copy) g.due in
-    let now : GaveIn (filled_after e.call (outcome e.reply) e.events (filled_of n h)) (row e.call e.reply e.events q) (reverse e.events ++ es) =
-    subst (λ o. GaveIn (filled_after e.call o e.events (filled_of n h)) (row_by e.call o e.events q) (reverse e.events ++ es)) (sym same)
-    (own-call limits start g.facts e.call q g.told e.events es (filled_of n h) g.answers due k.tidy.no_body (low n) (old n)) in
-    taken_keeps (λ p. GaveIn (filled_of r (e ∷ h)) p (reverse e.events ++ es)) (λ x o is. is) e.call (outcome e.reply) r q (if n == r then row e.call e.reply e.events (request_of r h) else request_of r h)
-    (elim (n == r) as (λ b. (n == r) ≡ b → GaveIn (if b then filled_after e.call (outcome e.reply) e.events (filled_of r h) else filled_of r h) (if b then row e.call e.reply e.events (request_of r h) else request_of r h) (reverse e.events ++ es)) [
-      | true ↦ λ is. subst (λ x. GaveIn (filled_after e.call (outcome e.reply) e.events (filled_of x h)) (row e.call e.reply e.events (request_of x h)) (reverse e.events ++ es)) (eqb-true n r is) now
-      | false ↦ λ no. away-held limits start q e.events es (makes_of (row e.call e.reply e.events q)) (filled_of r h) (request_of r h) g.due (low r) (λ w mine its. eqb-false n r no (k.made.only n r w its mine)) (old r)
+    let due : AreDue limits start es q (makes_of q) None e.events (makes_of (row e.call.act g.told e.events q)) = subst (λ z. AreDue limits start es q (makes_of q) None e.events (makes_of z)) (row-copied e.call.act g.told e.reply e.events q g.copy) g.due in
+    let now : GaveIn (filled_after e.call.act (outcome e.reply) e.events (filled_of n h)) (row e.call.act e.reply e.events q) (reverse e.events ++ es) =
+    subst (λ o. GaveIn (filled_after e.call.act o e.events (filled_of n h)) (row_by e.call.act o e.events q) (reverse e.events ++ es)) (sym same)
+    (own-call limits start g.facts e.call.act q g.told e.events es (filled_of n h) g.answers due k.tidy.no_body (low n) (old n)) in
+    taken_keeps (λ p. GaveIn (filled_of r (e ∷ h)) p (reverse e.events ++ es)) (λ x o is. is) e.call.act (outcome e.reply) r q (if n == r then row e.call.act e.reply e.events (request_of r h) else request_of r h)
+    (elim (n == r) as (λ b. (n == r) ≡ b → GaveIn (if b then filled_after e.call.act (outcome e.reply) e.events (filled_of r h) else filled_of r h) (if b then row e.call.act e.reply e.events (request_of r h) else request_of r h) (reverse e.events ++ es)) [
+      | true ↦ λ is. subst (λ x. GaveIn (filled_after e.call.act (outcome e.reply) e.events (filled_of x h)) (row e.call.act e.reply e.events (request_of x h)) (reverse e.events ++ es)) (eqb-true n r is) now
+      | false ↦ λ no. away-held limits start q e.events es (makes_of (row e.call.act e.reply e.events q)) (filled_of r h) (request_of r h) g.due (low r) (λ w mine its. eqb-false n r no (k.made.only n r w its mine)) (old r)
     ] refl)
 
 pub puts_are_written : PutsAreWritten

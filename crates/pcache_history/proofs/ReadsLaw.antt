@@ -23,8 +23,9 @@ use Rattle.pcache_request.specs.declared.phase.CachePhase.{CachePhase}
 use Rattle.pcache_request.specs.declared.phase.CachePhase.TheVariants as phase
 use Rattle.pcache_request.specs.Requests.{Request, without_reader}
 use Rattle.pcache_request.specs.declared.phase.HitStatus.{HitStatus}
-use Rattle.pcache_history.specs.declared.call.Call.{Call}
-use Rattle.pcache_history.specs.declared.call.Call.TheVariants as C
+use Rattle.pcache_history.specs.declared.call.Act.{Act}
+use Rattle.pcache_history.specs.declared.call.Act.TheVariants as C
+use Rattle.pcache_history.specs.declared.call.RequestAct.TheVariants as Q
 use Rattle.pcache_history.specs.declared.call.Reply.{Reply}
 use Rattle.pcache_history.specs.declared.call.Reply.TheVariants as R
 use Rattle.pcache_history.specs.declared.entry.Answer.{Answer}
@@ -33,7 +34,7 @@ use Rattle.pcache_history.specs.declared.entry.Entry.{Entry}
 use Rattle.pcache_history.specs.declared.entry.Event.{Event}
 use Rattle.pcache_history.specs.declared.entry.Event.TheVariants as E
 use Rattle.pcache_history.specs.Events.{begin_of, in_flight, body_of, is_told}
-use Rattle.pcache_history.specs.Held.{Held, Change, fed_in, held_put, opens, closes, stays, turns, turns_by, shuts, looks, takes, begins, ends, reads_on, seeks, reads_no_more, renews, waits, pushes, feeds, goes, change_of, changed, turned_by, shut_by, sought_in, with_sought, number_of, Outcome, outcome, was_wrong, was_done, was_taken, was_waited, was_refused, was_declined, was_other, waited_by, is_wrong, is_done, is_taken, opened, with_given, asked, pair_of, carrying, decides, looked_by, looked_with, placed_by, taken_by, without_pair, began, ended, read_past, has_read, on_request, row_by, row, request_of}
+use Rattle.pcache_history.specs.Held.{Held, Change, fed_in, held_put, opens, closes, stays, turns, turns_by, shuts, looks, takes, begins, ends, reads_on, seeks, reads_no_more, renews, waits, pushes, feeds, goes, change_of, changed, turned_by, shut_by, sought_in, with_sought, Outcome, outcome, was_wrong, was_done, was_taken, was_waited, was_refused, was_declined, was_other, waited_by, is_wrong, is_done, is_taken, opened, with_given, asked, pair_of, carrying, decides, looked_by, looked_with, placed_by, taken_by, without_pair, began, ended, read_past, has_read, on_request, row_by, row, request_of}
 use Rattle.pcache_history.specs.Taking.{Taking, new_put}
 use Rattle.pcache_history.specs.History.{events_of, reads}
 use Rattle.pcache_history.specs.Facts.{Facts, request_in}
@@ -271,25 +272,25 @@ Promises f begins x reply events = IsIdle R.WrongCall reply events ⊎ Begins f 
 Promises f reads_on x reply events = (events ≡ []) ⊎ (IsSome x.request.reader × Reads f reply events)
 Promises f _ x reply events = Unit {0}
 
-promised : (f : Facts) (call : Call) (x : Held) (reply : Reply) (events : List Event) → Answers f call (Some x) reply events → Promises f (change_of call) x reply events
-promised f (C.Found r s t) x reply events (inl a) = λ _. a.0.1
-promised f (C.Found r s t) x reply events (inr a) = λ is. absurd (subst (λ y. is_taken (outcome y) ≡ true → ⊥) (sym a.1.0) (λ e. cc) is)
-promised f (C.Begin r) x reply events (inl a) = inr a.2
-promised f (C.Begin r) x reply events (inr a) = inl a.1
-promised f (C.Read r) x reply events (inl a) = inr (a.0, a.2)
-promised f (C.Read r) x reply events (inr a) = inl a.1.1
-promised f call x reply events a = tt
+promised : (f : Facts) (act : Act) (x : Held) (reply : Reply) (events : List Event) → Answers f act (Some x) reply events → Promises f (change_of act) x reply events
+promised f (C.Request (Q.Found s t)) x reply events (inl a) = λ _. a.0.1
+promised f (C.Request (Q.Found s t)) x reply events (inr a) = λ is. absurd (subst (λ y. is_taken (outcome y) ≡ true → ⊥) (sym a.1.0) (λ e. cc) is)
+promised f (C.Request Q.Begin) x reply events (inl a) = inr a.2
+promised f (C.Request Q.Begin) x reply events (inr a) = inl a.1
+promised f (C.Request Q.Read) x reply events (inl a) = inr (a.0, a.2)
+promised f (C.Request Q.Read) x reply events (inr a) = inl a.1.1
+promised f act x reply events a = tt
 
 -- of a wrong call
-promised-idle : (f : Facts) (call : Call) (x : Held) (reply : Reply) (events : List Event) → IsIdle R.WrongCall reply events → Promises f (change_of call) x reply events
-promised-idle f (C.Found r s t) x reply events a = λ is. absurd (subst (λ y. is_taken (outcome y) ≡ true → ⊥) (sym a.0) (λ e. cc) is)
-promised-idle f (C.Begin r) x reply events a = inl a
-promised-idle f (C.Read r) x reply events a = inl a.1
-promised-idle f call x reply events a = tt
+promised-idle : (f : Facts) (act : Act) (x : Held) (reply : Reply) (events : List Event) → IsIdle R.WrongCall reply events → Promises f (change_of act) x reply events
+promised-idle f (C.Request (Q.Found s t)) x reply events a = λ is. absurd (subst (λ y. is_taken (outcome y) ≡ true → ⊥) (sym a.0) (λ e. cc) is)
+promised-idle f (C.Request Q.Begin) x reply events a = inl a
+promised-idle f (C.Request Q.Read) x reply events a = inl a.1
+promised-idle f act x reply events a = tt
 
-promised-of : (f : Facts) (call : Call) (x : Held) (reply : Reply) (events : List Event) → Replies f call (Some x) reply events → Promises f (change_of call) x reply events
-promised-of f call x reply events (inl a) = promised f call x reply events a.1
-promised-of f call x reply events (inr a) = promised-idle f call x reply events a.1
+promised-of : (f : Facts) (act : Act) (x : Held) (reply : Reply) (events : List Event) → Replies f act (Some x) reply events → Promises f (change_of act) x reply events
+promised-of f act x reply events (inl a) = promised f act x reply events a.1
+promised-of f act x reply events (inr a) = promised-idle f act x reply events a.1
 
 module _ (f : Facts) (es events : List Event) (reply : Reply) (got : List ℕ) where
   abbrev after : List Event
@@ -354,10 +355,10 @@ module _ (f : Facts) (es events : List Event) (reply : Reply) (got : List ℕ) w
   follow-none goes = on-done after got (is_wrong o) None None tt tt
 
 -- one call
-follow-call : (f : Facts) (es : List Event) (call : Call) (q : Option Held) (reply : Reply) (events : List Event) (got : List ℕ) → GivesRead es (request_in q) f → Replies f call q reply events → Follows es q got → Follows (reverse events ++ es) q got
-    → Follows (reverse events ++ es) (row call reply events q) (read_on (change_of call) (outcome reply) events got)
-follow-call f es call None reply events got k a old h = follow-none f es events reply got (change_of call)
-follow-call f es call (Some x) reply events got k a old h = follow f es events reply got (change_of call) x k (promised-of f call x reply events a) old h
+follow-call : (f : Facts) (es : List Event) (act : Act) (q : Option Held) (reply : Reply) (events : List Event) (got : List ℕ) → GivesRead es (request_in q) f → Replies f act q reply events → Follows es q got → Follows (reverse events ++ es) q got
+    → Follows (reverse events ++ es) (row act reply events q) (read_on (change_of act) (outcome reply) events got)
+follow-call f es act None reply events got k a old h = follow-none f es events reply got (change_of act)
+follow-call f es act (Some x) reply events got k a old h = follow f es events reply got (change_of act) x k (promised-of f act x reply events a) old h
 
 -- Histories.
 
@@ -368,12 +369,12 @@ follows-at age limits start r (e ∷ h) l =
     let g = l.0 in
     let old = follows-at age limits start r h l.1 in
     let now = still (reverse e.events) es (request_of r h) (read_by r h) old in
-    taken_keeps (λ q. Follows (reverse e.events ++ es) q (read_by r (e ∷ h))) (λ x l is. is) e.call (outcome e.reply) r (request_of (number_of e.call) h) (if number_of e.call == r then row e.call e.reply e.events (request_of r h) else request_of r h) (elim (number_of e.call == r) as (λ b. (number_of e.call == r) ≡ b
-    → Follows (reverse e.events ++ es) (if b then row e.call e.reply e.events (request_of r h) else request_of r h) (if b then read_on (change_of e.call) (outcome e.reply) e.events (read_by r h) else read_by r h)) [
+    taken_keeps (λ q. Follows (reverse e.events ++ es) q (read_by r (e ∷ h))) (λ x l is. is) e.call.act (outcome e.reply) r (request_of e.call.request h) (if e.call.request == r then row e.call.act e.reply e.events (request_of r h) else request_of r h) (elim (e.call.request == r) as (λ b. (e.call.request == r) ≡ b
+    → Follows (reverse e.events ++ es) (if b then row e.call.act e.reply e.events (request_of r h) else request_of r h) (if b then read_on (change_of e.call.act) (outcome e.reply) e.events (read_by r h) else read_by r h)) [
       | true ↦ λ is.
-          let named : request_of (number_of e.call) h ≡ request_of r h = ap (λ n. request_of n h) (eqb-true (number_of e.call) r is) in
-          subst (λ o. Follows (reverse e.events ++ es) (row_by e.call o e.events (request_of r h)) (read_on (change_of e.call) o e.events (read_by r h))) (sym (outcome-copied g.told e.reply g.copy))
-          (follow-call g.facts es e.call (request_of r h) g.told e.events (read_by r h) (subst (λ q. GivesRead es (request_in q) g.facts) named g.says.given) (subst (λ q. Replies g.facts e.call q g.told e.events) named g.answers) old now)
+          let named : request_of e.call.request h ≡ request_of r h = ap (λ n. request_of n h) (eqb-true e.call.request r is) in
+          subst (λ o. Follows (reverse e.events ++ es) (row_by e.call.act o e.events (request_of r h)) (read_on (change_of e.call.act) o e.events (read_by r h))) (sym (outcome-copied g.told e.reply g.copy))
+          (follow-call g.facts es e.call.act (request_of r h) g.told e.events (read_by r h) (subst (λ q. GivesRead es (request_in q) g.facts) named g.says.given) (subst (λ q. Replies g.facts e.call.act q g.told e.events) named g.answers) old now)
       | false ↦ λ _. now
     ] refl)
 

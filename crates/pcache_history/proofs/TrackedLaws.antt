@@ -13,7 +13,7 @@ use Rattle.pcache_history.specs.declared.entry.Event.TheVariants as E
 use Rattle.pcache_history.specs.Due.{makes_of, makes, owes, IsNext, AreDue}
 use Rattle.pcache_history.specs.Events.{tracked}
 use Rattle.pcache_history.specs.Headline.{EvictsFairly, TracksExactly}
-use Rattle.pcache_history.specs.Held.{Held, number_of, row, request_of}
+use Rattle.pcache_history.specs.Held.{Held, row, request_of}
 use Rattle.pcache_history.specs.History.{events_of}
 use Rattle.pcache_history.proofs.Exact.{names_only, standing-names}
 use Rattle.pcache_history.proofs.WriteLaws.{legal_kept}
@@ -63,8 +63,8 @@ none-within limits m (e ∷ out) fair held = let p = front-last e out in absurd 
 
 pub evicts-fairly : EvictsFairly
 evicts-fairly age limits start before entry earlier rest e n out l is =
-    let q = request_of (number_of entry.call) before in
-    let now = makes_of (row entry.call entry.reply entry.events q) in
+    let q = request_of entry.call.request before in
+    let now = makes_of (row entry.call.act entry.reply entry.events q) in
     let fair = fair-in limits start q now e n out rest earlier (events_of before) (makes_of q) None (subst (λ xs. AreDue limits start (events_of before) q (makes_of q) None xs now) is l.0.due) in
     (fair, none-within limits (map.insert (tracked start (reverse earlier ++ events_of before)) e n) out fair)
 

@@ -9,7 +9,7 @@ use Rattle.pcache_lock.specs.declared.lock.permit.Locked.{Locked}
 use Rattle.pcache_lock.specs.declared.lock.permit.Locked.TheVariants.{Read}
 use Rattle.pcache_request.specs.LockUse.{read_in}
 use Rattle.pcache_request.specs.LockWaits.{unusable_in}
-use Rattle.pcache_history.specs.declared.call.Call.TheVariants as C
+use Rattle.pcache_history.specs.declared.call.Act.TheVariants as C
 use Rattle.pcache_history.specs.declared.call.Reply.{Reply}
 use Rattle.pcache_history.specs.declared.call.Reply.TheVariants as R
 use Rattle.pcache_history.specs.declared.entry.Entry.{Entry}
@@ -17,7 +17,7 @@ use Rattle.pcache_history.specs.declared.entry.Event.{Event}
 use Rattle.pcache_history.specs.Deeds.{Deed, deeds_of}
 use Rattle.pcache_history.specs.Facts.{Facts}
 use Rattle.pcache_history.specs.Headline.{WaitsAreTrue}
-use Rattle.pcache_history.specs.Held.{Held, held_put, number_of, request_of}
+use Rattle.pcache_history.specs.Held.{Held, held_put, request_of}
 use Rattle.pcache_history.specs.History.{events_of}
 use Rattle.pcache_history.specs.Legal.{Gives}
 use Rattle.pcache_history.specs.Rules.{Answers, IsCopy, Replies, wait_reply, was_polled}
@@ -45,13 +45,13 @@ module _ (age : ℕ) (ds : List Deed) (r t : ℕ) (x : Held) (rd : Reader) (f : 
   abbrev Told : Reply → Type 0
   Told reply = (reply ≡ wait_reply (wait_of age t r rd x.request ds)) ⊎ ((reply ≡ R.Refused OutOfMemory) × (rd.watch ≡ None) × IsSome (unusable_in x.request.key))
 
-  by-answers : (reply told : Reply) (events : List Event) → IsCopy reply told → Answers f (C.Wait r t) (Some x) reply events → Told told
+  by-answers : (reply told : Reply) (events : List Event) → IsCopy reply told → Answers f (C.Wait t) (Some x) reply events → Told told
   by-answers reply told events copy (inl (may, other, inl (first, fills, idle))) =
       inr (told-as reply told (subst IsNoData (sym idle.0) tt) copy ∙ idle.0, unwatched rd.watch (sym (ap was_polled held) ∙ first), fills)
   by-answers reply told events copy (inl (may, other, inr (is, noted))) = inl (told-as reply told (subst IsNoData (sym is) (wait-no-data (f.wait t))) copy ∙ is ∙ ap wait_reply says)
   by-answers reply told events copy (inr (fails, idle)) = absurd (fails (subst (λ h. IsSome (read_in h)) (sym held) refl))
 
-  by-replies : (reply told : Reply) (events : List Event) → x.put ≡ None → IsCopy reply told → Replies f (C.Wait r t) (Some x) reply events → Told told
+  by-replies : (reply told : Reply) (events : List Event) → x.put ≡ None → IsCopy reply told → Replies f (C.Wait t) (Some x) reply events → Told told
   by-replies reply told events plain copy (inl (finds, answers)) = by-answers reply told events copy answers
   by-replies reply told events plain copy (inr (other, idle)) = absurd (other plain)
 
@@ -64,9 +64,9 @@ plain-of x rd shaped held =
     ] shaped
 
 pub waits_are_true : WaitsAreTrue
-waits_are_true age limits start before entry r t x rd l call has held =
-    let opened : request_of (number_of entry.call) before ≡ Some x = ap (λ c. request_of (number_of c) before) call ∙ has in
-    let at = subst (λ q. Gives age limits start (events_of before) (deeds_of before) q entry.call entry.reply entry.events) opened l.0 in
-    let g = subst (λ c. Gives age limits start (events_of before) (deeds_of before) (Some x) c entry.reply entry.events) call at in
+waits_are_true age limits start before entry t x rd l act has held =
+    let r = entry.call.request in
+    let at = subst (λ q. Gives age limits start (events_of before) (deeds_of before) r q entry.call.act entry.reply entry.events) has l.0 in
+    let g = subst (λ c. Gives age limits start (events_of before) (deeds_of before) r (Some x) c entry.reply entry.events) act at in
     let plain = plain-of x rd (subst IsShaped has (legal_shaped age limits start before l.1 r)) held in
     by-replies age (deeds_of before) r t x rd g.facts held (g.says.wait rd t held) g.told entry.reply entry.events plain g.copy g.answers

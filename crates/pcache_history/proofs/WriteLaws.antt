@@ -11,7 +11,7 @@ use Rattle.pcache_history.specs.declared.entry.Entry.{Entry}
 use Rattle.pcache_history.specs.declared.entry.Event.{Event}
 use Rattle.pcache_history.specs.declared.entry.Event.TheVariants as E
 use Rattle.pcache_history.specs.Events.{begin_of, is_removed, body_of, last_finished, meta_kept, complete, is_open}
-use Rattle.pcache_history.specs.Held.{Held, number_of, row, request_of, outcome}
+use Rattle.pcache_history.specs.Held.{Held, row, request_of, outcome}
 use Rattle.pcache_history.specs.History.{events_of}
 use Rattle.pcache_history.specs.Due.{makes_of, slot_of, AreDue, KeepsKey, IsOfWorldIn}
 use Rattle.pcache_history.specs.Legal.{IsLegal}
@@ -35,19 +35,19 @@ pub record IsKept (limits : Limits) (start : Tracked) (h : List Entry) : Type 0 
 
 -- an entry moves the request that it names, and no other, but for one that is handed a permit
 abbrev rowed : ℕ → Entry → List Entry → Option Held
-rowed r e h = if number_of e.call == r then row e.call e.reply e.events (request_of r h) else request_of r h
+rowed r e h = if e.call.request == r then row e.call.act e.reply e.events (request_of r h) else request_of r h
 
 makes-after : (e : Entry) (h : List Entry) (r : ℕ) → makes_of (request_of r (e ∷ h)) ≡ makes_of (rowed r e h)
-makes-after e h r = taken_keeps (λ p. makes_of p ≡ makes_of (rowed r e h)) (λ x l is. is) e.call (outcome e.reply) r (request_of (number_of e.call) h) (rowed r e h) refl
+makes-after e h r = taken_keeps (λ p. makes_of p ≡ makes_of (rowed r e h)) (λ x l is. is) e.call.act (outcome e.reply) r (request_of e.call.request h) (rowed r e h) refl
 
 slot-after : (e : Entry) (h : List Entry) (r : ℕ) → slot_of (request_of r (e ∷ h)) ≡ slot_of (rowed r e h)
-slot-after e h r = taken_keeps (λ p. slot_of p ≡ slot_of (rowed r e h)) (λ x l is. is) e.call (outcome e.reply) r (request_of (number_of e.call) h) (rowed r e h) refl
+slot-after e h r = taken_keeps (λ p. slot_of p ≡ slot_of (rowed r e h)) (λ x l is. is) e.call.act (outcome e.reply) r (request_of e.call.request h) (rowed r e h) refl
 
-named : (e : Entry) (h : List Entry) (r : ℕ) → number_of e.call ≡ r → rowed r e h ≡ row e.call e.reply e.events (request_of (number_of e.call) h)
-named e h r is = subst (λ x. rowed x e h ≡ row e.call e.reply e.events (request_of (number_of e.call) h)) is (ap (λ b. if b then row e.call e.reply e.events (request_of (number_of e.call) h) else request_of (number_of e.call) h) (eq-eqb (number_of e.call) (number_of e.call) refl))
+named : (e : Entry) (h : List Entry) (r : ℕ) → e.call.request ≡ r → rowed r e h ≡ row e.call.act e.reply e.events (request_of e.call.request h)
+named e h r is = subst (λ x. rowed x e h ≡ row e.call.act e.reply e.events (request_of e.call.request h)) is (ap (λ b. if b then row e.call.act e.reply e.events (request_of e.call.request h) else request_of e.call.request h) (eq-eqb e.call.request e.call.request refl))
 
-unnamed : (e : Entry) (h : List Entry) (r : ℕ) → number_of e.call ≢ r → rowed r e h ≡ request_of r h
-unnamed e h r ne = ap (λ b. if b then row e.call e.reply e.events (request_of r h) else request_of r h) (ne_eqb (number_of e.call) r ne)
+unnamed : (e : Entry) (h : List Entry) (r : ℕ) → e.call.request ≢ r → rowed r e h ≡ request_of r h
+unnamed e h r ne = ap (λ b. if b then row e.call.act e.reply e.events (request_of r h) else request_of r h) (ne_eqb e.call.request r ne)
 
 -- if a request keeps
 keeps-world : (q q' : Option Held) → KeepsKey q q' → IsOfWorldIn q → IsOfWorldIn q'
@@ -63,10 +63,10 @@ keeps-slot (Some x) (Some y) k world w is = ap (option_map slot) ((k world).1 (a
 pub legal_world : (age : ℕ) (limits : Limits) (start : Tracked) (h : List Entry) → IsLegal age limits start h → (r : ℕ) → IsOfWorldIn (request_of r h)
 legal_world age limits start [] l r = tt
 legal_world age limits start (e ∷ h) l r =
-    let n = number_of e.call in
+    let n = e.call.request in
     let old = legal_world age limits start h l.1 in
-    taken_keeps IsOfWorldIn holding_world e.call (outcome e.reply) r (request_of n h) (rowed r e h) (elim (n == r) as (λ b. (n == r) ≡ b → IsOfWorldIn (rowed r e h)) [
-      | true ↦ λ t. subst IsOfWorldIn (sym (named e h r (eqb-true n r t))) (keeps-world (request_of n h) (row e.call e.reply e.events (request_of n h)) l.0.keeps (old n))
+    taken_keeps IsOfWorldIn holding_world e.call.act (outcome e.reply) r (request_of n h) (rowed r e h) (elim (n == r) as (λ b. (n == r) ≡ b → IsOfWorldIn (rowed r e h)) [
+      | true ↦ λ t. subst IsOfWorldIn (sym (named e h r (eqb-true n r t))) (keeps-world (request_of n h) (row e.call.act e.reply e.events (request_of n h)) l.0.keeps (old n))
       | false ↦ λ f. subst IsOfWorldIn (sym (unnamed e h r (eqb-false n r f))) (old r)
     ] refl)
 
@@ -81,9 +81,9 @@ legal_kept age limits start [] l = record {
 legal_kept age limits start (e ∷ h) l =
     let k = legal_kept age limits start h l.1 in
     let es = events_of h in
-    let n = number_of e.call in
+    let n = e.call.request in
     let q = request_of n h in
-    let now = row e.call e.reply e.events q in
+    let now = row e.call.act e.reply e.events q in
     let f : ℕ → Option ℕ = λ r. makes_of (request_of r h) in
     let slots : ℕ → Option ℕ = λ r. slot_of (request_of r h) in
     let on : IsOn limits start n f slots es (makes_of q) None = record {
@@ -114,12 +114,12 @@ legal_kept age limits start (e ∷ h) l =
     -- a request that makes a write is of the slot that it was of before
     kept-slot : (r w : ℕ) → makes_of (request_of r (e ∷ h)) ≡ Some w → slot_of (request_of r (e ∷ h)) ≡ slot_of (request_of r h)
     kept-slot r w is =
-        let n = number_of e.call in
+        let n = e.call.request in
         slot-after e h r ∙ elim (n == r) as (λ b. (n == r) ≡ b → slot_of (rowed r e h) ≡ slot_of (request_of r h)) [
           | true ↦ λ t.
               let same = eqb-true n r t in
               let moved = named e h r same in
-              ap slot_of moved ∙ keeps-slot (request_of n h) (row e.call e.reply e.events (request_of n h)) l.0.keeps (legal_world age limits start h l.1 n) w (sym (ap makes_of moved) ∙ sym (makes-after e h r) ∙ is) ∙ ap (λ x. slot_of (request_of x h)) same
+              ap slot_of moved ∙ keeps-slot (request_of n h) (row e.call.act e.reply e.events (request_of n h)) l.0.keeps (legal_world age limits start h l.1 n) w (sym (ap makes_of moved) ∙ sym (makes-after e h r) ∙ is) ∙ ap (λ x. slot_of (request_of x h)) same
           | false ↦ λ f. ap slot_of (unnamed e h r (eqb-false n r f))
         ] refl
 
@@ -180,11 +180,11 @@ is_within_limits age limits start before legal = let b = legal_bounded age limit
 
 pub finishes_exactly : FinishesExactly
 finishes_exactly age limits start before entry w stored rest l is =
-    let q = request_of (number_of entry.call) before in
+    let q = request_of entry.call.request before in
     let es = events_of before in
-    by_outcome stored (subst (λ xs. AreDue limits start es q (makes_of q) None xs (makes_of (row entry.call entry.reply entry.events q))) is l.0.due)
+    by_outcome stored (subst (λ xs. AreDue limits start es q (makes_of q) None xs (makes_of (row entry.call.act entry.reply entry.events q))) is l.0.due)
   where
-    by_outcome : (stored : Bool) → AreDue limits start (events_of before) (request_of (number_of entry.call) before) (makes_of (request_of (number_of entry.call) before)) None (E.Finish w stored ∷ rest) (makes_of (row entry.call entry.reply entry.events (request_of (number_of entry.call) before)))
+    by_outcome : (stored : Bool) → AreDue limits start (events_of before) (request_of entry.call.request before) (makes_of (request_of entry.call.request before)) None (E.Finish w stored ∷ rest) (makes_of (row entry.call.act entry.reply entry.events (request_of entry.call.request before)))
         → (stored ≡ true) ↔ (is_removed w (events_of before) ≡ false)
     by_outcome true due = (λ _. due.0.1, λ _. refl)
     by_outcome false due = (λ t. absurd (cc), λ f. absurd (both_ways _ f due.0.1))

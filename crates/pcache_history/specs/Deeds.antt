@@ -11,13 +11,14 @@ use Rattle.pcache_lock.specs.declared.lock.permit.Locked.TheVariants.{Write, Rea
 use Rattle.pcache_lock.specs.declared.lock.status.LockStatus.{LockStatus}
 use Rattle.pcache_lock.specs.declared.lock.status.LockStatus.TheVariants.{Waiting, Done, TransientError, GiveUp, AgeTimeout}
 use Rattle.pcache_request.specs.Releasing.{status_for}
-use Rattle.pcache_history.specs.declared.call.Call.{Call}
-use Rattle.pcache_history.specs.declared.call.Call.TheVariants as C
+use Rattle.pcache_history.specs.declared.call.Act.{Act}
+use Rattle.pcache_history.specs.declared.call.Act.TheVariants as C
+use Rattle.pcache_history.specs.declared.call.RequestAct.TheVariants as Q
 use Rattle.pcache_history.specs.declared.call.Reply.{Reply}
 use Rattle.pcache_history.specs.declared.entry.Entry.{Entry}
 use Rattle.pcache_history.specs.declared.entry.Event.{Event}
 use Rattle.pcache_history.specs.declared.entry.Event.TheVariants as E
-use Rattle.pcache_history.specs.Held.{Held, Outcome, was_done, was_waited, outcome, number_of, request_of}
+use Rattle.pcache_history.specs.Held.{Held, Outcome, was_done, was_waited, outcome, request_of}
 
 pub data Deed : Type 0 where
   -- a request asks for the lock of a key at a moment, and is given the permit, or a read lock
@@ -36,10 +37,10 @@ pub data Deed : Type 0 where
 -- The deeds of an entry.
 
 -- the moment that a call brings
-abbrev pub moment_of : Call → ℕ
-moment_of (C.Look r t d) = t
-moment_of (C.Found r s t) = t
-moment_of (C.Wait r t) = t
+abbrev pub moment_of : Act → ℕ
+moment_of (C.Request (Q.Look t d)) = t
+moment_of (C.Request (Q.Found s t)) = t
+moment_of (C.Wait t) = t
 moment_of _ = 0
 
 abbrev pub keeps : Event → Bool
@@ -48,12 +49,12 @@ keeps _ = false
 
 -- the status that a permit is released with: that of the reason that a call brings; the end of a write tells whether it was
 -- stored; a deferred look-up leaves the key to others
-abbrev pub status_left : Call → List Event → LockStatus
-status_left (C.Disable r why) events = status_for (λ text. GiveUp) why
-status_left (C.Look r t d) events = TransientError
-status_left (C.Finish r) events = cond (list_any keeps events) Done TransientError
-status_left (C.Release r why) events = status_for (λ text. GiveUp) why
-status_left (C.Uncacheable r h why) events = status_for (λ text. GiveUp) why
+abbrev pub status_left : Act → List Event → LockStatus
+status_left (C.Request (Q.Disable why)) events = status_for (λ text. GiveUp) why
+status_left (C.Request (Q.Look t d)) events = TransientError
+status_left (C.Request Q.Finish) events = cond (list_any keeps events) Done TransientError
+status_left (C.Request (Q.Release why)) events = status_for (λ text. GiveUp) why
+status_left (C.Request (Q.Uncacheable h why)) events = status_for (λ text. GiveUp) why
 status_left _ events = Done
 
 abbrev pub deed_of : ℕ → ℕ → LockStatus → Event → List Deed
@@ -84,19 +85,20 @@ handed_on to (Some (Read rd)) = []
 
 -- what a call does to locks that no event tells: tokens are published, if a permit is held; a wait has to go on; a permit is
 -- handed over
-abbrev pub said_by : Call → Outcome → Option Locked → List Deed
-said_by (C.Publish r tokens) was_done held = published_on tokens held
-said_by (C.Wait r t) (was_waited Pending) held = Polled r ∷ []
-said_by (C.Give r to) was_done held = handed_on to held
-said_by _ _ held = []
+abbrev pub said_by : ℕ → Act → Outcome → Option Locked → List Deed
+said_by r (C.Request (Q.Publish tokens)) was_done held = published_on tokens held
+said_by r (C.Wait t) (was_waited Pending) held = Polled r ∷ []
+said_by r (C.Give to) was_done held = handed_on to held
+said_by r _ _ held = []
 
-abbrev pub deeds_in : Call → Outcome → List Event → Option Held → List Deed
-deeds_in call o events q = said_by call o (held_in q) ++ deeds_by (number_of call) (moment_of call) (status_left call events) events
+-- of a call of the request r
+abbrev pub deeds_in : ℕ → Act → Outcome → List Event → Option Held → List Deed
+deeds_in r act o events q = said_by r act o (held_in q) ++ deeds_by r (moment_of act) (status_left act events) events
 
 -- of a history
 abbrev pub deeds_of : List Entry → List Deed
 deeds_of [] = []
-deeds_of (e ∷ h) = reverse (deeds_in e.call (outcome e.reply) e.events (request_of (number_of e.call) h)) ++ deeds_of h
+deeds_of (e ∷ h) = reverse (deeds_in e.call.request e.call.act (outcome e.reply) e.events (request_of e.call.request h)) ++ deeds_of h
 
 -- What one deed says.
 

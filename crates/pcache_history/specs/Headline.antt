@@ -14,7 +14,8 @@ use Rattle.pcache_predict.specs.declared.admission.Decision.{Decision}
 use Rattle.pcache_request.specs.LockWaits.{unusable_in}
 use Rattle.pcache_request.specs.Variants.{hides_pair}
 use Rattle.pcache_store.specs.Store.{Reader, Whole, Part, Stored}
-use Rattle.pcache_history.specs.declared.call.Call.TheVariants as C
+use Rattle.pcache_history.specs.declared.call.Act.TheVariants as C
+use Rattle.pcache_history.specs.declared.call.RequestAct.TheVariants as Q
 use Rattle.pcache_history.specs.declared.call.Reply.{Reply}
 use Rattle.pcache_history.specs.declared.call.Reply.TheVariants as R
 use Rattle.pcache_history.specs.declared.call.Reply.TheVariants.{WrongCall}
@@ -25,7 +26,7 @@ use Rattle.pcache_history.specs.declared.entry.Event.{Event}
 use Rattle.pcache_history.specs.declared.entry.Event.TheVariants.{Look, Ask, Finish, Admit, Read}
 use Rattle.pcache_history.specs.Deeds.{deeds_of}
 use Rattle.pcache_history.specs.Events.{is_of, begin_of, in_flight, was_stored, is_removed, last_finished, body_of, complete, names_slot, stored_size, tracked, stored, slots}
-use Rattle.pcache_history.specs.Held.{Held, number_of, pair_of, request_of, taker_in}
+use Rattle.pcache_history.specs.Held.{Held, pair_of, request_of, taker_in}
 use Rattle.pcache_history.specs.Facts.{Facts, Says, request_in}
 use Rattle.pcache_history.specs.History.{events_of, Finds, reads}
 use Rattle.pcache_history.specs.Legal.{IsLegal}
@@ -40,8 +41,8 @@ use Rattle.pcache_history.specs.Taking.{Taking}
 
 -- a call is answered as a wrong one exactly when what stands under its number is of another kind, or its condition fails, by the facts that the events before it say
 abbrev pub IsWrongExactly : Type 0
-IsWrongExactly = (age : ℕ) (limits : Limits) (start : Tracked) (before : List Entry) (entry : Entry) (f : Facts) → IsLegal age limits start (entry ∷ before) → Says age (events_of before) (deeds_of before) (number_of entry.call) (request_in (request_of (number_of entry.call) before)) f
-    → f.taker ≡ taker_in entry.call before → (entry.reply ≡ WrongCall) ↔ (FindsKind entry.call (request_of (number_of entry.call) before) × MayBe f entry.call (request_of (number_of entry.call) before) → ⊥)
+IsWrongExactly = (age : ℕ) (limits : Limits) (start : Tracked) (before : List Entry) (entry : Entry) (f : Facts) → IsLegal age limits start (entry ∷ before) → Says age (events_of before) (deeds_of before) entry.call.request (request_in (request_of entry.call.request before)) f
+    → f.taker ≡ taker_in entry.call.request entry.call.act before → (entry.reply ≡ WrongCall) ↔ (FindsKind entry.call.act (request_of entry.call.request before) × MayBe f entry.call.act (request_of entry.call.request before) → ⊥)
 
 -- a look-up answers what the events before it say of its key: the earliest begun write that is in flight and untouched, else
 -- the complete body, else nothing; with the meta that the write began with, which of a complete body is altered by each expiry
@@ -54,7 +55,7 @@ LooksAreTrue = (age : ℕ) (limits : Limits) (start : Tracked) (before : List En
 -- else the end; of a complete body its range once, then the end
 abbrev pub ReadsAreTrue : Type 0
 ReadsAreTrue = (age : ℕ) (limits : Limits) (start : Tracked) (before : List Entry) (entry : Entry) (answer : Poll (Option (List ℕ))) (rest : List Event) → IsLegal age limits start (entry ∷ before) → entry.events ≡ Read answer ∷ rest
-    → (x : Held) × (reader : Reader) × (request_of (number_of entry.call) before ≡ Some x) × (x.request.reader ≡ Some reader) × (answer ≡ reads (events_of before) reader)
+    → (x : Held) × (reader : Reader) × (request_of entry.call.request before ≡ Some x) × (x.request.reader ≡ Some reader) × (answer ≡ reads (events_of before) reader)
 
 -- a write of the key, in flight or finished, met no removal since it began
 abbrev pub HasUntouched : ℕ → List Event → Type 0
@@ -115,8 +116,8 @@ OnePermitWaits = (age : ℕ) (limits : Limits) (start : Tracked) (before : List 
 -- that cannot be used, and waited for long enough; else it goes on. Only a first poll with fills may be refused when memory
 -- runs out
 abbrev pub WaitsAreTrue : Type 0
-WaitsAreTrue = (age : ℕ) (limits : Limits) (start : Tracked) (before : List Entry) (entry : Entry) (r t : ℕ) (x : Held) (rd : lock.Reader) → IsLegal age limits start (entry ∷ before) → entry.call ≡ C.Wait r t → request_of r before ≡ Some x → x.request.held ≡ Some (locked.Read rd)
-    → (entry.reply ≡ wait_reply (wait_of age t r rd x.request (deeds_of before))) ⊎ ((entry.reply ≡ R.Refused OutOfMemory) × (rd.watch ≡ None) × IsSome (unusable_in x.request.key))
+WaitsAreTrue = (age : ℕ) (limits : Limits) (start : Tracked) (before : List Entry) (entry : Entry) (t : ℕ) (x : Held) (rd : lock.Reader) → IsLegal age limits start (entry ∷ before) → entry.call.act ≡ C.Wait t → request_of entry.call.request before ≡ Some x → x.request.held ≡ Some (locked.Read rd)
+    → (entry.reply ≡ wait_reply (wait_of age t entry.call.request rd x.request (deeds_of before))) ⊎ ((entry.reply ≡ R.Refused OutOfMemory) × (rd.watch ≡ None) × IsSome (unusable_in x.request.key))
 
 -- whether a reply tells that something was found, if it is that of a look-up
 abbrev pub told_found : Reply → Option Bool
@@ -128,23 +129,23 @@ told_found _ = None
 -- a reply to a look-up tells that something was found exactly when the key has an untouched write, of a request that hides
 -- nothing since it looked for no variant
 abbrev pub TellsExactly : Type 0
-TellsExactly = (age : ℕ) (limits : Limits) (start : Tracked) (before : List Entry) (entry : Entry) (r t : ℕ) (d : Option Decision) (x : Held) (k : Key) (b : Bool) → IsLegal age limits start (entry ∷ before) → entry.call ≡ C.Look r t d → request_of r before ≡ Some x → x.request.key ≡ Some k → x.request.valid_after ≡ None → told_found entry.reply ≡ Some b
+TellsExactly = (age : ℕ) (limits : Limits) (start : Tracked) (before : List Entry) (entry : Entry) (t : ℕ) (d : Option Decision) (x : Held) (k : Key) (b : Bool) → IsLegal age limits start (entry ∷ before) → entry.call.act ≡ C.Request (Q.Look t d) → request_of entry.call.request before ≡ Some x → x.request.key ≡ Some k → x.request.valid_after ≡ None → told_found entry.reply ≡ Some b
     → (b ≡ true) ↔ HasUntouched (slot k) (events_of before)
 
 -- what the store finds is handed on by the reply to a look-up, unless it was created before the moment from which variants of
 -- the key count
 abbrev pub HandsOnExactly : Type 0
-HandsOnExactly = (age : ℕ) (limits : Limits) (start : Tracked) (before : List Entry) (entry : Entry) (r t : ℕ) (d : Option Decision) (x : Held) (k : ℕ) (answer : Answer) (rest : List Event) (b : Bool) → IsLegal age limits start (entry ∷ before) → entry.call ≡ C.Look r t d → request_of r before ≡ Some x → entry.events ≡ Look k answer ∷ rest → told_found entry.reply ≡ Some b
+HandsOnExactly = (age : ℕ) (limits : Limits) (start : Tracked) (before : List Entry) (entry : Entry) (t : ℕ) (d : Option Decision) (x : Held) (k : ℕ) (answer : Answer) (rest : List Event) (b : Bool) → IsLegal age limits start (entry ∷ before) → entry.call.act ≡ C.Request (Q.Look t d) → request_of entry.call.request before ≡ Some x → entry.events ≡ Look k answer ∷ rest → told_found entry.reply ≡ Some b
     → (b ≡ true) ↔ ((is_found answer ≡ true) × (hides_pair x.request.valid_after (pair_of answer) ≡ false))
 
 -- what a reader of a write has given when it tells the end is the whole body of the write
 abbrev pub ReadsTheWhole : Type 0
-ReadsTheWhole = (age : ℕ) (limits : Limits) (start : Tracked) (before : List Entry) (entry : Entry) (rest : List Event) (x : Held) (w place : ℕ) → IsLegal age limits start (entry ∷ before) → entry.events ≡ Read (Ready None) ∷ rest → request_of (number_of entry.call) before ≡ Some x
-    → x.request.reader ≡ Some (Part w place) → IsSome (begin_of w (events_of before)) → read_by (number_of entry.call) before ≡ body_of w (events_of before)
+ReadsTheWhole = (age : ℕ) (limits : Limits) (start : Tracked) (before : List Entry) (entry : Entry) (rest : List Event) (x : Held) (w place : ℕ) → IsLegal age limits start (entry ∷ before) → entry.events ≡ Read (Ready None) ∷ rest → request_of entry.call.request before ≡ Some x
+    → x.request.reader ≡ Some (Part w place) → IsSome (begin_of w (events_of before)) → read_by entry.call.request before ≡ body_of w (events_of before)
 
 -- a look-up of the request found this complete body: the entry stands in the history, after these
 abbrev pub IsFoundBy : List Entry → ℕ → List ℕ → Type 0
-IsFoundBy h r body = (later : List Entry) × (entry : Entry) × (before : List Entry) × (k : ℕ) × (m : Meta) × (rest : List Event) × (h ≡ later ++ entry ∷ before) × (number_of entry.call ≡ r) × (entry.events ≡ Look k (A.Complete m body) ∷ rest)
+IsFoundBy h r body = (later : List Entry) × (entry : Entry) × (before : List Entry) × (k : ℕ) × (m : Meta) × (rest : List Event) × (h ≡ later ++ entry ∷ before) × (entry.call.request ≡ r) × (entry.events ≡ Look k (A.Complete m body) ∷ rest)
 
 -- what a request reads through a hit is the body that a look-up of it found: that of the write of the key which had finished
 -- last then
@@ -169,7 +170,7 @@ FindsUntouched log = (before : List Entry) (entry : Entry) (k : ℕ) (answer : A
 
 -- a look-up hands on exactly what the store finds and is not hidden
 abbrev pub HandsOnUnhidden : Log → Type 0
-HandsOnUnhidden log = (before : List Entry) (entry : Entry) (r t : ℕ) (d : Option Decision) (x : Held) (k : ℕ) (answer : Answer) (rest : List Event) (b : Bool) → IsEntryOf log entry before → entry.call ≡ C.Look r t d → request_of r before ≡ Some x → entry.events ≡ Look k answer ∷ rest → told_found entry.reply ≡ Some b
+HandsOnUnhidden log = (before : List Entry) (entry : Entry) (t : ℕ) (d : Option Decision) (x : Held) (k : ℕ) (answer : Answer) (rest : List Event) (b : Bool) → IsEntryOf log entry before → entry.call.act ≡ C.Request (Q.Look t d) → request_of entry.call.request before ≡ Some x → entry.events ≡ Look k answer ∷ rest → told_found entry.reply ≡ Some b
     → (b ≡ true) ↔ ((is_found answer ≡ true) × (hides_pair x.request.valid_after (pair_of answer) ≡ false))
 
 -- a write's finish succeeds exactly when it met none

@@ -29,8 +29,9 @@ use Rattle.pcache_request.specs.declared.cache.lock_use.CacheOptionOverrides.{Ca
 use Rattle.pcache_request.specs.Requests.{Request, enabled_request, with_key, missed, with_meta, without_reader, placed, asks_as_stale}
 use Rattle.pcache_request.specs.declared.phase.HitStatus.{HitStatus}
 use Rattle.pcache_request.specs.declared.phase.InUse.{InUse}
-use Rattle.pcache_history.specs.declared.call.Call.{Call}
-use Rattle.pcache_history.specs.declared.call.Call.TheVariants as C
+use Rattle.pcache_history.specs.declared.call.Act.{Act}
+use Rattle.pcache_history.specs.declared.call.Act.TheVariants as C
+use Rattle.pcache_history.specs.declared.call.RequestAct.TheVariants as Q
 use Rattle.pcache_history.specs.declared.call.Reply.{Reply}
 use Rattle.pcache_history.specs.declared.call.Reply.TheVariants as R
 use Rattle.pcache_history.specs.declared.entry.Answer.{Answer}
@@ -49,50 +50,9 @@ pub record Held : Type 0 where
   -- what it has taken in, if it is a put: then the request has its key and its write, and no more
   pub put : Option Taking
 
--- the request or the put that a call names
-abbrev pub number_of : Call → ℕ
-number_of (C.Open r options) = r
-number_of (C.Enable r options) = r
-number_of (C.Disable r why) = r
-number_of (C.Key r k) = r
-number_of (C.Look r t d) = r
-number_of (C.Vary r v) = r
-number_of (C.Found r s t) = r
-number_of (C.Bypass r) = r
-number_of (C.Miss r) = r
-number_of (C.Meta r m) = r
-number_of (C.Begin r) = r
-number_of (C.Write r bs eof) = r
-number_of (C.Finish r) = r
-number_of (C.Read r) = r
-number_of (C.Seek r start end) = r
-number_of (C.Done r) = r
-number_of (C.Purge r) = r
-number_of (C.Expire r t) = r
-number_of (C.Lock r is_used) = r
-number_of (C.Wait r t) = r
-number_of (C.Publish r tokens) = r
-number_of (C.Release r why) = r
-number_of (C.Give r to) = r
-number_of (C.Updating r) = r
-number_of (C.Uncacheable r h why) = r
-number_of (C.Variance r v) = r
-number_of (C.Revalidate r m) = r
-number_of (C.Phase r) = r
-number_of (C.End r) = r
-number_of (C.Put r k limit) = r
-number_of (C.Feed r bs t) = r
-number_of (C.Drop r) = r
-number_of (C.Close r) = r
-
--- the request that a call names besides, to which a permit is handed
-abbrev pub taker_of : Call → Option ℕ
-taker_of (C.Give r to) = Some to
-taker_of call = None
-
 -- a call that names one request alone
-abbrev pub IsOfOne : Call → Type 0
-IsOfOne (C.Give r to) = ⊥
+abbrev pub IsOfOne : Act → Type 0
+IsOfOne (C.Give to) = ⊥
 IsOfOne _ = Unit {0}
 
 -- what a request or a put moves by of a reply
@@ -296,40 +256,40 @@ pub data Change : Type 0 where
   feeds : Change
   goes : Change
 
-abbrev pub change_of : Call → Change
-change_of (C.Open r options) = opens options
-change_of (C.Enable r options) = turns (enabled_waiting world_use options) false
-change_of (C.Disable r why) = shuts (disabled_for why)
-change_of (C.Key r k) = turns (with_key k) false
-change_of (C.Look r t d) = looks d
-change_of (C.Vary r v) = turns_by (looks_for v)
-change_of (C.Found r s t) = takes s
-change_of (C.Bypass r) = turns bypassed false
-change_of (C.Miss r) = turns missed true
-change_of (C.Meta r m) = turns (with_meta m) false
-change_of (C.Begin r) = begins
-change_of (C.Write r bs eof) = stays
-change_of (C.Finish r) = ends
-change_of (C.Read r) = reads_on
-change_of (C.Seek r start end) = seeks start end
-change_of (C.Done r) = reads_no_more
-change_of (C.Purge r) = stays
-change_of (C.Expire r t) = stays
-change_of (C.Lock r is_used) = turns (with_cache_lock is_used None) false
-change_of (C.Wait r t) = waits t
-change_of (C.Publish r tokens) = stays
-change_of (C.Release r why) = turns unheld false
-change_of (C.Give r to) = turns unheld false
-change_of (C.Updating r) = turns updating false
-change_of (C.Uncacheable r h why) = turns (uncacheable (shown h) why) false
-change_of (C.Variance r v) = turns (varied v) false
-change_of (C.Revalidate r m) = renews m
-change_of (C.Phase r) = stays
-change_of (C.End r) = closes
-change_of (C.Put r k limit) = pushes k limit
-change_of (C.Feed r bs t) = feeds
-change_of (C.Drop r) = closes
-change_of (C.Close r) = goes
+abbrev pub change_of : Act → Change
+change_of (C.Open options) = opens options
+change_of (C.Request (Q.Enable options)) = turns (enabled_waiting world_use options) false
+change_of (C.Request (Q.Disable why)) = shuts (disabled_for why)
+change_of (C.Request (Q.Key k)) = turns (with_key k) false
+change_of (C.Request (Q.Look t d)) = looks d
+change_of (C.Request (Q.Vary v)) = turns_by (looks_for v)
+change_of (C.Request (Q.Found s t)) = takes s
+change_of (C.Request Q.Bypass) = turns bypassed false
+change_of (C.Request Q.Miss) = turns missed true
+change_of (C.Request (Q.Meta m)) = turns (with_meta m) false
+change_of (C.Request Q.Begin) = begins
+change_of (C.Request (Q.Write bs eof)) = stays
+change_of (C.Request Q.Finish) = ends
+change_of (C.Request Q.Read) = reads_on
+change_of (C.Request (Q.Seek start end)) = seeks start end
+change_of (C.Request Q.Done) = reads_no_more
+change_of (C.Request Q.Purge) = stays
+change_of (C.Request (Q.Expire t)) = stays
+change_of (C.Request (Q.Lock is_used)) = turns (with_cache_lock is_used None) false
+change_of (C.Wait t) = waits t
+change_of (C.Request (Q.Publish tokens)) = stays
+change_of (C.Request (Q.Release why)) = turns unheld false
+change_of (C.Give to) = turns unheld false
+change_of (C.Request Q.Updating) = turns updating false
+change_of (C.Request (Q.Uncacheable h why)) = turns (uncacheable (shown h) why) false
+change_of (C.Request (Q.Variance v)) = turns (varied v) false
+change_of (C.Request (Q.Revalidate m)) = renews m
+change_of (C.Request Q.Phase) = stays
+change_of C.End = closes
+change_of (C.Put k limit) = pushes k limit
+change_of (C.Feed bs t) = feeds
+change_of C.Drop = closes
+change_of C.Close = goes
 
 -- all but its reader
 abbrev pub turned_by : (Request → Request) → Bool → Held → Held
@@ -359,11 +319,11 @@ changed (pushes k limit) o events q = cond (is_done o) (Some (held_put (new_put 
 changed feeds o events q = option_map (fed o events) q
 changed goes o events q = cond (is_wrong o) q None
 
-abbrev pub row_by : Call → Outcome → List Event → Option Held → Option Held
-row_by call o events q = changed (change_of call) o events q
+abbrev pub row_by : Act → Outcome → List Event → Option Held → Option Held
+row_by act o events q = changed (change_of act) o events q
 
-abbrev pub row : Call → Reply → List Event → Option Held → Option Held
-row call reply events q = row_by call (outcome reply) events q
+abbrev pub row : Act → Reply → List Event → Option Held → Option Held
+row act reply events q = row_by act (outcome reply) events q
 
 -- a request that is handed a permit
 abbrev pub handed_by : Option Permit → Held → Held
@@ -375,16 +335,16 @@ permit_held None = None
 permit_held (Some x) = permit_in x.request.held
 
 -- the request r after a call that may hand it the permit of another, which was giver before the call, and q after it
-abbrev pub taken_over : Call → Outcome → ℕ → Option Held → Option Held → Option Held
-taken_over (C.Give from to) was_done r giver q = cond (to == r) (option_map (handed_by (permit_held giver)) q) q
-taken_over call o r giver q = q
+abbrev pub taken_over : Act → Outcome → ℕ → Option Held → Option Held → Option Held
+taken_over (C.Give to) was_done r giver q = cond (to == r) (option_map (handed_by (permit_held giver)) q) q
+taken_over act o r giver q = q
 
 -- a request or a put as the entries that name it leave it
 abbrev pub request_of : ℕ → List Entry → Option Held
 request_of r [] = None
-request_of r (e ∷ h) = taken_over e.call (outcome e.reply) r (request_of (number_of e.call) h) (if number_of e.call == r then row e.call e.reply e.events (request_of r h) else request_of r h)
+request_of r (e ∷ h) = taken_over e.call.act (outcome e.reply) r (request_of e.call.request h) (if e.call.request == r then row e.call.act e.reply e.events (request_of r h) else request_of r h)
 
 -- the request to which a call hands a permit, once that is out of its giver's hands
-abbrev pub taker_in : Call → List Entry → Option Held
-taker_in (C.Give from to) h = cond (from == to) (option_map (on_request unheld) (request_of to h)) (request_of to h)
-taker_in call h = None
+abbrev pub taker_in : ℕ → Act → List Entry → Option Held
+taker_in from (C.Give to) h = cond (from == to) (option_map (on_request unheld) (request_of to h)) (request_of to h)
+taker_in from act h = None

@@ -8,7 +8,7 @@ use Rattle.pcache_history.specs.declared.entry.Entry.{Entry}
 use Rattle.pcache_history.specs.declared.entry.Event.{Event}
 use Rattle.pcache_history.specs.declared.entry.Event.TheVariants as E
 use Rattle.pcache_history.specs.Events.{body_of}
-use Rattle.pcache_history.specs.Held.{Outcome, Change, opens, takes, begins, reads_on, seeks, change_of, number_of, outcome, is_done, is_taken}
+use Rattle.pcache_history.specs.Held.{Outcome, Change, opens, takes, begins, reads_on, seeks, change_of, outcome, is_done, is_taken}
 
 -- the bytes that a read gave, if it gave some
 abbrev pub given_in : List Event → List ℕ
@@ -28,7 +28,7 @@ read_on _ o events before = before
 -- the bytes that a request's reader has given since it came to be
 abbrev pub read_by : ℕ → List Entry → List ℕ
 read_by r [] = []
-read_by r (e ∷ h) = if number_of e.call == r then read_on (change_of e.call) (outcome e.reply) e.events (read_by r h) else read_by r h
+read_by r (e ∷ h) = if e.call.request == r then read_on (change_of e.call.act) (outcome e.reply) e.events (read_by r h) else read_by r h
 
 -- a reader of a complete body has given its range once it is done, and nothing before; a reader of a write has given the
 -- beginning of the write's body up to its place

@@ -27,8 +27,9 @@ use Rattle.pcache_request.specs.Renewals.{renewed_by}
 use Rattle.pcache_request.specs.Stale.{MayRevalidate}
 use Rattle.pcache_request.specs.Variants.{is_unseen, leaves_variant, same_variance}
 use Rattle.pcache_request.specs.Requests.{Request, MayTakeMeta, MayWrite, entry_of, counts_found, phase_found}
-use Rattle.pcache_history.specs.declared.call.Call.{Call}
-use Rattle.pcache_history.specs.declared.call.Call.TheVariants as C
+use Rattle.pcache_history.specs.declared.call.Act.{Act}
+use Rattle.pcache_history.specs.declared.call.Act.TheVariants as C
+use Rattle.pcache_history.specs.declared.call.RequestAct.TheVariants as Q
 use Rattle.pcache_history.specs.declared.call.LockKind.{LockKind}
 use Rattle.pcache_history.specs.declared.call.LockKind.TheVariants as kind
 use Rattle.pcache_history.specs.declared.call.Reply.{Reply}
@@ -48,54 +49,54 @@ MayTake None = ⊥
 MayTake (Some y) = IsOn y.request.phase × (y.put ≡ None)
 
 -- The condition of a call.
-abbrev pub MayBe : Facts → Call → Option Held → Type 0
-MayBe f (C.Open r options) None = Unit {0}
-MayBe f (C.Open r options) (Some x) = ⊥
-MayBe f (C.Put r k limit) None = Unit {0}
-MayBe f (C.Put r k limit) (Some x) = ⊥
-MayBe f call None = ⊥
-MayBe f (C.Enable r options) (Some x) = IsDisabled x.request.phase
-MayBe f (C.Disable r why) (Some x) = MayDisable why x.request
-MayBe f (C.Key r k) (Some x) = MayTakeKey x.request.phase
-MayBe f (C.Look r t d) (Some x) = MayLookUp x.request.phase
-MayBe f (C.Vary r v) (Some x) = MayLookUp x.request.phase × IsSome x.pair
-MayBe f (C.Found r s t) (Some x) = MayLookUp x.request.phase × IsSome x.pair
-MayBe f (C.Bypass r) (Some x) = MayBypass x.request.phase
-MayBe f (C.Miss r) (Some x) = MayMiss x.request.phase
-MayBe f (C.Meta r m) (Some x) = MayTakeMeta x.request
-MayBe f (C.Begin r) (Some x) = MayWrite x.request
-MayBe f (C.Write r bytes eof) (Some x) = IsFilling x.request.phase × IsSome x.request.write × (f.told ≡ false)
-MayBe f (C.Finish r) (Some x) = IsFilling x.request.phase
-MayBe f (C.Read r) (Some x) = IsSome x.request.reader
-MayBe f (C.Seek r start end) (Some x) = IsSome x.request.reader
-MayBe f (C.Done r) (Some x) = MayFinishHit x.request.phase
-MayBe f (C.Purge r) (Some x) = MayPurge x.request.phase
-MayBe f (C.Expire r t) (Some x) = MayPurge x.request.phase
-MayBe f (C.Lock r is_used) (Some x) = MaySetLock x.request
-MayBe f (C.Wait r t) (Some x) = IsSome (read_in x.request.held)
-MayBe f (C.Publish r tokens) (Some x) = Unit {0}
-MayBe f (C.Release r why) (Some x) = MayRelease why x.request.held
-MayBe f (C.Give r to) (Some x) = IsSome (permit_in x.request.held) × MayTake f.taker
-MayBe f (C.Updating r) (Some x) = IsStale x.request.phase
-MayBe f (C.Uncacheable r h why) (Some x) = MayRevalidate x.request × MayRelease why x.request.held
-MayBe f (C.Variance r v) (Some x) = MayWrite x.request
-MayBe f (C.Revalidate r m) (Some x) = MayRevalidate x.request
-MayBe f (C.Phase r) (Some x) = Unit {0}
-MayBe f (C.End r) (Some x) = Unit {0}
-MayBe f (C.Feed r bytes t) (Some x) = Unit {0}
-MayBe f (C.Drop r) (Some x) = Unit {0}
-MayBe f (C.Close r) (Some x) = Unit {0}
+abbrev pub MayBe : Facts → Act → Option Held → Type 0
+MayBe f (C.Open options) None = Unit {0}
+MayBe f (C.Open options) (Some x) = ⊥
+MayBe f (C.Put k limit) None = Unit {0}
+MayBe f (C.Put k limit) (Some x) = ⊥
+MayBe f act None = ⊥
+MayBe f (C.Request (Q.Enable options)) (Some x) = IsDisabled x.request.phase
+MayBe f (C.Request (Q.Disable why)) (Some x) = MayDisable why x.request
+MayBe f (C.Request (Q.Key k)) (Some x) = MayTakeKey x.request.phase
+MayBe f (C.Request (Q.Look t d)) (Some x) = MayLookUp x.request.phase
+MayBe f (C.Request (Q.Vary v)) (Some x) = MayLookUp x.request.phase × IsSome x.pair
+MayBe f (C.Request (Q.Found s t)) (Some x) = MayLookUp x.request.phase × IsSome x.pair
+MayBe f (C.Request Q.Bypass) (Some x) = MayBypass x.request.phase
+MayBe f (C.Request Q.Miss) (Some x) = MayMiss x.request.phase
+MayBe f (C.Request (Q.Meta m)) (Some x) = MayTakeMeta x.request
+MayBe f (C.Request Q.Begin) (Some x) = MayWrite x.request
+MayBe f (C.Request (Q.Write bytes eof)) (Some x) = IsFilling x.request.phase × IsSome x.request.write × (f.told ≡ false)
+MayBe f (C.Request Q.Finish) (Some x) = IsFilling x.request.phase
+MayBe f (C.Request Q.Read) (Some x) = IsSome x.request.reader
+MayBe f (C.Request (Q.Seek start end)) (Some x) = IsSome x.request.reader
+MayBe f (C.Request Q.Done) (Some x) = MayFinishHit x.request.phase
+MayBe f (C.Request Q.Purge) (Some x) = MayPurge x.request.phase
+MayBe f (C.Request (Q.Expire t)) (Some x) = MayPurge x.request.phase
+MayBe f (C.Request (Q.Lock is_used)) (Some x) = MaySetLock x.request
+MayBe f (C.Wait t) (Some x) = IsSome (read_in x.request.held)
+MayBe f (C.Request (Q.Publish tokens)) (Some x) = Unit {0}
+MayBe f (C.Request (Q.Release why)) (Some x) = MayRelease why x.request.held
+MayBe f (C.Give to) (Some x) = IsSome (permit_in x.request.held) × MayTake f.taker
+MayBe f (C.Request Q.Updating) (Some x) = IsStale x.request.phase
+MayBe f (C.Request (Q.Uncacheable h why)) (Some x) = MayRevalidate x.request × MayRelease why x.request.held
+MayBe f (C.Request (Q.Variance v)) (Some x) = MayWrite x.request
+MayBe f (C.Request (Q.Revalidate m)) (Some x) = MayRevalidate x.request
+MayBe f (C.Request Q.Phase) (Some x) = Unit {0}
+MayBe f C.End (Some x) = Unit {0}
+MayBe f (C.Feed bytes t) (Some x) = Unit {0}
+MayBe f C.Drop (Some x) = Unit {0}
+MayBe f C.Close (Some x) = Unit {0}
 
 -- what stands under the number that it names is of its kind: a put if it is a call of puts, else a request
-abbrev pub IsOfKind : Call → Held → Type 0
-IsOfKind (C.Feed r bytes t) x = IsSome x.put
-IsOfKind (C.Drop r) x = IsSome x.put
-IsOfKind (C.Close r) x = IsSome x.put
-IsOfKind call x = x.put ≡ None
+abbrev pub IsOfKind : Act → Held → Type 0
+IsOfKind (C.Feed bytes t) x = IsSome x.put
+IsOfKind C.Drop x = IsSome x.put
+IsOfKind C.Close x = IsSome x.put
+IsOfKind act x = x.put ≡ None
 
-abbrev pub FindsKind : Call → Option Held → Type 0
-FindsKind call None = Unit {0}
-FindsKind call (Some x) = IsOfKind call x
+abbrev pub FindsKind : Act → Option Held → Type 0
+FindsKind act None = Unit {0}
+FindsKind act (Some x) = IsOfKind act x
 
 -- Words of the clauses.
 
@@ -354,41 +355,41 @@ abbrev pub Closes : Facts → Option Taking → Reply → List Event → Type 0
 Closes f None reply events = ⊥
 Closes f (Some p) reply events = ClosesAt f p.key p.stage reply events
 
-abbrev pub Does : Facts → Call → Option Held → Reply → List Event → Type 0
-Does f (C.Open r options) q reply events = IsDone reply events
-Does f (C.Put r k limit) q reply events = IsDone reply events
-Does f call None reply events = ⊥
-Does f (C.Enable r options) (Some x) reply events = IsIdle R.Done reply events
-Does f (C.Disable r why) (Some x) reply events = (reply ≡ R.Done) × (events ≡ release_of x.request.held ++ drop_of x.request.write)
-Does f (C.Key r k) (Some x) reply events = IsDone reply events
-Does f (C.Look r t d) (Some x) reply events = Looks f (carrying d x) reply events
-Does f (C.Vary r v) (Some x) reply events = IsIdle (variance_reply v x.pair) reply events
-Does f (C.Found r s t) (Some x) reply events = Takes f s x.request x.pair reply events
-Does f (C.Bypass r) (Some x) reply events = IsIdle R.Done reply events
-Does f (C.Miss r) (Some x) reply events = IsIdle R.Done reply events
-Does f (C.Meta r m) (Some x) reply events = IsDone reply events
-Does f (C.Begin r) (Some x) reply events = Begins f x.request reply events
-Does f (C.Write r bytes eof) (Some x) reply events = Writes bytes eof x.request reply events
-Does f (C.Finish r) (Some x) reply events = Finishes f x.request x.request.write reply events
-Does f (C.Read r) (Some x) reply events = Reads f reply events
-Does f (C.Seek r start end) (Some x) reply events = IsIdle (seek_reply (sought_in start end x.request.reader)) reply events
-Does f (C.Done r) (Some x) reply events = IsDone reply events
-Does f (C.Purge r) (Some x) reply events = Purges f x.request reply events
-Does f (C.Expire r t) (Some x) reply events = Expires f t x.request reply events
-Does f (C.Lock r is_used) (Some x) reply events = IsIdle R.Done reply events
-Does f (C.Wait r t) (Some x) reply events = Waits f t x.request reply events
-Does f (C.Publish r tokens) (Some x) reply events = IsDone reply events
-Does f (C.Release r why) (Some x) reply events = (reply ≡ R.Done) × (events ≡ release_of x.request.held)
-Does f (C.Give r to) (Some x) reply events = (reply ≡ R.Done) × (events ≡ given_up (permit_in x.request.held) f.taker)
-Does f (C.Updating r) (Some x) reply events = IsIdle R.Done reply events
-Does f (C.Uncacheable r h why) (Some x) reply events = IsStarved reply events ⊎ ((reply ≡ R.Done) × (events ≡ release_of x.request.held))
-Does f (C.Variance r v) (Some x) reply events = (reply ≡ R.Done) × (events ≡ release_by_variance v x.request)
-Does f (C.Revalidate r m) (Some x) reply events = Renews f m x.request reply events
-Does f (C.Phase r) (Some x) reply events = IsIdle (R.Phase x.request.phase) reply events
-Does f (C.End r) (Some x) reply events = Ends x.request reply events
-Does f (C.Feed r bytes t) (Some x) reply events = Feeds f x.put reply events
-Does f (C.Drop r) (Some x) reply events = (reply ≡ R.Done) × (events ≡ drop_of x.request.write)
-Does f (C.Close r) (Some x) reply events = Closes f x.put reply events
+abbrev pub Does : Facts → Act → Option Held → Reply → List Event → Type 0
+Does f (C.Open options) q reply events = IsDone reply events
+Does f (C.Put k limit) q reply events = IsDone reply events
+Does f act None reply events = ⊥
+Does f (C.Request (Q.Enable options)) (Some x) reply events = IsIdle R.Done reply events
+Does f (C.Request (Q.Disable why)) (Some x) reply events = (reply ≡ R.Done) × (events ≡ release_of x.request.held ++ drop_of x.request.write)
+Does f (C.Request (Q.Key k)) (Some x) reply events = IsDone reply events
+Does f (C.Request (Q.Look t d)) (Some x) reply events = Looks f (carrying d x) reply events
+Does f (C.Request (Q.Vary v)) (Some x) reply events = IsIdle (variance_reply v x.pair) reply events
+Does f (C.Request (Q.Found s t)) (Some x) reply events = Takes f s x.request x.pair reply events
+Does f (C.Request Q.Bypass) (Some x) reply events = IsIdle R.Done reply events
+Does f (C.Request Q.Miss) (Some x) reply events = IsIdle R.Done reply events
+Does f (C.Request (Q.Meta m)) (Some x) reply events = IsDone reply events
+Does f (C.Request Q.Begin) (Some x) reply events = Begins f x.request reply events
+Does f (C.Request (Q.Write bytes eof)) (Some x) reply events = Writes bytes eof x.request reply events
+Does f (C.Request Q.Finish) (Some x) reply events = Finishes f x.request x.request.write reply events
+Does f (C.Request Q.Read) (Some x) reply events = Reads f reply events
+Does f (C.Request (Q.Seek start end)) (Some x) reply events = IsIdle (seek_reply (sought_in start end x.request.reader)) reply events
+Does f (C.Request Q.Done) (Some x) reply events = IsDone reply events
+Does f (C.Request Q.Purge) (Some x) reply events = Purges f x.request reply events
+Does f (C.Request (Q.Expire t)) (Some x) reply events = Expires f t x.request reply events
+Does f (C.Request (Q.Lock is_used)) (Some x) reply events = IsIdle R.Done reply events
+Does f (C.Wait t) (Some x) reply events = Waits f t x.request reply events
+Does f (C.Request (Q.Publish tokens)) (Some x) reply events = IsDone reply events
+Does f (C.Request (Q.Release why)) (Some x) reply events = (reply ≡ R.Done) × (events ≡ release_of x.request.held)
+Does f (C.Give to) (Some x) reply events = (reply ≡ R.Done) × (events ≡ given_up (permit_in x.request.held) f.taker)
+Does f (C.Request Q.Updating) (Some x) reply events = IsIdle R.Done reply events
+Does f (C.Request (Q.Uncacheable h why)) (Some x) reply events = IsStarved reply events ⊎ ((reply ≡ R.Done) × (events ≡ release_of x.request.held))
+Does f (C.Request (Q.Variance v)) (Some x) reply events = (reply ≡ R.Done) × (events ≡ release_by_variance v x.request)
+Does f (C.Request (Q.Revalidate m)) (Some x) reply events = Renews f m x.request reply events
+Does f (C.Request Q.Phase) (Some x) reply events = IsIdle (R.Phase x.request.phase) reply events
+Does f C.End (Some x) reply events = Ends x.request reply events
+Does f (C.Feed bytes t) (Some x) reply events = Feeds f x.put reply events
+Does f C.Drop (Some x) reply events = (reply ≡ R.Done) × (events ≡ drop_of x.request.write)
+Does f C.Close (Some x) reply events = Closes f x.put reply events
 
 -- a reply that tells more than that the call was wrong
 abbrev pub IsOther : Reply → Type 0
@@ -396,12 +397,12 @@ IsOther R.WrongCall = ⊥
 IsOther _ = Unit {0}
 
 -- what a call answers and does
-abbrev pub Answers : Facts → Call → Option Held → Reply → List Event → Type 0
-Answers f call q reply events = (MayBe f call q × IsOther reply × Does f call q reply events) ⊎ ((MayBe f call q → ⊥) × IsIdle R.WrongCall reply events)
+abbrev pub Answers : Facts → Act → Option Held → Reply → List Event → Type 0
+Answers f act q reply events = (MayBe f act q × IsOther reply × Does f act q reply events) ⊎ ((MayBe f act q → ⊥) × IsIdle R.WrongCall reply events)
 
 -- the same of a number under which a request or a put may stand: a call of the other kind is a wrong one
-abbrev pub Replies : Facts → Call → Option Held → Reply → List Event → Type 0
-Replies f call q reply events = (FindsKind call q × Answers f call q reply events) ⊎ ((FindsKind call q → ⊥) × IsIdle R.WrongCall reply events)
+abbrev pub Replies : Facts → Act → Option Held → Reply → List Event → Type 0
+Replies f act q reply events = (FindsKind act q × Answers f act q reply events) ⊎ ((FindsKind act q → ⊥) × IsIdle R.WrongCall reply events)
 
 -- a reply told twice: it is the same, or bytes that can't be copied are refused
 abbrev pub IsCopy : Reply → Reply → Type 0

@@ -2,7 +2,7 @@
 ghost use Rattle.std.specs.Prelude.{◌≡◌, IfErr, IfOk};
 ghost use Rattle.pcache_base.specs.declared.error.ErrorType.TheVariants.{OutOfMemory};
 
-use crate::call::Call;
+use crate::call::{Act, Call, RequestAct};
 use pcache_base::error::Result;
 
 impl Call {
@@ -11,138 +11,98 @@ impl Call {
         ensures ok { IfOk result (λ copy. copy ≡ self.now) }
         ensures kind { IfErr result (λ e. e ≡ OutOfMemory) }
     {
+        Ok(Call {
+            request: self.request,
+            act: self.act.copied()?,
+        })
+    }
+}
+
+impl Act {
+    // A second act, equal to this one. It is refused only when memory runs out.
+    fn copied(&self) -> Result<Act>
+        ensures ok { IfOk result (λ copy. copy ≡ self.now) }
+        ensures kind { IfErr result (λ e. e ≡ OutOfMemory) }
+    {
         Ok(match self {
-            Call::Open { request, options } => Call::Open {
-                request: *request,
-                options: *options,
-            },
-            Call::Enable { request, options } => Call::Enable {
-                request: *request,
-                options: *options,
-            },
-            Call::Disable { request, reason } => Call::Disable {
-                request: *request,
-                reason: *reason,
-            },
-            Call::Key { request, key } => Call::Key {
-                request: *request,
-                key: key.beside(key.get().copied()?)?,
-            },
-            Call::Look {
-                request,
-                now,
-                decision,
-            } => Call::Look {
-                request: *request,
-                now: *now,
-                decision: *decision,
-            },
-            Call::Vary { request, variance } => Call::Vary {
-                request: *request,
-                variance: *variance,
-            },
-            Call::Found {
-                request,
-                status,
-                now,
-            } => Call::Found {
-                request: *request,
-                status: *status,
-                now: *now,
-            },
-            Call::Bypass { request } => Call::Bypass { request: *request },
-            Call::Miss { request } => Call::Miss { request: *request },
-            Call::Meta { request, meta } => Call::Meta {
-                request: *request,
-                meta: meta.beside(meta.get().copied()?)?,
-            },
-            Call::Begin { request } => Call::Begin { request: *request },
-            Call::Write {
-                request,
-                bytes,
-                eof,
-            } => Call::Write {
-                request: *request,
-                bytes: bytes.clone()?,
-                eof: *eof,
-            },
-            Call::Finish { request } => Call::Finish { request: *request },
-            Call::Read { request } => Call::Read { request: *request },
-            Call::Seek {
-                request,
-                start,
-                end,
-            } => Call::Seek {
-                request: *request,
-                start: *start,
-                end: *end,
-            },
-            Call::Done { request } => Call::Done { request: *request },
-            Call::Purge { request } => Call::Purge { request: *request },
-            Call::Expire { request, now } => Call::Expire {
-                request: *request,
-                now: *now,
-            },
-            Call::Lock { request, is_used } => Call::Lock {
-                request: *request,
-                is_used: *is_used,
-            },
-            Call::Wait { request, now } => Call::Wait {
-                request: *request,
-                now: *now,
-            },
-            Call::Publish { request, tokens } => Call::Publish {
-                request: *request,
-                tokens: tokens.copied()?,
-            },
-            Call::Release { request, reason } => Call::Release {
-                request: *request,
-                reason: *reason,
-            },
-            Call::Give { request, to } => Call::Give {
-                request: *request,
-                to: *to,
-            },
-            Call::Updating { request } => Call::Updating { request: *request },
-            Call::Uncacheable {
-                request,
-                header,
-                reason,
-            } => Call::Uncacheable {
-                request: *request,
-                header: header.beside(header.get().copied()?)?,
-                reason: *reason,
-            },
-            Call::Variance { request, variance } => Call::Variance {
-                request: *request,
-                variance: *variance,
-            },
-            Call::Revalidate { request, meta } => Call::Revalidate {
-                request: *request,
-                meta: meta.beside(meta.get().copied()?)?,
-            },
-            Call::Phase { request } => Call::Phase { request: *request },
-            Call::End { request } => Call::End { request: *request },
-            Call::Put {
-                request,
-                key,
-                limit,
-            } => Call::Put {
-                request: *request,
+            Act::Open { options } => Act::Open { options: *options },
+            Act::End => Act::End,
+            Act::Request(act) => Act::Request(act.copied()?),
+            Act::Wait { now } => Act::Wait { now: *now },
+            Act::Give { to } => Act::Give { to: *to },
+            Act::Put { key, limit } => Act::Put {
                 key: key.beside(key.get().copied()?)?,
                 limit: *limit,
             },
-            Call::Feed {
-                request,
-                bytes,
-                now,
-            } => Call::Feed {
-                request: *request,
+            Act::Feed { bytes, now } => Act::Feed {
                 bytes: bytes.clone()?,
                 now: *now,
             },
-            Call::Drop { request } => Call::Drop { request: *request },
-            Call::Close { request } => Call::Close { request: *request },
+            Act::Drop => Act::Drop,
+            Act::Close => Act::Close,
+        })
+    }
+}
+
+impl RequestAct {
+    // A second act, equal to this one. It is refused only when memory runs out.
+    fn copied(&self) -> Result<RequestAct>
+        ensures ok { IfOk result (λ copy. copy ≡ self.now) }
+        ensures kind { IfErr result (λ e. e ≡ OutOfMemory) }
+    {
+        Ok(match self {
+            RequestAct::Enable { options } => RequestAct::Enable { options: *options },
+            RequestAct::Disable { reason } => RequestAct::Disable { reason: *reason },
+            RequestAct::Key { key } => RequestAct::Key {
+                key: key.beside(key.get().copied()?)?,
+            },
+            RequestAct::Look { now, decision } => RequestAct::Look {
+                now: *now,
+                decision: *decision,
+            },
+            RequestAct::Vary { variance } => RequestAct::Vary {
+                variance: *variance,
+            },
+            RequestAct::Found { status, now } => RequestAct::Found {
+                status: *status,
+                now: *now,
+            },
+            RequestAct::Bypass => RequestAct::Bypass,
+            RequestAct::Miss => RequestAct::Miss,
+            RequestAct::Meta { meta } => RequestAct::Meta {
+                meta: meta.beside(meta.get().copied()?)?,
+            },
+            RequestAct::Begin => RequestAct::Begin,
+            RequestAct::Write { bytes, eof } => RequestAct::Write {
+                bytes: bytes.clone()?,
+                eof: *eof,
+            },
+            RequestAct::Finish => RequestAct::Finish,
+            RequestAct::Read => RequestAct::Read,
+            RequestAct::Seek { start, end } => RequestAct::Seek {
+                start: *start,
+                end: *end,
+            },
+            RequestAct::Done => RequestAct::Done,
+            RequestAct::Purge => RequestAct::Purge,
+            RequestAct::Expire { now } => RequestAct::Expire { now: *now },
+            RequestAct::Lock { is_used } => RequestAct::Lock { is_used: *is_used },
+            RequestAct::Publish { tokens } => RequestAct::Publish {
+                tokens: tokens.copied()?,
+            },
+            RequestAct::Release { reason } => RequestAct::Release { reason: *reason },
+            RequestAct::Updating => RequestAct::Updating,
+            RequestAct::Uncacheable { header, reason } => RequestAct::Uncacheable {
+                header: header.beside(header.get().copied()?)?,
+                reason: *reason,
+            },
+            RequestAct::Variance { variance } => RequestAct::Variance {
+                variance: *variance,
+            },
+            RequestAct::Revalidate { meta } => RequestAct::Revalidate {
+                meta: meta.beside(meta.get().copied()?)?,
+            },
+            RequestAct::Phase => RequestAct::Phase,
         })
     }
 }

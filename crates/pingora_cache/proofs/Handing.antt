@@ -15,8 +15,8 @@ use Rattle.pcache_lock.specs.declared.lock.status.LockStatus.TheVariants as stat
 use Rattle.pcache_request.specs.LockUse.{gone_for, handed, permit_in, table_handed, unheld}
 use Rattle.pcache_request.specs.Requests.{Request, let_go_by}
 use Rattle.pcache_store.specs.Store.{Store}
-use Rattle.pcache_history.specs.declared.call.Call.{Call}
-use Rattle.pcache_history.specs.declared.call.Call.TheVariants as C
+use Rattle.pcache_history.specs.declared.call.Act.{Act}
+use Rattle.pcache_history.specs.declared.call.Act.TheVariants as C
 use Rattle.pcache_history.specs.declared.call.Reply.{Reply}
 use Rattle.pcache_history.specs.declared.call.Reply.TheVariants as R
 use Rattle.pcache_history.specs.declared.entry.Entry.{Entry}
@@ -49,6 +49,7 @@ use Rattle.pingora_cache.proofs.MovedState.{readers-set, readers-split, set_to}
 use Rattle.pingora_cache.proofs.MovesOf.{idle}
 use Rattle.pingora_cache.proofs.Opened.{get-set_to}
 use Rattle.pingora_cache.proofs.PutTurns.{wrong-given}
+use Rattle.pingora_cache.proofs.TurnOf.{wrong-turn}
 use Rattle.pingora_cache.proofs.ReadLocks.{lock-counted, locks-few, locks-moved}
 use Rattle.pingora_cache.proofs.SoundOf.{sound-of}
 use Rattle.pingora_cache.proofs.States.{state-same}
@@ -112,7 +113,7 @@ unheld-untold None = refl
 unheld-untold (Some z) = refl
 
 -- the taker as the history names it
-taker-is : (all : FinMap nat_cmp Held) (h : List Entry) (from to : ℕ) → AreOpen h all → taker_in (C.Give from to) h ≡ option_map untold (taker_at from to (get all))
+taker-is : (all : FinMap nat_cmp Held) (h : List Entry) (from to : ℕ) → AreOpen h all → taker_in from (C.Give to) h ≡ option_map untold (taker_at from to (get all))
 taker-is all h from to are =
     ap (λ q. cond (from == to) (option_map (on_request unheld) q) q) (sym (are to))
     ∙ elim (from == to) as (λ b. cond b (option_map (on_request unheld) (option_map untold (get all to))) (option_map untold (get all to)) ≡ option_map untold (cond b (option_map (on_request unheld) (get all to)) (get all to))) [
@@ -180,7 +181,7 @@ module _ (limits : Limits) (start m : Tracked) (s : Store) (t : Locks) (all : Fi
   t' = let_go_by g t
 
   abbrev entry : Entry
-  entry = record { call = C.Give from to; reply = R.Done; events = events }
+  entry = record { call = record { request = from; act = C.Give to }; reply = R.Done; events = events }
 
   abbrev n : ℕ → ℕ
   n = read_locks all
@@ -305,7 +306,7 @@ module _ (limits : Limits) (start m : Tracked) (s : Store) (t : Locks) (all : Fi
   permit-named : permit_in (untold x).request.held ≡ Some p
   permit-named = permit-untold x.request.held ∙ ap permit_in holds
 
-  taker-named : taker_in (C.Give from to) h ≡ Some (untold y)
+  taker-named : taker_in from (C.Give to) h ≡ Some (untold y)
   taker-named = taker-is all h from to k.requests ∙ ap (option_map untold) taker
 
   deeds-after : deeds_of (entry ∷ h) ≡ Deeds p.number to (permit_of g) ds
@@ -315,18 +316,18 @@ module _ (limits : Limits) (start m : Tracked) (s : Store) (t : Locks) (all : Fi
       ∙ ap (λ xs. reverse (Handed p.number to ∷ xs) ++ ds) (let-go-deeds from 0 status.Done (permit_of g))
       ∙ reversed-two (Handed p.number to) LetGo (permit_of g) ds
 
-  row-after : (q : ℕ) → option_map untold (get mid q) ≡ (if from == q then row (C.Give from to) R.Done events (request_of q h) else request_of q h)
+  row-after : (q : ℕ) → option_map untold (get mid q) ≡ (if from == q then row (C.Give to) R.Done events (request_of q h) else request_of q h)
   row-after q =
       ap (option_map untold) (get-set_to all from (Some x1) q)
-      ∙ elim (from == q) as (λ b. (from == q) ≡ b → option_map untold (cond b (Some x1) (get all q)) ≡ (if b then row (C.Give from to) R.Done events (request_of q h) else request_of q h)) [
-        | true ↦ λ same. ap (option_map (turned_by unheld false)) (sym named) ∙ ap (λ r. row (C.Give from to) R.Done events (request_of r h)) (eqb-true from q same)
+      ∙ elim (from == q) as (λ b. (from == q) ≡ b → option_map untold (cond b (Some x1) (get all q)) ≡ (if b then row (C.Give to) R.Done events (request_of q h) else request_of q h)) [
+        | true ↦ λ same. ap (option_map (turned_by unheld false)) (sym named) ∙ ap (λ r. row (C.Give to) R.Done events (request_of r h)) (eqb-true from q same)
         | false ↦ λ _. k.requests q
       ] refl
 
   open-after : AreOpen (entry ∷ h) after
   open-after q =
       ap (option_map untold) (get-set_to mid to (Some y2) q)
-      ∙ elim (to == q) as (λ b. (to == q) ≡ b → option_map untold (cond b (Some y2) (get mid q)) ≡ cond b (option_map (handed_by (permit_held (request_of from h))) (if from == q then row (C.Give from to) R.Done events (request_of q h) else request_of q h)) (if from == q then row (C.Give from to) R.Done events (request_of q h) else request_of q h)) [
+      ∙ elim (to == q) as (λ b. (to == q) ≡ b → option_map untold (cond b (Some y2) (get mid q)) ≡ cond b (option_map (handed_by (permit_held (request_of from h))) (if from == q then row (C.Give to) R.Done events (request_of q h) else request_of q h)) (if from == q then row (C.Give to) R.Done events (request_of q h) else request_of q h)) [
         | true ↦ λ same.
             ap Some (handed-untold p y)
             ∙ ap (λ o. option_map (handed_by o) (Some (untold y))) (sym (ap permit_held named ∙ permit-named))
@@ -335,13 +336,13 @@ module _ (limits : Limits) (start m : Tracked) (s : Store) (t : Locks) (all : Fi
         | false ↦ λ _. row-after q
       ] refl
 
-  may-give : MayBe (facts_for s t x.request (taker_in (C.Give from to) h)) (C.Give from to) (Some (untold x))
+  may-give : MayBe (facts_for s t x.request (taker_in from (C.Give to) h)) (C.Give to) (Some (untold x))
   may-give = (subst IsSome (sym permit-named) refl, subst MayTake (sym taker-named) (may.0, ap (option_map untold_put) may.1))
 
-  abbrev gives : Gives t.age_timeout limits start es ds (Some (untold x)) (C.Give from to) R.Done events
+  abbrev gives : Gives t.age_timeout limits start es ds from (Some (untold x)) (C.Give to) R.Done events
   gives = record {
-    facts = facts_for s t x.request (taker_in (C.Give from to) h);
-    says = facts-agree limits start m s t all h k from (taker_in (C.Give from to) h) (Some x) giver;
+    facts = facts_for s t x.request (taker_in from (C.Give to) h);
+    says = facts-agree limits start m s t all h k from (taker_in from (C.Give to) h) (Some x) giver;
     told = R.Done;
     answers = inl (ap (option_map untold_put) plain, inl (may-give, tt, (refl, sym (given-untold p y) ∙ sym ((λ i. given_up (permit-named i) (taker-named i))))));
     copy = inl refl;
@@ -365,7 +366,7 @@ module _ (limits : Limits) (start m : Tracked) (s : Store) (t : Locks) (all : Fi
   handed-sound =
       let done = parts-move limits start m s t all h k from (Some x) (Some x1) s m events giver (gone-moves limits x x1 s m (permit_of g) refl refl refl) in
       sound-of limits start m s t' after (entry ∷ h)
-      (subst (λ a. IsLegal a limits start (entry ∷ h)) (sym second.age) (legal-with t.age_timeout limits start h (C.Give from to) R.Done events (Some (untold x)) gives k.legal refl (sym named)))
+      (subst (λ a. IsLegal a limits start (entry ∷ h)) (sym second.age) (legal-with t.age_timeout limits start h (record { request = from; act = C.Give to }) R.Done events (Some (untold x)) gives k.legal refl (sym named)))
       done.kept.tracks
       (state-same (reverse events ++ es) (λ w. readers (remove all from) w + reads_of (Some x1) w) (readers after) s same-readers done.kept.state)
       open-after
@@ -378,9 +379,9 @@ module _ (limits : Limits) (start m : Tracked) (s : Store) (t : Locks) (all : Fi
 
 -- ---- a call that hands a permit over, or is a wrong one
 
-wrong-may : (f : Facts) (from to : ℕ) (q : Option Held) → f.taker ≡ None → MayBe f (C.Give from to) q → ⊥
-wrong-may f from to None none may = absurd may
-wrong-may f from to (Some x) none may = absurd (subst MayTake none may.1)
+wrong-may : (f : Facts) (to : ℕ) (q : Option Held) → f.taker ≡ None → MayBe f (C.Give to) q → ⊥
+wrong-may f to None none may = absurd may
+wrong-may f to (Some x) none may = absurd (subst MayTake none may.1)
 
 keeps-self : (q : Option Held) → KeepsKey q q
 keeps-self None = tt
@@ -422,29 +423,24 @@ module _ (limits : Limits) (start m : Tracked) (s : Store) (t t' : Locks) (befor
 
   -- what comes of it
   abbrev Ends : Reply → List Event → Type 0
-  Ends told noted = IsSound limits start m s t' new (record { call = C.Give from to; reply = told; events = noted } ∷ h) × (t'.age_timeout ≡ t.age_timeout)
+  Ends told noted = IsSound limits start m s t' new (record { call = record { request = from; act = C.Give to }; reply = told; events = noted } ∷ h) × (t'.age_timeout ≡ t.age_timeout)
 
   -- a wrong call
-  wrong-turn : Turn limits (C.Give from to) (get all from) s m t R.WrongCall [] (get all from) s m t
-  wrong-turn = record {
-    answers = wrong-given (facts_in s t (request_in (get all from))) from to (get all from) R.WrongCall [] (λ _. wrong-may (facts_in s t (request_in (get all from))) from to (get all from) refl) (refl, refl);
-    moves = idle (get all from) (get all from) s s [] refl refl refl limits m;
-    keeps = keeps-self (get all from);
-    now = refl;
-    locks = no_locks_move from [] (held_in (get all from)) (held_in (get all from)) t t refl refl refl;
-  }
+  as-wrong : Turn limits from (C.Give to) (get all from) s m t R.WrongCall [] (get all from) s m t
+  as-wrong = wrong-turn limits from (C.Give to) (get all from) (get all from) s m t R.WrongCall []
+      (wrong-given (facts_in s t (request_in (get all from))) to (get all from) R.WrongCall [] (λ _. wrong-may (facts_in s t (request_in (get all from))) to (get all from) refl) (refl, refl)) refl refl refl
 
-  wrong-ends : (told : Reply) → IsCopy R.WrongCall told → (FindsKind (C.Give from to) (get all from) → MayBe F (C.Give from to) (get all from) → ⊥) → HandsOver from to (get all) t R.WrongCall [] (get new) t' → Ends told []
+  wrong-ends : (told : Reply) → IsCopy R.WrongCall told → (FindsKind (C.Give to) (get all from) → MayBe F (C.Give to) (get all from) → ⊥) → HandsOver from to (get all) t R.WrongCall [] (get new) t' → Ends told []
   wrong-ends told copy fails w =
       let same : new ≡ set_to all from (get all from) = same_map nat_cmp_total nat_cmp-IsAntisymmetric _ _ (λ q. w.requests q ∙ sym (set-at all from (get all from) q)) in
-      let kept = each-turn-keeps limits start m m s s t t all h (C.Give from to) R.WrongCall told [] (get all from) k few wrong-turn copy
-      (wrong-given (facts_for s t (request_in (get all from)) (taker_in (C.Give from to) h)) from to (get all from) R.WrongCall [] (λ kind may. fails kind (still (get all from) may)) (refl, refl)) (λ r giver q. refl) in (
-        subst (λ (u : Locks). IsSound limits start m s u new (record { call = C.Give from to; reply = told; events = [] } ∷ h)) (sym w.table)
-            (subst (λ (x : FinMap nat_cmp Held). IsSound limits start m s t x (record { call = C.Give from to; reply = told; events = [] } ∷ h)) (sym same) kept),
+      let kept = each-turn-keeps limits start m m s s t t all h (record { request = from; act = C.Give to }) R.WrongCall told [] (get all from) k few as-wrong copy
+      (wrong-given (facts_for s t (request_in (get all from)) (taker_in from (C.Give to) h)) to (get all from) R.WrongCall [] (λ kind may. fails kind (still (get all from) may)) (refl, refl)) (λ r giver q. refl) in (
+        subst (λ (u : Locks). IsSound limits start m s u new (record { call = record { request = from; act = C.Give to }; reply = told; events = [] } ∷ h)) (sym w.table)
+            (subst (λ (x : FinMap nat_cmp Held). IsSound limits start m s t x (record { call = record { request = from; act = C.Give to }; reply = told; events = [] } ∷ h)) (sym same) kept),
         ap (λ (u : Locks). u.age_timeout) w.table,
       )
     where
-      still : (q : Option Held) → MayBe (facts_for s t (request_in (get all from)) (taker_in (C.Give from to) h)) (C.Give from to) q → MayBe F (C.Give from to) q
+      still : (q : Option Held) → MayBe (facts_for s t (request_in (get all from)) (taker_in from (C.Give to) h)) (C.Give to) q → MayBe F (C.Give to) q
       still None may = absurd may
       still (Some x) may = (may.0, may-told (taker_at from to (get all)) (subst MayTake (taker-is all h from to k.requests) may.1))
 
@@ -466,9 +462,9 @@ module _ (limits : Limits) (start m : Tracked) (s : Store) (t t' : Locks) (befor
       ] refl
       ∙ sym (get-set_to mid to (Some (handed_by (Some p) y)) q)) in
       let table : t' ≡ let_go_by (gone p y) t = w.table ∙ (λ i. table_given (given i) (taker i) t) ∙ table-gone p y.request t in (
-        subst (λ (r : Reply). IsSound limits start m s t' new (record { call = C.Give from to; reply = r; events = let_go_of (gone p y) } ∷ h)) (sym (told-done told copy))
-            (subst (λ (u : Locks). IsSound limits start m s u new (record { call = C.Give from to; reply = R.Done; events = let_go_of (gone p y) } ∷ h)) (sym table)
-            (subst (λ (z : FinMap nat_cmp Held). IsSound limits start m s (let_go_by (gone p y) t) z (record { call = C.Give from to; reply = R.Done; events = let_go_of (gone p y) } ∷ h)) (sym same)
+        subst (λ (r : Reply). IsSound limits start m s t' new (record { call = record { request = from; act = C.Give to }; reply = r; events = let_go_of (gone p y) } ∷ h)) (sym (told-done told copy))
+            (subst (λ (u : Locks). IsSound limits start m s u new (record { call = record { request = from; act = C.Give to }; reply = R.Done; events = let_go_of (gone p y) } ∷ h)) (sym table)
+            (subst (λ (z : FinMap nat_cmp Held). IsSound limits start m s (let_go_by (gone p y) t) z (record { call = record { request = from; act = C.Give to }; reply = R.Done; events = let_go_of (gone p y) } ∷ h)) (sym same)
             (handed-sound limits start m s t all h from to k x y p giver plain holds taker may))),
         ap (λ (u : Locks). u.age_timeout) table ∙ handed-age limits start m s t all h from to k x y p giver plain holds taker may,
       )
@@ -482,17 +478,17 @@ module _ (limits : Limits) (start m : Tracked) (s : Store) (t t' : Locks) (befor
   by-permit told copy is x None giver plain permit some may noted = absurd (both_ways false refl some)
   by-permit told copy is x (Some p) giver plain permit some may noted = by-taker told copy is x p (taker_at from to (get all)) giver plain permit refl may noted
 
-  by-wrong : (told : Reply) → IsCopy reply told → (q : Option Held) → get all from ≡ q → (FindsKind (C.Give from to) q → MayBe F (C.Give from to) q → ⊥) → IsIdle R.WrongCall reply events → Ends told events
+  by-wrong : (told : Reply) → IsCopy reply told → (q : Option Held) → get all from ≡ q → (FindsKind (C.Give to) q → MayBe F (C.Give to) q → ⊥) → IsIdle R.WrongCall reply events → Ends told events
   by-wrong told copy q giver fails idle =
-      subst (Ends told) (sym idle.1) (wrong-ends told (subst (λ r. IsCopy r told) idle.0 copy) (subst (λ o. FindsKind (C.Give from to) o → MayBe F (C.Give from to) o → ⊥) (sym giver) fails) (as-told R.WrongCall [] idle.0 idle.1))
+      subst (Ends told) (sym idle.1) (wrong-ends told (subst (λ r. IsCopy r told) idle.0 copy) (subst (λ o. FindsKind (C.Give to) o → MayBe F (C.Give to) o → ⊥) (sym giver) fails) (as-told R.WrongCall [] idle.0 idle.1))
 
-  by-giver : (told : Reply) → IsCopy reply told → (q : Option Held) → get all from ≡ q → Replies F (C.Give from to) q reply events → Ends told events
+  by-giver : (told : Reply) → IsCopy reply told → (q : Option Held) → get all from ≡ q → Replies F (C.Give to) q reply events → Ends told events
   by-giver told copy None giver (inl (kind, inl (may, other, does))) = absurd may
   by-giver told copy (Some x) giver (inl (kind, inl (may, other, does))) = by-permit told (subst (λ r. IsCopy r told) does.0 copy) does.0 x (permit_in x.request.held) giver kind refl may.0 may.1 does.1
   by-giver told copy q giver (inl (kind, inr (fails, idle))) = by-wrong told copy q giver (λ _ may. fails may) idle
   by-giver told copy q giver (inr (other, idle)) = by-wrong told copy q giver (λ kind _. other kind) idle
 
-  pub give_sound : (told : Reply) → IsCopy reply told → IsSound limits start m s t' new (record { call = C.Give from to; reply = told; events = events } ∷ h)
+  pub give_sound : (told : Reply) → IsCopy reply told → IsSound limits start m s t' new (record { call = record { request = from; act = C.Give to }; reply = told; events = events } ∷ h)
   give_sound told copy = (by-giver told copy (get all from) refl (hands-by-map.answers s)).0
 
   pub give_age : t'.age_timeout ≡ t.age_timeout

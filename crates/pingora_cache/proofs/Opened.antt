@@ -19,12 +19,12 @@ get-set_to all r None q = get-unset all r q
 get-set_to all r (Some x) q = get-set all r x q
 
 -- only the request that the call names moves, by its row, if nothing is handed over
-pub open-after : (h : List Entry) (all : FinMap nat_cmp Held) (e : Entry) (now : Option Held) → ((r : ℕ) (giver q : Option Held) → taken_over e.call (outcome e.reply) r giver q ≡ q) → AreOpen h all → option_map untold now ≡ row e.call e.reply e.events (request_of (number_of e.call) h) → AreOpen (e ∷ h) (set_to all (number_of e.call) now)
+pub open-after : (h : List Entry) (all : FinMap nat_cmp Held) (e : Entry) (now : Option Held) → ((r : ℕ) (giver q : Option Held) → taken_over e.call.act (outcome e.reply) r giver q ≡ q) → AreOpen h all → option_map untold now ≡ row e.call.act e.reply e.events (request_of e.call.request h) → AreOpen (e ∷ h) (set_to all e.call.request now)
 open-after h all e now none are is = λ q.
-    let n = number_of e.call in
+    let n = e.call.request in
     ap (option_map untold) (get-set_to all n now q)
-    ∙ elim (n == q) as (λ b. (n == q) ≡ b → option_map untold (cond b now (get all q)) ≡ (if b then row e.call e.reply e.events (request_of q h) else request_of q h)) [
-      | true ↦ λ same. is ∙ ap (λ r. row e.call e.reply e.events (request_of r h)) (eqb-true n q same)
+    ∙ elim (n == q) as (λ b. (n == q) ≡ b → option_map untold (cond b now (get all q)) ≡ (if b then row e.call.act e.reply e.events (request_of q h) else request_of q h)) [
+      | true ↦ λ same. is ∙ ap (λ r. row e.call.act e.reply e.events (request_of r h)) (eqb-true n q same)
       | false ↦ λ _. are q
     ] refl
-    ∙ sym (none q (request_of n h) (if n == q then row e.call e.reply e.events (request_of q h) else request_of q h))
+    ∙ sym (none q (request_of n h) (if n == q then row e.call.act e.reply e.events (request_of q h) else request_of q h))

@@ -19,7 +19,7 @@ use Rattle.pcache_put_ctx.specs.declared.report.Written.{Written}
 use Rattle.pcache_request.specs.Requests.{dropped_by}
 use Rattle.pcache_store.specs.Store.{Store, is_told}
 use Rattle.std.specs.FinMap.{get}
-use Rattle.pcache_history.specs.declared.call.Call.TheVariants as C
+use Rattle.pcache_history.specs.declared.call.Act.TheVariants as C
 use Rattle.pcache_history.specs.declared.call.Reply.{Reply}
 use Rattle.pcache_history.specs.declared.call.Reply.TheVariants as R
 use Rattle.pcache_history.specs.declared.entry.Event.{Event}
@@ -149,15 +149,15 @@ begun-stage k n (IsOver kind) None b begins = refl
 begun-stage k n (IsOver kind) (Some m) b begins = none-some m begins
 
 pub goes-row : (p p' : Taking) (bytes : List ℕ) (t n j : ℕ) (began : Option Meta) (b : Option Written) (w : Option ℕ) (old events : List Event) → p'.key ≡ p.key → limit_of p'.size ≡ limit_of p.size → BeginsAtHead p.stage began → old ≡ [] → w ≡ write_in p'.stage → p'.stage ≡ stage_begun p.stage began n None → events ≡ old ++ piece_noted j w began b
-    → IsRow (C.Feed 0 bytes t) R.Done events (Some (held_put p)) (Some (held_put p'))
+    → IsRow (C.Feed bytes t) R.Done events (Some (held_put p)) (Some (held_put p'))
 goes-row p p' bytes t n j began b w old events key limit begins none has stands is =
     let noted-as : events ≡ piece_noted j (write_in (stage_begun p.stage began n None)) began b = is ∙ (λ i. none i ++ piece_noted j ((has ∙ ap write_in stands) i) began b) in
     ap Some (alike p p' (stage_noted events p.stage) key limit (stands ∙ sym (ap (λ es. stage_noted es p.stage) noted-as ∙ begun-stage j n p.stage began b begins)))
 
-pub declined-row : (p p' : Taking) (bytes : List ℕ) (t : ℕ) (reason : NoCacheReason) (events : List Event) → p'.key ≡ p.key → limit_of p'.size ≡ limit_of p.size → p'.stage ≡ HasDeclined reason → IsRow (C.Feed 0 bytes t) (R.NotCached reason) events (Some (held_put p)) (Some (held_put p'))
+pub declined-row : (p p' : Taking) (bytes : List ℕ) (t : ℕ) (reason : NoCacheReason) (events : List Event) → p'.key ≡ p.key → limit_of p'.size ≡ limit_of p.size → p'.stage ≡ HasDeclined reason → IsRow (C.Feed bytes t) (R.NotCached reason) events (Some (held_put p)) (Some (held_put p'))
 declined-row p p' bytes t reason events key limit stands = ap Some (alike p p' (HasDeclined reason) key limit stands)
 
-pub refused-row : (p p' : Taking) (bytes : List ℕ) (t : ℕ) (e kind : ErrorType) (events : List Event) → kind ≡ e → p'.key ≡ p.key → limit_of p'.size ≡ limit_of p.size → p'.stage ≡ IsOver e → IsRow (C.Feed 0 bytes t) (R.Refused kind) events (Some (held_put p)) (Some (held_put p'))
+pub refused-row : (p p' : Taking) (bytes : List ℕ) (t : ℕ) (e kind : ErrorType) (events : List Event) → kind ≡ e → p'.key ≡ p.key → limit_of p'.size ≡ limit_of p.size → p'.stage ≡ IsOver e → IsRow (C.Feed bytes t) (R.Refused kind) events (Some (held_put p)) (Some (held_put p'))
 refused-row p p' bytes t e kind events same key limit stands = ap Some (alike p p' (IsOver kind) key limit (stands ∙ ap IsOver (sym same)))
 
 -- ---- what was taken in
@@ -190,7 +190,7 @@ abbrev pub OnTaken : Says → Taking → Taking → Piece → Option Meta → Op
 OnTaken says p p' q began b = (pieces : List Piece) (f : Option Filled) → TakenBy says p.size p.parser p.stage pieces f → TakenBy says p'.size p'.parser p'.stage (pieces ++ q ∷ []) (filled_on began b f)
 
 pub goes-puts : (says : Says) (p p' : Taking) (bytes : List ℕ) (t n j : ℕ) (began : Option Meta) (b : Option Written) (w : Option ℕ) (old events : List Event) → BeginsAtHead p.stage began → ((kind : ErrorType) → p.stage ≡ IsOver kind → ⊥) → OnTaken says p p' (record { bytes = bytes; now = t }) began b → old ≡ [] → w ≡ write_in p'.stage → p'.stage ≡ stage_begun p.stage began n None
-    → events ≡ old ++ piece_noted j w began b → PutTurn says (C.Feed 0 bytes t) R.Done events (Some (held_put p)) (Some (held_put p'))
+    → events ≡ old ++ piece_noted j w began b → PutTurn says (C.Feed bytes t) R.Done events (Some (held_put p)) (Some (held_put p'))
 goes-puts says p p' bytes t n j began b w old events begins on taken none has stands is = record {
   taken = λ pieces f got.
       let noted-as : events ≡ piece_noted j (write_in (stage_begun p.stage began n None)) began b = is ∙ (λ i. none i ++ piece_noted j ((has ∙ ap write_in stands) i) began b) in
@@ -204,7 +204,7 @@ declined-as says size parser stage reason pieces f g is none t =
     subst (λ (z : Stage). TakenBy says size parser z pieces f) (sym is) (let u : TakenBy says size parser (HasDeclined reason) pieces g = subst (λ (z : Stage). TakenBy says size parser z pieces g) is t in (u.0, none))
 
 pub declined-puts : (says : Says) (p p' : Taking) (bytes : List ℕ) (t : ℕ) (began : Option Meta) (b : Option Written) (reason : NoCacheReason) (events : List Event) → ((kind : ErrorType) → p.stage ≡ IsOver kind → ⊥) → write_in p.stage ≡ None → OnTaken says p p' (record { bytes = bytes; now = t }) began b → events ≡ []
-    → p'.stage ≡ HasDeclined reason → PutTurn says (C.Feed 0 bytes t) (R.NotCached reason) events (Some (held_put p)) (Some (held_put p'))
+    → p'.stage ≡ HasDeclined reason → PutTurn says (C.Feed bytes t) (R.NotCached reason) events (Some (held_put p)) (Some (held_put p'))
 declined-puts says p p' bytes t began b reason events on unwritten taken none stands = record {
   taken = λ pieces f got.
       let nothing : f ≡ None = head-filled says p.size p.parser pieces p.stage f got on unwritten in
@@ -216,7 +216,7 @@ over-as : (says : Says) (size : Option Counted) (parser : Parsed) (stage : Stage
 over-as says size parser stage kind pieces f g is t = subst (λ (z : Stage). TakenBy says size parser z pieces f) (sym is) (subst (λ (z : Stage). TakenBy says size parser z pieces g) is t)
 
 pub refused-puts : (says : Says) (p p' : Taking) (bytes : List ℕ) (t : ℕ) (began : Option Meta) (b : Option Written) (e kind : ErrorType) (events : List Event) → OnTaken says p p' (record { bytes = bytes; now = t }) began b → p'.stage ≡ IsOver e
-    → PutTurn says (C.Feed 0 bytes t) (R.Refused kind) events (Some (held_put p)) (Some (held_put p'))
+    → PutTurn says (C.Feed bytes t) (R.Refused kind) events (Some (held_put p)) (Some (held_put p'))
 refused-puts says p p' bytes t began b e kind events taken stands = record {
   taken = λ pieces f got. over-as says p'.size p'.parser p'.stage e (pieces ++ record { bytes = bytes; now = t } ∷ []) (filled_by events f) (filled_on began b f) stands (taken pieces f got);
   closes = λ pieces f got. tt;

@@ -6,11 +6,15 @@ use Rattle.std.specs.Map.{lookup}
 use Rattle.std.specs.BTreeMap.{is_at}
 use Rattle.pcache_evict.specs.Tracked.{Tracked, Limits}
 use Rattle.pcache_lock.specs.Locks.{Locks}
+use Rattle.pcache_lock.specs.declared.lock.permit.Locked.{Locked}
 use Rattle.pcache_lock.specs.declared.lock.status.LockStatus.TheVariants.{Done}
+use Rattle.pcache_put_ctx.specs.Puts.{Says}
 use Rattle.pcache_store.specs.Store.{Store}
 use Rattle.pcache_request.specs.declared.cache.lock_use.CacheOptionOverrides.{CacheOptionOverrides}
+use Rattle.pcache_history.specs.declared.call.Act.{Act}
 use Rattle.pcache_history.specs.declared.call.Call.{Call}
-use Rattle.pcache_history.specs.declared.call.Call.TheVariants as C
+use Rattle.pcache_history.specs.declared.call.Act.TheVariants as C
+use Rattle.pcache_history.specs.declared.call.RequestAct.TheVariants as Q
 use Rattle.pcache_history.specs.declared.call.Reply.{Reply}
 use Rattle.pcache_history.specs.declared.call.Reply.TheVariants as R
 use Rattle.pcache_history.specs.declared.entry.Event.{Event}
@@ -18,26 +22,29 @@ use Rattle.pcache_history.specs.Deeds.{deeds_by, deeds_in, held_in, said_by}
 use Rattle.pcache_history.specs.Due.{IsOfWorld, KeepsKey, IsOfWorldIn}
 use Rattle.pcache_history.specs.Facts.{Facts, request_in}
 use Rattle.pingora_cache.specs.PartFacts.{facts_in, no_facts}
-use Rattle.pcache_history.specs.Held.{Held, Change, opens, closes, stays, turns, turns_by, shuts, looks, takes, begins, ends, reads_on, seeks, reads_no_more, renews, waits, pushes, feeds, goes, change_of, changed, is_done, number_of, opened, outcome, row, was_wrong}
+use Rattle.pcache_history.specs.Held.{Held, IsOfOne, change_of, is_done, opened, outcome, row, was_wrong}
 use Rattle.pingora_cache.specs.Untold.{untold}
 use Rattle.pingora_cache.specs.LockMoves.{MovesLocks}
 use Rattle.pingora_cache.specs.Moved.{Moves, MovesRequest, MovesStore}
-use Rattle.pcache_history.specs.Rules.{MayBe, Replies}
-use Rattle.pingora_cache.specs.Step.{IsMoved, IsOfOpen, IsRow, IsRowed, Turn}
+use Rattle.pcache_history.specs.Rules.{Replies}
+use Rattle.pingora_cache.specs.Handing.{Acts, of_one, open_at}
+use Rattle.pingora_cache.specs.PutsSound.{HasSome, PutTurn}
+use Rattle.pingora_cache.specs.Step.{IsMoved, IsRow, IsRowed, Turn}
+use Rattle.pcache_history.proofs.PutShape.{wrong-change}
 use Rattle.pingora_cache.proofs.LockSteps.{no_locks_move}
 use Rattle.pingora_cache.proofs.MovesOf.{idle}
 
 -- a request that is as its row has it
-pub row-kept : (call : Call) (reply : Reply) (events : List Event) (q q' : Option Held) → q' ≡ row call reply events q → IsRow call reply events q q'
-row-kept call reply events q q' is = ap (option_map untold) is
+pub row-kept : (act : Act) (reply : Reply) (events : List Event) (q q' : Option Held) → q' ≡ row act reply events q → IsRow act reply events q q'
+row-kept act reply events q q' is = ap (option_map untold) is
 
 -- a call of an open request, which is x before and y after
-pub turn-of : (limits : Limits) (call : Call) (q q' : Option Held) (x y : Held) (s s' : Store) (m m' : Tracked) (t t' : Locks) (reply : Reply) (events : List Event) → q ≡ Some x → q' ≡ Some y → Replies (facts_in s t x.request) call (Some x) reply events
-    → (IsOfWorld x.request → Moves limits (Some x) s m events (Some y) s' m') → KeepsKey (Some x) (Some y) → IsRow call reply events (Some x) (Some y)
-    → MovesLocks (number_of call) (deeds_in call (outcome reply) events (Some x)) x.request.held t y.request.held t' → IsOfWorldIn q → Turn limits call q s m t reply events q' s' m' t'
-turn-of limits call q q' x y s s' m m' t t' reply events is now answers moves keeps same locks =
-    subst (λ (p : Option Held). IsOfWorldIn p → Turn limits call p s m t reply events q' s' m' t') (sym is) (λ world.
-    subst (λ (p : Option Held). Turn limits call (Some x) s m t reply events p s' m' t') (sym now) (record {
+pub turn-of : (limits : Limits) (r : ℕ) (act : Act) (q q' : Option Held) (x y : Held) (s s' : Store) (m m' : Tracked) (t t' : Locks) (reply : Reply) (events : List Event) → q ≡ Some x → q' ≡ Some y → Replies (facts_in s t x.request) act (Some x) reply events
+    → (IsOfWorld x.request → Moves limits (Some x) s m events (Some y) s' m') → KeepsKey (Some x) (Some y) → IsRow act reply events (Some x) (Some y)
+    → MovesLocks r (deeds_in r act (outcome reply) events (Some x)) x.request.held t y.request.held t' → IsOfWorldIn q → Turn limits r act q s m t reply events q' s' m' t'
+turn-of limits r act q q' x y s s' m m' t t' reply events is now answers moves keeps same locks =
+    subst (λ (p : Option Held). IsOfWorldIn p → Turn limits r act p s m t reply events q' s' m' t') (sym is) (λ world.
+    subst (λ (p : Option Held). Turn limits r act (Some x) s m t reply events p s' m' t') (sym now) (record {
       answers = answers;
       moves = moves world;
       keeps = keeps;
@@ -48,111 +55,88 @@ turn-of limits call q q' x y s s' m m' t t' reply events is now answers moves ke
 at-self : (n : ℕ) → is_at (nat_cmp n) n ≡ true
 at-self n = grind (arith, nat_tests)
 
--- the request that a call names, if it moves by its row
-pub row-at : (call : Call) (reply : Reply) (events : List Event) (all all' : List (ℕ × Held)) → IsRowed call reply events all all' → lookup (is_at (nat_cmp (number_of call))) all' ≡ row call reply events (lookup (is_at (nat_cmp (number_of call))) all)
-row-at call reply events all all' is =
-    let n = number_of call in
-    is n ∙ ap (λ b. cond b (row call reply events (lookup (is_at (nat_cmp n)) all)) (lookup (is_at (nat_cmp n)) all)) (at-self n)
+-- what stands under the number of a call, if it moves by its row
+pub row-at : (n : ℕ) (act : Act) (reply : Reply) (events : List Event) (all all' : List (ℕ × Held)) → IsRowed n act reply events all all' → open_at n all' ≡ row act reply events (open_at n all)
+row-at n act reply events all all' is = is n ∙ ap (λ b. cond b (row act reply events (open_at n all)) (open_at n all)) (at-self n)
 
-pub moved-by-row : (call c : Call) (reply : Reply) (events : List Event) (all all' : List (ℕ × Held)) → call ≡ c → IsRowed c reply events all all' → IsMoved call all all'
-moved-by-row call c reply events all all' same is =
-    subst (λ (d : Call). IsMoved d all all') (sym same) (λ q. is q ∙ ap (λ o. cond (is_at (nat_cmp (number_of c)) q) o (lookup (is_at (nat_cmp q)) all)) (sym (row-at c reply events all all' is)))
+pub moved-by-row : (n : ℕ) (act : Act) (reply : Reply) (events : List Event) (all all' : List (ℕ × Held)) → IsRowed n act reply events all all' → IsMoved n all all'
+moved-by-row n act reply events all all' is = λ q. is q ∙ ap (λ o. cond (is_at (nat_cmp n) q) o (open_at q all)) (sym (row-at n act reply events all all' is))
 
--- the same, of the call and the events as they are named
-pub row-now : (call c : Call) (reply : Reply) (events told : List Event) (all all' : List (ℕ × Held)) → call ≡ c → events ≡ told → IsRowed c reply told all all' → lookup (is_at (nat_cmp (number_of call))) all' ≡ row c reply events (lookup (is_at (nat_cmp (number_of call))) all)
-row-now call c reply events told all all' same noted is =
-    subst (λ (d : Call). lookup (is_at (nat_cmp (number_of d))) all' ≡ row c reply events (lookup (is_at (nat_cmp (number_of d))) all)) (sym same) (row-at c reply told all all' is ∙ ap (λ es. row c reply es (lookup (is_at (nat_cmp (number_of c))) all)) (sym noted))
+-- a call that is a wrong one leaves what it names
 
--- a call of a request that is not open
+pub wrong-said : (r : ℕ) (act : Act) (held : Option Locked) → said_by r act was_wrong held ≡ []
+wrong-said r (C.Request (Q.Publish tokens)) held = refl
+wrong-said r (C.Wait t) held = refl
+wrong-said r (C.Give to) held = refl
+wrong-said r act held = refl
 
-none-may : (f : Facts) (call : Call) → IsOfOpen call → MayBe f call None → ⊥
-none-may f (C.Open n options) known may = absurd known
-none-may f (C.Put n k limit) known may = absurd known
-none-may f call known may = absurd may
+kept-key : (q : Option Held) → KeepsKey q q
+kept-key None = tt
+kept-key (Some x) = λ world. (world, λ some. refl)
 
-none-row : (change : Change) → changed change was_wrong [] None ≡ None
-none-row (opens options) = refl
-none-row closes = refl
-none-row stays = refl
-none-row (turns f leaves_pair) = refl
-none-row (turns_by f) = refl
-none-row (shuts f) = refl
-none-row (looks d) = refl
-none-row (takes s) = refl
-none-row begins = refl
-none-row ends = refl
-none-row reads_on = refl
-none-row (seeks start end) = refl
-none-row reads_no_more = refl
-none-row (renews m) = refl
-none-row (waits now) = refl
-none-row (pushes k limit) = refl
-none-row feeds = refl
-none-row goes = refl
+pub wrong-turn : (limits : Limits) (r : ℕ) (act : Act) (q q' : Option Held) (s : Store) (m : Tracked) (t : Locks) (reply : Reply) (events : List Event) → Replies (facts_in s t (request_in q)) act q R.WrongCall [] → q' ≡ q → reply ≡ R.WrongCall → events ≡ [] → Turn limits r act q s m t reply events q' s m t
+wrong-turn limits r act q q' s m t reply events replies now wrong none =
+    subst (λ (p : Option Held). Turn limits r act q s m t reply events p s m t) (sym now)
+    (subst (λ z. Turn limits r act q s m t z events q s m t) (sym wrong)
+    (subst (λ es. Turn limits r act q s m t R.WrongCall es q s m t) (sym none) (record {
+      answers = replies;
+      moves = idle q q s s [] refl refl refl limits m;
+      keeps = kept-key q;
+      now = ap (option_map untold) (sym (wrong-change (change_of act) q));
+      locks = no_locks_move r (deeds_in r act was_wrong [] q) (held_in q) (held_in q) t t (ap (λ ds. ds ++ []) (wrong-said r act (held_in q))) refl refl;
+    })))
 
-pub none-says : (call : Call) → said_by call was_wrong None ≡ []
-none-says (C.Publish r tokens) = refl
-none-says (C.Wait r t) = refl
-none-says call = refl
+-- as one call of one request or put
+pub acts-as : (limits : Limits) (says : Says) (call : Call) (act : Act) (all all' : List (ℕ × Held)) (s s' : Store) (m m' : Tracked) (t t' : Locks) (reply : Reply) (events : List Event) → call.act ≡ act → IsOfOne act
+    → (IsOfWorldIn (open_at call.request all) → HasSome says (open_at call.request all) → Turn limits call.request act (open_at call.request all) s m t reply events (open_at call.request all') s' m' t') → PutTurn says act reply events (open_at call.request all) (open_at call.request all') → IsMoved call.request all all' → Acts limits says call all s m t reply events all' s' m' t'
+acts-as limits says call act all all' s s' m m' t t' reply events is one turn puts moved =
+    of_one (subst IsOfOne (sym is) one)
+    (subst (λ (a : Act). IsOfWorldIn (open_at call.request all) → HasSome says (open_at call.request all) → Turn limits call.request a (open_at call.request all) s m t reply events (open_at call.request all') s' m' t') (sym is) turn)
+    (subst (λ (a : Act). PutTurn says a reply events (open_at call.request all) (open_at call.request all')) (sym is) puts) moved
 
-pub none-of : (limits : Limits) (call : Call) (q q' : Option Held) (s : Store) (m : Tracked) (t : Locks) (reply : Reply) (events : List Event) → IsOfOpen call → q ≡ None → q' ≡ None → reply ≡ R.WrongCall → events ≡ [] → Turn limits call q s m t reply events q' s m t
-none-of limits call q q' s m t reply events known is now wrong none =
-    subst (λ (p : Option Held). Turn limits call p s m t reply events q' s m t) (sym is)
-    (subst (λ (p : Option Held). Turn limits call None s m t reply events p s m t) (sym now)
-    (subst (λ z. Turn limits call None s m t z events None s m t) (sym wrong)
-    (subst (λ es. Turn limits call None s m t R.WrongCall es None s m t) (sym none) (record {
-      answers = inl (tt, inr (none-may (facts_in s t (request_in None)) call known, (refl, refl)));
-      moves = idle None None s s [] refl refl refl limits m;
-      keeps = tt;
-      now = ap (option_map untold) (sym (none-row (change_of call)));
-      locks = no_locks_move (number_of call) (deeds_in call was_wrong [] None) None None t t (ap (λ ds. ds ++ []) (none-says call)) refl refl;
-    }))))
+end-answers : (f g : Facts) (q : Option Held) (reply : Reply) (events : List Event) → Replies f C.End q reply events → Replies g C.End q reply events
+end-answers f g None reply events a = a
+end-answers f g (Some x) reply events a = a
 
-end-answers : (f g : Facts) (n : ℕ) (q : Option Held) (reply : Reply) (events : List Event) → Replies f (C.End n) q reply events → Replies g (C.End n) q reply events
-end-answers f g n None reply events a = a
-end-answers f g n (Some x) reply events a = a
-
-open-answers : (f g : Facts) (n : ℕ) (options : Option CacheOptionOverrides) (q : Option Held) (reply : Reply) (events : List Event) → Replies f (C.Open n options) q reply events → Replies g (C.Open n options) q reply events
-open-answers f g n options None reply events a = a
-open-answers f g n options (Some x) reply events a = a
+open-answers : (f g : Facts) (options : Option CacheOptionOverrides) (q : Option Held) (reply : Reply) (events : List Event) → Replies f (C.Open options) q reply events → Replies g (C.Open options) q reply events
+open-answers f g options None reply events a = a
+open-answers f g options (Some x) reply events a = a
 
 -- a request that comes to be holds no lock
-open-held : (f : Facts) (n : ℕ) (options : Option CacheOptionOverrides) (q : Option Held) (reply : Reply) (events : List Event) → Replies f (C.Open n options) q reply events → held_in (row (C.Open n options) reply events q) ≡ held_in q
-open-held f n options None reply events a = elim (is_done (outcome reply)) as (λ b. held_in (cond b (Some (opened options)) None) ≡ None) [ true ↦ refl | false ↦ refl ]
-open-held f n options (Some x) reply events (inl (finds, inl a)) = absurd a.0
-open-held f n options (Some x) reply events (inl (finds, inr a)) = ap (λ z. held_in (row (C.Open n options) z events (Some x))) a.1.0
-open-held f n options (Some x) reply events (inr a) = ap (λ z. held_in (row (C.Open n options) z events (Some x))) a.1.0
+open-held : (f : Facts) (options : Option CacheOptionOverrides) (q : Option Held) (reply : Reply) (events : List Event) → Replies f (C.Open options) q reply events → held_in (row (C.Open options) reply events q) ≡ held_in q
+open-held f options None reply events a = elim (is_done (outcome reply)) as (λ b. held_in (cond b (Some (opened options)) None) ≡ None) [ true ↦ refl | false ↦ refl ]
+open-held f options (Some x) reply events (inl (finds, inl a)) = absurd a.0
+open-held f options (Some x) reply events (inl (finds, inr a)) = ap (λ z. held_in (row (C.Open options) z events (Some x))) a.1.0
+open-held f options (Some x) reply events (inr a) = ap (λ z. held_in (row (C.Open options) z events (Some x))) a.1.0
 
 -- a call that ends a request
-pub end-of : (limits : Limits) (call : Call) (n : ℕ) (all all' : List (ℕ × Held)) (s s' : Store) (m : Tracked) (t t' : Locks) (reply : Reply) (events : List Event) → call ≡ C.End n → Replies no_facts (C.End n) (lookup (is_at (nat_cmp n)) all) reply events
-    → MovesStore (lookup (is_at (nat_cmp n)) all) s events (row (C.End n) reply events (lookup (is_at (nat_cmp n)) all)) s' → KeepsKey (lookup (is_at (nat_cmp n)) all) (row (C.End n) reply events (lookup (is_at (nat_cmp n)) all))
-    → ((r : ℕ) → MovesLocks r (deeds_by r 0 Done events) (held_in (lookup (is_at (nat_cmp n)) all)) t (held_in (row (C.End n) reply events (lookup (is_at (nat_cmp n)) all))) t') → IsRowed (C.End n) reply events all all'
-    → Turn limits call (lookup (is_at (nat_cmp (number_of call))) all) s m t reply events (lookup (is_at (nat_cmp (number_of call))) all') s' m t'
-end-of limits call n all all' s s' m t t' reply events is answers moves keeps locks rowed =
-    subst (λ (c : Call). Turn limits c (lookup (is_at (nat_cmp (number_of c))) all) s m t reply events (lookup (is_at (nat_cmp (number_of c))) all') s' m t') (sym is)
-    (subst (λ (p : Option Held). Turn limits (C.End n) (lookup (is_at (nat_cmp n)) all) s m t reply events p s' m t') (sym (row-at (C.End n) reply events all all' rowed)) (record {
-      answers = end-answers no_facts (facts_in s t (request_in (lookup (is_at (nat_cmp n)) all))) n (lookup (is_at (nat_cmp n)) all) reply events answers;
+pub end-of : (limits : Limits) (n : ℕ) (all all' : List (ℕ × Held)) (s s' : Store) (m : Tracked) (t t' : Locks) (reply : Reply) (events : List Event) → Replies no_facts C.End (open_at n all) reply events
+    → MovesStore (open_at n all) s events (row C.End reply events (open_at n all)) s' → KeepsKey (open_at n all) (row C.End reply events (open_at n all))
+    → ((r : ℕ) → MovesLocks r (deeds_by r 0 Done events) (held_in (open_at n all)) t (held_in (row C.End reply events (open_at n all))) t') → IsRowed n C.End reply events all all'
+    → Turn limits n C.End (open_at n all) s m t reply events (open_at n all') s' m t'
+end-of limits n all all' s s' m t t' reply events answers moves keeps locks rowed =
+    subst (λ (p : Option Held). Turn limits n C.End (open_at n all) s m t reply events p s' m t') (sym (row-at n C.End reply events all all' rowed)) (record {
+      answers = end-answers no_facts (facts_in s t (request_in (open_at n all))) (open_at n all) reply events answers;
       moves = moves limits m;
       keeps = keeps;
       now = refl;
       locks = locks n;
-    }))
+    })
 
 -- a call that makes one
-pub open-of : (limits : Limits) (call : Call) (n : ℕ) (options : Option CacheOptionOverrides) (all all' : List (ℕ × Held)) (s : Store) (m : Tracked) (t : Locks) (reply : Reply) (events : List Event) → call ≡ C.Open n options → events ≡ [] → Replies no_facts (C.Open n options) (lookup (is_at (nat_cmp n)) all) reply []
-    → MovesRequest (lookup (is_at (nat_cmp n)) all) (row (C.Open n options) reply [] (lookup (is_at (nat_cmp n)) all)) → KeepsKey (lookup (is_at (nat_cmp n)) all) (row (C.Open n options) reply [] (lookup (is_at (nat_cmp n)) all)) → IsRowed (C.Open n options) reply [] all all'
-    → Turn limits call (lookup (is_at (nat_cmp (number_of call))) all) s m t reply events (lookup (is_at (nat_cmp (number_of call))) all') s m t
-open-of limits call n options all all' s m t reply events is none answers moves keeps rowed =
-    let q = lookup (is_at (nat_cmp n)) all in
-    subst (λ es. Turn limits call (lookup (is_at (nat_cmp (number_of call))) all) s m t reply es (lookup (is_at (nat_cmp (number_of call))) all') s m t) (sym none)
-    (subst (λ (c : Call). Turn limits c (lookup (is_at (nat_cmp (number_of c))) all) s m t reply [] (lookup (is_at (nat_cmp (number_of c))) all') s m t) (sym is)
-    (subst (λ (p : Option Held). Turn limits (C.Open n options) q s m t reply [] p s m t) (sym (row-at (C.Open n options) reply [] all all' rowed)) (record {
-      answers = open-answers no_facts (facts_in s t (request_in q)) n options q reply [] answers;
+pub open-of : (limits : Limits) (n : ℕ) (options : Option CacheOptionOverrides) (all all' : List (ℕ × Held)) (s : Store) (m : Tracked) (t : Locks) (reply : Reply) (events : List Event) → events ≡ [] → Replies no_facts (C.Open options) (open_at n all) reply []
+    → MovesRequest (open_at n all) (row (C.Open options) reply [] (open_at n all)) → KeepsKey (open_at n all) (row (C.Open options) reply [] (open_at n all)) → IsRowed n (C.Open options) reply [] all all'
+    → Turn limits n (C.Open options) (open_at n all) s m t reply events (open_at n all') s m t
+open-of limits n options all all' s m t reply events none answers moves keeps rowed =
+    let q = open_at n all in
+    subst (λ es. Turn limits n (C.Open options) q s m t reply es (open_at n all') s m t) (sym none)
+    (subst (λ (p : Option Held). Turn limits n (C.Open options) q s m t reply [] p s m t) (sym (row-at n (C.Open options) reply [] all all' rowed)) (record {
+      answers = open-answers no_facts (facts_in s t (request_in q)) options q reply [] answers;
       moves = moves s limits m;
       keeps = keeps;
       now = refl;
-      locks = no_locks_move n [] (held_in q) (held_in (row (C.Open n options) reply [] q)) t t refl (open-held no_facts n options q reply [] answers) refl;
-    })))
+      locks = no_locks_move n [] (held_in q) (held_in (row (C.Open options) reply [] q)) t t refl (open-held no_facts options q reply [] answers) refl;
+    }))
 
 -- a call that notes nothing
 pub moves_quietly : (limits : Limits) (q q' : Option Held) (s s' : Store) (m : Tracked) (events : List Event) → events ≡ [] → MovesStore q s [] q' s' → Moves limits q s m events q' s' m

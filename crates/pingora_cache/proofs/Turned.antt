@@ -41,10 +41,9 @@ at-number r q = grind (arith, nat_tests)
 pub set-at : (all : FinMap nat_cmp Held) (r : ℕ) (o : Option Held) (q : ℕ) → get (set_to all r o) q ≡ cond (is_at (nat_cmp r) q) o (get all q)
 set-at all r o q = get-set_to all r o q ∙ ap (λ b. cond b o (get all q)) (at-number r q)
 
--- if only the request that a call names moves, the entries are the requests with what it is then
-pub entries-after : (before after : List (ℕ × Held)) (call : Call) → IsMoved call before after → from_entries {R = nat_cmp} after ≡ set_to (from_entries {R = nat_cmp} before) (number_of call) (lookup (is_at (nat_cmp (number_of call))) after)
-entries-after before after call is =
-    let n = number_of call in
+-- if only what stands under one number moves, the entries are the requests with what that is then
+pub entries-after : (before after : List (ℕ × Held)) (n : ℕ) → IsMoved n before after → from_entries {R = nat_cmp} after ≡ set_to (from_entries {R = nat_cmp} before) n (lookup (is_at (nat_cmp n)) after)
+entries-after before after n is =
     let now = lookup (is_at (nat_cmp n)) after in
     same_map nat_cmp_total nat_cmp-IsAntisymmetric _ _ (λ q.
     sym (lookup-get after q) ∙ is q ∙ (λ i. cond (is_at (nat_cmp n) q) now (lookup-get before q i)) ∙ sym (set-at (from_entries {R = nat_cmp} before) n now q))
@@ -56,12 +55,12 @@ of-world (Some x) h = world-told x.request h
 
 -- what a call of a sound world is, by the requests as a map
 module _ (limits : Limits) (start m m' : Tracked) (s s' : Store) (t t' : Locks) (before after : List (ℕ × Held)) (h : List Entry) (call : Call) (reply : Reply) (events : List Event) (k : IsSound limits start m s t (from_entries {R = nat_cmp} before) h) (small : length before < 2 ^ 64)
-    (one : IsOfOne call) (turn : IsOfWorldIn (lookup (is_at (nat_cmp (number_of call))) before) → Turn limits call (lookup (is_at (nat_cmp (number_of call))) before) s m t reply events (lookup (is_at (nat_cmp (number_of call))) after) s' m' t') where
+    (one : IsOfOne call.act) (turn : IsOfWorldIn (lookup (is_at (nat_cmp call.request)) before) → Turn limits call.request call.act (lookup (is_at (nat_cmp call.request)) before) s m t reply events (lookup (is_at (nat_cmp call.request)) after) s' m' t') where
   abbrev all : FinMap nat_cmp Held
   all = from_entries {R = nat_cmp} before
 
   abbrev n : ℕ
-  n = number_of call
+  n = call.request
 
   abbrev q' : Option Held
   q' = lookup (is_at (nat_cmp n)) after
@@ -69,15 +68,15 @@ module _ (limits : Limits) (start m m' : Tracked) (s s' : Store) (t t' : Locks) 
   few : (l : ℕ) → read_locks all l + 1 < 2 ^ 128
   few l = let most = locks-few before l in omega arith
 
-  pub made : Turn limits call (get all n) s m t reply events q' s' m' t'
+  pub made : Turn limits call.request call.act (get all n) s m t reply events q' s' m' t'
   made =
       let world : IsOfWorldIn (lookup (is_at (nat_cmp n)) before) = subst IsOfWorldIn (sym (lookup-get before n)) (of-world (get all n) (subst IsOfWorldIn (sym (k.requests n)) (legal_world t.age_timeout limits start h k.legal n))) in
-      subst (λ o. Turn limits call o s m t reply events q' s' m' t') (lookup-get before n) (turn world)
+      subst (λ o. Turn limits call.request call.act o s m t reply events q' s' m' t') (lookup-get before n) (turn world)
 
   -- it leaves the world sound, with an entry more in its history; its reply is told as it is copied
-  pub step_sound : (told : Reply) → IsMoved call before after → IsCopy reply told → IsSound limits start m' s' t' (from_entries {R = nat_cmp} after) (record { call = call; reply = told; events = events } ∷ h)
+  pub step_sound : (told : Reply) → IsMoved call.request before after → IsCopy reply told → IsSound limits start m' s' t' (from_entries {R = nat_cmp} after) (record { call = call; reply = told; events = events } ∷ h)
   step_sound told moved copy =
-      subst (λ (x : FinMap nat_cmp Held). IsSound limits start m' s' t' x (record { call = call; reply = told; events = events } ∷ h)) (sym (entries-after before after call moved))
+      subst (λ (x : FinMap nat_cmp Held). IsSound limits start m' s' t' x (record { call = call; reply = told; events = events } ∷ h)) (sym (entries-after before after call.request moved))
       (each-call-keeps limits start m m' s s' t t' all h call reply told events q' k few made copy one)
 
   pub step_age : t'.age_timeout ≡ t.age_timeout

@@ -32,8 +32,9 @@ use Rattle.pcache_request.specs.declared.phase.CachePhase.{CachePhase}
 use Rattle.pcache_request.specs.declared.phase.CachePhase.TheVariants as phase
 use Rattle.pcache_request.specs.declared.phase.HitStatus.{HitStatus}
 use Rattle.pcache_store.specs.Store.{Reader, Store}
-use Rattle.pcache_history.specs.declared.call.Call.{Call}
-use Rattle.pcache_history.specs.declared.call.Call.TheVariants as C
+use Rattle.pcache_history.specs.declared.call.Act.{Act}
+use Rattle.pcache_history.specs.declared.call.Act.TheVariants as C
+use Rattle.pcache_history.specs.declared.call.RequestAct.TheVariants as Q
 use Rattle.pcache_history.specs.declared.call.LockKind.{LockKind}
 use Rattle.pcache_history.specs.declared.call.Reply.{Reply}
 use Rattle.pcache_history.specs.declared.call.Reply.TheVariants as R
@@ -209,49 +210,49 @@ fed_in-untold o events x (Some p) = refl
 fed-untold : (o : Outcome) (events : List Event) (x : Held) → untold (fed o events x) ≡ fed o events (untold x)
 fed-untold o events x = either-held (is_wrong o) _ _ _ _ refl (fed_in-untold o events x x.put)
 
-pub row_by-untold : (call : Call) (o : Outcome) (events : List Event) (q : Option Held) → option_map untold (row_by call o events q) ≡ row_by call o events (option_map untold q)
-row_by-untold (C.Open r options) o events q = either (is_done o) (Some (opened options)) q _ _ refl refl
-row_by-untold (C.Enable r options) o events q = where-done o _ (λ x. refl) q
-row_by-untold (C.Disable r why) o events q = where-done o _ (shut-untold why) q
-row_by-untold (C.Key r k) o events q = where-done o _ (λ x. refl) q
-row_by-untold (C.Look r t d) o events q = where-right o _ (λ x. looked-untold events (carrying d x)) q
-row_by-untold (C.Vary r v) o events q = where-done o _ (λ x. turned-untold (looks_for v x.pair) false x (looks_for-untold v x.pair x.request)) q
-row_by-untold (C.Found r s t) o events q =
+pub row_by-untold : (act : Act) (o : Outcome) (events : List Event) (q : Option Held) → option_map untold (row_by act o events q) ≡ row_by act o events (option_map untold q)
+row_by-untold (C.Open options) o events q = either (is_done o) (Some (opened options)) q _ _ refl refl
+row_by-untold (C.Request (Q.Enable options)) o events q = where-done o _ (λ x. refl) q
+row_by-untold (C.Request (Q.Disable why)) o events q = where-done o _ (shut-untold why) q
+row_by-untold (C.Request (Q.Key k)) o events q = where-done o _ (λ x. refl) q
+row_by-untold (C.Request (Q.Look t d)) o events q = where-right o _ (λ x. looked-untold events (carrying d x)) q
+row_by-untold (C.Request (Q.Vary v)) o events q = where-done o _ (λ x. turned-untold (looks_for v x.pair) false x (looks_for-untold v x.pair x.request)) q
+row_by-untold (C.Request (Q.Found s t)) o events q =
     either (is_taken o) _ _ _ _ (over (taken_by s events) (λ x. with-request x None _ _ (placed-untold s events x.request x.pair)) q)
     (where-right o without_pair (λ x. refl) q)
-row_by-untold (C.Bypass r) o events q = where-done o _ (λ x. refl) q
-row_by-untold (C.Miss r) o events q = where-done o _ (λ x. refl) q
-row_by-untold (C.Meta r m) o events q = where-done o _ (λ x. refl) q
-row_by-untold (C.Begin r) o events q = on (began (is_done o) events) (began-untold (is_done o) events) q
-row_by-untold (C.Write r bs eof) o events q = refl
-row_by-untold (C.Finish r) o events q = on (ended events) (ended-untold events) q
-row_by-untold (C.Read r) o events q = on (has_read events) (read-untold events) q
-row_by-untold (C.Seek r start end) o events q = where-done o _ (λ x. refl) q
-row_by-untold (C.Done r) o events q = where-right o _ (λ x. refl) q
-row_by-untold (C.Purge r) o events q = refl
-row_by-untold (C.Expire r t) o events q = refl
-row_by-untold (C.Lock r is_used) o events q = where-done o _ (λ x. refl) q
-row_by-untold (C.Wait r t) o events q = on (waited_by o t) (waited_by-untold o t) q
-row_by-untold (C.Publish r tokens) o events q = refl
-row_by-untold (C.Release r why) o events q = where-done o _ (λ x. refl) q
-row_by-untold (C.Give r to) o events q = where-done o _ (λ x. refl) q
-row_by-untold (C.Updating r) o events q = where-done o _ (λ x. refl) q
-row_by-untold (C.Uncacheable r h why) o events q = where-done o _ (λ x. refl) q
-row_by-untold (C.Variance r v) o events q = where-done o _ (λ x. turned-untold (varied v) false x (varied-untold v x.request)) q
-row_by-untold (C.Revalidate r m) o events q = where-right o _ (λ x. refl) q
-row_by-untold (C.Phase r) o events q = refl
-row_by-untold (C.End r) o events q = either (is_done o) None q _ _ refl refl
-row_by-untold (C.Put r k limit) o events q = either (is_done o) (Some (held_put (new_put k limit))) q _ _ (new-untold k limit) refl
-row_by-untold (C.Feed r bs t) o events q = over (fed o events) (fed-untold o events) q
-row_by-untold (C.Drop r) o events q = either (is_done o) None q _ _ refl refl
-row_by-untold (C.Close r) o events q = either (is_wrong o) q None _ _ refl refl
+row_by-untold (C.Request Q.Bypass) o events q = where-done o _ (λ x. refl) q
+row_by-untold (C.Request Q.Miss) o events q = where-done o _ (λ x. refl) q
+row_by-untold (C.Request (Q.Meta m)) o events q = where-done o _ (λ x. refl) q
+row_by-untold (C.Request Q.Begin) o events q = on (began (is_done o) events) (began-untold (is_done o) events) q
+row_by-untold (C.Request (Q.Write bs eof)) o events q = refl
+row_by-untold (C.Request Q.Finish) o events q = on (ended events) (ended-untold events) q
+row_by-untold (C.Request Q.Read) o events q = on (has_read events) (read-untold events) q
+row_by-untold (C.Request (Q.Seek start end)) o events q = where-done o _ (λ x. refl) q
+row_by-untold (C.Request Q.Done) o events q = where-right o _ (λ x. refl) q
+row_by-untold (C.Request Q.Purge) o events q = refl
+row_by-untold (C.Request (Q.Expire t)) o events q = refl
+row_by-untold (C.Request (Q.Lock is_used)) o events q = where-done o _ (λ x. refl) q
+row_by-untold (C.Wait t) o events q = on (waited_by o t) (waited_by-untold o t) q
+row_by-untold (C.Request (Q.Publish tokens)) o events q = refl
+row_by-untold (C.Request (Q.Release why)) o events q = where-done o _ (λ x. refl) q
+row_by-untold (C.Give to) o events q = where-done o _ (λ x. refl) q
+row_by-untold (C.Request Q.Updating) o events q = where-done o _ (λ x. refl) q
+row_by-untold (C.Request (Q.Uncacheable h why)) o events q = where-done o _ (λ x. refl) q
+row_by-untold (C.Request (Q.Variance v)) o events q = where-done o _ (λ x. turned-untold (varied v) false x (varied-untold v x.request)) q
+row_by-untold (C.Request (Q.Revalidate m)) o events q = where-right o _ (λ x. refl) q
+row_by-untold (C.Request Q.Phase) o events q = refl
+row_by-untold C.End o events q = either (is_done o) None q _ _ refl refl
+row_by-untold (C.Put k limit) o events q = either (is_done o) (Some (held_put (new_put k limit))) q _ _ (new-untold k limit) refl
+row_by-untold (C.Feed bs t) o events q = over (fed o events) (fed-untold o events) q
+row_by-untold C.Drop o events q = either (is_done o) None q _ _ refl refl
+row_by-untold C.Close o events q = either (is_wrong o) q None _ _ refl refl
 
-pub row-untold : (call : Call) (reply : Reply) (events : List Event) (q : Option Held) → option_map untold (row call reply events q) ≡ row call reply events (option_map untold q)
-row-untold call reply events q = row_by-untold call (outcome reply) events q
+pub row-untold : (act : Act) (reply : Reply) (events : List Event) (q : Option Held) → option_map untold (row act reply events q) ≡ row act reply events (option_map untold q)
+row-untold act reply events q = row_by-untold act (outcome reply) events q
 
 -- a request that a call left as its row has it
-pub row-at : (call : Call) (reply : Reply) (events : List Event) (q q' : Option Held) → IsRow call reply events q q' → option_map untold q' ≡ row call reply events (option_map untold q)
-row-at call reply events q q' now = now ∙ row-untold call reply events q
+pub row-at : (act : Act) (reply : Reply) (events : List Event) (q q' : Option Held) → IsRow act reply events q q' → option_map untold q' ≡ row act reply events (option_map untold q)
+row-at act reply events q q' now = now ∙ row-untold act reply events q
 
 -- ---- conditions and clauses
 
@@ -270,9 +271,9 @@ unlocked x = record { request = untold_request x.request; pair = x.pair; carried
 abbrev unfed : Held → Held
 unfed x = record { request = x.request; pair = x.pair; carried = x.carried; put = option_map untold_put x.put }
 
-may-put : (f : Facts) (call : Call) (x : Held) → MayBe f call (Some (unfed x)) ≡ MayBe f call (Some x)
-may-put f (C.Open r options) x = refl
-may-put f call x = refl
+may-put : (f : Facts) (act : Act) (x : Held) → MayBe f act (Some (unfed x)) ≡ MayBe f act (Some x)
+may-put f (C.Open options) x = refl
+may-put f act x = refl
 
 feeds-put : (f : Facts) (p : Option Taking) (reply : Reply) (events : List Event) → Feeds f (option_map untold_put p) reply events ≡ Feeds f p reply events
 feeds-put f None reply events = refl
@@ -282,10 +283,10 @@ closes-put : (f : Facts) (p : Option Taking) (reply : Reply) (events : List Even
 closes-put f None reply events = refl
 closes-put f (Some p) reply events = refl
 
-does-put : (f : Facts) (call : Call) (x : Held) (reply : Reply) (events : List Event) → Does f call (Some (unfed x)) reply events ≡ Does f call (Some x) reply events
-does-put f (C.Feed r bs t) x reply events = feeds-put f x.put reply events
-does-put f (C.Close r) x reply events = closes-put f x.put reply events
-does-put f call x reply events = refl
+does-put : (f : Facts) (act : Act) (x : Held) (reply : Reply) (events : List Event) → Does f act (Some (unfed x)) reply events ≡ Does f act (Some x) reply events
+does-put f (C.Feed bs t) x reply events = feeds-put f x.put reply events
+does-put f C.Close x reply events = closes-put f x.put reply events
+does-put f act x reply events = refl
 
 some-put : (p : Option Taking) → IsSome p → IsSome (option_map untold_put p)
 some-put None s = s
@@ -299,47 +300,47 @@ no-put : (p : Option Taking) → option_map untold_put p ≡ None → p ≡ None
 no-put None is = refl
 no-put (Some p) is = absurd (cc)
 
-kind-put : (call : Call) (x : Held) → IsOfKind call x → IsOfKind call (untold x)
-kind-put (C.Feed r bs t) x is = some-put x.put is
-kind-put (C.Drop r) x is = some-put x.put is
-kind-put (C.Close r) x is = some-put x.put is
-kind-put call x is = ap (option_map untold_put) is
+kind-put : (act : Act) (x : Held) → IsOfKind act x → IsOfKind act (untold x)
+kind-put (C.Feed bs t) x is = some-put x.put is
+kind-put C.Drop x is = some-put x.put is
+kind-put C.Close x is = some-put x.put is
+kind-put act x is = ap (option_map untold_put) is
 
-kind-told : (call : Call) (x : Held) → IsOfKind call (untold x) → IsOfKind call x
-kind-told (C.Feed r bs t) x is = some-told x.put is
-kind-told (C.Drop r) x is = some-told x.put is
-kind-told (C.Close r) x is = some-told x.put is
-kind-told call x is = no-put x.put is
+kind-told : (act : Act) (x : Held) → IsOfKind act (untold x) → IsOfKind act x
+kind-told (C.Feed bs t) x is = some-told x.put is
+kind-told C.Drop x is = some-told x.put is
+kind-told C.Close x is = some-told x.put is
+kind-told act x is = no-put x.put is
 
-pub finds-untold : (call : Call) (q : Option Held) → FindsKind call q → FindsKind call (option_map untold q)
-finds-untold call None is = is
-finds-untold call (Some x) is = kind-put call x is
+pub finds-untold : (act : Act) (q : Option Held) → FindsKind act q → FindsKind act (option_map untold q)
+finds-untold act None is = is
+finds-untold act (Some x) is = kind-put act x is
 
-pub finds-told : (call : Call) (q : Option Held) → FindsKind call (option_map untold q) → FindsKind call q
-finds-told call None is = is
-finds-told call (Some x) is = kind-told call x is
+pub finds-told : (act : Act) (q : Option Held) → FindsKind act (option_map untold q) → FindsKind act q
+finds-told act None is = is
+finds-told act (Some x) is = kind-told act x is
 
-may-alike : (f : Facts) (call : Call) (h : Option Locked) (x : Held) → MayBe f call (Some (open_with h x)) → MayBe f call (Some (unlocked (open_with h x)))
-may-alike f call None x m = m
-may-alike f call (Some (Write p)) x m = m
-may-alike f (C.Open r options) (Some (Read rd)) x m = m
-may-alike f (C.Lock r is_used) (Some (Read rd)) x m = absurd (none-told rd m.1)
-may-alike f call (Some (Read rd)) x m = m
+may-alike : (f : Facts) (act : Act) (h : Option Locked) (x : Held) → MayBe f act (Some (open_with h x)) → MayBe f act (Some (unlocked (open_with h x)))
+may-alike f act None x m = m
+may-alike f act (Some (Write p)) x m = m
+may-alike f (C.Open options) (Some (Read rd)) x m = m
+may-alike f (C.Request (Q.Lock is_used)) (Some (Read rd)) x m = absurd (none-told rd m.1)
+may-alike f act (Some (Read rd)) x m = m
 
-may-back : (f : Facts) (call : Call) (h : Option Locked) (x : Held) → MayBe f call (Some (unlocked (open_with h x))) → MayBe f call (Some (open_with h x))
-may-back f call None x m = m
-may-back f call (Some (Write p)) x m = m
-may-back f (C.Open r options) (Some (Read rd)) x m = m
-may-back f (C.Lock r is_used) (Some (Read rd)) x m = absurd (none-told (untold_reader rd) m.1)
-may-back f call (Some (Read rd)) x m = m
+may-back : (f : Facts) (act : Act) (h : Option Locked) (x : Held) → MayBe f act (Some (unlocked (open_with h x))) → MayBe f act (Some (open_with h x))
+may-back f act None x m = m
+may-back f act (Some (Write p)) x m = m
+may-back f (C.Open options) (Some (Read rd)) x m = m
+may-back f (C.Request (Q.Lock is_used)) (Some (Read rd)) x m = absurd (none-told (untold_reader rd) m.1)
+may-back f act (Some (Read rd)) x m = m
 
-pub may-untold : (f : Facts) (call : Call) (q : Option Held) → MayBe f call q → MayBe f call (option_map untold q)
-may-untold f call None m = m
-may-untold f call (Some x) m = subst (λ (T : Type 0). T) (sym (may-put f call (unlocked x))) (may-alike f call x.request.held x m)
+pub may-untold : (f : Facts) (act : Act) (q : Option Held) → MayBe f act q → MayBe f act (option_map untold q)
+may-untold f act None m = m
+may-untold f act (Some x) m = subst (λ (T : Type 0). T) (sym (may-put f act (unlocked x))) (may-alike f act x.request.held x m)
 
-pub may-told : (f : Facts) (call : Call) (q : Option Held) → MayBe f call (option_map untold q) → MayBe f call q
-may-told f call None m = m
-may-told f call (Some x) m = may-back f call x.request.held x (subst (λ (T : Type 0). T) (may-put f call (unlocked x)) m)
+pub may-told : (f : Facts) (act : Act) (q : Option Held) → MayBe f act (option_map untold q) → MayBe f act q
+may-told f act None m = m
+may-told f act (Some x) m = may-back f act x.request.held x (subst (λ (T : Type 0). T) (may-put f act (unlocked x)) m)
 
 -- a look-up asks alike: a read lock goes without an event
 asks-alike : (b : Bool) (k : ℕ) (rd : permits.Reader) (events : List Event) (l : Option LockKind) → AsksIf b k (Some (Read (untold_reader rd))) events l ≡ AsksIf b k (Some (Read rd)) events l
@@ -381,37 +382,37 @@ waits-alike : (f : Facts) (t n : ℕ) (w : Option Watch) (x : Request) (reply : 
 waits-alike f t n None x reply events = refl
 waits-alike f t n (Some w) x reply events = refl
 
-does-read : (f : Facts) (call : Call) (rd : permits.Reader) (x : Held) (reply : Reply) (events : List Event) → Does f call (Some (unlocked (open_with (Some (Read rd)) x))) reply events ≡ Does f call (Some (open_with (Some (Read rd)) x)) reply events
-does-read f (C.Look r t d) rd x reply events = looks-alike f rd (carrying d x) reply events
-does-read f (C.Found r s t) rd x reply events = takes-alike f s rd x.request x.pair reply events
-does-read f (C.Finish r) rd x reply events = finishes-alike f rd x.request x.request.write reply events
-does-read f (C.Wait r t) rd x reply events = waits-alike f t rd.number rd.watch x.request reply events
-does-read f call rd x reply events = refl
+does-read : (f : Facts) (act : Act) (rd : permits.Reader) (x : Held) (reply : Reply) (events : List Event) → Does f act (Some (unlocked (open_with (Some (Read rd)) x))) reply events ≡ Does f act (Some (open_with (Some (Read rd)) x)) reply events
+does-read f (C.Request (Q.Look t d)) rd x reply events = looks-alike f rd (carrying d x) reply events
+does-read f (C.Request (Q.Found s t)) rd x reply events = takes-alike f s rd x.request x.pair reply events
+does-read f (C.Request Q.Finish) rd x reply events = finishes-alike f rd x.request x.request.write reply events
+does-read f (C.Wait t) rd x reply events = waits-alike f t rd.number rd.watch x.request reply events
+does-read f act rd x reply events = refl
 
-does-alike : (f : Facts) (call : Call) (h : Option Locked) (x : Held) (reply : Reply) (events : List Event) → Does f call (Some (unlocked (open_with h x))) reply events ≡ Does f call (Some (open_with h x)) reply events
-does-alike f call None x reply events = refl
-does-alike f call (Some (Write p)) x reply events = refl
-does-alike f call (Some (Read rd)) x reply events = does-read f call rd x reply events
+does-alike : (f : Facts) (act : Act) (h : Option Locked) (x : Held) (reply : Reply) (events : List Event) → Does f act (Some (unlocked (open_with h x))) reply events ≡ Does f act (Some (open_with h x)) reply events
+does-alike f act None x reply events = refl
+does-alike f act (Some (Write p)) x reply events = refl
+does-alike f act (Some (Read rd)) x reply events = does-read f act rd x reply events
 
-pub does-untold : (f : Facts) (call : Call) (q : Option Held) (reply : Reply) (events : List Event) → Does f call (option_map untold q) reply events ≡ Does f call q reply events
-does-untold f call None reply events = refl
-does-untold f call (Some x) reply events = does-put f call (unlocked x) reply events ∙ does-alike f call x.request.held x reply events
+pub does-untold : (f : Facts) (act : Act) (q : Option Held) (reply : Reply) (events : List Event) → Does f act (option_map untold q) reply events ≡ Does f act q reply events
+does-untold f act None reply events = refl
+does-untold f act (Some x) reply events = does-put f act (unlocked x) reply events ∙ does-alike f act x.request.held x reply events
 
-pub answers-untold : (f : Facts) (call : Call) (q : Option Held) (reply : Reply) (events : List Event) → Answers f call q reply events → Answers f call (option_map untold q) reply events
-answers-untold f call q reply events (inl (may, other, does)) = inl (may-untold f call q may, other, subst (λ (T : Type 0). T) (sym (does-untold f call q reply events)) does)
-answers-untold f call q reply events (inr (may_not, is)) = inr ((λ m. may_not (may-told f call q m)), is)
+pub answers-untold : (f : Facts) (act : Act) (q : Option Held) (reply : Reply) (events : List Event) → Answers f act q reply events → Answers f act (option_map untold q) reply events
+answers-untold f act q reply events (inl (may, other, does)) = inl (may-untold f act q may, other, subst (λ (T : Type 0). T) (sym (does-untold f act q reply events)) does)
+answers-untold f act q reply events (inr (may_not, is)) = inr ((λ m. may_not (may-told f act q m)), is)
 
-pub told-answers : (f : Facts) (call : Call) (q : Option Held) (reply : Reply) (events : List Event) → Answers f call (option_map untold q) reply events → Answers f call q reply events
-told-answers f call q reply events (inl (may, other, does)) = inl (may-told f call q may, other, subst (λ (T : Type 0). T) (does-untold f call q reply events) does)
-told-answers f call q reply events (inr (may_not, is)) = inr ((λ m. may_not (may-untold f call q m)), is)
+pub told-answers : (f : Facts) (act : Act) (q : Option Held) (reply : Reply) (events : List Event) → Answers f act (option_map untold q) reply events → Answers f act q reply events
+told-answers f act q reply events (inl (may, other, does)) = inl (may-told f act q may, other, subst (λ (T : Type 0). T) (does-untold f act q reply events) does)
+told-answers f act q reply events (inr (may_not, is)) = inr ((λ m. may_not (may-untold f act q m)), is)
 
-pub replies-untold : (f : Facts) (call : Call) (q : Option Held) (reply : Reply) (events : List Event) → Replies f call q reply events → Replies f call (option_map untold q) reply events
-replies-untold f call q reply events (inl (finds, answers)) = inl (finds-untold call q finds, answers-untold f call q reply events answers)
-replies-untold f call q reply events (inr (finds_not, is)) = inr ((λ m. finds_not (finds-told call q m)), is)
+pub replies-untold : (f : Facts) (act : Act) (q : Option Held) (reply : Reply) (events : List Event) → Replies f act q reply events → Replies f act (option_map untold q) reply events
+replies-untold f act q reply events (inl (finds, answers)) = inl (finds-untold act q finds, answers-untold f act q reply events answers)
+replies-untold f act q reply events (inr (finds_not, is)) = inr ((λ m. finds_not (finds-told act q m)), is)
 
-pub told-replies : (f : Facts) (call : Call) (q : Option Held) (reply : Reply) (events : List Event) → Replies f call (option_map untold q) reply events → Replies f call q reply events
-told-replies f call q reply events (inl (finds, answers)) = inl (finds-told call q finds, told-answers f call q reply events answers)
-told-replies f call q reply events (inr (finds_not, is)) = inr ((λ m. finds_not (finds-untold call q m)), is)
+pub told-replies : (f : Facts) (act : Act) (q : Option Held) (reply : Reply) (events : List Event) → Replies f act (option_map untold q) reply events → Replies f act q reply events
+told-replies f act q reply events (inl (finds, answers)) = inl (finds-told act q finds, told-answers f act q reply events answers)
+told-replies f act q reply events (inr (finds_not, is)) = inr ((λ m. finds_not (finds-untold act q m)), is)
 
 -- ---- facts
 
@@ -462,20 +463,20 @@ reads-untold None = refl
 reads-untold (Some x) = refl
 
 -- if tokens are published or a wait goes on
-said-alike : (call : Call) (o : Outcome) (h : Option Locked) → said_by call o (option_map untold_lock h) ≡ said_by call o h
-said-alike call o None = refl
-said-alike call o (Some (Write p)) = refl
-said-alike (C.Publish r tokens) was_done (Some (Read rd)) = refl
-said-alike (C.Wait r t) (was_waited Pending) (Some (Read rd)) = refl
-said-alike (C.Give r to) was_done (Some (Read rd)) = refl
-said-alike call o (Some (Read rd)) = refl
+said-alike : (r : ℕ) (act : Act) (o : Outcome) (h : Option Locked) → said_by r act o (option_map untold_lock h) ≡ said_by r act o h
+said-alike r act o None = refl
+said-alike r act o (Some (Write p)) = refl
+said-alike r (C.Request (Q.Publish tokens)) was_done (Some (Read rd)) = refl
+said-alike r (C.Wait t) (was_waited Pending) (Some (Read rd)) = refl
+said-alike r (C.Give to) was_done (Some (Read rd)) = refl
+said-alike r act o (Some (Read rd)) = refl
 
 held-untold : (q : Option Held) → held_in (option_map untold q) ≡ option_map untold_lock (held_in q)
 held-untold None = refl
 held-untold (Some x) = refl
 
-pub deeds-untold : (call : Call) (o : Outcome) (events : List Event) (q : Option Held) → deeds_in call o events (option_map untold q) ≡ deeds_in call o events q
-deeds-untold call o events q = ap (λ said. said ++ deeds_by (number_of call) (moment_of call) (status_left call events) events) (ap (said_by call o) (held-untold q) ∙ said-alike call o (held_in q))
+pub deeds-untold : (r : ℕ) (act : Act) (o : Outcome) (events : List Event) (q : Option Held) → deeds_in r act o events (option_map untold q) ≡ deeds_in r act o events q
+deeds-untold r act o events q = ap (λ said. said ++ deeds_by r (moment_of act) (status_left act events) events) (ap (said_by r act o) (held-untold q) ∙ said-alike r act o (held_in q))
 
 -- ---- waits: what a poll leaves of the read lock is, but for what it was told, what the row of a wait has
 

@@ -20,7 +20,7 @@ use Rattle.pcache_request.specs.LockWaits.{after_wait, answer_by, finds_too_old,
 use Rattle.pcache_request.specs.Reports.{name_of}
 use Rattle.pcache_request.specs.Requests.{Request}
 use Rattle.pcache_request.specs.declared.cache.report.LockName.{LockName}
-use Rattle.pcache_history.specs.declared.call.Call.TheVariants as C
+use Rattle.pcache_history.specs.declared.call.Act.TheVariants as C
 use Rattle.pcache_history.specs.declared.call.Reply.{Reply}
 use Rattle.pcache_history.specs.declared.entry.Event.{Event}
 use Rattle.pcache_history.specs.declared.entry.Event.TheVariants as E
@@ -122,7 +122,7 @@ module _ (r now : ℕ) (t u : Locks) (rd : Reader) (x y : Request) (events : Lis
   old = too_old_for t now (Some (Read rd)) (unusable_in x.key)
 
   abbrev Moved : Poll LockWaitOutcome → Type 0
-  Moved a = MovesLocks r (deeds_in (C.Wait r now) (was_waited a) events None) (Some (Read rd)) t y.held u
+  Moved a = MovesLocks r (deeds_in r (C.Wait now) (was_waited a) events None) (Some (Read rd)) t y.held u
 
   still : answer ≡ Pending → Moved Pending
   still is =
@@ -131,7 +131,7 @@ module _ (r now : ℕ) (t u : Locks) (rd : Reader) (x y : Request) (events : Lis
       record {
         move = polls (unusable_in x.key) now;
         may = pending;
-        done = ap (λ es. deeds_in (C.Wait r now) (was_waited Pending) es None) (noted ∙ ap (λ b. if b then E.Aged rd.number ∷ [] else []) young);
+        done = ap (λ es. deeds_in r (C.Wait now) (was_waited Pending) es None) (noted ∙ ap (λ b. if b then E.Aged rd.number ∷ [] else []) young);
         held = ap (λ (z : Request). z.held) request ∙ ap (λ a. held_after a (reader_polled now (unusable_in x.key) rd (get t.cores rd.number))) is;
         table = table ∙ ap (λ a. let_go_after a rd.number (after_poll t now rd.number (get t.cores rd.number))) is ∙ same-table t now rd.number rd.watch (unusable_in x.key) (get t.cores rd.number) young;
       }
@@ -140,14 +140,14 @@ module _ (r now : ℕ) (t u : Locks) (rd : Reader) (x y : Request) (events : Lis
   over o is true aged = record {
     move = ages (unusable_in x.key) now;
     may = aged;
-    done = ap (λ es. deeds_in (C.Wait r now) (was_waited (Ready o)) es None) (noted ∙ ap (λ b. if b then E.Aged rd.number ∷ [] else []) aged);
+    done = ap (λ es. deeds_in r (C.Wait now) (was_waited (Ready o)) es None) (noted ∙ ap (λ b. if b then E.Aged rd.number ∷ [] else []) aged);
     held = ap (λ (z : Request). z.held) request ∙ ap (λ a. held_after a (reader_polled now (unusable_in x.key) rd (get t.cores rd.number))) is;
     table = table ∙ ap (λ a. let_go_after a rd.number (after_poll t now rd.number (get t.cores rd.number))) is;
   }
   over o is false young = record {
     move = lets_go;
     may = tt;
-    done = ap (λ es. deeds_in (C.Wait r now) (was_waited (Ready o)) es None) (noted ∙ ap (λ b. if b then E.Aged rd.number ∷ [] else []) young);
+    done = ap (λ es. deeds_in r (C.Wait now) (was_waited (Ready o)) es None) (noted ∙ ap (λ b. if b then E.Aged rd.number ∷ [] else []) young);
     held = ap (λ (z : Request). z.held) request ∙ ap (λ a. held_after a (reader_polled now (unusable_in x.key) rd (get t.cores rd.number))) is;
     table = table ∙ ap (λ a. let_go_after a rd.number (after_poll t now rd.number (get t.cores rd.number))) is ∙ ap (λ v. reader_dropped v rd.number (get v.cores rd.number)) (same-table t now rd.number rd.watch (unusable_in x.key) (get t.cores rd.number) young);
   }
@@ -156,14 +156,14 @@ module _ (r now : ℕ) (t u : Locks) (rd : Reader) (x y : Request) (events : Lis
   waits Pending is = still is
   waits (Ready o) is = over o is old refl
 
-  wait-read : (reply : Reply) → reply ≡ wait_reply answer → MovesLocks r (deeds_in (C.Wait r now) (outcome reply) events None) x.held t y.held u
+  wait-read : (reply : Reply) → reply ≡ wait_reply answer → MovesLocks r (deeds_in r (C.Wait now) (outcome reply) events None) x.held t y.held u
   wait-read reply is =
-      subst (λ h. MovesLocks r (deeds_in (C.Wait r now) (outcome reply) events None) h t y.held u) (sym held)
-      (subst (λ o. MovesLocks r (deeds_in (C.Wait r now) o events None) (Some (Read rd)) t y.held u) (sym (ap outcome is ∙ wait-outcome answer)) (waits answer refl))
+      subst (λ h. MovesLocks r (deeds_in r (C.Wait now) (outcome reply) events None) h t y.held u) (sym held)
+      (subst (λ o. MovesLocks r (deeds_in r (C.Wait now) o events None) (Some (Read rd)) t y.held u) (sym (ap outcome is ∙ wait-outcome answer)) (waits answer refl))
 
 -- of a request that holds any
 pub wait-locks : (r now : ℕ) (t u : Locks) (h : Option Locked) (x y : Request) (reply : Reply) (events : List Event) → x.held ≡ h → IsSome (read_in h) → y ≡ waited t now h x → u ≡ table_waited t now h x → events ≡ (if too_old_for t now h (unusable_in x.key) then each E.Aged (number_read h) else []) → reply ≡ wait_reply (wait_answer t now h x)
-    → MovesLocks r (deeds_in (C.Wait r now) (outcome reply) events None) x.held t y.held u
+    → MovesLocks r (deeds_in r (C.Wait now) (outcome reply) events None) x.held t y.held u
 wait-locks r now t u None x y reply events held some request table noted is = absurd (cc)
 wait-locks r now t u (Some (Write p)) x y reply events held some request table noted is = absurd (cc)
 wait-locks r now t u (Some (Read rd)) x y reply events held some request table noted is = wait-read r now t u rd x y events held request table noted reply is

@@ -30,8 +30,9 @@ use Rattle.pcache_request.specs.LockUse.{published_by}
 use Rattle.pcache_request.specs.LockWaits.{is_old_answer, too_old_for}
 use Rattle.pcache_request.specs.Releasing.{status_for}
 use Rattle.pcache_request.specs.Requests.{let_go_by, settled}
-use Rattle.pcache_history.specs.declared.call.Call.{Call}
-use Rattle.pcache_history.specs.declared.call.Call.TheVariants as C
+use Rattle.pcache_history.specs.declared.call.Act.{Act}
+use Rattle.pcache_history.specs.declared.call.Act.TheVariants as C
+use Rattle.pcache_history.specs.declared.call.RequestAct.TheVariants as Q
 use Rattle.pcache_history.specs.declared.entry.Entry.{Entry}
 use Rattle.pcache_history.specs.declared.entry.Event.{Event}
 use Rattle.pcache_history.specs.declared.entry.Event.TheVariants as E
@@ -48,23 +49,23 @@ use Rattle.pcache_history.proofs.Runs.{turned}
 
 -- ---- calls that lead to a table
 
-leads-more : (calls : List table.Call) (call : table.Call) (s m t : Locks) → LeadsAll calls s m → Leads call m t → LeadsAll (calls ++ call ∷ []) s t
-leads-more [] call s m t h last = (t, (subst (λ x. Leads call x t) h last, refl))
-leads-more (c ∷ calls) call s m t (x, h) last = (x, (h.0, leads-more calls call x m t h.1 last))
+leads-more : (calls : List table.Call) (act : table.Call) (s m t : Locks) → LeadsAll calls s m → Leads act m t → LeadsAll (calls ++ act ∷ []) s t
+leads-more [] act s m t h last = (t, (subst (λ x. Leads act x t) h last, refl))
+leads-more (c ∷ calls) act s m t (x, h) last = (x, (h.0, leads-more calls act x m t h.1 last))
 
-none-more : (calls : List table.Call) (call : table.Call) → list_any is_unlock calls ≡ false → is_unlock call ≡ false → list_any is_unlock (calls ++ call ∷ []) ≡ false
-none-more [] call none one = elim (is_unlock call) as (λ b. b ≡ false → b || false ≡ false) [ true ↦ λ e. e | false ↦ λ e. refl ] one
-none-more (c ∷ calls) call none one = elim (is_unlock c) as (λ b. b || list_any is_unlock calls ≡ false → b || list_any is_unlock (calls ++ call ∷ []) ≡ false) [
+none-more : (calls : List table.Call) (act : table.Call) → list_any is_unlock calls ≡ false → is_unlock act ≡ false → list_any is_unlock (calls ++ act ∷ []) ≡ false
+none-more [] act none one = elim (is_unlock act) as (λ b. b ≡ false → b || false ≡ false) [ true ↦ λ e. e | false ↦ λ e. refl ] one
+none-more (c ∷ calls) act none one = elim (is_unlock c) as (λ b. b || list_any is_unlock calls ≡ false → b || list_any is_unlock (calls ++ act ∷ []) ≡ false) [
   | true ↦ λ e. absurd (cc)
-  | false ↦ λ e. none-more calls call e one
+  | false ↦ λ e. none-more calls act e one
 ] none
 
-reached-more : (t u : Locks) (call : table.Call) → IsReached t → Leads call t u → is_unlock call ≡ false → IsReached u
-reached-more t u call k last locks = record {
+reached-more : (t u : Locks) (act : table.Call) → IsReached t → Leads act t u → is_unlock act ≡ false → IsReached u
+reached-more t u act k last locks = record {
   age_timeout = k.age_timeout;
-  calls = k.calls ++ call ∷ [];
-  led = leads-more k.calls call (no_locks k.age_timeout) t u k.led last;
-  unlocks = none-more k.calls call k.unlocks locks;
+  calls = k.calls ++ act ∷ [];
+  led = leads-more k.calls act (no_locks k.age_timeout) t u k.led last;
+  unlocks = none-more k.calls act k.unlocks locks;
 }
 
 reached-none : (age : ℕ) → IsReached (no_locks age)
@@ -354,33 +355,32 @@ all-given r at s (e ∷ events) w g =
     (one-given r at s e w k.0, all-given r at s events (then_waiting e w) (subst (λ x. AreGiven x (spoken (deeds_by r at s events))) (one-spoken r at s e w) k.1))
 
 -- what a call says beside its events says nothing of who waits
-said-spoken : (call : Call) (o : Outcome) (h : Option Locked) → spoken (said_by call o h) ≡ []
-said-spoken (C.Publish r tokens) was_done h = spoken-published tokens h
-said-spoken (C.Wait r t) (was_waited Pending) h = refl
-said-spoken (C.Give r to) was_done h = spoken-handed to h
-said-spoken (C.Give r to) was_wrong h = refl
-said-spoken (C.Give r to) was_taken h = refl
-said-spoken (C.Give r to) was_other h = refl
-said-spoken (C.Give r to) (was_waited a) h = refl
-said-spoken (C.Publish r tokens) was_wrong h = refl
-said-spoken (C.Publish r tokens) was_taken h = refl
-said-spoken (C.Publish r tokens) was_other h = refl
-said-spoken (C.Publish r tokens) (was_waited a) h = refl
-said-spoken (C.Wait r t) was_wrong h = refl
-said-spoken (C.Wait r t) was_done h = refl
-said-spoken (C.Wait r t) was_taken h = refl
-said-spoken (C.Wait r t) was_other h = refl
-said-spoken (C.Wait r t) (was_waited (Ready a)) h = refl
-said-spoken call o h = refl
+said-spoken : (r : ℕ) (act : Act) (o : Outcome) (h : Option Locked) → spoken (said_by r act o h) ≡ []
+said-spoken r (C.Request (Q.Publish tokens)) was_done h = spoken-published tokens h
+said-spoken r (C.Wait t) (was_waited Pending) h = refl
+said-spoken r (C.Give to) was_done h = spoken-handed to h
+said-spoken r (C.Give to) was_wrong h = refl
+said-spoken r (C.Give to) was_taken h = refl
+said-spoken r (C.Give to) was_other h = refl
+said-spoken r (C.Give to) (was_waited a) h = refl
+said-spoken r (C.Request (Q.Publish tokens)) was_wrong h = refl
+said-spoken r (C.Request (Q.Publish tokens)) was_taken h = refl
+said-spoken r (C.Request (Q.Publish tokens)) was_other h = refl
+said-spoken r (C.Request (Q.Publish tokens)) (was_waited a) h = refl
+said-spoken r (C.Wait t) was_wrong h = refl
+said-spoken r (C.Wait t) was_done h = refl
+said-spoken r (C.Wait t) was_taken h = refl
+said-spoken r (C.Wait t) was_other h = refl
+said-spoken r (C.Wait t) (was_waited (Ready a)) h = refl
+said-spoken r act o h = refl
 
 -- one call moves the table as its events say
-pub call-steps : (call : Call) (o : Outcome) (events : List Event) (q : Option Held) (mine last : Option Locked) (t u : Locks) → MovesLocks (number_of call) (deeds_in call o events q) mine t last u → Steps t events u
-call-steps call o events q mine last t u k reached =
-    let r = number_of call in
-    let at = moment_of call in
-    let s = status_left call events in
-    let is : spoken (deeds_in call o events q) ≡ spoken (deeds_by r at s events) = spoken-both (said_by call o (held_in q)) (deeds_by r at s events) ∙ ap (λ es. es ++ spoken (deeds_by r at s events)) (said-spoken call o (held_in q)) in
-    let m = subst (λ es. Steps t es u) is (steps r (deeds_in call o events q) mine last t u k) reached in
+pub call-steps : (r : ℕ) (act : Act) (o : Outcome) (events : List Event) (q : Option Held) (mine last : Option Locked) (t u : Locks) → MovesLocks r (deeds_in r act o events q) mine t last u → Steps t events u
+call-steps r act o events q mine last t u k reached =
+    let at = moment_of act in
+    let s = status_left act events in
+    let is : spoken (deeds_in r act o events q) ≡ spoken (deeds_by r at s events) = spoken-both (said_by r act o (held_in q)) (deeds_by r at s events) ∙ ap (λ es. es ++ spoken (deeds_by r at s events)) (said-spoken r act o (held_in q)) in
+    let m = subst (λ es. Steps t es u) is (steps r (deeds_in r act o events q) mine last t u k) reached in
     record {
       reached = m.reached;
       given = all-given r at s events (waiting_of t) m.given;

@@ -8,8 +8,9 @@ use Rattle.pcache_evict.specs.Tracked.{Tracked, Limits}
 use Rattle.pcache_evict.specs.declared.eviction.entry_key.CacheEntryKey.{CacheEntryKey}
 use Rattle.pcache_lock.specs.Locks.{Locks, no_locks}
 use Rattle.pcache_store.specs.Store.{Store}
+use Rattle.pcache_history.specs.declared.call.Act.{Act}
 use Rattle.pcache_history.specs.declared.call.Call.{Call}
-use Rattle.pcache_history.specs.declared.call.Call.TheVariants as C
+use Rattle.pcache_history.specs.declared.call.Act.TheVariants as C
 use Rattle.pcache_history.specs.declared.call.Reply.{Reply}
 use Rattle.pcache_history.specs.declared.entry.Entry.{Entry}
 use Rattle.pcache_history.specs.declared.entry.Event.{Event}
@@ -62,32 +63,32 @@ not-both o none some = absurd (both_ways (is_some o) (ap is_some none) some)
 -- one call more, of one request or put, or of two requests, whose reply is told as it is copied
 module _ (limits : Limits) (says : Says) (start m m' : Tracked) (s s' : Store) (t t' : Locks) (before after : List (ℕ × Held)) (h : List Entry) (call : Call) (reply told : Reply) (events : List Event) (k : IsSound limits start m s t (from_entries {R = nat_cmp} before) h) (puts : PutsSound says (from_entries {R = nat_cmp} before) h)
     (small : length before < 2 ^ 64) (copy : IsCopy reply told) where
-  some : HasSome says (open_at (number_of call) before)
-  some = has-some says before h (number_of call) puts
+  some : HasSome says (open_at call.request before)
+  some = has-some says before h call.request puts
 
   acts-sound : Acts limits says call before s m t reply events after s' m' t' → IsSound limits start m' s' t' (from_entries {R = nat_cmp} after) (record { call = call; reply = told; events = events } ∷ h)
   acts-sound (of_one one turn put moved) = step_sound limits start m m' s s' t t' before after h call reply events k small one (λ w. turn w some) told moved copy
-  acts-sound (of_two from to is hands same kept) =
-      subst (λ (c : Call). IsSound limits start m' s' t' (from_entries {R = nat_cmp} after) (record { call = c; reply = told; events = events } ∷ h)) (sym is)
-      (subst (λ (x : Store). IsSound limits start m' x t' (from_entries {R = nat_cmp} after) (record { call = C.Give from to; reply = told; events = events } ∷ h)) (sym same)
-      (subst (λ (x : Tracked). IsSound limits start x s t' (from_entries {R = nat_cmp} after) (record { call = C.Give from to; reply = told; events = events } ∷ h)) (sym kept)
-      (give_sound limits start m s t t' before after h from to reply events k small hands told copy)))
+  acts-sound (of_two to is hands same kept) =
+      subst (λ (c : Act). IsSound limits start m' s' t' (from_entries {R = nat_cmp} after) (record { call = record { request = call.request; act = c }; reply = told; events = events } ∷ h)) (sym is)
+      (subst (λ (x : Store). IsSound limits start m' x t' (from_entries {R = nat_cmp} after) (record { call = record { request = call.request; act = C.Give to }; reply = told; events = events } ∷ h)) (sym same)
+      (subst (λ (x : Tracked). IsSound limits start x s t' (from_entries {R = nat_cmp} after) (record { call = record { request = call.request; act = C.Give to }; reply = told; events = events } ∷ h)) (sym kept)
+      (give_sound limits start m s t t' before after h call.request to reply events k small hands told copy)))
 
   acts-puts : Acts limits says call before s m t reply events after s' m' t' → PutsSound says (from_entries {R = nat_cmp} after) (record { call = call; reply = told; events = events } ∷ h)
   acts-puts (of_one one turn put moved) =
-      let n = number_of call in
+      let n = call.request in
       let all : FinMap nat_cmp Held = from_entries {R = nat_cmp} before in
       let q' = open_at n after in
       let now = (made limits start m m' s s' t t' before after h call reply events k small one (λ w. turn w some)).now in
-      subst (λ (x : FinMap nat_cmp Held). PutsSound says x (record { call = call; reply = told; events = events } ∷ h)) (sym (entries-after before after call moved))
-      (puts-after says all h call reply told events q' puts k.requests (subst (λ p. PutTurn says call reply events p q') (lookup-get before n) put) now copy)
-  acts-puts (of_two from to is hands same kept) =
-      subst (λ (c : Call). PutsSound says (from_entries {R = nat_cmp} after) (record { call = c; reply = told; events = events } ∷ h)) (sym is)
-      (puts-given says (from_entries {R = nat_cmp} before) (from_entries {R = nat_cmp} after) h from to reply told events puts k.requests (hands-by-map limits start m s t t' before after h from to reply events k small hands).requests)
+      subst (λ (x : FinMap nat_cmp Held). PutsSound says x (record { call = call; reply = told; events = events } ∷ h)) (sym (entries-after before after call.request moved))
+      (puts-after says all h n call.act reply told events q' puts k.requests (subst (λ p. PutTurn says call.act reply events p q') (lookup-get before n) put) now copy)
+  acts-puts (of_two to is hands same kept) =
+      subst (λ (c : Act). PutsSound says (from_entries {R = nat_cmp} after) (record { call = record { request = call.request; act = c }; reply = told; events = events } ∷ h)) (sym is)
+      (puts-given says (from_entries {R = nat_cmp} before) (from_entries {R = nat_cmp} after) h call.request to reply told events puts k.requests (hands-by-map limits start m s t t' before after h call.request to reply events k small hands).requests)
 
   acts-age : Acts limits says call before s m t reply events after s' m' t' → t'.age_timeout ≡ t.age_timeout
   acts-age (of_one one turn put moved) = step_age limits start m m' s s' t t' before after h call reply events k small one (λ w. turn w some)
-  acts-age (of_two from to is hands same kept) = give_age limits start m s t t' before after h from to reply events k small hands
+  acts-age (of_two to is hands same kept) = give_age limits start m s t t' before after h call.request to reply events k small hands
 
 pub sound-step : (limits limits' : Limits) (says : Says) (start start' m m' : Tracked) (s s' : Store) (t t' : Locks) (before after : List (ℕ × Held)) (h h' : List Entry) (call : Call) (reply told : Reply) (events : List Event)
     → IsSound limits start m s t (from_entries {R = nat_cmp} before) (reverse h) → PutsSound says (from_entries {R = nat_cmp} before) (reverse h) → length before < 2 ^ 64

@@ -10,12 +10,12 @@ use Rattle.pcache_lock.specs.Permits.{Permit}
 use Rattle.pcache_request.specs.LockUse.{table_handed, unheld}
 use Rattle.pcache_store.specs.Store.{Store}
 use Rattle.pcache_history.specs.declared.call.Call.{Call}
-use Rattle.pcache_history.specs.declared.call.Call.TheVariants as C
+use Rattle.pcache_history.specs.declared.call.Act.TheVariants as C
 use Rattle.pcache_history.specs.declared.call.Reply.{Reply}
 use Rattle.pcache_history.specs.declared.entry.Event.{Event}
 use Rattle.pcache_history.specs.Facts.{request_in}
 use Rattle.pingora_cache.specs.PartFacts.{facts_for}
-use Rattle.pcache_history.specs.Held.{Held, Outcome, was_done, handed_by, number_of, on_request, outcome, permit_held, row, taken_over, IsOfOne}
+use Rattle.pcache_history.specs.Held.{Held, Outcome, was_done, handed_by, on_request, outcome, permit_held, row, taken_over, IsOfOne}
 use Rattle.pcache_put_ctx.specs.Puts.{Says}
 use Rattle.pingora_cache.specs.PutsSound.{HasSome, PutTurn}
 use Rattle.pcache_history.specs.Rules.{Replies}
@@ -54,11 +54,11 @@ table_given_by o p taker t = t
 
 -- one request hands its permit to another, or the call is a wrong one; requests by number
 pub record HandsOver (from to : ℕ) (all : ℕ → Option Held) (t : Locks) (reply : Reply) (events : List Event) (all' : ℕ → Option Held) (t' : Locks) : Type 0 where
-  pub answers : (s : Store) → Replies (facts_for s t (request_in (all from)) (taker_at from to all)) (C.Give from to) (all from) reply events
-  pub requests : (q : ℕ) → all' q ≡ taken_over (C.Give from to) (outcome reply) q (all from) (cond (is_at (nat_cmp from) q) (row (C.Give from to) reply events (all from)) (all q))
+  pub answers : (s : Store) → Replies (facts_for s t (request_in (all from)) (taker_at from to all)) (C.Give to) (all from) reply events
+  pub requests : (q : ℕ) → all' q ≡ taken_over (C.Give to) (outcome reply) q (all from) (cond (is_at (nat_cmp from) q) (row (C.Give to) reply events (all from)) (all q))
   pub table : t' ≡ table_given_by (outcome reply) (permit_held (all from)) (taker_at from to all) t
 
 -- a call that names one request or put moves that one, and one that hands a permit over moves two requests
 pub data Acts (limits : Limits) (says : Says) (call : Call) (all : List (ℕ × Held)) (s : Store) (m : Tracked) (t : Locks) (reply : Reply) (events : List Event) (all' : List (ℕ × Held)) (s' : Store) (m' : Tracked) (t' : Locks) : Type 0 where
-  of_one : IsOfOne call → (IsOfWorldIn (open_at (number_of call) all) → HasSome says (open_at (number_of call) all) → Turn limits call (open_at (number_of call) all) s m t reply events (open_at (number_of call) all') s' m' t') → PutTurn says call reply events (open_at (number_of call) all) (open_at (number_of call) all') → IsMoved call all all' → Acts limits says call all s m t reply events all' s' m' t'
-  of_two : (from to : ℕ) → call ≡ C.Give from to → HandsOver from to (λ q. open_at q all) t reply events (λ q. open_at q all') t' → s' ≡ s → m' ≡ m → Acts limits says call all s m t reply events all' s' m' t'
+  of_one : IsOfOne call.act → (IsOfWorldIn (open_at call.request all) → HasSome says (open_at call.request all) → Turn limits call.request call.act (open_at call.request all) s m t reply events (open_at call.request all') s' m' t') → PutTurn says call.act reply events (open_at call.request all) (open_at call.request all') → IsMoved call.request all all' → Acts limits says call all s m t reply events all' s' m' t'
+  of_two : (to : ℕ) → call.act ≡ C.Give to → HandsOver call.request to (λ q. open_at q all) t reply events (λ q. open_at q all') t' → s' ≡ s → m' ≡ m → Acts limits says call all s m t reply events all' s' m' t'

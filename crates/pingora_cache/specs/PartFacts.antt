@@ -59,4 +59,3 @@ facts_in s t x = facts_for s t x None
 -- to a call that asks nothing
 abbrev pub no_facts : Facts
 no_facts = facts_in (record { slots = map.empty; writes = map.empty; next = 0 }) (no_locks 0) new_request
-

@@ -4,7 +4,7 @@ use Rattle.std.specs.Ordering.{nat_cmp}
 use Rattle.std.specs.FinMap as map
 use Rattle.pcache_put_ctx.specs.Puts.{Piece, Says}
 use Rattle.pcache_put_ctx.specs.State.{Filled, TakenBy}
-use Rattle.pcache_history.specs.declared.call.Call.{Call}
+use Rattle.pcache_history.specs.declared.call.Act.{Act}
 use Rattle.pcache_history.specs.declared.call.Reply.{Reply}
 use Rattle.pcache_history.specs.declared.entry.Entry.{Entry}
 use Rattle.pcache_history.specs.declared.entry.Event.{Event}
@@ -21,9 +21,9 @@ TakenIn says None pieces f = Unit {0}
 TakenIn says (Some x) pieces f = HasTakenIn says x.put pieces f
 
 -- one call over the parts
-pub record PutTurn (says : Says) (call : Call) (reply : Reply) (events : List Event) (q q' : Option Held) : Type 0 where
-  pub taken : (pieces : List Piece) (f : Option Filled) → TakenIn says q pieces f → TakenIn says q' (pieces_on call (outcome reply) pieces) (filled_after call (outcome reply) events f)
-  pub closes : (pieces : List Piece) (f : Option Filled) → TakenIn says q pieces f → ClosesBy says call q pieces f reply
+pub record PutTurn (says : Says) (act : Act) (reply : Reply) (events : List Event) (q q' : Option Held) : Type 0 where
+  pub taken : (pieces : List Piece) (f : Option Filled) → TakenIn says q pieces f → TakenIn says q' (pieces_on act (outcome reply) pieces) (filled_after act (outcome reply) events f)
+  pub closes : (pieces : List Piece) (f : Option Filled) → TakenIn says q pieces f → ClosesBy says act q pieces f reply
 
 -- a put that has taken in some pieces
 abbrev pub HasSome : Says → Option Held → Type 0

@@ -18,8 +18,9 @@ use Rattle.pcache_request.specs.declared.cache.report.ReleasedLock.{ReleasedLock
 use Rattle.pcache_request.specs.Admissions.{with_decision}
 use Rattle.pcache_request.specs.Requests.{Request, left_by, dropped_by}
 use Rattle.pcache_store.specs.Store.{Store, Reader}
-use Rattle.pcache_history.specs.declared.call.Call.{Call}
-use Rattle.pcache_history.specs.declared.call.Call.TheVariants as C
+use Rattle.pcache_history.specs.declared.call.Act.{Act}
+use Rattle.pcache_history.specs.declared.call.Act.TheVariants as C
+use Rattle.pcache_history.specs.declared.call.RequestAct.TheVariants as Q
 use Rattle.pcache_history.specs.declared.call.LockKind.{LockKind}
 use Rattle.pcache_history.specs.declared.call.Reply.{Reply}
 use Rattle.pcache_history.specs.declared.call.Reply.TheVariants as R
@@ -30,7 +31,7 @@ use Rattle.pcache_history.specs.declared.entry.Event.TheVariants as E
 use Rattle.pcache_history.specs.Due.{IsOfWorld, KeepsKey}
 use Rattle.pcache_history.specs.Facts.{Facts, request_in}
 use Rattle.pcache_history.specs.Deeds.{deeds_in, held_in}
-use Rattle.pcache_history.specs.Held.{Held, decides, number_of, outcome, row, pair_of, pair_reader}
+use Rattle.pcache_history.specs.Held.{Held, decides, outcome, row, pair_of, pair_reader}
 use Rattle.pingora_cache.specs.LockMoves.{MovesLocks}
 use Rattle.pingora_cache.specs.Moved.{Moves}
 use Rattle.pingora_cache.specs.PartFacts.{facts_in}
@@ -80,24 +81,24 @@ abbrev pub store_ended : Held → Store → Store
 store_ended x s = left_by x.request.reader (dropped_by x.request.write (left_by (pair_reader x.pair) s))
 
 -- a request before and after a call is as the row of the call has it, but for what its read lock was told
-abbrev pub IsRow : Call → Reply → List Event → Option Held → Option Held → Type 0
-IsRow call reply events q q' = option_map untold q' ≡ option_map untold (row call reply events q)
+abbrev pub IsRow : Act → Reply → List Event → Option Held → Option Held → Type 0
+IsRow act reply events q q' = option_map untold q' ≡ option_map untold (row act reply events q)
 
--- one call over the parts: what it answers and does is what the parts give, and they move by its events
-pub record Turn (limits : Limits) (call : Call) (q : Option Held) (s : Store) (m : Tracked) (t : Locks) (reply : Reply) (events : List Event) (q' : Option Held) (s' : Store) (m' : Tracked) (t' : Locks) : Type 0 where
-  pub answers : Replies (facts_in s t (request_in q)) call q reply events
+-- one call of the request r over the parts: what it answers and does is what the parts give, and they move by its events
+pub record Turn (limits : Limits) (r : ℕ) (act : Act) (q : Option Held) (s : Store) (m : Tracked) (t : Locks) (reply : Reply) (events : List Event) (q' : Option Held) (s' : Store) (m' : Tracked) (t' : Locks) : Type 0 where
+  pub answers : Replies (facts_in s t (request_in q)) act q reply events
   pub moves : Moves limits q s m events q' s' m'
   pub keeps : KeepsKey q q'
-  pub now : IsRow call reply events q q'
-  pub locks : MovesLocks (number_of call) (deeds_in call (outcome reply) events q) (held_in q) t (held_in q') t'
+  pub now : IsRow act reply events q q'
+  pub locks : MovesLocks r (deeds_in r act (outcome reply) events q) (held_in q) t (held_in q') t'
 
--- only the request that the call names moves
-abbrev pub IsMoved : Call → List (ℕ × Held) → List (ℕ × Held) → Type 0
-IsMoved call all all' = (q : ℕ) → lookup (is_at (nat_cmp q)) all' ≡ cond (is_at (nat_cmp (number_of call)) q) (lookup (is_at (nat_cmp (number_of call))) all') (lookup (is_at (nat_cmp q)) all)
+-- only what stands under this number moves
+abbrev pub IsMoved : ℕ → List (ℕ × Held) → List (ℕ × Held) → Type 0
+IsMoved n all all' = (q : ℕ) → lookup (is_at (nat_cmp q)) all' ≡ cond (is_at (nat_cmp n) q) (lookup (is_at (nat_cmp n)) all') (lookup (is_at (nat_cmp q)) all)
 
 -- the same by its row
-abbrev pub IsRowed : Call → Reply → List Event → List (ℕ × Held) → List (ℕ × Held) → Type 0
-IsRowed call reply events all all' = (q : ℕ) → lookup (is_at (nat_cmp q)) all' ≡ cond (is_at (nat_cmp (number_of call)) q) (row call reply events (lookup (is_at (nat_cmp (number_of call))) all)) (lookup (is_at (nat_cmp q)) all)
+abbrev pub IsRowed : ℕ → Act → Reply → List Event → List (ℕ × Held) → List (ℕ × Held) → Type 0
+IsRowed n act reply events all all' = (q : ℕ) → lookup (is_at (nat_cmp q)) all' ≡ cond (is_at (nat_cmp n) q) (row act reply events (lookup (is_at (nat_cmp n)) all)) (lookup (is_at (nat_cmp q)) all)
 
 -- a look-up of the request's key that hands nothing on, and one that turns caching off
 abbrev pub MissesKey : Facts → Answer → Request → Reply → List Event → Type 0
@@ -120,31 +121,9 @@ renewal_reply (Ok there) = update_reply there
 renewal_reply (Err e) = R.Refused e
 
 -- the copies that a call needs of what it brings
-abbrev pub spare_of : Call → Option (Meta × Meta)
-spare_of (C.Revalidate r m) = Some (m, m)
+abbrev pub spare_of : Act → Option (Meta × Meta)
+spare_of (C.Request (Q.Revalidate m)) = Some (m, m)
 spare_of _ = None
-
--- a call of a request or a put that is open already, and stays so
-abbrev pub IsOfOpen : Call → Type 0
-IsOfOpen (C.Open r options) = ⊥
-IsOfOpen (C.Give r to) = ⊥
-IsOfOpen (C.End r) = ⊥
-IsOfOpen (C.Put r k limit) = ⊥
-IsOfOpen (C.Drop r) = ⊥
-IsOfOpen (C.Close r) = ⊥
-IsOfOpen _ = Unit {0}
-
--- and is one of a request, and no wait
-abbrev pub IsTurned : Call → Type 0
-IsTurned (C.Open r options) = ⊥
-IsTurned (C.Give r to) = ⊥
-IsTurned (C.End r) = ⊥
-IsTurned (C.Wait r t) = ⊥
-IsTurned (C.Put r k limit) = ⊥
-IsTurned (C.Feed r bytes t) = ⊥
-IsTurned (C.Drop r) = ⊥
-IsTurned (C.Close r) = ⊥
-IsTurned _ = Unit {0}
 
 -- a request, or a put, stands under a number
 abbrev pub IsRequestIn : Option Held → Type 0

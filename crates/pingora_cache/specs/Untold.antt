@@ -34,4 +34,3 @@ untold_put p = record { key = p.key; size = option_map uncounted p.size; parser 
 -- but for what its read lock was told, and what a put's bytes left in it
 abbrev pub untold : Held → Held
 untold x = record { request = untold_request x.request; pair = x.pair; carried = x.carried; put = option_map untold_put x.put }
-

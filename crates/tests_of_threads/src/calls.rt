@@ -13,7 +13,7 @@ use pcache_shared::{Opening, SharedWorld};
 use pingora_cache::HitStatus;
 use pingora_cache::world::World;
 use pingora_cache::world::boxed::Boxed;
-use pingora_cache::world::call::Call;
+use pingora_cache::world::call::{Act, Call, RequestAct};
 use pingora_cache::world::policy::BySelf;
 use std::alloc::Global;
 use std::time::Duration;
@@ -42,48 +42,30 @@ fn meta_of(alloc: Global) -> CacheMeta {
 
 fn key_call(alloc: Global, request: u64, name: &str) -> Result<Call> {
     let key = Boxed::new(alloc, key_of(alloc, name)?)?;
-    Ok(Call::Key { request, key })
+    Ok(RequestAct::Key { key }.of(request))
 }
 
 fn write_call(request: u64, text: &'static str, eof: bool) -> Call {
     let bytes = Bytes::from_static(text.as_bytes());
-    Call::Write {
-        request,
-        bytes,
-        eof,
-    }
+    RequestAct::Write { bytes, eof }.of(request)
 }
 
 // The call with this word of this request, and with a text that not all calls need.
 fn call_of(alloc: Global, word: &str, request: u64, text: &'static str) -> Result<Option<Call>> {
     Ok(Some(match word {
-        "open" => Call::Open {
-            request,
-            options: None,
-        },
+        "open" => Act::Open { options: None }.of(request),
         "key" => key_call(alloc, request, text)?,
-        "look" => Call::Look {
-            request,
-            now: NOW,
-            decision: None,
-        },
-        "found" => Call::Found {
-            request,
-            status: HitStatus::Fresh,
-            now: NOW,
-        },
-        "miss" => Call::Miss { request },
-        "meta" => Call::Meta {
-            request,
-            meta: Boxed::new(alloc, meta_of(alloc))?,
-        },
-        "begin" => Call::Begin { request },
+        "look" => RequestAct::Look { now: NOW, decision: None }.of(request),
+        "found" => RequestAct::Found { status: HitStatus::Fresh, now: NOW }.of(request),
+        "miss" => RequestAct::Miss.of(request),
+        "meta" => RequestAct::Meta { meta: Boxed::new(alloc, meta_of(alloc))? }.of(request),
+        "begin" => RequestAct::Begin.of(request),
         "write" => write_call(request, text, false),
         "write_last" => write_call(request, text, true),
-        "finish" => Call::Finish { request },
-        "read" => Call::Read { request },
-        "purge" => Call::Purge { request },
-        "end" => Call::End { request },
+        "finish" => RequestAct::Finish.of(request),
+        "read" => RequestAct::Read.of(request),
+        "purge" => RequestAct::Purge.of(request),
+        "end" => Act::End.of(request),
         _ => return Ok(None),
     }))
 }

@@ -14,7 +14,7 @@ use pcache_meta::meta::CacheMeta;
 use pcache_request::phase::HitStatus;
 use pingora_cache::admission::Decision;
 use pingora_cache::world::boxed::Boxed;
-use pingora_cache::world::call::Call;
+use pingora_cache::world::call::{Act, Call, RequestAct};
 use pingora_cache::world::tokens::Tokens;
 use std::alloc::Global;
 
@@ -135,32 +135,23 @@ pub fn call_with_words(alloc: Global, words: Words, now: Moment) -> Result<Optio
 // A call that has nothing but its request and its moment.
 fn plain_call(word: &str, request: u64, now: Moment) -> Option<Call> {
     Some(match word {
-        "open" => Call::Open {
-            request,
-            options: None,
-        },
-        "enable" => Call::Enable {
-            request,
-            options: None,
-        },
-        "bypass" => Call::Bypass { request },
-        "miss" => Call::Miss { request },
-        "begin" => Call::Begin { request },
-        "finish" => Call::Finish { request },
-        "read" => Call::Read { request },
-        "done" => Call::Done { request },
-        "purge" => Call::Purge { request },
-        "expire" => Call::Expire { request, now },
-        "wait" => Call::Wait { request, now },
-        "give" => Call::Give {
-            request,
-            to: request,
-        },
-        "updating" => Call::Updating { request },
-        "phase" => Call::Phase { request },
-        "end" => Call::End { request },
-        "drop" => Call::Drop { request },
-        "close" => Call::Close { request },
+        "open" => Act::Open { options: None }.of(request),
+        "enable" => RequestAct::Enable { options: None }.of(request),
+        "bypass" => RequestAct::Bypass.of(request),
+        "miss" => RequestAct::Miss.of(request),
+        "begin" => RequestAct::Begin.of(request),
+        "finish" => RequestAct::Finish.of(request),
+        "read" => RequestAct::Read.of(request),
+        "done" => RequestAct::Done.of(request),
+        "purge" => RequestAct::Purge.of(request),
+        "expire" => RequestAct::Expire { now }.of(request),
+        "wait" => Act::Wait { now }.of(request),
+        "give" => Act::Give { to: request }.of(request),
+        "updating" => RequestAct::Updating.of(request),
+        "phase" => RequestAct::Phase.of(request),
+        "end" => Act::End.of(request),
+        "drop" => Act::Drop.of(request),
+        "close" => Act::Close.of(request),
         _ => return None,
     })
 }
@@ -169,29 +160,13 @@ fn plain_call(word: &str, request: u64, now: Moment) -> Option<Call> {
 fn set_call(alloc: Global, word: &str, request: u64) -> Option<Call> {
     let reason = NoCacheReason::InternalError;
     Some(match word {
-        "disable" => Call::Disable { request, reason },
-        "release" => Call::Release { request, reason },
-        "vary" => Call::Vary {
-            request,
-            variance: VARIANCE,
-        },
-        "variance" => Call::Variance {
-            request,
-            variance: None,
-        },
-        "seek" => Call::Seek {
-            request,
-            start: 1,
-            end: None,
-        },
-        "lock" => Call::Lock {
-            request,
-            is_used: true,
-        },
-        "publish" => Call::Publish {
-            request,
-            tokens: Tokens::new(Vec::new(alloc)),
-        },
+        "disable" => RequestAct::Disable { reason }.of(request),
+        "release" => RequestAct::Release { reason }.of(request),
+        "vary" => RequestAct::Vary { variance: VARIANCE }.of(request),
+        "variance" => RequestAct::Variance { variance: None }.of(request),
+        "seek" => RequestAct::Seek { start: 1, end: None }.of(request),
+        "lock" => RequestAct::Lock { is_used: true }.of(request),
+        "publish" => RequestAct::Publish { tokens: Tokens::new(Vec::new(alloc)) }.of(request),
         _ => return None,
     })
 }
@@ -200,28 +175,11 @@ fn set_call(alloc: Global, word: &str, request: u64) -> Option<Call> {
 fn boxed_call(alloc: Global, words: Words) -> Result<Option<Call>> {
     let request = words.request;
     Ok(Some(match words.call {
-        "key" => Call::Key {
-            request,
-            key: Boxed::new(alloc, key_of(alloc, words)?)?,
-        },
-        "put" => Call::Put {
-            request,
-            key: Boxed::new(alloc, key(alloc, words.first, "1")?)?,
-            limit: limit_of(words.second),
-        },
-        "meta" => Call::Meta {
-            request,
-            meta: Boxed::new(alloc, meta_of(alloc, words.first))?,
-        },
-        "revalidate" => Call::Revalidate {
-            request,
-            meta: Boxed::new(alloc, meta_of(alloc, words.first))?,
-        },
-        "uncacheable" => Call::Uncacheable {
-            request,
-            header: Boxed::new(alloc, ResponseHeader::build(alloc, StatusCode::OK))?,
-            reason: NoCacheReason::InternalError,
-        },
+        "key" => RequestAct::Key { key: Boxed::new(alloc, key_of(alloc, words)?)? }.of(request),
+        "put" => Act::Put { key: Boxed::new(alloc, key(alloc, words.first, "1")?)?, limit: limit_of(words.second) }.of(request),
+        "meta" => RequestAct::Meta { meta: Boxed::new(alloc, meta_of(alloc, words.first))? }.of(request),
+        "revalidate" => RequestAct::Revalidate { meta: Boxed::new(alloc, meta_of(alloc, words.first))? }.of(request),
+        "uncacheable" => RequestAct::Uncacheable { header: Boxed::new(alloc, ResponseHeader::build(alloc, StatusCode::OK))?, reason: NoCacheReason::InternalError }.of(request),
         _ => return Ok(None),
     }))
 }
@@ -230,22 +188,10 @@ fn boxed_call(alloc: Global, words: Words) -> Result<Option<Call>> {
 fn call_with(words: Words, now: Moment) -> Option<Call> {
     let request = words.request;
     match words.call {
-        "look" => Some(Call::Look {
-            request,
-            now,
-            decision: decision_of(words.first),
-        }),
+        "look" => Some(RequestAct::Look { now, decision: decision_of(words.first) }.of(request)),
         "found" => found(request, words.first, now),
-        "write" => Some(Call::Write {
-            request,
-            bytes: Bytes::from_static(words.first.as_bytes()),
-            eof: words.second == "last",
-        }),
-        "feed" => Some(Call::Feed {
-            request,
-            bytes: Bytes::from_static(piece_of(words.first).as_bytes()),
-            now,
-        }),
+        "write" => Some(RequestAct::Write { bytes: Bytes::from_static(words.first.as_bytes()), eof: words.second == "last" }.of(request)),
+        "feed" => Some(Act::Feed { bytes: Bytes::from_static(piece_of(words.first).as_bytes()), now }.of(request)),
         _ => None,
     }
 }
@@ -306,11 +252,7 @@ fn found(request: u64, word: &str, now: Moment) -> Option<Call> {
         "force_miss" => HitStatus::ForceMiss,
         _ => return None,
     };
-    Some(Call::Found {
-        request,
-        status,
-        now,
-    })
+    Some(RequestAct::Found { status, now }.of(request))
 }
 
 // `meta R [S]`: of a response that is fresh until second 60, made at the first moment or at second `S`.

@@ -1,48 +1,21 @@
-//! A call that names two requests: one hands its permit to the other.
+//! The call that names two requests: one hands its permit to the other.
 ghost use Rattle.std.specs.Prelude.{◌≡◌, ◌≤◌, ◌⊎◌, ◌++◌, ◌+◌, [], cond, IfSome, IsSome, IsTrue, ◌↔◌, Some, None, ℕ, vec_len};
 ghost use Rattle.std.specs.Vec.{vec_capacity};
-ghost use Rattle.pingora_cache.specs.Handing.{Acts, HandsOver, IsHandedTo, IsTaken, open_at, table_given};
+ghost use Rattle.pingora_cache.specs.Handing.{HandsOver, IsHandedTo, IsTaken, open_at, table_given};
 ghost use Rattle.pcache_history.specs.Held.{permit_held, handed_by};
 ghost use Rattle.pcache_history.specs.Rules.{MayTake, each, given_up};
-ghost use Rattle.pingora_cache.specs.Step.{IsRequestIn, spare_of};
-ghost use Rattle.pcache_history.specs.Due.{IsOfWorldIn};
+ghost use Rattle.pingora_cache.specs.Step.{IsRequestIn};
 ghost use Rattle.pcache_history.specs.declared.entry.Event.TheVariants.{LetGo};
 
-use pcache_history::call::{Call, Reply};
-use pcache_history::entry::Event;
 use crate::world::open::Open;
-use crate::world::parts::Parts;
 use crate::world::policy::PutPolicy;
-use crate::world::turn::apply;
-use crate::world::vary::Spare;
-use pcache_evict::eviction::EvictionManager;
+use pcache_history::call::Reply;
+use pcache_history::entry::Event;
 use pcache_lock::lock::{CacheLock, WritePermit};
-use std::alloc::Global;
 use std::collections::BTreeMap;
 
-/// One call over the parts, of one request or put, or of two requests.
-pub(crate) fn act<M: EvictionManager, P: PutPolicy>(
-    alloc: Global,
-    requests: &mut BTreeMap<u64, Open<P>>,
-    parts: &mut Parts<M>,
-    events: &mut Vec<Event>,
-    call: &Call,
-    spare: &mut Option<Spare>,
-) -> Reply
-    requires spare { spare.old ≡ spare_of call.now }
-    requires none { events.old.items ≡ [] }
-    requires room { 3 ≤ vec_capacity events.old }
-    ensures acts { Acts (M.limits parts.old.manager) P.says call.now requests.old.entries parts.old.store (M.tracked parts.old.manager) parts.old.lock result events.new.items requests.new.entries parts.new.store (M.tracked parts.new.manager) parts.new.lock }
-    ensures limits { M.limits parts.new.manager ≡ M.limits parts.old.manager }
-{
-    match call {
-        Call::Give { request, to } => give(requests, &mut parts.lock, events, *request, *to),
-        _ => apply(alloc, requests, parts, events, call, spare),
-    }
-}
-
-// Hands the permit of one request to another.
-fn give<P: PutPolicy>(
+/// Hands the permit of one request to another.
+pub(crate) fn give<P: PutPolicy>(
     requests: &mut BTreeMap<u64, Open<P>>,
     lock: &mut CacheLock,
     events: &mut Vec<Event>,

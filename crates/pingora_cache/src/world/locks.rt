@@ -16,17 +16,18 @@ ghost use Rattle.pcache_history.specs.Rules.{Answers, IsOther, Waits, each, wait
 ghost use Rattle.pingora_cache.specs.Step.{IsRow};
 ghost use Rattle.pingora_cache.specs.Untold.{untold_request};
 ghost use Rattle.pcache_history.specs.declared.entry.Event.TheVariants.{Aged, Release};
-ghost use Rattle.pcache_history.specs.declared.call.Call.TheVariants as calls;
+ghost use Rattle.pcache_history.specs.declared.call.Act.TheVariants as acts;
+ghost use Rattle.pcache_history.specs.declared.call.RequestAct.TheVariants as asks;
 ghost use Rattle.pcache_store.specs.Store.{Reader, Store};
 
-use pcache_history::call::Reply;
-use pcache_history::entry::Event;
 use crate::world::notes::note_release;
 use crate::world::request::{OpenRequest, permit_in, permit_released};
-use pcache_history::tokens::Tokens;
 use pcache_base::moment::Moment;
 use pcache_base::poll::Poll;
 use pcache_base::reason::NoCacheReason;
+use pcache_history::call::Reply;
+use pcache_history::entry::Event;
+use pcache_history::tokens::Tokens;
 use pcache_lock::lock::{CacheLock, LockWaitOutcome, Locked};
 use pcache_meta::header::ResponseHeader;
 use pcache_request::cache::HttpCache;
@@ -34,10 +35,10 @@ use pcache_store::memory::MemCache;
 
 /// Takes the lock into use, or out of it.
 pub(crate) fn set_lock(request: &mut OpenRequest, is_used: bool) -> Reply
-    ensures answers { Answers no_facts (calls.Lock 0 is_used) (Some request.old) result [] }
+    ensures answers { Answers no_facts (acts.Request (asks.Lock is_used)) (Some request.old) result [] }
     ensures moves { MovesRequest (Some request.old) (Some request.new) }
     ensures keeps { KeepsKey (Some request.old) (Some request.new) }
-    ensures row { Some request.new ≡ row (calls.Lock 0 is_used) result [] (Some request.old) }
+    ensures row { Some request.new ≡ row (acts.Request (asks.Lock is_used)) result [] (Some request.old) }
     ensures held { request.new.request.held ≡ request.old.request.held }
 {
     if !request.cache.may_set_cache_lock() {
@@ -57,11 +58,11 @@ pub(crate) fn wait(
 ) -> Reply
     requires none { events.old.items ≡ [] }
     requires room { 3 ≤ vec_capacity events.old }
-    ensures answers { (s : Store) → Answers (facts_in s lock.old request.old.request) (calls.Wait 0 now) (Some request.old) result events.new.items }
+    ensures answers { (s : Store) → Answers (facts_in s lock.old request.old.request) (acts.Wait now) (Some request.old) result events.new.items }
     ensures moves { (s : Store) → MovesStore (Some request.old) s events.new.items (Some request.new) s }
     ensures keeps { KeepsKey (Some request.old) (Some request.new) }
-    ensures row { IsRow (calls.Wait 0 now) result events.new.items (Some request.old) (Some request.new) }
-    ensures locks { (r : ℕ) → MovesLocks r (deeds_in (calls.Wait r now) (outcome result) events.new.items (Some request.old)) request.old.request.held lock.old request.new.request.held lock.new }
+    ensures row { IsRow (acts.Wait now) result events.new.items (Some request.old) (Some request.new) }
+    ensures locks { (r : ℕ) → MovesLocks r (deeds_in r (acts.Wait now) (outcome result) events.new.items (Some request.old)) request.old.request.held lock.old request.new.request.held lock.new }
 {
     let Some(Locked::Read(_)) = request.cache.held() else {
         return Reply::WrongCall;
@@ -85,7 +86,7 @@ fn wait_on(
     ensures moves { (s : Store) (p : Option (Meta × Reader)) (d : Option Decision) → MovesStore (Some (record { request = cache.old; pair = p; carried = d; put = None })) s events.new.items (Some (record { request = cache.new; pair = p; carried = d; put = None })) s }
     ensures keeps { KeepsIn cache.old cache.new }
     ensures row { untold_request cache.new ≡ untold_request (waited_by (outcome result) now cache.old) }
-    ensures locks { (r : ℕ) → MovesLocks r (deeds_in (calls.Wait r now) (outcome result) events.new.items None) cache.old.held lock.old cache.new.held lock.new }
+    ensures locks { (r : ℕ) → MovesLocks r (deeds_in r (acts.Wait now) (outcome result) events.new.items None) cache.old.held lock.old cache.new.held lock.new }
 {
     let report = match cache.wait(lock, now) {
         Ok(report) => report,
@@ -117,9 +118,9 @@ fn reply_of(answer: Poll<LockWaitOutcome>) -> Reply
 
 /// Publishes what was found out about the fill.
 pub(crate) fn publish(request: &OpenRequest, lock: &mut CacheLock, tokens: &Tokens) -> Reply
-    ensures answers { Answers no_facts (calls.Publish 0 tokens.now) (Some request.now) result [] }
+    ensures answers { Answers no_facts (acts.Request (asks.Publish tokens.now)) (Some request.now) result [] }
     ensures moves { MovesRequest (Some request.now) (Some request.now) }
-    ensures locks { (r : ℕ) → MovesLocks r (deeds_in (calls.Publish r tokens.now) (outcome result) [] (Some request.now)) request.now.request.held lock.old request.now.request.held lock.new }
+    ensures locks { (r : ℕ) → MovesLocks r (deeds_in r (acts.Request (asks.Publish tokens.now)) (outcome result) [] (Some request.now)) request.now.request.held lock.old request.now.request.held lock.new }
 {
     match request
         .cache
@@ -140,10 +141,10 @@ pub(crate) fn release(
 ) -> Reply
     requires none { events.old.items ≡ [] }
     requires room { 3 ≤ vec_capacity events.old }
-    ensures answers { Answers no_facts (calls.Release 0 reason) (Some request.old) result events.new.items }
+    ensures answers { Answers no_facts (acts.Request (asks.Release reason)) (Some request.old) result events.new.items }
     ensures moves { (s : Store) → MovesStore (Some request.old) s events.new.items (Some request.new) s }
     ensures keeps { KeepsKey (Some request.old) (Some request.new) }
-    ensures row { Some request.new ≡ row (calls.Release 0 reason) result events.new.items (Some request.old) }
+    ensures row { Some request.new ≡ row (acts.Request (asks.Release reason)) result events.new.items (Some request.old) }
     ensures locks { (r : ℕ) → MovesLocks r (deeds_by r 0 (status_for (λ text. GiveUp) reason) events.new.items) request.old.request.held lock.old request.new.request.held lock.new }
 {
     if !request.cache.may_release(reason) {
@@ -165,10 +166,10 @@ pub(crate) fn uncacheable(
 ) -> Reply
     requires none { events.old.items ≡ [] }
     requires room { 3 ≤ vec_capacity events.old }
-    ensures answers { Answers no_facts (calls.Uncacheable 0 header.now reason) (Some request.old) result events.new.items }
+    ensures answers { Answers no_facts (acts.Request (asks.Uncacheable header.now reason)) (Some request.old) result events.new.items }
     ensures moves { (s : Store) → MovesStore (Some request.old) s events.new.items (Some request.new) s }
     ensures keeps { KeepsKey (Some request.old) (Some request.new) }
-    ensures row { Some request.new ≡ row (calls.Uncacheable 0 header.now reason) result events.new.items (Some request.old) }
+    ensures row { Some request.new ≡ row (acts.Request (asks.Uncacheable header.now reason)) result events.new.items (Some request.old) }
     ensures locks { (r : ℕ) → MovesLocks r (deeds_by r 0 (status_for (λ text. GiveUp) reason) events.new.items) request.old.request.held lock.old request.new.request.held lock.new }
 {
     if !request.cache.may_revalidate() || !request.cache.may_release(reason) {

@@ -16,10 +16,8 @@ ghost use Rattle.pcache_history.specs.Rules.{Closes, Feeds, IsOther, drop_of, pi
 ghost use Rattle.pingora_cache.specs.Step.{IsRow};
 ghost use Rattle.pcache_history.specs.Taking.{new_put, taking};
 ghost use Rattle.pcache_history.specs.Waiting.{AreOfNoLock};
-ghost use Rattle.pcache_history.specs.declared.call.Call.TheVariants as calls;
+ghost use Rattle.pcache_history.specs.declared.call.Act.TheVariants as acts;
 
-use pcache_history::call::Reply;
-use pcache_history::entry::Event;
 use crate::world::fill::{end_refused, note_stored};
 use crate::world::parts::Parts;
 use crate::world::policy::{ByType, PutPolicy};
@@ -27,6 +25,8 @@ use bytes::Bytes;
 use pcache_base::key::{CacheHashKey, CacheKey};
 use pcache_base::moment::Moment;
 use pcache_evict::eviction::{CacheEntryKey, EvictionManager};
+use pcache_history::call::Reply;
+use pcache_history::entry::Event;
 use pcache_meta::meta::CacheMeta;
 use pcache_put_ctx::boxed::Boxed;
 use pcache_put_ctx::context::CachePutCtx;
@@ -114,8 +114,8 @@ pub(crate) fn feed<P: PutPolicy>(
     ensures other { IsOther result }
     ensures moves { MovesStore (Some put.old) store.old events.new.items (Some put.new) store.new }
     ensures keeps { KeepsKey (Some put.old) (Some put.new) }
-    ensures row { IsRow (calls.Feed 0 bytes.now now) result events.new.items (Some put.old) (Some put.new) }
-    ensures puts { PutTurn P.says (calls.Feed 0 bytes.now now) result events.new.items (Some put.old) (Some put.new) }
+    ensures row { IsRow (acts.Feed bytes.now now) result events.new.items (Some put.old) (Some put.new) }
+    ensures puts { PutTurn P.says (acts.Feed bytes.now now) result events.new.items (Some put.old) (Some put.new) }
     ensures quiet { AreOfNoLock events.new.items }
 {
     feed_in(&mut put.ctx, store, events, bytes, now)
@@ -136,8 +136,8 @@ fn feed_in<P: PutPolicy>(
     ensures other { IsOther result }
     ensures moves { MovesStore (Some (held_put (taking ctx.old))) store.old events.new.items (Some (held_put (taking ctx.new))) store.new }
     ensures keeps { KeepsKey (Some (held_put (taking ctx.old))) (Some (held_put (taking ctx.new))) }
-    ensures row { IsRow (calls.Feed 0 bytes.now now) result events.new.items (Some (held_put (taking ctx.old))) (Some (held_put (taking ctx.new))) }
-    ensures puts { PutTurn P.says (calls.Feed 0 bytes.now now) result events.new.items (Some (held_put (taking ctx.old))) (Some (held_put (taking ctx.new))) }
+    ensures row { IsRow (acts.Feed bytes.now now) result events.new.items (Some (held_put (taking ctx.old))) (Some (held_put (taking ctx.new))) }
+    ensures puts { PutTurn P.says (acts.Feed bytes.now now) result events.new.items (Some (held_put (taking ctx.old))) (Some (held_put (taking ctx.new))) }
     ensures quiet { AreOfNoLock events.new.items }
 {
     let slot = ctx.key().slot();
@@ -219,7 +219,7 @@ pub(crate) fn close_put<M: EvictionManager, P: PutPolicy>(
     ensures answers { HasSome P.says (Some put) → Closes (facts_in parts.old.store parts.old.lock put.request) put.put result events.new.items }
     ensures other { IsOther result }
     ensures moves { IsOfWorld put.request → HasSome P.says (Some put) → Moves (M.limits parts.old.manager) (Some put) parts.old.store (M.tracked parts.old.manager) events.new.items None parts.new.store (M.tracked parts.new.manager) }
-    ensures closes { (pieces : List Piece) (f : Option Filled) → TakenIn P.says (Some put) pieces f → ClosesBy P.says (calls.Close 0) (Some put) pieces f result }
+    ensures closes { (pieces : List Piece) (f : Option Filled) → TakenIn P.says (Some put) pieces f → ClosesBy P.says acts.Close (Some put) pieces f result }
     ensures quiet { AreOfNoLock events.new.items }
     ensures lock { parts.new.lock ≡ parts.old.lock }
     ensures limits { M.limits parts.new.manager ≡ M.limits parts.old.manager }
@@ -241,7 +241,7 @@ fn close_in<M: EvictionManager, P: PutPolicy>(
     ensures answers { HasSome P.says (Some (held_put (taking ctx))) → Closes (facts_in parts.old.store parts.old.lock (held_put (taking ctx)).request) (Some (taking ctx)) result events.new.items }
     ensures other { IsOther result }
     ensures moves { IsOfWorld (held_put (taking ctx)).request → HasSome P.says (Some (held_put (taking ctx))) → Moves (M.limits parts.old.manager) (Some (held_put (taking ctx))) parts.old.store (M.tracked parts.old.manager) events.new.items None parts.new.store (M.tracked parts.new.manager) }
-    ensures closes { (pieces : List Piece) (f : Option Filled) → TakenIn P.says (Some (held_put (taking ctx))) pieces f → ClosesBy P.says (calls.Close 0) (Some (held_put (taking ctx))) pieces f result }
+    ensures closes { (pieces : List Piece) (f : Option Filled) → TakenIn P.says (Some (held_put (taking ctx))) pieces f → ClosesBy P.says acts.Close (Some (held_put (taking ctx))) pieces f result }
     ensures quiet { AreOfNoLock events.new.items }
     ensures lock { parts.new.lock ≡ parts.old.lock }
     ensures limits { M.limits parts.new.manager ≡ M.limits parts.old.manager }

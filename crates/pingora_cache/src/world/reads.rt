@@ -9,15 +9,16 @@ ghost use Rattle.pcache_history.specs.Held.{has_read, on_request, row, sought_in
 ghost use Rattle.pingora_cache.specs.Moved.{MovesRequest, MovesStore};
 ghost use Rattle.pcache_history.specs.Rules.{Answers, IsOther, read_reply, seek_reply};
 ghost use Rattle.pcache_history.specs.Waiting.{AreOfNoLock};
-ghost use Rattle.pcache_history.specs.declared.call.Call.TheVariants as calls;
+ghost use Rattle.pcache_history.specs.declared.call.Act.TheVariants as acts;
+ghost use Rattle.pcache_history.specs.declared.call.RequestAct.TheVariants as asks;
 ghost use Rattle.pcache_history.specs.declared.call.Reply.TheVariants as replies;
 
-use pcache_history::call::Reply;
-use pcache_history::entry::Event;
 use crate::world::request::OpenRequest;
 use bytes::Bytes;
 use pcache_base::error::ErrorType;
 use pcache_base::poll::Poll;
+use pcache_history::call::Reply;
+use pcache_history::entry::Event;
 use pcache_request::cache::HttpCache;
 use pcache_store::memory::MemCache;
 
@@ -29,7 +30,7 @@ pub(crate) fn read(
 ) -> Reply
     requires none { events.old.items ≡ [] }
     requires room { 3 ≤ vec_capacity events.old }
-    ensures answers { Answers (facts_in store.old (no_locks 0) request.old.request) (calls.Read 0) (Some request.old) result events.new.items }
+    ensures answers { Answers (facts_in store.old (no_locks 0) request.old.request) (acts.Request asks.Read) (Some request.old) result events.new.items }
     ensures moves { MovesStore (Some request.old) store.old events.new.items (Some request.new) store.new }
     ensures keeps { KeepsKey (Some request.old) (Some request.new) }
     ensures row { request.new ≡ on_request (has_read events.new.items) request.old }
@@ -66,10 +67,10 @@ fn reply_of(answer: &Poll<Option<Bytes>>) -> Reply
 
 /// Sends the reader to another range.
 pub(crate) fn seek(request: &mut OpenRequest, start: usize, end: Option<usize>) -> Reply
-    ensures answers { Answers no_facts (calls.Seek 0 start end) (Some request.old) result [] }
+    ensures answers { Answers no_facts (acts.Request (asks.Seek start end)) (Some request.old) result [] }
     ensures moves { MovesRequest (Some request.old) (Some request.new) }
     ensures keeps { KeepsKey (Some request.old) (Some request.new) }
-    ensures row { Some request.new ≡ row (calls.Seek 0 start end) result [] (Some request.old) }
+    ensures row { Some request.new ≡ row (acts.Request (asks.Seek start end)) result [] (Some request.old) }
     ensures held { request.new.request.held ≡ request.old.request.held }
 {
     if !request.cache.has_body_reader() {
@@ -94,10 +95,10 @@ fn seek_in(cache: &mut HttpCache<MemCache>, start: usize, end: Option<usize>) ->
 
 /// Ends the reader, also if that is refused.
 pub(crate) fn done(request: &mut OpenRequest, store: &mut MemCache) -> Reply
-    ensures answers { Answers no_facts (calls.Done 0) (Some request.old) result [] }
+    ensures answers { Answers no_facts (acts.Request asks.Done) (Some request.old) result [] }
     ensures moves { MovesStore (Some request.old) store.old [] (Some request.new) store.new }
     ensures keeps { KeepsKey (Some request.old) (Some request.new) }
-    ensures row { Some request.new ≡ row (calls.Done 0) result [] (Some request.old) }
+    ensures row { Some request.new ≡ row (acts.Request asks.Done) result [] (Some request.old) }
     ensures held { request.new.request.held ≡ request.old.request.held }
 {
     if !request.cache.phase().may_finish_hit() {

@@ -10,16 +10,17 @@ ghost use Rattle.pingora_cache.specs.Moved.{Moves};
 ghost use Rattle.pcache_history.specs.Rules.{Answers, expire_reply, purge_reply};
 ghost use Rattle.pingora_cache.specs.Step.{untracking};
 ghost use Rattle.pingora_cache.specs.LockMoves.{MovesLocks};
-ghost use Rattle.pcache_history.specs.declared.call.Call.TheVariants as calls;
+ghost use Rattle.pcache_history.specs.declared.call.Act.TheVariants as acts;
+ghost use Rattle.pcache_history.specs.declared.call.RequestAct.TheVariants as asks;
 ghost use Rattle.pcache_history.specs.declared.entry.Event.TheVariants.{Purge};
 
-use pcache_history::call::Reply;
-use pcache_history::entry::Event;
 use crate::world::parts::Parts;
 use crate::world::request::OpenRequest;
 use pcache_base::key::CacheHashKey;
 use pcache_base::moment::Moment;
 use pcache_evict::eviction::EvictionManager;
+use pcache_history::call::Reply;
+use pcache_history::entry::Event;
 use pcache_request::cache::Removal;
 
 /// Removes what stands under the request's key.
@@ -31,7 +32,7 @@ pub(crate) fn purge<M: EvictionManager>(
 ) -> Reply
     requires none { events.old.items ≡ [] }
     requires room { 3 ≤ vec_capacity events.old }
-    ensures answers { Answers (facts_in parts.old.store parts.old.lock request.old.request) (calls.Purge 0) (Some request.old) result events.new.items }
+    ensures answers { Answers (facts_in parts.old.store parts.old.lock request.old.request) (acts.Request asks.Purge) (Some request.old) result events.new.items }
     ensures moves { IsOfWorld request.old.request → Moves (M.limits parts.old.manager) (Some request.old) parts.old.store (M.tracked parts.old.manager) events.new.items (Some request.new) parts.new.store (M.tracked parts.new.manager) }
     ensures keeps { KeepsKey (Some request.old) (Some request.new) }
     ensures same { request.new ≡ request.old }
@@ -82,7 +83,7 @@ pub(crate) fn expire<M: EvictionManager>(
 ) -> Reply
     requires none { events.old.items ≡ [] }
     requires room { 3 ≤ vec_capacity events.old }
-    ensures answers { Answers (facts_in parts.old.store parts.old.lock request.old.request) (calls.Expire 0 now) (Some request.old) result events.new.items }
+    ensures answers { Answers (facts_in parts.old.store parts.old.lock request.old.request) (acts.Request (asks.Expire now)) (Some request.old) result events.new.items }
     ensures moves { Moves (M.limits parts.old.manager) (Some request.old) parts.old.store (M.tracked parts.old.manager) events.new.items (Some request.new) parts.new.store (M.tracked parts.new.manager) }
     ensures keeps { KeepsKey (Some request.old) (Some request.new) }
     ensures same { request.new ≡ request.old }

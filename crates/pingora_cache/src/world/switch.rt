@@ -10,23 +10,24 @@ ghost use Rattle.pcache_history.specs.Held.{row};
 ghost use Rattle.pingora_cache.specs.Moved.{MovesRequest, MovesStore};
 ghost use Rattle.pcache_history.specs.Rules.{Answers};
 ghost use Rattle.pingora_cache.specs.LockMoves.{MovesLocks};
-ghost use Rattle.pcache_history.specs.declared.call.Call.TheVariants as calls;
+ghost use Rattle.pcache_history.specs.declared.call.Act.TheVariants as acts;
+ghost use Rattle.pcache_history.specs.declared.call.RequestAct.TheVariants as asks;
 
-use pcache_history::call::Reply;
-use pcache_history::entry::Event;
 use crate::world::notes::note_shut;
 use crate::world::request::{OpenRequest, hold, permit_in, world_use, write_number};
 use pcache_base::reason::NoCacheReason;
+use pcache_history::call::Reply;
+use pcache_history::entry::Event;
 use pcache_lock::lock::CacheLock;
 use pcache_request::cache::CacheOptionOverrides;
 use pcache_store::memory::MemCache;
 
 /// Turns caching on again, with these options of the lock.
 pub(crate) fn enable(request: &mut OpenRequest, options: Option<CacheOptionOverrides>) -> Reply
-    ensures answers { Answers no_facts (calls.Enable 0 options) (Some request.old) result [] }
+    ensures answers { Answers no_facts (acts.Request (asks.Enable options)) (Some request.old) result [] }
     ensures moves { MovesRequest (Some request.old) (Some request.new) }
     ensures keeps { KeepsKey (Some request.old) (Some request.new) }
-    ensures row { Some request.new ≡ row (calls.Enable 0 options) result [] (Some request.old) }
+    ensures row { Some request.new ≡ row (acts.Request (asks.Enable options)) result [] (Some request.old) }
     ensures held { request.new.request.held ≡ request.old.request.held }
 {
     if !request.cache.phase().is_disabled() {
@@ -47,10 +48,10 @@ pub(crate) fn disable(
 ) -> Reply
     requires none { events.old.items ≡ [] }
     requires room { 3 ≤ vec_capacity events.old }
-    ensures answers { Answers no_facts (calls.Disable 0 reason) (Some request.old) result events.new.items }
+    ensures answers { Answers no_facts (acts.Request (asks.Disable reason)) (Some request.old) result events.new.items }
     ensures moves { MovesStore (Some request.old) store.old events.new.items (Some request.new) store.new }
     ensures keeps { KeepsKey (Some request.old) (Some request.new) }
-    ensures row { Some request.new ≡ row (calls.Disable 0 reason) result events.new.items (Some request.old) }
+    ensures row { Some request.new ≡ row (acts.Request (asks.Disable reason)) result events.new.items (Some request.old) }
     ensures locks { (r : ℕ) → MovesLocks r (deeds_by r 0 (status_for (λ text. GiveUp) reason) events.new.items) request.old.request.held lock.old request.new.request.held lock.new }
 {
     if !request.cache.may_disable(reason) {

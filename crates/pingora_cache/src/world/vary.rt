@@ -11,19 +11,20 @@ ghost use Rattle.pingora_cache.specs.Moved.{MovesRequest, MovesStore};
 ghost use Rattle.pcache_history.specs.Rules.{Answers, IsOther, Renews};
 ghost use Rattle.pingora_cache.specs.Step.{renewal_reply, renewing, spare_of};
 ghost use Rattle.pingora_cache.specs.LockMoves.{MovesLocks};
-ghost use Rattle.pcache_history.specs.declared.call.Call.TheVariants as calls;
+ghost use Rattle.pcache_history.specs.declared.call.Act.TheVariants as acts;
+ghost use Rattle.pcache_history.specs.declared.call.RequestAct.TheVariants as asks;
 ghost use Rattle.pcache_meta.specs.Meta.{Meta};
 ghost use Rattle.pcache_predict.specs.declared.admission.Decision.{Decision};
 ghost use Rattle.pcache_request.specs.Renewals.{renewed};
 ghost use Rattle.pcache_request.specs.Stale.{MayRevalidate};
 ghost use Rattle.pcache_store.specs.Store.{Reader, Store};
 
-use pcache_history::call::{Call, Reply};
-use pcache_history::entry::Event;
 use crate::world::notes::note_release;
 use crate::world::request::{OpenRequest, permit_in};
 use pcache_base::error::Result;
 use pcache_base::key::{CacheHashKey, HashBinary};
+use pcache_history::call::{Act, Reply, RequestAct};
+use pcache_history::entry::Event;
 use pcache_lock::lock::CacheLock;
 use pcache_meta::meta::CacheMeta;
 use pcache_put_ctx::boxed::Boxed;
@@ -32,10 +33,10 @@ use pcache_store::memory::MemCache;
 
 /// Has the next look-up look for a variance.
 pub(crate) fn vary(request: &mut OpenRequest, variance: HashBinary) -> Reply
-    ensures answers { Answers no_facts (calls.Vary 0 variance) (Some request.old) result [] }
+    ensures answers { Answers no_facts (acts.Request (asks.Vary variance)) (Some request.old) result [] }
     ensures moves { MovesRequest (Some request.old) (Some request.new) }
     ensures keeps { KeepsKey (Some request.old) (Some request.new) }
-    ensures row { Some request.new ≡ row (calls.Vary 0 variance) result [] (Some request.old) }
+    ensures row { Some request.new ≡ row (acts.Request (asks.Vary variance)) result [] (Some request.old) }
     ensures held { request.new.request.held ≡ request.old.request.held }
 {
     if !request.cache.phase().may_look_up() {
@@ -61,10 +62,10 @@ pub(crate) fn variance(
 ) -> Reply
     requires none { events.old.items ≡ [] }
     requires room { 3 ≤ vec_capacity events.old }
-    ensures answers { Answers no_facts (calls.Variance 0 variance) (Some request.old) result events.new.items }
+    ensures answers { Answers no_facts (acts.Request (asks.Variance variance)) (Some request.old) result events.new.items }
     ensures moves { (s : Store) → MovesStore (Some request.old) s events.new.items (Some request.new) s }
     ensures keeps { KeepsKey (Some request.old) (Some request.new) }
-    ensures row { Some request.new ≡ row (calls.Variance 0 variance) result events.new.items (Some request.old) }
+    ensures row { Some request.new ≡ row (acts.Request (asks.Variance variance)) result events.new.items (Some request.old) }
     ensures locks { (r : ℕ) → MovesLocks r (deeds_by r 0 Done events.new.items) request.old.request.held lock.old request.new.request.held lock.new }
 {
     if !request.cache.may_write() {
@@ -80,12 +81,12 @@ pub(crate) fn variance(
 pub(crate) type Spare = (CacheMeta, Boxed<CacheMeta>);
 
 /// The copies that a call needs. They are made before it, since it is not to be refused half way.
-pub(crate) fn spare_of(call: &Call) -> Result<Option<Spare>>
-    ensures ok { IfOk result (λ spare. spare ≡ spare_of call.now) }
+pub(crate) fn spare_of(act: &Act) -> Result<Option<Spare>>
+    ensures ok { IfOk result (λ spare. spare ≡ spare_of act.now) }
     ensures kind { IfErr result (λ e. e ≡ OutOfMemory) }
 {
-    match call {
-        Call::Revalidate { request: _, meta } => {
+    match act {
+        Act::Request(RequestAct::Revalidate { meta }) => {
             let own = meta.get().copied()?;
             let noted = meta.beside(meta.get().copied()?)?;
             Ok(Some((own, noted)))
@@ -107,10 +108,10 @@ pub(crate) fn revalidate(
     requires spare { spare.old ≡ Some (meta.now, meta.now) }
     requires none { events.old.items ≡ [] }
     requires room { 3 ≤ vec_capacity events.old }
-    ensures answers { Answers (facts_in store.old lock.old request.old.request) (calls.Revalidate 0 meta.now) (Some request.old) result events.new.items }
+    ensures answers { Answers (facts_in store.old lock.old request.old.request) (acts.Request (asks.Revalidate meta.now)) (Some request.old) result events.new.items }
     ensures moves { MovesStore (Some request.old) store.old events.new.items (Some request.new) store.new }
     ensures keeps { KeepsKey (Some request.old) (Some request.new) }
-    ensures row { Some request.new ≡ row (calls.Revalidate 0 meta.now) result events.new.items (Some request.old) }
+    ensures row { Some request.new ≡ row (acts.Request (asks.Revalidate meta.now)) result events.new.items (Some request.old) }
     ensures locks { (r : ℕ) → MovesLocks r (deeds_by r 0 Done events.new.items) request.old.request.held lock.old request.new.request.held lock.new }
 {
     if !request.cache.may_revalidate() {

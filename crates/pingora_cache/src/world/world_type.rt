@@ -5,16 +5,16 @@ ghost use Rattle.std.specs.Vec.{vec_capacity};
 ghost use Rattle.pcache_history.specs.Log.{started};
 ghost use Rattle.pcache_history.specs.Rules.{IsCopy};
 
-use pcache_history::call::{Call, Reply};
-use pcache_history::entry::{Entry, Event, Events};
-use crate::world::give::act;
 use crate::world::open::Open;
 use crate::world::parts::Parts;
 use crate::world::policy::PutPolicy;
+use crate::world::turn::act;
 use crate::world::vary::spare_of;
 use pcache_base::error::{ErrorType, Result};
 use pcache_evict::eviction::{CacheEntryKey, EvictionManager};
 use pcache_files::saved::SavedManager;
+use pcache_history::call::{Call, Reply};
+use pcache_history::entry::{Entry, Event, Events};
 use pcache_lock::lock::CacheLock;
 use pcache_store::memory::MemCache;
 use std::alloc::Global;
@@ -178,7 +178,7 @@ impl<M: EvictionManager, P: PutPolicy> World<M, P> {
         // That the requests are fewer than their numbers bounds their read locks.
         let _open = self.requests.len();
         let mut events = Vec::with_capacity(self.alloc, MOST_EVENTS)?;
-        let mut spare = spare_of(&call)?;
+        let mut spare = spare_of(&call.act)?;
         make_ready(&mut self.history, &mut self.start, &self.parts.manager)?;
         let reply = act(
             self.alloc,

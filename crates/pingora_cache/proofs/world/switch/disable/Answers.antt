@@ -8,7 +8,8 @@ use Rattle.pcache_history.specs.Held.{Held}
 use Rattle.pingora_cache.specs.Moved.{MovesStore}
 use Rattle.pingora_cache.specs.PartFacts.{no_facts}
 use Rattle.pcache_history.specs.Rules.{Answers, drop_of, each, permit_of, release_of}
-use Rattle.pcache_history.specs.declared.call.Call.TheVariants as calls
+use Rattle.pcache_history.specs.declared.call.Act.TheVariants as C
+use Rattle.pcache_history.specs.declared.call.RequestAct.TheVariants as Q
 use Rattle.pcache_history.specs.declared.call.Reply.TheVariants as replies
 use Rattle.pcache_history.specs.declared.entry.Event.TheVariants as E
 use Rattle.pingora_cache.specs.Step.{permit_in}
@@ -40,7 +41,7 @@ returns-clause-answers c =
     let may : MayDisable c.args.reason r = search rules in
     let permit : c.permit_in.result ≡ permit_of r.held = c.permit_in.ensures ∙ ap permit_in c.disable-released.ensures.released ∙ permit-named r.held in
     let is : events ≡ release_of r.held ++ drop_of r.write = c.note_shut.ensures ∙ (λ i. c.requires.none i ++ each E.Release (permit i) ++ drop_of (c.write_number-dropped.ensures i)) in
-    subst (λ (x : Held). Answers no_facts (calls.Disable 0 c.args.reason) (Some x) replies.Done events) c.request.view_is (inl (may, tt, (refl, is)))
+    subst (λ (x : Held). Answers no_facts (C.Request (Q.Disable c.args.reason)) (Some x) replies.Done events) c.request.view_is (inl (may, tt, (refl, is)))
 
 pub returns-clause-locks : goal.returns-clause-locks
 returns-clause-locks c n =

@@ -1,20 +1,29 @@
-use Rattle.std.proofs.Common.{Some, inl, subst, sym}
-use Rattle.pcache_history.specs.declared.call.Call.{Call}
+use Rattle.std.proofs.Common.{rules, Some, refl, inl}
+use Rattle.pcache_history.specs.declared.call.Act.TheVariants.{Request}
 use Rattle.pingora_cache.specs.PartFacts.{facts_in}
-use Rattle.pcache_history.specs.Rules.{Replies}
-use Rattle.pingora_cache.proofs.PutTurns.{fed-locks-of, right-turned}
-use Rattle.pingora_cache.proofs.TurnOf.{row-kept}
+use Rattle.pcache_history.specs.Facts.{request_in}
+use Rattle.pingora_cache.proofs.PutTurns.{none-answered, other-answered, put-is-there, puts-plain, puts-wrong}
+use Rattle.pingora_cache.proofs.TurnOf.{row-kept, turn-of, wrong-turn}
 use Rattle.pingora_cache.proofs.world.turn.on_request.Goals as goal
 
-pub returns-in-Feed-clause-locks : goal.returns-in-Feed-clause-locks
-returns-in-Feed-clause-locks g c = fed-locks-of c.args.call.now _ _ _ c.args.events.now.items c.args.request.now c.args.parts.now.lock c.in-Feed.is c.requires.none
+pub returns-in_default-clause-turn : goal.returns-in_default-clause-turn
+returns-in_default-clause-turn g c world some =
+    wrong-turn _ _ (Request c.args.act.now) _ _ _ _ _ _ _ (none-answered _ (Request c.args.act.now) _ (search rules) (λ may. may)) (search rules) refl c.requires.none
 
-pub returns-in-Wait-clause-answers : goal.returns-in-Wait-clause-answers
-returns-in-Wait-clause-answers g c =
-    subst (λ (call : Call). Replies (facts_in c.args.parts.now.store c.args.parts.now.lock c.args.request.now.request) call (Some c.args.request.now) c.wait.result c.wait.new.events.items) (sym c.in-Wait.is) (inl (c.requires.plain, c.wait.ensures.answers c.args.parts.now.store))
+pub returns-in_default-clause-puts : goal.returns-in_default-clause-puts
+returns-in_default-clause-puts g c = puts-wrong _ (Request c.args.act.now) _ _ _ _ (refl, c.requires.none) (search rules)
 
-pub returns-in_default-clause-answers : goal.returns-in_default-clause-answers
-returns-in_default-clause-answers g c = right-turned _ c.args.call.now c.args.request.now c.turn.result c.turn.new.events.items c.turn.ensures.turned c.requires.plain c.turn.ensures.answers
+pub returns-in-Request-clause-turn : goal.returns-in-Request-clause-turn
+returns-in-Request-clause-turn g c world some =
+    turn-of _ _ (Request c.args.act.now) _ _ c.in-Request.request c.turn-reply.new.request _ _ _ _ _ _ c.turn-reply.result c.turn-reply.new.events.items (search rules) (search rules) (inl (c.is_plain.ensures, c.turn-reply.ensures.answers))
+    c.turn-reply.ensures.moves c.turn-reply.ensures.keeps (row-kept (Request c.args.act.now) _ _ _ _ c.turn-reply.ensures.row) (c.turn-reply.ensures.locks _) world
 
-pub returns-in_default-clause-row : goal.returns-in_default-clause-row
-returns-in_default-clause-row g c = row-kept c.args.call.now c.turn.result c.turn.new.events.items (Some c.args.request.now) (Some c.turn.new.request) c.turn.ensures.row
+pub returns-in-Request-clause-puts : goal.returns-in-Request-clause-puts
+returns-in-Request-clause-puts g c = puts-plain _ (Request c.args.act.now) c.turn-reply.result c.turn-reply.new.events.items _ _ c.in-Request.request c.turn-reply.new.request (search rules) (search rules) c.is_plain.ensures c.is_plain-in-Request.ensures
+
+pub returns-in-Put-clause-turn : goal.returns-in-Put-clause-turn
+returns-in-Put-clause-turn g c world some =
+    wrong-turn _ _ (Request c.args.act.now) _ _ _ _ _ _ _ (other-answered _ (Request c.args.act.now) _ c.in-Put.put (search rules) (put-is-there c.in-Put.put c.is_held.ensures)) (search rules) refl c.requires.none
+
+pub returns-in-Put-clause-puts : goal.returns-in-Put-clause-puts
+returns-in-Put-clause-puts g c = puts-wrong _ (Request c.args.act.now) _ _ _ _ (refl, c.requires.none) (search rules)

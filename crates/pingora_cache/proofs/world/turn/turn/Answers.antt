@@ -1,17 +1,18 @@
 use Rattle.std.proofs.Common.{Some, sym, subst}
 use Rattle.pingora_cache.specs.PartFacts.{facts_in}
 use Rattle.pcache_history.specs.Rules.{Answers}
-use Rattle.pcache_history.specs.declared.call.Call.{Call}
+use Rattle.pcache_history.specs.declared.call.Act.TheVariants.{Request}
+use Rattle.pcache_history.specs.declared.call.RequestAct.{RequestAct}
 use Rattle.pingora_cache.proofs.world.turn.turn.Goals as goal
 
 pub returns-in-Expire-clause-answers : goal.returns-in-Expire-clause-answers
 returns-in-Expire-clause-answers g c =
-    subst (λ (call : Call). Answers (facts_in c.args.parts.now.store c.args.parts.now.lock c.args.request.now.request) call (Some c.args.request.now) c.expire.result c.expire.new.events.items) (sym c.in-Expire.is) c.expire.ensures.answers
+    subst (λ (act : RequestAct). Answers (facts_in c.args.parts.now.store c.args.parts.now.lock c.args.request.now.request) (Request act) (Some c.args.request.now) c.expire.result c.expire.new.events.items) (sym c.in-Expire.is) c.expire.ensures.answers
 
 pub returns-in-Look-clause-answers : goal.returns-in-Look-clause-answers
 returns-in-Look-clause-answers g c =
-    subst (λ (call : Call). Answers (facts_in c.args.parts.now.store c.args.parts.now.lock c.args.request.now.request) call (Some c.args.request.now) c.look.result c.look.new.events.items) (sym c.in-Look.is) c.look.ensures.answers
+    subst (λ (act : RequestAct). Answers (facts_in c.args.parts.now.store c.args.parts.now.lock c.args.request.now.request) (Request act) (Some c.args.request.now) c.look.result c.look.new.events.items) (sym c.in-Look.is) c.look.ensures.answers
 
 pub returns-in-Revalidate-clause-answers : goal.returns-in-Revalidate-clause-answers
 returns-in-Revalidate-clause-answers g c =
-    subst (λ (call : Call). Answers (facts_in c.args.parts.now.store c.args.parts.now.lock c.args.request.now.request) call (Some c.args.request.now) c.revalidate.result c.revalidate.new.events.items) (sym c.in-Revalidate.is) c.revalidate.ensures.answers
+    subst (λ (act : RequestAct). Answers (facts_in c.args.parts.now.store c.args.parts.now.lock c.args.request.now.request) (Request act) (Some c.args.request.now) c.revalidate.result c.revalidate.new.events.items) (sym c.in-Revalidate.is) c.revalidate.ensures.answers
