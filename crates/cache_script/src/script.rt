@@ -127,15 +127,38 @@ fn read_call(
 ) -> Result<Call, Unread> {
     let request = words.number()?;
     match word {
-        "open" => Ok(Act::Open { options: options(words)? }.of(request)),
-        "enable" => Ok(RequestAct::Enable { options: options(words)? }.of(request)),
-        "disable" => Ok(RequestAct::Disable { reason: reason(words.name()?)? }.of(request)),
-        "key" => Ok(RequestAct::Key { key: boxed(alloc, key(alloc, words)?)? }.of(request)),
-        "look" => Ok(RequestAct::Look { now, decision: None }.of(request)),
-        "found" => Ok(RequestAct::Found { status: status(words.name()?)?, now }.of(request)),
+        "open" => Ok(Act::Open {
+            options: options(words)?,
+        }
+        .of(request)),
+        "enable" => Ok(RequestAct::Enable {
+            options: options(words)?,
+        }
+        .of(request)),
+        "disable" => Ok(RequestAct::Disable {
+            reason: reason(words.name()?)?,
+        }
+        .of(request)),
+        "key" => Ok(RequestAct::Key {
+            key: boxed(alloc, key(alloc, words)?)?,
+        }
+        .of(request)),
+        "look" => Ok(RequestAct::Look {
+            now,
+            decision: None,
+        }
+        .of(request)),
+        "found" => Ok(RequestAct::Found {
+            status: status(words.name()?)?,
+            now,
+        }
+        .of(request)),
         "bypass" => Ok(RequestAct::Bypass.of(request)),
         "miss" => Ok(RequestAct::Miss.of(request)),
-        "meta" => Ok(RequestAct::Meta { meta: boxed(alloc, meta(alloc, words, now)?)? }.of(request)),
+        "meta" => Ok(RequestAct::Meta {
+            meta: boxed(alloc, meta(alloc, words, now)?)?,
+        }
+        .of(request)),
         "purge" => Ok(RequestAct::Purge.of(request)),
         "expire" => Ok(RequestAct::Expire { now }.of(request)),
         "updating" => Ok(RequestAct::Updating.of(request)),
@@ -164,11 +187,19 @@ fn read_body_call(
         "write" => {
             let bytes = text(alloc, words.word()?)?;
             let eof = ends_with_eof(words)?;
-            Ok(RequestAct::Write { bytes: Bytes::from_vec(bytes)?, eof }.of(request))
+            Ok(RequestAct::Write {
+                bytes: Bytes::from_vec(bytes)?,
+                eof,
+            }
+            .of(request))
         }
         "finish" => Ok(RequestAct::Finish.of(request)),
         "read" => Ok(RequestAct::Read.of(request)),
-        "seek" => Ok(RequestAct::Seek { start: place(words.word()?)?, end: words.next().map(place).transpose()? }.of(request)),
+        "seek" => Ok(RequestAct::Seek {
+            start: place(words.word()?)?,
+            end: words.next().map(place).transpose()?,
+        }
+        .of(request)),
         "done" => Ok(RequestAct::Done.of(request)),
         _ => Err(Unread::BadCall),
     }
@@ -183,8 +214,16 @@ fn read_put_call(
     now: Moment,
 ) -> Result<Call, Unread> {
     match word {
-        "put" => Ok(Act::Put { key: boxed(alloc, plain_key(alloc, words)?)?, limit: words.next().map(place).transpose()? }.of(request)),
-        "feed" => Ok(Act::Feed { bytes: Bytes::from_vec(text(alloc, words.word()?)?)?, now }.of(request)),
+        "put" => Ok(Act::Put {
+            key: boxed(alloc, plain_key(alloc, words)?)?,
+            limit: words.next().map(place).transpose()?,
+        }
+        .of(request)),
+        "feed" => Ok(Act::Feed {
+            bytes: Bytes::from_vec(text(alloc, words.word()?)?)?,
+            now,
+        }
+        .of(request)),
         "drop" => Ok(Act::Drop.of(request)),
         "close" => Ok(Act::Close.of(request)),
         _ => Err(Unread::BadCall),
@@ -200,9 +239,18 @@ fn read_variant_call(
     now: Moment,
 ) -> Result<Call, Unread> {
     match word {
-        "vary" => Ok(RequestAct::Vary { variance: hash(words.name()?)? }.of(request)),
-        "variance" => Ok(RequestAct::Variance { variance: hash_or_none(words.name()?)? }.of(request)),
-        "revalidate" => Ok(RequestAct::Revalidate { meta: boxed(alloc, fresh_until(alloc, words.number()?, now))? }.of(request)),
+        "vary" => Ok(RequestAct::Vary {
+            variance: hash(words.name()?)?,
+        }
+        .of(request)),
+        "variance" => Ok(RequestAct::Variance {
+            variance: hash_or_none(words.name()?)?,
+        }
+        .of(request)),
+        "revalidate" => Ok(RequestAct::Revalidate {
+            meta: boxed(alloc, fresh_until(alloc, words.number()?, now))?,
+        }
+        .of(request)),
         _ => Err(Unread::BadCall),
     }
 }
@@ -235,11 +283,27 @@ fn read_lock_call(
 ) -> Result<Call, Unread> {
     match word {
         "wait" => Ok(Act::Wait { now }.of(request)),
-        "lock" => Ok(RequestAct::Lock { is_used: is_on(words.name()?)? }.of(request)),
-        "publish" => Ok(RequestAct::Publish { tokens: Tokens::new(tokens(alloc, words)?) }.of(request)),
-        "release" => Ok(RequestAct::Release { reason: reason(words.name()?)? }.of(request)),
-        "give" => Ok(Act::Give { to: words.number()? }.of(request)),
-        "uncacheable" => Ok(RequestAct::Uncacheable { header: boxed(alloc, ResponseHeader::build(alloc, StatusCode::OK))?, reason: reason(words.name()?)? }.of(request)),
+        "lock" => Ok(RequestAct::Lock {
+            is_used: is_on(words.name()?)?,
+        }
+        .of(request)),
+        "publish" => Ok(RequestAct::Publish {
+            tokens: Tokens::new(tokens(alloc, words)?),
+        }
+        .of(request)),
+        "release" => Ok(RequestAct::Release {
+            reason: reason(words.name()?)?,
+        }
+        .of(request)),
+        "give" => Ok(Act::Give {
+            to: words.number()?,
+        }
+        .of(request)),
+        "uncacheable" => Ok(RequestAct::Uncacheable {
+            header: boxed(alloc, ResponseHeader::build(alloc, StatusCode::OK))?,
+            reason: reason(words.name()?)?,
+        }
+        .of(request)),
         _ => Err(Unread::BadCall),
     }
 }

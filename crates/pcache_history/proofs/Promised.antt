@@ -1,5 +1,5 @@
 -- Replies of look-ups, readers at their end, and what is promised of a world's own history.
-use Rattle.std.proofs.Common.{◌≡◌, ℕ, ◌≤◌, Bool, true, false, not, ◌&&◌, cond, nat_lt, Option, None, Some, IsSome, List, [], ◌∷◌, ◌++◌, refl, ap, sym, subst, ◌∙◌, ◌↔◌, ◌⊎◌, inl, inr, arith, length, take, drop, take_all, reverse}
+use Rattle.std.proofs.Common.{◌≡◌, ℕ, ◌≤◌, Bool, true, false, not, ◌&&◌, cond, nat_lt, Option, None, Some, IsSome, List, [], ◌∷◌, ◌++◌, refl, ap, sym, subst, ◌∙◌, ◌↔◌, inl, inr, arith, length, take, drop, take_all, reverse}
 use Rattle.std.specs.Option.{option_map}
 use Rattle.std.proofs.lemmas.Bool.Decides.{nat_tests}
 use Rattle.pcache_base.specs.Key.{Key, slot}
@@ -12,7 +12,6 @@ use Rattle.pcache_request.specs.Admissions.{is_deferral}
 use Rattle.pcache_request.specs.Requests.{Request}
 use Rattle.pcache_request.specs.Variants.{hides_pair, is_hidden, is_unseen}
 use Rattle.pcache_store.specs.Store.{Reader, Part, read_part}
-use Rattle.pcache_history.specs.declared.call.Act.{Act}
 use Rattle.pcache_history.specs.declared.call.Act.TheVariants as C
 use Rattle.pcache_history.specs.declared.call.RequestAct.TheVariants as Q
 use Rattle.pcache_history.specs.declared.call.LockKind.{LockKind}
@@ -28,10 +27,10 @@ use Rattle.pcache_history.specs.Events.{begin_of, in_flight, body_of, is_told}
 use Rattle.pcache_history.specs.Facts.{Facts, Says}
 use Rattle.pcache_history.specs.Headline.{is_found, HasUntouched, HandsOnExactly, HandsOnUnhidden, told_found, TellsExactly, ReadsTheWhole, IsEntryOf, FindsUntouched, FinishesUntouched, HitsTheLast, IsWithinAlways, EvictsNothingWithin, GivesWhereNoneWaits}
 use Rattle.pcache_history.specs.Held.{Held, carrying, decides, pair_of, request_of}
-use Rattle.pcache_history.specs.History.{events_of, reads, written_of}
+use Rattle.pcache_history.specs.History.{events_of, reads}
 use Rattle.pcache_history.specs.Legal.{IsLegal, Gives}
 use Rattle.pcache_history.specs.Log.{Log, HasLegal}
-use Rattle.pcache_history.specs.ReadSoFar.{read_by, HasRead}
+use Rattle.pcache_history.specs.ReadSoFar.{read_by}
 use Rattle.pcache_history.specs.Rules.{Answers, Replies, HandsOn, Looks, LooksOn, Misses, drop_of, look_reply, release_of, IsCopy}
 use Rattle.pcache_history.proofs.AnswersLaw.{looks_are_true, reads_are_true}
 use Rattle.pcache_history.proofs.WriteLaws.{finds_exactly, reads_the_last, is_within_limits, finishes_exactly}

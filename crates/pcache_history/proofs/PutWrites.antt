@@ -1,9 +1,8 @@
 -- What a legal history says was written of an open put is the body of its write.
-use Rattle.std.proofs.Common.{◌≡◌, ◌≢◌, ℕ, ◌<◌, ◌≤◌, ◌==◌, Bool, true, false, if◌then◌else◌, cond, Option, None, Some, IfSome, IsSome, is_some, List, [], ◌∷◌, ◌++◌, refl, ap, sym, subst, ◌∙◌, arith, reverse, inl, inr}
-use Rattle.std.proofs.lemmas.Bool.{and_parts, both_ways, eq-eqb, eqb-true, eqb-false, ne_eqb}
+use Rattle.std.proofs.Common.{◌≡◌, ◌≢◌, ℕ, ◌<◌, ◌≤◌, ◌==◌, Bool, true, false, if◌then◌else◌, cond, Option, None, Some, IfSome, IsSome, List, [], ◌∷◌, ◌++◌, refl, ap, sym, subst, ◌∙◌, arith, reverse, inl, inr}
+use Rattle.std.proofs.lemmas.Bool.{and_parts, both_ways, eqb-true, eqb-false, ne_eqb}
 use Rattle.pcache_base.specs.Key.{Key}
 use Rattle.pcache_evict.specs.Tracked.{Tracked, Limits}
-use Rattle.pcache_meta.specs.Meta.{Meta}
 use Rattle.pcache_put_ctx.specs.State.{Filled}
 use Rattle.pcache_history.specs.declared.call.Act.{Act}
 use Rattle.pcache_history.specs.declared.call.Act.TheVariants as C
@@ -16,14 +15,14 @@ use Rattle.pcache_history.specs.Due.{makes, makes_of, owes, AreDue, IsNext}
 use Rattle.pcache_history.specs.Events.{begun, begin_of, body_of, tracked}
 use Rattle.pcache_history.specs.Facts.{Facts}
 use Rattle.pcache_history.specs.Headline.{PutsAreWritten}
-use Rattle.pcache_history.specs.Held.{Held, Outcome, was_wrong, change_of, is_done, is_wrong, held_put, outcome, request_of, row, row_by}
+use Rattle.pcache_history.specs.Held.{Held, change_of, is_done, is_wrong, held_put, outcome, request_of, row, row_by}
 use Rattle.pcache_history.specs.History.{events_of}
 use Rattle.pcache_history.specs.Legal.{IsLegal}
 use Rattle.pcache_history.specs.PutHistory.{filled_after, filled_by, filled_noted, filled_of}
 use Rattle.pcache_history.specs.Rules.{IsIdle, IsOther, Replies}
-use Rattle.pcache_history.specs.Taking.{Taking, new_put}
+use Rattle.pcache_history.specs.Taking.{new_put}
 use Rattle.pcache_history.proofs.Copied.{outcome-copied, row-copied}
-use Rattle.pcache_history.proofs.WriteLaws.{IsKept, legal_kept, legal_tidy}
+use Rattle.pcache_history.proofs.WriteLaws.{legal_kept}
 use Rattle.pcache_history.proofs.PutShape.{HasPut, no-push, plain-kept, wrong-filled, wrong-row}
 use Rattle.pcache_history.proofs.Runs.{turned}
 use Rattle.pcache_history.proofs.Steps.{below}

@@ -1,14 +1,12 @@
 -- What a permit that is handed to a request leaves of that request: all but the lock that it holds.
-use Rattle.std.proofs.Common.{◌≡◌, ℕ, ◌==◌, Bool, true, false, cond, Option, None, Some, List, refl, option_map}
+use Rattle.std.proofs.Common.{◌≡◌, ℕ, ◌==◌, true, false, cond, Option, None, Some, List, refl}
 use Rattle.pcache_lock.specs.Permits.{Permit}
 use Rattle.pcache_lock.specs.declared.lock.permit.Locked.{Locked}
 use Rattle.pcache_lock.specs.declared.lock.permit.Locked.TheVariants.{Write}
-use Rattle.pcache_request.specs.LockUse.{handed}
-use Rattle.pcache_request.specs.Requests.{Request}
 use Rattle.pcache_history.specs.declared.call.Act.{Act}
 use Rattle.pcache_history.specs.declared.call.Act.TheVariants as C
 use Rattle.pcache_history.specs.declared.entry.Entry.{Entry}
-use Rattle.pcache_history.specs.Due.{IsOfWorld, IsOfWorldIn}
+use Rattle.pcache_history.specs.Due.{IsOfWorldIn}
 use Rattle.pcache_history.specs.Held.{Held, Outcome, was_done, handed_by, permit_held, taken_over, taker_in, IsOfOne}
 
 -- a request that holds this

@@ -5,11 +5,9 @@ use Rattle.pcache_evict.specs.Tracked.{Tracked, Limits}
 use Rattle.pcache_history.specs.declared.entry.Entry.{Entry}
 use Rattle.pcache_history.specs.declared.entry.Event.{Event}
 use Rattle.pcache_history.specs.declared.entry.Event.TheVariants as E
-use Rattle.pcache_history.specs.Deeds.{LetGo, Aged}
 use Rattle.pcache_history.specs.Headline.{GivesThePermitExactly, OnePermitWaits}
 use Rattle.pcache_history.specs.History.{events_of}
 use Rattle.pcache_history.specs.Legal.{IsLegal}
-use Rattle.pcache_history.specs.Rules.{each}
 use Rattle.pcache_history.specs.Waiting.{Waiting, then_waiting, waiting_after, waiting_in, NoneWaits, Gets, IsGiven, AreGiven}
 use Rattle.pcache_history.proofs.Runs.{turned}
 

@@ -1,18 +1,13 @@
 -- What a call may ask of what stands before it, of the request that it names, and what a history says to it (own).
-use Rattle.std.specs.Prelude.{◌≡◌, ℕ, Bool, false, not, Option, Some, None, is_some, List, length}
-use Rattle.std.specs.FinMap as map
+use Rattle.std.specs.Prelude.{◌≡◌, ℕ, Bool, not, Option, Some, None, is_some, List, length}
 use Rattle.pcache_base.specs.Key.{Key, slot}
-use Rattle.pcache_lock.specs.Locks.{Locks, no_locks}
 use Rattle.pcache_lock.specs.Permits as permits
 use Rattle.pcache_lock.specs.declared.lock.outcome.LockWaitOutcome.{LockWaitOutcome}
 use Rattle.pcache_lock.specs.declared.lock.permit.Locked.TheVariants.{Read}
-use Rattle.pcache_request.specs.LockWaits.{too_old_for, unusable_in, wait_answer}
 use Rattle.pcache_meta.specs.Meta.{Meta}
 use Rattle.pcache_base.specs.declared.poll.Poll.{Poll}
-use Rattle.pcache_base.specs.declared.poll.Poll.TheVariants.{Ready}
-use Rattle.pcache_request.specs.Requests.{Request, found_for, new_request}
-use Rattle.pcache_store.specs.Store as store
-use Rattle.pcache_store.specs.Store.{Store, Reader, read_of, is_told, is_untouched, written_size}
+use Rattle.pcache_request.specs.Requests.{Request, new_request}
+use Rattle.pcache_store.specs.Store.{Reader}
 use Rattle.pcache_history.specs.declared.entry.Answer.{Answer}
 use Rattle.pcache_history.specs.declared.entry.Event.{Event}
 use Rattle.pcache_history.specs.Deeds.{Deed}

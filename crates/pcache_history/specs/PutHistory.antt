@@ -1,8 +1,6 @@
 -- What the pieces of a put come to, by the history (own): the pieces that were fed, what its write was given of them, and what
 -- the calls of the put tell of that. Histories stand newest first.
 use Rattle.std.specs.Prelude.{◌≡◌, ℕ, ◌==◌, cond, if◌then◌else◌, Option, None, Some, List, [], ◌∷◌, ◌++◌}
-use Rattle.std.specs.Ordering.{nat_cmp}
-use Rattle.std.specs.FinMap as map
 use Rattle.pcache_put.specs.Progress.{Parsed}
 use Rattle.pcache_put.specs.Counted.{Counted}
 use Rattle.pcache_put_ctx.specs.Puts.{Piece, Says, Outcome as Comes, Declines, IsResult}

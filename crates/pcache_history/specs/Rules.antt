@@ -40,7 +40,6 @@ use Rattle.pcache_history.specs.declared.entry.Event.{Event}
 use Rattle.pcache_history.specs.declared.entry.Event.TheVariants as E
 use Rattle.pcache_history.specs.Facts.{Facts}
 use Rattle.pcache_history.specs.Held.{Held, carrying, decides, pair_of, sought_in}
-use Rattle.pcache_predict.specs.declared.admission.Decision.{Decision}
 use Rattle.pcache_history.specs.Taking.{Taking, filling}
 
 -- a permit is handed to a request that is open, and on; a put takes none

@@ -2,7 +2,7 @@
 -- go, or found too old.
 use Rattle.std.specs.Prelude.{◌≡◌, ◌≢◌, ℕ, ◌+◌, ◌==◌, Bool, true, false, if◌then◌else◌, Option, None, Some, List, [], ◌∷◌}
 use Rattle.pcache_history.specs.declared.entry.Event.{Event}
-use Rattle.pcache_history.specs.declared.entry.Event.TheVariants.{Look, Ask, Access, Begin, Wrote, Finish, Dropped, Release, LetGo, Aged, Admit, Purge, Untrack, Read}
+use Rattle.pcache_history.specs.declared.entry.Event.TheVariants.{Ask, Release, LetGo, Aged}
 
 -- the key under which each permit waits, if it does; and how many permits were asked for
 pub record Waiting : Type 0 where

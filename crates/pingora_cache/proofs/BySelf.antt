@@ -1,10 +1,10 @@
 -- What is said by default if fewer default lifetimes may be answered.
-use Rattle.std.proofs.Common.{◌≡◌, ℕ, Bool, true, false, Option, None, Some, Result, Ok, Err, IfOk, refl, ap, sym, subst, ◌∙◌}
+use Rattle.std.proofs.Common.{◌≡◌, ℕ, Bool, true, false, Option, None, Some, Result, Ok, Err, IfOk, subst}
 use Rattle.std.specs.declared.time.Duration.{Duration}
 use Rattle.pcache_meta.specs.declared.header.ResponseHeader.{ResponseHeader}
 use Rattle.pcache_base.specs.declared.error.ErrorType.{ErrorType}
 use Rattle.pcache_control.specs.declared.response.RespCacheable.{RespCacheable}
-use Rattle.pcache_control.specs.Filters.{FreshBy, FreshUntil, forbids, said_moment}
+use Rattle.pcache_control.specs.Filters.{FreshBy, forbids, said_moment}
 use Rattle.pcache_put_ctx.specs.Policies.{SaysByDefault}
 use Rattle.std.specs.Bool.{MatchBool}
 

@@ -1,47 +1,44 @@
 -- A permit that one request hands to another leaves a sound world sound.
 use Rattle.std.proofs.Common.{◌≡◌, ◌≢◌, ℕ, ◌+◌, ◌^◌, ◌<◌, ◌==◌, Bool, true, false, cond, if◌then◌else◌, Option, None, Some, IsSome, is_some, List, [], ◌∷◌, ◌++◌, reverse, refl, ap, sym, subst, ◌∙◌, arith, inl, inr, length, option_map}
 use Rattle.std.specs.Ordering.{nat_cmp}
-use Rattle.std.specs.Map.{lookup}
 use Rattle.std.specs.BTreeMap.{is_at}
 use Rattle.std.specs.Cmp.{nat_cmp_total}
 use Rattle.std.specs.FinMap.{FinMap, from_entries, get, remove, same_map, nat_cmp-IsAntisymmetric}
-use Rattle.std.proofs.lemmas.Bool.{eqb-true, eqb-false, eq-eqb, ne_eqb, both_ways}
+use Rattle.std.proofs.lemmas.Bool.{eqb-true, eq-eqb, ne_eqb, both_ways}
 use Rattle.pcache_evict.specs.Tracked.{Tracked, Limits}
 use Rattle.pcache_lock.specs.Locks.{Locks}
-use Rattle.pcache_lock.specs.Permits.{Core, Permit, Reader}
+use Rattle.pcache_lock.specs.Permits.{Permit, Reader}
 use Rattle.pcache_lock.specs.declared.lock.permit.Locked.{Locked}
 use Rattle.pcache_lock.specs.declared.lock.permit.Locked.TheVariants.{Write, Read}
 use Rattle.pcache_lock.specs.declared.lock.status.LockStatus.TheVariants as status
-use Rattle.pcache_request.specs.LockUse.{gone_for, handed, permit_in, table_handed, unheld}
+use Rattle.pcache_request.specs.LockUse.{gone_for, permit_in, table_handed, unheld}
 use Rattle.pcache_request.specs.Requests.{Request, let_go_by}
 use Rattle.pcache_store.specs.Store.{Store}
-use Rattle.pcache_history.specs.declared.call.Act.{Act}
 use Rattle.pcache_history.specs.declared.call.Act.TheVariants as C
 use Rattle.pcache_history.specs.declared.call.Reply.{Reply}
 use Rattle.pcache_history.specs.declared.call.Reply.TheVariants as R
 use Rattle.pcache_history.specs.declared.entry.Entry.{Entry}
 use Rattle.pcache_history.specs.declared.entry.Event.{Event}
 use Rattle.pcache_history.specs.declared.entry.Event.TheVariants as E
-use Rattle.pcache_history.specs.Deeds.{Deed, Handed, LetGo, deeds_by, deeds_in, deeds_of, handed_on, held_in, is_held, shown, who_holds}
-use Rattle.pcache_history.specs.Due.{makes_of, AreDue, KeepsKey}
-use Rattle.pcache_history.specs.Events.{tracked}
+use Rattle.pcache_history.specs.Deeds.{Deed, Handed, LetGo, deeds_by, deeds_of, handed_on, held_in, is_held, shown, who_holds}
+use Rattle.pcache_history.specs.Due.{AreDue, KeepsKey}
 use Rattle.pcache_history.specs.Facts.{Facts, request_in}
 use Rattle.pingora_cache.specs.PartFacts.{facts_for, facts_in}
-use Rattle.pingora_cache.specs.Handing.{HandsOver, open_at, table_given, table_given_by, taker_at}
-use Rattle.pcache_history.specs.Held.{Held, handed_by, on_request, outcome, permit_held, request_of, row, taken_over, taker_in, turned_by}
+use Rattle.pingora_cache.specs.Handing.{HandsOver, open_at, table_given, taker_at}
+use Rattle.pcache_history.specs.Held.{Held, handed_by, on_request, permit_held, request_of, row, taker_in, turned_by}
 use Rattle.pingora_cache.specs.Untold.{untold, untold_put, untold_lock, untold_request}
 use Rattle.pcache_history.specs.History.{events_of}
 use Rattle.pcache_history.specs.Legal.{Gives, IsLegal}
 use Rattle.pingora_cache.specs.LockMoves.{each_deed}
 use Rattle.pingora_cache.specs.LockTable.{Holds, IsTable, locks_read, read_locks}
-use Rattle.pingora_cache.specs.Moved.{Did, Moves, at_call, reads_of}
+use Rattle.pingora_cache.specs.Moved.{Did, Moves, reads_of}
 use Rattle.pcache_history.specs.Rules.{FindsKind, IsCopy, IsIdle, MayBe, MayTake, Replies, each, given_up, let_go_of, permit_of}
-use Rattle.pingora_cache.specs.Sound.{AllHold, AreOpen, IsSound, IsState, readers}
+use Rattle.pingora_cache.specs.Sound.{AllHold, AreOpen, IsSound, readers}
 use Rattle.pingora_cache.specs.Step.{Turn}
 use Rattle.pcache_history.specs.Taking.{Taking}
 use Rattle.pcache_history.specs.Waiting.{AreGiven, Waiting, waiting_in}
 use Rattle.pingora_cache.proofs.LockKept.{go, holds-none, reversed-two}
-use Rattle.pingora_cache.proofs.LockSteps.{let-go-deeds, no_locks_move}
+use Rattle.pingora_cache.proofs.LockSteps.{let-go-deeds}
 use Rattle.pingora_cache.proofs.LockTable as table
 use Rattle.pingora_cache.proofs.LockTable.{Follows, given-asked, held-handed, some-same}
 use Rattle.pingora_cache.proofs.LockWatch.{watch-same}

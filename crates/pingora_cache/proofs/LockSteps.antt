@@ -9,7 +9,6 @@ use Rattle.pcache_evict.specs.declared.eviction.entry_key.CacheEntryKey.{CacheEn
 use Rattle.pcache_lock.specs.Locks.{Locks, holder, lock_given, is_permit, number_of_lock}
 use Rattle.pcache_lock.specs.Statuses.{IsReason}
 use Rattle.pcache_lock.specs.declared.lock.permit.Locked.{Locked}
-use Rattle.pcache_lock.specs.declared.lock.permit.Locked.TheVariants.{Write, Read}
 use Rattle.pcache_lock.specs.declared.lock.status.LockStatus.{LockStatus}
 use Rattle.pcache_lock.specs.declared.lock.status.LockStatus.TheVariants.{Done, TransientError}
 use Rattle.pcache_meta.specs.Meta.{Meta}
@@ -24,7 +23,7 @@ use Rattle.pcache_history.specs.declared.entry.Answer.{Answer}
 use Rattle.pcache_history.specs.declared.entry.Event.{Event}
 use Rattle.pcache_history.specs.declared.entry.Event.TheVariants as E
 use Rattle.pcache_history.specs.Deeds.{Deed, Asked, Released, LetGo, deed_of, deeds_by, keeps, published_on}
-use Rattle.pingora_cache.specs.LockMoves.{LockMove, MayMove, MovesLocks, asks, deeds_moved, each_deed, lets_go, publishes, rests, settles, table_moved}
+use Rattle.pingora_cache.specs.LockMoves.{MovesLocks, asks, each_deed, lets_go, publishes, rests, settles}
 use Rattle.pcache_history.specs.Rules.{accesses, drop_of, each, permit_of}
 use Rattle.pingora_cache.specs.Step.{asking, permit_in, refused_end, renewing, untracking}
 use Rattle.pcache_history.specs.Waiting.{AreOfNoLock, IsOfNoLock}

@@ -1,5 +1,5 @@
 -- What a look-up tells is what its rule wants, and what it makes of its request is its row.
-use Rattle.std.proofs.Common.{◌≡◌, ℕ, ◌&&◌, Bool, true, false, cond, Option, None, Some, is_none, IsTrue, List, [], ◌∷◌, ◌++◌, refl, ap, sym, subst, ◌∙◌, inl, inr, ◌≤◌, ◌^◌}
+use Rattle.std.proofs.Common.{◌≡◌, ℕ, ◌&&◌, Bool, true, false, cond, Option, None, Some, is_none, List, [], ◌∷◌, ◌++◌, refl, ap, sym, subst, ◌∙◌, inl, inr, ◌≤◌, ◌^◌}
 use Rattle.pcache_base.specs.Key.{Key, slot}
 use Rattle.pcache_lock.specs.Locks.{Locks}
 use Rattle.pcache_lock.specs.declared.lock.permit.Locked.{Locked}
@@ -24,7 +24,7 @@ use Rattle.pingora_cache.specs.PartFacts.{facts_in}
 use Rattle.pcache_history.specs.Held.{Held, asked, carrying, decides, is_wrong, looked_by, looked_with, outcome, pair_of, pair_reader}
 use Rattle.pcache_evict.specs.Tracked.{Limits}
 use Rattle.pingora_cache.specs.Moved.{Act, Acts, At, Did, Joins, Leaves, IsNextAt, MovesStore, after_event, after_join, after_leave, at_call}
-use Rattle.pcache_history.specs.Rules.{AsksIf, HandsOn, IsOther, Looks, LooksOn, Misses, drop_of, each, permit_of, release_of}
+use Rattle.pcache_history.specs.Rules.{AsksIf, HandsOn, IsOther, Looks, LooksOn, Misses, drop_of, permit_of, release_of}
 use Rattle.pingora_cache.specs.Step.{DefersKey, MissesKey, store_ended, with_own_decision}
 use Rattle.pingora_cache.proofs.Keeps.{asked-write, keeps-asked, keeps-decided}
 use Rattle.pingora_cache.proofs.MovesOf.{AreQuiet, defers, hidden, noted, quiet-each}

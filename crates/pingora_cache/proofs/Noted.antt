@@ -1,5 +1,5 @@
 -- What a world notes of a look-up and of what it takes is what the request became.
-use Rattle.std.proofs.Common.{◌≡◌, ℕ, Bool, true, false, not, ◌&&◌, cond, if◌then◌else◌, Option, None, Some, inl, inr, is_some, List, [], ◌∷◌, ◌++◌, refl, ap, sym, subst, ◌∙◌, IfSome, IsTrue, option_map, Result, Ok, Err, IfOk, IfErr, OnErr}
+use Rattle.std.proofs.Common.{◌≡◌, ℕ, Bool, true, false, ◌&&◌, cond, if◌then◌else◌, Option, None, Some, inl, inr, is_some, List, [], ◌∷◌, ◌++◌, refl, ap, sym, subst, ◌∙◌, IfSome, IsTrue, option_map, Result, Ok, Err, IfOk, IfErr, OnErr}
 use Rattle.std.specs.FinMap as map
 use Rattle.pcache_base.specs.CompactKey.{compact_of}
 use Rattle.pcache_base.specs.Key.{Key, slot}

@@ -4,7 +4,7 @@ use Rattle.std.specs.Ordering.{nat_cmp}
 use Rattle.std.specs.FinMap.{FinMap, empty, get, get-empty}
 use Rattle.std.proofs.lemmas.Bool.{eqb-true}
 use Rattle.pcache_history.specs.declared.entry.Entry.{Entry}
-use Rattle.pcache_history.specs.Held.{Held, number_of, outcome, row, request_of, taken_over}
+use Rattle.pcache_history.specs.Held.{Held, outcome, row, request_of, taken_over}
 use Rattle.pingora_cache.specs.Untold.{untold}
 use Rattle.pingora_cache.specs.Sound.{AreOpen}
 use Rattle.pingora_cache.proofs.MovedState.{set_to}

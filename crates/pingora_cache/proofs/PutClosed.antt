@@ -1,26 +1,22 @@
 -- What the end of a put does, by what its context promises.
-use Rattle.std.proofs.Common.{◌≡◌, ℕ, ◌⊎◌, length, true, false, cond, is_some, Option, None, Some, IsSome, List, [], ◌∷◌, ◌++◌, refl, ap, sym, subst, ◌∙◌, inl, inr, option_map}
-use Rattle.std.specs.FinMap.{get}
+use Rattle.std.proofs.Common.{◌≡◌, ℕ, ◌⊎◌, length, true, false, is_some, Option, None, Some, List, [], ◌∷◌, ◌++◌, refl, ap, sym, subst, ◌∙◌, inl, inr}
 use Rattle.pcache_base.specs.CompactKey.{compact_of}
-use Rattle.pcache_base.specs.Key.{Key, slot}
+use Rattle.pcache_base.specs.Key.{slot}
 use Rattle.pcache_base.specs.declared.error.ErrorType.{ErrorType}
 use Rattle.pcache_base.specs.declared.error.ErrorType.TheVariants as error
 use Rattle.pcache_base.specs.declared.error.ErrorType.TheVariants.{OutOfMemory, IncompleteHttpBody}
-use Rattle.pcache_base.specs.declared.reason.NoCacheReason.{NoCacheReason}
 use Rattle.pcache_evict.specs.Entry.{key_of}
 use Rattle.pcache_evict.specs.Tracked.{Tracked, Limits}
 use Rattle.pcache_evict.specs.declared.eviction.entry_key.CacheEntryKey.{CacheEntryKey}
 use Rattle.pcache_evict.specs.declared.eviction.entry_key.CacheEntryKey.TheVariants.{KeyOnly}
 use Rattle.pcache_lock.specs.Locks.{Locks, no_locks}
-use Rattle.pcache_lock.specs.declared.lock.status.LockStatus.{LockStatus}
-use Rattle.pcache_put.specs.Progress.{Parsed, HasFailed}
 use Rattle.pcache_put.specs.Counted.{Counted}
 use Rattle.pcache_put_ctx.specs.Puts.{Piece, Says, Outcome as Comes, IsResult}
 use Rattle.pcache_put_ctx.specs.State.{Stage, InHead, InBody, HasDeclined, IsOver, Filled, TakenBy, limit_of, write_in}
 use Rattle.pcache_put_ctx.specs.Steps.{EndsEarly, EndsPut, TellsResult, entry_told, stage_ended, write_end}
 use Rattle.pcache_put_ctx.specs.declared.report.PutEnd.{PutEnd}
 use Rattle.pcache_put_ctx.specs.declared.report.PutEnd.TheVariants as end
-use Rattle.pcache_request.specs.Finishing.{Stores, Drops, Withdraws, after_finish}
+use Rattle.pcache_request.specs.Finishing.{after_finish}
 use Rattle.pcache_request.specs.Requests.{Request, dropped_by, entry_of}
 use Rattle.pcache_request.specs.WriteEnds.{EndsBody, EndsWrite as EndsIn, HoldsNoLock}
 use Rattle.pcache_request.specs.declared.cache.finish.WriteEnd.{WriteEnd}
@@ -28,16 +24,16 @@ use Rattle.pcache_request.specs.declared.cache.finish.WriteEnd.TheVariants as wr
 use Rattle.pcache_request.specs.declared.cache.finish.FinishReport.{FinishReport}
 use Rattle.pcache_store.specs.Finishes.{created}
 use Rattle.pcache_store.specs.Refusals.{MayRefuseFinish}
-use Rattle.pcache_store.specs.Store.{Reader, Store, dropped, is_untouched}
+use Rattle.pcache_store.specs.Store.{Store, dropped}
 use Rattle.pcache_history.specs.declared.call.Reply.{Reply}
 use Rattle.pcache_history.specs.declared.call.Reply.TheVariants as R
 use Rattle.pcache_history.specs.declared.entry.Event.{Event}
 use Rattle.pcache_history.specs.declared.entry.Event.TheVariants as E
-use Rattle.pcache_history.specs.Due.{IsOfWorld, MaySettle, reader_for, slot_of}
+use Rattle.pcache_history.specs.Due.{IsOfWorld, reader_for, slot_of}
 use Rattle.pcache_history.specs.Facts.{Facts}
 use Rattle.pingora_cache.specs.PartFacts.{facts_in}
 use Rattle.pcache_history.specs.Held.{Held, held_put}
-use Rattle.pingora_cache.specs.Moved.{Act, Did, Joins, Leaves, Acts, At, IsNextAt, IsSame, MayMove, Moves, MovesBy, after_event, after_join, after_leave, at_call}
+use Rattle.pingora_cache.specs.Moved.{Act, Did, Joins, Leaves, Acts, At, IsNextAt, IsSame, Moves, after_event, after_join, after_leave, at_call}
 use Rattle.pcache_history.specs.PutHistory.{Tells}
 use Rattle.pingora_cache.specs.PutSteps.{IsUnwritten, IsWritten, end_noted, end_reply}
 use Rattle.pcache_history.specs.Rules.{Closes, ClosesAt, EndsFilling}

@@ -27,12 +27,12 @@ use Rattle.pcache_history.specs.declared.entry.Event.TheVariants as E
 use Rattle.pcache_history.specs.Due.{slot_of}
 use Rattle.pcache_history.specs.Facts.{Facts}
 use Rattle.pingora_cache.specs.PartFacts.{facts_in}
-use Rattle.pcache_history.specs.Held.{Held, Outcome, was_declined, was_done, was_refused, fed, held_put, stage_fed, stage_noted}
+use Rattle.pcache_history.specs.Held.{Held, held_put, stage_noted}
 use Rattle.pingora_cache.specs.Untold.{untold, uncounted}
 use Rattle.pingora_cache.specs.Moved.{At, Moves, MovesBy, MovesStore, at_call}
 use Rattle.pcache_history.specs.PutHistory.{filled_by}
-use Rattle.pingora_cache.specs.PutsSound.{PutTurn, TakenIn}
-use Rattle.pcache_history.specs.Rules.{Feeds, FeedsAt, IsFeedRefusal, TakesPiece, began_noted, drop_of, piece_noted, wrote_noted}
+use Rattle.pingora_cache.specs.PutsSound.{PutTurn}
+use Rattle.pcache_history.specs.Rules.{Feeds, FeedsAt, IsFeedRefusal, began_noted, drop_of, piece_noted, wrote_noted}
 use Rattle.pingora_cache.specs.Step.{IsRow}
 use Rattle.pcache_history.specs.Taking.{Taking, counted_none}
 use Rattle.pcache_history.specs.Waiting.{AreOfNoLock}

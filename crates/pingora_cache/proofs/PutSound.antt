@@ -1,5 +1,5 @@
 -- A step of a sound world keeps what it keeps of its puts.
-use Rattle.std.proofs.Common.{◌≡◌, ℕ, ◌==◌, true, false, cond, if◌then◌else◌, Option, None, Some, List, [], ◌∷◌, ◌++◌, refl, ap, sym, subst, ◌∙◌, inl, inr, option_map, reverse}
+use Rattle.std.proofs.Common.{◌≡◌, ℕ, ◌==◌, true, false, cond, if◌then◌else◌, Option, None, Some, List, [], ◌∷◌, refl, ap, sym, subst, ◌∙◌, inl, inr, option_map, reverse}
 use Rattle.std.proofs.lemmas.Bool.{eqb-true}
 use Rattle.std.specs.BTreeMap.{is_at}
 use Rattle.std.specs.Map.{lookup}
@@ -16,9 +16,9 @@ use Rattle.pcache_history.specs.declared.call.Reply.TheVariants as R
 use Rattle.pcache_history.specs.declared.entry.Entry.{Entry}
 use Rattle.pcache_history.specs.declared.entry.Event.{Event}
 use Rattle.pcache_request.specs.LockUse.{unheld}
-use Rattle.pcache_history.specs.Held.{Held, is_done, number_of, outcome, request_of, row, taken_over, turned_by}
+use Rattle.pcache_history.specs.Held.{Held, is_done, outcome, request_of, row, taken_over, turned_by}
 use Rattle.pingora_cache.specs.Untold.{untold, uncounted, untold_put}
-use Rattle.pcache_history.specs.PutHistory.{AreTold, ClosesBy, IsTold, StoodBy, Tells, TellsOf, filled_after, filled_of, pieces_of, pieces_on}
+use Rattle.pcache_history.specs.PutHistory.{ClosesBy, StoodBy, Tells, TellsOf, filled_after, filled_of, pieces_of, pieces_on}
 use Rattle.pingora_cache.specs.PutsSound.{HasSome, PutTurn, PutsSound, TakenIn}
 use Rattle.pcache_history.specs.Rules.{IsCopy}
 use Rattle.pingora_cache.specs.Sound.{AreOpen}

@@ -1,9 +1,6 @@
 -- What the functions of puts' calls promise, as one turn, and what every call does to what a put has taken in.
-use Rattle.std.proofs.Common.{◌≡◌, ℕ, Bool, true, false, cond, Option, None, Some, IsSome, List, [], ◌++◌, refl, ap, sym, subst, ◌∙◌, inl, inr, is_some, option_map}
+use Rattle.std.proofs.Common.{◌≡◌, ℕ, Bool, true, false, cond, Option, None, Some, IsSome, List, [], refl, ap, sym, subst, ◌∙◌, inl, inr, is_some}
 use Rattle.std.proofs.lemmas.Bool.{both_ways}
-use Rattle.std.specs.Ordering.{nat_cmp}
-use Rattle.std.specs.Map.{lookup}
-use Rattle.std.specs.BTreeMap.{is_at}
 use Rattle.pcache_base.specs.Key.{Key}
 use Rattle.pcache_evict.specs.Tracked.{Tracked, Limits}
 use Rattle.pcache_lock.specs.Locks.{Locks}
@@ -16,20 +13,20 @@ use Rattle.pcache_history.specs.declared.call.Act.TheVariants as C
 use Rattle.pcache_history.specs.declared.call.Reply.{Reply}
 use Rattle.pcache_history.specs.declared.call.Reply.TheVariants as R
 use Rattle.pcache_history.specs.declared.entry.Event.{Event}
-use Rattle.pcache_history.specs.Deeds.{deeds_by, deeds_in, held_in, moment_of, said_by, status_left}
-use Rattle.pcache_history.specs.Due.{IsOfWorld, KeepsKey, IsOfWorldIn}
+use Rattle.pcache_history.specs.Deeds.{deeds_in, held_in, status_left}
+use Rattle.pcache_history.specs.Due.{KeepsKey, IsOfWorldIn}
 use Rattle.pcache_history.specs.Facts.{Facts, request_in}
 use Rattle.pingora_cache.specs.PartFacts.{facts_in, no_facts}
-use Rattle.pcache_history.specs.Held.{Held, IsHeldPut, Outcome, was_wrong, held_put, is_done, is_wrong, number_of, outcome, row}
+use Rattle.pcache_history.specs.Held.{Held, IsHeldPut, was_wrong, held_put, is_done, is_wrong, outcome, row}
 use Rattle.pingora_cache.specs.Handing.{open_at}
-use Rattle.pingora_cache.specs.LockMoves.{MovesLocks}
 use Rattle.pingora_cache.specs.Moved.{Moves, MovesRequest, MovesStore}
 use Rattle.pcache_history.specs.PutHistory.{ClosesBy, filled_after, pieces_on}
 use Rattle.pingora_cache.specs.PutsSound.{HasSome, PutTurn, TakenIn}
-use Rattle.pcache_history.specs.Rules.{Closes, Feeds, FindsKind, IsDone, IsIdle, IsOfKind, IsOther, MayBe, Replies, drop_of, let_go_of}
-use Rattle.pingora_cache.specs.Step.{IsPutIn, IsRequestIn, IsRow, IsRowed, Turn}
+use Rattle.pcache_history.specs.Rules.{Feeds, FindsKind, IsIdle, IsOfKind, IsOther, MayBe, Replies}
+use Rattle.pingora_cache.specs.Step.{IsRow, IsRowed, Turn}
 use Rattle.pcache_history.specs.Taking.{Taking, new_put}
 use Rattle.pcache_history.specs.Waiting.{AreOfNoLock}
+use Rattle.pcache_history.proofs.PutShape.{wrong-filled}
 use Rattle.pingora_cache.proofs.LockSteps.{no_locks_move, quiet-deeds}
 use Rattle.pingora_cache.proofs.TurnOf.{row-at}
 
@@ -139,11 +136,11 @@ none-answered f act q is fails = subst (λ (p : Option Held). Replies f act p R.
 pub other-answered : (f : Facts) (act : Act) (q : Option Held) (x : Held) → q ≡ Some x → (IsOfKind act x → ⊥) → Replies f act q R.WrongCall []
 other-answered f act q x is other = subst (λ (p : Option Held). Replies f act p R.WrongCall []) (sym is) (inr (other, (refl, refl)))
 
-pub feeds-answered : (f : Facts) (bytes : List ℕ) (at : ℕ) (x : Held) (reply : Reply) (events : List Event) → IsHeldPut x → IsOther reply → Feeds f x.put reply events → Replies f (C.Feed bytes at) (Some x) reply events
-feeds-answered f bytes at x reply events held other feeds = inl (subst IsSome (sym (ap (λ (z : Held). z.put) held.1)) refl, inl (tt, other, feeds))
+pub feeds-answered : (f : Facts) (bytes : List ℕ) (at : ℕ) (x : Held) (reply : Reply) (events : List Event) → IsSome x.put → IsOther reply → Feeds f x.put reply events → Replies f (C.Feed bytes at) (Some x) reply events
+feeds-answered f bytes at x reply events some other feeds = inl (some, inl (tt, other, feeds))
 
-pub put-is-there : (x : Held) → IsHeldPut x → x.put ≡ None → ⊥
-put-is-there x held none = let no : Some held.0 ≡ None = sym (ap (λ (z : Held). z.put) held.1) ∙ none in absurd (cc)
+pub put-is-there : (x : Held) → IsSome x.put → x.put ≡ None → ⊥
+put-is-there x some none = both_ways (is_some x.put) (ap is_some none) some
 
 pub none-is-there : (x : Held) → x.put ≡ None → IsSome x.put → ⊥
 none-is-there x plain some = both_ways (is_some x.put) (ap is_some plain) some

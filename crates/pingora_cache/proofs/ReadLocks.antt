@@ -3,7 +3,7 @@ use Rattle.std.proofs.Common.{◌≡◌, ℕ, ◌+◌, ◌<◌, ◌≤◌, ◌==
 use Rattle.std.specs.Ordering.{nat_cmp}
 use Rattle.std.specs.Cmp.{nat_cmp_total}
 use Rattle.std.specs.FinMap.{FinMap, empty, from_entries, get, insert, remove, nat_cmp-IsAntisymmetric}
-use Rattle.pcache_base.specs.Totals.{total, share}
+use Rattle.pcache_base.specs.Totals.{share}
 use Rattle.pcache_base.proofs.Totals.{total-empty, total-insert, total-remove}
 use Rattle.pcache_lock.specs.Permits.{Reader}
 use Rattle.pcache_lock.specs.declared.lock.permit.Locked.{Locked}

@@ -2,7 +2,6 @@
 use Rattle.std.proofs.Common.{◌≡◌, ℕ, true, false, cond, Option, None, Some, List, [], ◌++◌, refl, ap, sym, subst, ◌∙◌, arith, inl, inr, option_map}
 use Rattle.std.proofs.lemmas.Bool.Decides.{nat_tests}
 use Rattle.std.specs.Ordering.{nat_cmp}
-use Rattle.std.specs.Map.{lookup}
 use Rattle.std.specs.BTreeMap.{is_at}
 use Rattle.pcache_evict.specs.Tracked.{Tracked, Limits}
 use Rattle.pcache_lock.specs.Locks.{Locks}
@@ -85,6 +84,10 @@ wrong-turn limits r act q q' s m t reply events replies now wrong none =
       now = ap (option_map untold) (sym (wrong-change (change_of act) q));
       locks = no_locks_move r (deeds_in r act was_wrong [] q) (held_in q) (held_in q) t t (ap (λ ds. ds ++ []) (wrong-said r act (held_in q))) refl refl;
     })))
+
+-- the same, whatever the facts are
+pub wrong-turned : (limits : Limits) (r : ℕ) (act : Act) (q q' : Option Held) (s : Store) (m : Tracked) (t : Locks) (reply : Reply) (events : List Event) → ((f : Facts) → Replies f act q R.WrongCall []) → q' ≡ q → reply ≡ R.WrongCall → events ≡ [] → Turn limits r act q s m t reply events q' s m t
+wrong-turned limits r act q q' s m t reply events replies now wrong none = wrong-turn limits r act q q' s m t reply events (replies (facts_in s t (request_in q))) now wrong none
 
 -- as one call of one request or put
 pub acts-as : (limits : Limits) (says : Says) (call : Call) (act : Act) (all all' : List (ℕ × Held)) (s s' : Store) (m m' : Tracked) (t t' : Locks) (reply : Reply) (events : List Event) → call.act ≡ act → IsOfOne act

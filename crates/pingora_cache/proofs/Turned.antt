@@ -13,7 +13,7 @@ use Rattle.pcache_history.specs.declared.call.Call.{Call}
 use Rattle.pcache_history.specs.declared.call.Reply.{Reply}
 use Rattle.pcache_history.specs.declared.entry.Entry.{Entry}
 use Rattle.pcache_history.specs.declared.entry.Event.{Event}
-use Rattle.pcache_history.specs.Held.{Held, number_of, IsOfOne}
+use Rattle.pcache_history.specs.Held.{Held, IsOfOne}
 use Rattle.pingora_cache.specs.Untold.{untold}
 use Rattle.pingora_cache.specs.LockTable.{read_locks}
 use Rattle.pcache_history.specs.Rules.{IsCopy}

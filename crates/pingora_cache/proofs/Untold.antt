@@ -45,7 +45,7 @@ use Rattle.pcache_history.specs.Deeds.{deeds_by, deeds_in, held_in, moment_of, s
 use Rattle.pcache_history.specs.Due.{IsOfWorld, KeepsKey, makes_of, reader_for, slot_of}
 use Rattle.pcache_history.specs.Facts.{Facts, request_in}
 use Rattle.pingora_cache.specs.PartFacts.{facts_in}
-use Rattle.pcache_history.specs.Held.{Held, Outcome, was_done, was_waited, opened, is_done, is_taken, is_wrong, number_of, outcome, on_request, pair_of, with_given, asked, carrying, decides, looked_with, looked_by, looks_for, placed_by, taken_by, turned_by, shut_by, without_pair, fed, fed_in, held_put, began, ended, has_read, waited_by, row, row_by}
+use Rattle.pcache_history.specs.Held.{Held, Outcome, was_done, was_waited, opened, is_done, is_taken, is_wrong, outcome, on_request, pair_of, with_given, asked, carrying, decides, looked_with, looked_by, looks_for, placed_by, taken_by, turned_by, shut_by, without_pair, fed, fed_in, held_put, began, ended, has_read, waited_by, row, row_by}
 use Rattle.pingora_cache.specs.Untold.{untold, uncounted, untold_put, untold_lock, untold_reader, untold_request, untold_watch}
 use Rattle.pingora_cache.specs.Moved.{reads_of}
 use Rattle.pcache_history.specs.Rules.{Answers, AsksIf, Closes, Does, Feeds, FindsKind, IsOfKind, Replies, Finishes, HandsOn, IsLockRefusal, IsStarved, Looks, LooksOn, MayBe, Misses, Takes, Waits, accesses}
@@ -273,6 +273,7 @@ unfed x = record { request = x.request; pair = x.pair; carried = x.carried; put 
 
 may-put : (f : Facts) (act : Act) (x : Held) → MayBe f act (Some (unfed x)) ≡ MayBe f act (Some x)
 may-put f (C.Open options) x = refl
+may-put f (C.Request Q.Phase) x = refl
 may-put f act x = refl
 
 feeds-put : (f : Facts) (p : Option Taking) (reply : Reply) (events : List Event) → Feeds f (option_map untold_put p) reply events ≡ Feeds f p reply events
@@ -284,6 +285,7 @@ closes-put f None reply events = refl
 closes-put f (Some p) reply events = refl
 
 does-put : (f : Facts) (act : Act) (x : Held) (reply : Reply) (events : List Event) → Does f act (Some (unfed x)) reply events ≡ Does f act (Some x) reply events
+does-put f (C.Request Q.Phase) x reply events = refl
 does-put f (C.Feed bs t) x reply events = feeds-put f x.put reply events
 does-put f C.Close x reply events = closes-put f x.put reply events
 does-put f act x reply events = refl

@@ -1,12 +1,12 @@
 -- What a wait does to its request and to the lock table, as one move.
-use Rattle.std.proofs.Common.{◌≡◌, ℕ, Bool, true, false, cond, if◌then◌else◌, Option, None, Some, is_some, IsSome, IfSome, IsOk, List, [], ◌∷◌, ◌++◌, refl, ap, sym, subst, ◌∙◌, option_map, Result, Ok, Err}
+use Rattle.std.proofs.Common.{◌≡◌, ℕ, Bool, true, false, if◌then◌else◌, Option, None, Some, is_some, IsSome, IfSome, IsOk, List, [], ◌∷◌, ◌++◌, refl, ap, sym, subst, ◌∙◌, option_map, Result, Err}
 use Rattle.std.specs.FinMap.{get}
 use Rattle.pcache_base.specs.declared.fills.UnusableFill.{UnusableFill}
 use Rattle.pcache_base.specs.declared.poll.Poll.{Poll}
 use Rattle.pcache_base.specs.declared.poll.Poll.TheVariants.{Ready, Pending}
-use Rattle.pcache_lock.specs.Locks.{Locks, let_go, reader_dropped}
+use Rattle.pcache_lock.specs.Locks.{Locks, reader_dropped}
 use Rattle.pcache_lock.specs.Permits.{Core, Reader, Watch}
-use Rattle.pcache_lock.specs.Waiting.{after_poll, answer_at, watched, polled, reader_polled, stage_of, status_seen, table_at, told_or_pending, watch_at}
+use Rattle.pcache_lock.specs.Waiting.{after_poll, answer_at, watched, polled, reader_polled, stage_of, table_at, watch_at}
 use Rattle.pcache_lock.specs.declared.lock.outcome.LockWaitOutcome.{LockWaitOutcome}
 use Rattle.pcache_lock.specs.declared.lock.outcome.Stage.{Stage}
 use Rattle.pcache_lock.specs.declared.lock.outcome.Stage.TheVariants as stage
@@ -16,7 +16,7 @@ use Rattle.pcache_lock.specs.declared.lock.permit.Locked.{Locked}
 use Rattle.pcache_lock.specs.declared.lock.permit.Locked.TheVariants.{Write, Read}
 use Rattle.pcache_lock.specs.declared.lock.status.LockStatus.{LockStatus}
 use Rattle.pcache_request.specs.LockUse.{read_in}
-use Rattle.pcache_request.specs.LockWaits.{after_wait, answer_by, finds_too_old, held_after, is_late, is_old_answer, let_go_after, since_of, table_waited, too_old_for, unusable_in, wait_answer, waited}
+use Rattle.pcache_request.specs.LockWaits.{answer_by, held_after, is_old_answer, let_go_after, table_waited, too_old_for, unusable_in, wait_answer, waited}
 use Rattle.pcache_request.specs.Reports.{name_of}
 use Rattle.pcache_request.specs.Requests.{Request}
 use Rattle.pcache_request.specs.declared.cache.report.LockName.{LockName}
@@ -24,8 +24,8 @@ use Rattle.pcache_history.specs.declared.call.Act.TheVariants as C
 use Rattle.pcache_history.specs.declared.call.Reply.{Reply}
 use Rattle.pcache_history.specs.declared.entry.Event.{Event}
 use Rattle.pcache_history.specs.declared.entry.Event.TheVariants as E
-use Rattle.pcache_history.specs.Deeds.{Deed, Aged, deeds_in}
-use Rattle.pcache_history.specs.Due.{IsOfWorld, KeepsIn}
+use Rattle.pcache_history.specs.Deeds.{deeds_in}
+use Rattle.pcache_history.specs.Due.{KeepsIn}
 use Rattle.pcache_history.specs.Held.{outcome, waited_by, was_waited}
 use Rattle.pingora_cache.specs.LockMoves.{MovesLocks, ages, lets_go, polls}
 use Rattle.pcache_history.specs.Rules.{each, number_read, wait_reply, was_polled}

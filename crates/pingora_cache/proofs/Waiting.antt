@@ -1,14 +1,12 @@
 -- What calls make of the lock table is what their events say of it, and which locks a legal history gives.
-use Rattle.std.proofs.Common.{◌≡◌, ℕ, ◌==◌, Bool, true, false, not, ◌&&◌, ◌||◌, cond, if◌then◌else◌, Option, None, Some, List, [], ◌∷◌, ◌++◌, refl, ap, sym, subst, ◌∙◌, arith, inr, reverse, ◌↔◌}
+use Rattle.std.proofs.Common.{◌≡◌, ℕ, ◌==◌, Bool, true, false, ◌&&◌, ◌||◌, cond, Option, None, Some, List, [], ◌∷◌, ◌++◌, refl, ap, sym, subst, ◌∙◌, arith, inr, reverse}
 use Rattle.std.specs.List.{list_any}
 use Rattle.std.specs.FinMap.{get, insert, remove, get-empty}
 use Rattle.std.specs.Ordering.{nat_cmp}
-use Rattle.std.proofs.lemmas.Bool.{eqb-true}
 use Rattle.std.proofs.lemmas.Bool.Decides.{nat_tests}
 use Rattle.std.proofs.lemmas.List.{append_assoc}
 use Rattle.pcache_base.specs.declared.fills.UnusableFill.{UnusableFill}
 use Rattle.pcache_base.specs.declared.poll.Poll.TheVariants.{Pending, Ready}
-use Rattle.pcache_evict.specs.Tracked.{Tracked, Limits}
 use Rattle.pcache_lock.specs.Locks.{Locks, no_locks, holder, lock_given, after_request, with_read_lock, released, released_on, left, kept, let_go, permit_dropped, reader_dropped, is_permit, number_of_lock, without_entry}
 use Rattle.pcache_lock.specs.Permits as permits
 use Rattle.pcache_lock.specs.Permits.{Core, Permit, is_named, spent, released_status, dropped_status, without_reader}
@@ -24,6 +22,7 @@ use Rattle.pcache_lock.specs.declared.lock.status.LockStatus.{LockStatus}
 use Rattle.pcache_lock.specs.declared.lock.status.LockStatus.TheVariants.{GiveUp}
 use Rattle.pcache_base.specs.declared.reason.NoCacheReason.{NoCacheReason}
 use Rattle.pcache_base.specs.declared.reason.NoCacheReason.TheVariants as reason
+use Rattle.pcache_history.proofs.Waiting.{after-in}
 use Rattle.pcache_lock.proofs.Calls.{finds_the_waiting}
 use Rattle.pcache_lock.proofs.Ends.{waits_until_its_end}
 use Rattle.pcache_request.specs.LockUse.{published_by}
@@ -33,19 +32,14 @@ use Rattle.pcache_request.specs.Requests.{let_go_by, settled}
 use Rattle.pcache_history.specs.declared.call.Act.{Act}
 use Rattle.pcache_history.specs.declared.call.Act.TheVariants as C
 use Rattle.pcache_history.specs.declared.call.RequestAct.TheVariants as Q
-use Rattle.pcache_history.specs.declared.entry.Entry.{Entry}
 use Rattle.pcache_history.specs.declared.entry.Event.{Event}
 use Rattle.pcache_history.specs.declared.entry.Event.TheVariants as E
 use Rattle.pcache_history.specs.Deeds.{Deed, Asked, Released, LetGo, Aged, deed_of, deeds_by, deeds_in, held_in, moment_of, published_on, said_by, status_left, handed_on}
-use Rattle.pcache_history.specs.Headline.{GivesThePermitExactly, OnePermitWaits}
-use Rattle.pcache_history.specs.Held.{Held, Outcome, number_of, was_done, was_other, was_taken, was_waited, was_wrong}
-use Rattle.pcache_history.specs.History.{events_of}
-use Rattle.pcache_history.specs.Legal.{IsLegal}
+use Rattle.pcache_history.specs.Held.{Held, Outcome, was_done, was_other, was_taken, was_waited, was_wrong}
 use Rattle.pingora_cache.specs.LockMoves.{LockMove, MayMove, MovesLocks, ages, asks, deeds_moved, each_deed, lets_go, polls, publishes, rests, settles, table_moved, table_polled}
 use Rattle.pcache_history.specs.Rules.{each, number_read, permit_of}
-use Rattle.pcache_history.specs.Waiting.{Waiting, none_waiting, waits_at, then_waiting, waiting_after, waiting_in, NoneWaits, Gets, IsGiven, AreGiven, IsOfNoLock, AreOfNoLock}
+use Rattle.pcache_history.specs.Waiting.{Waiting, then_waiting, waiting_after, waiting_in, IsGiven, AreGiven, IsOfNoLock, AreOfNoLock}
 use Rattle.pingora_cache.specs.TableWaiting.{waiting_of, IsReached, IsLocked, LocksMoved}
-use Rattle.pcache_history.proofs.Runs.{turned}
 
 -- ---- calls that lead to a table
 

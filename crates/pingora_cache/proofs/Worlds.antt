@@ -16,7 +16,7 @@ use Rattle.pcache_history.specs.declared.entry.Entry.{Entry}
 use Rattle.pcache_history.specs.declared.entry.Event.{Event}
 use Rattle.pcache_put_ctx.specs.Puts.{Says}
 use Rattle.pingora_cache.specs.Handing.{Acts, of_one, of_two, open_at}
-use Rattle.pcache_history.specs.Held.{Held, number_of}
+use Rattle.pcache_history.specs.Held.{Held}
 use Rattle.pingora_cache.specs.LockTable.{IsTable, read_locks}
 use Rattle.pcache_history.specs.Log.{started}
 use Rattle.pcache_history.specs.Rules.{IsCopy}

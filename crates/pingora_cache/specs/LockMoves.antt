@@ -1,11 +1,10 @@
 -- What one call does to the lock table and to the lock that its request holds (own): one definition a kind of move.
-use Rattle.std.specs.Prelude.{◌≡◌, ℕ, Bool, true, false, Option, None, Some, List, [], ◌∷◌}
+use Rattle.std.specs.Prelude.{◌≡◌, ℕ, Bool, true, Option, None, Some, List, [], ◌∷◌}
 use Rattle.std.specs.Option.{option_map}
 use Rattle.std.specs.FinMap.{get}
 use Rattle.pcache_base.specs.declared.fills.UnusableFill.{UnusableFill}
 use Rattle.pcache_base.specs.declared.poll.Poll.TheVariants.{Pending}
-use Rattle.pcache_lock.specs.Locks.{Locks, holder, lock_given, after_request, reader_dropped, is_permit, number_of_lock}
-use Rattle.pcache_lock.specs.Permits.{Reader}
+use Rattle.pcache_lock.specs.Locks.{Locks, holder, lock_given, after_request, is_permit, number_of_lock}
 use Rattle.pcache_lock.specs.Statuses.{IsReason}
 use Rattle.pcache_lock.specs.Waiting.{after_poll, polled, reader_polled}
 use Rattle.pcache_lock.specs.declared.lock.permit.Locked.{Locked}

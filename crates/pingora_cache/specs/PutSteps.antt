@@ -1,5 +1,5 @@
 -- How the end of a put is noted and answered, as the code makes it (own).
-use Rattle.std.specs.Prelude.{◌≡◌, ℕ, true, Option, None, Some, IsSome, List, [], ◌∷◌, length}
+use Rattle.std.specs.Prelude.{ℕ, true, Option, None, Some, IsSome, List, [], ◌∷◌, length}
 use Rattle.pcache_evict.specs.declared.eviction.entry_key.CacheEntryKey.{CacheEntryKey}
 use Rattle.pcache_evict.specs.declared.eviction.entry_key.CacheEntryKey.TheVariants.{KeyOnly}
 use Rattle.pcache_evict.specs.Entry.{key_of}

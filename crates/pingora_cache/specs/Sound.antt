@@ -1,17 +1,14 @@
 -- For the prover: what a world keeps. Its history is legal, and its parts are what the history says (own).
-use Rattle.std.specs.Prelude.{◌≡◌, ℕ, ◌+◌, ◌<◌, ◌≤◌, ◌==◌, ◌||◌, nat_lt, true, false, if◌then◌else◌, Option, None, Some, is_some, IfSome, List, [], ◌∷◌}
+use Rattle.std.specs.Prelude.{◌≡◌, ℕ, ◌+◌, ◌<◌, ◌==◌, ◌||◌, nat_lt, true, false, if◌then◌else◌, Option, None, Some, is_some, List}
 use Rattle.std.specs.Option.{option_map}
 use Rattle.std.specs.Ordering.{nat_cmp}
 use Rattle.std.specs.FinMap as map
 use Rattle.pcache_lock.specs.Locks.{Locks}
-use Rattle.pcache_meta.specs.Meta.{Meta}
 use Rattle.pcache_base.specs.Totals.{total}
-use Rattle.pcache_evict.specs.declared.eviction.entry_key.CacheEntryKey.{CacheEntryKey}
 use Rattle.pcache_evict.specs.Tracked.{Tracked, Limits}
 use Rattle.pcache_store.specs.Store.{Store, Slot, Written, Reader, Whole, Part, complete_body, is_untouched_in, is_idle}
 use Rattle.pcache_history.specs.declared.entry.Entry.{Entry}
 use Rattle.pcache_history.specs.declared.entry.Event.{Event}
-use Rattle.pcache_history.specs.declared.entry.Event.TheVariants.{Admit}
 use Rattle.pcache_history.specs.Events as ev
 use Rattle.pcache_history.specs.Events.{begun, begin_of, is_removed, has_ended, was_stored, in_flight, is_told, is_of, last_finished, complete, is_open, tracked, stored, slots, names_slot, stored_size}
 use Rattle.pcache_history.specs.Held.{Held, pair_reader, request_of}

@@ -1,5 +1,5 @@
 -- For the prover: one call over the parts of a world, as the code makes it (own).
-use Rattle.std.specs.Prelude.{◌≡◌, ℕ, ◌++◌, Bool, true, false, cond, Option, Some, None, IsSome, List, [], ◌∷◌, Result, Ok, Err}
+use Rattle.std.specs.Prelude.{◌≡◌, ℕ, ◌++◌, Bool, false, cond, Option, Some, None, IsSome, List, [], ◌∷◌, Result, Ok, Err}
 use Rattle.std.specs.Ordering.{nat_cmp}
 use Rattle.std.specs.Map.{lookup}
 use Rattle.std.specs.Option.{option_map}
@@ -28,7 +28,7 @@ use Rattle.pcache_history.specs.declared.entry.Answer.{Answer}
 use Rattle.pcache_history.specs.declared.entry.Answer.TheVariants.{Nothing}
 use Rattle.pcache_history.specs.declared.entry.Event.{Event}
 use Rattle.pcache_history.specs.declared.entry.Event.TheVariants as E
-use Rattle.pcache_history.specs.Due.{IsOfWorld, KeepsKey}
+use Rattle.pcache_history.specs.Due.{KeepsKey}
 use Rattle.pcache_history.specs.Facts.{Facts, request_in}
 use Rattle.pcache_history.specs.Deeds.{deeds_in, held_in}
 use Rattle.pcache_history.specs.Held.{Held, decides, outcome, row, pair_of, pair_reader}

@@ -55,10 +55,21 @@ fn call_of(alloc: Global, word: &str, request: u64, text: &'static str) -> Resul
     Ok(Some(match word {
         "open" => Act::Open { options: None }.of(request),
         "key" => key_call(alloc, request, text)?,
-        "look" => RequestAct::Look { now: NOW, decision: None }.of(request),
-        "found" => RequestAct::Found { status: HitStatus::Fresh, now: NOW }.of(request),
+        "look" => RequestAct::Look {
+            now: NOW,
+            decision: None,
+        }
+        .of(request),
+        "found" => RequestAct::Found {
+            status: HitStatus::Fresh,
+            now: NOW,
+        }
+        .of(request),
         "miss" => RequestAct::Miss.of(request),
-        "meta" => RequestAct::Meta { meta: Boxed::new(alloc, meta_of(alloc))? }.of(request),
+        "meta" => RequestAct::Meta {
+            meta: Boxed::new(alloc, meta_of(alloc))?,
+        }
+        .of(request),
         "begin" => RequestAct::Begin.of(request),
         "write" => write_call(request, text, false),
         "write_last" => write_call(request, text, true),

@@ -164,9 +164,16 @@ fn set_call(alloc: Global, word: &str, request: u64) -> Option<Call> {
         "release" => RequestAct::Release { reason }.of(request),
         "vary" => RequestAct::Vary { variance: VARIANCE }.of(request),
         "variance" => RequestAct::Variance { variance: None }.of(request),
-        "seek" => RequestAct::Seek { start: 1, end: None }.of(request),
+        "seek" => RequestAct::Seek {
+            start: 1,
+            end: None,
+        }
+        .of(request),
         "lock" => RequestAct::Lock { is_used: true }.of(request),
-        "publish" => RequestAct::Publish { tokens: Tokens::new(Vec::new(alloc)) }.of(request),
+        "publish" => RequestAct::Publish {
+            tokens: Tokens::new(Vec::new(alloc)),
+        }
+        .of(request),
         _ => return None,
     })
 }
@@ -175,11 +182,28 @@ fn set_call(alloc: Global, word: &str, request: u64) -> Option<Call> {
 fn boxed_call(alloc: Global, words: Words) -> Result<Option<Call>> {
     let request = words.request;
     Ok(Some(match words.call {
-        "key" => RequestAct::Key { key: Boxed::new(alloc, key_of(alloc, words)?)? }.of(request),
-        "put" => Act::Put { key: Boxed::new(alloc, key(alloc, words.first, "1")?)?, limit: limit_of(words.second) }.of(request),
-        "meta" => RequestAct::Meta { meta: Boxed::new(alloc, meta_of(alloc, words.first))? }.of(request),
-        "revalidate" => RequestAct::Revalidate { meta: Boxed::new(alloc, meta_of(alloc, words.first))? }.of(request),
-        "uncacheable" => RequestAct::Uncacheable { header: Boxed::new(alloc, ResponseHeader::build(alloc, StatusCode::OK))?, reason: NoCacheReason::InternalError }.of(request),
+        "key" => RequestAct::Key {
+            key: Boxed::new(alloc, key_of(alloc, words)?)?,
+        }
+        .of(request),
+        "put" => Act::Put {
+            key: Boxed::new(alloc, key(alloc, words.first, "1")?)?,
+            limit: limit_of(words.second),
+        }
+        .of(request),
+        "meta" => RequestAct::Meta {
+            meta: Boxed::new(alloc, meta_of(alloc, words.first))?,
+        }
+        .of(request),
+        "revalidate" => RequestAct::Revalidate {
+            meta: Boxed::new(alloc, meta_of(alloc, words.first))?,
+        }
+        .of(request),
+        "uncacheable" => RequestAct::Uncacheable {
+            header: Boxed::new(alloc, ResponseHeader::build(alloc, StatusCode::OK))?,
+            reason: NoCacheReason::InternalError,
+        }
+        .of(request),
         _ => return Ok(None),
     }))
 }
@@ -188,10 +212,22 @@ fn boxed_call(alloc: Global, words: Words) -> Result<Option<Call>> {
 fn call_with(words: Words, now: Moment) -> Option<Call> {
     let request = words.request;
     match words.call {
-        "look" => Some(RequestAct::Look { now, decision: decision_of(words.first) }.of(request)),
+        "look" => Some(RequestAct::Look {
+            now,
+            decision: decision_of(words.first),
+        }
+        .of(request)),
         "found" => found(request, words.first, now),
-        "write" => Some(RequestAct::Write { bytes: Bytes::from_static(words.first.as_bytes()), eof: words.second == "last" }.of(request)),
-        "feed" => Some(Act::Feed { bytes: Bytes::from_static(piece_of(words.first).as_bytes()), now }.of(request)),
+        "write" => Some(RequestAct::Write {
+            bytes: Bytes::from_static(words.first.as_bytes()),
+            eof: words.second == "last",
+        }
+        .of(request)),
+        "feed" => Some(Act::Feed {
+            bytes: Bytes::from_static(piece_of(words.first).as_bytes()),
+            now,
+        }
+        .of(request)),
         _ => None,
     }
 }

@@ -1,14 +1,14 @@
-use Rattle.std.proofs.Common.{◌≡◌, ◌++◌, Option, Some, refl, ap, sym, subst, ◌∙◌, option_map}
+use Rattle.std.proofs.Common.{◌≡◌, Option, Some, refl, ap, subst, ◌∙◌, option_map}
 use Rattle.pcache_meta.specs.Meta.{Meta}
 use Rattle.pcache_request.specs.Requests.{Request}
 use Rattle.pcache_store.specs.Readers.{reader_of}
 use Rattle.pcache_store.specs.Store.{Reader}
 use Rattle.pcache_history.specs.Held.{Held}
 use Rattle.pingora_cache.specs.Moved.{MovesStore}
-use Rattle.pcache_history.specs.Rules.{each, permit_of}
+use Rattle.pcache_history.specs.Rules.{permit_of}
 use Rattle.pingora_cache.specs.Step.{permit_in}
 use Rattle.pcache_history.specs.declared.entry.Event.TheVariants.{Release}
-use Rattle.pingora_cache.proofs.MovesOf.{turns-quietly, quiet-each, quiet-noted}
+use Rattle.pingora_cache.proofs.MovesOf.{turns-quietly, quiet-noted}
 use Rattle.pingora_cache.proofs.Noted.{held_with, permit-named}
 use Rattle.pingora_cache.specs.LockMoves.{MovesLocks}
 use Rattle.pcache_history.specs.Deeds.{deeds_by}

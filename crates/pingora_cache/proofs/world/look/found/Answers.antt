@@ -1,4 +1,4 @@
-use Rattle.std.proofs.Common.{◌≡◌, rules, refl, ap, sym, subst, ◌∙◌, inl, IsSome, Option, Some, option_map}
+use Rattle.std.proofs.Common.{rules, refl, ap, sym, subst, ◌∙◌, inl, IsSome, Option, Some, option_map}
 use Rattle.pcache_meta.specs.Meta.{Meta}
 use Rattle.pcache_store.specs.Store.{Reader}
 use Rattle.pingora_cache.specs.Moved.{Moves}

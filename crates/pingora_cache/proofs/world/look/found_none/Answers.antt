@@ -1,4 +1,4 @@
-use Rattle.std.proofs.Common.{◌≡◌, None, false, true, ap, sym, subst, ◌∙◌}
+use Rattle.std.proofs.Common.{◌≡◌, None, false, ap, sym, subst, ◌∙◌}
 use Rattle.pcache_base.specs.declared.reason.NoCacheReason.TheVariants.{Deferred}
 use Rattle.pcache_request.specs.Releasing.{disabled_for}
 use Rattle.pcache_request.specs.Requests.{left_by}

@@ -1,9 +1,9 @@
-use Rattle.std.proofs.Common.{◌≡◌, ◌∙◌, ap, subst, sym}
+use Rattle.std.proofs.Common.{◌∙◌, ap, sym}
 use Rattle.pcache_base.specs.Key.{slot}
 use Rattle.pingora_cache.specs.PartFacts.{facts_in}
 use Rattle.pcache_history.specs.Held.{held_put}
 use Rattle.pcache_history.specs.Taking.{taking}
-use Rattle.pingora_cache.proofs.PutClosed.{quiet-end, tells-end, unwritten, unwritten-answers-as, unwritten-moves-as, written, written-answers-as, written-moves-as, tells-as-answered}
+use Rattle.pingora_cache.proofs.PutClosed.{quiet-end, unwritten-answers-as, unwritten-moves-as, written-answers-as, written-moves-as, tells-as-answered}
 use Rattle.pingora_cache.proofs.world.puts.close_in.Goals as goal
 
 pub returns-in-Some-clause-answers : goal.returns-in-Some-clause-answers

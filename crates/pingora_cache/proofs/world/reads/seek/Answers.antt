@@ -1,6 +1,5 @@
-use Rattle.std.proofs.Common.{[], Option, Some, refl, ap, subst, option_map}
+use Rattle.std.proofs.Common.{[], Option, Some, subst, option_map}
 use Rattle.pcache_meta.specs.Meta.{Meta}
-use Rattle.pcache_request.specs.Requests.{Request}
 use Rattle.pcache_store.specs.Readers.{reader_of}
 use Rattle.pcache_store.specs.Store.{Reader}
 use Rattle.pcache_history.specs.Due.{KeepsKey}

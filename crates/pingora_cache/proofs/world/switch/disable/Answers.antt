@@ -1,4 +1,4 @@
-use Rattle.std.proofs.Common.{rules, inl, ◌≡◌, ◌++◌, None, Option, Some, refl, ap, sym, subst, ◌∙◌, option_map}
+use Rattle.std.proofs.Common.{rules, inl, ◌≡◌, ◌++◌, None, Option, Some, refl, ap, subst, ◌∙◌, option_map}
 use Rattle.pcache_meta.specs.Meta.{Meta}
 use Rattle.pcache_request.specs.Releasing.{MayDisable, status_for}
 use Rattle.pcache_request.specs.Requests.{Request, dropped_by, left_by}

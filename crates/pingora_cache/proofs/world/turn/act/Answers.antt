@@ -1,4 +1,5 @@
-use Rattle.std.proofs.Common.{refl}
+use Rattle.std.proofs.Common.{[], refl}
+use Rattle.pcache_history.specs.declared.call.Act.TheVariants as C
 use Rattle.pingora_cache.specs.Handing.{of_two}
 use Rattle.pingora_cache.proofs.PutTurns.{close-turn, drop-turn, push-turn, puts-closed, puts-dropped, puts-ended, puts-opened, puts-pushed}
 use Rattle.pingora_cache.proofs.TurnOf.{acts-as, end-of, moved-by-row, open-of, row-at}
@@ -11,7 +12,7 @@ returns-in-Open-clause-acts g c =
     let rowed = c.open.ensures.requests in
     acts-as _ _ c.args.call.now _ before after _ _ _ _ _ _ c.open.result _ c.in-Open.is tt
     (λ world some. open-of _ _ _ before after _ _ _ _ _ c.requires.none c.open.ensures.answers c.open.ensures.moves c.open.ensures.keeps rowed)
-    (puts-opened _ _ c.open.result _ _ _ (row-at _ _ c.open.result _ before after rowed)) (moved-by-row _ _ c.open.result _ before after rowed)
+    (puts-opened _ _ c.open.result _ _ _ (row-at c.args.call.now.request (C.Open c.in-Open.options) c.open.result [] before after rowed)) (moved-by-row c.args.call.now.request (C.Open c.in-Open.options) c.open.result [] before after rowed)
 
 pub returns-in-End-clause-acts : goal.returns-in-End-clause-acts
 returns-in-End-clause-acts g c =
@@ -20,7 +21,7 @@ returns-in-End-clause-acts g c =
     let rowed = c.end.ensures.requests in
     acts-as _ _ c.args.call.now _ before after _ _ _ _ _ _ c.end.result c.end.new.events.items c.in-End.is tt
     (λ world some. end-of _ _ before after _ _ _ _ _ _ _ c.end.ensures.answers c.end.ensures.moves c.end.ensures.keeps c.end.ensures.locks rowed)
-    (puts-ended _ c.end.result _ _ _ (row-at _ _ c.end.result _ before after rowed)) (moved-by-row _ _ c.end.result _ before after rowed)
+    (puts-ended _ c.end.result _ _ _ (row-at c.args.call.now.request C.End c.end.result c.end.new.events.items before after rowed)) (moved-by-row c.args.call.now.request C.End c.end.result c.end.new.events.items before after rowed)
 
 pub returns-in-Request-clause-acts : goal.returns-in-Request-clause-acts
 returns-in-Request-clause-acts g c =
@@ -42,7 +43,7 @@ returns-in-Put-clause-acts g c =
     let rowed = c.open_put.ensures.requests in
     acts-as _ _ c.args.call.now _ before after _ _ _ _ _ _ c.open_put.result _ c.in-Put.is tt
     (λ world some. push-turn _ _ _ _ before after _ _ _ _ _ c.requires.none c.open_put.ensures.answers c.open_put.ensures.moves c.open_put.ensures.keeps rowed)
-    (puts-pushed _ _ _ c.open_put.result _ _ _ (row-at _ _ c.open_put.result _ before after rowed) c.requires.none c.open_put.ensures.puts) (moved-by-row _ _ c.open_put.result _ before after rowed)
+    (puts-pushed _ _ _ c.open_put.result _ _ _ (row-at c.args.call.now.request (C.Put c.in-Put.key c.in-Put.limit) c.open_put.result [] before after rowed) c.requires.none c.open_put.ensures.puts) (moved-by-row c.args.call.now.request (C.Put c.in-Put.key c.in-Put.limit) c.open_put.result [] before after rowed)
 
 pub returns-in-Feed-clause-acts : goal.returns-in-Feed-clause-acts
 returns-in-Feed-clause-acts g c =
@@ -56,7 +57,7 @@ returns-in-Drop-clause-acts g c =
     let rowed = c.drop_put.ensures.requests in
     acts-as _ _ c.args.call.now _ before after _ _ _ _ _ _ c.drop_put.result c.drop_put.new.events.items c.in-Drop.is tt
     (λ world some. drop-turn _ _ before after _ _ _ _ _ _ c.drop_put.ensures.answers c.drop_put.ensures.moves c.drop_put.ensures.keeps rowed c.drop_put.ensures.quiet c.drop_put.ensures.held)
-    (puts-dropped _ c.drop_put.result _ _ _ (row-at _ _ c.drop_put.result _ before after rowed)) (moved-by-row _ _ c.drop_put.result _ before after rowed)
+    (puts-dropped _ c.drop_put.result _ _ _ (row-at c.args.call.now.request C.Drop c.drop_put.result c.drop_put.new.events.items before after rowed)) (moved-by-row c.args.call.now.request C.Drop c.drop_put.result c.drop_put.new.events.items before after rowed)
 
 pub returns-in-Close-clause-acts : goal.returns-in-Close-clause-acts
 returns-in-Close-clause-acts g c =
@@ -65,4 +66,4 @@ returns-in-Close-clause-acts g c =
     let rowed = c.close_put.ensures.requests in
     acts-as _ _ c.args.call.now _ before after _ _ _ _ _ _ c.close_put.result c.close_put.new.events.items c.in-Close.is tt
     (λ world some. close-turn _ _ before after _ _ _ _ _ _ _ _ _ world some c.close_put.ensures.answers c.close_put.ensures.moves c.close_put.ensures.keeps rowed c.close_put.ensures.quiet c.close_put.ensures.held c.close_put.ensures.lock)
-    (puts-closed _ c.close_put.result _ _ _ (row-at _ _ c.close_put.result _ before after rowed) c.close_put.ensures.closes) (moved-by-row _ _ c.close_put.result _ before after rowed)
+    (puts-closed _ c.close_put.result _ _ _ (row-at c.args.call.now.request C.Close c.close_put.result c.close_put.new.events.items before after rowed) c.close_put.ensures.closes) (moved-by-row c.args.call.now.request C.Close c.close_put.result c.close_put.new.events.items before after rowed)

@@ -1,14 +1,12 @@
-use Rattle.std.proofs.Common.{rules, Some, refl, inl}
+use Rattle.std.proofs.Common.{rules, refl, inl}
 use Rattle.pcache_history.specs.declared.call.Act.TheVariants.{Request}
-use Rattle.pingora_cache.specs.PartFacts.{facts_in}
-use Rattle.pcache_history.specs.Facts.{request_in}
 use Rattle.pingora_cache.proofs.PutTurns.{none-answered, other-answered, put-is-there, puts-plain, puts-wrong}
-use Rattle.pingora_cache.proofs.TurnOf.{row-kept, turn-of, wrong-turn}
+use Rattle.pingora_cache.proofs.TurnOf.{row-kept, turn-of, wrong-turned}
 use Rattle.pingora_cache.proofs.world.turn.on_request.Goals as goal
 
 pub returns-in_default-clause-turn : goal.returns-in_default-clause-turn
 returns-in_default-clause-turn g c world some =
-    wrong-turn _ _ (Request c.args.act.now) _ _ _ _ _ _ _ (none-answered _ (Request c.args.act.now) _ (search rules) (λ may. may)) (search rules) refl c.requires.none
+    wrong-turned _ _ (Request c.args.act.now) _ _ _ _ _ _ _ (λ f. none-answered f (Request c.args.act.now) _ (search rules) (λ may. may)) (search rules) refl c.requires.none
 
 pub returns-in_default-clause-puts : goal.returns-in_default-clause-puts
 returns-in_default-clause-puts g c = puts-wrong _ (Request c.args.act.now) _ _ _ _ (refl, c.requires.none) (search rules)
@@ -23,7 +21,7 @@ returns-in-Request-clause-puts g c = puts-plain _ (Request c.args.act.now) c.tur
 
 pub returns-in-Put-clause-turn : goal.returns-in-Put-clause-turn
 returns-in-Put-clause-turn g c world some =
-    wrong-turn _ _ (Request c.args.act.now) _ _ _ _ _ _ _ (other-answered _ (Request c.args.act.now) _ c.in-Put.put (search rules) (put-is-there c.in-Put.put c.is_held.ensures)) (search rules) refl c.requires.none
+    wrong-turned _ _ (Request c.args.act.now) _ _ _ _ _ _ _ (λ f. other-answered f (Request c.args.act.now) _ c.in-Put.put (search rules) (put-is-there c.in-Put.put c.is_held.ensures.some)) (search rules) refl c.requires.none
 
 pub returns-in-Put-clause-puts : goal.returns-in-Put-clause-puts
 returns-in-Put-clause-puts g c = puts-wrong _ (Request c.args.act.now) _ _ _ _ (refl, c.requires.none) (search rules)

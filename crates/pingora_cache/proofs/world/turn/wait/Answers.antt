@@ -1,29 +1,27 @@
-use Rattle.std.proofs.Common.{rules, Some, refl, inl}
+use Rattle.std.proofs.Common.{rules, refl, inl}
 use Rattle.pcache_history.specs.declared.call.Act.TheVariants.{Wait}
-use Rattle.pingora_cache.specs.PartFacts.{facts_in}
-use Rattle.pcache_history.specs.Facts.{request_in}
 use Rattle.pingora_cache.proofs.PutTurns.{none-answered, other-answered, put-is-there, puts-plain, puts-wrong}
-use Rattle.pingora_cache.proofs.TurnOf.{turn-of, wrong-turn}
+use Rattle.pingora_cache.proofs.TurnOf.{turn-of, wrong-turned}
 use Rattle.pingora_cache.proofs.world.turn.wait.Goals as goal
 
 pub returns-in_default-clause-turn : goal.returns-in_default-clause-turn
 returns-in_default-clause-turn g c world some =
-    wrong-turn _ _ (Wait c.args.now) _ _ _ _ _ _ _ (none-answered _ (Wait c.args.now) _ (search rules) (λ may. may)) (search rules) refl c.requires.none
+    wrong-turned _ _ (Wait c.args.now) _ _ _ _ _ _ _ (λ f. none-answered f (Wait c.args.now) _ (search rules) (λ may. may)) (search rules) refl c.requires.none
 
 pub returns-in_default-clause-puts : goal.returns-in_default-clause-puts
 returns-in_default-clause-puts g c = puts-wrong _ (Wait c.args.now) _ _ _ _ (refl, c.requires.none) (search rules)
 
 pub returns-in-Request-clause-turn : goal.returns-in-Request-clause-turn
 returns-in-Request-clause-turn g c world some =
-    turn-of _ _ (Wait c.args.now) _ _ c.in-Request.request c.wait-reply.new.request _ _ _ _ _ _ c.wait-reply.result c.wait-reply.new.events.items (search rules) (search rules) (inl (c.is_plain.ensures, c.wait-reply.ensures.answers _))
-    c.wait-reply.ensures.moves c.wait-reply.ensures.keeps c.wait-reply.ensures.row (c.wait-reply.ensures.locks _) world
+    turn-of _ _ (Wait c.args.now) _ _ c.in-Request.request c.wait-reply.new.request _ _ _ _ _ _ c.wait-reply.result c.wait-reply.new.events.items (search rules) (search rules) (inl (c.is_plain.ensures, c.wait-reply.ensures.answers c.args.parts.now.store))
+    (λ world. c.wait-reply.ensures.moves _ _ _) c.wait-reply.ensures.keeps c.wait-reply.ensures.row (c.wait-reply.ensures.locks _) world
 
 pub returns-in-Request-clause-puts : goal.returns-in-Request-clause-puts
 returns-in-Request-clause-puts g c = puts-plain _ (Wait c.args.now) c.wait-reply.result c.wait-reply.new.events.items _ _ c.in-Request.request c.wait-reply.new.request (search rules) (search rules) c.is_plain.ensures c.is_plain-in-Request.ensures
 
 pub returns-in-Put-clause-turn : goal.returns-in-Put-clause-turn
 returns-in-Put-clause-turn g c world some =
-    wrong-turn _ _ (Wait c.args.now) _ _ _ _ _ _ _ (other-answered _ (Wait c.args.now) _ c.in-Put.put (search rules) (put-is-there c.in-Put.put c.is_held.ensures)) (search rules) refl c.requires.none
+    wrong-turned _ _ (Wait c.args.now) _ _ _ _ _ _ _ (λ f. other-answered f (Wait c.args.now) _ c.in-Put.put (search rules) (put-is-there c.in-Put.put c.is_held.ensures.some)) (search rules) refl c.requires.none
 
 pub returns-in-Put-clause-puts : goal.returns-in-Put-clause-puts
 returns-in-Put-clause-puts g c = puts-wrong _ (Wait c.args.now) _ _ _ _ (refl, c.requires.none) (search rules)

@@ -15,10 +15,10 @@ pub invariant_of-self-2 : goal.invariant_of-self-2
 invariant_of-self-2 g c = (
   sound-step _ _ _ _ _ _ _ _ _ _ _ _ _ c.self.inside.history.items _ c.args.call _ _ _ c.self.invariant.0 c.self.invariant.2 (search rules) c.act-reply.ensures.acts c.doubled-noted.ensures.copy c.act-reply.ensures.limits
       (started-once (λ v. v.items) _ _ _ c.in_ok-make_ready.ensures.known ∙ c.make_ready.ensures.same_start)
-      (c.note.ensures ∙ ap (λ xs. xs ++ record { act = c.args.call; reply = c.doubled-noted.result.0; events = c.act-reply.new.events.items } ∷ []) c.make_ready.ensures.same_history),
+      (c.note.ensures ∙ ap (λ xs. xs ++ record { call = c.args.call; reply = c.doubled-noted.result.0; events = c.act-reply.new.events.items } ∷ []) c.make_ready.ensures.same_history),
   λ none. not-both _ none c.in_ok-make_ready.ensures.known,
   puts-step _ _ _ _ _ _ _ _ _ _ _ c.self.inside.history.items _ c.args.call _ _ _ c.self.invariant.0 c.self.invariant.2 (search rules) c.act-reply.ensures.acts c.doubled-noted.ensures.copy
-      (c.note.ensures ∙ ap (λ xs. xs ++ record { act = c.args.call; reply = c.doubled-noted.result.0; events = c.act-reply.new.events.items } ∷ []) c.make_ready.ensures.same_history),
+      (c.note.ensures ∙ ap (λ xs. xs ++ record { call = c.args.call; reply = c.doubled-noted.result.0; events = c.act-reply.new.events.items } ∷ []) c.make_ready.ensures.same_history),
 )
 
 pub returns-clause-legal : goal.returns-clause-legal
