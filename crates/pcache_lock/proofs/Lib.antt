@@ -3,3 +3,4 @@ pub mod Tidy
 pub mod Calls
 pub mod Ends
 pub mod Named
+pub mod Published

@@ -17,6 +17,7 @@ pub mod lock_core;
 pub mod outcome;
 pub mod permit;
 pub mod permit_calls;
+mod publications;
 pub mod status;
 
 pub use cache_lock::CacheLock;

@@ -18,6 +18,8 @@ mod puts;
 #[cfg(test)]
 mod random_locks;
 #[cfg(test)]
+mod random_publications;
+#[cfg(test)]
 mod request;
 #[cfg(test)]
 mod rows;

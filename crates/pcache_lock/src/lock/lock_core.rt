@@ -8,6 +8,7 @@ ghost use Rattle.pcache_lock.specs.Statuses.{IsReason};
 ghost use Rattle.pcache_lock.specs.Waiting.{aged, first_told, is_expired, says_nothing, stage_of, status_at, with_publication};
 
 use crate::lock::outcome::Stage;
+use crate::lock::publications::Publications;
 use crate::lock::status::LockStatus;
 use pcache_base::error::Result;
 use pcache_base::fills::{UnusableFill, UnusableFills};
@@ -15,50 +16,6 @@ use pcache_base::moment::Moment;
 use std::alloc::Global;
 use std::marker::Model;
 use std::time::Duration;
-
-// The tokens of one publication.
-#[derive(Drop)]
-struct Publication {
-    tokens: Vec<u64>,
-}
-
-impl Model for Publication {
-    ghost use Rattle.std.specs.Prelude.{ℕ, List};
-
-    ghost Value = { List ℕ };
-
-    ghost view = { λ p. p.tokens.items };
-}
-
-impl Publication {
-    fn tokens(&self) -> &[u64]
-        ensures { result.now ≡ self.now }
-    {
-        self.tokens.as_slice()
-    }
-}
-
-// The first publication's match that has any of the fills.
-fn first_told(publications: &[Publication], fills: &UnusableFills) -> Option<UnusableFill>
-    ensures { result ≡ first_told fills.now publications.now }
-{
-    for publication in publications {
-        if let Some(fill) = fills.first_match(publication.tokens()) {
-            return Some(fill);
-        }
-    }
-    None
-}
-
-// Whether no token stands published.
-fn says_nothing(publications: &[Publication]) -> bool
-    ensures { result ≡ says_nothing (slice_get publications.now (length publications.now - 1)) }
-{
-    match publications.last() {
-        Some(publication) => publication.tokens().is_empty(),
-        None => true,
-    }
-}
 
 /// What a table knows of a lock: since when its permit is held, where it stands, and who names it.
 #[derive(Drop)]
@@ -70,19 +27,14 @@ pub struct LockCore {
     stale_writer: bool,
     held: bool,
     readers: u128,
-    publications: Vec<Publication>,
+    publications: Publications,
 }
 
 impl Model for LockCore {
     ghost use Rattle.std.specs.Duration.{as_nanos};
     ghost use Rattle.pcache_lock.specs.Permits.{Core};
-    ghost use Rattle.std.specs.Vec.{vec_capacity};
-    ghost use Rattle.pcache_lock.specs.Waiting.{HasRoom};
 
     ghost Value = { Core };
-
-    // What stands published can be cleared without memory.
-    ghost invariant = { λ c. HasRoom c.publications.items (vec_capacity c.publications) };
 
     ghost view = { λ c. record {
       slot = c.slot;
@@ -92,7 +44,7 @@ impl Model for LockCore {
       stale_writer = c.stale_writer;
       held = c.held;
       readers = c.readers;
-      publications = c.publications.items;
+      publications = c.publications;
     } };
 }
 
@@ -109,7 +61,7 @@ impl LockCore {
             stale_writer,
             held: true,
             readers: 0,
-            publications: Vec::new(alloc),
+            publications: Publications::new(alloc),
         }
     }
 
@@ -131,7 +83,7 @@ impl LockCore {
             stale_writer,
             held: true,
             readers: 0,
-            publications: Vec::new(alloc),
+            publications: Publications::new(alloc),
         }
     }
 
@@ -281,10 +233,7 @@ impl LockCore {
     pub(super) fn first_told(&self, fills: &UnusableFills, from: usize) -> Option<UnusableFill>
         ensures { result ≡ first_told fills.now (drop from self.now.publications) }
     {
-        if from >= self.publications.len() {
-            return None;
-        }
-        first_told(&self.publications.as_slice()[from..], fills)
+        self.publications.first_told(fills, from)
     }
 
     // Puts a publication in the place of the one that stood.
@@ -294,47 +243,6 @@ impl LockCore {
         ensures err { OnErr result (self.new ≡ self.old) }
         ensures kind { IfErr result (λ e. e ≡ OutOfMemory) }
     {
-        if tokens.is_empty() {
-            self.clear(alloc);
-            return Ok(());
-        }
-        self.say(alloc, tokens)
-    }
-
-    // Puts an empty publication in the place of one that says something.
-    fn clear(&mut self, alloc: Global)
-        ensures { self.new ≡ with_publication [] self.old }
-    {
-        if says_nothing(self.publications.as_slice()) {
-            return;
-        }
-        if self.readers == 0 {
-            self.publications.clear();
-        }
-        self.publications.push_reserved(Publication {
-            tokens: Vec::new(alloc),
-        });
-    }
-
-    // Puts a publication that says something in the place of the one that stood, with room to
-    // clear it.
-    fn say(&mut self, alloc: Global, tokens: &[u64]) -> Result<()>
-        requires { (length tokens.now == 0) ≡ false }
-        ensures ok { OnOk result (self.new ≡ with_publication tokens.now self.old) }
-        ensures err { OnErr result (self.new ≡ self.old) }
-        ensures kind { IfErr result (λ e. e ≡ OutOfMemory) }
-    {
-        let publication = Publication {
-            tokens: tokens.to_vec(alloc)?,
-        };
-        if self.readers > 0 {
-            self.publications.reserve(2)?;
-            self.publications.push_reserved(publication);
-            return Ok(());
-        }
-        let mut publications = Vec::with_capacity(alloc, 2)?;
-        publications.push_reserved(publication);
-        self.publications = publications;
-        Ok(())
+        self.publications.publish(alloc, self.readers, tokens)
     }
 }

@@ -101,7 +101,9 @@ impl Watch {
         ensures watch { self.new ≡ watched core.now self.old }
         ensures told { result ≡ self.new.told }
     {
-        self.told = self.told.or(core.first_told(&self.fills, self.seen));
+        if self.told.is_none() {
+            self.told = core.first_told(&self.fills, self.seen);
+        }
         self.seen = core.publication_count();
         self.told
     }

@@ -1,0 +1,217 @@
+//! What the holder of a permit published, found by its tokens.
+//!
+//! A reader looks for the first publication that has one of its fills. Beside the publications stands an index of their
+//! tokens, so that a look costs what the reader's own fills cost, however much was published.
+ghost use Rattle.std.specs.Prelude.{◌≡◌, ◌<◌, ◌≤◌, ◌-◌, ◌==◌, ◌||◌, ◌&&◌, ◌++◌, ◌∷◌, ◌^◌, not, ℕ, [], IfErr, IsOk, OnErr, OnOk, drop, false, length, slice_get, true};
+ghost use Rattle.std.specs.BTreeSet.{contains};
+ghost use Rattle.std.specs.Ordering.{nat_cmp};
+ghost use Rattle.pcache_base.specs.declared.error.ErrorType.TheVariants.{OutOfMemory};
+ghost use Rattle.pcache_lock.specs.Published.{IsFirstPlace, entry_of, stands_for};
+ghost use Rattle.pcache_lock.specs.Waiting.{first_told, publications_with, says_nothing};
+
+use pcache_base::error::{Error, ErrorType, Result};
+use pcache_base::fills::{UnusableFill, UnusableFills};
+use std::alloc::Global;
+use std::collections::BTreeSet;
+use std::marker::Model;
+
+// The tokens of one publication.
+#[derive(Drop)]
+struct Publication {
+    tokens: Vec<u64>,
+}
+
+impl Model for Publication {
+    ghost use Rattle.std.specs.Prelude.{ℕ, List};
+
+    ghost Value = { List ℕ };
+
+    ghost view = { λ p. p.tokens.items };
+}
+
+impl Publication {
+    fn is_empty(&self) -> bool
+        ensures { result ≡ (length self.now == 0) }
+    {
+        self.tokens.is_empty()
+    }
+}
+
+// As many places as a token can have.
+const PLACES: u128 = 0x1_0000_0000_0000_0000;
+
+// What stands in the index for a token that was published at this place.
+fn entry(token: u64, place: usize) -> u128
+    ensures { result ≡ entry_of token place }
+{
+    u128::from(token) * PLACES + place as u128
+}
+
+// Puts the tokens of a publication at this place into the index.
+fn mark(index: &mut BTreeSet<u128>, place: usize, tokens: &[u64]) -> Result<()>
+    requires { (q : ℕ) → stands_for place tokens.now q ≡ true → contains nat_cmp index.old q ≡ false }
+    ensures ok { OnOk result ((q : ℕ) → contains nat_cmp index.new q ≡ (contains nat_cmp index.old q || stands_for place tokens.now q)) }
+    ensures err { OnErr result ((q : ℕ) → contains nat_cmp index.new q ≡ contains nat_cmp index.old q) }
+    ensures kind { IfErr result (λ e. e ≡ OutOfMemory) }
+{
+    for token in tokens {
+        let Ok(_added) = index.insert(entry(*token, place)) else {
+            unmark(index, place, tokens);
+            return Err(Error::new(ErrorType::OutOfMemory));
+        };
+    }
+    Ok(())
+}
+
+// Takes them out.
+fn unmark(index: &mut BTreeSet<u128>, place: usize, tokens: &[u64])
+    ensures { (q : ℕ) → contains nat_cmp index.new q ≡ (contains nat_cmp index.old q && not (stands_for place tokens.now q)) }
+{
+    for token in tokens {
+        index.remove(&entry(*token, place));
+    }
+}
+
+// The publications of a permit, in their order: the one that stands is the last.
+#[derive(Drop)]
+pub(super) struct Publications {
+    kept: Vec<Publication>,
+    // An entry for each token of each of them.
+    index: BTreeSet<u128>,
+}
+
+impl Model for Publications {
+    ghost use Rattle.std.specs.Prelude.{ℕ, List};
+    ghost use Rattle.std.specs.Vec.{vec_capacity};
+    ghost use Rattle.pcache_lock.specs.Published.{IsIndex};
+    ghost use Rattle.pcache_lock.specs.Waiting.{HasRoom};
+
+    ghost Value = { List (List ℕ) };
+
+    // What stands published can be cleared without memory.
+    ghost invariant = { λ p. HasRoom p.kept.items (vec_capacity p.kept) × IsIndex p.index p.kept.items };
+
+    ghost view = { λ p. p.kept.items };
+}
+
+impl Publications {
+    // Nothing was published.
+    pub(super) fn new(alloc: Global) -> Publications
+        ensures { result ≡ [] }
+    {
+        Publications {
+            kept: Vec::new(alloc),
+            index: BTreeSet::new(alloc),
+        }
+    }
+
+    // How many there are.
+    pub(super) fn len(&self) -> usize
+        ensures { result ≡ length self.now }
+    {
+        self.kept.len()
+    }
+
+    // Whether no token stands published.
+    fn says_nothing(&self) -> bool
+        ensures { result ≡ says_nothing (slice_get self.now (length self.now - 1)) }
+    {
+        match self.kept.as_slice().last() {
+            Some(publication) => publication.is_empty(),
+            None => true,
+        }
+    }
+
+    // The first place of a token from one place to before another.
+    fn first_place(&self, token: u64, from: usize, before: usize) -> Option<usize>
+        requires { from ≤ before }
+        ensures { IsFirstPlace self.now token from before result }
+    {
+        let first = entry(token, 0);
+        let mut entries = self.index.range(entry(token, from)..entry(token, before));
+        match entries.next() {
+            Some(entry) => Some((*entry - first) as usize),
+            None => None,
+        }
+    }
+
+    // What a reader is told by the publications from one on. Each fill is looked for only before the place of those that were
+    // found, so the first fill of the first place is left.
+    pub(super) fn first_told(&self, fills: &UnusableFills, from: usize) -> Option<UnusableFill>
+        ensures { result ≡ first_told fills.now (drop from self.now) }
+    {
+        let mut before = self.len();
+        if from >= before {
+            return None;
+        }
+        let mut told = None;
+        for fill in fills.fills() {
+            if let Some(place) = self.first_place(fill.token, from, before) {
+                before = place;
+                told = Some(*fill);
+            }
+        }
+        told
+    }
+
+    // Puts a publication in the place of the one that stood. The earlier ones are kept only if a read lock may look at them.
+    pub(super) fn publish(&mut self, alloc: Global, readers: u128, tokens: &[u64]) -> Result<()>
+        ensures ok { OnOk result (self.new ≡ publications_with readers tokens.now self.old) }
+        ensures clears { tokens.now ≡ [] → IsOk result }
+        ensures err { OnErr result (self.new ≡ self.old) }
+        ensures kind { IfErr result (λ e. e ≡ OutOfMemory) }
+    {
+        if tokens.is_empty() {
+            self.clear(alloc, readers);
+            return Ok(());
+        }
+        self.say(alloc, readers, tokens)
+    }
+
+    // Puts an empty publication in the place of one that says something.
+    fn clear(&mut self, alloc: Global, readers: u128)
+        ensures { self.new ≡ publications_with readers [] self.old }
+    {
+        if self.says_nothing() {
+            return;
+        }
+        if readers == 0 {
+            self.kept.clear();
+            self.index.clear();
+        }
+        self.kept.push_reserved(Publication {
+            tokens: Vec::new(alloc),
+        });
+    }
+
+    // Puts a publication that says something in the place of the one that stood.
+    fn say(&mut self, alloc: Global, readers: u128, tokens: &[u64]) -> Result<()>
+        requires { (length tokens.now == 0) ≡ false }
+        ensures ok { OnOk result (self.new ≡ publications_with readers tokens.now self.old) }
+        ensures err { OnErr result (self.new ≡ self.old) }
+        ensures kind { IfErr result (λ e. e ≡ OutOfMemory) }
+    {
+        if readers > 0 {
+            return self.add(alloc, tokens);
+        }
+        let mut alone = Publications::new(alloc);
+        alone.add(alloc, tokens)?;
+        *self = alone;
+        Ok(())
+    }
+
+    // Puts a publication behind the others, with room to clear it.
+    fn add(&mut self, alloc: Global, tokens: &[u64]) -> Result<()>
+        ensures ok { OnOk result (self.new ≡ self.old ++ tokens.now ∷ []) }
+        ensures err { OnErr result (self.new ≡ self.old) }
+        ensures kind { IfErr result (λ e. e ≡ OutOfMemory) }
+    {
+        let publication = Publication {
+            tokens: Vec::from_slice(alloc, tokens)?,
+        };
+        self.kept.reserve(2)?;
+        mark(&mut self.index, self.kept.len(), tokens)?;
+        self.kept.push_reserved(publication);
+        Ok(())
+    }
+}
