@@ -6,6 +6,7 @@ pub mod Key
 pub mod MomentParts
 pub mod Moments
 pub mod Reasons
+pub mod Seeds
 pub mod Text
 pub mod Variance
 pub mod Totals

@@ -9,6 +9,7 @@
 //! - `variance`: what a response varies by, as a hash
 //! - `reason`: why a response is not cached; `fills`: fills that a request cannot use
 //! - `trace`: spans of a trace, without effect
+//! - `seed`: the seed of hash tables under keys that outsiders choose
 
 pub mod blake2b;
 pub mod error;
@@ -17,6 +18,7 @@ pub mod key;
 pub mod moment;
 pub mod poll;
 pub mod reason;
+pub mod seed;
 pub mod text;
 pub mod trace;
 pub mod variance;
