@@ -7,6 +7,7 @@ use crate::script;
 use crate::script::{Line, Unread, read};
 use pingora_cache::eviction::simple_lru::Manager;
 use pingora_cache::moment::Moment;
+use pingora_cache::seed::Seed;
 use pingora_cache::world::World;
 use pingora_cache::world::call::Reply;
 use std::alloc::Global;
@@ -69,7 +70,10 @@ fn run<F: Files, R: Read + Drop, W: Write + Drop>(
     output: W,
 ) -> Result<(), Stop> {
     let limits = read_limits(args).ok_or(Stop::BadArguments)?;
-    let Ok(manager) = Manager::new_with_watermark(alloc, limits.weight, limits.watermark) else {
+    // A replay is to be the same again, so nothing is drawn.
+    let seed = Seed::fixed();
+    let Ok(manager) = Manager::new_with_watermark(alloc, seed, limits.weight, limits.watermark)
+    else {
         return Err(Stop::OutOfMemory);
     };
     let Ok(mut reader) = BufReader::new(alloc, input) else {
@@ -80,6 +84,7 @@ fn run<F: Files, R: Read + Drop, W: Write + Drop>(
     };
     let mut world: World<Manager, OneSecond> = World::new(
         alloc,
+        seed,
         manager,
         Duration::from_secs(AGE_TIMEOUT_SECS),
     );

@@ -12,15 +12,25 @@ use anyhow::{Context, Result, anyhow};
 use parts::Parts;
 use pingora_cache::eviction::simple_lru::Manager;
 use pingora_cache::moment::Moment;
+use pingora_cache::seed::Seed;
 use simulate::Counts;
 use std::alloc::Global;
 use std::env;
 use std::io::{BufRead, BufReader};
+use std::random::RandomSource;
 
 fn main(rt: HostRuntime) -> Result<()> {
     let limit = limit_of(&rt)?;
-    run_services(&rt, rt.alloc())?;
-    run_simulator(&rt, rt.alloc(), limit)
+    let seed = drawn(&rt)?;
+    run_services(&rt, rt.alloc(), seed)?;
+    run_simulator(&rt, rt.alloc(), seed, limit)
+}
+
+// One seed for all tables of the process, which nobody outside can know.
+fn drawn(rt: &impl RandomSource) -> Result<Seed> {
+    let mut bytes = [0; 16];
+    rt.fill_bytes(&mut bytes)?;
+    Ok(Seed::new(bytes))
 }
 
 fn limit_of(rt: &HostRuntime) -> Result<usize> {
@@ -31,8 +41,8 @@ fn limit_of(rt: &HostRuntime) -> Result<usize> {
 }
 
 // One set of parts for the proxy and the purge service.
-fn run_services(rt: &impl Print, alloc: Global) -> Result<()> {
-    let mut parts = Parts::new(alloc, 1000)?;
+fn run_services(rt: &impl Print, alloc: Global, seed: Seed) -> Result<()> {
+    let mut parts = Parts::new(alloc, seed, 1000)?;
     show_proxy(rt, &mut parts)?;
     show_purges(rt, &mut parts)
 }
@@ -57,8 +67,8 @@ fn show_purges(rt: &impl Print, parts: &mut Parts) -> Result<()> {
     Ok(())
 }
 
-fn run_simulator(rt: &HostRuntime, alloc: Global, limit: usize) -> Result<()> {
-    let mut manager = Manager::new(alloc, limit)?;
+fn run_simulator(rt: &HostRuntime, alloc: Global, seed: Seed, limit: usize) -> Result<()> {
+    let mut manager = Manager::new(alloc, seed, limit)?;
     let counts = simulate_all(rt, alloc, &mut manager)?;
     report(rt, &manager, counts)
 }

@@ -5,6 +5,7 @@ ghost use Rattle.pcache_request.specs.declared.phase.CachePhase.TheVariants.{Cac
 use pingora_cache::error::Result;
 use pingora_cache::eviction::simple_lru::Manager;
 use pingora_cache::lock::CacheLock;
+use pingora_cache::seed::Seed;
 use pingora_cache::{HttpCache, InUse, MemCache};
 use std::alloc::Global;
 use std::time::Duration;
@@ -25,12 +26,13 @@ pub struct Parts {
 }
 
 impl Parts {
-    /// Nothing is stored. Bodies will have at most `limit` bytes together.
-    pub fn new(alloc: Global, limit: usize) -> Result<Parts> {
+    /// Nothing is stored. Bodies will have at most `limit` bytes together. The clients choose the keys,
+    /// so the seed is to be drawn.
+    pub fn new(alloc: Global, seed: Seed, limit: usize) -> Result<Parts> {
         Ok(Parts {
             alloc,
-            store: MemCache::new(alloc),
-            manager: Manager::new(alloc, limit)?,
+            store: MemCache::new(alloc, seed),
+            manager: Manager::new(alloc, seed, limit)?,
             lock: CacheLock::new(alloc, Duration::from_secs(AGE_TIMEOUT_SECS)),
         })
     }

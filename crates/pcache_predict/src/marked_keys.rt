@@ -5,6 +5,7 @@ ghost use Rattle.pcache_predict.specs.Remembered.{empty_shard, reason_of, after_
 
 use pcache_base::error::Result;
 use pcache_base::reason::NoCacheReason;
+use pcache_base::seed::Seed;
 use pcache_table::hashtable::LruShards;
 use std::alloc::Global;
 use std::marker::Model;
@@ -29,13 +30,13 @@ impl<const N: usize> Model for MarkedKeys<N> {
 
 impl<const N: usize> MarkedKeys<N> {
     // No key yet. A capacity of 0 counts as 1. No room is taken in advance.
-    pub(crate) fn new(alloc: Global, capacity: usize) -> Result<MarkedKeys<N>>
+    pub(crate) fn new(alloc: Global, seed: Seed, capacity: usize) -> Result<MarkedKeys<N>>
         requires { 0 < N }
         ensures ok { IfOk result (λ all. all ≡ replicate N (empty_shard capacity)) }
         ensures kind { IfErr result (λ e. e ≡ OutOfMemory) }
     {
         Ok(MarkedKeys {
-            lists: LruShards::new(alloc, capacity)?,
+            lists: LruShards::new(alloc, seed, capacity)?,
         })
     }
 

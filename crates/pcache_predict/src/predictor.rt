@@ -11,6 +11,7 @@ use crate::marked_keys::MarkedKeys;
 use pcache_base::error::Result;
 use pcache_base::key::{CacheHashKey, CacheKey, HashBinary};
 use pcache_base::reason::NoCacheReason;
+use pcache_base::seed::Seed;
 use std::alloc::Global;
 
 /// Whether a marking with a custom reason is skipped, by the reason's word.
@@ -88,10 +89,11 @@ pub struct Predictor<const N_SHARDS: usize> {
 impl<const N_SHARDS: usize> Predictor<N_SHARDS> {
     ghost use Rattle.pcache_predict.specs.Predictor.{memory_of, predicate_of};
 
-    /// Remembers no key yet, and at most `shard_capacity` in each list (0 counts as 1). It is refused
-    /// only when memory runs out.
+    /// Remembers no key yet, and at most `shard_capacity` in each list (0 counts as 1). The lists'
+    /// tables hash under the seed, which no answer shows. It is refused only when memory runs out.
     pub fn new(
         alloc: Global,
+        seed: Seed,
         shard_capacity: usize,
         skip_custom_reasons: Option<CustomReasonPredicate>,
     ) -> Result<Predictor<N_SHARDS>>
@@ -106,7 +108,7 @@ impl<const N_SHARDS: usize> Predictor<N_SHARDS> {
             None => None,
         };
         Ok(Predictor {
-            memory: MarkedKeys::new(alloc, shard_capacity)?,
+            memory: MarkedKeys::new(alloc, seed, shard_capacity)?,
             skipped,
         })
     }

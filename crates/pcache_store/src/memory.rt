@@ -29,6 +29,7 @@ pub use miss::MemMissHandler;
 use pcache_base::error::{Error, ErrorType, Result};
 use pcache_base::key::{CacheHashKey, CacheKey};
 use pcache_base::moment::Moment;
+use pcache_base::seed::Seed;
 use pcache_evict::eviction::CacheEntryKey;
 use pcache_meta::meta::CacheMeta;
 use pcache_meta::meta::spelled::SpelledMeta;
@@ -61,14 +62,14 @@ impl Model for MemCache {
 }
 
 impl MemCache {
-    /// A store with nothing in it.
-    pub fn new(alloc: Global) -> MemCache
+    /// A store with nothing in it. Its tables hash under the seed, which no answer shows.
+    pub fn new(alloc: Global, seed: Seed) -> MemCache
         ensures { result ≡ record { slots = map.empty; writes = map.empty; next = 0 } }
     {
         MemCache {
             alloc,
-            slots: Slots::new(alloc),
-            drafts: Drafts::new(alloc),
+            slots: Slots::new(alloc, seed),
+            drafts: Drafts::new(alloc, seed),
         }
     }
 

@@ -15,8 +15,9 @@ pub mod world;
 
 pub use pcache_base::key::CacheKey;
 pub use pcache_base::reason::NoCacheReason;
+pub use pcache_base::seed::Seed;
 pub use pcache_base::variance::VarianceBuilder;
-pub use pcache_base::{error, key, moment, poll, reason, text, variance};
+pub use pcache_base::{error, key, moment, poll, reason, seed, text, variance};
 pub use pcache_control::{CacheMetaDefaults, RespCacheable, cache_control, filters};
 pub use pcache_evict::eviction::{CacheEntryId, CacheEntryKey, CacheEntryKeyRef};
 pub use pcache_meta::meta::CacheMeta;

@@ -2,6 +2,7 @@ use crate::parts::{AA, aa, answered, holds, key, letter, node, with_aa, with_z};
 use pcache_base::error::Result;
 use pcache_base::key::CompactCacheKey;
 use pcache_base::moment::Moment;
+use pcache_base::seed::Seed;
 use pcache_base::text::Text;
 use pcache_evict::eviction::{CacheEntryId, CacheEntryKey, sharded_lru, simple_lru};
 use pcache_files::sharded_lru::{deserialize_shard, serialize_shard};
@@ -19,7 +20,7 @@ fn loads(alloc: Global, bytes: &[u8], answer: &str, wanted: &str) -> Result<bool
 
 // One shard that holds an entry `z` of weight 1.
 fn shard_with_z(alloc: Global) -> Result<sharded_lru::Manager<1>> {
-    let mut manager = sharded_lru::Manager::<1>::with_capacity(alloc, 4, 1)?;
+    let mut manager = sharded_lru::Manager::<1>::with_capacity(alloc, Seed::fixed(), 4, 1)?;
     let mut entries = Vec::new(alloc);
     entries.push((letter(alloc, b'z', None)?, 1))?;
     manager.load_entries(entries)?;
@@ -80,14 +81,14 @@ fn shard_spells(alloc: Global, manager: &sharded_lru::Manager<1>, wanted: &[u8])
 
 // Whether an empty manager that loads these bytes holds this entry, of this weight.
 fn brings(alloc: Global, bytes: &[u8], entry: &CacheEntryKey, size: usize) -> Result<bool> {
-    let mut loaded = simple_lru::Manager::new(alloc, 4)?;
+    let mut loaded = simple_lru::Manager::new(alloc, Seed::fixed(), 4)?;
     deserialize(alloc, &mut loaded, bytes)?;
     Ok(loaded.peek(entry) && loaded.total_size() == size)
 }
 
 // One shard that holds the entry of `AA`.
 fn shard_with_aa(alloc: Global) -> Result<sharded_lru::Manager<1>> {
-    let mut shards = sharded_lru::Manager::<1>::with_capacity(alloc, 9, 1)?;
+    let mut shards = sharded_lru::Manager::<1>::with_capacity(alloc, Seed::fixed(), 9, 1)?;
     let mut entries = Vec::new(alloc);
     entries.push((aa(alloc)?, 9))?;
     shards.load_entries(entries)?;
@@ -216,7 +217,7 @@ fn numbers_are_written(rt: HostRuntime) -> std::result::Result<(), Fail> {
 
 // Two entries, the first with a number.
 fn numbered(alloc: Global) -> Result<simple_lru::Manager> {
-    let mut manager = simple_lru::Manager::new(alloc, 9)?;
+    let mut manager = simple_lru::Manager::new(alloc, Seed::fixed(), 9)?;
     manager.load_entry(letter(alloc, b'a', Some(CacheEntryId::new(255)))?, 3)?;
     manager.load_entry(letter(alloc, b'b', None)?, 2)?;
     Ok(manager)
@@ -247,7 +248,7 @@ fn stating(alloc: Global, stated: u32, nodes: u16) -> Result<Vec<u8>> {
 // Whether loading such a file answers this and leaves this many entries.
 fn long_file(alloc: Global, stated: u32, nodes: u16, answer: &str, items: usize) -> Result<bool> {
     let bytes = stating(alloc, stated, nodes)?;
-    let mut manager = simple_lru::Manager::new(alloc, 4)?;
+    let mut manager = simple_lru::Manager::new(alloc, Seed::fixed(), 4)?;
     let result = deserialize(alloc, &mut manager, &bytes);
     Ok(
         answered(&result) == answer
@@ -295,7 +296,7 @@ fn varied_file(alloc: Global) -> Result<Vec<u8>> {
 
 // A manager that holds that entry.
 fn with_varied(alloc: Global) -> Result<simple_lru::Manager> {
-    let mut manager = simple_lru::Manager::new(alloc, 9)?;
+    let mut manager = simple_lru::Manager::new(alloc, Seed::fixed(), 9)?;
     manager.load_entry(varied(alloc)?, 300)?;
     Ok(manager)
 }
@@ -312,7 +313,7 @@ fn variances_go_round(rt: HostRuntime) -> std::result::Result<(), Fail> {
 
 // A manager whose limit is below the weight of the file that it loaded.
 fn loaded_over_its_limit(alloc: Global) -> Result<simple_lru::Manager> {
-    let mut manager = simple_lru::Manager::new(alloc, 4)?;
+    let mut manager = simple_lru::Manager::new(alloc, Seed::fixed(), 4)?;
     deserialize(alloc, &mut manager, &AA)?;
     Ok(manager)
 }

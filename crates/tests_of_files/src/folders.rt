@@ -1,6 +1,7 @@
 use crate::failing::Failing;
 use crate::parts::{AA, holds, letter, with_aa, with_z};
 use pcache_base::error::{ErrorType, Result};
+use pcache_base::seed::Seed;
 use pcache_evict::eviction::{sharded_lru, simple_lru};
 use pcache_files::saved::SavedManager;
 use std::alloc::Global;
@@ -164,7 +165,7 @@ fn each_call_on_files_fails_in_turn(rt: HostRuntime) -> std::result::Result<(), 
 
 // Two shards that hold `a`, in the second, and `b`, in the first.
 fn two_shards(alloc: Global) -> Result<sharded_lru::Manager<2>> {
-    let mut manager = sharded_lru::Manager::<2>::with_capacity(alloc, 9, 1)?;
+    let mut manager = sharded_lru::Manager::<2>::with_capacity(alloc, Seed::fixed(), 9, 1)?;
     let mut entries = Vec::new(alloc);
     entries.push((letter(alloc, b'a', None)?, 1))?;
     entries.push((letter(alloc, b'b', None)?, 2))?;
@@ -180,7 +181,7 @@ fn shards_load<R: Files>(
     answer: &str,
     wanted: &str,
 ) -> Result<bool> {
-    let mut manager = sharded_lru::Manager::<2>::with_capacity(alloc, 9, 1)?;
+    let mut manager = sharded_lru::Manager::<2>::with_capacity(alloc, Seed::fixed(), 9, 1)?;
     Ok(load_tells(alloc, files, &mut manager, dir, answer)? && holds(alloc, &manager, wanted)?)
 }
 
@@ -241,7 +242,7 @@ fn a_failed_shard_fails_the_save(rt: HostRuntime) -> std::result::Result<(), Fai
 
 // One shard that holds what the manager does.
 fn one_shard(alloc: Global, manager: &simple_lru::Manager) -> Result<sharded_lru::Manager<1>> {
-    let mut shards = sharded_lru::Manager::<1>::with_capacity(alloc, 9, 1)?;
+    let mut shards = sharded_lru::Manager::<1>::with_capacity(alloc, Seed::fixed(), 9, 1)?;
     shards.load_entries(manager.entries()?)?;
     Ok(shards)
 }

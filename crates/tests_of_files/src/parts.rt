@@ -1,6 +1,7 @@
 //! Entries, lists and files that the tests share.
 use pcache_base::error::{ErrorType, Result};
 use pcache_base::key::{CacheKey, CompactCacheKey};
+use pcache_base::seed::Seed;
 use pcache_base::text::Text;
 use pcache_evict::eviction::{CacheEntryId, CacheEntryKey, EvictionManager, simple_lru};
 use std::alloc::Global;
@@ -75,14 +76,14 @@ pub fn holds<E: EvictionManager>(alloc: Global, manager: &E, wanted: &str) -> Re
 
 /// A manager that holds an entry `z` of weight 1.
 pub fn with_z(alloc: Global) -> Result<simple_lru::Manager> {
-    let mut manager = simple_lru::Manager::new(alloc, 4)?;
+    let mut manager = simple_lru::Manager::new(alloc, Seed::fixed(), 4)?;
     manager.load_entry(letter(alloc, b'z', None)?, 1)?;
     Ok(manager)
 }
 
 /// A manager that holds the entry of `AA`, of weight 9.
 pub fn with_aa(alloc: Global) -> Result<simple_lru::Manager> {
-    let mut manager = simple_lru::Manager::new(alloc, 9)?;
+    let mut manager = simple_lru::Manager::new(alloc, Seed::fixed(), 9)?;
     manager.load_entry(aa(alloc)?, 9)?;
     Ok(manager)
 }

@@ -1,4 +1,5 @@
 //! Tables, in one piece and in shards, also behind locks.
+use pcache_base::seed::Seed;
 use pcache_table::hashtable::{
     ConcurrentHashTable, ConcurrentLruCache, HashedTable, LruShards, Shards, Table,
 };
@@ -93,7 +94,7 @@ fn forgets(shards: &mut LruShards<u64, 2>) -> bool {
 
 #[test]
 fn shards_that_forget(rt: HostRuntime) {
-    let is_good = match LruShards::<u64, 2>::new(rt.alloc(), 2) {
+    let is_good = match LruShards::<u64, 2>::new(rt.alloc(), Seed::fixed(), 2) {
         Ok(mut shards) => forgets(&mut shards),
         Err(_refused) => false,
     };
@@ -114,7 +115,7 @@ fn keeps_one(shards: &mut LruShards<u8, 1>) -> bool {
 
 #[test]
 fn a_capacity_of_0_counts_as_1(rt: HostRuntime) {
-    let is_good = match LruShards::<u8, 1>::new(rt.alloc(), 0) {
+    let is_good = match LruShards::<u8, 1>::new(rt.alloc(), Seed::fixed(), 0) {
         Ok(mut shards) => keeps_one(&mut shards),
         Err(_refused) => false,
     };
@@ -223,7 +224,7 @@ fn forgets_9<R: Wait>(rt: &R, lrus: &Forgetting) -> bool {
 
 #[test]
 fn tables_that_forget_behind_locks(rt: HostRuntime) {
-    let is_good = match Forgetting::new(rt.alloc(), 0) {
+    let is_good = match Forgetting::new(rt.alloc(), Seed::fixed(), 0) {
         Ok(lrus) => holds_9(&rt, &lrus) && forgets_9(&rt, &lrus),
         Err(_refused) => false,
     };
@@ -276,7 +277,7 @@ struct Pair {
 impl Pair {
     fn new(alloc: Global) -> Pair {
         Pair {
-            hashed: HashedTable::new(alloc),
+            hashed: HashedTable::new(alloc, Seed::fixed()),
             ordered: Table::new(alloc),
         }
     }

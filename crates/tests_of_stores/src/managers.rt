@@ -2,10 +2,11 @@
 //!
 //! What is told are the entries that went, whether an entry that was used or looked for was there, then the list,
 //! then the totals.
-use crate::rows::{Desk, Told, play, size, some_size, word};
+use crate::rows::{Desk, Told, other_seed, play, size, some_size, word};
 use pcache_base::error::Result;
 use pcache_base::key::CompactCacheKey;
 use pcache_base::moment::Moment;
+use pcache_base::seed::Seed;
 use pcache_base::text::Text;
 use pcache_evict::eviction::{CacheEntryKey, EvictionManager, sharded_lru, simple_lru};
 use std::alloc::Global;
@@ -124,6 +125,7 @@ fn tell_weights(entries: &[(CacheEntryKey, usize)], told: &mut Told) {
 #[derive(Drop)]
 struct Made {
     alloc: Global,
+    seed: Seed,
     in_shards: bool,
 }
 
@@ -135,14 +137,16 @@ impl Desk for Made {
         if self.in_shards {
             in_shards(
                 self.alloc,
-                sharded_lru::Manager::with_capacity_and_watermark(self.alloc, limit, 4, watermark),
+                sharded_lru::Manager::with_capacity_and_watermark(
+                    self.alloc, self.seed, limit, 4, watermark,
+                ),
                 calls,
                 told,
             );
         } else {
             simply(
                 self.alloc,
-                simple_lru::Manager::new_with_watermark(self.alloc, limit, watermark),
+                simple_lru::Manager::new_with_watermark(self.alloc, self.seed, limit, watermark),
                 calls,
                 told,
             );
@@ -207,9 +211,16 @@ fn load(alloc: Global, manager: &mut simple_lru::Manager, call: &'static str) ->
     manager.load_entry(entry_of(alloc, call)?, size(call, 2))
 }
 
-/// Plays rows over the simple manager, or over the one in shards with one shard.
+/// Plays rows over the simple manager, or over the one in shards with one shard, under two seeds.
 pub fn run(rt: &impl Abort, alloc: Global, in_shards: bool, rows: &'static str) {
-    play(rt, alloc, &mut Made { alloc, in_shards }, rows);
+    for seed in [Seed::fixed(), other_seed()] {
+        let mut made = Made {
+            alloc,
+            seed,
+            in_shards,
+        };
+        play(rt, alloc, &mut made, rows);
+    }
 }
 
 /// Rows that both managers answer alike.

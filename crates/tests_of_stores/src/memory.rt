@@ -1,11 +1,12 @@
 //! The store in memory, call by call.
-use crate::rows::{Desk, Told, play, size, some_number, some_size, word};
+use crate::rows::{Desk, Told, other_seed, play, size, some_number, some_size, word};
 use bytes::Bytes;
 use http::StatusCode;
 use pcache_base::error::Result;
 use pcache_base::key::{CacheKey, CompactCacheKey};
 use pcache_base::moment::Moment;
 use pcache_base::poll::Poll;
+use pcache_base::seed::Seed;
 use pcache_evict::eviction::{CacheEntryId, CacheEntryKey};
 use pcache_meta::header::ResponseHeader;
 use pcache_meta::meta::CacheMeta;
@@ -52,10 +53,10 @@ struct Parts {
 }
 
 impl Parts {
-    fn new(alloc: Global) -> Result<Parts> {
+    fn new(alloc: Global, seed: Seed) -> Result<Parts> {
         let a = name(alloc, "a")?;
         let b = name(alloc, "b")?;
-        let store = MemCache::new(alloc);
+        let store = MemCache::new(alloc, seed);
         Ok(Parts { alloc, store, a, b })
     }
 
@@ -416,9 +417,14 @@ fn totals(store: &MemCache, told: &mut Told) {
     told.say(" writes");
 }
 
-// Plays the rows over a store of their own.
+// Plays the rows over two stores of their own, under two seeds, which answer alike.
 fn run(rt: &impl Abort, alloc: Global, rows: &'static str) {
-    match Parts::new(alloc) {
+    run_under(rt, alloc, Seed::fixed(), rows);
+    run_under(rt, alloc, other_seed(), rows);
+}
+
+fn run_under(rt: &impl Abort, alloc: Global, seed: Seed, rows: &'static str) {
+    match Parts::new(alloc, seed) {
         Ok(parts) => {
             let mut counter = Counter::new(parts);
             play(rt, alloc, &mut counter, rows);

@@ -7,6 +7,7 @@ use pcache_base::key::{CacheKey, CompactCacheKey};
 use pcache_base::moment::Moment;
 use pcache_base::poll::Poll;
 use pcache_base::reason::NoCacheReason;
+use pcache_base::seed::Seed;
 use pcache_control::{CacheMetaDefaults, RespCacheable};
 use pcache_evict::eviction::EvictionManager;
 use pcache_evict::eviction::simple_lru::Manager;
@@ -82,8 +83,8 @@ impl Parts {
         let compact = key.to_compact()?;
         Ok(Parts {
             alloc,
-            store: MemCache::new(alloc),
-            manager: Manager::new(alloc, 9)?,
+            store: MemCache::new(alloc, Seed::fixed()),
+            manager: Manager::new(alloc, Seed::fixed(), 9)?,
             key,
             compact,
             piece: Vec::new(alloc),

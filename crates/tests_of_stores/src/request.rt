@@ -6,6 +6,7 @@ use pcache_base::fills::{UnusableFill, UnusableFills};
 use pcache_base::key::CacheKey;
 use pcache_base::moment::Moment;
 use pcache_base::reason::NoCacheReason;
+use pcache_base::seed::Seed;
 use pcache_evict::eviction::simple_lru::Manager;
 use pcache_lock::lock::CacheLock;
 use pcache_meta::header::ResponseHeader;
@@ -75,10 +76,10 @@ impl Parts {
     fn new(alloc: Global) -> Result<Parts> {
         Ok(Parts {
             alloc,
-            store: MemCache::new(alloc),
-            manager: Manager::new(alloc, 9)?,
+            store: MemCache::new(alloc, Seed::fixed()),
+            manager: Manager::new(alloc, Seed::fixed(), 9)?,
             lock: CacheLock::new(alloc, Duration::from_secs(10)),
-            predictor: Predictor::new(alloc, 3, None)?,
+            predictor: Predictor::new(alloc, Seed::fixed(), 3, None)?,
             policy: SecondTime { observed: 0 },
             now: Moment::EPOCH,
         })

@@ -3,6 +3,7 @@
 //! A row of text costs nothing to prove, and the functions after the calls are proved once for all rows. What tells has
 //! no `?`: `Told` takes each result, also a refused one, and if memory was wanting no row is told as it should be.
 use pcache_base::error::{Error, Result};
+use pcache_base::seed::Seed;
 use std::alloc::Global;
 use std::fmt::{Debug, Display, Write};
 use std::process::Abort;
@@ -88,6 +89,11 @@ impl Told {
     pub fn is(&self, wanted: &str) -> bool {
         self.is_whole && self.text.as_str().trim() == wanted
     }
+}
+
+/// A seed that is not the fixed one.
+pub fn other_seed() -> Seed {
+    Seed::new(*b"not all are zero")
 }
 
 /// What makes the calls of rows.

@@ -3,6 +3,7 @@ use crate::managers::{COUNTED, EVICTED, NEVER_READ, compact, entry, run, take};
 use crate::rows::Told;
 use pcache_base::error::Result;
 use pcache_base::key::CacheKey;
+use pcache_base::seed::Seed;
 use pcache_evict::eviction::sharded_lru::Manager;
 use pcache_evict::eviction::{CacheEntryId, CacheEntryKey, EvictionManager};
 use std::alloc::Global;
@@ -55,7 +56,7 @@ fn keeps_the_limit(alloc: Global, manager: &mut Manager<2>) -> bool {
 
 #[test]
 fn two_shards_keep_one_limit(rt: HostRuntime) {
-    let is_good = match Manager::<2>::with_capacity(rt.alloc(), 4, 4) {
+    let is_good = match Manager::<2>::with_capacity(rt.alloc(), Seed::fixed(), 4, 4) {
         Ok(mut manager) => keeps_the_limit(rt.alloc(), &mut manager),
         Err(_refused) => false,
     };
@@ -82,7 +83,7 @@ fn is_in_shard_14(alloc: Global, manager: &Manager<16>, variance: Option<[u8; 16
 #[test]
 fn shards_go_by_the_combined_key(rt: HostRuntime) {
     let alloc = rt.alloc();
-    let is_good = match Manager::<16>::with_capacity(alloc, 4, 4) {
+    let is_good = match Manager::<16>::with_capacity(alloc, Seed::fixed(), 4, 4) {
         Ok(manager) => {
             is_in_shard_14(alloc, &manager, None) && is_in_shard_14(alloc, &manager, Some([0; 16]))
         }
@@ -118,7 +119,7 @@ fn has_fallen(alloc: Global, manager: &mut Manager<1>) -> bool {
 
 #[test]
 fn the_weight_limit_can_be_set(rt: HostRuntime) {
-    let is_good = match Manager::<1>::with_capacity(rt.alloc(), 4, 4) {
+    let is_good = match Manager::<1>::with_capacity(rt.alloc(), Seed::fixed(), 4, 4) {
         Ok(mut manager) => has_fallen(rt.alloc(), &mut manager),
         Err(_refused) => false,
     };
@@ -143,7 +144,7 @@ fn make_two(alloc: Global) -> Result<Two> {
     let (first, second) = (identified(alloc, 1)?, identified(alloc, 2)?);
     let (other, manager) = (
         entry(alloc, b'z', "1")?,
-        Manager::with_capacity(alloc, 1, 4)?,
+        Manager::with_capacity(alloc, Seed::fixed(), 1, 4)?,
     );
     Ok(Two {
         manager,

@@ -1,6 +1,7 @@
 //! The manager with one list.
 use crate::managers::{COUNTED, EVICTED, NEVER_READ, compact, entry, run};
 use pcache_base::error::Result;
+use pcache_base::seed::Seed;
 use pcache_evict::eviction::simple_lru::Manager;
 use pcache_evict::eviction::{CacheEntryId, CacheEntryKey, EvictionManager};
 use std::alloc::Global;
@@ -69,7 +70,10 @@ fn identified(alloc: Global, number: u64) -> Result<CacheEntryKey> {
 
 fn two_numbers(alloc: Global) -> Result<Two> {
     let first = identified(alloc, 1)?;
-    let (second, manager) = (identified(alloc, 2)?, Manager::new(alloc, 1)?);
+    let (second, manager) = (
+        identified(alloc, 2)?,
+        Manager::new(alloc, Seed::fixed(), 1)?,
+    );
     Ok(Two {
         manager,
         first,
@@ -79,7 +83,10 @@ fn two_numbers(alloc: Global) -> Result<Two> {
 
 fn two_tags(alloc: Global) -> Result<Two> {
     let first = entry(alloc, b'a', "1")?;
-    let (second, manager) = (entry(alloc, b'a', "2")?, Manager::new(alloc, 1)?);
+    let (second, manager) = (
+        entry(alloc, b'a', "2")?,
+        Manager::new(alloc, Seed::fixed(), 1)?,
+    );
     Ok(Two {
         manager,
         first,
@@ -136,7 +143,7 @@ fn is_emptied(boxed: &mut Boxed, b: &CacheEntryKey) -> bool {
 #[test]
 fn a_boxed_manager_is_one(rt: HostRuntime) -> std::result::Result<(), Fail> {
     let alloc = rt.alloc();
-    let mut boxed: Boxed = Box::new(alloc, Manager::new(alloc, 4)?)?;
+    let mut boxed: Boxed = Box::new(alloc, Manager::new(alloc, Seed::fixed(), 4)?)?;
     let (a, b) = (entry(alloc, b'a', "1")?, entry(alloc, b'b', "1")?);
     let is_good = takes_both(&mut boxed, &a, &b)
         && is_raised(&mut boxed, &a, &b)
@@ -161,7 +168,7 @@ fn admit_number(alloc: Global, manager: &mut Manager, number: u64) -> Result<Vec
 
 #[test]
 fn many_admissions_are_fast(rt: HostRuntime) {
-    let is_good = match Manager::new(rt.alloc(), 5000) {
+    let is_good = match Manager::new(rt.alloc(), Seed::fixed(), 5000) {
         Ok(mut manager) => admits_all(rt.alloc(), &mut manager),
         Err(_refused) => false,
     };

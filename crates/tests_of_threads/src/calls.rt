@@ -6,6 +6,7 @@ use http::StatusCode;
 use pcache_base::error::Result;
 use pcache_base::key::CacheKey;
 use pcache_base::moment::Moment;
+use pcache_base::seed::Seed;
 use pcache_evict::eviction::simple_lru::Manager;
 use pcache_meta::header::ResponseHeader;
 use pcache_meta::meta::CacheMeta;
@@ -106,8 +107,8 @@ pub fn read_script(alloc: Global, text: &'static str) -> Result<Vec<Call>> {
 
 /// An empty world of at most nine bytes.
 pub fn world_of(alloc: Global) -> Result<ListWorld> {
-    let manager = Manager::new(alloc, 9)?;
-    Ok(World::new(alloc, manager, Duration::from_secs(10)))
+    let manager = Manager::new(alloc, Seed::fixed(), 9)?;
+    Ok(World::new(alloc, Seed::fixed(), manager, Duration::from_secs(10)))
 }
 
 /// The same, to be shared by two.

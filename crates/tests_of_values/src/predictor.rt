@@ -4,6 +4,7 @@ use crate::rows::{Desk, Told, play_at, word};
 use pcache_base::error::Result;
 use pcache_base::key::CacheKey;
 use pcache_base::reason::NoCacheReason;
+use pcache_base::seed::Seed;
 use pcache_predict::predictor::{CacheablePredictor, Predictor};
 use std::alloc::Global;
 
@@ -103,7 +104,7 @@ fn cacheability_and_last_reason(rt: HostRuntime) {
     play_at(
         &rt,
         alloc,
-        at_desk(alloc, Predictor::<1>::new(alloc, 10, None)),
+        at_desk(alloc, Predictor::<1>::new(alloc, Seed::fixed(), 10, None)),
         REASONS,
     );
 }
@@ -123,7 +124,10 @@ fn custom_skip_predicate(rt: HostRuntime) {
     play_at(
         &rt,
         alloc,
-        at_desk(alloc, Predictor::<1>::new(alloc, 10, Some(is_skipping))),
+        at_desk(
+            alloc,
+            Predictor::<1>::new(alloc, Seed::fixed(), 10, Some(is_skipping)),
+        ),
         SKIPPED,
     );
 }
@@ -147,7 +151,7 @@ fn forgets_the_first_marked(rt: HostRuntime) {
     play_at(
         &rt,
         alloc,
-        at_desk(alloc, Predictor::<1>::new(alloc, 3, None)),
+        at_desk(alloc, Predictor::<1>::new(alloc, Seed::fixed(), 3, None)),
         FORGOTTEN,
     );
 }
@@ -200,7 +204,7 @@ fn many_shards(rt: HostRuntime) {
     play_at(
         &rt,
         alloc,
-        at_desk(alloc, Predictor::<64>::new(alloc, 10, None)),
+        at_desk(alloc, Predictor::<64>::new(alloc, Seed::fixed(), 10, None)),
         SPREAD,
     );
 }
@@ -217,7 +221,7 @@ fn no_capacity_counts_as_one(rt: HostRuntime) {
     play_at(
         &rt,
         alloc,
-        at_desk(alloc, Predictor::<1>::new(alloc, 0, None)),
+        at_desk(alloc, Predictor::<1>::new(alloc, Seed::fixed(), 0, None)),
         OF_ONE,
     );
 }

@@ -2,6 +2,7 @@
 use crate::play::{Limits, next_call, tell_reply, world_of};
 use crate::script::{Clock, asked_of};
 use pcache_base::error;
+use pcache_base::seed::Seed;
 use pcache_evict::eviction::simple_lru::Manager;
 use pingora_cache::world::World;
 use pingora_cache::world::policy::BySelf;
@@ -68,7 +69,7 @@ fn told(
 #[test]
 fn nothing_is_left_of_ended_requests(rt: HostRuntime) -> Result<(), Fail> {
     let alloc = rt.alloc();
-    let shared = Mutex::new(world_of(alloc, Limits::weight(9))?);
+    let shared = Mutex::new(world_of(alloc, Seed::fixed(), Limits::weight(9))?);
     let told = told(&rt, alloc, &shared, PURGED)?;
     assert_eq!(rt; told.as_str(), PURGED);
     let world = shared.into_inner();

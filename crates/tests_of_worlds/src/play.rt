@@ -3,6 +3,7 @@ ghost use Rattle.std.specs.Prelude.{◌<◌};
 
 use crate::script::{Clock, Line, asked_of, call_of, line_of};
 use pcache_base::error::Result;
+use pcache_base::seed::Seed;
 use pcache_evict::eviction::{EvictionManager, sharded_lru, simple_lru};
 use pingora_cache::world::call::{Call, Reply};
 use pingora_cache::world::entry::Entry;
@@ -38,29 +39,40 @@ impl Limits {
     }
 }
 
-/// A new world, whose manager has these limits. Permits are too old after ten seconds.
-pub fn world_of(alloc: Global, limits: Limits) -> Result<World<simple_lru::Manager, BySelf>> {
+/// A new world under a seed, whose manager has these limits. Permits are too old after ten seconds.
+pub fn world_of(
+    alloc: Global,
+    seed: Seed,
+    limits: Limits,
+) -> Result<World<simple_lru::Manager, BySelf>> {
     let Limits { weight, watermark } = limits;
-    let manager = simple_lru::Manager::new_with_watermark(alloc, weight, watermark)?;
-    Ok(World::new(alloc, manager, Duration::from_secs(10)))
+    let manager = simple_lru::Manager::new_with_watermark(alloc, seed, weight, watermark)?;
+    Ok(World::new(alloc, seed, manager, Duration::from_secs(10)))
 }
 
 /// The same over a manager in `N` shards.
 pub fn sharded_world_of<const N: usize>(
     alloc: Global,
+    seed: Seed,
     limits: Limits,
 ) -> Result<World<sharded_lru::Manager<N>, BySelf>>
     requires { 0 < N }
 {
     let Limits { weight, watermark } = limits;
     let manager = sharded_lru::Manager::<N>::with_capacity_and_watermark(
-        alloc, weight, 4, watermark,
+        alloc, seed, weight, 4, watermark,
     )?;
-    Ok(World::new(alloc, manager, Duration::from_secs(10)))
+    Ok(World::new(alloc, seed, manager, Duration::from_secs(10)))
 }
 
-/// Plays two texts on a new world, all calls of a text in one run, and on another world one by one.
-/// What is told is the text each time. Both worlds go with what is still open in them.
+// A seed that is not the fixed one.
+fn other_seed() -> Seed {
+    Seed::new(*b"not all are zero")
+}
+
+/// Plays two texts on a new world, all calls of a text in one run, and on another world, under
+/// another seed, one by one. What is told is the text each time. Both worlds go with what is still
+/// open in them.
 pub fn play(
     rt: &impl Abort,
     alloc: Global,
@@ -68,9 +80,9 @@ pub fn play(
     first: &'static str,
     text: &'static str,
 ) -> std::result::Result<(), Fail> {
-    let mut together = world_of(alloc, limits)?;
+    let mut together = world_of(alloc, Seed::fixed(), limits)?;
     play_together(rt, alloc, &mut together, first, text)?;
-    let mut apart = world_of(alloc, limits)?;
+    let mut apart = world_of(alloc, other_seed(), limits)?;
     play_apart(rt, alloc, &mut apart, first, text)
 }
 
@@ -84,9 +96,9 @@ pub fn play_sharded<const N: usize>(
 ) -> std::result::Result<(), Fail>
     requires { 0 < N }
 {
-    let mut together = sharded_world_of::<N>(alloc, limits)?;
+    let mut together = sharded_world_of::<N>(alloc, Seed::fixed(), limits)?;
     play_together(rt, alloc, &mut together, first, text)?;
-    let mut apart = sharded_world_of::<N>(alloc, limits)?;
+    let mut apart = sharded_world_of::<N>(alloc, other_seed(), limits)?;
     play_apart(rt, alloc, &mut apart, first, text)
 }
 

@@ -129,6 +129,7 @@ pub mod own {
     };
     pub use pingora_cache::moment::Moment;
     pub use pingora_cache::poll::Poll;
+    pub use pingora_cache::seed::{Seed, SeededHasher};
     pub use pingora_cache::text::Text;
 }
 

@@ -8,6 +8,7 @@ use crate::play::{Limits, play, play_on_both, play_together};
 use crate::script::key;
 use pcache_base::error;
 use pcache_base::key::CacheHashKey;
+use pcache_base::seed::Seed;
 use pcache_evict::eviction::CacheEntryKey;
 use pcache_evict::eviction::simple_lru::Manager;
 use pingora_cache::world::World;
@@ -393,9 +394,9 @@ fn world_with(
     entry: CacheEntryKey,
     weight: usize,
 ) -> error::Result<World<Manager, BySelf>> {
-    let mut manager = Manager::new(alloc, 9)?;
+    let mut manager = Manager::new(alloc, Seed::fixed(), 9)?;
     manager.load_entry(entry, weight)?;
-    Ok(World::new(alloc, manager, Duration::from_secs(10)))
+    Ok(World::new(alloc, Seed::fixed(), manager, Duration::from_secs(10)))
 }
 
 fn starts_with(

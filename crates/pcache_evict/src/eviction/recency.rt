@@ -13,6 +13,7 @@ ghost use Rattle.pcache_evict.specs.Chain.{IsWithinTotals, Walks};
 use super::CacheEntryKey;
 use lru::{Iter, LruCache};
 use pcache_base::error::Result;
+use pcache_base::seed::Seed;
 use std::alloc::Global;
 use std::marker::Model;
 
@@ -21,9 +22,13 @@ use std::marker::Model;
 /// Each move takes one look-up. No entry stands twice.
 #[derive(Drop)]
 pub(super) struct RecencyList {
-    cache: LruCache<CacheEntryKey, usize>,
+    cache: Weights,
     weight: u128,
+    seed: Seed,
 }
+
+/// The weights of entries, found by a hash of the entry under a seed.
+type Weights = LruCache<CacheEntryKey, usize, Seed>;
 
 impl Model for RecencyList {
     ghost use Rattle.pcache_evict.specs.Recency.{Recency};
@@ -37,14 +42,15 @@ impl Model for RecencyList {
 }
 
 impl RecencyList {
-    /// An empty list.
-    pub(super) fn new(alloc: Global) -> Result<RecencyList>
+    /// An empty list. Under which seed it hashes no answer shows.
+    pub(super) fn new(alloc: Global, seed: Seed) -> Result<RecencyList>
         ensures ok { IfOk result (λ list. list ≡ []) }
         ensures kind { IfErr result (λ e. e ≡ OutOfMemory) }
     {
         Ok(RecencyList {
-            cache: LruCache::unbounded(alloc)?,
+            cache: LruCache::unbounded_with_hasher(alloc, seed)?,
             weight: 0,
+            seed,
         })
     }
 
@@ -218,7 +224,7 @@ impl RecencyList {
         ensures ok { IfOk result (λ copy. copy ≡ self.now) }
         ensures kind { IfErr result (λ e. e ≡ OutOfMemory) }
     {
-        let mut copy = RecencyList::new(alloc)?;
+        let mut copy = RecencyList::new(alloc, self.seed)?;
         let mut left = self.iter();
         while let Some((key, size)) = left.next_back() {
             copy.put(key.copied()?, *size)?;
@@ -432,7 +438,7 @@ pub(super) struct Walk {
 }
 
 /// Sets the weight of an entry that is there, and moves it to the front.
-fn set_weight(cache: &mut LruCache<CacheEntryKey, usize>, item: &CacheEntryKey, size: usize)
+fn set_weight(cache: &mut Weights, item: &CacheEntryKey, size: usize)
     requires { IsSome (weight_of item.now cache.old.entries) }
     ensures { cache.new ≡ lru_cache (put_entries entry_eq cache.old item.now size) cache.old.cap }
 {
@@ -446,7 +452,7 @@ fn set_weight(cache: &mut LruCache<CacheEntryKey, usize>, item: &CacheEntryKey, 
 /// there.
 /// It is a function over the cache alone, since a weight is changed through a lend of it: so one lemma is enough.
 fn raise_in(
-    cache: &mut LruCache<CacheEntryKey, usize>,
+    cache: &mut Weights,
     item: &CacheEntryKey,
     delta: usize,
     max_weight: Option<usize>,
@@ -475,7 +481,7 @@ fn push_copy(all: &mut Vec<(CacheEntryKey, usize)>, key: &CacheEntryKey, size: u
 }
 
 /// Sets the weight of an entry that is there, where it stands.
-fn write_weight(cache: &mut LruCache<CacheEntryKey, usize>, item: &CacheEntryKey, size: usize)
+fn write_weight(cache: &mut Weights, item: &CacheEntryKey, size: usize)
     requires { IsSome (weight_of item.now cache.old.entries) }
     ensures { cache.new ≡ lru_cache (reweighed item.now size cache.old.entries) cache.old.cap }
 {

@@ -15,6 +15,7 @@ use super::{CacheEntryKey, EvictionManager};
 use lru::Iter;
 use pcache_base::error::Result;
 use pcache_base::moment::Moment;
+use pcache_base::seed::Seed;
 use std::alloc::Global;
 use std::marker::Model;
 
@@ -49,19 +50,26 @@ impl<const N: usize> Model for Manager<N> {
 
 impl<const N: usize> Manager<N> {
     /// An empty manager whose entries weigh at most `limit` once it has evicted. The number of
-    /// entries that is expected in a shard promises nothing: the lists grow as they are filled.
-    pub fn with_capacity(alloc: Global, limit: usize, capacity: usize) -> Result<Manager<N>>
+    /// entries that is expected in a shard promises nothing: the lists grow as they are filled. Their
+    /// tables hash under the seed, which no answer shows.
+    pub fn with_capacity(
+        alloc: Global,
+        seed: Seed,
+        limit: usize,
+        capacity: usize,
+    ) -> Result<Manager<N>>
         requires { 0 < N }
         ensures ok { IfOk result (λ m. m ≡ empty_shards N limit None) }
         ensures kind { IfErr result (λ e. e ≡ OutOfMemory) }
     {
-        Manager::with_capacity_and_watermark(alloc, limit, capacity, None)
+        Manager::with_capacity_and_watermark(alloc, seed, limit, capacity, None)
     }
 
     /// An empty manager whose entries weigh at most `limit` once it has evicted, and are at most
     /// `watermark` if that is given.
     pub fn with_capacity_and_watermark(
         alloc: Global,
+        seed: Seed,
         limit: usize,
         _capacity: usize,
         watermark: Option<usize>,
@@ -74,7 +82,7 @@ impl<const N: usize> Manager<N> {
             alloc,
             limit,
             watermark,
-            shards: RecencyShards::new(alloc)?,
+            shards: RecencyShards::new(alloc, seed)?,
             evicted_size: 0,
             evicted_items: 0,
         })

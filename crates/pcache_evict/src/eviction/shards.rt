@@ -12,6 +12,7 @@ use super::CacheEntryKey;
 use super::recency::{RecencyList, Walk, exceeds};
 use pcache_base::error::{Error, ErrorType, Result};
 use pcache_base::key::CacheHashKey;
+use pcache_base::seed::Seed;
 use std::alloc::Global;
 use std::marker::Model;
 
@@ -42,15 +43,15 @@ impl<const N: usize> Model for RecencyShards<N> {
 }
 
 impl<const N: usize> RecencyShards<N> {
-    /// `N` empty lists.
-    pub(super) fn new(alloc: Global) -> Result<RecencyShards<N>>
+    /// `N` empty lists. Under which seed they hash no answer shows.
+    pub(super) fn new(alloc: Global, seed: Seed) -> Result<RecencyShards<N>>
         requires { 0 < N }
         ensures ok { IfOk result (λ shards. shards ≡ no_entries N) }
         ensures kind { IfErr result (λ e. e ≡ OutOfMemory) }
     {
         let mut lists = Vec::new(alloc);
         for _place in 0..N {
-            lists.push(RecencyList::new(alloc)?)?;
+            lists.push(RecencyList::new(alloc, seed)?)?;
         }
         Ok(RecencyShards {
             lists,

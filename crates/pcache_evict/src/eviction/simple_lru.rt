@@ -10,6 +10,7 @@ use super::{CacheEntryKey, EvictionManager};
 use lru::Iter;
 use pcache_base::error::Result;
 use pcache_base::moment::Moment;
+use pcache_base::seed::Seed;
 use std::alloc::Global;
 use std::marker::Model;
 
@@ -41,18 +42,20 @@ impl Model for Manager {
 }
 
 impl Manager {
-    /// An empty manager whose entries weigh at most `limit` once it has evicted.
-    pub fn new(alloc: Global, limit: usize) -> Result<Manager>
+    /// An empty manager whose entries weigh at most `limit` once it has evicted. Its table of entries
+    /// hashes under the seed, which no answer shows.
+    pub fn new(alloc: Global, seed: Seed, limit: usize) -> Result<Manager>
         ensures ok { IfOk result (λ m. m ≡ empty_list limit None) }
         ensures kind { IfErr result (λ e. e ≡ OutOfMemory) }
     {
-        Manager::new_with_watermark(alloc, limit, None)
+        Manager::new_with_watermark(alloc, seed, limit, None)
     }
 
     /// An empty manager whose entries weigh at most `limit` once it has evicted, and are at most
     /// `items_watermark` if that is given.
     pub fn new_with_watermark(
         alloc: Global,
+        seed: Seed,
         limit: usize,
         items_watermark: Option<usize>,
     ) -> Result<Manager>
@@ -63,7 +66,7 @@ impl Manager {
             alloc,
             limit,
             watermark: items_watermark,
-            list: RecencyList::new(alloc)?,
+            list: RecencyList::new(alloc, seed)?,
             evicted_size: 0,
             evicted_items: 0,
         })

@@ -10,6 +10,7 @@ use crate::memory::body::Body;
 use crate::memory::draft::Draft;
 use crate::memory::slot_table::SHARDS;
 use pcache_base::error::{Error, ErrorType, Result};
+use pcache_base::seed::Seed;
 use pcache_meta::meta::CacheMeta;
 use pcache_table::hashtable::HashedTable;
 use std::alloc::Global;
@@ -49,14 +50,15 @@ impl Model for DraftTable {
 }
 
 impl DraftTable {
-    pub(crate) fn new(alloc: Global) -> DraftTable
+    // No record yet. Under which seed the tables hash no answer shows.
+    pub(crate) fn new(alloc: Global, seed: Seed) -> DraftTable
         ensures { result ≡ map.empty }
     {
         DraftTable {
             shards: std::array::from_fn(
                 |_place: usize| -> HashedTable<Draft>
                     ensures { result ≡ map.empty }
-                { HashedTable::new(alloc) },
+                { HashedTable::new(alloc, seed) },
             ),
             count: 0,
         }

@@ -10,6 +10,7 @@ use crate::memory::body::Body;
 use crate::memory::draft::Draft;
 use crate::memory::draft_table::DraftTable;
 use pcache_base::error::Result;
+use pcache_base::seed::Seed;
 use pcache_meta::meta::CacheMeta;
 use std::alloc::Global;
 use std::marker::Model;
@@ -34,11 +35,11 @@ impl Model for Drafts {
 }
 
 impl Drafts {
-    pub(crate) fn new(alloc: Global) -> Drafts
+    pub(crate) fn new(alloc: Global, seed: Seed) -> Drafts
         ensures { result ≡ record { writes = map.empty; next = 0 } }
     {
         Drafts {
-            writes: DraftTable::new(alloc),
+            writes: DraftTable::new(alloc, seed),
             next: 0,
         }
     }

@@ -9,6 +9,7 @@ ghost use Rattle.pcache_store.specs.Store.{opened, shut_on, stored_on, complete_
 use crate::memory::body::{Body, KeySlot};
 use pcache_base::error::{Error, ErrorType, Result};
 use pcache_base::moment::Moment;
+use pcache_base::seed::Seed;
 use pcache_meta::meta::spelled::SpelledMeta;
 use pcache_table::hashtable::HashedTable;
 use std::alloc::Global;
@@ -46,14 +47,15 @@ impl Model for SlotTable {
 }
 
 impl SlotTable {
-    pub(crate) fn new(alloc: Global) -> SlotTable
+    // No key yet. Under which seed the tables hash no answer shows.
+    pub(crate) fn new(alloc: Global, seed: Seed) -> SlotTable
         ensures { result ≡ map.empty }
     {
         SlotTable {
             shards: std::array::from_fn(
                 |_place: usize| -> HashedTable<KeySlot>
                     ensures { result ≡ map.empty }
-                { HashedTable::new(alloc) },
+                { HashedTable::new(alloc, seed) },
             ),
             count: 0,
         }

@@ -12,6 +12,7 @@ use crate::memory::body::{Body, KeySlot};
 use crate::memory::slot_table::SlotTable;
 use pcache_base::error::Result;
 use pcache_base::moment::Moment;
+use pcache_base::seed::Seed;
 use pcache_meta::meta::spelled::SpelledMeta;
 use std::alloc::Global;
 use std::marker::Model;
@@ -42,11 +43,11 @@ impl Model for Slots {
 }
 
 impl Slots {
-    pub(crate) fn new(alloc: Global) -> Slots
+    pub(crate) fn new(alloc: Global, seed: Seed) -> Slots
         ensures { result ≡ map.empty }
     {
         Slots {
-            slots: SlotTable::new(alloc),
+            slots: SlotTable::new(alloc, seed),
             bodies: 0,
             stored: 0,
         }

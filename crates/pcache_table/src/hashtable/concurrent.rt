@@ -11,6 +11,7 @@ use crate::hashtable::shard::Shard;
 use crate::hashtable::shard_lock::ShardLock;
 use crate::hashtable::write_guard::WriteGuard;
 use pcache_base::error::Result;
+use pcache_base::seed::Seed;
 use std::alloc::Global;
 use std::marker::{Model, PhantomData};
 use std::sync::{RwLockReadGuard, Wait};
@@ -132,10 +133,10 @@ impl<V, const N: usize> Model for ConcurrentLruCache<V, N> {
 
 impl<V: Drop, const N: usize> ConcurrentLruCache<V, N> {
     /// `N` empty shards, each at its place and for as many keys as the capacity. A capacity of 0
-    /// counts as 1.
+    /// counts as 1. Under which seed they hash no answer shows.
     ///
     /// It is refused only when memory runs out.
-    pub fn new(alloc: Global, shard_capacity: usize) -> Result<ConcurrentLruCache<V, N>>
+    pub fn new(alloc: Global, seed: Seed, shard_capacity: usize) -> Result<ConcurrentLruCache<V, N>>
         requires { 0 < N }
         ensures made { IfOk result (λ t. t ≡ max shard_capacity 1) }
         ensures kind { IfErr result (λ e. e ≡ OutOfMemory) }
@@ -143,7 +144,7 @@ impl<V: Drop, const N: usize> ConcurrentLruCache<V, N> {
         let capacity = shard_capacity.max(1);
         let mut lrus = Vec::new(alloc);
         for place in 0..N {
-            lrus.push(LruLock::at(alloc, place, shard_capacity)?)?;
+            lrus.push(LruLock::at(alloc, seed, place, shard_capacity)?)?;
         }
         Ok(ConcurrentLruCache { capacity, lrus })
     }

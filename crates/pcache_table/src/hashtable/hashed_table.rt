@@ -7,15 +7,17 @@ ghost use Rattle.std.specs.Borrow.{LendsSo, sem};
 ghost use Rattle.std.specs.Option.{option_copied_mut};
 ghost use Rattle.pcache_table.specs.contracts.hashtable.hashed_table.HashedTable.{the_row};
 
+use pcache_base::seed::Seed;
 use std::alloc::{AllocFailed, Global};
 use std::collections::HashMap;
 use std::marker::Model;
 
 /// Values by number, found by a hash of the number. Each call takes the same number of steps whatever
-/// the number of entries, as long as the numbers are spread; what asks for an order is a `Table`.
+/// the number of entries, on average over the seeds, as long as whoever chooses the numbers does not
+/// know the seed; what asks for an order is a `Table`.
 #[derive(Drop)]
 pub struct HashedTable<V> {
-    entries: HashMap<u128, V>,
+    entries: HashMap<u128, V, Seed>,
 }
 
 impl<V> Model for HashedTable<V> {
@@ -31,12 +33,12 @@ impl<V> Model for HashedTable<V> {
 }
 
 impl<V> HashedTable<V> {
-    /// A table with no entries.
-    pub fn new(alloc: Global) -> Self
+    /// A table with no entries. Under which seed it hashes no answer shows.
+    pub fn new(alloc: Global, seed: Seed) -> Self
         ensures { result ≡ map.empty }
     {
         HashedTable {
-            entries: HashMap::new(alloc),
+            entries: HashMap::with_hasher(alloc, seed),
         }
     }
 

@@ -6,6 +6,7 @@ ghost use Rattle.pcache_base.specs.declared.error.ErrorType.TheVariants.{OutOfMe
 use crate::hashtable::lru_shard::LruShard;
 use crate::hashtable::write_guard::WriteGuard;
 use pcache_base::error::Result;
+use pcache_base::seed::Seed;
 use std::alloc::Global;
 use std::marker::Model;
 use std::sync::{RwLock, RwLockReadGuard, Wait};
@@ -38,12 +39,17 @@ impl<V: Drop, const N: usize> LruLock<V, N> {
     // The lock of an empty shard at a place. A capacity of 0 counts as 1.
     //
     // It is refused only when memory runs out.
-    pub(crate) fn at(alloc: Global, place: usize, capacity: usize) -> Result<LruLock<V, N>>
+    pub(crate) fn at(
+        alloc: Global,
+        seed: Seed,
+        place: usize,
+        capacity: usize,
+    ) -> Result<LruLock<V, N>>
         requires { place < N }
         ensures made { IfOk result (λ l. l ≡ record { place = place; cap = max capacity 1 }) }
         ensures kind { IfErr result (λ e. e ≡ OutOfMemory) }
     {
-        let shard = LruShard::at(alloc, place, capacity)?;
+        let shard = LruShard::at(alloc, seed, place, capacity)?;
         Ok(LruLock {
             place,
             capacity: shard.capacity(),

@@ -6,6 +6,7 @@ ghost use Rattle.pcache_table.specs.Sharding.{part_with, part_without};
 
 use lru::LruCache;
 use pcache_base::error::Result;
+use pcache_base::seed::Seed;
 use std::alloc::{AllocFailed, Global};
 use std::marker::{Model, PhantomData};
 use std::num::NonZeroUsize;
@@ -17,7 +18,7 @@ use std::num::NonZeroUsize;
 #[derive(Drop)]
 pub struct LruShard<V, const N: usize> {
     place: usize,
-    cache: LruCache<u128, V>,
+    cache: LruCache<u128, V, Seed>,
 }
 
 impl<V, const N: usize> Model for LruShard<V, N> {
@@ -38,7 +39,12 @@ impl<V: Drop, const N: usize> LruShard<V, N> {
     // under the lock of another.
     //
     // It is refused only when memory runs out.
-    pub(crate) fn at(alloc: Global, place: usize, capacity: usize) -> Result<LruShard<V, N>>
+    pub(crate) fn at(
+        alloc: Global,
+        seed: Seed,
+        place: usize,
+        capacity: usize,
+    ) -> Result<LruShard<V, N>>
         requires { place < N }
         ensures made { IfOk result (λ s. s ≡ record { place = place; cap = max capacity 1; entries = [] }) }
         ensures kind { IfErr result (λ e. e ≡ OutOfMemory) }
@@ -47,10 +53,10 @@ impl<V: Drop, const N: usize> LruShard<V, N> {
         let Some(capacity) = NonZeroUsize::new(capacity) else {
             unreachable!()
         };
-        Ok(LruShard {
-            place,
-            cache: LruCache::sparse(alloc, capacity)?,
-        })
+        // No room is taken for the capacity, which may be far more than there will be keys.
+        let mut cache = LruCache::unbounded_with_hasher(alloc, seed)?;
+        cache.resize(capacity);
+        Ok(LruShard { place, cache })
     }
 
     /// Its place among the shards.

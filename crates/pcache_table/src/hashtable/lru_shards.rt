@@ -6,6 +6,7 @@ ghost use Rattle.pcache_table.specs.Sharding.{new_lists, list_at, part_with, par
 
 use crate::hashtable::lru_shard::LruShard;
 use pcache_base::error::Result;
+use pcache_base::seed::Seed;
 use std::alloc::{AllocFailed, Global};
 use std::marker::Model;
 
@@ -27,17 +28,18 @@ impl<V, const N: usize> Model for LruShards<V, N> {
 }
 
 impl<V: Drop, const N: usize> LruShards<V, N> {
-    /// `N` empty shards, each for as many keys as the capacity. A capacity of 0 counts as 1.
+    /// `N` empty shards, each for as many keys as the capacity. A capacity of 0 counts as 1. Under
+    /// which seed they hash no answer shows.
     ///
     /// It is refused only when memory runs out.
-    pub fn new(alloc: Global, shard_capacity: usize) -> Result<LruShards<V, N>>
+    pub fn new(alloc: Global, seed: Seed, shard_capacity: usize) -> Result<LruShards<V, N>>
         requires { 0 < N }
         ensures made { IfOk result (λ s. s ≡ new_lists N (max shard_capacity 1)) }
         ensures kind { IfErr result (λ e. e ≡ OutOfMemory) }
     {
         let mut shards = Vec::new(alloc);
         for place in 0..N {
-            shards.push(LruShard::at(alloc, place, shard_capacity)?)?;
+            shards.push(LruShard::at(alloc, seed, place, shard_capacity)?)?;
         }
         Ok(LruShards { shards })
     }

@@ -11,6 +11,7 @@ use crate::world::policy::PutPolicy;
 use crate::world::turn::act;
 use crate::world::vary::spare_of;
 use pcache_base::error::{ErrorType, Result};
+use pcache_base::seed::Seed;
 use pcache_evict::eviction::{CacheEntryKey, EvictionManager};
 use pcache_files::saved::SavedManager;
 use pcache_history::call::{Call, Reply};
@@ -78,14 +79,14 @@ impl<M: EvictionManager, P: PutPolicy> World<M, P> {
     ghost use Rattle.pcache_history.specs.Headline.{EvictsNothingWithin, FindsUntouched, FinishesUntouched, GivesWhereNoneWaits, HandsOnUnhidden, HitsTheLast, IsWithinAlways};
 
     /// A world with no requests, nothing stored and an empty history. Permits age out after
-    /// `age_timeout`.
-    pub fn new(alloc: Global, manager: M, age_timeout: Duration) -> World<M, P>
+    /// `age_timeout`. The store's tables hash under the seed, which no reply and no event shows.
+    pub fn new(alloc: Global, seed: Seed, manager: M, age_timeout: Duration) -> World<M, P>
         ensures { result ≡ record { history = []; start = M.tracked manager; limits = M.limits manager; evicted = M.evicted manager; age = as_nanos age_timeout } }
     {
         World {
             alloc,
             parts: Parts {
-                store: MemCache::new(alloc),
+                store: MemCache::new(alloc, seed),
                 manager,
                 lock: CacheLock::new(alloc, age_timeout),
             },

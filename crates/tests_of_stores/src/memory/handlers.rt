@@ -2,6 +2,7 @@
 use super::*;
 use http_header::{HeaderMap, HeaderName, HeaderValue};
 use pcache_base::key::CacheHashKey;
+use pcache_base::seed::Seed;
 
 // A store, and two keys.
 #[derive(Drop)]
@@ -16,7 +17,7 @@ struct Two {
 fn plain_and_varied(alloc: Global) -> Result<Two> {
     let first = key_of(alloc, "aa")?;
     let second = varied(alloc)?;
-    let store = MemCache::new(alloc);
+    let store = MemCache::new(alloc, Seed::fixed());
     Ok(Two {
         alloc,
         store,
@@ -285,7 +286,7 @@ fn is_named_by_number(here: &mut Two, there: &mut Two) -> Result<bool> {
 fn aa_and_b(alloc: Global) -> Result<Two> {
     let first = key_of(alloc, "aa")?;
     let second = key_of(alloc, "b")?;
-    let store = MemCache::new(alloc);
+    let store = MemCache::new(alloc, Seed::fixed());
     Ok(Two {
         alloc,
         store,

@@ -4,6 +4,7 @@ use crate::play::{Limits, calls_of, tell_reply, world_of};
 use crate::script::{asked_of, call_of};
 use pcache_base::error;
 use pcache_base::moment::Moment;
+use pcache_base::seed::Seed;
 use pcache_evict::eviction::simple_lru::Manager;
 use pingora_cache::world::World;
 use pingora_cache::world::call::{Call, Reply};
@@ -128,7 +129,7 @@ fn last_reply(
     state: &'static str,
     call: &'static str,
 ) -> error::Result<Option<Reply>> {
-    let mut world = world_of(alloc, Limits::weight(100))?;
+    let mut world = world_of(alloc, Seed::fixed(), Limits::weight(100))?;
     last_reply_of(alloc, &mut world, state, call)
 }
 

@@ -3,6 +3,7 @@ use crate::play::{Limits, world_of};
 use crate::script::{Clock, Words, call_with_words};
 use pcache_base::error::Result;
 use pcache_base::moment::Moment;
+use pcache_base::seed::Seed;
 use pcache_evict::eviction::simple_lru::Manager;
 use pingora_cache::world::World;
 use pingora_cache::world::policy::BySelf;
@@ -686,7 +687,7 @@ fn ask_all(
 #[test]
 fn a_random_script(rt: HostRuntime) -> std::result::Result<(), Fail> {
     let alloc = rt.alloc();
-    let mut world = world_of(alloc, Limits::weight(LIMIT))?;
+    let mut world = world_of(alloc, Seed::fixed(), Limits::weight(LIMIT))?;
     let mut past = Past::new(alloc);
     ask_all(&rt, &mut world, &mut past)?;
     assert_eq!(rt; world.history().len(), 4000);

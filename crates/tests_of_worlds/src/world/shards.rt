@@ -3,6 +3,7 @@
 use crate::play::{Limits, calls_of, play, play_on_both, play_sharded, sharded_world_of};
 use pcache_base::error;
 use pcache_base::key::CacheHashKey;
+use pcache_base::seed::Seed;
 use pcache_evict::eviction::sharded_lru::Manager;
 use pingora_cache::world::World;
 use pingora_cache::world::call::Reply;
@@ -292,6 +293,6 @@ fn within_four(
 // Which of two shards gives up an entry is open.
 #[test]
 fn two_shards_keep_one_limit(rt: HostRuntime) -> Result<(), Fail> {
-    let mut world = sharded_world_of::<2>(rt.alloc(), Limits::weight(4))?;
+    let mut world = sharded_world_of::<2>(rt.alloc(), Seed::fixed(), Limits::weight(4))?;
     within_four(&rt, rt.alloc(), &mut world)
 }
