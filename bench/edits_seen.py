@@ -1,7 +1,9 @@
 #!/usr/bin/env python3
 """Says of each wrong body of a crate by name whether the prover refuses it, and why.
 
-  bench/edits_seen.py [NAME..]      the crates named, or all
+  bench/edits_seen.py [NAME..]                     the crates named, or all
+  bench/edits_seen.py --compile-only [NAME..]      only whether each edit still applies, and what it makes reads as a crate
+  bench/edits_seen.py --sample MINUTES --seed TEXT [NAME..]      some of them, picked by the text, in so many processor minutes
 
 The gate tries the one file in must-fail/, and sees only that the edited crate as a whole is refused. This reads the files in
 wrong-bodies/ too, checks the edited text once for each file, in a copy, and looks for the function that each edit turns:
@@ -13,13 +15,24 @@ wrong-bodies/ too, checks the edited text once for each file, in a copy, and loo
 
 It ends non-zero if any edit is not refused by itself. An edit outside a function, as of a constant, is tried alone and is
 refused by itself if anything is refused.
+
+--compile-only proves nothing, and takes a reading of the crate for each file (one more for each edit of a file that does not
+read). --sample takes the edits in an order that the text decides, each alone, and checks the function that it turns and those
+that this one calls, and no other; so an edit that only callers refuse counts as let through. What there was no time for, or what
+a check had no time for, is said and is no failure; an edit that is let through, that does not apply or that does not read is one.
 """
+import argparse
+import contextlib
+import hashlib
 import os
 import re
+import resource
 import shutil
+import signal
 import subprocess
 import sys
 import tempfile
+import time
 
 TOP = os.path.dirname(os.path.dirname(os.path.realpath(__file__)))
 
@@ -39,7 +52,7 @@ class Edit:
                 self.pairs.append((path, old, line[len("new:") :].removeprefix(" ")))
 
     def apply(self, folder):
-        """Changes the files below the folder, and answers the functions that it turns, as (module, type, function)."""
+        """Changes the files below the folder, and answers the functions that it turns, as (module, type, function, trait)."""
         turned = []
         for path, old, new in self.pairs:
             with open(f"{folder}/{path}", encoding="utf-8") as it:
@@ -70,12 +83,14 @@ def function_at(path, text, start, end):
         if closed is None or found.start() + closed.end() >= start:
             name = found[1]
     blocks = [it for it in re.finditer(r"(?m)^(?:impl|trait|pub trait)\b([^\n{]*)", text) if it.start() < start]
-    owner = None
+    owner, trait = None, ""
     if name and margin and blocks:
         words = re.sub(r"<[^<>]*(<[^<>]*>[^<>]*)*>", "", blocks[-1][1])
         kept = words.split(" for ")[-1].split(" where")[0].split(":")[0]
         owner = re.findall(r"\w+", kept)[0] if re.findall(r"\w+", kept) else None
-    return module, owner, name
+        if " for " in words:
+            trait = re.findall(r"\w+", words.split(" for ")[0])[-1]
+    return module, owner, name, trait
 
 
 def edits_in(path):
@@ -122,8 +137,9 @@ def lines_below(crate):
     return found
 
 
-def checked(crate, edits):
-    """Checks a copy of the crate with these edits: whether it is proved, what was said of each function, and what each edit turned."""
+@contextlib.contextmanager
+def copy_of(crate):
+    """A folder with the crate and those below it, with what was built of them: the crate's own folder there."""
     with tempfile.TemporaryDirectory(prefix="edits-seen-") as room:
         shutil.copy(f"{TOP}/HANDLES", room)
         lines = lines_below(crate)
@@ -132,19 +148,59 @@ def checked(crate, edits):
         for name in lines.keys() - {crate}:
             shutil.copytree(f"{TOP}/crates/{name}", f"{room}/crates/{name}", copy_function=link)
         shutil.copytree(f"{TOP}/crates/{crate}", f"{room}/crates/{crate}", symlinks=True)
-        folder = f"{room}/crates/{crate}"
+        yield f"{room}/crates/{crate}"
+
+
+class NoTime(Exception):
+    """A check had no more time."""
+
+
+def spent():
+    """The processor seconds of the children that ended."""
+    used = resource.getrusage(resource.RUSAGE_CHILDREN)
+    return used.ru_utime + used.ru_stime
+
+
+def said_by(words, folder, seconds=None):
+    """What a command says in a folder, line by line. It and what it started end after so many seconds, if a number is given."""
+    ran = subprocess.Popen(words, cwd=folder, stdin=subprocess.DEVNULL, stdout=subprocess.PIPE, stderr=subprocess.STDOUT, errors="replace", text=True, start_new_session=True)
+    try:
+        return ran.communicate(timeout=seconds)[0].split("\n")
+    except subprocess.TimeoutExpired:
+        raise NoTime from None
+    finally:
+        if ran.poll() is None:
+            os.killpg(ran.pid, signal.SIGTERM)
+            try:
+                ran.communicate(timeout=10)
+            except subprocess.TimeoutExpired:
+                os.killpg(ran.pid, signal.SIGKILL)
+                ran.communicate()
+
+
+def why_unread(lines):
+    """Why an edited text did not reach the prover."""
+    return "\n".join([it for it in lines if ": error" in it][:3] or lines[-4:])
+
+
+def checked(crate, edits):
+    """Checks a copy of the crate with these edits: whether it is proved, what was said of each function, and what each edit turned."""
+    with copy_of(crate) as folder:
         turned = [it.apply(folder) for it in edits]
-        ran = subprocess.run(["rt", "check", "--jobs", "1"], cwd=folder, stdin=subprocess.DEVNULL, stdout=subprocess.PIPE, stderr=subprocess.STDOUT, errors="replace", text=True)
-    lines = ran.stdout.split("\n")
+        lines = said_by(["rt", "check", "--jobs", "1"], folder)
     if not any(it.startswith("logic=") for it in lines):
-        unread = [it for it in lines if ": error" in it][:3] or lines[-4:]
-        raise SystemExit(f"{crate}: the edited text of {', '.join(it.name for it in edits[:4])} .. did not reach the prover:\n" + "\n".join(unread))
+        raise SystemExit(f"{crate}: the edited text of {', '.join(it.name for it in edits[:4])} .. did not reach the prover:\n{why_unread(lines)}")
+    return any(it.startswith("logic=proved") for it in lines), of_functions(crate, lines), turned
+
+
+def of_functions(crate, lines):
+    """What the prover said of each function, by its path."""
     said = {}
     for line in lines:
         found = re.match(rf"fn {crate}::(\S+): (.*)", line)
         if found:
             said[found[1]] = found[2]
-    return any(it.startswith("logic=proved") for it in lines), said, turned
+    return said
 
 
 def is_named(path, module, owner, name):
@@ -173,7 +229,7 @@ def is_named_in(parts, ours, owner, name):
 def outcome(said, turned):
     """What was said of the functions that an edit turned: 'by itself', 'only below', 'proved', or None if there is no such function."""
     best = None
-    for module, owner, name in turned:
+    for module, owner, name, _ in turned:
         for path, words in said.items():
             if name is None or not is_named(path, module, owner, name):
                 continue
@@ -197,9 +253,129 @@ def alone(crate, edit):
     return "by callers" if seen == "proved" else seen
 
 
+class NotLookedAt(Exception):
+    """The toolchain said nothing of the text."""
+
+
+def why_it_does_not_read(folder, seconds=None):
+    """Why the crate in a folder does not read as one, or None if it does. Nothing is proved."""
+    lines = said_by(["rt", "check", "--jobs", "1", "--only", ""], folder, seconds)
+    if any(": error" in it for it in lines):
+        return why_unread(lines)
+    if not any(it.startswith("only=0") for it in lines):
+        raise NotLookedAt(why_unread(lines))
+    return None
+
+
+def put_back(folder, crate):
+    """Gives a copy the texts of the crate again."""
+    for part in ("src", "specs", "proofs"):
+        if os.path.isdir(f"{TOP}/crates/{crate}/{part}"):
+            shutil.rmtree(f"{folder}/{part}")
+            shutil.copytree(f"{TOP}/crates/{crate}/{part}", f"{folder}/{part}", symlinks=True)
+
+
+def unread(crate, edits, folder):
+    """The edits of one file that do not apply, or whose text does not read, each with why."""
+    found, applied = [], []
+    for edit in edits:
+        try:
+            edit.apply(folder)
+            applied.append(edit)
+        except SystemExit as why:
+            found.append((edit, str(why)))
+    if why_it_does_not_read(folder) is None:
+        return found
+    for edit in applied:
+        put_back(folder, crate)
+        edit.apply(folder)
+        why = why_it_does_not_read(folder)
+        if why:
+            found.append((edit, why))
+    return found
+
+
+def compile_all(crates):
+    """Says which edits do not apply or do not read."""
+    bad = 0
+    for crate in crates:
+        files, count = files_of(crate), 0
+        if files:
+            with copy_of(crate) as folder:
+                for file in files:
+                    edits = edits_in(f"{TOP}/crates/{crate}/{file}")
+                    put_back(folder, crate)
+                    for edit, why in unread(crate, edits, folder):
+                        print(f"{crate}/{file}: {edit.name}: does not read: {why}", flush=True)
+                        bad += 1
+                    count += len(edits)
+        print(f"{crate}: {count} wrong bodies in {len(files)} file(s) were read", flush=True)
+    return 1 if bad else 0
+
+
+def path_of(module, owner, name, trait):
+    """A function as `rt check --only` calls it, by the end of its path where it is a method: its type may stand in a module above."""
+    if owner:
+        return f"{owner}{trait}::{name}"
+    return "::".join(it for it in (module, name) if it)
+
+
+def outcome_alone(crate, edit, seconds):
+    """What comes of one edit, of which only what it turns is checked: 'refused', or what is wrong with it."""
+    until = time.monotonic() + seconds
+    with copy_of(crate) as folder:
+        try:
+            turned = edit.apply(folder)
+        except SystemExit as why:
+            return f"DOES NOT APPLY: {why}"
+        why = why_it_does_not_read(folder, max(1, until - time.monotonic()))
+        if why:
+            return f"DOES NOT READ: {why}"
+        only = [it for place in turned if place[2] for it in ("--only", path_of(*place))]
+        lines = said_by(["rt", "check", "--jobs", "1", *only], folder, max(1, until - time.monotonic())) if only else []
+    seen = outcome(of_functions(crate, lines), turned)
+    if seen == "by itself":
+        return "refused"
+    if seen is None:
+        return "not found by its function's name, so not tried"
+    return "LET THROUGH: the function that it turns is proved" if seen == "proved" else f"not tried: it is refused {seen}"
+
+
+def ended(number, _frame):
+    """A signal ends the run, with what it started."""
+    sys.exit(128 + number)
+
+
+def sample(crates, minutes, seed):
+    """Tries some edits, in the order that the seed decides, for so many processor minutes. Its end is 1 if one of them is bad."""
+    signal.signal(signal.SIGTERM, ended)
+    every = []
+    for crate in crates:
+        for file in files_of(crate):
+            if file.startswith("wrong-bodies/"):
+                every += [(crate, file, it) for it in edits_in(f"{TOP}/crates/{crate}/{file}")]
+    every.sort(key=lambda it: hashlib.sha256(f"{seed} {it[0]}/{it[1]} {it[2].name}".encode()).digest())
+    tried, bad, most = 0, 0, minutes * 60
+    for crate, file, edit in every:
+        left = most - spent()
+        if left < most / 10:
+            break
+        try:
+            seen = outcome_alone(crate, edit, min(left, most / 2))
+        except NoTime:
+            seen = "not tried, for want of time"
+        except (NotLookedAt, OSError) as why:
+            seen = f"not tried: {why}"
+        print(f"wrong body {crate}/{file}: {edit.name}: {seen}", flush=True)
+        tried += seen == "refused"
+        bad += any(it in seen for it in ("LET THROUGH", "DOES NOT"))
+    print(f"wrong bodies: {tried} of {len(every)} seen refused, picked by {seed[:12]}; {bad} not; {spent() / 60:.1f} processor minutes", flush=True)
+    return 1 if bad else 0
+
+
 def main(names):
     bad = 0
-    for crate in names or sorted(os.listdir(f"{TOP}/crates")):
+    for crate in names:
         files = files_of(crate)
         count = refused = 0
         for file in files:
@@ -217,8 +393,23 @@ def main(names):
     return 1 if bad else 0
 
 
-if __name__ == "__main__":
-    unknown = [it for it in sys.argv[1:] if not os.path.isdir(f"{TOP}/crates/{it}/src")]
+def asked():
+    """What the command line asks for."""
+    words = argparse.ArgumentParser(description=__doc__, formatter_class=argparse.RawDescriptionHelpFormatter)
+    words.add_argument("crates", nargs="*", metavar="NAME")
+    words.add_argument("--compile-only", action="store_true")
+    words.add_argument("--sample", type=float, metavar="MINUTES")
+    words.add_argument("--seed", default="", metavar="TEXT")
+    given = words.parse_args()
+    unknown = [it for it in given.crates if not os.path.isdir(f"{TOP}/crates/{it}/src")]
     if unknown:
-        sys.exit(f"{__doc__.strip()}\n\nno crate: {' '.join(unknown)}")
-    sys.exit(main(sys.argv[1:]))
+        words.error(f"no crate: {' '.join(unknown)}")
+    given.crates = given.crates or sorted(it for it in os.listdir(f"{TOP}/crates") if files_of(it))
+    return given
+
+
+if __name__ == "__main__":
+    given = asked()
+    if given.compile_only:
+        sys.exit(compile_all(given.crates))
+    sys.exit(sample(given.crates, given.sample, given.seed) if given.sample else main(given.crates))

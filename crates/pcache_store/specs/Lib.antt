@@ -1,4 +1,3 @@
-pub mod DraftText
 pub mod Drafts
 pub mod Finishes
 pub mod Purge

@@ -14,6 +14,7 @@ ghost use Rattle.pcache_store.specs.Totals.{stored_bytes, slots};
 mod body;
 mod draft;
 mod draft_table;
+mod draft_text;
 mod drafts;
 mod hit;
 mod miss;
@@ -22,6 +23,7 @@ mod slots;
 
 use crate::storage::streaming_write::U64WriteId;
 use crate::storage::{MissFinishType, PurgeOutcome, PurgeTarget, PurgeType, Storage, StoreMeaning};
+use bytes::Bytes;
 use draft::Draft;
 use drafts::Drafts;
 pub use hit::{CompleteHit, MemHitHandler, PartialHit};
@@ -150,8 +152,8 @@ impl MemCache {
         self.drafts.leave(slot, number);
     }
 
-    pub(crate) fn write(&mut self, slot: u128, number: u128, bytes: &[u8], eof: bool) -> Result<()>
-        ensures ok { OnOk result (self.new ≡ wrote self.old number bytes.now eof) }
+    pub(crate) fn write(&mut self, slot: u128, number: u128, bytes: Bytes, eof: bool) -> Result<()>
+        ensures ok { OnOk result (self.new ≡ wrote self.old number bytes eof) }
         ensures kind { IfErr result (λ e. e ≡ OutOfMemory) }
         ensures err { OnErr result (self.new ≡ self.old) }
     {

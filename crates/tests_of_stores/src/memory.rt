@@ -18,6 +18,7 @@ use std::alloc::Global;
 use std::process::Abort;
 
 mod handlers;
+mod pieces;
 
 fn key_of(alloc: Global, name: &str) -> Result<CacheKey> {
     let primary = name.as_bytes().to_vec(alloc)?;

@@ -1,91 +1,16 @@
 //! A write as it is kept.
 ghost use Rattle.std.specs.Prelude.{◌≡◌, ◌<◌, ◌≤◌, ◌+◌, ◌-◌, ◌^◌, ◌++◌, ◌&&◌, not, ℕ, Option, Some, None, List, IfOk, IfErr, OnOk, OnErr, length, drop, true, false};
 ghost use Rattle.pcache_base.specs.declared.error.ErrorType.TheVariants.{OutOfMemory};
-ghost use Rattle.pcache_store.specs.DraftText.{text_of};
 ghost use Rattle.pcache_store.specs.Store.{new_write, is_named};
 
 use crate::memory::body::Body;
+use crate::memory::draft_text::DraftText;
 use bytes::Bytes;
 use pcache_base::error::{Error, ErrorType, Result};
 use pcache_meta::meta::CacheMeta;
 use pcache_meta::meta::spelled::SpelledMeta;
-use std::alloc::{AllocError, Global};
+use std::alloc::Global;
 use std::marker::Model;
-use std::mem;
-
-/// The bytes of a write: they grow in place, until a body shares them.
-#[derive(Drop)]
-pub(crate) enum DraftText {
-    Growing(Vec<u8>),
-    Shared(Bytes),
-}
-
-impl DraftText {
-    fn as_slice(&self) -> &[u8]
-        ensures { result.now ≡ text_of self.now }
-    {
-        match self {
-            DraftText::Growing(text) => text.as_slice(),
-            DraftText::Shared(bytes) => bytes.as_slice(),
-        }
-    }
-
-    fn extend(&mut self, alloc: Global, bytes: &[u8]) -> Result<()>
-        ensures ok { OnOk result (text_of self.new ≡ text_of self.old ++ bytes.now) }
-        ensures kind { IfErr result (λ e. e ≡ OutOfMemory) }
-        ensures err { OnErr result (text_of self.new ≡ text_of self.old) }
-    {
-        match self {
-            DraftText::Growing(text) => {
-                text.extend_from_slice(bytes)?;
-                Ok(())
-            }
-            // Bytes that a body shares do not grow.
-            DraftText::Shared(shared) => {
-                let mut text = Vec::from_slice(alloc, shared.as_slice())?;
-                text.extend_from_slice(bytes)?;
-                *self = DraftText::Growing(text);
-                Ok(())
-            }
-        }
-    }
-
-    // The bytes from a place on.
-    fn rest(&self, alloc: Global, place: usize) -> Result<Bytes>
-        requires { place ≤ length (text_of self.now) }
-        ensures ok { IfOk result (λ b. b ≡ drop place (text_of self.now)) }
-        ensures kind { IfErr result (λ e. e ≡ OutOfMemory) }
-    {
-        match self {
-            DraftText::Growing(text) => Ok(Bytes::copy_from_slice(
-                alloc,
-                &text.as_slice()[place..],
-            )?),
-            DraftText::Shared(bytes) => Ok(bytes.slice(place..)?),
-        }
-    }
-
-    // The same bytes, shared from now on.
-    fn share(&mut self) -> Result<Bytes>
-        ensures ok { IfOk result (λ b. b ≡ text_of self.old) }
-        ensures kind { IfErr result (λ e. e ≡ OutOfMemory) }
-        ensures same { text_of self.new ≡ text_of self.old }
-    {
-        let bytes = match mem::replace(self, DraftText::Shared(Bytes::new())) {
-            DraftText::Shared(bytes) => bytes,
-            DraftText::Growing(text) => match Bytes::from_vec(text) {
-                Ok(bytes) => bytes,
-                Err(refused) => {
-                    *self = DraftText::Growing(refused.value);
-                    return Err(Error::new(ErrorType::OutOfMemory));
-                }
-            },
-        };
-        let copy: std::result::Result<Bytes, AllocError> = bytes.clone();
-        *self = DraftText::Shared(bytes);
-        Ok(copy?)
-    }
-}
 
 /// A write, as long as its handler or a reader names it. Its meta is kept as the bytes that spell it.
 #[derive(Drop)]
@@ -101,13 +26,12 @@ pub(crate) struct Draft {
 impl Model for Draft {
     ghost use Rattle.pcache_store.specs.Store.{Written};
     ghost use Rattle.pcache_store.specs.StoreCode.{written_code};
-    ghost use Rattle.pcache_store.specs.DraftText.{text_of};
 
     ghost Value = { Written };
 
     ghost coded = { written_code };
 
-    ghost view = { λ w. record { slot = w.slot; meta = w.meta; bytes = text_of w.text; told = w.told; flying = w.flying; readers = w.readers } };
+    ghost view = { λ w. record { slot = w.slot; meta = w.meta; bytes = w.text; told = w.told; flying = w.flying; readers = w.readers } };
 }
 
 impl Draft {
@@ -117,7 +41,7 @@ impl Draft {
         Draft {
             slot,
             meta,
-            text: DraftText::Growing(Vec::new(alloc)),
+            text: DraftText::new(alloc),
             told: false,
             flying: true,
             readers: 0,
@@ -133,7 +57,7 @@ impl Draft {
     pub(crate) fn len(&self) -> usize
         ensures { result ≡ length self.now.bytes }
     {
-        self.text.as_slice().len()
+        self.text.len()
     }
 
     pub(crate) fn is_told(&self) -> bool
@@ -170,12 +94,12 @@ impl Draft {
         self.text.rest(alloc, place)
     }
 
-    pub(crate) fn write(&mut self, alloc: Global, bytes: &[u8], eof: bool) -> Result<()>
-        ensures ok { OnOk result (self.new ≡ record self.old { bytes = self.old.bytes ++ bytes.now; told = eof }) }
+    pub(crate) fn write(&mut self, alloc: Global, bytes: Bytes, eof: bool) -> Result<()>
+        ensures ok { OnOk result (self.new ≡ record self.old { bytes = self.old.bytes ++ bytes; told = eof }) }
         ensures kind { IfErr result (λ e. e ≡ OutOfMemory) }
         ensures err { OnErr result (self.new ≡ self.old) }
     {
-        self.text.extend(alloc, bytes)?;
+        self.text.extend(alloc, bytes, eof)?;
         self.told = eof;
         Ok(())
     }
@@ -215,20 +139,17 @@ impl Draft {
         ensures same { self.new ≡ self.old }
     {
         let meta = self.meta.copied(alloc)?;
-        let bytes = self.text.share()?;
+        let bytes = self.text.share(alloc)?;
         Ok(Body::new(meta, bytes))
     }
 
     // The write as a complete body, if nobody reads it any more.
-    pub(crate) fn into_body(self) -> Result<Body>
+    pub(crate) fn into_body(self, alloc: Global) -> Result<Body>
         ensures ok { IfOk result (λ b. b ≡ record { meta = self.meta; bytes = self.bytes }) }
         ensures kind { IfErr result (λ e. e ≡ OutOfMemory) }
     {
-        let Draft { meta, text, .. } = self;
-        let bytes = match text {
-            DraftText::Growing(text) => Bytes::from_vec(text)?,
-            DraftText::Shared(bytes) => bytes,
-        };
+        let Draft { meta, mut text, .. } = self;
+        let bytes = text.share(alloc)?;
         Ok(Body::new(meta, bytes))
     }
 }

@@ -9,6 +9,7 @@ ghost use Rattle.pcache_store.specs.Store.{Written, joined_on, left_on, wrote_on
 use crate::memory::body::Body;
 use crate::memory::draft::Draft;
 use crate::memory::slot_table::SHARDS;
+use bytes::Bytes;
 use pcache_base::error::{Error, ErrorType, Result};
 use pcache_base::seed::Seed;
 use pcache_meta::meta::CacheMeta;
@@ -123,10 +124,10 @@ impl DraftTable {
         alloc: Global,
         slot: u128,
         number: u128,
-        bytes: &[u8],
+        bytes: Bytes,
         eof: bool,
     ) -> Result<()>
-        ensures ok { OnOk result (self.new ≡ wrote_on self.old number bytes.now eof (map.get self.old number)) }
+        ensures ok { OnOk result (self.new ≡ wrote_on self.old number bytes eof (map.get self.old number)) }
         ensures kind { IfErr result (λ e. e ≡ OutOfMemory) }
         ensures err { OnErr result (self.new ≡ self.old) }
     {
@@ -241,10 +242,10 @@ fn write_in(
     writes: &mut HashedTable<Draft>,
     alloc: Global,
     number: u128,
-    bytes: &[u8],
+    bytes: Bytes,
     eof: bool,
 ) -> Result<()>
-    ensures ok { OnOk result (writes.new ≡ wrote_on writes.old number bytes.now eof (map.get writes.old number)) }
+    ensures ok { OnOk result (writes.new ≡ wrote_on writes.old number bytes eof (map.get writes.old number)) }
     ensures kind { IfErr result (λ e. e ≡ OutOfMemory) }
     ensures err { OnErr result (writes.new ≡ writes.old) }
 {
@@ -317,5 +318,5 @@ fn end_in(writes: &mut HashedTable<Draft>, alloc: Global, number: u128) -> Resul
     let Some(draft) = writes.remove(number) else {
         unreachable!()
     };
-    draft.into_body()
+    draft.into_body(alloc)
 }

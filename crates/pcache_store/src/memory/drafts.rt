@@ -9,6 +9,7 @@ ghost use Rattle.pcache_store.specs.Store.{joined_on, left_on, wrote_on, grounde
 use crate::memory::body::Body;
 use crate::memory::draft::Draft;
 use crate::memory::draft_table::DraftTable;
+use bytes::Bytes;
 use pcache_base::error::Result;
 use pcache_base::seed::Seed;
 use pcache_meta::meta::CacheMeta;
@@ -98,10 +99,10 @@ impl Drafts {
         alloc: Global,
         slot: u128,
         number: u128,
-        bytes: &[u8],
+        bytes: Bytes,
         eof: bool,
     ) -> Result<()>
-        ensures ok { OnOk result (self.new ≡ record self.old { writes = wrote_on self.old.writes number bytes.now eof (map.get self.old.writes number) }) }
+        ensures ok { OnOk result (self.new ≡ record self.old { writes = wrote_on self.old.writes number bytes eof (map.get self.old.writes number) }) }
         ensures kind { IfErr result (λ e. e ≡ OutOfMemory) }
         ensures err { OnErr result (self.new ≡ self.old) }
     {

@@ -43,7 +43,7 @@ impl HandleMiss<MemCache> for MemMissHandler {
     ghost entry_number = { λ _. None };
 
     fn write_body(&mut self, store: &mut MemCache, bytes: Bytes, eof: bool) -> Result<()> {
-        store.write(self.slot, self.number as u128, bytes.as_slice(), eof)
+        store.write(self.slot, self.number as u128, bytes, eof)
     }
 
     fn at_eof(&self, store: &MemCache) -> bool {

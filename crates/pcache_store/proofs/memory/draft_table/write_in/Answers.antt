@@ -6,7 +6,7 @@ pub returns-clause-ok : goal.returns-clause-ok
 returns-clause-ok c =
     let is = rw c.in-Some.is at c.get_mut.ensures.value in
     let set = rw c.in-Some.is at (c.get_mut.follows.holds c.write.new.self) in
-    on_ok_weaker c.write.result (λ e. wrote_there c.args.writes.now c.args.number c.in-Some.draft.now c.write.new.self _ is set c.args.bytes.now c.args.eof e) c.write.ensures.ok
+    on_ok_weaker c.write.result (λ e. wrote_there c.args.writes.now c.args.number c.in-Some.draft.now c.write.new.self _ is set c.args.bytes c.args.eof e) c.write.ensures.ok
 
 pub returns-clause-err : goal.returns-clause-err
 returns-clause-err c =

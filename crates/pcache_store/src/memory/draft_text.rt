@@ -1,0 +1,194 @@
+//! The bytes of a write, in the pieces in which they came.
+ghost use Rattle.std.specs.Prelude.{◌≡◌, ◌<◌, ◌≤◌, ◌+◌, ◌++◌, IfErr, IfOk, OnErr, OnOk, [], drop, length, take};
+ghost use Rattle.std.specs.List.{concat};
+ghost use Rattle.pcache_base.specs.declared.error.ErrorType.TheVariants.{OutOfMemory};
+
+use bytes::Bytes;
+use pcache_base::error::{Error, ErrorType, Result};
+use std::alloc::Global;
+use std::marker::Model;
+use std::mem;
+
+/// Pieces of fewer bytes are gathered: there a piece would take more than its bytes.
+const SMALL: usize = 1024;
+
+/// The bytes of a write. A piece is kept as it was handed over, and shared with those who read it. Small
+/// pieces are gathered behind it. At the end all is joined once, if it came in several pieces.
+#[derive(Drop)]
+pub(crate) struct DraftText {
+    pieces: Vec<Bytes>,
+    // What came in small pieces, behind the others.
+    tail: Vec<u8>,
+    // The bytes of all of it.
+    len: usize,
+}
+
+impl Model for DraftText {
+    ghost use Rattle.std.specs.Prelude.{◌≡◌, ◌++◌, ℕ, List, length};
+    ghost use Rattle.std.specs.List.{concat};
+
+    ghost Value = { List ℕ };
+
+    ghost view = { λ t. concat t.pieces.items ++ t.tail.items };
+
+    ghost invariant = { λ t. t.len ≡ length (concat t.pieces.items ++ t.tail.items) };
+}
+
+// Puts the bytes of pieces behind a text.
+fn append(text: &mut Vec<u8>, pieces: &[Bytes]) -> Result<()>
+    ensures ok { OnOk result (text.new.items ≡ text.old.items ++ concat pieces.now) }
+    ensures kind { IfErr result (λ e. e ≡ OutOfMemory) }
+{
+    for piece in pieces {
+        text.extend_from_slice(piece.as_slice())?;
+    }
+    Ok(())
+}
+
+// Makes a piece of what was gathered. No byte is copied.
+fn settle(alloc: Global, pieces: &mut Vec<Bytes>, tail: &mut Vec<u8>) -> Result<()>
+    ensures same { concat pieces.new.items ++ tail.new.items ≡ concat pieces.old.items ++ tail.old.items }
+    ensures ok { OnOk result (tail.new.items ≡ []) }
+    ensures kind { IfErr result (λ e. e ≡ OutOfMemory) }
+{
+    if tail.is_empty() {
+        return Ok(());
+    }
+    pieces.reserve(1)?;
+    match Bytes::from_vec(mem::replace(tail, Vec::new(alloc))) {
+        Ok(bytes) => {
+            pieces.push_reserved(bytes);
+            Ok(())
+        }
+        Err(refused) => {
+            *tail = refused.value;
+            Err(Error::new(ErrorType::OutOfMemory))
+        }
+    }
+}
+
+// Makes one piece of several, which have so many bytes.
+fn join(alloc: Global, pieces: &mut Vec<Bytes>, len: usize) -> Result<()>
+    ensures same { concat pieces.new.items ≡ concat pieces.old.items }
+    ensures ok { OnOk result (length pieces.new.items ≤ 1) }
+    ensures kind { IfErr result (λ e. e ≡ OutOfMemory) }
+{
+    if pieces.len() <= 1 {
+        return Ok(());
+    }
+    let mut text = Vec::with_capacity(alloc, len)?;
+    append(&mut text, pieces.as_slice())?;
+    let joined = Bytes::from_vec(text)?;
+    pieces.clear();
+    pieces.push_reserved(joined);
+    Ok(())
+}
+
+// The piece that has the byte at a place, and the place at which it begins. They have `end` bytes together.
+fn piece_at(pieces: &[Bytes], end: usize, place: usize) -> (usize, usize)
+    requires end { end ≡ length (concat pieces.now) }
+    requires place { place < end }
+    ensures within { result.0 < length pieces.now }
+    ensures start { result.1 ≡ length (concat (take result.0 pieces.now)) }
+    ensures before { result.1 ≤ place }
+    ensures inside { place < length (concat (take (result.0 + 1) pieces.now)) }
+{
+    let mut start = end;
+    let mut count = pieces.len();
+    while start > place {
+        count -= 1;
+        start -= pieces[count].len();
+    }
+    (count, start)
+}
+
+// The bytes of pieces from a place within the first on, and those behind them, in one.
+fn copied(
+    alloc: Global,
+    pieces: &[Bytes],
+    skip: usize,
+    tail: &[u8],
+    capacity: usize,
+) -> Result<Bytes>
+    requires some { 0 < length pieces.now }
+    requires skip { skip ≤ length (concat (take 1 pieces.now)) }
+    ensures ok { IfOk result (λ b. b ≡ drop skip (concat pieces.now ++ tail.now)) }
+    ensures kind { IfErr result (λ e. e ≡ OutOfMemory) }
+{
+    let mut text = Vec::with_capacity(alloc, capacity)?;
+    text.extend_from_slice(&pieces[0].as_slice()[skip..])?;
+    append(&mut text, &pieces[1..])?;
+    text.extend_from_slice(tail)?;
+    Ok(Bytes::from_vec(text)?)
+}
+
+impl DraftText {
+    pub(crate) fn new(alloc: Global) -> DraftText
+        ensures { result ≡ [] }
+    {
+        DraftText {
+            pieces: Vec::new(alloc),
+            tail: Vec::new(alloc),
+            len: 0,
+        }
+    }
+
+    pub(crate) fn len(&self) -> usize
+        ensures { result ≡ length self.now }
+    {
+        self.len
+    }
+
+    // Adds a piece. If it is all that comes, it is kept as it is, however small.
+    pub(crate) fn extend(&mut self, alloc: Global, bytes: Bytes, eof: bool) -> Result<()>
+        ensures ok { OnOk result (self.new ≡ self.old ++ bytes) }
+        ensures kind { IfErr result (λ e. e ≡ OutOfMemory) }
+        ensures err { OnErr result (self.new ≡ self.old) }
+    {
+        let Some(len) = self.len.checked_add(bytes.len()) else {
+            return Err(Error::new(ErrorType::OutOfMemory));
+        };
+        if bytes.len() < SMALL && !(eof && self.len == 0) {
+            self.tail.extend_from_slice(bytes.as_slice())?;
+            self.len = len;
+            return Ok(());
+        }
+        settle(alloc, &mut self.pieces, &mut self.tail)?;
+        self.pieces.push(bytes)?;
+        self.len = len;
+        Ok(())
+    }
+
+    // The bytes from a place on: shared if they stand in one piece, else copied.
+    pub(crate) fn rest(&self, alloc: Global, place: usize) -> Result<Bytes>
+        requires { place ≤ length self.now }
+        ensures ok { IfOk result (λ b. b ≡ drop place self.now) }
+        ensures kind { IfErr result (λ e. e ≡ OutOfMemory) }
+    {
+        let tail = self.tail.as_slice();
+        let end = self.len - tail.len();
+        if place >= end {
+            return Ok(Bytes::copy_from_slice(alloc, &tail[place - end..])?);
+        }
+        let pieces = self.pieces.as_slice();
+        let (at, start) = piece_at(pieces, end, place);
+        if at + 1 == pieces.len() && tail.is_empty() {
+            return Ok(pieces[at].slice(place - start..)?);
+        }
+        copied(alloc, &pieces[at..], place - start, tail, self.len - place)
+    }
+
+    // All bytes in one piece, which is shared from now on.
+    pub(crate) fn share(&mut self, alloc: Global) -> Result<Bytes>
+        ensures ok { IfOk result (λ b. b ≡ self.old) }
+        ensures kind { IfErr result (λ e. e ≡ OutOfMemory) }
+        ensures same { self.new ≡ self.old }
+    {
+        settle(alloc, &mut self.pieces, &mut self.tail)?;
+        join(alloc, &mut self.pieces, self.len)?;
+        match self.pieces.as_slice().first() {
+            Some(whole) => Ok(whole.clone()?),
+            None => Ok(Bytes::new()),
+        }
+    }
+}

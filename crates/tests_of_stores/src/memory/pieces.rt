@@ -1,0 +1,110 @@
+//! Writes in pieces of any length, against one plain text.
+use super::*;
+use rand::rngs::StdRng;
+use rand::{RngExt, SeedableRng};
+
+// A store, and a write of it beside the plain text of what it was handed.
+#[derive(Drop)]
+struct Plain {
+    alloc: Global,
+    store: MemCache,
+    text: Vec<u8>,
+    rng: StdRng,
+}
+
+// Hands a piece of up to 3,000 random bytes over, most of them small.
+fn is_handed_over(it: &mut Plain, writer: &mut MemMissHandler, eof: bool) -> Result<bool> {
+    let small: bool = it.rng.random_range(0..3u32) > 0;
+    let most: usize = if small { 60 } else { 3_000 };
+    let len: usize = it.rng.random_range(0..most);
+    let mut piece = Vec::with_capacity(it.alloc, len)?;
+    for _ in 0..len {
+        let byte: u8 = it.rng.random_range(0..=255);
+        piece.push(byte)?;
+    }
+    it.text.extend_from_slice(piece.as_slice())?;
+    let bytes = Bytes::from_vec(piece)?;
+    Ok(!writer.at_eof(&it.store) && writer.write_body(&mut it.store, bytes, eof).is_ok())
+}
+
+// Whether a reader that was at this place reads what the plain text has from there on, and how far it is then.
+fn reads_on(it: &mut Plain, reader: &mut MemHitHandler, place: usize) -> Option<usize> {
+    let rest = it.text.as_slice().get(place..)?;
+    match reader.read_body(it.alloc, &mut it.store) {
+        Ok(Poll::Ready(Some(piece))) if piece.as_slice() == rest => Some(it.text.len()),
+        Ok(Poll::Ready(None)) if rest.is_empty() => Some(place),
+        Ok(Poll::Pending) if rest.is_empty() => Some(place),
+        _ => None,
+    }
+}
+
+// Pieces and reads in turn, at random.
+fn are_read(it: &mut Plain, writer: &mut MemMissHandler, reader: &mut MemHitHandler) -> bool {
+    let mut place = Some(0usize);
+    for number in 0..30u32 {
+        if !matches!(is_handed_over(it, writer, number == 29), Ok(true)) {
+            return false;
+        }
+        let reads: bool = it.rng.random_range(0..3u32) == 0;
+        if let Some(read) = place
+            && reads
+        {
+            place = reads_on(it, reader, read);
+        }
+    }
+    match place {
+        Some(read) => reads_on(it, reader, read).is_some(),
+        None => false,
+    }
+}
+
+fn is_read_while_written(it: &mut Plain, key: &CacheKey, writer: &mut MemMissHandler) -> bool {
+    match it.store.lookup(it.alloc, key) {
+        Ok(Some((_meta, mut reader))) => {
+            let read = are_read(it, writer, &mut reader);
+            reader.let_go(&mut it.store);
+            read
+        }
+        _ => false,
+    }
+}
+
+fn is_found_whole(it: &mut Plain, key: &CacheKey) -> bool {
+    match it.store.lookup(it.alloc, key) {
+        Ok(Some((_meta, mut reader))) => {
+            let read = reads_on(it, &mut reader, 0).is_some();
+            reader.let_go(&mut it.store);
+            read
+        }
+        _ => false,
+    }
+}
+
+fn is_written_and_found(it: &mut Plain, key: &CacheKey) -> Result<bool> {
+    let meta = meta_until(it.alloc, 300);
+    let mut writer = it.store.get_miss_handler(it.alloc, key, &meta)?;
+    let read = is_read_while_written(it, key, &mut writer);
+    writer.finish(&mut it.store)?;
+    Ok(read && is_found_whole(it, key))
+}
+
+fn all_are(alloc: Global, seed: u64) -> Result<bool> {
+    let key = key_of(alloc, "aa")?;
+    let mut it = Plain {
+        alloc,
+        store: MemCache::new(alloc),
+        text: Vec::new(alloc),
+        rng: StdRng::seed_from_u64(seed),
+    };
+    is_written_and_found(&mut it, &key)
+}
+
+#[test]
+fn a_write_in_pieces_is_one_text(rt: HostRuntime) {
+    let alloc = rt.alloc();
+    let mut all = true;
+    for seed in 0..8u64 {
+        all &= matches!(all_are(alloc, seed), Ok(true));
+    }
+    assert!(rt; all);
+}
