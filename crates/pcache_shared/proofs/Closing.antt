@@ -5,7 +5,7 @@ use Rattle.std.specs.List.{All}
 use Rattle.std.proofs.lemmas.List.Elements.{All-map, All-weaker}
 use mathlib.Core.Logic.{dite}
 use native.Mathlib.Decide.{dec_lt, ℕ_discrete}
-use Rattle.pingora_cache.specs.declared.world.entry.Entry.{Entry}
+use Rattle.pcache_history.specs.declared.entry.Entry.{Entry}
 use Rattle.pcache_shared.specs.declared.receipt.Receipt.{Receipt}
 use Rattle.pcache_shared.specs.Views.{one_if, times, numbers, places, Stands, Rises}
 use Rattle.pcache_shared.specs.Receipts.{receipt_of, StandsIn, joined, places_of, AreReceipts}

@@ -2,7 +2,7 @@
 use Rattle.std.proofs.Common.{◌≡◌, ℕ, zero, suc, ◌+◌, ◌<◌, List, [], ◌∷◌, map, take, length, Vec, refl, sym, ap, ◌∙◌, subst, arith, length-append}
 use Rattle.std.specs.Prelude.{slice_index_or}
 use Rattle.std.proofs.lemmas.List.{append-nil}
-use Rattle.pingora_cache.specs.declared.world.call.Call.{Call}
+use Rattle.pcache_history.specs.declared.call.Call.{Call}
 use Rattle.pcache_shared.specs.declared.receipt.Receipt.{Receipt}
 use Rattle.pcache_shared.specs.Workers.{Runs, RunsWhole, EachRuns, HaveGrown, calls_of, script_at}
 

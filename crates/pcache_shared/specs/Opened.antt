@@ -3,8 +3,8 @@ use Rattle.std.specs.Prelude.{ℕ, [], None, refl}
 use Rattle.std.specs.Coded.{Coded, code_by, coded×, coded_ℕ}
 use Rattle.std.specs.FinMap as map
 use Rattle.atomic_table.specs.Seated.{TableId, table_id_coded}
-use Rattle.pingora_cache.specs.Log.{Log}
-use Rattle.pingora_cache.specs.LogCode.{log_code}
+use Rattle.pcache_history.specs.Log.{Log}
+use Rattle.pcache_history.specs.LogCode.{log_code}
 
 -- one shared world: its table, the world it was made with, and the number of its shares
 pub record Opened : Type 0 where

@@ -1,8 +1,8 @@
 -- What a receipt says of a history, and what is known of all receipts at the end (own).
 use Rattle.std.specs.Prelude.{◌≡◌, ℕ, ◌+◌, ◌-◌, List, [], ◌∷◌, ◌++◌, map, length, Some, slice_get}
 use Rattle.std.specs.List.{All}
-use Rattle.pingora_cache.specs.Log.{Log, HasLegal}
-use Rattle.pingora_cache.specs.declared.world.entry.Entry.{Entry}
+use Rattle.pcache_history.specs.Log.{Log, HasLegal}
+use Rattle.pcache_history.specs.declared.entry.Entry.{Entry}
 use Rattle.pcache_shared.specs.declared.receipt.Receipt.{Receipt}
 use Rattle.pcache_shared.specs.Views.{times, numbers, Rises}
 

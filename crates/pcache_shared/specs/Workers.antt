@@ -1,6 +1,6 @@
 -- What a worker makes of its share (own).
 use Rattle.std.specs.Prelude.{◌≡◌, ◌<◌, ◌+◌, ℕ, List, ◌++◌, map, take, length, [], slice_index_or, Vec}
-use Rattle.pingora_cache.specs.declared.world.call.Call.{Call}
+use Rattle.pcache_history.specs.declared.call.Call.{Call}
 use Rattle.pcache_shared.specs.declared.receipt.Receipt.{Receipt}
 
 abbrev pub calls_of : List Receipt → List Call

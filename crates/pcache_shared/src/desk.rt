@@ -2,8 +2,8 @@
 ghost use Rattle.std.specs.Prelude.{◌≡◌, ℕ, ◌+◌, ◌<◌, ◌≤◌, ◌++◌, ◌∷◌, [], Some, length, slice_get, IfOk, IfErr, IfSome, OnErr};
 ghost use Rattle.std.specs.List.{All};
 ghost use Rattle.pcache_base.specs.declared.error.ErrorType.TheVariants.{OutOfMemory};
-ghost use Rattle.pingora_cache.specs.Log.{Adds, HasLegal, events_in};
-ghost use Rattle.pingora_cache.specs.declared.world.entry.Entry.{Entry};
+ghost use Rattle.pcache_history.specs.Log.{Adds, HasLegal, events_in};
+ghost use Rattle.pcache_history.specs.declared.entry.Entry.{Entry};
 ghost use Rattle.pcache_shared.specs.Receipts.{HasGrown, IsOf, IsTold};
 ghost use Rattle.pcache_shared.specs.Views.{IsSlip, slip};
 
@@ -29,8 +29,8 @@ pub(crate) struct Desk<M: EvictionManager, P: PutPolicy, K: Mark> {
 
 impl<M: EvictionManager, P: PutPolicy, K: Mark> Model for Desk<M, P, K> {
     ghost use Rattle.std.specs.Prelude.{◌≡◌, ◌+◌, ◌++◌, []};
-    ghost use Rattle.pingora_cache.specs.Log.{Log};
-    ghost use Rattle.pingora_cache.specs.LogCode.{log_code};
+    ghost use Rattle.pcache_history.specs.Log.{Log};
+    ghost use Rattle.pcache_history.specs.LogCode.{log_code};
     ghost use Rattle.pcache_shared.specs.Views.{whole, IsKeeper};
 
     ghost Value = { Log };
@@ -43,7 +43,7 @@ impl<M: EvictionManager, P: PutPolicy, K: Mark> Model for Desk<M, P, K> {
 }
 
 impl<M: EvictionManager, P: PutPolicy, K: Mark> Desk<M, P, K> {
-    ghost use Rattle.pingora_cache.specs.Events.{slots, stored};
+    ghost use Rattle.pcache_history.specs.Events.{slots, stored};
 
     /// The lengths of the complete bodies, added up.
     pub(crate) fn stored_bytes(&self) -> u128

@@ -1,6 +1,6 @@
 //! What a thread calls with.
 ghost use Rattle.std.specs.Prelude.{◌≡◌, ℕ, [], ◌∷◌, ◌++◌, IfOk, OnErr};
-ghost use Rattle.pingora_cache.specs.declared.world.call.Reply.{Reply};
+ghost use Rattle.pcache_history.specs.declared.call.Reply.{Reply};
 
 use crate::mark::Mark;
 use crate::receipt::Receipt;

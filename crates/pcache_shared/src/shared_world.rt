@@ -33,8 +33,8 @@ pub struct SharedWorld<M: EvictionManager, P: PutPolicy, K: Mark> {
 
 impl<M: EvictionManager, P: PutPolicy, K: Mark> SharedWorld<M, P, K> {
     ghost use Rattle.std.specs.Borrow.{sem};
-    ghost use Rattle.pingora_cache.specs.Events.{slots, stored};
-    ghost use Rattle.pingora_cache.specs.Log.{HasLegal, events_in};
+    ghost use Rattle.pcache_history.specs.Events.{slots, stored};
+    ghost use Rattle.pcache_history.specs.Log.{HasLegal, events_in};
     ghost use Rattle.pcache_shared.specs.Lends.{ends_added};
     ghost use Rattle.pcache_shared.specs.Receipts.{AreReceipts, HasGrown, IsTold};
     ghost use Rattle.pcache_shared.specs.Views.{keeper, whole};

@@ -6,11 +6,11 @@ use Rattle.std.specs.FinMap.{FinMap, empty, get, insert, remove, nat_cmp-IsAntis
 use Rattle.pcache_base.specs.Totals.{share}
 use Rattle.pcache_base.proofs.Totals.{total-insert, total-remove, total-empty}
 use Rattle.pcache_store.specs.Store.{Reader}
-use Rattle.pingora_cache.specs.declared.world.entry.Event.{Event}
-use Rattle.pingora_cache.specs.Events.{in_flight, option_any}
-use Rattle.pingora_cache.specs.Held.{Held}
+use Rattle.pcache_history.specs.declared.entry.Event.{Event}
+use Rattle.pcache_history.specs.Events.{in_flight, option_any}
+use Rattle.pcache_history.specs.Held.{Held}
 use Rattle.pingora_cache.specs.Sound.{follows, readers_in, readers, writers_in, writers, AreHeld}
-use Rattle.pingora_cache.proofs.Sums.{same-number}
+use Rattle.pcache_history.proofs.Sums.{same-number}
 
 pub readers-none : (w : ℕ) → readers empty w ≡ 0
 readers-none w = total-empty nat_cmp_total (readers_in w)

@@ -15,30 +15,31 @@ use Rattle.pcache_lock.specs.declared.lock.status.LockStatus.TheVariants as stat
 use Rattle.pcache_request.specs.LockUse.{gone_for, handed, permit_in, table_handed, unheld}
 use Rattle.pcache_request.specs.Requests.{Request, let_go_by}
 use Rattle.pcache_store.specs.Store.{Store}
-use Rattle.pingora_cache.specs.declared.world.call.Call.{Call}
-use Rattle.pingora_cache.specs.declared.world.call.Call.TheVariants as C
-use Rattle.pingora_cache.specs.declared.world.call.Reply.{Reply}
-use Rattle.pingora_cache.specs.declared.world.call.Reply.TheVariants as R
-use Rattle.pingora_cache.specs.declared.world.entry.Entry.{Entry}
-use Rattle.pingora_cache.specs.declared.world.entry.Event.{Event}
-use Rattle.pingora_cache.specs.declared.world.entry.Event.TheVariants as E
-use Rattle.pingora_cache.specs.Deeds.{Deed, Handed, LetGo, deeds_by, deeds_in, deeds_of, handed_on, held_in, is_held, shown, who_holds}
-use Rattle.pingora_cache.specs.Due.{makes_of, AreDue, KeepsKey}
-use Rattle.pingora_cache.specs.Events.{tracked}
-use Rattle.pingora_cache.specs.Facts.{Facts, facts_for, facts_in, request_in}
+use Rattle.pcache_history.specs.declared.call.Call.{Call}
+use Rattle.pcache_history.specs.declared.call.Call.TheVariants as C
+use Rattle.pcache_history.specs.declared.call.Reply.{Reply}
+use Rattle.pcache_history.specs.declared.call.Reply.TheVariants as R
+use Rattle.pcache_history.specs.declared.entry.Entry.{Entry}
+use Rattle.pcache_history.specs.declared.entry.Event.{Event}
+use Rattle.pcache_history.specs.declared.entry.Event.TheVariants as E
+use Rattle.pcache_history.specs.Deeds.{Deed, Handed, LetGo, deeds_by, deeds_in, deeds_of, handed_on, held_in, is_held, shown, who_holds}
+use Rattle.pcache_history.specs.Due.{makes_of, AreDue, KeepsKey}
+use Rattle.pcache_history.specs.Events.{tracked}
+use Rattle.pcache_history.specs.Facts.{Facts, request_in}
+use Rattle.pingora_cache.specs.PartFacts.{facts_for, facts_in}
 use Rattle.pingora_cache.specs.Handing.{HandsOver, open_at, table_given, table_given_by, taker_at}
-use Rattle.pingora_cache.specs.Held.{Held, handed_by, on_request, outcome, permit_held, request_of, row, taken_over, taker_in, turned_by, untold}
-use Rattle.pingora_cache.specs.History.{events_of}
-use Rattle.pingora_cache.specs.Legal.{Gives, IsLegal}
+use Rattle.pcache_history.specs.Held.{Held, handed_by, on_request, outcome, permit_held, request_of, row, taken_over, taker_in, turned_by}
+use Rattle.pingora_cache.specs.Untold.{untold, untold_put, untold_lock, untold_request}
+use Rattle.pcache_history.specs.History.{events_of}
+use Rattle.pcache_history.specs.Legal.{Gives, IsLegal}
 use Rattle.pingora_cache.specs.LockMoves.{each_deed}
 use Rattle.pingora_cache.specs.LockTable.{Holds, IsTable, locks_read, read_locks}
 use Rattle.pingora_cache.specs.Moved.{Did, Moves, at_call, reads_of}
-use Rattle.pingora_cache.specs.Rules.{FindsKind, IsCopy, IsIdle, MayBe, MayTake, Replies, each, given_up, let_go_of, permit_of}
+use Rattle.pcache_history.specs.Rules.{FindsKind, IsCopy, IsIdle, MayBe, MayTake, Replies, each, given_up, let_go_of, permit_of}
 use Rattle.pingora_cache.specs.Sound.{AllHold, AreOpen, IsSound, IsState, readers}
 use Rattle.pingora_cache.specs.Step.{Turn}
-use Rattle.pingora_cache.specs.Taking.{Taking, untold_put}
-use Rattle.pingora_cache.specs.Untold.{untold_lock, untold_request}
-use Rattle.pingora_cache.specs.Waiting.{AreGiven, Waiting, waiting_in}
+use Rattle.pcache_history.specs.Taking.{Taking}
+use Rattle.pcache_history.specs.Waiting.{AreGiven, Waiting, waiting_in}
 use Rattle.pingora_cache.proofs.LockKept.{go, holds-none, reversed-two}
 use Rattle.pingora_cache.proofs.LockSteps.{let-go-deeds, no_locks_move}
 use Rattle.pingora_cache.proofs.LockTable as table
@@ -51,8 +52,8 @@ use Rattle.pingora_cache.proofs.PutTurns.{wrong-given}
 use Rattle.pingora_cache.proofs.ReadLocks.{lock-counted, locks-few, locks-moved}
 use Rattle.pingora_cache.proofs.SoundOf.{sound-of}
 use Rattle.pingora_cache.proofs.States.{state-same}
-use Rattle.pingora_cache.proofs.Sums.{same-number}
-use Rattle.pingora_cache.proofs.Taken.{handed-keeps}
+use Rattle.pcache_history.proofs.Sums.{same-number}
+use Rattle.pcache_history.proofs.Taken.{handed-keeps}
 use Rattle.pingora_cache.proofs.Turned.{lookup-get, set-at}
 use Rattle.pingora_cache.proofs.Uniform.{each-turn-keeps, facts-agree, legal-with, parts-move}
 use Rattle.pingora_cache.proofs.Waiting.{let-go-by, locked-after}

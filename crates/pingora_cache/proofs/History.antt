@@ -1,11 +1,11 @@
 -- A history with one entry more, read from its newest.
 use Rattle.std.proofs.Common.{◌≡◌, List, [], ◌∷◌, ◌++◌, refl, ap, sym, subst, ◌∙◌, reverse}
 use Rattle.std.proofs.lemmas.List.{reverse-append}
-use Rattle.pingora_cache.specs.declared.world.call.Call.{Call}
-use Rattle.pingora_cache.specs.declared.world.call.Reply.{Reply}
-use Rattle.pingora_cache.specs.declared.world.entry.Entry.{Entry}
-use Rattle.pingora_cache.specs.declared.world.entry.Event.{Event}
-use Rattle.pingora_cache.specs.Log.{Log, Adds, AddsAll}
+use Rattle.pcache_history.specs.declared.call.Call.{Call}
+use Rattle.pcache_history.specs.declared.call.Reply.{Reply}
+use Rattle.pcache_history.specs.declared.entry.Entry.{Entry}
+use Rattle.pcache_history.specs.declared.entry.Event.{Event}
+use Rattle.pcache_history.specs.Log.{Log, Adds, AddsAll}
 
 -- what holds of a history with one entry more in front holds of the reversed list with it at the end
 pub grown : (P : List Entry → Type 0) (items before new : List Entry) (call : Call) (reply reply' : Reply) (events events' : List Event)

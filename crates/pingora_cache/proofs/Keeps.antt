@@ -12,10 +12,10 @@ use Rattle.pcache_request.specs.declared.phase.CachePhase.{CachePhase}
 use Rattle.pcache_request.specs.declared.phase.CachePhase.TheVariants as phase
 use Rattle.pcache_request.specs.declared.phase.HitStatus.{HitStatus}
 use Rattle.pcache_store.specs.Store.{Store, Reader}
-use Rattle.pingora_cache.specs.Due.{IsOfWorld, KeepsIn}
-use Rattle.pingora_cache.specs.declared.world.entry.Event.{Event}
-use Rattle.pingora_cache.specs.declared.world.entry.Event.TheVariants as E
-use Rattle.pingora_cache.specs.Held.{asked, with_given, with_sought}
+use Rattle.pcache_history.specs.Due.{IsOfWorld, KeepsIn}
+use Rattle.pcache_history.specs.declared.entry.Event.{Event}
+use Rattle.pcache_history.specs.declared.entry.Event.TheVariants as E
+use Rattle.pcache_history.specs.Held.{asked, with_given, with_sought}
 
 -- phases in which no write is made
 no-look : (p : CachePhase) → MayLookUp p → IsFilling p → ⊥

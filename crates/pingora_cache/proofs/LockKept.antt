@@ -17,15 +17,15 @@ use Rattle.pcache_lock.specs.Waiting.{answer_at, is_old, watched, polled, publis
 use Rattle.pcache_lock.specs.Waits.{is_old_at}
 use Rattle.pcache_request.specs.LockWaits.{is_old_answer, too_old_for}
 use Rattle.pcache_request.specs.Requests.{let_go_by, settled}
-use Rattle.pingora_cache.specs.Deeds.{Deed, Asked, Released, LetGo, Aged, Published, Polled, who_holds, is_held, shown, shown_first, shown_more, standing}
+use Rattle.pcache_history.specs.Deeds.{Deed, Asked, Released, LetGo, Aged, Published, Polled, who_holds, is_held, shown, shown_first, shown_more, standing}
 use Rattle.pingora_cache.specs.LockMoves.{LockMove, rests, asks, settles, lets_go, publishes, polls, ages, each_deed, deeds_moved, table_moved, held_moved, table_polled, MayMove, MovesLocks}
 use Rattle.pingora_cache.specs.LockTable.{IsTable, Holds, IsWatch, last_of, locks_read, plain}
-use Rattle.pingora_cache.specs.Rules.{permit_of}
+use Rattle.pcache_history.specs.Rules.{permit_of}
 use Rattle.pingora_cache.proofs.LockTable as table
 use Rattle.pingora_cache.proofs.LockTable.{Follows, WasThere, some-same, lock-at, held-there, read-there, given-asked, held-given}
 use Rattle.pingora_cache.proofs.LockWatch.{last-with, watch-polled, watch-published, watch-same}
 use Rattle.pingora_cache.proofs.StateWrites.{get-set}
-use Rattle.pingora_cache.proofs.Sums.{same-number}
+use Rattle.pcache_history.proofs.Sums.{same-number}
 
 -- ---- two steps, and other counts
 

@@ -20,14 +20,14 @@ use Rattle.pcache_request.specs.Variants.{asked_for_key, table_key_locked, with_
 use Rattle.pcache_request.specs.declared.cache.report.AskedLock.{AskedLock}
 use Rattle.pcache_request.specs.declared.phase.HitStatus.{HitStatus}
 use Rattle.pcache_store.specs.Store.{Reader, reader_weight}
-use Rattle.pingora_cache.specs.declared.world.entry.Answer.{Answer}
-use Rattle.pingora_cache.specs.declared.world.entry.Event.{Event}
-use Rattle.pingora_cache.specs.declared.world.entry.Event.TheVariants as E
-use Rattle.pingora_cache.specs.Deeds.{Deed, Asked, Released, LetGo, deed_of, deeds_by, keeps, published_on}
+use Rattle.pcache_history.specs.declared.entry.Answer.{Answer}
+use Rattle.pcache_history.specs.declared.entry.Event.{Event}
+use Rattle.pcache_history.specs.declared.entry.Event.TheVariants as E
+use Rattle.pcache_history.specs.Deeds.{Deed, Asked, Released, LetGo, deed_of, deeds_by, keeps, published_on}
 use Rattle.pingora_cache.specs.LockMoves.{LockMove, MayMove, MovesLocks, asks, deeds_moved, each_deed, lets_go, publishes, rests, settles, table_moved}
-use Rattle.pingora_cache.specs.Rules.{accesses, drop_of, each, permit_of}
+use Rattle.pcache_history.specs.Rules.{accesses, drop_of, each, permit_of}
 use Rattle.pingora_cache.specs.Step.{asking, permit_in, refused_end, renewing, untracking}
-use Rattle.pingora_cache.specs.Waiting.{AreOfNoLock, IsOfNoLock}
+use Rattle.pcache_history.specs.Waiting.{AreOfNoLock, IsOfNoLock}
 use Rattle.pingora_cache.proofs.Noted.{permit-named}
 
 -- ---- deeds of lists of events

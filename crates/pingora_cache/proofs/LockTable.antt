@@ -17,10 +17,10 @@ use Rattle.pcache_lock.specs.Locks.{Locks, no_locks, with_permit, with_read_lock
 use Rattle.pcache_lock.specs.Waiting.{after_poll, table_at, stage_of, is_old, aged}
 use Rattle.pcache_lock.specs.Waits.{is_old_at}
 use Rattle.pcache_lock.proofs.Calls.{reason_ends}
-use Rattle.pingora_cache.specs.Deeds.{Deed, Asked, Released, LetGo, Aged, Published, Polled, Handed, ask_of, who_holds, is_held, status_of, standing}
+use Rattle.pcache_history.specs.Deeds.{Deed, Asked, Released, LetGo, Aged, Published, Polled, Handed, ask_of, who_holds, is_held, status_of, standing}
 use Rattle.pingora_cache.specs.LockTable.{plain, lock_as, lock_of, last_of, IsTable}
 use Rattle.pingora_cache.proofs.StateWrites.{get-set, get-unset}
-use Rattle.pingora_cache.proofs.Sums.{same-number}
+use Rattle.pcache_history.proofs.Sums.{same-number}
 
 -- ---- laws of deeds
 

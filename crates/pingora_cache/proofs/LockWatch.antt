@@ -22,12 +22,12 @@ use Rattle.pcache_lock.specs.Permits.{Core, Reader, Watch}
 use Rattle.pcache_lock.specs.Waiting.{first_told, watched, watch_at, polled, publications_with, says_nothing, answer_at, told_or_pending, status_seen}
 use Rattle.pcache_request.specs.LockWaits.{answer_by, is_late, wait_answer, too_old_for, is_old_answer, unusable_in}
 use Rattle.pcache_request.specs.Requests.{Request}
-use Rattle.pingora_cache.specs.Deeds.{Deed, Published, Polled, is_held, status_of, standing, shown, shown_first, shown_more}
+use Rattle.pcache_history.specs.Deeds.{Deed, Published, Polled, is_held, status_of, standing, shown, shown_first, shown_more}
 use Rattle.pingora_cache.specs.LockTable.{last_of, IsTable, IsWatching, IsWatch, Holds}
 use Rattle.pingora_cache.specs.Untold.{untold_reader, untold_request}
-use Rattle.pingora_cache.specs.Waits.{is_too_old, told_of, poll_of, wait_of, finds_too_old}
+use Rattle.pcache_history.specs.Waits.{is_too_old, told_of, poll_of, wait_of, finds_too_old}
 use Rattle.pingora_cache.proofs.LockTable.{held-pending, lock-at, read-there}
-use Rattle.pingora_cache.proofs.Sums.{same-number}
+use Rattle.pcache_history.proofs.Sums.{same-number}
 
 -- ---- lists of publications
 

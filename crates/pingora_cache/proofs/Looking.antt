@@ -11,24 +11,24 @@ use Rattle.pcache_request.specs.Releasing.{disabled_for}
 use Rattle.pcache_request.specs.Requests.{HoldsNothing, Request, found_for, left_by}
 use Rattle.pcache_request.specs.Variants.{is_hidden, is_unseen, visible}
 use Rattle.pcache_store.specs.Store.{Store, Reader, find, followed, left}
-use Rattle.pingora_cache.specs.declared.world.call.LockKind.{LockKind}
-use Rattle.pingora_cache.specs.declared.world.call.Reply.{Reply}
-use Rattle.pingora_cache.specs.declared.world.call.Reply.TheVariants as R
-use Rattle.pingora_cache.specs.declared.world.entry.Answer.{Answer}
-use Rattle.pingora_cache.specs.declared.world.entry.Answer.TheVariants.{Nothing}
-use Rattle.pingora_cache.specs.declared.world.entry.Event.{Event}
-use Rattle.pingora_cache.specs.declared.world.entry.Event.TheVariants as E
-use Rattle.pingora_cache.specs.Due.{KeepsKey}
-use Rattle.pingora_cache.specs.Facts.{Facts, facts_in}
-use Rattle.pingora_cache.specs.Held.{Held, asked, carrying, decides, is_wrong, looked_by, looked_with, outcome, pair_of}
+use Rattle.pcache_history.specs.declared.call.LockKind.{LockKind}
+use Rattle.pcache_history.specs.declared.call.Reply.{Reply}
+use Rattle.pcache_history.specs.declared.call.Reply.TheVariants as R
+use Rattle.pcache_history.specs.declared.entry.Answer.{Answer}
+use Rattle.pcache_history.specs.declared.entry.Answer.TheVariants.{Nothing}
+use Rattle.pcache_history.specs.declared.entry.Event.{Event}
+use Rattle.pcache_history.specs.declared.entry.Event.TheVariants as E
+use Rattle.pcache_history.specs.Due.{KeepsKey}
+use Rattle.pcache_history.specs.Facts.{Facts}
+use Rattle.pingora_cache.specs.PartFacts.{facts_in}
+use Rattle.pcache_history.specs.Held.{Held, asked, carrying, decides, is_wrong, looked_by, looked_with, outcome, pair_of, pair_reader}
 use Rattle.pcache_evict.specs.Tracked.{Limits}
 use Rattle.pingora_cache.specs.Moved.{Act, Acts, At, Did, Joins, Leaves, IsNextAt, MovesStore, after_event, after_join, after_leave, at_call}
-use Rattle.pingora_cache.specs.Rules.{AsksIf, HandsOn, IsOther, Looks, LooksOn, Misses, drop_of, each, permit_of, release_of}
-use Rattle.pingora_cache.specs.Sound.{pair_reader}
+use Rattle.pcache_history.specs.Rules.{AsksIf, HandsOn, IsOther, Looks, LooksOn, Misses, drop_of, each, permit_of, release_of}
 use Rattle.pingora_cache.specs.Step.{DefersKey, MissesKey, store_ended, with_own_decision}
 use Rattle.pingora_cache.proofs.Keeps.{asked-write, keeps-asked, keeps-decided}
 use Rattle.pingora_cache.proofs.MovesOf.{AreQuiet, defers, hidden, noted, quiet-each}
-use Rattle.pingora_cache.proofs.ReadsLaw.{asked-reader, decided-reader}
+use Rattle.pcache_history.proofs.ReadsLaw.{asked-reader, decided-reader}
 
 -- a reply that is another is not that of a wrong call
 pub right_of : (reply : Reply) → IsOther reply → is_wrong (outcome reply) ≡ false

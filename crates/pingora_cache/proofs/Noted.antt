@@ -26,23 +26,22 @@ use Rattle.pcache_store.specs.Store.{Store, Reader, Part, find, complete_body, r
 use Rattle.pcache_store.specs.declared.storage.PurgeOutcome.{PurgeOutcome}
 use Rattle.pcache_store.specs.declared.storage.PurgeOutcome.TheVariants.{NotFound, Purged, Expired}
 use Rattle.pcache_request.specs.declared.phase.HitStatus.{HitStatus}
-use Rattle.pingora_cache.specs.declared.world.call.LockKind.{LockKind}
-use Rattle.pingora_cache.specs.declared.world.call.Reply.{Reply}
-use Rattle.pingora_cache.specs.declared.world.call.Reply.TheVariants as R
-use Rattle.pingora_cache.specs.declared.world.entry.Answer.{Answer}
-use Rattle.pingora_cache.specs.declared.world.entry.Event.{Event}
-use Rattle.pingora_cache.specs.declared.world.entry.Event.TheVariants as E
+use Rattle.pcache_history.specs.declared.call.LockKind.{LockKind}
+use Rattle.pcache_history.specs.declared.call.Reply.{Reply}
+use Rattle.pcache_history.specs.declared.call.Reply.TheVariants as R
+use Rattle.pcache_history.specs.declared.entry.Answer.{Answer}
+use Rattle.pcache_history.specs.declared.entry.Event.{Event}
+use Rattle.pcache_history.specs.declared.entry.Event.TheVariants as E
 use Rattle.pcache_request.specs.declared.phase.CachePhase.{CachePhase}
 use Rattle.pcache_request.specs.Reports.{name_of, released_as, asked_with, asked_by_found, access_by_found, entry_stored, untracked, untracked_for}
 use Rattle.pcache_request.specs.Variants.{asked_for_key, with_key_lock}
 use Rattle.pcache_request.specs.declared.cache.report.AskedLock.{AskedLock}
 use Rattle.pcache_request.specs.declared.cache.report.LockName.{LockName}
 use Rattle.pcache_request.specs.Requests.{Request, found_for, found_row, locked_found, phase_found, placed, with_lock, asks_for_hit, asks_as_stale, counts_found, entry_of, reader_in, writing, begun_for, joined_for, is_removed_by, tracked_gone, tracked_gone_for}
-use Rattle.pingora_cache.specs.Facts.{facts_in, there_for, complete_for}
+use Rattle.pingora_cache.specs.PartFacts.{facts_in, there_for, complete_for}
 use Rattle.pcache_request.specs.Renewals.{has_body, renewed_by}
-use Rattle.pingora_cache.specs.Rules.{Renews, Takes, renew_of, update_reply}
-use Rattle.pingora_cache.specs.Held.{Held, lock_of, asked, began, read_past}
-use Rattle.pingora_cache.specs.Rules.{AsksIf, IsLockRefusal, each, accesses, permit_of, untrack_of}
+use Rattle.pcache_history.specs.Rules.{Renews, Takes, renew_of, update_reply, AsksIf, IsLockRefusal, each, accesses, permit_of, untrack_of}
+use Rattle.pcache_history.specs.Held.{Held, lock_of, asked, began, read_past}
 use Rattle.pingora_cache.specs.Step.{IsAnswered, MissesKey, renewal_reply, renewing, asking, kind_asked, noting, permit_in, permit_released, untracking}
 use Rattle.pingora_cache.proofs.StateAnswers.{found-answer, read-past}
 use Rattle.pingora_cache.proofs.StateCalls.{begun-joins}

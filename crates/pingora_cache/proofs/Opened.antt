@@ -3,8 +3,9 @@ use Rattle.std.proofs.Common.{◌≡◌, ℕ, ◌==◌, true, false, cond, if◌
 use Rattle.std.specs.Ordering.{nat_cmp}
 use Rattle.std.specs.FinMap.{FinMap, empty, get, get-empty}
 use Rattle.std.proofs.lemmas.Bool.{eqb-true}
-use Rattle.pingora_cache.specs.declared.world.entry.Entry.{Entry}
-use Rattle.pingora_cache.specs.Held.{Held, number_of, outcome, row, request_of, taken_over, untold}
+use Rattle.pcache_history.specs.declared.entry.Entry.{Entry}
+use Rattle.pcache_history.specs.Held.{Held, number_of, outcome, row, request_of, taken_over}
+use Rattle.pingora_cache.specs.Untold.{untold}
 use Rattle.pingora_cache.specs.Sound.{AreOpen}
 use Rattle.pingora_cache.proofs.MovedState.{set_to}
 use Rattle.pingora_cache.proofs.StateWrites.{get-set, get-unset}

@@ -29,20 +29,21 @@ use Rattle.pcache_request.specs.declared.cache.finish.FinishReport.{FinishReport
 use Rattle.pcache_store.specs.Finishes.{created}
 use Rattle.pcache_store.specs.Refusals.{MayRefuseFinish}
 use Rattle.pcache_store.specs.Store.{Reader, Store, dropped, is_untouched}
-use Rattle.pingora_cache.specs.declared.world.call.Reply.{Reply}
-use Rattle.pingora_cache.specs.declared.world.call.Reply.TheVariants as R
-use Rattle.pingora_cache.specs.declared.world.entry.Event.{Event}
-use Rattle.pingora_cache.specs.declared.world.entry.Event.TheVariants as E
-use Rattle.pingora_cache.specs.Due.{IsOfWorld, MaySettle, reader_for, slot_of}
-use Rattle.pingora_cache.specs.Facts.{Facts, facts_in}
-use Rattle.pingora_cache.specs.Held.{Held, held_put}
+use Rattle.pcache_history.specs.declared.call.Reply.{Reply}
+use Rattle.pcache_history.specs.declared.call.Reply.TheVariants as R
+use Rattle.pcache_history.specs.declared.entry.Event.{Event}
+use Rattle.pcache_history.specs.declared.entry.Event.TheVariants as E
+use Rattle.pcache_history.specs.Due.{IsOfWorld, MaySettle, reader_for, slot_of}
+use Rattle.pcache_history.specs.Facts.{Facts}
+use Rattle.pingora_cache.specs.PartFacts.{facts_in}
+use Rattle.pcache_history.specs.Held.{Held, held_put}
 use Rattle.pingora_cache.specs.Moved.{Act, Did, Joins, Leaves, Acts, At, IsNextAt, IsSame, MayMove, Moves, MovesBy, after_event, after_join, after_leave, at_call}
-use Rattle.pingora_cache.specs.PutHistory.{Tells}
+use Rattle.pcache_history.specs.PutHistory.{Tells}
 use Rattle.pingora_cache.specs.PutSteps.{IsUnwritten, IsWritten, end_noted, end_reply}
-use Rattle.pingora_cache.specs.Rules.{Closes, ClosesAt, EndsFilling}
+use Rattle.pcache_history.specs.Rules.{Closes, ClosesAt, EndsFilling}
 use Rattle.pingora_cache.specs.Step.{refused_end}
-use Rattle.pingora_cache.specs.Taking.{Taking, entry_in, filling}
-use Rattle.pingora_cache.specs.Waiting.{AreOfNoLock}
+use Rattle.pcache_history.specs.Taking.{Taking, entry_in, filling}
+use Rattle.pcache_history.specs.Waiting.{AreOfNoLock}
 use Rattle.pingora_cache.proofs.LockSteps.{quiet-refused}
 use Rattle.pingora_cache.proofs.MovesOf.{does, finish-dropped, finish-stored, finish-withdrawn, stop, with_pair}
 use Rattle.pingora_cache.proofs.PutFed.{none-some, not-failed}

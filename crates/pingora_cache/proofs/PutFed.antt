@@ -19,20 +19,23 @@ use Rattle.pcache_put_ctx.specs.declared.report.Written.{Written}
 use Rattle.pcache_request.specs.Requests.{dropped_by}
 use Rattle.pcache_store.specs.Store.{Store, is_told}
 use Rattle.std.specs.FinMap.{get}
-use Rattle.pingora_cache.specs.declared.world.call.Call.TheVariants as C
-use Rattle.pingora_cache.specs.declared.world.call.Reply.{Reply}
-use Rattle.pingora_cache.specs.declared.world.call.Reply.TheVariants as R
-use Rattle.pingora_cache.specs.declared.world.entry.Event.{Event}
-use Rattle.pingora_cache.specs.declared.world.entry.Event.TheVariants as E
-use Rattle.pingora_cache.specs.Due.{slot_of}
-use Rattle.pingora_cache.specs.Facts.{Facts, facts_in}
-use Rattle.pingora_cache.specs.Held.{Held, Outcome, was_declined, was_done, was_refused, fed, held_put, stage_fed, stage_noted, untold}
+use Rattle.pcache_history.specs.declared.call.Call.TheVariants as C
+use Rattle.pcache_history.specs.declared.call.Reply.{Reply}
+use Rattle.pcache_history.specs.declared.call.Reply.TheVariants as R
+use Rattle.pcache_history.specs.declared.entry.Event.{Event}
+use Rattle.pcache_history.specs.declared.entry.Event.TheVariants as E
+use Rattle.pcache_history.specs.Due.{slot_of}
+use Rattle.pcache_history.specs.Facts.{Facts}
+use Rattle.pingora_cache.specs.PartFacts.{facts_in}
+use Rattle.pcache_history.specs.Held.{Held, Outcome, was_declined, was_done, was_refused, fed, held_put, stage_fed, stage_noted}
+use Rattle.pingora_cache.specs.Untold.{untold, uncounted}
 use Rattle.pingora_cache.specs.Moved.{At, Moves, MovesBy, MovesStore, at_call}
-use Rattle.pingora_cache.specs.PutHistory.{PutTurn, TakenIn, filled_by}
-use Rattle.pingora_cache.specs.Rules.{Feeds, FeedsAt, IsFeedRefusal, TakesPiece, began_noted, drop_of, piece_noted, wrote_noted}
+use Rattle.pcache_history.specs.PutHistory.{filled_by}
+use Rattle.pingora_cache.specs.PutsSound.{PutTurn, TakenIn}
+use Rattle.pcache_history.specs.Rules.{Feeds, FeedsAt, IsFeedRefusal, TakesPiece, began_noted, drop_of, piece_noted, wrote_noted}
 use Rattle.pingora_cache.specs.Step.{IsRow}
-use Rattle.pingora_cache.specs.Taking.{Taking, counted_none, uncounted}
-use Rattle.pingora_cache.specs.Waiting.{AreOfNoLock}
+use Rattle.pcache_history.specs.Taking.{Taking, counted_none}
+use Rattle.pcache_history.specs.Waiting.{AreOfNoLock}
 use Rattle.pingora_cache.proofs.MovesOf.{does, drops, stop}
 
 pub none-some : {A B : Type 0} (a : A) → ◌≡◌ {A = Option A} (Some a) None → B

@@ -9,23 +9,25 @@ use Rattle.pcache_put.specs.Counted.{Counted}
 use Rattle.pcache_base.specs.declared.error.ErrorType.TheVariants.{OutOfMemory}
 use Rattle.pcache_put_ctx.specs.Puts.{Piece, Says, IsResult}
 use Rattle.pcache_put_ctx.specs.State.{Filled, limit_of}
-use Rattle.pingora_cache.specs.declared.world.call.Call.{Call}
-use Rattle.pingora_cache.specs.declared.world.call.Call.TheVariants as C
-use Rattle.pingora_cache.specs.declared.world.call.Reply.{Reply}
-use Rattle.pingora_cache.specs.declared.world.call.Reply.TheVariants as R
-use Rattle.pingora_cache.specs.declared.world.entry.Entry.{Entry}
-use Rattle.pingora_cache.specs.declared.world.entry.Event.{Event}
+use Rattle.pcache_history.specs.declared.call.Call.{Call}
+use Rattle.pcache_history.specs.declared.call.Call.TheVariants as C
+use Rattle.pcache_history.specs.declared.call.Reply.{Reply}
+use Rattle.pcache_history.specs.declared.call.Reply.TheVariants as R
+use Rattle.pcache_history.specs.declared.entry.Entry.{Entry}
+use Rattle.pcache_history.specs.declared.entry.Event.{Event}
 use Rattle.pcache_request.specs.LockUse.{unheld}
-use Rattle.pingora_cache.specs.Held.{Held, is_done, number_of, outcome, request_of, row, taken_over, turned_by, untold}
-use Rattle.pingora_cache.specs.PutHistory.{AreTold, ClosesBy, HasSome, IsTold, PutTurn, PutsSound, StoodBy, TakenIn, Tells, TellsOf, filled_after, filled_of, pieces_of, pieces_on}
-use Rattle.pingora_cache.specs.Rules.{IsCopy}
+use Rattle.pcache_history.specs.Held.{Held, is_done, number_of, outcome, request_of, row, taken_over, turned_by}
+use Rattle.pingora_cache.specs.Untold.{untold, uncounted, untold_put}
+use Rattle.pcache_history.specs.PutHistory.{AreTold, ClosesBy, IsTold, StoodBy, Tells, TellsOf, filled_after, filled_of, pieces_of, pieces_on}
+use Rattle.pingora_cache.specs.PutsSound.{HasSome, PutTurn, PutsSound, TakenIn}
+use Rattle.pcache_history.specs.Rules.{IsCopy}
 use Rattle.pingora_cache.specs.Sound.{AreOpen}
 use Rattle.pingora_cache.specs.Step.{IsRow}
-use Rattle.pingora_cache.specs.Taking.{Taking, uncounted, untold_put}
-use Rattle.pingora_cache.proofs.Copied.{outcome-copied, row-copied}
+use Rattle.pcache_history.specs.Taking.{Taking}
+use Rattle.pcache_history.proofs.Copied.{outcome-copied, row-copied}
 use Rattle.pingora_cache.proofs.MovedState.{set_to}
 use Rattle.pingora_cache.proofs.Opened.{get-set_to}
-use Rattle.pingora_cache.proofs.Taken.{taken_keeps}
+use Rattle.pcache_history.proofs.Taken.{taken_keeps}
 use Rattle.pingora_cache.proofs.Turned.{at-number, lookup-get}
 use Rattle.pingora_cache.proofs.Untold.{row-at}
 

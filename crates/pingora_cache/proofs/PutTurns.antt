@@ -11,22 +11,24 @@ use Rattle.pcache_put_ctx.specs.Puts.{Piece, Says}
 use Rattle.pcache_request.specs.declared.cache.lock_use.CacheOptionOverrides.{CacheOptionOverrides}
 use Rattle.pcache_put_ctx.specs.State.{Filled}
 use Rattle.pcache_store.specs.Store.{Store}
-use Rattle.pingora_cache.specs.declared.world.call.Call.{Call}
-use Rattle.pingora_cache.specs.declared.world.call.Call.TheVariants as C
-use Rattle.pingora_cache.specs.declared.world.call.Reply.{Reply}
-use Rattle.pingora_cache.specs.declared.world.call.Reply.TheVariants as R
-use Rattle.pingora_cache.specs.declared.world.entry.Event.{Event}
-use Rattle.pingora_cache.specs.Deeds.{deeds_by, deeds_in, held_in, moment_of, said_by, status_left}
-use Rattle.pingora_cache.specs.Due.{IsOfWorld, KeepsKey}
-use Rattle.pingora_cache.specs.Facts.{Facts, facts_in, no_facts, request_in}
-use Rattle.pingora_cache.specs.Held.{Held, IsHeldPut, Outcome, was_wrong, held_put, is_done, is_wrong, number_of, outcome, row}
+use Rattle.pcache_history.specs.declared.call.Call.{Call}
+use Rattle.pcache_history.specs.declared.call.Call.TheVariants as C
+use Rattle.pcache_history.specs.declared.call.Reply.{Reply}
+use Rattle.pcache_history.specs.declared.call.Reply.TheVariants as R
+use Rattle.pcache_history.specs.declared.entry.Event.{Event}
+use Rattle.pcache_history.specs.Deeds.{deeds_by, deeds_in, held_in, moment_of, said_by, status_left}
+use Rattle.pcache_history.specs.Due.{IsOfWorld, KeepsKey, IsOfWorldIn}
+use Rattle.pcache_history.specs.Facts.{Facts, request_in}
+use Rattle.pingora_cache.specs.PartFacts.{facts_in, no_facts}
+use Rattle.pcache_history.specs.Held.{Held, IsHeldPut, Outcome, was_wrong, held_put, is_done, is_wrong, number_of, outcome, row}
 use Rattle.pingora_cache.specs.LockMoves.{MovesLocks}
 use Rattle.pingora_cache.specs.Moved.{Moves, MovesRequest, MovesStore}
-use Rattle.pingora_cache.specs.PutHistory.{ClosesBy, HasSome, PutTurn, TakenIn, filled_after, pieces_on}
-use Rattle.pingora_cache.specs.Rules.{Answers, Closes, FindsKind, IsDone, IsIdle, IsOfKind, IsOther, MayBe, Replies, drop_of, let_go_of}
-use Rattle.pingora_cache.specs.Step.{IsOfOpen, IsOfWorldIn, IsPutIn, IsRequestIn, IsRow, IsRowed, IsTurned, Turn}
-use Rattle.pingora_cache.specs.Taking.{Taking, new_put}
-use Rattle.pingora_cache.specs.Waiting.{AreOfNoLock}
+use Rattle.pcache_history.specs.PutHistory.{ClosesBy, filled_after, pieces_on}
+use Rattle.pingora_cache.specs.PutsSound.{HasSome, PutTurn, TakenIn}
+use Rattle.pcache_history.specs.Rules.{Answers, Closes, FindsKind, IsDone, IsIdle, IsOfKind, IsOther, MayBe, Replies, drop_of, let_go_of}
+use Rattle.pingora_cache.specs.Step.{IsOfOpen, IsPutIn, IsRequestIn, IsRow, IsRowed, IsTurned, Turn}
+use Rattle.pcache_history.specs.Taking.{Taking, new_put}
+use Rattle.pcache_history.specs.Waiting.{AreOfNoLock}
 use Rattle.pingora_cache.proofs.LockSteps.{no_locks_move, quiet-deeds}
 use Rattle.pingora_cache.proofs.TurnOf.{none-says, row-at}
 
@@ -51,10 +53,6 @@ puts-plain says call reply events q q' x y is now before after =
 wrong-pieces : (call : Call) (pieces : List Piece) → pieces_on call was_wrong pieces ≡ pieces
 wrong-pieces (C.Put r k limit) pieces = refl
 wrong-pieces call pieces = refl
-
-pub wrong-filled : (call : Call) (f : Option Filled) → filled_after call was_wrong [] f ≡ f
-wrong-filled (C.Put r k limit) f = refl
-wrong-filled call f = refl
 
 none-told : (says : Says) (p : Option Held) (pieces : List Piece) (f : Option Filled) → ClosesBy says (C.Close 0) p pieces f R.WrongCall
 none-told says None pieces f = tt

@@ -8,11 +8,11 @@ use Rattle.pcache_base.proofs.Totals.{total-empty, total-insert, total-remove}
 use Rattle.pcache_lock.specs.Permits.{Reader}
 use Rattle.pcache_lock.specs.declared.lock.permit.Locked.{Locked}
 use Rattle.pcache_lock.specs.declared.lock.permit.Locked.TheVariants.{Write, Read}
-use Rattle.pingora_cache.specs.Deeds.{held_in}
-use Rattle.pingora_cache.specs.Held.{Held}
+use Rattle.pcache_history.specs.Deeds.{held_in}
+use Rattle.pcache_history.specs.Held.{Held}
 use Rattle.pingora_cache.specs.LockTable.{locks_read, locks_read_in, read_locks}
 use Rattle.pingora_cache.proofs.MovedState.{set_to}
-use Rattle.pingora_cache.proofs.Sums.{same-number}
+use Rattle.pcache_history.proofs.Sums.{same-number}
 
 pub locks-none : (l : ℕ) → read_locks empty l ≡ 0
 locks-none l = total-empty nat_cmp_total (locks_read_in l)

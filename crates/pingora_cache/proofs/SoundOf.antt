@@ -9,21 +9,22 @@ use Rattle.pcache_base.proofs.Totals.{total-remove}
 use Rattle.pcache_evict.specs.Tracked.{Tracked, Limits}
 use Rattle.pcache_lock.specs.Locks.{Locks}
 use Rattle.pcache_store.specs.Store.{Store}
-use Rattle.pingora_cache.specs.declared.world.entry.Entry.{Entry}
-use Rattle.pingora_cache.specs.declared.world.entry.Event.{Event}
-use Rattle.pingora_cache.specs.Events.{in_flight, tracked, option_any}
-use Rattle.pingora_cache.specs.Deeds.{deeds_of}
-use Rattle.pingora_cache.specs.Held.{Held, request_of, untold}
-use Rattle.pingora_cache.specs.History.{events_of}
-use Rattle.pingora_cache.specs.Due.{makes_of, slot_of}
-use Rattle.pingora_cache.specs.Legal.{IsLegal}
+use Rattle.pcache_history.specs.declared.entry.Entry.{Entry}
+use Rattle.pcache_history.specs.declared.entry.Event.{Event}
+use Rattle.pcache_history.specs.Events.{in_flight, tracked, option_any}
+use Rattle.pcache_history.specs.Deeds.{deeds_of}
+use Rattle.pcache_history.specs.Held.{Held, request_of}
+use Rattle.pingora_cache.specs.Untold.{untold}
+use Rattle.pcache_history.specs.History.{events_of}
+use Rattle.pcache_history.specs.Due.{makes_of, slot_of}
+use Rattle.pcache_history.specs.Legal.{IsLegal}
 use Rattle.pingora_cache.specs.LockTable.{IsTable, read_locks}
 use Rattle.pingora_cache.specs.Sound.{AllHold, IsState, AreOpen, AreHeld, IsSound, readers, writers_in}
-use Rattle.pingora_cache.specs.Waiting.{IsLocked}
+use Rattle.pingora_cache.specs.TableWaiting.{IsLocked}
 use Rattle.pingora_cache.proofs.Counts.{writes-one}
-use Rattle.pingora_cache.proofs.Sums.{cmp_same, total-zero}
-use Rattle.pingora_cache.proofs.Due.{AreMade}
-use Rattle.pingora_cache.proofs.Laws.{legal_kept}
+use Rattle.pcache_history.proofs.Sums.{cmp_same, total-zero}
+use Rattle.pcache_history.proofs.Due.{AreMade}
+use Rattle.pcache_history.proofs.WriteLaws.{legal_kept}
 
 -- Who holds a write.
 

@@ -14,15 +14,15 @@ use Rattle.pcache_base.specs.declared.poll.Poll.TheVariants.{Ready, Pending}
 use Rattle.pcache_table.specs.Numbers.{first_key, least}
 use Rattle.pcache_store.specs.Store.{Store, Slot, Stored, Written, Reader, Whole, Part, found_body, found_part, found_first, found_in, find, found_flying, find_write, followed, is_untouched_in, is_idle, is_untouched_on, is_untouched, read_part, read_of, place_after, reader_after}
 use Rattle.pcache_store.specs.Store as store
-use Rattle.pingora_cache.specs.declared.world.entry.Answer.{Answer}
-use Rattle.pingora_cache.specs.declared.world.entry.Answer.TheVariants as A
-use Rattle.pingora_cache.specs.declared.world.entry.Event.{Event}
-use Rattle.pingora_cache.specs.Events as ev
-use Rattle.pingora_cache.specs.Events.{begin_of, in_flight, is_of, is_open, is_removed, complete}
-use Rattle.pingora_cache.specs.Held.{pair_of, read_past}
-use Rattle.pingora_cache.specs.History.{Finds, HasAny, reads}
+use Rattle.pcache_history.specs.declared.entry.Answer.{Answer}
+use Rattle.pcache_history.specs.declared.entry.Answer.TheVariants as A
+use Rattle.pcache_history.specs.declared.entry.Event.{Event}
+use Rattle.pcache_history.specs.Events as ev
+use Rattle.pcache_history.specs.Events.{begin_of, in_flight, is_of, is_open, is_removed, complete}
+use Rattle.pcache_history.specs.Held.{pair_of, read_past}
+use Rattle.pcache_history.specs.History.{Finds, HasAny, reads}
 use Rattle.pingora_cache.specs.Sound.{follows, IsState}
-use Rattle.pingora_cache.proofs.Sums.{cmp_same, same-number}
+use Rattle.pcache_history.proofs.Sums.{cmp_same, same-number}
 use Rattle.pingora_cache.proofs.StateWrites.{kept_as, begun-flying, record-flying, record-read, part_of}
 
 -- ---- the least number

@@ -3,7 +3,7 @@ use Rattle.std.proofs.Common.{◌≡◌, ℕ, cond, None, Some, ap, ◌∙◌}
 use Rattle.std.specs.FinMap.{get}
 use Rattle.pcache_meta.specs.Meta.{Meta}
 use Rattle.pcache_store.specs.Store.{Store, Part, begun, found_flying, find_write, new_write}
-use Rattle.pingora_cache.proofs.Sums.{same-number}
+use Rattle.pcache_history.proofs.Sums.{same-number}
 use Rattle.pingora_cache.proofs.StateWrites.{get-set}
 
 -- the write that begins can be joined at once

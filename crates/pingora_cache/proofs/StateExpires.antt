@@ -6,11 +6,12 @@ use Rattle.std.specs.FinMap.{FinMap, get, contains_key}
 use Rattle.std.proofs.lemmas.Bool.{eqb-true}
 use Rattle.pcache_meta.specs.Meta.{Meta, expired_at}
 use Rattle.pcache_store.specs.Store.{Store, Slot, Stored, is_untouched_in, is_idle, complete_body, with_meta, meta_changed_in, meta_changed_on, meta_changed}
-use Rattle.pingora_cache.specs.declared.world.entry.Event.{Event}
-use Rattle.pingora_cache.specs.declared.world.entry.Event.TheVariants.{Expire, Renew}
-use Rattle.pingora_cache.specs.Events.{complete, is_open}
-use Rattle.pingora_cache.specs.Sound.{IsTidy, IsState}
-use Rattle.pingora_cache.proofs.Steps.{complete-expire, complete-renew, altered_body}
+use Rattle.pcache_history.specs.declared.entry.Event.{Event}
+use Rattle.pcache_history.specs.declared.entry.Event.TheVariants.{Expire, Renew}
+use Rattle.pcache_history.specs.Events.{complete, is_open}
+use Rattle.pingora_cache.specs.Sound.{IsState}
+use Rattle.pcache_history.specs.Kept.{IsTidy}
+use Rattle.pcache_history.proofs.Steps.{complete-expire, complete-renew, altered_body}
 use Rattle.pingora_cache.proofs.StateSlots.{filled-at}
 use Rattle.pingora_cache.proofs.StateWrites.{get-set}
 

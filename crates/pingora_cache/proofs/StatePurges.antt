@@ -9,11 +9,12 @@ use Rattle.pcache_evict.specs.declared.eviction.entry_key.CacheEntryKey.{CacheEn
 use Rattle.pcache_store.specs.Store.{Store, Slot, is_untouched_in, is_idle, complete_body, purged}
 use Rattle.pcache_store.specs.Purge.{purged_at}
 use Rattle.pcache_request.specs.Finishing.{PurgesAll, entry_slot}
-use Rattle.pingora_cache.specs.declared.world.entry.Event.{Event}
-use Rattle.pingora_cache.specs.declared.world.entry.Event.TheVariants.{Admit, Purge}
-use Rattle.pingora_cache.specs.Events.{begun, begin_of, since, removes, names_slot, names_key, option_any, in_flight, is_open, complete}
-use Rattle.pingora_cache.specs.Sound.{record_of, IsTidy, IsState}
-use Rattle.pingora_cache.proofs.Steps.{complete-purge, complete-admit}
+use Rattle.pcache_history.specs.declared.entry.Event.{Event}
+use Rattle.pcache_history.specs.declared.entry.Event.TheVariants.{Admit, Purge}
+use Rattle.pcache_history.specs.Events.{begun, begin_of, since, removes, names_slot, names_key, option_any, in_flight, is_open, complete}
+use Rattle.pingora_cache.specs.Sound.{record_of, IsState}
+use Rattle.pcache_history.specs.Kept.{IsTidy}
+use Rattle.pcache_history.proofs.Steps.{complete-purge, complete-admit}
 use Rattle.pingora_cache.proofs.StateWrites.{get-unset}
 
 -- the store is what the events say, less the keys of a test

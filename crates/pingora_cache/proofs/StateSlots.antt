@@ -6,13 +6,14 @@ use Rattle.std.specs.FinMap.{FinMap, get, insert, remove, contains_key, len, get
 use Rattle.std.proofs.lemmas.Bool.{eqb-true, both_ways, and_parts, cases_lt, false_from_ne_true, and_right}
 use Rattle.pcache_meta.specs.Meta.{Meta}
 use Rattle.pcache_store.specs.Store.{Store, Slot, Stored, is_untouched_in, is_idle, complete_body, with_slot, slot_or_new, opened_in, opened, new_write, begun, grounded, shut_on, shut, dropped_on, dropped, stored_on, finished_on, finished}
-use Rattle.pingora_cache.specs.declared.world.entry.Event.{Event}
-use Rattle.pingora_cache.specs.declared.world.entry.Event.TheVariants.{Begin, Finish, Dropped}
-use Rattle.pingora_cache.specs.Events as ev
-use Rattle.pingora_cache.specs.Events.{begin_of, since, removes, option_any, is_removed, has_ended, in_flight, is_told, is_of, is_open, complete}
-use Rattle.pingora_cache.specs.Sound.{record_of, IsTidy, IsState}
-use Rattle.pingora_cache.proofs.Steps.{complete-begin, complete-finish}
-use Rattle.pingora_cache.proofs.Sums.{same-number}
+use Rattle.pcache_history.specs.declared.entry.Event.{Event}
+use Rattle.pcache_history.specs.declared.entry.Event.TheVariants.{Begin, Finish, Dropped}
+use Rattle.pcache_history.specs.Events as ev
+use Rattle.pcache_history.specs.Events.{begin_of, since, removes, option_any, is_removed, has_ended, in_flight, is_told, is_of, is_open, complete}
+use Rattle.pingora_cache.specs.Sound.{record_of, IsState}
+use Rattle.pcache_history.specs.Kept.{IsTidy}
+use Rattle.pcache_history.proofs.Steps.{complete-begin, complete-finish}
+use Rattle.pcache_history.proofs.Sums.{same-number}
 use Rattle.pingora_cache.proofs.StateWrites.{get-set, get-unset, get-kept, changed-at, kept_as, recorded, begun-flying, record-flying}
 
 -- ---- slots that hold nothing

@@ -14,12 +14,12 @@ use Rattle.pcache_base.specs.Totals.{total, share}
 use Rattle.pcache_base.proofs.Totals.{total-remove, get-remove_apart}
 use Rattle.pcache_store.specs.Store.{Store, Slot, Stored, complete_body}
 use Rattle.pcache_store.specs.Totals as totals
-use Rattle.pingora_cache.specs.declared.world.entry.Event.{Event}
-use Rattle.pingora_cache.specs.declared.world.entry.Event.TheVariants.{Look, Ask, Access, Begin, Wrote, Finish, Dropped, Release, LetGo, Aged, Admit, Purge, Expire, Renew, Untrack, Read}
-use Rattle.pingora_cache.specs.Events.{begin_of, option_any, is_removed, last_finished, body_stored, complete, with_key, finished_keys, stored_size, stored, slots}
+use Rattle.pcache_history.specs.declared.entry.Event.{Event}
+use Rattle.pcache_history.specs.declared.entry.Event.TheVariants.{Look, Ask, Access, Begin, Wrote, Finish, Dropped, Release, LetGo, Aged, Admit, Purge, Expire, Renew, Untrack, Read}
+use Rattle.pcache_history.specs.Events.{begin_of, option_any, is_removed, last_finished, body_stored, complete, with_key, finished_keys, stored_size, stored, slots}
 use Rattle.pingora_cache.specs.Sound.{IsState}
-use Rattle.pingora_cache.proofs.Bound.{keys_distinct}
-use Rattle.pingora_cache.proofs.Sums.{cmp_same, zero-remove, total-zero}
+use Rattle.pcache_history.proofs.Bound.{keys_distinct}
+use Rattle.pcache_history.proofs.Sums.{cmp_same, zero-remove, total-zero}
 
 -- ---- a sum over keys, if the map's other keys add nothing
 

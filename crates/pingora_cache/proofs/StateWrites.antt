@@ -9,12 +9,13 @@ use Rattle.std.proofs.lemmas.Bool.{eqb-true, both_ways, or_right}
 use Rattle.pcache_meta.specs.Meta.{Meta}
 use Rattle.pcache_store.specs.Store.{Store, Written, Reader, Whole, Part, is_named, kept, joined_on, joined, followed_by, followed, left_on, left}
 use Rattle.pcache_request.specs.Requests.{left_by}
-use Rattle.pingora_cache.specs.declared.world.entry.Event.{Event}
-use Rattle.pingora_cache.specs.Events.{begin_of, in_flight, is_told, body_of}
-use Rattle.pingora_cache.specs.Sound.{follows, pair_reader, record_of, IsState}
+use Rattle.pcache_history.specs.declared.entry.Event.{Event}
+use Rattle.pcache_history.specs.Events.{begin_of, in_flight, is_told, body_of}
+use Rattle.pingora_cache.specs.Sound.{follows, record_of, IsState}
+use Rattle.pcache_history.specs.Held.{pair_reader}
 use Rattle.pingora_cache.proofs.States.{state-same}
-use Rattle.pingora_cache.proofs.Steps.{flies}
-use Rattle.pingora_cache.proofs.Sums.{cmp_same, same-number}
+use Rattle.pcache_history.proofs.Steps.{flies}
+use Rattle.pcache_history.proofs.Sums.{cmp_same, same-number}
 
 -- ---- one write set or taken out
 

@@ -3,12 +3,13 @@ use Rattle.std.proofs.Common.{◌≡◌, ℕ, Bool, true, if◌then◌else◌, S
 use Rattle.std.specs.FinMap.{get}
 use Rattle.pcache_meta.specs.Meta.{Meta}
 use Rattle.pcache_store.specs.Store.{Store, wrote_on, wrote}
-use Rattle.pingora_cache.specs.declared.world.entry.Event.{Event}
-use Rattle.pingora_cache.specs.declared.world.entry.Event.TheVariants.{Wrote}
-use Rattle.pingora_cache.specs.Events.{begin_of, body_of, is_told, in_flight}
-use Rattle.pingora_cache.specs.Sound.{record_of, IsTidy, IsState}
-use Rattle.pingora_cache.proofs.Steps.{complete-wrote}
-use Rattle.pingora_cache.proofs.Sums.{same-number}
+use Rattle.pcache_history.specs.declared.entry.Event.{Event}
+use Rattle.pcache_history.specs.declared.entry.Event.TheVariants.{Wrote}
+use Rattle.pcache_history.specs.Events.{begin_of, body_of, is_told, in_flight}
+use Rattle.pingora_cache.specs.Sound.{record_of, IsState}
+use Rattle.pcache_history.specs.Kept.{IsTidy}
+use Rattle.pcache_history.proofs.Steps.{complete-wrote}
+use Rattle.pcache_history.proofs.Sums.{same-number}
 use Rattle.pingora_cache.proofs.StateWrites.{get-set, changed-at, kept_as, recorded, begun-flying, record-flying}
 
 module _ (es : List Event) (n : ℕ → ℕ) (s : Store) (w : ℕ) (bytes : List ℕ) (eof : Bool) (tidy : IsTidy es) (fly : in_flight w es ≡ true) (st : IsState es n s) where

@@ -5,9 +5,9 @@ use Rattle.std.specs.FinMap as map
 use Rattle.pcache_base.specs.declared.poll.Poll.{Poll}
 use Rattle.pcache_evict.specs.declared.eviction.entry_key.CacheEntryKey.{CacheEntryKey}
 use Rattle.pcache_store.specs.Store.{Store, Slot, complete_body, is_untouched_in}
-use Rattle.pingora_cache.specs.declared.world.entry.Answer.{Answer}
-use Rattle.pingora_cache.specs.declared.world.entry.Event.{Event}
-use Rattle.pingora_cache.specs.declared.world.entry.Event.TheVariants.{Look, Ask, Access, Release, LetGo, Aged, Untrack, Read}
+use Rattle.pcache_history.specs.declared.entry.Answer.{Answer}
+use Rattle.pcache_history.specs.declared.entry.Event.{Event}
+use Rattle.pcache_history.specs.declared.entry.Event.TheVariants.{Look, Ask, Access, Release, LetGo, Aged, Untrack, Read}
 use Rattle.pingora_cache.specs.Sound.{IsState}
 
 pub state-none : (s : Store) → s.slots ≡ map.empty → s.writes ≡ map.empty → s.next ≡ 0 → IsState [] (λ _. 0) s

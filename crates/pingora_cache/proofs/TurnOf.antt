@@ -9,19 +9,21 @@ use Rattle.pcache_lock.specs.Locks.{Locks}
 use Rattle.pcache_lock.specs.declared.lock.status.LockStatus.TheVariants.{Done}
 use Rattle.pcache_store.specs.Store.{Store}
 use Rattle.pcache_request.specs.declared.cache.lock_use.CacheOptionOverrides.{CacheOptionOverrides}
-use Rattle.pingora_cache.specs.declared.world.call.Call.{Call}
-use Rattle.pingora_cache.specs.declared.world.call.Call.TheVariants as C
-use Rattle.pingora_cache.specs.declared.world.call.Reply.{Reply}
-use Rattle.pingora_cache.specs.declared.world.call.Reply.TheVariants as R
-use Rattle.pingora_cache.specs.declared.world.entry.Event.{Event}
-use Rattle.pingora_cache.specs.Deeds.{deeds_by, deeds_in, held_in, said_by}
-use Rattle.pingora_cache.specs.Due.{IsOfWorld, KeepsKey}
-use Rattle.pingora_cache.specs.Facts.{Facts, facts_in, no_facts, request_in}
-use Rattle.pingora_cache.specs.Held.{Held, Change, opens, closes, stays, turns, turns_by, shuts, looks, takes, begins, ends, reads_on, seeks, reads_no_more, renews, waits, pushes, feeds, goes, change_of, changed, is_done, number_of, opened, outcome, row, untold, was_wrong}
+use Rattle.pcache_history.specs.declared.call.Call.{Call}
+use Rattle.pcache_history.specs.declared.call.Call.TheVariants as C
+use Rattle.pcache_history.specs.declared.call.Reply.{Reply}
+use Rattle.pcache_history.specs.declared.call.Reply.TheVariants as R
+use Rattle.pcache_history.specs.declared.entry.Event.{Event}
+use Rattle.pcache_history.specs.Deeds.{deeds_by, deeds_in, held_in, said_by}
+use Rattle.pcache_history.specs.Due.{IsOfWorld, KeepsKey, IsOfWorldIn}
+use Rattle.pcache_history.specs.Facts.{Facts, request_in}
+use Rattle.pingora_cache.specs.PartFacts.{facts_in, no_facts}
+use Rattle.pcache_history.specs.Held.{Held, Change, opens, closes, stays, turns, turns_by, shuts, looks, takes, begins, ends, reads_on, seeks, reads_no_more, renews, waits, pushes, feeds, goes, change_of, changed, is_done, number_of, opened, outcome, row, was_wrong}
+use Rattle.pingora_cache.specs.Untold.{untold}
 use Rattle.pingora_cache.specs.LockMoves.{MovesLocks}
 use Rattle.pingora_cache.specs.Moved.{Moves, MovesRequest, MovesStore}
-use Rattle.pingora_cache.specs.Rules.{MayBe, Replies}
-use Rattle.pingora_cache.specs.Step.{IsMoved, IsOfOpen, IsOfWorldIn, IsRow, IsRowed, Turn}
+use Rattle.pcache_history.specs.Rules.{MayBe, Replies}
+use Rattle.pingora_cache.specs.Step.{IsMoved, IsOfOpen, IsRow, IsRowed, Turn}
 use Rattle.pingora_cache.proofs.LockSteps.{no_locks_move}
 use Rattle.pingora_cache.proofs.MovesOf.{idle}
 

@@ -9,16 +9,18 @@ use Rattle.std.proofs.lemmas.Bool.Decides.{nat_tests}
 use Rattle.pcache_evict.specs.Tracked.{Tracked, Limits}
 use Rattle.pcache_lock.specs.Locks.{Locks}
 use Rattle.pcache_store.specs.Store.{Store}
-use Rattle.pingora_cache.specs.declared.world.call.Call.{Call}
-use Rattle.pingora_cache.specs.declared.world.call.Reply.{Reply}
-use Rattle.pingora_cache.specs.declared.world.entry.Entry.{Entry}
-use Rattle.pingora_cache.specs.declared.world.entry.Event.{Event}
-use Rattle.pingora_cache.specs.Held.{Held, number_of, untold}
+use Rattle.pcache_history.specs.declared.call.Call.{Call}
+use Rattle.pcache_history.specs.declared.call.Reply.{Reply}
+use Rattle.pcache_history.specs.declared.entry.Entry.{Entry}
+use Rattle.pcache_history.specs.declared.entry.Event.{Event}
+use Rattle.pcache_history.specs.Held.{Held, number_of, IsOfOne}
+use Rattle.pingora_cache.specs.Untold.{untold}
 use Rattle.pingora_cache.specs.LockTable.{read_locks}
-use Rattle.pingora_cache.specs.Rules.{IsCopy}
+use Rattle.pcache_history.specs.Rules.{IsCopy}
 use Rattle.pingora_cache.specs.Sound.{IsSound}
-use Rattle.pingora_cache.specs.Step.{Turn, IsOfOne, IsOfWorldIn, IsMoved}
-use Rattle.pingora_cache.proofs.Laws.{legal_world}
+use Rattle.pingora_cache.specs.Step.{Turn, IsMoved}
+use Rattle.pcache_history.specs.Due.{IsOfWorldIn}
+use Rattle.pcache_history.proofs.WriteLaws.{legal_world}
 use Rattle.pingora_cache.proofs.MovedState.{set_to}
 use Rattle.pingora_cache.proofs.Opened.{get-set_to}
 use Rattle.pingora_cache.proofs.ReadLocks.{locks-few}

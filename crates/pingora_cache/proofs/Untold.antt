@@ -32,26 +32,28 @@ use Rattle.pcache_request.specs.declared.phase.CachePhase.{CachePhase}
 use Rattle.pcache_request.specs.declared.phase.CachePhase.TheVariants as phase
 use Rattle.pcache_request.specs.declared.phase.HitStatus.{HitStatus}
 use Rattle.pcache_store.specs.Store.{Reader, Store}
-use Rattle.pingora_cache.specs.declared.world.call.Call.{Call}
-use Rattle.pingora_cache.specs.declared.world.call.Call.TheVariants as C
-use Rattle.pingora_cache.specs.declared.world.call.LockKind.{LockKind}
-use Rattle.pingora_cache.specs.declared.world.call.Reply.{Reply}
-use Rattle.pingora_cache.specs.declared.world.call.Reply.TheVariants as R
-use Rattle.pingora_cache.specs.declared.world.entry.Answer.{Answer}
-use Rattle.pingora_cache.specs.declared.world.entry.Event.{Event}
-use Rattle.pingora_cache.specs.declared.world.entry.Event.TheVariants as E
-use Rattle.pingora_cache.specs.Deeds.{deeds_by, deeds_in, held_in, moment_of, said_by, status_left}
-use Rattle.pingora_cache.specs.Due.{IsOfWorld, KeepsKey, makes_of, reader_for, slot_of}
-use Rattle.pingora_cache.specs.Facts.{Facts, facts_in, request_in}
-use Rattle.pingora_cache.specs.Held.{Held, Outcome, was_done, was_waited, opened, is_done, is_taken, is_wrong, number_of, outcome, on_request, pair_of, with_given, asked, carrying, decides, looked_with, looked_by, looks_for, placed_by, taken_by, turned_by, shut_by, without_pair, fed, fed_in, held_put, began, ended, has_read, waited_by, row, row_by, untold}
+use Rattle.pcache_history.specs.declared.call.Call.{Call}
+use Rattle.pcache_history.specs.declared.call.Call.TheVariants as C
+use Rattle.pcache_history.specs.declared.call.LockKind.{LockKind}
+use Rattle.pcache_history.specs.declared.call.Reply.{Reply}
+use Rattle.pcache_history.specs.declared.call.Reply.TheVariants as R
+use Rattle.pcache_history.specs.declared.entry.Answer.{Answer}
+use Rattle.pcache_history.specs.declared.entry.Event.{Event}
+use Rattle.pcache_history.specs.declared.entry.Event.TheVariants as E
+use Rattle.pcache_history.specs.Deeds.{deeds_by, deeds_in, held_in, moment_of, said_by, status_left}
+use Rattle.pcache_history.specs.Due.{IsOfWorld, KeepsKey, makes_of, reader_for, slot_of}
+use Rattle.pcache_history.specs.Facts.{Facts, request_in}
+use Rattle.pingora_cache.specs.PartFacts.{facts_in}
+use Rattle.pcache_history.specs.Held.{Held, Outcome, was_done, was_waited, opened, is_done, is_taken, is_wrong, number_of, outcome, on_request, pair_of, with_given, asked, carrying, decides, looked_with, looked_by, looks_for, placed_by, taken_by, turned_by, shut_by, without_pair, fed, fed_in, held_put, began, ended, has_read, waited_by, row, row_by}
+use Rattle.pingora_cache.specs.Untold.{untold, uncounted, untold_put, untold_lock, untold_reader, untold_request, untold_watch}
 use Rattle.pingora_cache.specs.Moved.{reads_of}
-use Rattle.pingora_cache.specs.Rules.{Answers, AsksIf, Closes, Does, Feeds, FindsKind, IsOfKind, Replies, Finishes, HandsOn, IsLockRefusal, IsStarved, Looks, LooksOn, MayBe, Misses, Takes, Waits, accesses}
+use Rattle.pcache_history.specs.Rules.{Answers, AsksIf, Closes, Does, Feeds, FindsKind, IsOfKind, Replies, Finishes, HandsOn, IsLockRefusal, IsStarved, Looks, LooksOn, MayBe, Misses, Takes, Waits, accesses}
 use Rattle.pingora_cache.specs.Step.{IsRow}
-use Rattle.pingora_cache.specs.Taking.{Taking, counted_none, new_put, uncounted, untold_put}
+use Rattle.pcache_history.specs.Taking.{Taking, counted_none, new_put}
 use Rattle.pcache_put.specs.Progress.{AtHead}
 use Rattle.pcache_put.specs.Counted.{Counted}
 use Rattle.pcache_put_ctx.specs.State.{InHead}
-use Rattle.pingora_cache.specs.Untold.{fills_of, reader_watching, untold_lock, untold_reader, untold_request, untold_watch, waited_on, waited_with}
+use Rattle.pcache_history.specs.Watching.{fills_of, reader_watching, waited_on, waited_with}
 
 -- ---- twice
 

@@ -20,15 +20,15 @@ use Rattle.pcache_request.specs.LockWaits.{after_wait, answer_by, finds_too_old,
 use Rattle.pcache_request.specs.Reports.{name_of}
 use Rattle.pcache_request.specs.Requests.{Request}
 use Rattle.pcache_request.specs.declared.cache.report.LockName.{LockName}
-use Rattle.pingora_cache.specs.declared.world.call.Call.TheVariants as C
-use Rattle.pingora_cache.specs.declared.world.call.Reply.{Reply}
-use Rattle.pingora_cache.specs.declared.world.entry.Event.{Event}
-use Rattle.pingora_cache.specs.declared.world.entry.Event.TheVariants as E
-use Rattle.pingora_cache.specs.Deeds.{Deed, Aged, deeds_in}
-use Rattle.pingora_cache.specs.Due.{IsOfWorld, KeepsIn}
-use Rattle.pingora_cache.specs.Held.{outcome, waited_by, was_waited}
+use Rattle.pcache_history.specs.declared.call.Call.TheVariants as C
+use Rattle.pcache_history.specs.declared.call.Reply.{Reply}
+use Rattle.pcache_history.specs.declared.entry.Event.{Event}
+use Rattle.pcache_history.specs.declared.entry.Event.TheVariants as E
+use Rattle.pcache_history.specs.Deeds.{Deed, Aged, deeds_in}
+use Rattle.pcache_history.specs.Due.{IsOfWorld, KeepsIn}
+use Rattle.pcache_history.specs.Held.{outcome, waited_by, was_waited}
 use Rattle.pingora_cache.specs.LockMoves.{MovesLocks, ages, lets_go, polls}
-use Rattle.pingora_cache.specs.Rules.{each, number_read, wait_reply, was_polled}
+use Rattle.pcache_history.specs.Rules.{each, number_read, wait_reply, was_polled}
 use Rattle.pingora_cache.specs.Untold.{untold_request}
 use Rattle.pingora_cache.proofs.MovesOf.{AreQuiet}
 use Rattle.pingora_cache.proofs.Untold.{waited-untold}

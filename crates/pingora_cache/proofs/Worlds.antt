@@ -8,18 +8,18 @@ use Rattle.pcache_evict.specs.Tracked.{Tracked, Limits}
 use Rattle.pcache_evict.specs.declared.eviction.entry_key.CacheEntryKey.{CacheEntryKey}
 use Rattle.pcache_lock.specs.Locks.{Locks, no_locks}
 use Rattle.pcache_store.specs.Store.{Store}
-use Rattle.pingora_cache.specs.declared.world.call.Call.{Call}
-use Rattle.pingora_cache.specs.declared.world.call.Call.TheVariants as C
-use Rattle.pingora_cache.specs.declared.world.call.Reply.{Reply}
-use Rattle.pingora_cache.specs.declared.world.entry.Entry.{Entry}
-use Rattle.pingora_cache.specs.declared.world.entry.Event.{Event}
+use Rattle.pcache_history.specs.declared.call.Call.{Call}
+use Rattle.pcache_history.specs.declared.call.Call.TheVariants as C
+use Rattle.pcache_history.specs.declared.call.Reply.{Reply}
+use Rattle.pcache_history.specs.declared.entry.Entry.{Entry}
+use Rattle.pcache_history.specs.declared.entry.Event.{Event}
 use Rattle.pcache_put_ctx.specs.Puts.{Says}
 use Rattle.pingora_cache.specs.Handing.{Acts, of_one, of_two, open_at}
-use Rattle.pingora_cache.specs.Held.{Held, number_of}
+use Rattle.pcache_history.specs.Held.{Held, number_of}
 use Rattle.pingora_cache.specs.LockTable.{IsTable, read_locks}
-use Rattle.pingora_cache.specs.Log.{started}
-use Rattle.pingora_cache.specs.Rules.{IsCopy}
-use Rattle.pingora_cache.specs.PutHistory.{HasSome, PutTurn, PutsSound}
+use Rattle.pcache_history.specs.Log.{started}
+use Rattle.pcache_history.specs.Rules.{IsCopy}
+use Rattle.pingora_cache.specs.PutsSound.{HasSome, PutTurn, PutsSound}
 use Rattle.pingora_cache.specs.Sound.{IsSound, readers}
 use Rattle.pingora_cache.proofs.Counts.{readers-none}
 use Rattle.pingora_cache.proofs.Handing.{give_age, give_sound, hands-by-map}

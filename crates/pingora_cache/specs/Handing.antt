@@ -9,16 +9,18 @@ use Rattle.pcache_lock.specs.Locks.{Locks}
 use Rattle.pcache_lock.specs.Permits.{Permit}
 use Rattle.pcache_request.specs.LockUse.{table_handed, unheld}
 use Rattle.pcache_store.specs.Store.{Store}
-use Rattle.pingora_cache.specs.declared.world.call.Call.{Call}
-use Rattle.pingora_cache.specs.declared.world.call.Call.TheVariants as C
-use Rattle.pingora_cache.specs.declared.world.call.Reply.{Reply}
-use Rattle.pingora_cache.specs.declared.world.entry.Event.{Event}
-use Rattle.pingora_cache.specs.Facts.{facts_for, request_in}
-use Rattle.pingora_cache.specs.Held.{Held, Outcome, was_done, handed_by, number_of, on_request, outcome, permit_held, row, taken_over}
+use Rattle.pcache_history.specs.declared.call.Call.{Call}
+use Rattle.pcache_history.specs.declared.call.Call.TheVariants as C
+use Rattle.pcache_history.specs.declared.call.Reply.{Reply}
+use Rattle.pcache_history.specs.declared.entry.Event.{Event}
+use Rattle.pcache_history.specs.Facts.{request_in}
+use Rattle.pingora_cache.specs.PartFacts.{facts_for}
+use Rattle.pcache_history.specs.Held.{Held, Outcome, was_done, handed_by, number_of, on_request, outcome, permit_held, row, taken_over, IsOfOne}
 use Rattle.pcache_put_ctx.specs.Puts.{Says}
-use Rattle.pingora_cache.specs.PutHistory.{HasSome, PutTurn}
-use Rattle.pingora_cache.specs.Rules.{Replies}
-use Rattle.pingora_cache.specs.Step.{IsMoved, IsOfOne, IsOfWorldIn, Turn}
+use Rattle.pingora_cache.specs.PutsSound.{HasSome, PutTurn}
+use Rattle.pcache_history.specs.Rules.{Replies}
+use Rattle.pingora_cache.specs.Step.{IsMoved, Turn}
+use Rattle.pcache_history.specs.Due.{IsOfWorldIn}
 
 -- the open request of a number
 abbrev pub open_at : ℕ → List (ℕ × Held) → Option Held

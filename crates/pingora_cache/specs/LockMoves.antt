@@ -14,8 +14,8 @@ use Rattle.pcache_lock.specs.declared.lock.status.LockStatus.{LockStatus}
 use Rattle.pcache_request.specs.LockUse.{published_by}
 use Rattle.pcache_request.specs.LockWaits.{too_old_for}
 use Rattle.pcache_request.specs.Requests.{let_go_by, settled}
-use Rattle.pingora_cache.specs.Deeds.{Deed, Asked, Released, LetGo, Aged, Polled, published_on}
-use Rattle.pingora_cache.specs.Rules.{number_read, permit_of}
+use Rattle.pcache_history.specs.Deeds.{Deed, Asked, Released, LetGo, Aged, Polled, published_on}
+use Rattle.pcache_history.specs.Rules.{number_read, permit_of}
 
 pub data LockMove : Type 0 where
   -- nothing is done to locks

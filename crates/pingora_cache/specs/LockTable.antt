@@ -11,9 +11,9 @@ use Rattle.pcache_lock.specs.Waiting.{first_told}
 use Rattle.pcache_lock.specs.declared.lock.permit.Locked.{Locked}
 use Rattle.pcache_lock.specs.declared.lock.permit.Locked.TheVariants.{Write, Read}
 use Rattle.pcache_lock.specs.declared.lock.status.LockStatus.{LockStatus}
-use Rattle.pingora_cache.specs.Deeds.{Deed, ask_of, is_held, shown, standing, status_of, who_holds}
-use Rattle.pingora_cache.specs.Held.{Held}
-use Rattle.pingora_cache.specs.Rules.{permit_of}
+use Rattle.pcache_history.specs.Deeds.{Deed, ask_of, is_held, shown, standing, status_of, who_holds}
+use Rattle.pcache_history.specs.Held.{Held}
+use Rattle.pcache_history.specs.Rules.{permit_of}
 
 -- how many read locks of a lock are held: by one request, and by all
 abbrev pub locks_read : ℕ → Option Locked → ℕ

@@ -1,7 +1,7 @@
 -- What is open under a number, as the code keeps it: a request, or a put.
 use Rattle.pingora_cache.specs.declared.world.open.Kind.{Kind}
 use Rattle.pingora_cache.specs.declared.world.open.Kind.TheVariants as kind
-use Rattle.pingora_cache.specs.Held.{Held}
+use Rattle.pcache_history.specs.Held.{Held}
 
 abbrev pub held_of : {P : Type 0} → Kind P → Held
 held_of (kind.Request x) = x

@@ -5,10 +5,10 @@ use Rattle.pcache_evict.specs.declared.eviction.entry_key.CacheEntryKey.TheVaria
 use Rattle.pcache_evict.specs.Entry.{key_of}
 use Rattle.pcache_put_ctx.specs.declared.report.PutEnd.{PutEnd}
 use Rattle.pcache_put_ctx.specs.declared.report.PutEnd.TheVariants as end
-use Rattle.pingora_cache.specs.declared.world.call.Reply.{Reply}
-use Rattle.pingora_cache.specs.declared.world.call.Reply.TheVariants as R
-use Rattle.pingora_cache.specs.declared.world.entry.Event.{Event}
-use Rattle.pingora_cache.specs.declared.world.entry.Event.TheVariants as E
+use Rattle.pcache_history.specs.declared.call.Reply.{Reply}
+use Rattle.pcache_history.specs.declared.call.Reply.TheVariants as R
+use Rattle.pcache_history.specs.declared.entry.Event.{Event}
+use Rattle.pcache_history.specs.declared.entry.Event.TheVariants as E
 use Rattle.pingora_cache.specs.Step.{refused_end}
 
 -- of a put that made no write

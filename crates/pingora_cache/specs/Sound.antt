@@ -1,4 +1,4 @@
--- What a world keeps: its history is legal, and its parts are what the history says (own).
+-- For the prover: what a world keeps. Its history is legal, and its parts are what the history says (own).
 use Rattle.std.specs.Prelude.{◌≡◌, ℕ, ◌+◌, ◌<◌, ◌≤◌, ◌==◌, ◌||◌, nat_lt, true, false, if◌then◌else◌, Option, None, Some, is_some, IfSome, List, [], ◌∷◌}
 use Rattle.std.specs.Option.{option_map}
 use Rattle.std.specs.Ordering.{nat_cmp}
@@ -9,26 +9,25 @@ use Rattle.pcache_base.specs.Totals.{total}
 use Rattle.pcache_evict.specs.declared.eviction.entry_key.CacheEntryKey.{CacheEntryKey}
 use Rattle.pcache_evict.specs.Tracked.{Tracked, Limits}
 use Rattle.pcache_store.specs.Store.{Store, Slot, Written, Reader, Whole, Part, complete_body, is_untouched_in, is_idle}
-use Rattle.pingora_cache.specs.declared.world.entry.Entry.{Entry}
-use Rattle.pingora_cache.specs.declared.world.entry.Event.{Event}
-use Rattle.pingora_cache.specs.declared.world.entry.Event.TheVariants.{Admit}
-use Rattle.pingora_cache.specs.Events as ev
-use Rattle.pingora_cache.specs.Events.{begun, begin_of, is_removed, has_ended, was_stored, in_flight, is_told, is_of, last_finished, complete, is_open, tracked, stored, slots, names_slot, stored_size}
-use Rattle.pingora_cache.specs.Held.{Held, request_of, untold}
-use Rattle.pingora_cache.specs.Deeds.{Deed, deeds_of}
-use Rattle.pingora_cache.specs.History.{events_of}
+use Rattle.pcache_history.specs.declared.entry.Entry.{Entry}
+use Rattle.pcache_history.specs.declared.entry.Event.{Event}
+use Rattle.pcache_history.specs.declared.entry.Event.TheVariants.{Admit}
+use Rattle.pcache_history.specs.Events as ev
+use Rattle.pcache_history.specs.Events.{begun, begin_of, is_removed, has_ended, was_stored, in_flight, is_told, is_of, last_finished, complete, is_open, tracked, stored, slots, names_slot, stored_size}
+use Rattle.pcache_history.specs.Held.{Held, pair_reader, request_of}
+use Rattle.pcache_history.specs.Kept.{IsBounded, IsExact, IsTidy}
+use Rattle.pcache_history.specs.Deeds.{Deed, deeds_of}
+use Rattle.pcache_history.specs.History.{events_of}
 use Rattle.pingora_cache.specs.LockTable.{Holds, IsTable, read_locks}
-use Rattle.pingora_cache.specs.Waiting.{IsLocked}
-use Rattle.pingora_cache.specs.Legal.{IsLegal}
+use Rattle.pingora_cache.specs.TableWaiting.{IsLocked}
+use Rattle.pingora_cache.specs.Untold.{untold}
+use Rattle.pcache_history.specs.Legal.{IsLegal}
 
 -- how many readers of a write there are: in one request, and in all
 abbrev pub follows : ℕ → Option Reader → ℕ
 follows w None = 0
 follows w (Some (Whole body start stop done)) = 0
 follows w (Some (Part x place)) = if x == w then 1 else 0
-
-abbrev pub pair_reader : Option (Meta × Reader) → Option Reader
-pair_reader p = option_map (λ q. q.1) p
 
 abbrev pub readers_in : ℕ → Held → ℕ
 readers_in w x = follows w x.request.reader + follows w (pair_reader x.pair)
@@ -50,17 +49,6 @@ record_of w n es =
     then option_map (λ b. record { slot = b.0; meta = b.1; bytes = ev.body_of w es; told = is_told w es; flying = in_flight w es; readers = n }) (begin_of w es)
     else None
 
--- numbers are given in order, and what finished was begun under its key
-pub record IsTidy (es : List Event) : Type 0 where
-  pub unbegun : (w : ℕ) → begun es ≤ w → begin_of w es ≡ None
-  pub not_ended : (w : ℕ) → begun es ≤ w → has_ended w es ≡ false
-  pub no_body : (w : ℕ) → begun es ≤ w → ev.body_of w es ≡ []
-  pub not_told : (w : ℕ) → begun es ≤ w → is_told w es ≡ false
-  pub not_stored : (w : ℕ) → begun es ≤ w → was_stored w es ≡ false
-  pub finished : (k w : ℕ) → last_finished k es ≡ Some w → (has_ended w es ≡ true) × (is_of k w es ≡ true) × (was_stored w es ≡ true)
-  -- a key of which any stored write met no removal stands
-  pub survives : (k w : ℕ) → was_stored w es ≡ true → is_of k w es ≡ true → is_removed w es ≡ false → is_some (complete k es) ≡ true
-
 -- the store is what the events say, with n readers of each write
 pub record IsState (es : List Event) (n : ℕ → ℕ) (s : Store) : Type 0 where
   pub next : s.next ≡ begun es
@@ -70,24 +58,6 @@ pub record IsState (es : List Event) (n : ℕ → ℕ) (s : Store) : Type 0 wher
   pub filled : (k : ℕ) (x : Slot) → map.get s.slots k ≡ Some x → is_idle x ≡ false
   -- only a write that was begun is read
   pub known : (w : ℕ) → 0 < n w → is_some (begin_of w es) ≡ true
-
--- the entry that was admitted last for a key
-abbrev pub admits : ℕ → Event → Option CacheEntryKey → Option CacheEntryKey
-admits k (Admit e n out) before = if names_slot k e then Some e else before
-admits k _ before = before
-
-abbrev pub standing_entry : ℕ → List Event → Option CacheEntryKey
-standing_entry k [] = None
-standing_entry k (e ∷ es) = admits k e (standing_entry k es)
-
--- of each standing key, the entry that was admitted last for it is tracked with exactly the length of its body
-abbrev pub IsExact : Tracked → List Event → Type 0
-IsExact start es = (k : ℕ) (b : _) → complete k es ≡ Some b → (e : CacheEntryKey) × (standing_entry k es ≡ Some e) × (map.get (tracked start es) e ≡ Some (stored_size b))
-
--- what is stored is within the limits
-pub record IsBounded (limits : Limits) (es : List Event) : Type 0 where
-  pub bytes : stored es ≤ limits.weight
-  pub count : IfSome limits.watermark (λ most. slots es ≤ most)
 
 -- each open request is what the entries that name it leave, but for what its read lock was told
 abbrev pub AreOpen : List Entry → map.FinMap nat_cmp Held → Type 0

@@ -1,4 +1,4 @@
--- One call over the parts of a world, as the code makes it (own).
+-- For the prover: one call over the parts of a world, as the code makes it (own).
 use Rattle.std.specs.Prelude.{◌≡◌, ℕ, ◌++◌, Bool, true, false, cond, Option, Some, None, IsSome, List, [], ◌∷◌, Result, Ok, Err}
 use Rattle.std.specs.Ordering.{nat_cmp}
 use Rattle.std.specs.Map.{lookup}
@@ -18,23 +18,24 @@ use Rattle.pcache_request.specs.declared.cache.report.ReleasedLock.{ReleasedLock
 use Rattle.pcache_request.specs.Admissions.{with_decision}
 use Rattle.pcache_request.specs.Requests.{Request, left_by, dropped_by}
 use Rattle.pcache_store.specs.Store.{Store, Reader}
-use Rattle.pingora_cache.specs.declared.world.call.Call.{Call}
-use Rattle.pingora_cache.specs.declared.world.call.Call.TheVariants as C
-use Rattle.pingora_cache.specs.declared.world.call.LockKind.{LockKind}
-use Rattle.pingora_cache.specs.declared.world.call.Reply.{Reply}
-use Rattle.pingora_cache.specs.declared.world.call.Reply.TheVariants as R
-use Rattle.pingora_cache.specs.declared.world.entry.Answer.{Answer}
-use Rattle.pingora_cache.specs.declared.world.entry.Answer.TheVariants.{Nothing}
-use Rattle.pingora_cache.specs.declared.world.entry.Event.{Event}
-use Rattle.pingora_cache.specs.declared.world.entry.Event.TheVariants as E
-use Rattle.pingora_cache.specs.Due.{IsOfWorld, KeepsKey}
-use Rattle.pingora_cache.specs.Facts.{Facts, facts_in, request_in}
-use Rattle.pingora_cache.specs.Deeds.{deeds_in, held_in}
-use Rattle.pingora_cache.specs.Held.{Held, decides, number_of, outcome, row, pair_of, untold}
+use Rattle.pcache_history.specs.declared.call.Call.{Call}
+use Rattle.pcache_history.specs.declared.call.Call.TheVariants as C
+use Rattle.pcache_history.specs.declared.call.LockKind.{LockKind}
+use Rattle.pcache_history.specs.declared.call.Reply.{Reply}
+use Rattle.pcache_history.specs.declared.call.Reply.TheVariants as R
+use Rattle.pcache_history.specs.declared.entry.Answer.{Answer}
+use Rattle.pcache_history.specs.declared.entry.Answer.TheVariants.{Nothing}
+use Rattle.pcache_history.specs.declared.entry.Event.{Event}
+use Rattle.pcache_history.specs.declared.entry.Event.TheVariants as E
+use Rattle.pcache_history.specs.Due.{IsOfWorld, KeepsKey}
+use Rattle.pcache_history.specs.Facts.{Facts, request_in}
+use Rattle.pcache_history.specs.Deeds.{deeds_in, held_in}
+use Rattle.pcache_history.specs.Held.{Held, decides, number_of, outcome, row, pair_of, pair_reader}
 use Rattle.pingora_cache.specs.LockMoves.{MovesLocks}
 use Rattle.pingora_cache.specs.Moved.{Moves}
-use Rattle.pingora_cache.specs.Rules.{Replies, Misses, drop_of, each, kind_of, release_of, renew_of, update_reply}
-use Rattle.pingora_cache.specs.Sound.{pair_reader}
+use Rattle.pingora_cache.specs.PartFacts.{facts_in}
+use Rattle.pingora_cache.specs.Untold.{untold}
+use Rattle.pcache_history.specs.Rules.{Replies, Misses, drop_of, each, kind_of, release_of, renew_of, update_reply}
 
 -- a pair that a look-up may answer
 abbrev pub IsAnswered : Meta → Reader → Type 0
@@ -90,11 +91,6 @@ pub record Turn (limits : Limits) (call : Call) (q : Option Held) (s : Store) (m
   pub now : IsRow call reply events q q'
   pub locks : MovesLocks (number_of call) (deeds_in call (outcome reply) events q) (held_in q) t (held_in q') t'
 
--- a request of a world, or none
-abbrev pub IsOfWorldIn : Option Held → Type 0
-IsOfWorldIn None = Unit {0}
-IsOfWorldIn (Some x) = IsOfWorld x.request
-
 -- only the request that the call names moves
 abbrev pub IsMoved : Call → List (ℕ × Held) → List (ℕ × Held) → Type 0
 IsMoved call all all' = (q : ℕ) → lookup (is_at (nat_cmp q)) all' ≡ cond (is_at (nat_cmp (number_of call)) q) (lookup (is_at (nat_cmp (number_of call))) all') (lookup (is_at (nat_cmp q)) all)
@@ -127,11 +123,6 @@ renewal_reply (Err e) = R.Refused e
 abbrev pub spare_of : Call → Option (Meta × Meta)
 spare_of (C.Revalidate r m) = Some (m, m)
 spare_of _ = None
-
--- a call that names one request alone
-abbrev pub IsOfOne : Call → Type 0
-IsOfOne (C.Give r to) = ⊥
-IsOfOne _ = Unit {0}
 
 -- a call of a request or a put that is open already, and stays so
 abbrev pub IsOfOpen : Call → Type 0

@@ -1,12 +1,8 @@
 //! Requests and puts over one store, one eviction manager and one lock table, with the history of
 //! what was asked.
 
-pub mod call;
-mod call_copy;
-pub mod entry;
 mod fill;
 mod give;
-pub mod laws;
 mod locks;
 mod look;
 mod notes;
@@ -18,10 +14,10 @@ mod reads;
 mod remove;
 mod request;
 mod switch;
-pub mod tokens;
 mod turn;
 mod vary;
 mod world_type;
 
+pub use pcache_history::{call, entry, laws, tokens};
 pub use pcache_put_ctx::boxed;
 pub use world_type::{Totals, World};

@@ -2,13 +2,14 @@
 ghost use Rattle.std.specs.Prelude.{◌≡◌, ◌≤◌, ◌⊎◌, ◌++◌, ◌+◌, [], cond, IfSome, IsSome, IsTrue, ◌↔◌, Some, None, ℕ, vec_len};
 ghost use Rattle.std.specs.Vec.{vec_capacity};
 ghost use Rattle.pingora_cache.specs.Handing.{Acts, HandsOver, IsHandedTo, IsTaken, open_at, table_given};
-ghost use Rattle.pingora_cache.specs.Held.{permit_held, handed_by};
-ghost use Rattle.pingora_cache.specs.Rules.{MayTake, each, given_up};
-ghost use Rattle.pingora_cache.specs.Step.{IsOfWorldIn, IsRequestIn, spare_of};
-ghost use Rattle.pingora_cache.specs.declared.world.entry.Event.TheVariants.{LetGo};
+ghost use Rattle.pcache_history.specs.Held.{permit_held, handed_by};
+ghost use Rattle.pcache_history.specs.Rules.{MayTake, each, given_up};
+ghost use Rattle.pingora_cache.specs.Step.{IsRequestIn, spare_of};
+ghost use Rattle.pcache_history.specs.Due.{IsOfWorldIn};
+ghost use Rattle.pcache_history.specs.declared.entry.Event.TheVariants.{LetGo};
 
-use crate::world::call::{Call, Reply};
-use crate::world::entry::Event;
+use pcache_history::call::{Call, Reply};
+use pcache_history::entry::Event;
 use crate::world::open::Open;
 use crate::world::parts::Parts;
 use crate::world::policy::PutPolicy;

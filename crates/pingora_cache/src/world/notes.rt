@@ -1,10 +1,10 @@
 //! What several calls note.
 ghost use Rattle.std.specs.Prelude.{◌≡◌, ◌+◌, ◌≤◌, ◌∷◌, ◌++◌, vec_len};
 ghost use Rattle.std.specs.Vec.{vec_capacity};
-ghost use Rattle.pingora_cache.specs.Rules.{drop_of, each};
-ghost use Rattle.pingora_cache.specs.declared.world.entry.Event.TheVariants.{Release};
+ghost use Rattle.pcache_history.specs.Rules.{drop_of, each};
+ghost use Rattle.pcache_history.specs.declared.entry.Event.TheVariants.{Release};
 
-use crate::world::entry::Event;
+use pcache_history::entry::Event;
 
 /// Notes an event, and the release of the permit that was held.
 pub(crate) fn note_with_release(event: Event, permit: Option<u64>, events: &mut Vec<Event>)

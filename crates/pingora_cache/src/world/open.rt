@@ -1,9 +1,9 @@
 //! What stands under a number of a world: a request or a put.
 ghost use Rattle.std.specs.Prelude.{◌≡◌, ◌↔◌, None, Some, IfSome, IsSome, IsTrue, is_some};
 ghost use Rattle.pingora_cache.specs.Handing.{table_given, without_permit};
-ghost use Rattle.pingora_cache.specs.Held.{handed_by, permit_held};
-ghost use Rattle.pingora_cache.specs.Rules.{MayTake, each, given_up};
-ghost use Rattle.pingora_cache.specs.declared.world.entry.Event.TheVariants.{LetGo};
+ghost use Rattle.pcache_history.specs.Held.{handed_by, permit_held};
+ghost use Rattle.pcache_history.specs.Rules.{MayTake, each, given_up};
+ghost use Rattle.pcache_history.specs.declared.entry.Event.TheVariants.{LetGo};
 
 use crate::world::policy::PutPolicy;
 use crate::world::puts::OpenPut;
@@ -24,7 +24,7 @@ pub struct Open<P: PutPolicy> {
 }
 
 impl<P: PutPolicy> Model for Open<P> {
-    ghost use Rattle.pingora_cache.specs.Held.{Held};
+    ghost use Rattle.pcache_history.specs.Held.{Held};
     ghost use Rattle.pingora_cache.specs.Opens.{held_of};
 
     ghost Value = { Held };

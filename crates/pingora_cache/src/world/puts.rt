@@ -5,20 +5,21 @@ ghost use Rattle.pcache_lock.specs.Locks.{Locks};
 ghost use Rattle.pcache_put_ctx.specs.Puts.{Piece};
 ghost use Rattle.pcache_put_ctx.specs.State.{Filled, write_in};
 ghost use Rattle.pcache_request.specs.Requests.{dropped_by};
-ghost use Rattle.pingora_cache.specs.Due.{IsOfWorld, KeepsKey};
-ghost use Rattle.pingora_cache.specs.Facts.{facts_in};
-ghost use Rattle.pingora_cache.specs.Held.{IsHeldPut, held_put};
+ghost use Rattle.pcache_history.specs.Due.{IsOfWorld, KeepsKey};
+ghost use Rattle.pingora_cache.specs.PartFacts.{facts_in};
+ghost use Rattle.pcache_history.specs.Held.{IsHeldPut, held_put};
 ghost use Rattle.pingora_cache.specs.Moved.{Moves, MovesStore};
-ghost use Rattle.pingora_cache.specs.PutHistory.{ClosesBy, HasSome, PutTurn, TakenIn};
+ghost use Rattle.pcache_history.specs.PutHistory.{ClosesBy};
+ghost use Rattle.pingora_cache.specs.PutsSound.{HasSome, PutTurn, TakenIn};
 ghost use Rattle.pingora_cache.specs.PutSteps.{IsUnwritten, IsWritten, end_noted, end_reply};
-ghost use Rattle.pingora_cache.specs.Rules.{Closes, Feeds, IsOther, drop_of, piece_noted};
+ghost use Rattle.pcache_history.specs.Rules.{Closes, Feeds, IsOther, drop_of, piece_noted};
 ghost use Rattle.pingora_cache.specs.Step.{IsRow};
-ghost use Rattle.pingora_cache.specs.Taking.{new_put, taking};
-ghost use Rattle.pingora_cache.specs.Waiting.{AreOfNoLock};
-ghost use Rattle.pingora_cache.specs.declared.world.call.Call.TheVariants as calls;
+ghost use Rattle.pcache_history.specs.Taking.{new_put, taking};
+ghost use Rattle.pcache_history.specs.Waiting.{AreOfNoLock};
+ghost use Rattle.pcache_history.specs.declared.call.Call.TheVariants as calls;
 
-use crate::world::call::Reply;
-use crate::world::entry::Event;
+use pcache_history::call::Reply;
+use pcache_history::entry::Event;
 use crate::world::fill::{end_refused, note_stored};
 use crate::world::parts::Parts;
 use crate::world::policy::{ByType, PutPolicy};
@@ -41,8 +42,8 @@ pub struct OpenPut<P: PutPolicy> {
 }
 
 impl<P: PutPolicy> Model for OpenPut<P> {
-    ghost use Rattle.pingora_cache.specs.Held.{Held, held_put};
-    ghost use Rattle.pingora_cache.specs.Taking.{taking};
+    ghost use Rattle.pcache_history.specs.Held.{Held, held_put};
+    ghost use Rattle.pcache_history.specs.Taking.{taking};
 
     ghost Value = { Held };
 

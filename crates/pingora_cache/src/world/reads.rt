@@ -3,17 +3,17 @@ ghost use Rattle.std.specs.Prelude.{◌≡◌, ◌≤◌, ◌⊎◌, IsSome, Som
 ghost use Rattle.std.specs.Vec.{vec_capacity};
 ghost use Rattle.pcache_base.specs.declared.error.ErrorType.TheVariants.{OutOfMemory};
 ghost use Rattle.pcache_lock.specs.Locks.{no_locks};
-ghost use Rattle.pingora_cache.specs.Due.{KeepsKey};
-ghost use Rattle.pingora_cache.specs.Facts.{facts_in, no_facts};
-ghost use Rattle.pingora_cache.specs.Held.{has_read, on_request, row, sought_in, with_sought};
+ghost use Rattle.pcache_history.specs.Due.{KeepsKey};
+ghost use Rattle.pingora_cache.specs.PartFacts.{facts_in, no_facts};
+ghost use Rattle.pcache_history.specs.Held.{has_read, on_request, row, sought_in, with_sought};
 ghost use Rattle.pingora_cache.specs.Moved.{MovesRequest, MovesStore};
-ghost use Rattle.pingora_cache.specs.Rules.{Answers, IsOther, read_reply, seek_reply};
-ghost use Rattle.pingora_cache.specs.Waiting.{AreOfNoLock};
-ghost use Rattle.pingora_cache.specs.declared.world.call.Call.TheVariants as calls;
-ghost use Rattle.pingora_cache.specs.declared.world.call.Reply.TheVariants as replies;
+ghost use Rattle.pcache_history.specs.Rules.{Answers, IsOther, read_reply, seek_reply};
+ghost use Rattle.pcache_history.specs.Waiting.{AreOfNoLock};
+ghost use Rattle.pcache_history.specs.declared.call.Call.TheVariants as calls;
+ghost use Rattle.pcache_history.specs.declared.call.Reply.TheVariants as replies;
 
-use crate::world::call::Reply;
-use crate::world::entry::Event;
+use pcache_history::call::Reply;
+use pcache_history::entry::Event;
 use crate::world::request::OpenRequest;
 use bytes::Bytes;
 use pcache_base::error::ErrorType;

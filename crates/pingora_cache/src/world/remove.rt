@@ -3,18 +3,18 @@ ghost use Rattle.std.specs.Prelude.{◌≡◌, ◌+◌, ◌≤◌, ◌∷◌, �
 ghost use Rattle.std.specs.Vec.{vec_capacity};
 ghost use Rattle.pcache_request.specs.Requests.{is_removed_by};
 ghost use Rattle.pcache_lock.specs.declared.lock.status.LockStatus.TheVariants.{Done};
-ghost use Rattle.pingora_cache.specs.Deeds.{deeds_by};
-ghost use Rattle.pingora_cache.specs.Due.{IsOfWorld, KeepsKey};
-ghost use Rattle.pingora_cache.specs.Facts.{facts_in};
+ghost use Rattle.pcache_history.specs.Deeds.{deeds_by};
+ghost use Rattle.pcache_history.specs.Due.{IsOfWorld, KeepsKey};
+ghost use Rattle.pingora_cache.specs.PartFacts.{facts_in};
 ghost use Rattle.pingora_cache.specs.Moved.{Moves};
-ghost use Rattle.pingora_cache.specs.Rules.{Answers, expire_reply, purge_reply};
+ghost use Rattle.pcache_history.specs.Rules.{Answers, expire_reply, purge_reply};
 ghost use Rattle.pingora_cache.specs.Step.{untracking};
 ghost use Rattle.pingora_cache.specs.LockMoves.{MovesLocks};
-ghost use Rattle.pingora_cache.specs.declared.world.call.Call.TheVariants as calls;
-ghost use Rattle.pingora_cache.specs.declared.world.entry.Event.TheVariants.{Purge};
+ghost use Rattle.pcache_history.specs.declared.call.Call.TheVariants as calls;
+ghost use Rattle.pcache_history.specs.declared.entry.Event.TheVariants.{Purge};
 
-use crate::world::call::Reply;
-use crate::world::entry::Event;
+use pcache_history::call::Reply;
+use pcache_history::entry::Event;
 use crate::world::parts::Parts;
 use crate::world::request::OpenRequest;
 use pcache_base::key::CacheHashKey;

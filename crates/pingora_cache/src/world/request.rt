@@ -3,11 +3,10 @@ ghost use Rattle.std.specs.Prelude.{◌≡◌, None, Some, option_map};
 ghost use Rattle.pcache_store.specs.Readers.{reader_of};
 ghost use Rattle.pcache_request.specs.Phases.{IsOn};
 ghost use Rattle.pingora_cache.specs.Handing.{table_given, without_permit};
-ghost use Rattle.pingora_cache.specs.Held.{handed_by, permit_held, world_use};
-ghost use Rattle.pingora_cache.specs.Rules.{each, given_up, permit_of};
-ghost use Rattle.pingora_cache.specs.declared.world.entry.Event.TheVariants.{LetGo};
+ghost use Rattle.pcache_history.specs.Held.{handed_by, permit_held, world_use, pair_reader};
+ghost use Rattle.pcache_history.specs.Rules.{each, given_up, permit_of};
+ghost use Rattle.pcache_history.specs.declared.entry.Event.TheVariants.{LetGo};
 ghost use Rattle.pcache_request.specs.Requests.{Request, left_by, let_go_by};
-ghost use Rattle.pingora_cache.specs.Sound.{pair_reader};
 ghost use Rattle.pingora_cache.specs.Step.{permit_in, permit_released, store_ended};
 
 use pcache_lock::lock::{CacheLock, Locked, WritePermit};
@@ -34,7 +33,7 @@ pub struct OpenRequest {
 impl Model for OpenRequest {
     ghost use Rattle.std.specs.Prelude.{None, option_map};
     ghost use Rattle.pcache_store.specs.Readers.{reader_of};
-    ghost use Rattle.pingora_cache.specs.Held.{Held};
+    ghost use Rattle.pcache_history.specs.Held.{Held};
 
     ghost Value = { Held };
 

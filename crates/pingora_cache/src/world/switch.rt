@@ -1,19 +1,19 @@
 //! Calls that turn caching on and off.
 ghost use Rattle.std.specs.Prelude.{◌≡◌, ◌≤◌, Some, [], ℕ};
 ghost use Rattle.std.specs.Vec.{vec_capacity};
-ghost use Rattle.pingora_cache.specs.Due.{KeepsKey};
-ghost use Rattle.pingora_cache.specs.Facts.{no_facts};
+ghost use Rattle.pcache_history.specs.Due.{KeepsKey};
+ghost use Rattle.pingora_cache.specs.PartFacts.{no_facts};
 ghost use Rattle.pcache_lock.specs.declared.lock.status.LockStatus.TheVariants.{GiveUp};
 ghost use Rattle.pcache_request.specs.Releasing.{status_for};
-ghost use Rattle.pingora_cache.specs.Deeds.{deeds_by};
-ghost use Rattle.pingora_cache.specs.Held.{row};
+ghost use Rattle.pcache_history.specs.Deeds.{deeds_by};
+ghost use Rattle.pcache_history.specs.Held.{row};
 ghost use Rattle.pingora_cache.specs.Moved.{MovesRequest, MovesStore};
-ghost use Rattle.pingora_cache.specs.Rules.{Answers};
+ghost use Rattle.pcache_history.specs.Rules.{Answers};
 ghost use Rattle.pingora_cache.specs.LockMoves.{MovesLocks};
-ghost use Rattle.pingora_cache.specs.declared.world.call.Call.TheVariants as calls;
+ghost use Rattle.pcache_history.specs.declared.call.Call.TheVariants as calls;
 
-use crate::world::call::Reply;
-use crate::world::entry::Event;
+use pcache_history::call::Reply;
+use pcache_history::entry::Event;
 use crate::world::notes::note_shut;
 use crate::world::request::{OpenRequest, hold, permit_in, world_use, write_number};
 use pcache_base::reason::NoCacheReason;

@@ -2,11 +2,11 @@
 ghost use Rattle.std.specs.Prelude.{◌≡◌, ◌≢◌, ◌+◌, ◌<◌, ◌≤◌, ◌⊎◌, ◌++◌, ◌∷◌, [], Some, None, IsSome, IfSome, option_map, IfOk, IfErr, OnOk, OnErr, min, ◌^◌, ◌-◌, vec_len};
 ghost use Rattle.pcache_base.specs.declared.error.ErrorType.TheVariants.{OutOfMemory};
 ghost use Rattle.std.specs.Vec.{vec_capacity};
-ghost use Rattle.pingora_cache.specs.Log.{started};
-ghost use Rattle.pingora_cache.specs.Rules.{IsCopy};
+ghost use Rattle.pcache_history.specs.Log.{started};
+ghost use Rattle.pcache_history.specs.Rules.{IsCopy};
 
-use crate::world::call::{Call, Reply};
-use crate::world::entry::{Entry, Event, Events};
+use pcache_history::call::{Call, Reply};
+use pcache_history::entry::{Entry, Event, Events};
 use crate::world::give::act;
 use crate::world::open::Open;
 use crate::world::parts::Parts;
@@ -52,9 +52,9 @@ impl<M: EvictionManager, P: PutPolicy> Model for World<M, P> {
     ghost use Rattle.std.specs.Prelude.{◌≡◌, None, [], reverse};
     ghost use Rattle.std.specs.Option.{option_map};
     ghost use Rattle.std.specs.FinMap as map;
-    ghost use Rattle.pingora_cache.specs.Log.{Log, started};
-    ghost use Rattle.pingora_cache.specs.LogCode.{log_code};
-    ghost use Rattle.pingora_cache.specs.PutHistory.{PutsSound};
+    ghost use Rattle.pcache_history.specs.Log.{Log, started};
+    ghost use Rattle.pcache_history.specs.LogCode.{log_code};
+    ghost use Rattle.pingora_cache.specs.PutsSound.{PutsSound};
     ghost use Rattle.pingora_cache.specs.Sound.{IsSound};
 
     ghost Value = { Log };
@@ -69,13 +69,13 @@ impl<M: EvictionManager, P: PutPolicy> Model for World<M, P> {
 impl<M: EvictionManager, P: PutPolicy> World<M, P> {
     ghost use Rattle.std.specs.Duration.{as_nanos};
     ghost use Rattle.std.specs.FinMap as map;
-    ghost use Rattle.pingora_cache.specs.Events.{stored, slots, tracked};
-    ghost use Rattle.pingora_cache.specs.Log.{Log, Adds, AddsAll, AddsSome, HasLegal, events_in};
-    ghost use Rattle.pingora_cache.specs.PutHistory.{AreTold};
+    ghost use Rattle.pcache_history.specs.Events.{stored, slots, tracked};
+    ghost use Rattle.pcache_history.specs.Log.{Log, Adds, AddsAll, AddsSome, HasLegal, events_in};
+    ghost use Rattle.pcache_history.specs.PutHistory.{AreTold};
     ghost use Rattle.std.specs.Prelude.{reverse};
     ghost use Rattle.pcache_base.specs.declared.error.ErrorType.TheVariants.{OutOfMemory};
     ghost use Rattle.pcache_evict.specs.Tracked.{weight};
-    ghost use Rattle.pingora_cache.specs.Headline.{EvictsNothingWithin, FindsUntouched, FinishesUntouched, GivesWhereNoneWaits, HandsOnUnhidden, HitsTheLast, IsWithinAlways};
+    ghost use Rattle.pcache_history.specs.Headline.{EvictsNothingWithin, FindsUntouched, FinishesUntouched, GivesWhereNoneWaits, HandsOnUnhidden, HitsTheLast, IsWithinAlways};
 
     /// A world with no requests, nothing stored and an empty history. Permits age out after
     /// `age_timeout`.
@@ -211,7 +211,7 @@ impl<M: EvictionManager, P: PutPolicy> World<M, P> {
 }
 
 impl<M: SavedManager, P: PutPolicy> World<M, P> {
-    ghost use Rattle.pingora_cache.specs.Log.{Log, HasLegal};
+    ghost use Rattle.pcache_history.specs.Log.{Log, HasLegal};
     ghost use Rattle.pcache_base.specs.declared.error.ErrorType.TheVariants.{InternalError, Io, OutOfMemory};
 
     /// Saves what the manager holds in a folder, which is made with its parents if it is missing.

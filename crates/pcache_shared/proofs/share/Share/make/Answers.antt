@@ -1,5 +1,5 @@
 use Rattle.std.proofs.Common.{ℕ, List, [], ◌∷◌, ◌++◌, map, length, sym, ap, ◌∙◌, subst}
-use Rattle.pingora_cache.specs.declared.world.entry.Entry.{Entry}
+use Rattle.pcache_history.specs.declared.entry.Entry.{Entry}
 use Rattle.pcache_shared.specs.Receipts.{receipt_of}
 use Rattle.pcache_shared.specs.Views.{Rises, places}
 use Rattle.pcache_shared.proofs.Calls.{slip_is, rises_snoc, receipts_snoc}

@@ -2,7 +2,7 @@ use Rattle.std.proofs.Common.{◌≡◌, ◌<◌, [], length, ◌+◌, ◌-◌, 
 use Rattle.std.specs.List.{All}
 use Rattle.std.proofs.lemmas.List.Elements.{All-push}
 use Rattle.pcache_shared.specs.declared.receipt.Receipt.{Receipt}
-use Rattle.pingora_cache.specs.declared.world.entry.Entry.{Entry}
+use Rattle.pcache_history.specs.declared.entry.Entry.{Entry}
 use Rattle.pcache_shared.specs.Opened.{Opened}
 use Rattle.pcache_shared.specs.Views.{keeper}
 use Rattle.pcache_shared.proofs.Moves.{deals_as}

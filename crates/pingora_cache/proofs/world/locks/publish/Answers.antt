@@ -1,7 +1,7 @@
 use Rattle.std.proofs.Common.{refl, ap, ◌∙◌, rules, ◌≡◌}
 use Rattle.pcache_request.specs.LockUse.{published_by}
 use Rattle.pcache_request.specs.Requests.{Request}
-use Rattle.pingora_cache.specs.Held.{Held}
+use Rattle.pcache_history.specs.Held.{Held}
 use Rattle.std.proofs.Common.{[], refl}
 use Rattle.pingora_cache.proofs.LockSteps.{no_locks_move, publish-locks}
 use Rattle.pingora_cache.proofs.world.locks.publish.Goals as goal

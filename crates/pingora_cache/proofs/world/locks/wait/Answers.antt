@@ -3,11 +3,11 @@ use Rattle.pcache_meta.specs.Meta.{Meta}
 use Rattle.pcache_request.specs.LockUse.{read_in}
 use Rattle.pcache_store.specs.Readers.{reader_of}
 use Rattle.pcache_store.specs.Store.{Reader}
-use Rattle.pingora_cache.specs.Facts.{facts_in}
-use Rattle.pingora_cache.specs.Held.{Held}
+use Rattle.pingora_cache.specs.PartFacts.{facts_in}
+use Rattle.pcache_history.specs.Held.{Held}
 use Rattle.pingora_cache.specs.Moved.{MovesStore}
-use Rattle.pingora_cache.specs.Rules.{Answers}
-use Rattle.pingora_cache.specs.declared.world.call.Call.TheVariants as calls
+use Rattle.pcache_history.specs.Rules.{Answers}
+use Rattle.pcache_history.specs.declared.call.Call.TheVariants as calls
 use Rattle.pingora_cache.proofs.Noted.{held_with}
 use Rattle.pingora_cache.proofs.world.locks.wait.Goals as goal
 

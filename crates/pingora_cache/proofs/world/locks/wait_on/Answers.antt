@@ -1,10 +1,10 @@
 use Rattle.std.proofs.Common.{◌≡◌, Option, None, Some, ap, sym, ◌∙◌, inl, inr, option_map, refl}
 use Rattle.pcache_request.specs.LockWaits.{unusable_in, waited}
 use Rattle.pcache_request.specs.Requests.{Request}
-use Rattle.pingora_cache.specs.Due.{KeepsIn}
-use Rattle.pingora_cache.specs.Rules.{wait_reply}
-use Rattle.pingora_cache.specs.declared.world.call.Reply.TheVariants as replies
-use Rattle.pingora_cache.specs.declared.world.entry.Event.TheVariants as E
+use Rattle.pcache_history.specs.Due.{KeepsIn}
+use Rattle.pcache_history.specs.Rules.{wait_reply}
+use Rattle.pcache_history.specs.declared.call.Reply.TheVariants as replies
+use Rattle.pcache_history.specs.declared.entry.Event.TheVariants as E
 use Rattle.pingora_cache.proofs.MovesOf.{turns-quietly}
 use Rattle.pingora_cache.proofs.Noted.{held_with}
 use Rattle.pingora_cache.proofs.Waited.{aged-by, aged-noted, aged-quiet, names-fills, not-polled, untold-after, wait-kept, wait-locks, wait-reader, wait-write}

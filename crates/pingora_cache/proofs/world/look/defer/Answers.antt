@@ -1,15 +1,15 @@
 use Rattle.std.proofs.Common.{◌≡◌, ap, ◌∙◌, subst}
 use Rattle.pcache_request.specs.Requests.{Request}
-use Rattle.pingora_cache.specs.Rules.{permit_of}
+use Rattle.pcache_history.specs.Rules.{permit_of}
 use Rattle.pingora_cache.specs.Step.{permit_in}
 use Rattle.pingora_cache.proofs.Noted.{permit-named}
 use Rattle.pingora_cache.specs.LockMoves.{MovesLocks}
-use Rattle.pingora_cache.specs.Deeds.{deeds_by}
+use Rattle.pcache_history.specs.Deeds.{deeds_by}
 use Rattle.pingora_cache.proofs.LockSteps.{deferred-locks}
-use Rattle.pingora_cache.specs.Held.{Held}
+use Rattle.pcache_history.specs.Held.{Held}
 use Rattle.pcache_lock.specs.declared.lock.status.LockStatus.TheVariants.{TransientError}
-use Rattle.pingora_cache.specs.declared.world.entry.Event.TheVariants as E
-use Rattle.pingora_cache.specs.declared.world.entry.Answer.TheVariants.{Nothing}
+use Rattle.pcache_history.specs.declared.entry.Event.TheVariants as E
+use Rattle.pcache_history.specs.declared.entry.Answer.TheVariants.{Nothing}
 use Rattle.pingora_cache.proofs.world.look.defer.Goals as goal
 
 pub returns-clause-locks : goal.returns-clause-locks

@@ -4,12 +4,12 @@ use Rattle.pcache_store.specs.Store.{Reader}
 use Rattle.pingora_cache.specs.Moved.{Moves}
 use Rattle.pcache_store.specs.Readers.{reader_of}
 use Rattle.pcache_request.specs.Phases.{MayLookUp}
-use Rattle.pingora_cache.specs.Facts.{facts_in}
-use Rattle.pingora_cache.specs.Held.{Held}
-use Rattle.pingora_cache.specs.Rules.{IsOther, Takes}
+use Rattle.pingora_cache.specs.PartFacts.{facts_in}
+use Rattle.pcache_history.specs.Held.{Held}
+use Rattle.pcache_history.specs.Rules.{IsOther, Takes}
 use Rattle.pingora_cache.proofs.Noted.{held_with}
 use Rattle.pingora_cache.specs.LockMoves.{MovesLocks}
-use Rattle.pingora_cache.specs.Deeds.{deeds_by}
+use Rattle.pcache_history.specs.Deeds.{deeds_by}
 use Rattle.pcache_lock.specs.declared.lock.status.LockStatus.TheVariants.{Done}
 use Rattle.pingora_cache.proofs.world.look.found.Goals as goal
 

@@ -2,16 +2,15 @@ use Rattle.std.proofs.Common.{◌≡◌, None, false, true, ap, sym, subst, ◌�
 use Rattle.pcache_base.specs.declared.reason.NoCacheReason.TheVariants.{Deferred}
 use Rattle.pcache_request.specs.Releasing.{disabled_for}
 use Rattle.pcache_request.specs.Requests.{left_by}
-use Rattle.pingora_cache.specs.declared.world.entry.Answer.TheVariants.{Nothing}
-use Rattle.pingora_cache.specs.Facts.{facts_in}
-use Rattle.pingora_cache.specs.Held.{Held, asked, decides}
-use Rattle.pingora_cache.specs.Sound.{pair_reader}
+use Rattle.pcache_history.specs.declared.entry.Answer.TheVariants.{Nothing}
+use Rattle.pingora_cache.specs.PartFacts.{facts_in}
+use Rattle.pcache_history.specs.Held.{Held, asked, decides, pair_reader}
 use Rattle.pingora_cache.specs.Step.{DefersKey, MissesKey, store_ended}
 use Rattle.pingora_cache.proofs.Looking.{off_with, on_with, deferred-moves, missed-keeps, missed-looks, missed-moves, missed-row}
 use Rattle.pingora_cache.specs.LockMoves.{MovesLocks}
-use Rattle.pingora_cache.specs.Deeds.{deeds_by}
+use Rattle.pcache_history.specs.Deeds.{deeds_by}
 use Rattle.pcache_lock.specs.declared.lock.status.LockStatus.TheVariants.{TransientError}
-use Rattle.pingora_cache.proofs.ReadsLaw.{decided-held}
+use Rattle.pcache_history.proofs.ReadsLaw.{decided-held}
 use Rattle.pingora_cache.proofs.world.look.found_none.Goals as goal
 
 pub returns-then-decide-clause-moves : goal.returns-then-decide-clause-moves

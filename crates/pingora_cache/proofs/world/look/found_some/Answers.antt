@@ -4,9 +4,8 @@ use Rattle.pcache_request.specs.Requests.{Request, found_for, left_by}
 use Rattle.pcache_request.specs.Variants.{is_hidden}
 use Rattle.pcache_store.specs.Readers.{reader_of}
 use Rattle.pcache_store.specs.Store.{Reader, left}
-use Rattle.pingora_cache.specs.Held.{Held}
+use Rattle.pcache_history.specs.Held.{Held, pair_reader}
 use Rattle.pingora_cache.specs.Moved.{MovesStore}
-use Rattle.pingora_cache.specs.Sound.{pair_reader}
 use Rattle.pingora_cache.proofs.Looking.{find-at, hidden-keeps, hidden-looks, hidden-moves, hidden-row, key-found, seen-moves}
 use Rattle.pingora_cache.proofs.MovesOf.{unnoted}
 use Rattle.pingora_cache.proofs.Noted.{held_with}

@@ -1,11 +1,11 @@
 use Rattle.std.proofs.Common.{rules, inl, Some, subst, refl}
 use Rattle.pcache_request.specs.Phases.{MayLookUp}
-use Rattle.pingora_cache.specs.Facts.{facts_in}
-use Rattle.pingora_cache.specs.Held.{Held, carrying}
-use Rattle.pingora_cache.specs.Rules.{Looks}
+use Rattle.pingora_cache.specs.PartFacts.{facts_in}
+use Rattle.pcache_history.specs.Held.{Held, carrying}
+use Rattle.pcache_history.specs.Rules.{Looks}
 use Rattle.pingora_cache.proofs.Looking.{carried-moves, looks-by}
 use Rattle.pingora_cache.specs.LockMoves.{MovesLocks}
-use Rattle.pingora_cache.specs.Deeds.{deeds_by}
+use Rattle.pcache_history.specs.Deeds.{deeds_by}
 use Rattle.pcache_lock.specs.declared.lock.status.LockStatus.TheVariants.{TransientError}
 use Rattle.pingora_cache.proofs.world.look.look.Goals as goal
 

@@ -1,14 +1,13 @@
 use Rattle.std.proofs.Common.{sym, subst, ap}
 use Rattle.pcache_request.specs.Requests.{Request}
-use Rattle.pingora_cache.specs.Facts.{facts_in}
-use Rattle.pingora_cache.specs.Held.{Held}
+use Rattle.pingora_cache.specs.PartFacts.{facts_in}
+use Rattle.pcache_history.specs.Held.{Held}
 use Rattle.pingora_cache.specs.Step.{MissesKey}
-use Rattle.pingora_cache.specs.declared.world.call.Reply.TheVariants.{NotFound}
+use Rattle.pcache_history.specs.declared.call.Reply.TheVariants.{NotFound}
 use Rattle.pingora_cache.proofs.Noted.{misses-asked}
 use Rattle.pingora_cache.specs.LockMoves.{MovesLocks}
-use Rattle.pingora_cache.specs.Deeds.{deeds_by}
+use Rattle.pcache_history.specs.Deeds.{deeds_by}
 use Rattle.pingora_cache.proofs.LockSteps.{look-noted, missed-locks}
-use Rattle.pingora_cache.specs.Held.{Held}
 use Rattle.pcache_lock.specs.declared.lock.status.LockStatus.TheVariants.{TransientError}
 use Rattle.pingora_cache.proofs.world.look.miss.Goals as goal
 

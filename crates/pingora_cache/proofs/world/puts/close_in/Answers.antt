@@ -1,8 +1,8 @@
 use Rattle.std.proofs.Common.{◌≡◌, ◌∙◌, ap, subst, sym}
 use Rattle.pcache_base.specs.Key.{slot}
-use Rattle.pingora_cache.specs.Facts.{facts_in}
-use Rattle.pingora_cache.specs.Held.{held_put}
-use Rattle.pingora_cache.specs.Taking.{taking}
+use Rattle.pingora_cache.specs.PartFacts.{facts_in}
+use Rattle.pcache_history.specs.Held.{held_put}
+use Rattle.pcache_history.specs.Taking.{taking}
 use Rattle.pingora_cache.proofs.PutClosed.{quiet-end, tells-end, unwritten, unwritten-answers-as, unwritten-moves-as, written, written-answers-as, written-moves-as, tells-as-answered}
 use Rattle.pingora_cache.proofs.world.puts.close_in.Goals as goal
 

@@ -1,5 +1,5 @@
 use Rattle.std.proofs.Common.{◌∙◌, sym}
-use Rattle.pingora_cache.specs.Taking.{taking}
+use Rattle.pcache_history.specs.Taking.{taking}
 use Rattle.pingora_cache.proofs.PutClosed.{drop-moves}
 use Rattle.pingora_cache.proofs.world.puts.drop_put.Goals as goal
 

@@ -1,7 +1,7 @@
 use Rattle.std.proofs.Common.{Some, subst}
-use Rattle.pingora_cache.specs.Held.{Held, held_put}
+use Rattle.pcache_history.specs.Held.{Held, held_put}
 use Rattle.pingora_cache.specs.Moved.{MovesStore}
-use Rattle.pingora_cache.specs.Taking.{taking}
+use Rattle.pcache_history.specs.Taking.{taking}
 use Rattle.pingora_cache.proofs.world.puts.feed.Goals as goal
 
 pub returns-clause-moves : goal.returns-clause-moves

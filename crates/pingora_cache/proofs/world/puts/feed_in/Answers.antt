@@ -1,7 +1,7 @@
 use Rattle.std.proofs.Common.{◌∙◌, ap}
 use Rattle.pcache_base.specs.Key.{slot}
 use Rattle.pcache_put_ctx.specs.State.{write_in}
-use Rattle.pingora_cache.specs.Taking.{taking}
+use Rattle.pcache_history.specs.Taking.{taking}
 use Rattle.pingora_cache.proofs.PutFed.{declined-moves, ends-declined, ends-on, ends-refused, goes-moves, left-drop, noted-drop, refused-answers-of, refused-moves}
 use Rattle.pingora_cache.proofs.world.puts.feed_in.Goals as goal
 

@@ -1,11 +1,11 @@
 use Rattle.std.proofs.Common.{rules, Option, Some, IsSome, subst, ◌++◌, ◌∷◌, [], ap, sym, ◌∙◌, option_map}
 use Rattle.pcache_store.specs.Readers.{reader_of}
-use Rattle.pingora_cache.specs.Held.{on_request, has_read}
-use Rattle.pingora_cache.specs.declared.world.entry.Event.TheVariants as E
+use Rattle.pcache_history.specs.Held.{on_request, has_read}
+use Rattle.pcache_history.specs.declared.entry.Event.TheVariants as E
 use Rattle.pcache_meta.specs.Meta.{Meta}
 use Rattle.pcache_request.specs.Requests.{Request}
 use Rattle.pcache_store.specs.Store.{Reader}
-use Rattle.pingora_cache.specs.Held.{Held}
+use Rattle.pcache_history.specs.Held.{Held}
 use Rattle.pingora_cache.specs.Moved.{MovesStore}
 use Rattle.pingora_cache.proofs.MovesOf.{reads-on}
 use Rattle.pingora_cache.proofs.Noted.{held_with, read-moved}

@@ -3,8 +3,8 @@ use Rattle.pcache_meta.specs.Meta.{Meta}
 use Rattle.pcache_request.specs.Requests.{Request}
 use Rattle.pcache_store.specs.Readers.{reader_of}
 use Rattle.pcache_store.specs.Store.{Reader}
-use Rattle.pingora_cache.specs.Due.{KeepsKey}
-use Rattle.pingora_cache.specs.Held.{Held}
+use Rattle.pcache_history.specs.Due.{KeepsKey}
+use Rattle.pcache_history.specs.Held.{Held}
 use Rattle.pingora_cache.specs.Moved.{MovesStore}
 use Rattle.pingora_cache.proofs.Keeps.{keeps-sought}
 use Rattle.pingora_cache.proofs.MovesOf.{seeks-to}

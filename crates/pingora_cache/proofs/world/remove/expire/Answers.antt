@@ -4,13 +4,13 @@ use Rattle.pcache_request.specs.Requests.{Request}
 use Rattle.pcache_store.specs.Readers.{reader_of}
 use Rattle.pcache_store.specs.Store.{Reader}
 use Rattle.pcache_base.specs.Key.{slot}
-use Rattle.pingora_cache.specs.Held.{Held}
+use Rattle.pcache_history.specs.Held.{Held}
 use Rattle.pingora_cache.specs.Moved.{Moves}
 use Rattle.pingora_cache.proofs.MovesOf.{expires, idle}
 use Rattle.pingora_cache.proofs.Noted.{held_with, expire-store, expire-tracks}
 use Rattle.pingora_cache.proofs.world.remove.expire.Goals as goal
 use Rattle.pingora_cache.specs.LockMoves.{MovesLocks}
-use Rattle.pingora_cache.specs.Deeds.{deeds_by}
+use Rattle.pcache_history.specs.Deeds.{deeds_by}
 use Rattle.pingora_cache.proofs.LockSteps.{expire-locks, none_noted}
 use Rattle.pcache_lock.specs.declared.lock.status.LockStatus.TheVariants.{Done}
 use Rattle.pingora_cache.proofs.world.remove.expire.Goals.{in-Ok, in-Err}

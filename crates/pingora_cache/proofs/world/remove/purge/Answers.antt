@@ -3,13 +3,13 @@ use Rattle.pcache_meta.specs.Meta.{Meta}
 use Rattle.pcache_request.specs.Requests.{Request}
 use Rattle.pcache_store.specs.Readers.{reader_of}
 use Rattle.pcache_store.specs.Store.{Reader}
-use Rattle.pingora_cache.specs.Held.{Held}
+use Rattle.pcache_history.specs.Held.{Held}
 use Rattle.pingora_cache.specs.Moved.{Moves}
 use Rattle.pingora_cache.proofs.MovesOf.{purges, idle}
 use Rattle.pingora_cache.proofs.Noted.{held_with, goes, purge-events, purge-untracks, purge-store}
 use Rattle.pingora_cache.proofs.world.remove.purge.Goals as goal
 use Rattle.pingora_cache.specs.LockMoves.{MovesLocks}
-use Rattle.pingora_cache.specs.Deeds.{deeds_by}
+use Rattle.pcache_history.specs.Deeds.{deeds_by}
 use Rattle.pingora_cache.proofs.LockSteps.{none_noted, purge-locks}
 use Rattle.pcache_lock.specs.declared.lock.status.LockStatus.TheVariants.{Done}
 use Rattle.pingora_cache.proofs.world.remove.purge.Goals.{in-Ok, in-Err}

@@ -1,24 +1,23 @@
 use Rattle.std.proofs.Common.{rules, inl, ◌≡◌, ◌++◌, None, Option, Some, refl, ap, sym, subst, ◌∙◌, option_map}
 use Rattle.pcache_meta.specs.Meta.{Meta}
-use Rattle.pcache_request.specs.Releasing.{MayDisable}
+use Rattle.pcache_request.specs.Releasing.{MayDisable, status_for}
 use Rattle.pcache_request.specs.Requests.{Request, dropped_by, left_by}
 use Rattle.pcache_store.specs.Readers.{reader_of}
 use Rattle.pcache_store.specs.Store.{Reader}
-use Rattle.pingora_cache.specs.Held.{Held}
+use Rattle.pcache_history.specs.Held.{Held}
 use Rattle.pingora_cache.specs.Moved.{MovesStore}
-use Rattle.pingora_cache.specs.Facts.{no_facts}
-use Rattle.pingora_cache.specs.Rules.{Answers, drop_of, each, permit_of, release_of}
-use Rattle.pingora_cache.specs.declared.world.call.Call.TheVariants as calls
-use Rattle.pingora_cache.specs.declared.world.call.Reply.TheVariants as replies
-use Rattle.pingora_cache.specs.declared.world.entry.Event.TheVariants as E
+use Rattle.pingora_cache.specs.PartFacts.{no_facts}
+use Rattle.pcache_history.specs.Rules.{Answers, drop_of, each, permit_of, release_of}
+use Rattle.pcache_history.specs.declared.call.Call.TheVariants as calls
+use Rattle.pcache_history.specs.declared.call.Reply.TheVariants as replies
+use Rattle.pcache_history.specs.declared.entry.Event.TheVariants as E
 use Rattle.pingora_cache.specs.Step.{permit_in}
 use Rattle.pingora_cache.proofs.MovesOf.{switches-off}
 use Rattle.pingora_cache.proofs.Noted.{held_with, permit-named}
 use Rattle.pingora_cache.specs.LockMoves.{MovesLocks}
-use Rattle.pingora_cache.specs.Deeds.{deeds_by}
+use Rattle.pcache_history.specs.Deeds.{deeds_by}
 use Rattle.pingora_cache.proofs.LockSteps.{settle-then}
 use Rattle.pingora_cache.proofs.Waiting.{status-reason}
-use Rattle.pcache_request.specs.Releasing.{status_for}
 use Rattle.pcache_lock.specs.declared.lock.status.LockStatus.TheVariants.{GiveUp}
 use Rattle.pingora_cache.proofs.world.switch.disable.Goals as goal
 

@@ -2,7 +2,7 @@ use Rattle.std.proofs.Common.{rules, ◌≡◌, Option, None, Some, sym, subst}
 use Rattle.std.specs.BTreeMap.{is_at}
 use Rattle.std.specs.Map.{lookup}
 use Rattle.std.specs.Ordering.{nat_cmp}
-use Rattle.pingora_cache.specs.Held.{Held}
+use Rattle.pcache_history.specs.Held.{Held}
 use Rattle.pingora_cache.specs.Moved.{MovesStore}
 use Rattle.pingora_cache.proofs.world.turn.drop_put.Goals as goal
 

@@ -1,6 +1,6 @@
 use Rattle.std.proofs.Common.{◌∙◌, Some, ap, subst, sym}
 use Rattle.pcache_store.specs.Store.{Store}
-use Rattle.pingora_cache.specs.Held.{Held}
+use Rattle.pcache_history.specs.Held.{Held}
 use Rattle.pingora_cache.specs.Moved.{MovesStore}
 use Rattle.pingora_cache.proofs.MovesOf.{idle}
 use Rattle.pingora_cache.proofs.world.turn.on_put.Goals.{in-Feed, in_default}

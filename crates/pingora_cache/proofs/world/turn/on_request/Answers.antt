@@ -1,7 +1,7 @@
 use Rattle.std.proofs.Common.{Some, inl, subst, sym}
-use Rattle.pingora_cache.specs.declared.world.call.Call.{Call}
-use Rattle.pingora_cache.specs.Facts.{facts_in}
-use Rattle.pingora_cache.specs.Rules.{Replies}
+use Rattle.pcache_history.specs.declared.call.Call.{Call}
+use Rattle.pingora_cache.specs.PartFacts.{facts_in}
+use Rattle.pcache_history.specs.Rules.{Replies}
 use Rattle.pingora_cache.proofs.PutTurns.{fed-locks-of, right-turned}
 use Rattle.pingora_cache.proofs.TurnOf.{row-kept}
 use Rattle.pingora_cache.proofs.world.turn.on_request.Goals as goal

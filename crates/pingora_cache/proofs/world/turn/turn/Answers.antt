@@ -1,7 +1,7 @@
 use Rattle.std.proofs.Common.{Some, sym, subst}
-use Rattle.pingora_cache.specs.Facts.{facts_in}
-use Rattle.pingora_cache.specs.Rules.{Answers}
-use Rattle.pingora_cache.specs.declared.world.call.Call.{Call}
+use Rattle.pingora_cache.specs.PartFacts.{facts_in}
+use Rattle.pcache_history.specs.Rules.{Answers}
+use Rattle.pcache_history.specs.declared.call.Call.{Call}
 use Rattle.pingora_cache.proofs.world.turn.turn.Goals as goal
 
 pub returns-in-Expire-clause-answers : goal.returns-in-Expire-clause-answers

@@ -1,7 +1,7 @@
 use Rattle.std.proofs.Common.{◌≡◌, Some, refl, ap, sym, ◌∙◌}
 use Rattle.pcache_request.specs.Renewals.{renewed_by}
 use Rattle.pcache_request.specs.Requests.{Request}
-use Rattle.pingora_cache.specs.Rules.{permit_of}
+use Rattle.pcache_history.specs.Rules.{permit_of}
 use Rattle.pingora_cache.specs.Step.{permit_in}
 use Rattle.pingora_cache.proofs.MovesOf.{renews}
 use Rattle.pingora_cache.proofs.Noted.{held_with, permit-named, renewed-as, renews-told}

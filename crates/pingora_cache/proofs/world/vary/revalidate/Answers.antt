@@ -3,13 +3,13 @@ use Rattle.pcache_meta.specs.Meta.{Meta}
 use Rattle.pcache_request.specs.Stale.{MayRevalidate}
 use Rattle.pcache_store.specs.Readers.{reader_of}
 use Rattle.pcache_store.specs.Store.{Reader}
-use Rattle.pingora_cache.specs.Facts.{facts_in}
-use Rattle.pingora_cache.specs.Held.{Held}
+use Rattle.pingora_cache.specs.PartFacts.{facts_in}
+use Rattle.pcache_history.specs.Held.{Held}
 use Rattle.pingora_cache.specs.Moved.{MovesStore}
-use Rattle.pingora_cache.specs.Rules.{Renews}
+use Rattle.pcache_history.specs.Rules.{Renews}
 use Rattle.pingora_cache.proofs.Noted.{held_with}
 use Rattle.pingora_cache.specs.LockMoves.{MovesLocks}
-use Rattle.pingora_cache.specs.Deeds.{deeds_by}
+use Rattle.pcache_history.specs.Deeds.{deeds_by}
 use Rattle.pcache_lock.specs.declared.lock.status.LockStatus.TheVariants.{Done}
 use Rattle.pingora_cache.proofs.world.vary.revalidate.Goals as goal
 

@@ -3,16 +3,16 @@ use Rattle.pcache_meta.specs.Meta.{Meta}
 use Rattle.pcache_request.specs.Requests.{Request}
 use Rattle.pcache_store.specs.Readers.{reader_of}
 use Rattle.pcache_store.specs.Store.{Reader}
-use Rattle.pingora_cache.specs.Held.{Held}
+use Rattle.pcache_history.specs.Held.{Held}
 use Rattle.pingora_cache.specs.Moved.{MovesStore}
 use Rattle.pingora_cache.specs.Step.{permit_in}
-use Rattle.pingora_cache.specs.declared.world.entry.Event.TheVariants.{Release}
+use Rattle.pcache_history.specs.declared.entry.Event.TheVariants.{Release}
 use Rattle.pingora_cache.proofs.MovesOf.{turns-quietly, quiet-noted}
 use Rattle.pingora_cache.proofs.Noted.{held_with}
 use Rattle.pingora_cache.specs.LockMoves.{MovesLocks}
-use Rattle.pingora_cache.specs.Deeds.{deeds_by}
+use Rattle.pcache_history.specs.Deeds.{deeds_by}
 use Rattle.pingora_cache.proofs.LockSteps.{varied-locks}
-use Rattle.pingora_cache.specs.Held.{Held}
+use Rattle.pcache_history.specs.Held.{Held}
 use Rattle.pcache_lock.specs.declared.lock.status.LockStatus.TheVariants.{Done}
 use Rattle.pcache_request.specs.Variants.{leaves_variant}
 use Rattle.pingora_cache.proofs.world.vary.variance.Goals as goal

@@ -1,6 +1,6 @@
 use Rattle.std.proofs.Common.{IsSome, refl, subst, sym}
-use Rattle.pingora_cache.specs.Held.{Held}
-use Rattle.pingora_cache.specs.Taking.{taking}
+use Rattle.pcache_history.specs.Held.{Held}
+use Rattle.pcache_history.specs.Taking.{taking}
 use Rattle.pingora_cache.proofs.world.puts.OpenPut.is_held.Goals as goal
 
 pub returns-clause-held : goal.returns-clause-held

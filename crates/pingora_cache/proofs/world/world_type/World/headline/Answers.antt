@@ -1,4 +1,4 @@
-use Rattle.pingora_cache.proofs.Promised.{finds_untouched, hands_on_unhidden, finishes_untouched, hits_the_last, stays_within, evicts_nothing_within, gives_where_none_waits}
+use Rattle.pcache_history.proofs.Promised.{finds_untouched, hands_on_unhidden, finishes_untouched, hits_the_last, stays_within, evicts_nothing_within, gives_where_none_waits}
 use Rattle.pingora_cache.proofs.world.world_type.World.headline.Goals as goal
 
 pub returns-clause-finds : goal.returns-clause-finds

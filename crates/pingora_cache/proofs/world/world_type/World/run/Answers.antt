@@ -1,6 +1,6 @@
 use Rattle.std.proofs.Common.{◌≡◌, ◌∙◌, ◌++◌, ◌∷◌, [], ap, sym, subst, refl, length, arith, append_assoc, length-append, vec_len}
 use Rattle.std.specs.Vec.Iter.{into_iter_items}
-use Rattle.pingora_cache.specs.Log.{AddsAll, HasLegal}
+use Rattle.pcache_history.specs.Log.{AddsAll, HasLegal}
 use Rattle.pingora_cache.proofs.History.{adds-more}
 use Rattle.pingora_cache.proofs.world.world_type.World.run.Goals as goal
 

@@ -1,7 +1,7 @@
 use Rattle.std.proofs.Common.{◌≡◌, ◌≤◌, ◌++◌, vec_len, length}
 use Rattle.std.specs.Vec.{vec_capacity}
 use Rattle.std.specs.Vec.Iter.{into_iter_items}
-use Rattle.pingora_cache.specs.Log.{AddsAll, HasLegal}
+use Rattle.pcache_history.specs.Log.{AddsAll, HasLegal}
 use Rattle.pingora_cache.proofs.world.world_type.World.run.Given as goal
 
 abbrev pub invariant-loop-call : goal.invariant-loop-call

@@ -1,6 +1,6 @@
 use Rattle.std.proofs.Common.{◌≤◌, ap, sym, subst, ◌∙◌, IfSome}
-use Rattle.pingora_cache.specs.Events.{slots}
-use Rattle.pingora_cache.specs.Log.{Log, events_in}
+use Rattle.pcache_history.specs.Events.{slots}
+use Rattle.pcache_history.specs.Log.{Log, events_in}
 use Rattle.pingora_cache.proofs.StateTotals.{slots-is}
 use Rattle.pingora_cache.proofs.world.world_type.World.slots.Goals as goal
 

@@ -1,5 +1,5 @@
 use Rattle.std.proofs.Common.{rules, ◌++◌, ◌∷◌, [], ◌∙◌, ap}
-use Rattle.pingora_cache.specs.Log.{Log}
+use Rattle.pcache_history.specs.Log.{Log}
 use Rattle.pingora_cache.proofs.PutSound.{puts-same}
 use Rattle.pingora_cache.proofs.Worlds.{not-both, puts-step, same-age, sound-same, sound-step, started-once}
 use Rattle.pingora_cache.proofs.world.world_type.World.step.Goals as goal

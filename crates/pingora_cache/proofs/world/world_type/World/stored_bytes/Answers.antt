@@ -1,6 +1,6 @@
 use Rattle.std.proofs.Common.{◌≤◌, ap, sym, subst, ◌∙◌}
-use Rattle.pingora_cache.specs.Events.{stored}
-use Rattle.pingora_cache.specs.Log.{Log, events_in}
+use Rattle.pcache_history.specs.Events.{stored}
+use Rattle.pcache_history.specs.Log.{Log, events_in}
 use Rattle.pingora_cache.proofs.StateTotals.{stored-is}
 use Rattle.pingora_cache.proofs.world.world_type.World.stored_bytes.Goals as goal
 

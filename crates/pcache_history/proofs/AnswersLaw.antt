@@ -1,0 +1,24 @@
+-- What a legal history tells of a look-up and of a read is what the events before it say.
+use Rattle.std.proofs.Common.{◌≡◌, Option, None, Some, refl, subst}
+use Rattle.pcache_store.specs.Store.{Reader}
+use Rattle.pcache_history.specs.Due.{makes_of, reader_for, AreDue}
+use Rattle.pcache_history.specs.Headline.{LooksAreTrue, ReadsAreTrue}
+use Rattle.pcache_history.specs.Held.{Held, number_of, row, request_of}
+use Rattle.pcache_history.specs.History.{events_of}
+
+pub looks_are_true : LooksAreTrue
+looks_are_true age limits start before entry k answer rest l is =
+    let q = request_of (number_of entry.call) before in
+    (subst (λ xs. AreDue limits start (events_of before) q (makes_of q) None xs (makes_of (row entry.call entry.reply entry.events q))) is l.0.due).0
+
+-- a reader that is told is that of an open request
+reader-is : (q : Option Held) (rd : Reader) → reader_for q ≡ Some rd → (x : Held) × (q ≡ Some x) × (x.request.reader ≡ Some rd)
+reader-is None rd is = absurd (cc)
+reader-is (Some x) rd is = (x, refl, is)
+
+pub reads_are_true : ReadsAreTrue
+reads_are_true age limits start before entry answer rest l is =
+    let q = request_of (number_of entry.call) before in
+    let told = (subst (λ xs. AreDue limits start (events_of before) q (makes_of q) None xs (makes_of (row entry.call entry.reply entry.events q))) is l.0.due).0 in
+    let x = reader-is q told.0 told.1 in
+    (x.0, told.0, x.1, x.2, told.2)

@@ -1,0 +1,186 @@
+-- What is read through a hit is the body that a look-up of its request found.
+use Rattle.std.proofs.Common.{◌≡◌, ℕ, ◌==◌, ◌&&◌, nat_lt, length, Bool, true, false, cond, if◌then◌else◌, Option, None, Some, List, [], ◌∷◌, ◌++◌, refl, ap, sym, subst, ◌∙◌}
+use Rattle.std.specs.Option.{option_map}
+use Rattle.std.proofs.lemmas.Bool.{eqb-true}
+use Rattle.pcache_evict.specs.Tracked.{Tracked, Limits}
+use Rattle.pcache_meta.specs.Meta.{Meta}
+use Rattle.pcache_base.specs.declared.poll.Poll.{Poll}
+use Rattle.pcache_base.specs.declared.poll.Poll.TheVariants.{Ready, Pending}
+use Rattle.pcache_base.specs.declared.reason.NoCacheReason.TheVariants as reason
+use Rattle.pcache_base.specs.declared.reason.NoCacheReason.TheVariants.{Deferred}
+use Rattle.pcache_predict.specs.declared.admission.Decision.{Decision}
+use Rattle.pcache_request.specs.Admissions.{is_deferral, with_decision}
+use Rattle.pcache_request.specs.Phases.{is_treated_as_miss}
+use Rattle.pcache_request.specs.Releasing.{disabled_for, disabled_in}
+use Rattle.pcache_request.specs.Renewals.{renewed}
+use Rattle.pcache_request.specs.Variants.{is_hidden, visible}
+use Rattle.pcache_request.specs.declared.phase.CachePhase.{CachePhase}
+use Rattle.pcache_request.specs.declared.phase.CachePhase.TheVariants as phase
+use Rattle.pcache_request.specs.Requests.{Request, without_reader}
+use Rattle.pcache_request.specs.declared.phase.HitStatus.{HitStatus}
+use Rattle.pcache_store.specs.Store.{Reader, Whole, Part, end_or, is_forward}
+use Rattle.pcache_history.specs.declared.entry.Answer.{Answer}
+use Rattle.pcache_history.specs.declared.entry.Answer.TheVariants as A
+use Rattle.pcache_history.specs.declared.entry.Entry.{Entry}
+use Rattle.pcache_history.specs.declared.entry.Event.{Event}
+use Rattle.pcache_history.specs.declared.entry.Event.TheVariants as E
+use Rattle.pcache_history.specs.Headline.{IsFoundBy, ReadsWhatWasFound}
+use Rattle.pcache_history.specs.Held.{Held, Change, fed_in, held_put, opens, closes, stays, turns, turns_by, shuts, looks, takes, begins, ends, reads_on, seeks, reads_no_more, renews, waits, pushes, feeds, goes, change_of, changed, turned_by, shut_by, sought_in, with_sought, number_of, Outcome, outcome, is_wrong, is_done, is_taken, opened, asked, carrying, decides, looked_by, looked_with, pair_of, placed_by, taken_by, without_pair, began, ended, read_past, has_read, on_request, row, request_of, pair_reader}
+use Rattle.pcache_history.specs.Taking.{Taking, new_put}
+use Rattle.pcache_history.specs.History.{events_of}
+use Rattle.pcache_history.specs.Legal.{IsLegal}
+use Rattle.pcache_history.proofs.Taken.{taken_keeps}
+use Rattle.pcache_history.proofs.AnswersLaw.{looks_are_true}
+use Rattle.pcache_history.proofs.WriteLaws.{reads_the_last}
+use Rattle.pcache_history.proofs.Promised.{legal-part}
+use Rattle.pcache_history.proofs.ReadsLaw.{asked-reader, decided-reader, waited-reader}
+
+-- a reader of a complete body has one of these
+abbrev IsOf : (List ℕ → Type 0) → Option Reader → Type 0
+IsOf P None = Unit {0}
+IsOf P (Some (Whole body start stop done)) = P body
+IsOf P (Some (Part w place)) = Unit {0}
+
+abbrev AreOf : (List ℕ → Type 0) → Option Held → Type 0
+AreOf P None = Unit {0}
+AreOf P (Some x) = IsOf P x.request.reader × IsOf P (pair_reader x.pair)
+
+is-of-more : (P Q : List ℕ → Type 0) (o : Option Reader) → ((body : List ℕ) → P body → Q body) → IsOf P o → IsOf Q o
+is-of-more P Q None more h = tt
+is-of-more P Q (Some (Whole body start stop done)) more h = more body h
+is-of-more P Q (Some (Part w place)) more h = tt
+
+are-of-more : (P Q : List ℕ → Type 0) (q : Option Held) → ((body : List ℕ) → P body → Q body) → AreOf P q → AreOf Q q
+are-of-more P Q None more h = tt
+are-of-more P Q (Some x) more h = (is-of-more P Q x.request.reader more h.0, is-of-more P Q (pair_reader x.pair) more h.1)
+
+either : (P : List ℕ → Type 0) (b : Bool) (p q : Option Held) → AreOf P p → AreOf P q → AreOf P (cond b p q)
+either P true p q h k = h
+either P false p q h k = k
+
+-- one change, after which every body that a look-up of it found is one of these
+module _ (P : List ℕ → Type 0) (events : List Event) (found : (k : ℕ) (m : Meta) (body : List ℕ) (rest : List Event) → events ≡ E.Look k (A.Complete m body) ∷ rest → P body) (o : Outcome) where
+  -- what was found is one, and so is what is handed on of it
+  answered : (k : ℕ) (a : Answer) (es : List Event) → events ≡ E.Look k a ∷ es → IsOf P (pair_reader (pair_of a))
+  answered k A.Nothing es is = tt
+  answered k (A.Complete m body) es is = found k m body es is
+  answered k (A.Streaming m w) es is = tt
+
+  seen-of : (from : Option ℕ) (p : Option (Meta × Reader)) → IsOf P (pair_reader p) → IsOf P (pair_reader (visible from p))
+  seen-of from None h = tt
+  seen-of from (Some p) h = elim (is_hidden from p.0.created) as (λ b. IsOf P (pair_reader (cond b None (Some p)))) [ true ↦ tt | false ↦ h ]
+
+  off-of : (x : Request) (p : CachePhase) → IsOf P x.reader → IsOf P (disabled_in p Deferred x).reader
+  off-of x (phase.Disabled reason.NeverEnabled) h = h
+  off-of x p h = tt
+
+  looked-on : (d : Option Decision) (a : Answer) (es : List Event) (x : Held) → AreOf P (Some x) → IsOf P (pair_reader (pair_of a)) → AreOf P (Some (looked_with d a es x))
+  looked-on d a es x h k =
+      let old : IsOf P (with_decision d x.request).reader = subst (IsOf P) (sym (decided-reader d x.request)) h.0 in
+      elim (is_deferral d) as (λ b. AreOf P (Some (cond b (record { request = disabled_for Deferred (with_decision d x.request); pair = None; carried = None; put = x.put }) (record { request = asked false es (with_decision d x.request); pair = visible x.request.valid_after (pair_of a); carried = x.carried; put = x.put })))) [
+        | true ↦ (off-of (with_decision d x.request) (with_decision d x.request).phase old, tt)
+        | false ↦ (subst (IsOf P) (sym (asked-reader false es (with_decision d x.request))) old, seen-of x.request.valid_after (pair_of a) k)
+      ]
+
+  looked : (x : Held) (es : List Event) → events ≡ es → AreOf P (Some x) → AreOf P (Some (looked_by es x))
+  looked x [] is h = h
+  looked x (E.Look k a ∷ es) is h = looked-on (decides a x) a es x h (answered k a es is)
+  looked x (e ∷ es) is h = h
+
+  placed-of : (s : HitStatus) (x : Request) (p : Option (Meta × Reader)) → IsOf P x.reader → IsOf P (pair_reader p) → IsOf P (placed_by s events x p).reader
+  placed-of s x None h k = h
+  placed-of s x (Some p) h k = elim (is_treated_as_miss s) as (λ b. IsOf P (cond b None (Some p.1))) [ true ↦ tt | false ↦ k ]
+
+  began-of : (joined : Bool) (x : Request) (es : List Event) → IsOf P x.reader → IsOf P (began joined es x).reader
+  began-of joined x [] h = h
+  began-of true x (E.Begin w k m ∷ es) h = tt
+  began-of false x (E.Begin w k m ∷ es) h = h
+  began-of joined x (e ∷ es) h = h
+
+  ended-of : (x : Request) (es : List Event) → IsOf P x.reader → IsOf P (ended es x).reader
+  ended-of x [] h = h
+  ended-of x (e ∷ es) h = h
+
+  past-of : (a : Poll (Option (List ℕ))) (r : Option Reader) → IsOf P r → IsOf P (option_map (read_past a) r)
+  past-of a None h = tt
+  past-of a (Some (Whole body start stop done)) h = h
+  past-of (Ready (Some bs)) (Some (Part w place)) h = tt
+  past-of (Ready None) (Some (Part w place)) h = tt
+  past-of Pending (Some (Part w place)) h = tt
+
+  read-of : (x : Request) (es : List Event) → IsOf P x.reader → IsOf P (has_read es x).reader
+  read-of x [] h = h
+  read-of x (E.Read a ∷ es) h = past-of a x.reader h
+  read-of x (e ∷ es) h = h
+
+  -- another range of the same body
+  sought-of : (start : ℕ) (end : Option ℕ) (r : Option Reader) → IsOf P r → IsOf P (sought_in start end r)
+  sought-of start end None h = tt
+  sought-of start end (Some (Part w place)) h = tt
+  sought-of start end (Some (Whole body from to done)) h =
+      elim (nat_lt start (length body) && is_forward start end) as (λ b. IsOf P (cond b (Some (Whole body start (end_or end (length body)) false)) None)) [ true ↦ h | false ↦ tt ]
+
+  change-of : (change : Change) (q : Option Held) → AreOf P q → AreOf P (changed change o events q)
+  change-of (opens options) q h = either P (is_done o) (Some (opened options)) q (tt, tt) h
+  change-of closes q h = either P (is_done o) None q tt h
+  change-of stays q h = h
+  change-of (turns f leaves_pair) None h = either P (is_done o) None None tt tt
+  change-of (turns f leaves_pair) (Some x) h =
+      either P (is_done o) (Some (turned_by f leaves_pair x)) (Some x) (h.0, elim leaves_pair as (λ b. IsOf P (pair_reader (cond b None x.pair))) [ true ↦ tt | false ↦ h.1 ]) h
+  change-of (turns_by f) None h = either P (is_done o) None None tt tt
+  change-of (turns_by f) (Some x) h = either P (is_done o) (Some (turned_by (f x.pair) false x)) (Some x) (h.0, h.1) h
+  change-of (shuts f) None h = either P (is_done o) None None tt tt
+  change-of (shuts f) (Some x) h = either P (is_done o) (Some (shut_by f x)) (Some x) (tt, tt) h
+  change-of (looks d) None h = either P (is_wrong o) None None tt tt
+  change-of (looks d) (Some x) h = either P (is_wrong o) (Some x) (Some (looked_by events (carrying d x))) h (looked (carrying d x) events refl h)
+  change-of (takes s) None h = either P (is_taken o) None (cond (is_wrong o) None None) tt (either P (is_wrong o) None None tt tt)
+  change-of (takes s) (Some x) h =
+      either P (is_taken o) (Some (taken_by s events x)) (cond (is_wrong o) (Some x) (Some (without_pair x))) (placed-of s x.request x.pair h.0 h.1, tt) (either P (is_wrong o) (Some x) (Some (without_pair x)) h (h.0, tt))
+  change-of begins None h = tt
+  change-of begins (Some x) h = (began-of (is_done o) x.request events h.0, h.1)
+  change-of ends None h = tt
+  change-of ends (Some x) h = (ended-of x.request events h.0, h.1)
+  change-of reads_on None h = tt
+  change-of reads_on (Some x) h = (read-of x.request events h.0, h.1)
+  change-of (seeks start end) None h = either P (is_done o) None None tt tt
+  change-of (seeks start end) (Some x) h = either P (is_done o) (Some (on_request (with_sought start end) x)) (Some x) (sought-of start end x.request.reader h.0, h.1) h
+  change-of reads_no_more None h = either P (is_wrong o) None None tt tt
+  change-of reads_no_more (Some x) h = either P (is_wrong o) (Some x) (Some (on_request without_reader x)) h (tt, h.1)
+  change-of (renews m) None h = either P (is_wrong o) None None tt tt
+  change-of (renews m) (Some x) h = either P (is_wrong o) (Some x) (Some (on_request (renewed m) x)) h (h.0, h.1)
+  change-of (waits now) None h = tt
+  change-of (waits now) (Some x) h = (subst (IsOf P) (sym (waited-reader o now x.request)) h.0, h.1)
+  change-of (pushes k limit) q h = either P (is_done o) (Some (held_put (new_put k limit))) q (tt, tt) h
+  change-of feeds None h = tt
+  change-of feeds (Some x) h = fed-of x.put
+    where
+      fed-on : (p : Option Taking) → AreOf P (Some (fed_in o events x p))
+      fed-on None = h
+      fed-on (Some p) = (tt, tt)
+
+      fed-of : (p : Option Taking) → AreOf P (Some (cond (is_wrong o) x (fed_in o events x p)))
+      fed-of p = elim (is_wrong o) as (λ b. AreOf P (Some (cond b x (fed_in o events x p)))) [ true ↦ h | false ↦ fed-on p ]
+  change-of goes q h = either P (is_wrong o) q None h tt
+
+-- an older look-up stands in a longer history
+found-more : (e : Entry) (h : List Entry) (r : ℕ) (body : List ℕ) → IsFoundBy h r body → IsFoundBy (e ∷ h) r body
+found-more e h r body f = (e ∷ f.0, f.1, f.2, f.3, f.4, f.5, ap (λ xs. e ∷ xs) f.6, f.7, f.8)
+
+held-found : (r : ℕ) (h : List Entry) → AreOf (IsFoundBy h r) (request_of r h)
+held-found r [] = tt
+held-found r (e ∷ h) =
+    let q = request_of r h in
+    let P = IsFoundBy (e ∷ h) r in
+    let old : AreOf P q = are-of-more (IsFoundBy h r) P q (λ body f. found-more e h r body f) (held-found r h) in
+    taken_keeps (AreOf P) (λ x l is. is) e.call (outcome e.reply) r (request_of (number_of e.call) h) (if number_of e.call == r then row e.call e.reply e.events q else q) (elim (number_of e.call == r) as (λ b. (number_of e.call == r) ≡ b → AreOf P (if b then row e.call e.reply e.events q else q)) [
+      | true ↦ λ is. change-of P e.events (λ k m body rest all. ([], e, h, k, m, rest, refl, eqb-true (number_of e.call) r is, all)) (outcome e.reply) (change_of e.call) q old
+      | false ↦ λ _. old
+    ] refl)
+
+pub reads_what_was_found : ReadsWhatWasFound
+reads_what_was_found age limits start h r x body from to done l is has =
+    let all : AreOf (IsFoundBy h r) (Some x) = subst (AreOf (IsFoundBy h r)) is (held-found r h) in
+    let f : IsFoundBy h r body = subst (IsOf (IsFoundBy h r)) has all.0 in
+    let at = legal-part age limits start f.0 f.1 f.2 (subst (IsLegal age limits start) f.6 l) in
+    let last = reads_the_last age limits start f.2 f.3 f.4 body at.1 (looks_are_true age limits start f.2 f.1 f.3 (A.Complete f.4 body) f.5 at f.8) in
+    (f, last.0, last.1, last.2, last.3)

@@ -1,0 +1,135 @@
+-- What stands under a key after one more event.
+use Rattle.std.proofs.Common.{◌≡◌, ℕ, ◌<◌, Bool, true, false, ◌||◌, ◌==◌, if◌then◌else◌, Option, None, Some, is_some, List, [], ◌∷◌, ◌++◌, refl, ap, sym, subst, ◌∙◌, arith, inl, inr}
+use Rattle.std.specs.Option.{option_map, option_and_then}
+use Rattle.std.specs.List.{list_any}
+use Rattle.std.proofs.lemmas.Bool.{eqb-true, ne_eqb, and_parts, both_ways, cases_lt, not-true}
+use Rattle.pcache_meta.specs.Meta.{Meta, expired_at}
+use Rattle.pcache_evict.specs.declared.eviction.entry_key.CacheEntryKey.{CacheEntryKey}
+use Rattle.pcache_store.specs.Store.{Stored}
+use Rattle.pcache_history.specs.declared.entry.Event.{Event}
+use Rattle.pcache_history.specs.declared.entry.Event.TheVariants.{Begin, Wrote, Finish, Admit, Purge, Expire, Renew}
+use Rattle.pcache_history.specs.Events.{begun, begin_of, since, until, stores, removes, names_key, option_any, is_removed, has_ended, in_flight, body_of, is_of, last_finished, altered_by, meta_kept, complete}
+use Rattle.pcache_history.specs.Kept.{IsTidy}
+use Rattle.pcache_history.proofs.Sums.{same-number}
+
+-- a write in flight was begun, and has not ended
+pub flies : (w : ℕ) (es : List Event) → in_flight w es ≡ true → (is_some (begin_of w es) ≡ true) × (has_ended w es ≡ false)
+flies w es h = let p = and_parts _ _ h in (p.0, not-true _ p.1)
+
+pub below : (w : ℕ) (es : List Event) → IsTidy es → is_some (begin_of w es) ≡ true → w < begun es
+below w es tidy h = elim (cases_lt w (begun es)) [ inl lt ↦ lt | inr ge ↦ absurd (both_ways _ (ap is_some (tidy.unbegun w ge)) h) ]
+
+-- a write of a key was begun
+pub begun_of : (k w : ℕ) (es : List Event) → is_of k w es ≡ true → is_some (begin_of w es) ≡ true
+begun_of k w es h = elim (begin_of w es) as (λ o. option_any (λ (b : ℕ × Meta). b.0 == k) o ≡ true → is_some o ≡ true) [ None ↦ λ e. cc | Some b ↦ λ _. refl ] h
+
+-- what stands of the last finished write of a key, if two readings of each write agree
+by_last : {A : Type 0} (o : Option ℕ) (f g : ℕ → Option A) → ((w : ℕ) → o ≡ Some w → f w ≡ g w) → option_and_then f o ≡ option_and_then g o
+by_last None f g h = refl
+by_last (Some w) f g h = h w refl
+
+-- a body, unless its write met a removal; its meta is what f makes of the one that it began with under its key
+abbrev pub unless_removed : Bool → Option (ℕ × Meta) → (ℕ → Meta → Meta) → List ℕ → Option Stored
+unless_removed b o f body = if b then None else option_map (λ x. record { meta = f x.0 x.1; bytes = body }) o
+
+pub complete-wrote : (es : List Event) (w : ℕ) (bs : List ℕ) (eof : Bool) → IsTidy es → in_flight w es ≡ true → (k : ℕ) → complete k (Wrote w bs eof ∷ es) ≡ complete k es
+complete-wrote es w bs eof tidy fly k =
+    by_last (last_finished k es) _ _ (λ x is.
+    let apart : (w == x) ≡ false = ne_eqb w x (λ same. both_ways _ (flies w es fly).1 (subst (λ y. has_ended y es ≡ true) (sym same) (tidy.finished k x is).0)) in
+    ap (λ b. unless_removed (is_removed x es) (begin_of x es) (meta_kept x es) (if b then body_of x es ++ bs else body_of x es)) apart)
+
+pub complete-begin : (es : List Event) (k : ℕ) (m : Meta) → IsTidy es → (q : ℕ) → complete q (Begin (begun es) k m ∷ es) ≡ complete q es
+complete-begin es k m tidy q =
+    by_last (last_finished q es) _ _ (λ x is.
+    let lt : x < begun es = below x es tidy (begun_of q x es (tidy.finished q x is).1) in
+    let apart : (begun es == x) ≡ false = ne_eqb (begun es) x (omega arith) in
+    ap (λ b. unless_removed (option_any (λ (a : ℕ × Meta). list_any (removes a.0) (if b then [] else Begin (begun es) k m ∷ since x es)) (if b then Some (k, m) else begin_of x es)) (if b then Some (k, m) else begin_of x es) (meta_kept x es) (body_of x es)) apart)
+
+-- an event that removes keys
+removed-last : (p : ℕ → Bool) (k : ℕ) (o : Option (ℕ × Meta)) (rest : List Event) (f : ℕ → Meta → Meta) (body : List ℕ) → option_any (λ (b : ℕ × Meta). b.0 == k) o ≡ true
+    → unless_removed (option_any (λ (b : ℕ × Meta). p b.0 || list_any (removes b.0) rest) o) o f body ≡ (if p k then None else unless_removed (option_any (λ (b : ℕ × Meta). list_any (removes b.0) rest) o) o f body)
+removed-last p k None rest f body h = cc
+removed-last p k (Some e) rest f body h =
+    ap (λ x. unless_removed (x || list_any (removes e.0) rest) (Some e) f body) (ap p (eqb-true e.0 k h))
+    ∙ elim (p k) as (λ x. unless_removed (x || list_any (removes e.0) rest) (Some e) f body ≡ (if x then None else unless_removed (list_any (removes e.0) rest) (Some e) f body)) [ true ↦ refl | false ↦ refl ]
+
+under : {A : Type 0} (b : Bool) (o : Option ℕ) (f : ℕ → Option A) → option_and_then (λ w. if b then None else f w) o ≡ (if b then None else option_and_then f o)
+under true None f = refl
+under true (Some w) f = refl
+under false o f = refl
+
+pub complete-purge : (es : List Event) (k : ℕ) → IsTidy es → (q : ℕ) → complete q (Purge k ∷ es) ≡ (if k == q then None else complete q es)
+complete-purge es k tidy q =
+    by_last (last_finished q es) _ (λ x. if k == q then None else unless_removed (is_removed x es) (begin_of x es) (meta_kept x es) (body_of x es)) (λ x is.
+    removed-last (λ y. k == y) q (begin_of x es) (since x es) (meta_kept x es) (body_of x es) (tidy.finished q x is).1)
+    ∙ under (k == q) (last_finished q es) _
+
+pub complete-admit : (es : List Event) (e : CacheEntryKey) (n : ℕ) (out : List CacheEntryKey) → IsTidy es → (q : ℕ) → complete q (Admit e n out ∷ es) ≡ (if names_key q out then None else complete q es)
+complete-admit es e n out tidy q =
+    by_last (last_finished q es) _ (λ x. if names_key q out then None else unless_removed (is_removed x es) (begin_of x es) (meta_kept x es) (body_of x es)) (λ x is.
+    removed-last (λ y. names_key y out) q (begin_of x es) (since x es) (meta_kept x es) (body_of x es) (tidy.finished q x is).1)
+    ∙ under (names_key q out) (last_finished q es) _
+
+-- the body of a write that is finished
+abbrev pub body_with : Meta → List ℕ → Stored
+body_with m body = record { meta = m; bytes = body }
+
+-- what came after the finish of another write alters what came after this one's
+meta-later : (es : List Event) (w x : ℕ) → (w == x) ≡ false → meta_kept x (Finish w true ∷ es) ≡ meta_kept x es
+meta-later es w x apart = ap (λ (b : Bool). λ (k : ℕ) (m : Meta). altered_by k (if b then [] else Finish w true ∷ until (stores x) es) m) apart
+
+-- nothing came after a finish that is the newest event
+meta-unaltered : (es : List Event) (w : ℕ) → meta_kept w (Finish w true ∷ es) ≡ (λ k m. m)
+meta-unaltered es w = ap (λ (b : Bool). λ (k : ℕ) (m : Meta). altered_by k (if b then [] else Finish w true ∷ until (stores w) es) m) (same-number w)
+
+-- a finish that stores
+pub complete-finish : (es : List Event) (w k : ℕ) (m : Meta) → IsTidy es → in_flight w es ≡ true → begin_of w es ≡ Some (k, m) → is_removed w es ≡ false
+    → (q : ℕ) → complete q (Finish w true ∷ es) ≡ (if k == q then Some (body_with m (body_of w es)) else complete q es)
+complete-finish es w k m tidy fly is kept q =
+    ap (λ o. option_and_then now (if option_any (λ (b : ℕ × Meta). b.0 == q) o then Some w else last_finished q es)) is
+    ∙ elim (k == q) as (λ b. option_and_then now (if b then Some w else last_finished q es) ≡ (if b then Some (body_with m (body_of w es)) else complete q es)) [
+      | true ↦ ap (λ b. unless_removed b (begin_of w es) (meta_kept w (Finish w true ∷ es)) (body_of w es)) kept ∙ (λ i. unless_removed false (is i) (meta-unaltered es w i) (body_of w es))
+      | false ↦ by_last (last_finished q es) now _ (λ x last.
+          let apart : (w == x) ≡ false = ne_eqb w x (λ same. both_ways _ (flies w es fly).1 (subst (λ y. has_ended y es ≡ true) (sym same) (tidy.finished q x last).0)) in
+          ap (λ f. unless_removed (is_removed x es) (begin_of x es) f (body_of x es)) (meta-later es w x apart))
+    ]
+  where
+    now : ℕ → Option Stored
+    now x = unless_removed (is_removed x es) (begin_of x es) (meta_kept x (Finish w true ∷ es)) (body_of x es)
+
+-- the body whose meta is altered
+abbrev pub altered_body : (Meta → Meta) → Stored → Stored
+altered_body g b = record b { meta = g b.meta }
+
+altered-last : (k q : ℕ) (g : Meta → Meta) (b : Bool) (o : Option (ℕ × Meta)) (f : ℕ → Meta → Meta) (body : List ℕ) → option_any (λ (x : ℕ × Meta). x.0 == q) o ≡ true
+    → unless_removed b o (λ j m. if k == j then g (f j m) else f j m) body ≡ (if k == q then option_map (altered_body g) (unless_removed b o f body) else unless_removed b o f body)
+altered-last k q g b None f body h = cc
+altered-last k q g true (Some e) f body h = elim (k == q) as (λ (x : Bool). ◌≡◌ {A = Option Stored} None (if x then None else None)) [ true ↦ refl | false ↦ refl ]
+altered-last k q g false (Some e) f body h =
+    ap (λ (j : ℕ). Some (body_with (if k == j then g (f e.0 e.1) else f e.0 e.1) body)) (eqb-true e.0 q h)
+    ∙ elim (k == q) as (λ (x : Bool). Some (body_with (if x then g (f e.0 e.1) else f e.0 e.1) body) ≡ (if x then Some (body_with (g (f e.0 e.1)) body) else Some (body_with (f e.0 e.1) body))) [ true ↦ refl | false ↦ refl ]
+
+under-map : (b : Bool) (g : Meta → Meta) (o : Option ℕ) (f : ℕ → Option Stored) → option_and_then (λ w. if b then option_map (altered_body g) (f w) else f w) o ≡ (if b then option_map (altered_body g) (option_and_then f o) else option_and_then f o)
+under-map true g None f = refl
+under-map true g (Some w) f = refl
+under-map false g None f = refl
+under-map false g (Some w) f = refl
+
+-- an event after which the metas under a key are these of before
+complete-altered : (es : List Event) (k : ℕ) (g : Meta → Meta) → IsTidy es → (q : ℕ)
+    → option_and_then (λ x. unless_removed (is_removed x es) (begin_of x es) (λ j m. if k == j then g (meta_kept x es j m) else meta_kept x es j m) (body_of x es)) (last_finished q es) ≡ (if k == q then option_map (altered_body g) (complete q es) else complete q es)
+complete-altered es k g tidy q =
+    by_last (last_finished q es) _ (λ x. if k == q then option_map (altered_body g) (before x) else before x) (λ x is.
+    altered-last k q g (is_removed x es) (begin_of x es) (meta_kept x es) (body_of x es) (tidy.finished q x is).1)
+    ∙ under-map (k == q) g (last_finished q es) before
+  where
+    before : ℕ → Option Stored
+    before x = unless_removed (is_removed x es) (begin_of x es) (meta_kept x es) (body_of x es)
+
+-- an expiry
+pub complete-expire : (es : List Event) (k t : ℕ) → IsTidy es → (q : ℕ) → complete q (Expire k t ∷ es) ≡ (if k == q then option_map (altered_body (expired_at t)) (complete q es) else complete q es)
+complete-expire es k t tidy q = complete-altered es k (expired_at t) tidy q
+
+-- a revalidation
+pub complete-renew : (es : List Event) (k : ℕ) (m : Meta) → IsTidy es → (q : ℕ) → complete q (Renew k m ∷ es) ≡ (if k == q then option_map (altered_body (λ _. m)) (complete q es) else complete q es)
+complete-renew es k m tidy q = complete-altered es k (λ _. m) tidy q

@@ -1,0 +1,183 @@
+-- What the events of a history say of writes, keys and entries (own). Events stand newest first. A function says what one
+-- event makes of the answer so far, if most events say nothing; the definition over the list is then two clauses.
+use Rattle.std.specs.Prelude.{ℕ, ◌+◌, Bool, true, false, not, ◌&&◌, ◌==◌, if◌then◌else◌, Option, None, Some, is_some, List, [], ◌∷◌, ◌++◌, length, sum_by}
+use Rattle.std.specs.Option.{option_map, option_and_then}
+use Rattle.std.specs.List.{list_any}
+use Rattle.std.specs.FinMap as map
+use Rattle.pcache_meta.specs.Meta.{Meta, expired_at}
+use Rattle.pcache_base.specs.Totals.{share}
+use Rattle.pcache_evict.specs.declared.eviction.entry_key.CacheEntryKey.{CacheEntryKey}
+use Rattle.pcache_evict.specs.Tracked.{Tracked, without, added}
+use Rattle.pcache_store.specs.Store.{Stored}
+use Rattle.pcache_request.specs.Finishing.{entry_slot}
+use Rattle.pcache_history.specs.declared.entry.Event.{Event}
+use Rattle.pcache_history.specs.declared.entry.Event.TheVariants.{Begin, Wrote, Finish, Dropped, Admit, Access, Purge, Untrack, Expire, Renew}
+
+abbrev pub option_any : {A : Type 0} → (A → Bool) → Option A → Bool
+option_any p None = false
+option_any p (Some x) = p x
+
+-- the events before the newest one that passes
+abbrev pub until : (Event → Bool) → List Event → List Event
+until p [] = []
+until p (e ∷ es) = if p e then [] else e ∷ until p es
+
+-- What one event says.
+
+-- the number of writes begun
+abbrev pub count_begin : Event → ℕ → ℕ
+count_begin (Begin x k m) n = n + 1
+count_begin _ n = n
+
+-- whether it begins the write, and the write's slot and meta
+abbrev pub begins : ℕ → Event → Bool
+begins w (Begin x k m) = x == w
+begins w _ = false
+
+abbrev pub begin_at : ℕ → Event → Option (ℕ × Meta) → Option (ℕ × Meta)
+begin_at w (Begin x k m) before = if x == w then Some (k, m) else before
+begin_at w _ before = before
+
+-- the write's bytes, and whether they are said to be all
+abbrev pub with_bytes_of : ℕ → Event → List ℕ → List ℕ
+with_bytes_of w (Wrote x bytes eof) before = if x == w then before ++ bytes else before
+with_bytes_of w _ before = before
+
+abbrev pub told_at : ℕ → Event → Bool → Bool
+told_at w (Wrote x bytes eof) before = if x == w then eof else before
+told_at w _ before = before
+
+-- whether it ends the write, and the write that it stores
+abbrev pub ends : ℕ → Event → Bool
+ends w (Finish x kept) = x == w
+ends w (Dropped x) = x == w
+ends w _ = false
+
+abbrev pub finishes : Event → Option ℕ
+finishes (Finish w true) = Some w
+finishes _ = None
+
+abbrev pub stores : ℕ → Event → Bool
+stores w (Finish x true) = x == w
+stores w _ = false
+
+-- whether an evicted entry names a slot
+abbrev pub names_slot : ℕ → CacheEntryKey → Bool
+names_slot k e = option_any (λ q. q == k) (entry_slot e)
+
+abbrev pub names_key : ℕ → List CacheEntryKey → Bool
+names_key k out = list_any (names_slot k) out
+
+-- a removal of the key: a purge of it, or an admission that evicts its key-only entry
+abbrev pub removes : ℕ → Event → Bool
+removes k (Purge q) = q == k
+removes k (Admit e n out) = names_key k out
+removes k _ = false
+
+-- what it makes of the meta of the complete body of a key: an expiry ends its freshness, a revalidation sets another
+abbrev pub alters : ℕ → Event → Meta → Meta
+alters k (Expire q now) m = if q == k then expired_at now m else m
+alters k (Renew q new) m = if q == k then new else m
+alters k _ m = m
+
+-- what it leaves tracked
+abbrev pub track : Event → Tracked → Tracked
+track (Admit e n out) m = without out (map.insert m e n)
+track (Access e n) m = added m e n
+track (Untrack e) m = map.remove m e
+track _ m = m
+
+-- What a list of events says.
+
+-- how many writes were begun
+abbrev pub begun : List Event → ℕ
+begun [] = 0
+begun (e ∷ es) = count_begin e (begun es)
+
+-- the slot and the meta of a write, if it was begun
+abbrev pub begin_of : ℕ → List Event → Option (ℕ × Meta)
+begin_of w [] = None
+begin_of w (e ∷ es) = begin_at w e (begin_of w es)
+
+-- what came after the write began
+abbrev pub since : ℕ → List Event → List Event
+since w es = until (begins w) es
+
+-- whether the write's key was removed since it began: it is untouched if not
+abbrev pub is_removed : ℕ → List Event → Bool
+is_removed w es = option_any (λ b. list_any (removes b.0) (since w es)) (begin_of w es)
+
+abbrev pub has_ended : ℕ → List Event → Bool
+has_ended w es = list_any (ends w) es
+
+-- whether the write's finish succeeded
+abbrev pub was_stored : ℕ → List Event → Bool
+was_stored w es = list_any (stores w) es
+
+-- from its begin until its finish or drop
+abbrev pub in_flight : ℕ → List Event → Bool
+in_flight w es = is_some (begin_of w es) && not (has_ended w es)
+
+-- all bytes of the write, joined, also those after a removal
+abbrev pub body_of : ℕ → List Event → List ℕ
+body_of w [] = []
+body_of w (e ∷ es) = with_bytes_of w e (body_of w es)
+
+-- whether the last bytes of the write were said to be the last
+abbrev pub is_told : ℕ → List Event → Bool
+is_told w [] = false
+is_told w (e ∷ es) = told_at w e (is_told w es)
+
+-- whether the write is of the key
+abbrev pub is_of : ℕ → ℕ → List Event → Bool
+is_of k w es = option_any (λ b. b.0 == k) (begin_of w es)
+
+-- the write of the key whose successful finish comes last
+abbrev pub last_finished : ℕ → List Event → Option ℕ
+last_finished k [] = None
+last_finished k (e ∷ es) = if option_any (λ w. is_of k w es) (finishes e) then finishes e else last_finished k es
+
+-- the meta of a key's body after these events
+abbrev pub altered_by : ℕ → List Event → Meta → Meta
+altered_by k [] m = m
+altered_by k (e ∷ es) m = alters k e (altered_by k es m)
+
+-- the meta of a finished write's body: the one that it began with, altered by what came after its finish
+abbrev pub meta_kept : ℕ → List Event → ℕ → Meta → Meta
+meta_kept w es k m = altered_by k (until (stores w) es) m
+
+-- a finished write's body
+abbrev pub body_stored : ℕ → List Event → Option Stored
+body_stored w es = option_map (λ b. record { meta = meta_kept w es b.0 b.1; bytes = body_of w es }) (begin_of w es)
+
+-- the body of the last finished write of the key, if that is untouched: the key stands
+abbrev pub complete : ℕ → List Event → Option Stored
+complete k es = option_and_then (λ w. if is_removed w es then None else body_stored w es) (last_finished k es)
+
+-- a write of the key in flight and untouched
+abbrev pub is_open : ℕ → ℕ → List Event → Bool
+is_open k w es = is_of k w es && (in_flight w es && not (is_removed w es))
+
+-- what the events leave tracked, from what was tracked before them
+abbrev pub tracked : Tracked → List Event → Tracked
+tracked start [] = start
+tracked start (e ∷ es) = track e (tracked start es)
+
+-- the slots of successful finishes, each once
+abbrev pub with_key : Option ℕ → List ℕ → List ℕ
+with_key None ks = ks
+with_key (Some k) ks = if list_any (λ q. q == k) ks then ks else k ∷ ks
+
+abbrev pub finished_keys : List Event → List ℕ
+finished_keys [] = []
+finished_keys (e ∷ es) = with_key (option_and_then (λ w. option_map (λ b. b.0) (begin_of w es)) (finishes e)) (finished_keys es)
+
+-- the lengths of the bodies of the standing keys, added up; and how many they are
+abbrev pub stored_size : Stored → ℕ
+stored_size b = length b.bytes
+
+abbrev pub stored : List Event → ℕ
+stored es = sum_by (λ k. share stored_size (complete k es)) (finished_keys es)
+
+abbrev pub slots : List Event → ℕ
+slots es = sum_by (λ k. share (λ _. 1) (complete k es)) (finished_keys es)

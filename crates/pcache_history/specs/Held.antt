@@ -1,0 +1,390 @@
+-- An open request with the pair that its last look-up gave, or an open put, and what the entries of a history leave of it (own). Calls that
+-- do one thing move a request by their reply; calls that can be refused half way move it by their events.
+use Rattle.std.specs.Prelude.{◌≡◌, ℕ, ◌+◌, ◌==◌, ◌&&◌, ◌||◌, Bool, true, false, is_none, is_some, Option, Some, None, cond, if◌then◌else◌, List, [], ◌∷◌, length}
+use Rattle.std.specs.Option.{option_map, option_and_then}
+use Rattle.pcache_meta.specs.Header.{shown}
+use Rattle.pcache_meta.specs.Meta.{Meta}
+use Rattle.pcache_base.specs.declared.poll.Poll.{Poll}
+use Rattle.pcache_base.specs.declared.poll.Poll.TheVariants.{Ready, Pending}
+use Rattle.pcache_lock.specs.declared.lock.outcome.LockWaitOutcome.{LockWaitOutcome}
+use Rattle.pcache_lock.specs.Permits.{Permit}
+use Rattle.pcache_lock.specs.declared.lock.permit.Locked.{Locked}
+use Rattle.pcache_lock.specs.declared.lock.permit.Locked.TheVariants.{Write, Read}
+use Rattle.pcache_store.specs.Store.{Reader, Whole, Part, sought}
+use Rattle.pcache_base.specs.Key.{Key}
+use Rattle.pcache_base.specs.declared.error.ErrorType.{ErrorType}
+use Rattle.pcache_base.specs.declared.error.ErrorType.TheVariants.{OutOfMemory}
+use Rattle.pcache_base.specs.declared.reason.NoCacheReason.{NoCacheReason}
+use Rattle.pcache_base.specs.declared.reason.NoCacheReason.TheVariants.{Deferred}
+use Rattle.pcache_put_ctx.specs.State.{Stage, InBody, HasDeclined, IsOver, write_in}
+use Rattle.pcache_predict.specs.declared.admission.Decision.{Decision}
+use Rattle.pcache_request.specs.Admissions.{is_deferral, kept_if, observes, with_decision}
+use Rattle.pcache_request.specs.LockUse.{enabled_waiting, handed, permit_in, unheld, with_cache_lock, with_options}
+use Rattle.pcache_request.specs.Phases.{is_key_phase}
+use Rattle.pcache_request.specs.Renewals.{renewed}
+use Rattle.pcache_request.specs.Releasing.{bypassed, disabled_for}
+use Rattle.pcache_request.specs.Stale.{updating, uncacheable}
+use Rattle.pcache_request.specs.Variants.{looks_for_variance, varied, visible}
+use Rattle.pcache_request.specs.declared.cache.lock_use.CacheOptionOverrides.{CacheOptionOverrides}
+use Rattle.pcache_request.specs.Requests.{Request, enabled_request, with_key, missed, with_meta, without_reader, placed, asks_as_stale}
+use Rattle.pcache_request.specs.declared.phase.HitStatus.{HitStatus}
+use Rattle.pcache_request.specs.declared.phase.InUse.{InUse}
+use Rattle.pcache_history.specs.declared.call.Call.{Call}
+use Rattle.pcache_history.specs.declared.call.Call.TheVariants as C
+use Rattle.pcache_history.specs.declared.call.Reply.{Reply}
+use Rattle.pcache_history.specs.declared.call.Reply.TheVariants as R
+use Rattle.pcache_history.specs.declared.entry.Answer.{Answer}
+use Rattle.pcache_history.specs.declared.entry.Answer.TheVariants as A
+use Rattle.pcache_history.specs.declared.entry.Entry.{Entry}
+use Rattle.pcache_history.specs.declared.entry.Event.{Event}
+use Rattle.pcache_history.specs.declared.entry.Event.TheVariants as E
+use Rattle.pcache_history.specs.Taking.{Taking, entry_in, filling, new_put}
+use Rattle.pcache_history.specs.Watching.{waited_with}
+
+pub record Held : Type 0 where
+  pub request : Request
+  pub pair : Option (Meta × Reader)
+  -- the decision that a look-up carried last, which the policy in use answers
+  pub carried : Option Decision
+  -- what it has taken in, if it is a put: then the request has its key and its write, and no more
+  pub put : Option Taking
+
+-- the request or the put that a call names
+abbrev pub number_of : Call → ℕ
+number_of (C.Open r options) = r
+number_of (C.Enable r options) = r
+number_of (C.Disable r why) = r
+number_of (C.Key r k) = r
+number_of (C.Look r t d) = r
+number_of (C.Vary r v) = r
+number_of (C.Found r s t) = r
+number_of (C.Bypass r) = r
+number_of (C.Miss r) = r
+number_of (C.Meta r m) = r
+number_of (C.Begin r) = r
+number_of (C.Write r bs eof) = r
+number_of (C.Finish r) = r
+number_of (C.Read r) = r
+number_of (C.Seek r start end) = r
+number_of (C.Done r) = r
+number_of (C.Purge r) = r
+number_of (C.Expire r t) = r
+number_of (C.Lock r is_used) = r
+number_of (C.Wait r t) = r
+number_of (C.Publish r tokens) = r
+number_of (C.Release r why) = r
+number_of (C.Give r to) = r
+number_of (C.Updating r) = r
+number_of (C.Uncacheable r h why) = r
+number_of (C.Variance r v) = r
+number_of (C.Revalidate r m) = r
+number_of (C.Phase r) = r
+number_of (C.End r) = r
+number_of (C.Put r k limit) = r
+number_of (C.Feed r bs t) = r
+number_of (C.Drop r) = r
+number_of (C.Close r) = r
+
+-- the request that a call names besides, to which a permit is handed
+abbrev pub taker_of : Call → Option ℕ
+taker_of (C.Give r to) = Some to
+taker_of call = None
+
+-- a call that names one request alone
+abbrev pub IsOfOne : Call → Type 0
+IsOfOne (C.Give r to) = ⊥
+IsOfOne _ = Unit {0}
+
+-- what a request or a put moves by of a reply
+pub data Outcome : Type 0 where
+  was_wrong : Outcome
+  was_done : Outcome
+  was_taken : Outcome
+  was_waited : (answer : Poll LockWaitOutcome) → Outcome
+  was_declined : (reason : NoCacheReason) → Outcome
+  was_refused : (kind : ErrorType) → Outcome
+  was_other : Outcome
+
+abbrev pub outcome : Reply → Outcome
+outcome R.WrongCall = was_wrong
+outcome R.Done = was_done
+outcome R.Same = was_done
+outcome R.Other = was_done
+outcome (R.Taken p l) = was_taken
+outcome R.Waiting = was_waited Pending
+outcome (R.Waited o) = was_waited (Ready o)
+outcome (R.NotCached reason) = was_declined reason
+outcome (R.Refused e) = was_refused e
+-- bytes that were read went by also if their copy is refused
+outcome (R.Data bytes) = was_refused OutOfMemory
+outcome _ = was_other
+
+abbrev pub is_wrong : Outcome → Bool
+is_wrong was_wrong = true
+is_wrong _ = false
+
+abbrev pub is_done : Outcome → Bool
+is_done was_done = true
+is_done _ = false
+
+abbrev pub is_taken : Outcome → Bool
+is_taken was_taken = true
+is_taken _ = false
+
+-- a world's requests use the manager and the lock
+abbrev pub world_use : InUse
+world_use = record { eviction = true; predictor = false; lock = true }
+
+abbrev pub opened : Option CacheOptionOverrides → Held
+opened options = record { request = with_options true options (enabled_request world_use); pair = None; carried = None; put = None }
+
+-- the pair of a look-up's answer
+abbrev pub pair_of : Answer → Option (Meta × Reader)
+pair_of A.Nothing = None
+pair_of (A.Complete m body) = Some (m, Whole body 0 (length body) false)
+pair_of (A.Streaming m w) = Some (m, Part w 0)
+
+abbrev pub pair_reader : Option (Meta × Reader) → Option Reader
+pair_reader p = option_map (λ q. q.1) p
+
+-- a lock that was given is held
+abbrev pub lock_of : Bool → Bool → ℕ → Locked
+lock_of stale true n = Write (record { number = n; stale_writer = stale })
+lock_of stale false n = Read (record { number = n; watch = None })
+
+abbrev pub with_given : Bool → Event → Request → Request
+with_given stale (E.Ask k n is_permit) x = record x { held = Some (lock_of stale is_permit n) }
+with_given stale _ x = x
+
+abbrev pub asked : Bool → List Event → Request → Request
+asked stale [] x = x
+asked stale (e ∷ es) x = asked stale es (with_given stale e x)
+
+-- a decision that a look-up carries, if the request looks its key up first, puts a policy in use that answers it
+abbrev pub carries : Option Decision → Held → Bool
+carries d x = is_some d && is_key_phase x.request.phase
+
+abbrev pub carrying : Option Decision → Held → Held
+carrying d x = let r : Request = x.request in record { request = record r { has_policy = carries d x || r.has_policy }; pair = x.pair; carried = cond (carries d x) d x.carried; put = x.put }
+
+-- what the policy in use decides if this was found, if it is asked
+abbrev pub decides : Answer → Held → Option Decision
+decides a x = kept_if (is_none (pair_of a) && observes x.request) x.carried
+
+-- the request with a decision: if it defers, caching is turned off; else the lock that was asked for is held, and what was
+-- found, unless it is hidden
+abbrev pub looked_with : Option Decision → Answer → List Event → Held → Held
+looked_with d a es x = cond (is_deferral d)
+    (record { request = disabled_for Deferred (with_decision d x.request); pair = None; carried = None; put = x.put })
+    (record { request = asked false es (with_decision d x.request); pair = visible x.request.valid_after (pair_of a); carried = x.carried; put = x.put })
+
+abbrev pub looked_by : List Event → Held → Held
+looked_by [] x = x
+looked_by (E.Look k a ∷ es) x = looked_with (decides a x) a es x
+looked_by (_ ∷ es) x = x
+
+-- a look-up for a variance, by the meta of what was found
+abbrev pub looks_for : List ℕ → Option (Meta × Reader) → Request → Request
+looks_for v None r = r
+looks_for v (Some p) r = looks_for_variance v p.0 r
+
+-- what was found is taken, or let go if that is refused
+abbrev pub placed_by : HitStatus → List Event → Request → Option (Meta × Reader) → Request
+placed_by s events x None = x
+placed_by s events x (Some p) = placed s p.0 p.1 (asked (asks_as_stale s x.phase) events x)
+
+abbrev pub taken_by : HitStatus → List Event → Held → Held
+taken_by s events x = record { request = placed_by s events x.request x.pair; pair = None; carried = x.carried; put = x.put }
+
+abbrev pub without_pair : Held → Held
+without_pair x = record { request = x.request; pair = None; carried = x.carried; put = x.put }
+
+-- a write that began is held, and the permit released; if the call was not refused, the reader follows it
+abbrev pub began : Bool → List Event → Request → Request
+began joined [] x = x
+began joined (E.Begin w k m ∷ es) x = record x { write = Some w; entry = None; held = None; reader = cond joined (Some (Part w 0)) x.reader }
+began joined (_ ∷ es) x = x
+
+-- a write that ended is held no more
+abbrev pub ended : List Event → Request → Request
+ended [] x = x
+ended (e ∷ es) x = record x { write = None; entry = None; held = None }
+
+-- a reader that gave bytes is past them
+abbrev pub read_past : Poll (Option (List ℕ)) → Reader → Reader
+read_past a (Whole body start stop done) = Whole body start stop true
+read_past (Ready (Some bs)) (Part w place) = Part w (place + length bs)
+read_past (Ready None) (Part w place) = Part w place
+read_past Pending (Part w place) = Part w place
+
+abbrev pub has_read : List Event → Request → Request
+has_read [] x = x
+has_read (E.Read a ∷ es) x = record x { reader = option_map (read_past a) x.reader }
+has_read (_ ∷ es) x = x
+
+-- a reader that is sent to another range
+abbrev pub sought_in : ℕ → Option ℕ → Option Reader → Option Reader
+sought_in start end r = option_and_then (λ x. sought x start end) r
+
+abbrev pub with_sought : ℕ → Option ℕ → Request → Request
+with_sought start end x = record x { reader = sought_in start end x.reader }
+
+abbrev pub on_request : (Request → Request) → Held → Held
+on_request f x = record { request = f x.request; pair = x.pair; carried = x.carried; put = x.put }
+
+-- a wait that was answered
+abbrev pub waited_by : Outcome → ℕ → Request → Request
+waited_by (was_waited answer) now x = waited_with answer now x
+waited_by _ now x = x
+
+-- a put, as a world keeps it
+abbrev pub held_put : Taking → Held
+held_put p = record { request = filling p.key (write_in p.stage) (entry_in p.stage); pair = None; carried = None; put = Some p }
+
+abbrev pub IsHeldPut : Held → Type 0
+IsHeldPut x = (p : Taking) × (x ≡ held_put p)
+
+-- where a put stands once its write began, if one did; and after a piece
+abbrev pub stage_noted : List Event → Stage → Stage
+stage_noted (E.Begin w k m ∷ es) stage = InBody w None m.fresh_until
+stage_noted _ stage = stage
+
+abbrev pub stage_fed : Outcome → List Event → Stage → Stage
+stage_fed was_done events stage = stage_noted events stage
+stage_fed (was_declined reason) events stage = HasDeclined reason
+stage_fed (was_refused kind) events stage = IsOver kind
+stage_fed _ events stage = stage
+
+-- a put that was fed
+abbrev pub fed_in : Outcome → List Event → Held → Option Taking → Held
+fed_in o events x None = x
+fed_in o events x (Some p) = held_put (record { key = p.key; size = p.size; parser = p.parser; stage = stage_fed o events p.stage })
+
+abbrev pub fed : Outcome → List Event → Held → Held
+fed o events x = cond (is_wrong o) x (fed_in o events x x.put)
+
+-- What a call makes of the request or the put that it names, by the row of the phase table.
+pub data Change : Type 0 where
+  -- a request comes to be, whose lock has these options
+  opens : (options : Option CacheOptionOverrides) → Change
+  -- it goes
+  closes : Change
+  -- it stays as it is
+  stays : Change
+  -- if the call is done, all of it changes but its reader; its pair goes, or stays
+  turns : (f : Request → Request) (leaves_pair : Bool) → Change
+  -- the same, by the pair that it holds, which stays
+  turns_by : (f : Option (Meta × Reader) → Request → Request) → Change
+  -- if the call is done, all of it changes, and its reader and its pair go
+  shuts : (f : Request → Request) → Change
+  -- it looks up, with a decision that is carried, and takes what was found
+  looks : (d : Option Decision) → Change
+  takes : (s : HitStatus) → Change
+  -- a write begins, and ends
+  begins : Change
+  ends : Change
+  -- its reader reads on, is sent to another range, and goes
+  reads_on : Change
+  seeks : (start : ℕ) (end : Option ℕ) → Change
+  reads_no_more : Change
+  -- its stale meta is renewed, also if the store refuses it
+  renews : (m : Meta) → Change
+  -- it waits on the read lock that it holds
+  waits : (now : ℕ) → Change
+  -- a put comes to be, is fed, and goes, whatever it is answered
+  pushes : (k : Key) (limit : Option ℕ) → Change
+  feeds : Change
+  goes : Change
+
+abbrev pub change_of : Call → Change
+change_of (C.Open r options) = opens options
+change_of (C.Enable r options) = turns (enabled_waiting world_use options) false
+change_of (C.Disable r why) = shuts (disabled_for why)
+change_of (C.Key r k) = turns (with_key k) false
+change_of (C.Look r t d) = looks d
+change_of (C.Vary r v) = turns_by (looks_for v)
+change_of (C.Found r s t) = takes s
+change_of (C.Bypass r) = turns bypassed false
+change_of (C.Miss r) = turns missed true
+change_of (C.Meta r m) = turns (with_meta m) false
+change_of (C.Begin r) = begins
+change_of (C.Write r bs eof) = stays
+change_of (C.Finish r) = ends
+change_of (C.Read r) = reads_on
+change_of (C.Seek r start end) = seeks start end
+change_of (C.Done r) = reads_no_more
+change_of (C.Purge r) = stays
+change_of (C.Expire r t) = stays
+change_of (C.Lock r is_used) = turns (with_cache_lock is_used None) false
+change_of (C.Wait r t) = waits t
+change_of (C.Publish r tokens) = stays
+change_of (C.Release r why) = turns unheld false
+change_of (C.Give r to) = turns unheld false
+change_of (C.Updating r) = turns updating false
+change_of (C.Uncacheable r h why) = turns (uncacheable (shown h) why) false
+change_of (C.Variance r v) = turns (varied v) false
+change_of (C.Revalidate r m) = renews m
+change_of (C.Phase r) = stays
+change_of (C.End r) = closes
+change_of (C.Put r k limit) = pushes k limit
+change_of (C.Feed r bs t) = feeds
+change_of (C.Drop r) = closes
+change_of (C.Close r) = goes
+
+-- all but its reader
+abbrev pub turned_by : (Request → Request) → Bool → Held → Held
+turned_by f leaves_pair x = record { request = record (f x.request) { reader = x.request.reader }; pair = cond leaves_pair None x.pair; carried = x.carried; put = x.put }
+
+-- all of it, and nothing is read any more; a policy goes out of use
+abbrev pub shut_by : (Request → Request) → Held → Held
+shut_by f x = record { request = record (f x.request) { reader = None }; pair = None; carried = None; put = x.put }
+
+abbrev pub changed : Change → Outcome → List Event → Option Held → Option Held
+changed (opens options) o events q = cond (is_done o) (Some (opened options)) q
+changed closes o events q = cond (is_done o) None q
+changed stays o events q = q
+changed (turns f leaves_pair) o events q = cond (is_done o) (option_map (turned_by f leaves_pair) q) q
+changed (shuts f) o events q = cond (is_done o) (option_map (shut_by f) q) q
+changed (turns_by f) o events q = cond (is_done o) (option_map (λ x. turned_by (f x.pair) false x) q) q
+changed (looks d) o events q = cond (is_wrong o) q (option_map (λ x. looked_by events (carrying d x)) q)
+changed (takes s) o events q = cond (is_taken o) (option_map (taken_by s events) q) (cond (is_wrong o) q (option_map without_pair q))
+changed begins o events q = option_map (on_request (began (is_done o) events)) q
+changed ends o events q = option_map (on_request (ended events)) q
+changed reads_on o events q = option_map (on_request (has_read events)) q
+changed (seeks start end) o events q = cond (is_done o) (option_map (on_request (with_sought start end)) q) q
+changed reads_no_more o events q = cond (is_wrong o) q (option_map (on_request without_reader) q)
+changed (renews m) o events q = cond (is_wrong o) q (option_map (on_request (renewed m)) q)
+changed (waits now) o events q = option_map (on_request (waited_by o now)) q
+changed (pushes k limit) o events q = cond (is_done o) (Some (held_put (new_put k limit))) q
+changed feeds o events q = option_map (fed o events) q
+changed goes o events q = cond (is_wrong o) q None
+
+abbrev pub row_by : Call → Outcome → List Event → Option Held → Option Held
+row_by call o events q = changed (change_of call) o events q
+
+abbrev pub row : Call → Reply → List Event → Option Held → Option Held
+row call reply events q = row_by call (outcome reply) events q
+
+-- a request that is handed a permit
+abbrev pub handed_by : Option Permit → Held → Held
+handed_by None x = x
+handed_by (Some p) x = on_request (handed p) x
+
+abbrev pub permit_held : Option Held → Option Permit
+permit_held None = None
+permit_held (Some x) = permit_in x.request.held
+
+-- the request r after a call that may hand it the permit of another, which was giver before the call, and q after it
+abbrev pub taken_over : Call → Outcome → ℕ → Option Held → Option Held → Option Held
+taken_over (C.Give from to) was_done r giver q = cond (to == r) (option_map (handed_by (permit_held giver)) q) q
+taken_over call o r giver q = q
+
+-- a request or a put as the entries that name it leave it
+abbrev pub request_of : ℕ → List Entry → Option Held
+request_of r [] = None
+request_of r (e ∷ h) = taken_over e.call (outcome e.reply) r (request_of (number_of e.call) h) (if number_of e.call == r then row e.call e.reply e.events (request_of r h) else request_of r h)
+
+-- the request to which a call hands a permit, once that is out of its giver's hands
+abbrev pub taker_in : Call → List Entry → Option Held
+taker_in (C.Give from to) h = cond (from == to) (option_map (on_request unheld) (request_of to h)) (request_of to h)
+taker_in call h = None

@@ -1,0 +1,32 @@
+-- Which entries a history may have: each by what stands before it (own). Histories stand newest first.
+use Rattle.std.specs.Prelude.{◌≡◌, ℕ, Option, None, List, [], ◌∷◌}
+use Rattle.pcache_evict.specs.Tracked.{Tracked, Limits}
+use Rattle.pcache_history.specs.declared.call.Call.{Call}
+use Rattle.pcache_history.specs.declared.call.Reply.{Reply}
+use Rattle.pcache_history.specs.declared.entry.Entry.{Entry}
+use Rattle.pcache_history.specs.declared.entry.Event.{Event}
+use Rattle.pcache_history.specs.Deeds.{Deed, deeds_of}
+use Rattle.pcache_history.specs.Due.{makes_of, AreDue, KeepsKey}
+use Rattle.pcache_history.specs.Facts.{Facts, Says, request_in}
+use Rattle.pcache_history.specs.Held.{Held, number_of, row, request_of, taker_in}
+use Rattle.pcache_history.specs.History.{events_of}
+use Rattle.pcache_history.specs.Rules.{Replies, IsCopy}
+use Rattle.pcache_history.specs.Waiting.{waiting_in, AreGiven}
+
+-- what a call answers and does after a history that leaves its request as q, if permits are too old after this time, for a
+-- manager with these limits that held these entries at the start: its clause by what the history says, told as it may be
+-- copied, events as they are due, and the locks that are given then
+pub record Gives (age : ℕ) (limits : Limits) (start : Tracked) (es : List Event) (ds : List Deed) (q : Option Held) (call : Call) (reply : Reply) (events : List Event) : Type 0 where
+  pub facts : Facts
+  pub says : Says age es ds (number_of call) (request_in q) facts
+  pub told : Reply
+  pub answers : Replies facts call q told events
+  pub copy : IsCopy told reply
+  pub due : AreDue limits start es q (makes_of q) None events (makes_of (row call reply events q))
+  pub keeps : KeepsKey q (row call reply events q)
+  pub given : AreGiven (waiting_in es) events
+
+-- a legal history: each entry is one that what stands before it gives; so is the request to which it hands a permit
+abbrev pub IsLegal : ℕ → Limits → Tracked → List Entry → Type 0
+IsLegal age limits start [] = Unit {0}
+IsLegal age limits start (e ∷ h) = (g : Gives age limits start (events_of h) (deeds_of h) (request_of (number_of e.call) h) e.call e.reply e.events) × IsLegal age limits start h × (g.facts.taker ≡ taker_in e.call h)

@@ -1,0 +1,37 @@
+-- What the reader of a request has given since it came to be, by the history (own). Bytes whose copy was refused went by
+-- also: they are told by the event of the read, not by its reply. The event of a read does not name its reader: it is the one
+-- that the request of its entry holds then, so what a reader gave is told by the entries of its request alone.
+use Rattle.std.specs.Prelude.{◌≡◌, ℕ, ◌≤◌, ◌==◌, cond, if◌then◌else◌, Some, List, [], ◌∷◌, ◌++◌, length, take, slice_range}
+use Rattle.pcache_base.specs.declared.poll.Poll.TheVariants.{Ready}
+use Rattle.pcache_store.specs.Store.{Reader, Whole, Part}
+use Rattle.pcache_history.specs.declared.entry.Entry.{Entry}
+use Rattle.pcache_history.specs.declared.entry.Event.{Event}
+use Rattle.pcache_history.specs.declared.entry.Event.TheVariants as E
+use Rattle.pcache_history.specs.Events.{body_of}
+use Rattle.pcache_history.specs.Held.{Outcome, Change, opens, takes, begins, reads_on, seeks, change_of, number_of, outcome, is_done, is_taken}
+
+-- the bytes that a read gave, if it gave some
+abbrev pub given_in : List Event → List ℕ
+given_in (E.Read (Ready (Some bytes)) ∷ es) = bytes
+given_in _ = []
+
+-- what one call makes of the bytes that its request's reader has given: none once a request opened, a hit was taken or a
+-- write began with a reader, or it was sent to another range; a read adds what it gave
+abbrev pub read_on : Change → Outcome → List Event → List ℕ → List ℕ
+read_on (opens options) o events before = cond (is_done o) [] before
+read_on (takes s) o events before = cond (is_taken o) [] before
+read_on begins o events before = cond (is_done o) [] before
+read_on reads_on o events before = before ++ given_in events
+read_on (seeks start end) o events before = cond (is_done o) [] before
+read_on _ o events before = before
+
+-- the bytes that a request's reader has given since it came to be
+abbrev pub read_by : ℕ → List Entry → List ℕ
+read_by r [] = []
+read_by r (e ∷ h) = if number_of e.call == r then read_on (change_of e.call) (outcome e.reply) e.events (read_by r h) else read_by r h
+
+-- a reader of a complete body has given its range once it is done, and nothing before; a reader of a write has given the
+-- beginning of the write's body up to its place
+abbrev pub HasRead : List Event → Reader → List ℕ → Type 0
+HasRead es (Whole body start stop done) bytes = bytes ≡ cond done (slice_range body start stop) []
+HasRead es (Part w place) bytes = (bytes ≡ take place (body_of w es)) × (place ≤ length (body_of w es))

@@ -1,0 +1,44 @@
+-- An open put, and the request that a world keeps for it (own). Of the bytes that came, its parser and its counter keep what
+-- the pieces of the history say.
+use Rattle.std.specs.Prelude.{ℕ, Option, Some, None, [], true, false}
+use Rattle.std.specs.Option.{option_map}
+use Rattle.pcache_base.specs.Key.{Key}
+use Rattle.pcache_put.specs.Progress.{Parsed, AtHead}
+use Rattle.pcache_put.specs.Counted.{Counted}
+use Rattle.pcache_put_ctx.specs.State.{Put, Stage, InHead, InBody, HasDeclined, IsOver}
+use Rattle.pcache_request.specs.Requests.{Request, enabled_request}
+use Rattle.pcache_request.specs.declared.phase.CachePhase.TheVariants as phase
+use Rattle.pcache_request.specs.declared.phase.InUse.{InUse}
+
+pub record Taking : Type 0 where
+  pub key : Key
+  -- the bytes of the body that were counted, if their number is limited
+  pub size : Option Counted
+  pub parser : Parsed
+  pub stage : Stage
+
+abbrev pub counted_none : ℕ → Counted
+counted_none limit = record { bytes = 0; limit = limit }
+
+-- a put of a key, whose body may have so many bytes if there is a limit
+abbrev pub new_put : Key → Option ℕ → Taking
+new_put k limit = record { key = k; size = option_map counted_none limit; parser = AtHead []; stage = InHead }
+
+-- a put uses the manager, and no lock
+abbrev pub put_use : InUse
+put_use = record { eviction = true; predictor = false; lock = false }
+
+-- a request that fills this key with this write, if it does, for the entry of a number, and does nothing else
+abbrev pub filling : Key → Option ℕ → Option ℕ → Request
+filling k w id = let made : Request = enabled_request put_use in record made { phase = phase.Miss; key = Some k; write = w; entry = id }
+
+-- the number of the entry that the write fills
+abbrev pub entry_in : Stage → Option ℕ
+entry_in InHead = None
+entry_in (InBody w id until) = id
+entry_in (HasDeclined reason) = None
+entry_in (IsOver kind) = None
+
+-- a put as its context is seen, but for its policy
+abbrev pub taking : {C : Type 0} → Put C → Taking
+taking p = record { key = p.key; size = p.size; parser = p.parser; stage = p.stage }

@@ -1,0 +1,171 @@
+//! What a world notes of a call.
+ghost use Rattle.std.specs.Prelude.{◌≡◌};
+
+use crate::call::{Call, Reply};
+use bytes::Bytes;
+use pcache_base::key::CompactCacheKey;
+use pcache_base::moment::Moment;
+use pcache_base::poll::Poll;
+use pcache_evict::eviction::CacheEntryKey;
+use pcache_meta::meta::CacheMeta;
+use pcache_put_ctx::boxed::Boxed;
+use std::marker::Model;
+
+/// What a look-up found.
+#[derive(Drop)]
+pub enum Answer {
+    /// Nothing.
+    Nothing,
+    /// A complete body, with its meta.
+    Complete { meta: Boxed<CacheMeta>, body: Bytes },
+    /// A write that can be read while it is made, with its meta.
+    Streaming { meta: Boxed<CacheMeta>, write: u128 },
+}
+
+/// One thing that a call did.
+#[derive(Drop)]
+pub enum Event {
+    /// A key was looked up.
+    Look {
+        slot: u128,
+        answer: Answer,
+    },
+    /// A key's lock was asked for: its number, and whether it is the permit.
+    Ask {
+        slot: u128,
+        lock: u64,
+        is_permit: bool,
+    },
+    /// A use of an entry was noted; it came in with this weight if it was missing.
+    Access {
+        entry: CacheEntryKey,
+        weight: usize,
+    },
+    /// A write began.
+    Begin {
+        write: u128,
+        slot: u128,
+        meta: Boxed<CacheMeta>,
+    },
+    /// Bytes of a write came, and whether they are the last.
+    Wrote {
+        write: u128,
+        bytes: Bytes,
+        eof: bool,
+    },
+    /// A write was finished: its body stands, or its key was removed since it began.
+    Finish {
+        write: u128,
+        is_stored: bool,
+    },
+    /// A write was given up.
+    Dropped {
+        write: u128,
+    },
+    /// A permit was released.
+    Release {
+        lock: u64,
+    },
+    /// A permit was let go.
+    LetGo {
+        lock: u64,
+    },
+    /// A permit was found too old.
+    Aged {
+        lock: u64,
+    },
+    /// An entry was admitted with this weight, and others were evicted.
+    Admit {
+        entry: CacheEntryKey,
+        weight: usize,
+        evicted: Entries,
+    },
+    /// What stood under a key was removed.
+    Purge {
+        slot: u128,
+    },
+    /// The freshness of the complete body under a key, if there is one, ended at this moment.
+    Expire {
+        slot: u128,
+        now: Moment,
+    },
+    /// The complete body under a key has this meta from then on: the stale body was found good.
+    Renew {
+        slot: u128,
+        meta: Boxed<CacheMeta>,
+    },
+    /// An entry was taken out of the manager.
+    Untrack {
+        entry: CacheEntryKey,
+    },
+    /// A reader was read from.
+    Read {
+        answer: Poll<Option<Bytes>>,
+    },
+}
+
+/// Keys of entries. A contract sees the list.
+#[derive(Drop)]
+pub struct Entries {
+    keys: Vec<CacheEntryKey>,
+}
+
+impl Model for Entries {
+    ghost use Rattle.std.specs.Prelude.{List};
+    ghost use Rattle.pcache_evict.specs.declared.eviction.entry_key.CacheEntryKey.{CacheEntryKey};
+
+    ghost Value = { List CacheEntryKey };
+
+    ghost view = { λ a. a.keys.items };
+}
+
+impl Entries {
+    pub fn new(keys: Vec<CacheEntryKey>) -> Entries
+        ensures { result ≡ keys.items }
+    {
+        Entries { keys }
+    }
+
+    pub fn as_slice(&self) -> &[CacheEntryKey]
+        ensures { result.now ≡ self.now }
+    {
+        self.keys.as_slice()
+    }
+}
+
+/// Events, in the order in which they came. A contract sees the list.
+#[derive(Drop)]
+pub struct Events {
+    events: Vec<Event>,
+}
+
+impl Model for Events {
+    ghost use Rattle.std.specs.Prelude.{List};
+    ghost use Rattle.pcache_history.specs.declared.entry.Event.{Event};
+
+    ghost Value = { List Event };
+
+    ghost view = { λ a. a.events.items };
+}
+
+impl Events {
+    pub fn new(events: Vec<Event>) -> Events
+        ensures { result ≡ events.items }
+    {
+        Events { events }
+    }
+
+    pub fn as_slice(&self) -> &[Event]
+        ensures { result.now ≡ self.now }
+    {
+        self.events.as_slice()
+    }
+}
+
+/// One call of a history: what was asked and answered, and what was done.
+#[derive(Drop)]
+pub struct Entry {
+    pub call: Call,
+    pub reply: Reply,
+    pub events: Events,
+}

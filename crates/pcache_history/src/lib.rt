@@ -1,0 +1,16 @@
+#![tactic(auto)]
+//! What is promised of a cache: histories of calls, and the laws of all legal ones.
+//!
+//! - `call`: the calls of requests and puts, and the replies
+//! - `entry`: what a history notes of a call
+//! - `tokens`: what a call publishes
+//! - `laws`: what holds of every legal history
+//!
+//! Nothing here has a store, a lock table or an eviction manager: whoever reads `specs/` reads what is
+//! promised, whatever code keeps it.
+
+pub mod call;
+mod call_copy;
+pub mod entry;
+pub mod laws;
+pub mod tokens;

@@ -1,0 +1,28 @@
+-- For the prover: which permits wait, by a lock table (own).
+use Rattle.std.specs.Prelude.{◌≡◌, ℕ, List}
+use Rattle.pcache_lock.specs.Locks.{Locks, no_locks}
+use Rattle.pcache_lock.specs.Waits as table
+use Rattle.pcache_lock.specs.Waits.{LeadsAll, NoneUnlocks}
+use Rattle.pcache_history.specs.declared.entry.Event.{Event}
+use Rattle.pcache_history.specs.Waiting.{Waiting, AreGiven, waiting_after, waiting_in}
+
+abbrev pub waiting_of : Locks → Waiting
+waiting_of t = record { under = table.waits_under t; asked = t.next }
+
+-- calls of a table of locks led to it, and none of them unlocked
+pub record IsReached (t : Locks) : Type 0 where
+  pub age_timeout : ℕ
+  pub calls : List table.Call
+  pub led : LeadsAll calls (no_locks age_timeout) t
+  pub unlocks : NoneUnlocks calls
+
+-- the table is what the events say
+pub record IsLocked (es : List Event) (t : Locks) : Type 0 where
+  pub reached : IsReached t
+  pub waiting : waiting_of t ≡ waiting_in es
+
+-- a call moved the table as its events say, and gave the locks that it asked for
+pub record LocksMoved (t : Locks) (events : List Event) (t' : Locks) : Type 0 where
+  pub reached : IsReached t'
+  pub given : AreGiven (waiting_of t) events
+  pub waiting : waiting_of t' ≡ waiting_after events (waiting_of t)
