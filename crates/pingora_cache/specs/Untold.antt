@@ -1,15 +1,15 @@
 -- For the prover: a request but for what its read lock was told, and a put but for what its bytes left in it, which the replies to
 -- their calls do not tell (own). A reader that was polled still has the fills that it watches for.
-use Rattle.std.specs.Prelude.{ℕ, Option, None, Some, List, []}
+use Rattle.std.specs.Prelude.{None, []}
 use Rattle.std.specs.Option.{option_map}
-use Rattle.pcache_base.specs.declared.fills.UnusableFill.{UnusableFill}
-use Rattle.pcache_base.specs.declared.poll.Poll.{Poll}
 use Rattle.pcache_lock.specs.Permits.{Reader, Watch}
-use Rattle.pcache_lock.specs.declared.lock.outcome.LockWaitOutcome.{LockWaitOutcome}
 use Rattle.pcache_lock.specs.declared.lock.permit.Locked.{Locked}
 use Rattle.pcache_lock.specs.declared.lock.permit.Locked.TheVariants.{Write, Read}
-use Rattle.pcache_request.specs.LockWaits.{after_wait, since_of, unusable_in}
+use Rattle.pcache_put.specs.Counted.{Counted}
+use Rattle.pcache_put.specs.Progress.{AtHead}
 use Rattle.pcache_request.specs.Requests.{Request}
+use Rattle.pcache_history.specs.Held.{Held}
+use Rattle.pcache_history.specs.Taking.{Taking, counted_none}
 
 abbrev pub untold_watch : Watch → Watch
 untold_watch w = record { fills = w.fills; seen = 0; told = None }
@@ -34,4 +34,3 @@ untold_put p = record { key = p.key; size = option_map uncounted p.size; parser 
 -- but for what its read lock was told, and what a put's bytes left in it
 abbrev pub untold : Held → Held
 untold x = record { request = untold_request x.request; pair = x.pair; carried = x.carried; put = option_map untold_put x.put }
-
