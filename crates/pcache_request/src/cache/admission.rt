@@ -43,8 +43,8 @@ impl<S: Storage> HttpCache<S> {
             && self.digest.admission.is_none()
     }
 
-    /// Asks the policy, which counts the key as asked for once more, and keeps its decision.
-    pub fn observe<A: AdmissionPolicy>(&mut self, policy: &mut A) -> Decision
+    // Asks the policy, which counts the key as asked for once more, and keeps its decision.
+    fn observe<A: AdmissionPolicy>(&mut self, policy: &mut A) -> Decision
         requires { IsTrue (observes self.old) }
         ensures decides { Decides (λ k d. A.decides policy.old k d policy.new) self.old.key (Some result) }
         ensures request { self.new ≡ decided result self.old }
@@ -74,7 +74,7 @@ impl<S: Storage> HttpCache<S> {
         Some(self.observe(policy))
     }
 
-    // Turns caching off as deferred. Answers the lock that was released.
+    // Turns caching off as deferred. Returns the lock that was released.
     pub(super) fn defer<L: CacheKeyLock>(
         &mut self,
         storage: &mut S,

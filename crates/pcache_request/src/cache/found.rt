@@ -16,7 +16,7 @@ use pcache_lock::lock::CacheKeyLock;
 use pcache_meta::meta::CacheMeta;
 use pcache_store::storage::{HandleHit, Storage};
 
-// Notes the use of a body that counts and is not passed over, and answers what was noted.
+// Notes the use of a body that counts and is not passed over, and returns what was noted.
 fn note_access<S: Storage, E: EvictionManager>(
     eviction: &mut E,
     key: &CacheKey,
@@ -62,10 +62,9 @@ impl<S: Storage> HttpCache<S> {
     ghost use Rattle.pcache_request.specs.Requests.{found_row, asks_for_hit, store_found, table_found, tracked_found};
     ghost use Rattle.pcache_request.specs.Reports.{asked_by_found, access_by_found};
 
-    /// Notes the use of what a look-up found, if a manager is in use and the hit counts and is not
-    /// passed over. Returns the entry whose use was noted. It is refused only when memory runs out,
-    /// and changes nothing then.
-    pub fn note_found<E: EvictionManager>(
+    // Notes the use of what a look-up found, if a manager is in use and the hit counts and is not
+    // passed over. Returns the entry whose use was noted.
+    fn note_found<E: EvictionManager>(
         &self,
         eviction: &mut E,
         meta: &CacheMeta,
@@ -87,9 +86,9 @@ impl<S: Storage> HttpCache<S> {
         note_access::<S, E>(eviction, key, meta, hit, status)
     }
 
-    /// Takes what a look-up found, whose use was noted. Returns the lock that was asked for. Refused,
-    /// it lets the hit go.
-    pub fn place_found<L: CacheKeyLock>(
+    // Takes what a look-up found, whose use was noted. Returns the lock that was asked for. Refused,
+    // it lets the hit go.
+    fn place_found<L: CacheKeyLock>(
         &mut self,
         storage: &mut S,
         lock: &mut L,

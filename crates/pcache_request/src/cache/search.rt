@@ -48,9 +48,9 @@ impl<S: Storage> HttpCache<S> {
         }
     }
 
-    /// Asks for the key's lock, if one is in use, and lets an older one go once the new one was
-    /// given. Returns the lock that was asked for. Refused, it changes nothing.
-    pub fn ask_for_key<L: CacheKeyLock>(
+    // Asks for the key's lock, if one is in use, and lets an older one go once the new one was
+    // given. Returns the lock that was asked for.
+    fn ask_for_key<L: CacheKeyLock>(
         &mut self,
         lock: &mut L,
         now: Moment,
