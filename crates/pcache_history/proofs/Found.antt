@@ -24,7 +24,7 @@ use Rattle.pcache_history.specs.declared.entry.Entry.{Entry}
 use Rattle.pcache_history.specs.declared.entry.Event.{Event}
 use Rattle.pcache_history.specs.declared.entry.Event.TheVariants as E
 use Rattle.pcache_history.specs.Headline.{IsFoundBy, ReadsWhatWasFound}
-use Rattle.pcache_history.specs.Held.{Held, Change, fed_in, held_put, opens, closes, stays, turns, turns_by, shuts, looks, takes, begins, ends, reads_on, seeks, reads_no_more, renews, waits, pushes, feeds, goes, change_of, changed, turned_by, shut_by, sought_in, with_sought, Outcome, outcome, is_wrong, is_done, is_taken, opened, asked, carrying, decides, looked_by, looked_with, pair_of, placed_by, taken_by, without_pair, began, ended, read_past, has_read, on_request, row, request_of, pair_reader}
+use Rattle.pcache_history.specs.Held.{Held, Change, fed_in, held_put, opens, closes, stays, turns, turns_by, shuts, looks, takes, begins, ends, reads_on, seeks, reads_no_more, renews, waits, pushes, feeds, goes, change_of, changed, turned_by, shut_by, sought_in, with_sought, Outcome, outcome, is_wrong, is_done, is_taken, opened, asked, carrying, decides, looked_by, pair_of, placed_by, taken_by, without_pair, began, ended, read_past, has_read, on_request, row, request_of, pair_reader, after_look}
 use Rattle.pcache_history.specs.Taking.{Taking, new_put}
 use Rattle.pcache_history.specs.Legal.{IsLegal}
 use Rattle.pcache_history.proofs.Taken.{taken_keeps}
@@ -72,7 +72,7 @@ module _ (P : List ℕ → Type 0) (events : List Event) (found : (k : ℕ) (m :
   off-of x (phase.Disabled reason.NeverEnabled) h = h
   off-of x p h = tt
 
-  looked-on : (d : Option Decision) (a : Answer) (es : List Event) (x : Held) → AreOf P (Some x) → IsOf P (pair_reader (pair_of a)) → AreOf P (Some (looked_with d a es x))
+  looked-on : (d : Option Decision) (a : Answer) (es : List Event) (x : Held) → AreOf P (Some x) → IsOf P (pair_reader (pair_of a)) → AreOf P (Some (after_look d a es x))
   looked-on d a es x h k =
       let old : IsOf P (with_decision d x.request).reader = subst (IsOf P) (sym (decided-reader d x.request)) h.0 in
       elim (is_deferral d) as (λ b. AreOf P (Some (cond b (record { request = disabled_for Deferred (with_decision d x.request); pair = None; carried = None; put = x.put }) (record { request = asked false es (with_decision d x.request); pair = visible x.request.valid_after (pair_of a); carried = x.carried; put = x.put })))) [

@@ -11,6 +11,8 @@ use Rattle.pcache_history.specs.declared.call.Act.{Act}
 use Rattle.pcache_history.specs.declared.call.Act.TheVariants as C
 use Rattle.pcache_history.specs.declared.call.RequestAct.{RequestAct}
 use Rattle.pcache_history.specs.declared.call.RequestAct.TheVariants as Q
+use Rattle.pcache_put_ctx.specs.State.{Filled}
+use Rattle.pcache_history.specs.PutHistory.{filled_after}
 use Rattle.pcache_history.specs.declared.call.Reply.{Reply}
 use Rattle.pcache_history.specs.declared.call.Reply.TheVariants as R
 use Rattle.pcache_history.specs.declared.entry.Answer.{Answer}
@@ -20,10 +22,8 @@ use Rattle.pcache_history.specs.declared.entry.Event.TheVariants as E
 use Rattle.pcache_history.specs.Facts.{Facts}
 use Rattle.pcache_lock.specs.Permits.{Permit}
 use Rattle.pcache_request.specs.LockUse.{unheld}
-use Rattle.pcache_history.specs.Held.{Held, Outcome, was_done, was_wrong, handed_by, on_request, permit_held, row_by, taken_over, taker_in, Change, opens, closes, stays, turns, turns_by, shuts, looks, takes, begins, ends, reads_on, seeks, reads_no_more, renews, waits, pushes, feeds, goes, asked, carrying, change_of, changed, decides, fed_in, held_put, is_done, is_taken, is_wrong, looked_by, looked_with, outcome, pair_of, request_of, row}
+use Rattle.pcache_history.specs.Held.{Held, Outcome, was_done, was_wrong, handed_by, on_request, permit_held, row_by, taken_over, taker_in, Change, opens, closes, stays, turns, turns_by, shuts, looks, takes, begins, ends, reads_on, seeks, reads_no_more, renews, waits, pushes, feeds, goes, asked, carrying, change_of, changed, decides, fed_in, held_put, is_done, is_taken, is_wrong, looked_by, outcome, pair_of, request_of, row, after_look}
 use Rattle.pcache_history.specs.Legal.{IsLegal}
-use Rattle.pcache_history.specs.PutHistory.{filled_after}
-use Rattle.pcache_put_ctx.specs.State.{Filled}
 use Rattle.pcache_history.specs.Rules.{FindsKind, IsIdle, MayBe, MayTake, Replies}
 use Rattle.pcache_history.specs.Taking.{Taking, new_put}
 use Rattle.pcache_history.proofs.Copied.{outcome-copied, row-copied}
@@ -79,12 +79,12 @@ off-held d x = record { request = disabled_for Deferred (with_decision d x.reque
 abbrev on-held : Option Decision → Answer → List Event → Held → Held
 on-held d a es x = record { request = asked false es (with_decision d x.request); pair = visible x.request.valid_after (pair_of a); carried = x.carried; put = x.put }
 
-looked_with-put : (d : Option Decision) (a : Answer) (es : List Event) (x : Held) → (looked_with d a es x).put ≡ x.put
-looked_with-put d a es x = elim (is_deferral d) as (λ b. (cond b (off-held d x) (on-held d a es x)).put ≡ x.put) [ true ↦ refl | false ↦ refl ]
+after_look-put : (d : Option Decision) (a : Answer) (es : List Event) (x : Held) → (after_look d a es x).put ≡ x.put
+after_look-put d a es x = elim (is_deferral d) as (λ b. (cond b (off-held d x) (on-held d a es x)).put ≡ x.put) [ true ↦ refl | false ↦ refl ]
 
 looked-put : (es : List Event) (x : Held) → (looked_by es x).put ≡ x.put
 looked-put [] x = refl
-looked-put (E.Look k a ∷ es) x = looked_with-put (decides a x) a es x
+looked-put (E.Look k a ∷ es) x = after_look-put (decides a x) a es x
 looked-put (e ∷ es) x = refl
 
 fed-put : (o : Outcome) (events : List Event) (x : Held) (p : Option Taking) → x.put ≡ None → p ≡ None → (fed_in o events x p).put ≡ None

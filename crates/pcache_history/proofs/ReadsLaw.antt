@@ -34,7 +34,7 @@ use Rattle.pcache_history.specs.declared.entry.Entry.{Entry}
 use Rattle.pcache_history.specs.declared.entry.Event.{Event}
 use Rattle.pcache_history.specs.declared.entry.Event.TheVariants as E
 use Rattle.pcache_history.specs.Events.{begin_of, in_flight, body_of, is_told}
-use Rattle.pcache_history.specs.Held.{Held, Change, fed_in, held_put, opens, closes, stays, turns, turns_by, shuts, looks, takes, begins, ends, reads_on, seeks, reads_no_more, renews, waits, pushes, feeds, goes, change_of, changed, turned_by, shut_by, sought_in, with_sought, Outcome, outcome, was_wrong, was_done, was_taken, was_waited, was_refused, was_declined, was_other, waited_by, is_wrong, is_done, is_taken, opened, with_given, asked, pair_of, carrying, decides, looked_by, looked_with, placed_by, taken_by, without_pair, began, ended, read_past, has_read, on_request, row_by, row, request_of}
+use Rattle.pcache_history.specs.Held.{Held, Change, fed_in, held_put, opens, closes, stays, turns, turns_by, shuts, looks, takes, begins, ends, reads_on, seeks, reads_no_more, renews, waits, pushes, feeds, goes, change_of, changed, turned_by, shut_by, sought_in, with_sought, Outcome, outcome, was_wrong, was_done, was_taken, was_waited, was_refused, was_declined, was_other, waited_by, is_wrong, is_done, is_taken, opened, with_given, asked, pair_of, carrying, decides, looked_by, placed_by, taken_by, without_pair, began, ended, read_past, has_read, on_request, row_by, row, request_of, after_look}
 use Rattle.pcache_history.specs.Taking.{Taking, new_put}
 use Rattle.pcache_history.specs.History.{events_of, reads}
 use Rattle.pcache_history.specs.Facts.{Facts, request_in}
@@ -174,7 +174,7 @@ off-follows : (es : List Event) (got : List ℕ) (x : Request) (p : CachePhase) 
 off-follows es got x (phase.Disabled reason.NeverEnabled) h = h
 off-follows es got x p h = tt
 
-looked-on : (es : List Event) (d : Option Decision) (a : Answer) (events : List Event) (got : List ℕ) (x : Held) → FollowsIn es x got → FollowsIn es (looked_with d a events x) got
+looked-on : (es : List Event) (d : Option Decision) (a : Answer) (events : List Event) (got : List ℕ) (x : Held) → FollowsIn es x got → FollowsIn es (after_look d a events x) got
 looked-on es d a events got x h =
     let old : IfSome (with_decision d x.request).reader (λ reader. HasRead es reader got) = subst (λ o. IfSome o (λ reader. HasRead es reader got)) (sym (decided-reader d x.request)) h.0 in
     elim (is_deferral d) as (λ b. FollowsIn es (cond b (record { request = disabled_for Deferred (with_decision d x.request); pair = None; carried = None; put = x.put }) (record { request = asked false events (with_decision d x.request); pair = visible x.request.valid_after (pair_of a); carried = x.carried; put = x.put })) got) [

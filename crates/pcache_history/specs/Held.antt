@@ -1,6 +1,6 @@
 -- An open request with the pair that its last look-up gave, or an open put, and what the entries of a history leave of it (own). Calls that
 -- do one thing move a request by their reply; calls that can be refused half way move it by their events.
-use Rattle.std.specs.Prelude.{◌≡◌, ℕ, ◌+◌, ◌==◌, ◌&&◌, ◌||◌, Bool, true, false, is_none, is_some, Option, Some, None, cond, if◌then◌else◌, List, [], ◌∷◌, length}
+use Rattle.std.specs.Prelude.{◌≡◌, ℕ, ◌+◌, ◌==◌, ◌&&◌, ◌||◌, Bool, true, false, is_none, is_some, Option, Some, None, cond, if◌then◌else◌, List, [], ◌∷◌, length, unwrap_or}
 use Rattle.std.specs.Option.{option_map, option_and_then}
 use Rattle.pcache_meta.specs.Header.{shown}
 use Rattle.pcache_meta.specs.Meta.{Meta}
@@ -18,6 +18,7 @@ use Rattle.pcache_base.specs.declared.reason.NoCacheReason.{NoCacheReason}
 use Rattle.pcache_base.specs.declared.reason.NoCacheReason.TheVariants.{Deferred}
 use Rattle.pcache_put_ctx.specs.State.{Stage, InBody, HasDeclined, IsOver, write_in}
 use Rattle.pcache_predict.specs.declared.admission.Decision.{Decision}
+use Rattle.pcache_predict.specs.declared.admission.Decision.TheVariants as decision
 use Rattle.pcache_request.specs.Admissions.{is_deferral, kept_if, observes, with_decision}
 use Rattle.pcache_request.specs.LockUse.{enabled_waiting, handed, permit_in, unheld, with_cache_lock, with_options}
 use Rattle.pcache_request.specs.Phases.{is_key_phase}
@@ -127,20 +128,24 @@ carries d x = is_some d && is_key_phase x.request.phase
 abbrev pub carrying : Option Decision → Held → Held
 carrying d x = let r : Request = x.request in record { request = record r { has_policy = carries d x || r.has_policy }; pair = x.pair; carried = cond (carries d x) d x.carried; put = x.put }
 
+-- the policy in use decides as the decision that was carried last; before one was carried, none is in use
+abbrev pub policy_in : Option Decision → Decision
+policy_in carried = unwrap_or carried (decision.Ready 0)
+
 -- what the policy in use decides if this was found, if it is asked
 abbrev pub decides : Answer → Held → Option Decision
-decides a x = kept_if (is_none (pair_of a) && observes x.request) x.carried
+decides a x = kept_if (is_none (pair_of a) && observes x.request) (Some (policy_in x.carried))
 
 -- the request with a decision: if it defers, caching is turned off; else the lock that was asked for is held, and what was
 -- found, unless it is hidden
-abbrev pub looked_with : Option Decision → Answer → List Event → Held → Held
-looked_with d a es x = cond (is_deferral d)
+abbrev pub after_look : Option Decision → Answer → List Event → Held → Held
+after_look d a es x = cond (is_deferral d)
     (record { request = disabled_for Deferred (with_decision d x.request); pair = None; carried = None; put = x.put })
     (record { request = asked false es (with_decision d x.request); pair = visible x.request.valid_after (pair_of a); carried = x.carried; put = x.put })
 
 abbrev pub looked_by : List Event → Held → Held
 looked_by [] x = x
-looked_by (E.Look k a ∷ es) x = looked_with (decides a x) a es x
+looked_by (E.Look k a ∷ es) x = after_look (decides a x) a es x
 looked_by (_ ∷ es) x = x
 
 -- a look-up for a variance, by the meta of what was found

@@ -24,6 +24,10 @@ observes r = r.has_policy && (is_key_phase r.phase && is_none r.digest.admission
 abbrev pub asks_policy : Store → Request → Bool
 asks_policy s r = is_none (found_for s r.key) && observes r
 
+-- the same of a look-up that has a policy to ask, or none
+abbrev pub asks_any : Bool → Store → Request → Bool
+asks_any has s r = is_none (found_for s r.key) && (has && observes r)
+
 -- the decision is kept
 abbrev pub decided : Decision → Request → Request
 decided d r = let old : Digest = r.digest in record r { digest = record old { admission = Some d } }
@@ -35,6 +39,9 @@ kept_if asked d = cond asked d None
 -- the decision that a look-up took, if it took one
 abbrev pub decision_taken : Store → Request → Request → Option Decision
 decision_taken s before after = kept_if (asks_policy s before) after.digest.admission
+
+abbrev pub decision_of_any : Bool → Store → Request → Request → Option Decision
+decision_of_any has s before after = kept_if (asks_any has s before) after.digest.admission
 
 abbrev pub with_decision : Option Decision → Request → Request
 with_decision None r = r

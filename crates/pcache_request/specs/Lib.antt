@@ -3,6 +3,7 @@ pub mod Digest
 pub mod Finishing
 pub mod LockUse
 pub mod LockWaits
+pub mod LookUps
 pub mod Phases
 pub mod Predictions
 pub mod Releasing
@@ -13,4 +14,5 @@ pub mod Shown
 pub mod Sizes
 pub mod Stale
 pub mod Variants
+pub mod Witnesses
 pub mod WriteEnds

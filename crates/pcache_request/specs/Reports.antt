@@ -1,5 +1,5 @@
 -- What calls tell of what they did (own).
-use Rattle.std.specs.Prelude.{ℕ, Bool, false, Option, Some, None, cond, option_map}
+use Rattle.std.specs.Prelude.{ℕ, Bool, Option, Some, None, cond, option_map}
 use Rattle.pcache_base.specs.CompactKey.{compact_of}
 use Rattle.pcache_base.specs.Key.{Key, slot}
 use Rattle.pcache_base.specs.declared.key.CompactCacheKey.{CompactCacheKey}
@@ -8,10 +8,10 @@ use Rattle.pcache_evict.specs.declared.eviction.entry_key.CacheEntryKey.{CacheEn
 use Rattle.pcache_lock.specs.Locks.{Locks, lock_given, holder, is_permit, number_of_lock}
 use Rattle.pcache_lock.specs.declared.lock.permit.Locked.{Locked}
 use Rattle.pcache_lock.specs.declared.lock.status.LockStatus.{LockStatus}
-use Rattle.pcache_store.specs.Store.{Store, Reader, reader_weight}
+use Rattle.pcache_store.specs.Store.{Reader, reader_weight}
 use Rattle.pcache_store.specs.declared.storage.PurgeOutcome.{PurgeOutcome}
 use Rattle.pcache_store.specs.declared.storage.PurgeOutcome.TheVariants.{NotFound, Purged, Expired}
-use Rattle.pcache_request.specs.Requests.{Request, entry_of, asks_for_miss, asks_for_hit, asks_as_stale, counts_found}
+use Rattle.pcache_request.specs.Requests.{Request, entry_of, asks_for_hit, asks_as_stale, counts_found}
 use Rattle.pcache_request.specs.declared.phase.HitStatus.{HitStatus}
 use Rattle.pcache_request.specs.declared.cache.report.LockName.{LockName}
 use Rattle.pcache_request.specs.declared.cache.report.AskedLock.{AskedLock}
@@ -28,10 +28,7 @@ name_of l = record { number = number_of_lock l; is_permit = is_permit l }
 abbrev pub asked_with : Bool → Locks → Key → Option Locked → AskedLock
 asked_with stale t k h = record { given = name_of (lock_given t stale (holder t (slot k))); replaced = option_map name_of h }
 
--- the lock that a look-up asks for, and that which a found pair asks for
-abbrev pub asked_in_look_up : Store → Locks → Request → Option AskedLock
-asked_in_look_up s t r = cond (asks_for_miss s r) (option_map (λ k. asked_with false t k r.held) r.key) None
-
+-- the lock that a found pair asks for
 abbrev pub asked_by_found : HitStatus → Locks → Request → Option AskedLock
 asked_by_found s t r = cond (asks_for_hit s r) (option_map (λ k. asked_with (asks_as_stale s r.phase) t k r.held) r.key) None
 

@@ -128,16 +128,6 @@ abbrev pub table_asked : Bool → ℕ → Option Key → Option Locked → Locks
 table_asked stale now None h t = t
 table_asked stale now (Some k) h t = let_go_by h (after_request t (slot k) stale now (holder t (slot k)))
 
--- a look-up asks for the lock if nothing was found and one is in use
-abbrev pub asks_for_miss : Store → Request → Bool
-asks_for_miss s r = r.uses.lock && not (is_some (found_for s r.key))
-
-abbrev pub looked_up : Store → Locks → Request → Request
-looked_up s t r = cond (asks_for_miss s r) (with_lock false t r.key r) r
-
-abbrev pub table_looked : Store → ℕ → Request → Locks → Locks
-table_looked s now r t = cond (asks_for_miss s r) (table_asked false now r.key r.held t) t
-
 -- the entry of a key, and of the body or write of that number if it has one
 abbrev pub entry_of : Key → Option ℕ → CacheEntryKey
 entry_of k id = entry_with (compact_of k) id

@@ -3,23 +3,22 @@
 //! A request is lent what it works on: the storage, the eviction manager and the lock table. Parts
 //! that it does not use are left as they are. What it holds (a lock, a reader, a write) has to be
 //! given back, so a request is spent by `end`.
-ghost use Rattle.std.specs.Prelude.{◌≡◌, IfOk, IfErr, OnOk, OnErr, Option, Some, None, option_map, cond, not, ◌&&◌, true};
+ghost use Rattle.std.specs.Prelude.{◌≡◌, IfOk, IfErr, OnOk, OnErr, Option, Some, None, option_map, cond, true};
 ghost use Rattle.pcache_base.specs.Key.{slot};
 ghost use Rattle.pcache_base.specs.declared.error.ErrorType.TheVariants.{OutOfMemory};
 ghost use Rattle.std.specs.Option.{option_copied};
 ghost use Rattle.pcache_lock.specs.Locks.{MayRefuseLock, lock_given, holder};
 ghost use Rattle.pcache_lock.specs.Statuses.{IsReason};
-ghost use Rattle.pcache_store.specs.Store.{find_write, followed, counts_access, reader_weight};
+ghost use Rattle.pcache_store.specs.Store.{find_write, followed};
 ghost use Rattle.pcache_store.specs.Tag.{named_by};
-ghost use Rattle.pcache_evict.specs.Tracked.{added};
-ghost use Rattle.pcache_request.specs.Phases as phases;
-ghost use Rattle.pcache_request.specs.Requests.{settled, let_go_by, table_asked, left_by, entry_of, reader_in, phase_found};
+ghost use Rattle.pcache_request.specs.Requests.{settled, let_go_by, table_asked, left_by, entry_of, reader_in};
 ghost use Rattle.pcache_request.specs.Reports.{name_of, asked_with};
 
 mod admission;
 mod disable;
 pub mod ending;
 mod finish;
+mod found;
 mod lock_use;
 mod lock_wait;
 mod prediction;
@@ -31,6 +30,7 @@ mod shown;
 mod size;
 mod stale;
 mod variance;
+mod witness;
 
 use crate::digest::HttpCacheDigest;
 use crate::phase::{CachePhase, HitStatus, InUse};
@@ -49,11 +49,12 @@ use pcache_meta::meta::CacheMeta;
 use pcache_put::max_file_size::MaxFileSizeTracker;
 use pcache_store::storage::{HandleHit, HandleMiss, Storage};
 pub use report::{
-    Access, AskedLock, LockName, LookUp, ReleasedLock, Removal, Renewal, WaitReport, WriteBegin,
-    WriteReport,
+    Access, AskedLock, FoundReport, LockName, LookUp, ReleasedLock, Removal, Renewal, WaitReport,
+    WriteBegin, WriteReport,
 };
 use std::alloc::Global;
 use std::marker::Model;
+pub use witness::{NoWitness, Witness};
 
 /// One request's way through the cache.
 pub struct HttpCache<S: Storage> {
@@ -231,43 +232,6 @@ fn entry_for(key: &CacheKey, id: Option<CacheEntryId>) -> Result<CacheEntryKey>
     Ok(CacheEntryKey::from_entry_id(key.to_compact()?, id))
 }
 
-// Notes the use of a body that counts and is not passed over, and answers what was noted.
-fn note_access<S: Storage, E: EvictionManager>(
-    eviction: &mut E,
-    key: &CacheKey,
-    meta: &CacheMeta,
-    hit: &S::Hit,
-    status: HitStatus,
-) -> Result<Option<Access>>
-    ensures access { IfOk result (λ a. a ≡ cond (counts_access (S.Hit.reader hit.now) && not (phases.is_treated_as_miss status)) (Some (record { entry = entry_of key.now (S.Hit.entry_number hit.now); weight = reader_weight (S.Hit.reader hit.now) })) None) }
-    ensures tracked { OnOk result (E.tracked eviction.new ≡ cond (counts_access (S.Hit.reader hit.now) && not (phases.is_treated_as_miss status)) (added (E.tracked eviction.old) (entry_of key.now (S.Hit.entry_number hit.now)) (reader_weight (S.Hit.reader hit.now))) (E.tracked eviction.old)) }
-    ensures err { OnErr result (E.tracked eviction.new ≡ E.tracked eviction.old) }
-    ensures limits { E.limits eviction.new ≡ E.limits eviction.old }
-    ensures evicted { E.evicted eviction.new ≡ E.evicted eviction.old }
-    ensures kind { IfErr result (λ e. e ≡ OutOfMemory) }
-{
-    if !hit.should_count_access() || status.is_treated_as_miss() {
-        return Ok(None);
-    }
-    let entry = entry_for(key, hit.entry_id())?;
-    let weight = hit.get_eviction_weight();
-    eviction.access(&entry, weight, meta.fresh_until())?;
-    Ok(Some(Access { entry, weight }))
-}
-
-// The phase that what was found brings.
-fn phase_found(status: HitStatus, phase: CachePhase) -> CachePhase
-    ensures { result ≡ phase_found status phase }
-{
-    match status {
-        HitStatus::Fresh | HitStatus::ForceFresh => CachePhase::Hit,
-        HitStatus::Expired | HitStatus::ForceExpired | HitStatus::ForceExpiredServeStale => {
-            CachePhase::Stale
-        }
-        HitStatus::ForceMiss | HitStatus::FailedHitFilter => phase,
-    }
-}
-
 // Puts a reader, or none, in place of the one before, which is let go.
 fn replace_reader<S: Storage>(place: &mut Option<S::Hit>, reader: Option<S::Hit>, storage: &mut S)
     ensures place { place.new ≡ reader }
@@ -282,15 +246,14 @@ impl<S: Storage> HttpCache<S> {
     ghost use Rattle.std.specs.Prelude.{◌≡◌, ◌≢◌, ◌↔◌, ◌⊎◌, ℕ, true, false, cond, IfOk, IfErr, IfSome, OnOk, OnErr, IsOk, IsTrue, IsSome, Option, Some, None, option_map, is_some, ◌&&◌};
     ghost use Rattle.std.specs.Borrow.{Lends, LendsIf, sem};
     ghost use Rattle.pcache_base.specs.Key.{Key, slot};
-    ghost use Rattle.pcache_base.specs.declared.error.ErrorType.TheVariants.{InternalError, OutOfMemory, NumbersExhausted};
-    ghost use Rattle.pcache_lock.specs.Locks.{MayRefuseLock};
+    ghost use Rattle.pcache_base.specs.declared.error.ErrorType.TheVariants.{InternalError, OutOfMemory};
     ghost use Rattle.pcache_lock.specs.declared.lock.status.LockStatus.TheVariants.{Done};
-    ghost use Rattle.pcache_store.specs.Store.{followed, left, read_of, reader_after, sought};
+    ghost use Rattle.pcache_store.specs.Store.{read_of, reader_after, sought};
     ghost use Rattle.std.specs.Option.{option_copied, option_and_then};
     ghost use Rattle.pcache_store.specs.Refusals.{MayRefuseWrite};
-    ghost use Rattle.pcache_request.specs.Phases.{IsDisabled, MayTakeKey, MayLookUp, MayMiss, IsFilling, IsReading, MayFinishHit, is_filling};
-    ghost use Rattle.pcache_request.specs.Requests.{HasKey, HoldsNothing, Request, new_request, enabled_with, with_key, found_for, looked_up, asks_for_miss, table_looked, found_row, asks_for_hit, store_found, table_found, tracked_found, missed, without_reader, MayTakeMeta, with_meta, MayWrite, writing, store_writing, begun_for, settled, left_by, dropped_by, let_go_by};
-    ghost use Rattle.pcache_request.specs.Reports.{name_of, asked_in_look_up, asked_by_found, access_by_found};
+    ghost use Rattle.pcache_request.specs.Phases.{IsDisabled, MayTakeKey, MayMiss, IsStale, IsFilling, IsReading, MayFinishHit, is_filling};
+    ghost use Rattle.pcache_request.specs.Requests.{HasKey, HoldsNothing, Request, new_request, enabled_with, with_key, missed, without_reader, MayTakeMeta, with_meta, MayWrite, writing, store_writing, begun_for, settled, left_by, dropped_by, let_go_by};
+    ghost use Rattle.pcache_request.specs.Reports.{name_of};
     ghost use Rattle.pcache_request.specs.contracts.cache.HttpCache.{the_row};
 
     /// A request for which caching was never turned on.
@@ -394,163 +357,11 @@ impl<S: Storage> HttpCache<S> {
         self.phase = CachePhase::CacheKey;
     }
 
-    /// Looks for the key in the store, and asks for its lock if nothing is there and a lock is in
-    /// use. Nothing is hidden, and no policy is asked. Tells of the lock. Refused, it changes nothing.
-    pub fn look_up<L: CacheKeyLock>(
-        &mut self,
-        storage: &mut S,
-        lock: &mut L,
-        now: Moment,
-    ) -> Result<LookUp<S::Hit>>
-        requires { MayLookUp self.old.phase }
-        ensures found { IfOk result (λ r. option_map (λ p. (p.0, S.Hit.reader p.1)) r.found ≡ found_for (S.state storage.old) self.old.key) }
-        ensures asked { IfOk result (λ r. r.asked ≡ asked_in_look_up (S.state storage.old) (L.table lock.old) self.old) }
-        ensures request { OnOk result (self.new ≡ looked_up (S.state storage.old) (L.table lock.old) self.old) }
-        ensures store { OnOk result (S.state storage.new ≡ followed (S.state storage.old) (found_for (S.state storage.old) self.old.key)) }
-        ensures table { OnOk result (L.table lock.new ≡ table_looked (S.state storage.old) now self.old (L.table lock.old)) }
-        ensures same_request { OnErr result (self.new ≡ self.old) }
-        ensures same_store { OnErr result (S.state storage.new ≡ S.state storage.old) }
-        ensures same_table { OnErr result (L.table lock.new ≡ L.table lock.old) }
-        ensures kind { IfErr result (λ e. MayRefuseLock (L.table lock.old) e) }
-        ensures numbers { IfErr result (λ e. e ≡ NumbersExhausted → IsTrue (asks_for_miss (S.state storage.old) self.old)) }
-    {
-        let Some(key) = &self.key else { unreachable!() };
-        if let Some(pair) = storage.lookup(self.alloc, key)? {
-            return Ok(LookUp {
-                found: Some(pair),
-                asked: None,
-            });
-        }
-        if !self.uses.lock {
-            return Ok(LookUp {
-                found: None,
-                asked: None,
-            });
-        }
-        let asked = take_lock(self.alloc, &mut self.held, lock, key, false, now)?;
-        Ok(LookUp {
-            found: None,
-            asked: Some(asked),
-        })
-    }
-
-    /// Notes the use of what a look-up found, if a manager is in use and the hit counts and is not
-    /// passed over. Answers the entry whose use was noted. It is refused only when memory runs out,
-    /// and changes nothing then.
-    pub fn note_found<E: EvictionManager>(
-        &self,
-        eviction: &mut E,
-        meta: &CacheMeta,
-        hit: &S::Hit,
-        status: HitStatus,
-    ) -> Result<Option<Access>>
-        requires { MayLookUp self.now.phase }
-        ensures access { IfOk result (λ a. a ≡ access_by_found status (S.Hit.reader hit.now) (S.Hit.entry_number hit.now) self.now) }
-        ensures tracked { OnOk result (E.tracked eviction.new ≡ tracked_found status (S.Hit.reader hit.now) (S.Hit.entry_number hit.now) self.now (E.tracked eviction.old)) }
-        ensures err { OnErr result (E.tracked eviction.new ≡ E.tracked eviction.old) }
-        ensures limits { E.limits eviction.new ≡ E.limits eviction.old }
-        ensures evicted { E.evicted eviction.new ≡ E.evicted eviction.old }
-        ensures kind { IfErr result (λ e. e ≡ OutOfMemory) }
-    {
-        let Some(key) = &self.key else { unreachable!() };
-        if !self.uses.eviction {
-            return Ok(None);
-        }
-        note_access::<S, E>(eviction, key, meta, hit, status)
-    }
-
-    /// Takes what a look-up found, whose use was noted. A fresh hit is served; a stale one may be
-    /// renewed, and one that is treated as a miss is let go: both ask for the lock if one is in use.
-    /// Answers the lock that was asked for. Refused, it lets the hit go.
-    pub fn take_found<L: CacheKeyLock>(
-        &mut self,
-        storage: &mut S,
-        lock: &mut L,
-        meta: CacheMeta,
-        hit: S::Hit,
-        status: HitStatus,
-        now: Moment,
-    ) -> Result<Option<AskedLock>>
-        requires { MayLookUp self.old.phase }
-        ensures asked { IfOk result (λ a. a ≡ asked_by_found status (L.table lock.old) self.old) }
-        ensures request { OnOk result (self.new ≡ found_row status meta (S.Hit.reader hit) (L.table lock.old) self.old) }
-        ensures store { OnOk result (S.state storage.new ≡ store_found status (S.Hit.reader hit) self.old (S.state storage.old)) }
-        ensures table { OnOk result (L.table lock.new ≡ table_found status now self.old (L.table lock.old)) }
-        ensures same_request { OnErr result (self.new ≡ self.old) }
-        ensures left_store { OnErr result (S.state storage.new ≡ left (S.state storage.old) (S.Hit.reader hit)) }
-        ensures same_table { OnErr result (L.table lock.new ≡ L.table lock.old) }
-        ensures kind { IfErr result (λ e. MayRefuseLock (L.table lock.old) e) }
-        ensures numbers { IfErr result (λ e. e ≡ NumbersExhausted → IsTrue (asks_for_hit status self.old)) }
-    {
-        let Some(key) = &self.key else { unreachable!() };
-        let phase = phase_found(status, self.phase);
-        let asked = match take_lock_if(
-            self.alloc,
-            self.uses.lock && !status.is_fresh(),
-            &mut self.held,
-            lock,
-            key,
-            phase.is_stale(),
-            now,
-        ) {
-            Ok(asked) => asked,
-            Err(refused) => {
-                hit.let_go(storage);
-                return Err(refused);
-            }
-        };
-        self.phase = phase;
-        if status.is_treated_as_miss() {
-            hit.let_go(storage);
-            self.meta = None;
-            replace_reader(&mut self.reader, None, storage);
-        } else {
-            self.traces.start_hit_span(phase, status);
-            self.traces.log_meta_in_hit_span(&meta);
-            self.meta = Some(meta);
-            replace_reader(&mut self.reader, Some(hit), storage);
-        }
-        Ok(asked)
-    }
-
-    /// Takes what a look-up found: what `note_found` does, and then what `take_found` does. Refused,
-    /// it lets the hit go; an access noted before stays.
-    pub fn cache_found<L: CacheKeyLock, E: EvictionManager>(
-        &mut self,
-        storage: &mut S,
-        eviction: &mut E,
-        lock: &mut L,
-        meta: CacheMeta,
-        hit: S::Hit,
-        status: HitStatus,
-        now: Moment,
-    ) -> Result<()>
-        requires { MayLookUp self.old.phase }
-        ensures request { OnOk result (self.new ≡ found_row status meta (S.Hit.reader hit) (L.table lock.old) self.old) }
-        ensures store { OnOk result (S.state storage.new ≡ store_found status (S.Hit.reader hit) self.old (S.state storage.old)) }
-        ensures table { OnOk result (L.table lock.new ≡ table_found status now self.old (L.table lock.old)) }
-        ensures tracked { OnOk result (E.tracked eviction.new ≡ tracked_found status (S.Hit.reader hit) (S.Hit.entry_number hit) self.old (E.tracked eviction.old)) }
-        ensures same_request { OnErr result (self.new ≡ self.old) }
-        ensures left_store { OnErr result (S.state storage.new ≡ left (S.state storage.old) (S.Hit.reader hit)) }
-        ensures same_table { OnErr result (L.table lock.new ≡ L.table lock.old) }
-        ensures noted { OnErr result ((E.tracked eviction.new ≡ E.tracked eviction.old) ⊎ (E.tracked eviction.new ≡ tracked_found status (S.Hit.reader hit) (S.Hit.entry_number hit) self.old (E.tracked eviction.old))) }
-        ensures limits { E.limits eviction.new ≡ E.limits eviction.old }
-        ensures evicted { E.evicted eviction.new ≡ E.evicted eviction.old }
-        ensures kind { IfErr result (λ e. MayRefuseLock (L.table lock.old) e) }
-        ensures numbers { IfErr result (λ e. e ≡ NumbersExhausted → IsTrue (asks_for_hit status self.old)) }
-    {
-        if let Err(refused) = self.note_found(eviction, &meta, &hit, status) {
-            hit.let_go(storage);
-            return Err(refused);
-        }
-        self.take_found(storage, lock, meta, hit, status, now)?;
-        Ok(())
-    }
-
-    /// Goes on as a miss.
+    /// Goes on as a miss, of which nothing was written yet.
     pub fn cache_miss(&mut self)
         requires { MayMiss self.old.phase }
-        ensures { self.new ≡ missed self.old }
+        ensures request { self.new ≡ missed self.old }
+        ensures unwritten { self.new.write ≡ None }
     {
         self.phase = CachePhase::Miss;
         self.meta = None;
@@ -648,10 +459,12 @@ impl<S: Storage> HttpCache<S> {
     }
 
     /// Sets the meta of the response that is to be stored. In place of a stale one it keeps the
-    /// moment from which that one's body came, and the request goes on as expired.
+    /// moment from which that one's body came, and the request goes on as expired, of which nothing
+    /// was written yet.
     pub fn set_cache_meta(&mut self, meta: CacheMeta)
         requires { MayTakeMeta self.old }
-        ensures { self.new ≡ with_meta meta self.old }
+        ensures request { self.new ≡ with_meta meta self.old }
+        ensures unwritten { IsStale self.old.phase → self.new.write ≡ None }
     {
         self.traces.log_meta_in_miss_span(&meta);
         if !self.phase.is_stale() {

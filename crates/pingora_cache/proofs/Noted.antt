@@ -40,9 +40,9 @@ use Rattle.pcache_request.specs.declared.cache.report.LockName.{LockName}
 use Rattle.pcache_request.specs.Requests.{Request, found_for, found_row, locked_found, phase_found, placed, with_lock, asks_for_hit, asks_as_stale, counts_found, entry_of, reader_in, writing, begun_for, joined_for, is_removed_by, tracked_gone, tracked_gone_for}
 use Rattle.pingora_cache.specs.PartFacts.{facts_in, there_for, complete_for}
 use Rattle.pcache_request.specs.Renewals.{has_body, renewed_by}
-use Rattle.pcache_history.specs.Rules.{Renews, Takes, renew_of, update_reply, AsksIf, IsLockRefusal, each, accesses, permit_of, untrack_of}
+use Rattle.pcache_history.specs.Rules.{Misses, Renews, Takes, renew_of, update_reply, AsksIf, IsLockRefusal, each, accesses, permit_of, untrack_of}
 use Rattle.pcache_history.specs.Held.{Held, lock_of, asked, began, read_past}
-use Rattle.pingora_cache.specs.Step.{IsAnswered, MissesKey, renewal_reply, renewing, asking, kind_asked, noting, permit_in, permit_released, untracking}
+use Rattle.pingora_cache.specs.Step.{IsAnswered, renewal_reply, renewing, asking, kind_asked, noting, permit_in, permit_released, untracking}
 use Rattle.pingora_cache.proofs.StateAnswers.{found-answer, read-past}
 use Rattle.pingora_cache.proofs.StateCalls.{begun-joins}
 
@@ -92,10 +92,8 @@ pub key-asked : (t : Locks) (x : Request) (j : ℕ) → with_key_lock t x ≡ as
 key-asked t x j = asked-given x.uses.lock false t x.key j x
 
 -- what a look-up that hands nothing on answers
-pub misses-asked : (s : Store) (t : Locks) (x : Request) (k : Key) (answer : Answer) (j : ℕ) (a : Option AskedLock) (l : Option LockKind) (old first events : List Event) → x.key ≡ Some k → j ≡ slot k → a ≡ asked_for_key t x → l ≡ kind_asked a
-    → old ≡ [] → first ≡ old ++ E.Look j answer ∷ [] → events ≡ first ++ asking j a → MissesKey (facts_in s t x) answer x (R.NotFound l) events
-misses-asked s t x k answer j a l old first events key at is kind none one all =
-    (k, key, inr (asking j a, l, asks-if x.uses.lock false t k j x.held x.key a l key at is kind, all ∙ ap (λ es. es ++ asking j a) (one ∙ ap (λ es. es ++ E.Look j answer ∷ []) none) ∙ ap (λ q. E.Look q answer ∷ asking j a) at, refl))
+pub misses-asked : (s : Store) (t : Locks) (x : Request) (k : Key) (answer : Answer) (a : Option AskedLock) → x.key ≡ Some k → a ≡ asked_for_key t x → Misses (facts_in s t x) (slot k) answer x (R.NotFound (kind_asked a)) (E.Look (slot k) answer ∷ asking (slot k) a)
+misses-asked s t x k answer a key is = inr (asking (slot k) a, kind_asked a, asks-if x.uses.lock false t k (slot k) x.held x.key a (kind_asked a) key refl is refl, refl, refl)
 
 -- a lock is refused when memory runs out, or if it was asked for and all numbers were given
 pub lock-refused : (s : Store) (t : Locks) (x : Request) (asks : Bool) (e : ErrorType) → MayRefuseLock t e → (e ≡ NumbersExhausted → IsTrue asks) → IsLockRefusal (facts_in s t x) asks e
@@ -103,10 +101,8 @@ lock-refused s t x asks OutOfMemory h why = inl refl
 lock-refused s t x asks NumbersExhausted h why = inr (refl, why refl, h)
 lock-refused s t x asks e h why = absurd h
 
-pub misses-refused : (s : Store) (t : Locks) (x : Request) (k : Key) (answer : Answer) (j : ℕ) (e kind : ErrorType) (old events : List Event) → x.key ≡ Some k → j ≡ slot k → IsTrue x.uses.lock → MayRefuseLock t e → kind ≡ e
-    → old ≡ [] → events ≡ old ++ E.Look j answer ∷ [] → MissesKey (facts_in s t x) answer x (R.Refused kind) events
-misses-refused s t x k answer j e kind old events key at used why is none all =
-    (k, key, inl (e, used, lock-refused s t x true e why (λ _. refl), all ∙ ap (λ es. es ++ E.Look j answer ∷ []) none ∙ ap (λ q. E.Look q answer ∷ []) at, ap R.Refused is))
+pub misses-refused : (s : Store) (t : Locks) (x : Request) (k : Key) (answer : Answer) (e : ErrorType) → IsTrue x.uses.lock → MayRefuseLock t e → Misses (facts_in s t x) (slot k) answer x (R.Refused e) (E.Look (slot k) answer ∷ [])
+misses-refused s t x k answer e used why = inl (e, used, lock-refused s t x true e why (λ _. refl), refl, refl)
 
 -- what is answered if a pair can't be taken
 pub takes-refused : (st : Store) (s : HitStatus) (t : Locks) (x : Request) (p : Meta × Reader) (k : Key) (e kind : ErrorType) (events : List Event) → x.key ≡ Some k → MayRefuseLock t e → (e ≡ NumbersExhausted → IsTrue (asks_for_hit s x)) → kind ≡ e → events ≡ accesses s k p.1 x

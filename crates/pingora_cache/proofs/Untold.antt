@@ -45,7 +45,7 @@ use Rattle.pcache_history.specs.Deeds.{deeds_by, deeds_in, held_in, moment_of, s
 use Rattle.pcache_history.specs.Due.{IsOfWorld, KeepsKey, makes_of, reader_for, slot_of}
 use Rattle.pcache_history.specs.Facts.{Facts, request_in}
 use Rattle.pingora_cache.specs.PartFacts.{facts_in}
-use Rattle.pcache_history.specs.Held.{Held, Outcome, was_done, was_waited, opened, is_done, is_taken, is_wrong, outcome, on_request, pair_of, with_given, asked, carrying, decides, looked_with, looked_by, looks_for, placed_by, taken_by, turned_by, shut_by, without_pair, fed, fed_in, held_put, began, ended, has_read, waited_by, row, row_by}
+use Rattle.pcache_history.specs.Held.{Held, Outcome, was_done, was_waited, opened, is_done, is_taken, is_wrong, outcome, on_request, pair_of, with_given, asked, carrying, decides, looked_by, looks_for, placed_by, taken_by, turned_by, shut_by, without_pair, fed, fed_in, held_put, began, ended, has_read, waited_by, row, row_by, after_look}
 use Rattle.pingora_cache.specs.Untold.{untold, uncounted, untold_put, untold_lock, untold_reader, untold_request, untold_watch}
 use Rattle.pingora_cache.specs.Moved.{reads_of}
 use Rattle.pcache_history.specs.Rules.{Answers, AsksIf, Closes, Does, Feeds, FindsKind, IsOfKind, Replies, Finishes, HandsOn, IsLockRefusal, IsStarved, Looks, LooksOn, MayBe, Misses, Takes, Waits, accesses}
@@ -114,14 +114,14 @@ deferred-untold : (d : Option Decision) (x : Held) → untold (record { request 
 deferred-untold None x = ap {A = Request} {B = Held} (λ r. record { request = r; pair = None; carried = None; put = option_map untold_put x.put }) (disabled-untold x.request.phase reason.Deferred x.request)
 deferred-untold (Some d) x = ap {A = Request} {B = Held} (λ r. record { request = r; pair = None; carried = None; put = option_map untold_put x.put }) (disabled-untold x.request.phase reason.Deferred (decided d x.request))
 
-looked_with-untold : (d : Option Decision) (a : Answer) (es : List Event) (x : Held) → untold (looked_with d a es x) ≡ looked_with d a es (untold x)
-looked_with-untold d a es x =
+after_look-untold : (d : Option Decision) (a : Answer) (es : List Event) (x : Held) → untold (after_look d a es x) ≡ after_look d a es (untold x)
+after_look-untold d a es x =
     either-held (is_deferral d) _ _ _ _ (deferred-untold d x)
     (with-request x (visible x.request.valid_after (pair_of a)) _ _ (asked-untold false es (with_decision d x.request) ∙ ap (asked false es) (decision-untold d x.request)))
 
 looked-untold : (es : List Event) (x : Held) → untold (looked_by es x) ≡ looked_by es (untold x)
 looked-untold [] x = refl
-looked-untold (E.Look k a ∷ es) x = looked_with-untold (decides a x) a es x
+looked-untold (E.Look k a ∷ es) x = after_look-untold (decides a x) a es x
 looked-untold (e ∷ es) x = refl
 
 looks_for-untold : (v : List ℕ) (p : Option (Meta × Reader)) (x : Request) → untold_request (looks_for v p x) ≡ looks_for v p (untold_request x)

@@ -5,7 +5,6 @@ use Rattle.std.specs.Map.{lookup}
 use Rattle.std.specs.Option.{option_map}
 use Rattle.std.specs.BTreeMap.{is_at}
 use Rattle.pcache_meta.specs.Meta.{Meta}
-use Rattle.pcache_base.specs.Key.{Key, slot}
 use Rattle.pcache_base.specs.declared.error.ErrorType.{ErrorType}
 use Rattle.pcache_base.specs.declared.error.ErrorType.TheVariants.{WriteRemoved}
 use Rattle.pcache_evict.specs.Tracked.{Tracked, Limits}
@@ -14,29 +13,31 @@ use Rattle.pcache_lock.specs.Locks.{Locks}
 use Rattle.pcache_request.specs.declared.cache.report.Access.{Access}
 use Rattle.pcache_request.specs.declared.cache.report.AskedLock.{AskedLock}
 use Rattle.pcache_request.specs.declared.cache.report.LockName.{LockName}
+use Rattle.pcache_request.specs.declared.cache.report.LookUp.{LookUp}
+use Rattle.pcache_request.specs.declared.cache.report.LookUp.TheVariants.{Found, NotFound, Deferred}
 use Rattle.pcache_request.specs.declared.cache.report.ReleasedLock.{ReleasedLock}
-use Rattle.pcache_request.specs.Admissions.{with_decision}
 use Rattle.pcache_request.specs.Requests.{Request, left_by, dropped_by}
+use Rattle.pcache_store.specs.Readers.{reader_of}
 use Rattle.pcache_store.specs.Store.{Store, Reader}
 use Rattle.pcache_history.specs.declared.call.Act.{Act}
 use Rattle.pcache_history.specs.declared.call.Act.TheVariants as C
 use Rattle.pcache_history.specs.declared.call.RequestAct.TheVariants as Q
+use Rattle.pcache_store.specs.declared.memory.hit.MemHitHandler.{MemHitHandler}
 use Rattle.pcache_history.specs.declared.call.LockKind.{LockKind}
 use Rattle.pcache_history.specs.declared.call.Reply.{Reply}
 use Rattle.pcache_history.specs.declared.call.Reply.TheVariants as R
 use Rattle.pcache_history.specs.declared.entry.Answer.{Answer}
-use Rattle.pcache_history.specs.declared.entry.Answer.TheVariants.{Nothing}
 use Rattle.pcache_history.specs.declared.entry.Event.{Event}
 use Rattle.pcache_history.specs.declared.entry.Event.TheVariants as E
 use Rattle.pcache_history.specs.Due.{KeepsKey}
-use Rattle.pcache_history.specs.Facts.{Facts, request_in}
+use Rattle.pcache_history.specs.Facts.{request_in}
 use Rattle.pcache_history.specs.Deeds.{deeds_in, held_in}
-use Rattle.pcache_history.specs.Held.{Held, decides, outcome, row, pair_of, pair_reader}
+use Rattle.pcache_history.specs.Held.{Held, outcome, row, pair_of, pair_reader}
 use Rattle.pingora_cache.specs.LockMoves.{MovesLocks}
 use Rattle.pingora_cache.specs.Moved.{Moves}
 use Rattle.pingora_cache.specs.PartFacts.{facts_in}
 use Rattle.pingora_cache.specs.Untold.{untold}
-use Rattle.pcache_history.specs.Rules.{Replies, Misses, drop_of, each, kind_of, release_of, renew_of, update_reply}
+use Rattle.pcache_history.specs.Rules.{Replies, drop_of, each, kind_of, look_reply, renew_of, update_reply}
 
 -- a pair that a look-up may answer
 abbrev pub IsAnswered : Meta → Reader → Type 0
@@ -100,16 +101,34 @@ IsMoved n all all' = (q : ℕ) → lookup (is_at (nat_cmp q)) all' ≡ cond (is_
 abbrev pub IsRowed : ℕ → Act → Reply → List Event → List (ℕ × Held) → List (ℕ × Held) → Type 0
 IsRowed n act reply events all all' = (q : ℕ) → lookup (is_at (nat_cmp q)) all' ≡ cond (is_at (nat_cmp n) q) (row act reply events (lookup (is_at (nat_cmp n)) all)) (lookup (is_at (nat_cmp q)) all)
 
--- a look-up of the request's key that hands nothing on, and one that turns caching off
-abbrev pub MissesKey : Facts → Answer → Request → Reply → List Event → Type 0
-MissesKey f a x reply events = (k : Key) × (x.key ≡ Some k) × Misses f (slot k) a x reply events
+-- what is noted and answered of the lock that a look-up asked for, if that was not refused
+abbrev pub asking_if : ℕ → Result (Option AskedLock) ErrorType → List Event
+asking_if k (Ok a) = asking k a
+asking_if k (Err e) = []
 
-abbrev pub DefersKey : Request → List Event → Type 0
-DefersKey x events = (k : Key) × (x.key ≡ Some k) × (events ≡ E.Look (slot k) Nothing ∷ (release_of x.held ++ drop_of x.write))
+abbrev pub asked_answer : Result (Option AskedLock) ErrorType → Reply
+asked_answer (Ok a) = R.NotFound (kind_asked a)
+asked_answer (Err e) = R.Refused e
 
--- a request that found nothing, with what its policy decides then
-abbrev pub with_own_decision : Held → Held
-with_own_decision x = record { request = with_decision (decides Nothing x) x.request; pair = x.pair; carried = x.carried; put = x.put }
+-- what is noted and answered of a look-up of a slot, of what the store has there and of the write of before, by what it told
+abbrev pub noted_after_look : ℕ → Option ℕ → LookUp MemHitHandler → List Event
+noted_after_look k w (Found m h) = []
+noted_after_look k w (NotFound asked) = asking_if k asked
+noted_after_look k w (Deferred released) = each E.Release (permit_in released) ++ drop_of w
+
+abbrev pub noted_look : ℕ → Answer → Option ℕ → LookUp MemHitHandler → List Event
+noted_look k a w l = E.Look k a ∷ noted_after_look k w l
+
+abbrev pub look_answer : Answer → LookUp MemHitHandler → Reply
+look_answer a (Found m h) = look_reply a None
+look_answer a (NotFound asked) = asked_answer asked
+look_answer a (Deferred released) = R.NotFound None
+
+-- what is held then: the pair that is handed on; a request that is turned off carries no decision
+abbrev pub held_after_look : LookUp MemHitHandler → Held → Held
+held_after_look (Found m h) x = record { request = x.request; pair = Some (m, reader_of h); carried = x.carried; put = x.put }
+held_after_look (NotFound asked) x = record { request = x.request; pair = None; carried = x.carried; put = x.put }
+held_after_look (Deferred released) x = record { request = x.request; pair = None; carried = None; put = x.put }
 
 -- what is noted and answered of a stale body that was found good: its new meta, if the store set it
 abbrev pub renewing : ℕ → Meta → Result Bool ErrorType → List Event

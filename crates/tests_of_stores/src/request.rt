@@ -355,7 +355,43 @@ const TOLD: &str = "
     2 may spawn-purge -> yes
     2 purge-beside -> there
     2 may spawn-purge -> yes
-    2 purge-beside-telling -> not there";
+    2 purge-beside-telling -> not there
+
+    # A witness is told of what the store has, before anything comes of it, also if that is hidden, and may refuse it.
+    5 second
+    1 enable
+    1 key 0
+    1 witnessed -> permit 0
+    1 miss
+    1 meta 60
+    1 begin
+    1 write xx
+    1 finish -> stored 2
+    6 second
+    2 enable
+    2 key
+    2 asks -> permit 1
+    2 miss
+    2 meta 60
+    2 begin
+    2 write x
+    2 finish -> stored 1
+    3 enable
+    3 key
+    3 witnessed -> found, weighed 1
+    3 witnessed refusing -> InternalError
+    3 vary 0 -> other
+    3 witnessed refusing -> InternalError
+    3 held -> none
+    3 witnessed -> permit 2, weighed 2
+    3 held -> permit
+    # A policy defers a key that is not there, and the permit goes.
+    4 enable
+    4 key 9
+    4 witnessed -> permit 3
+    4 policy
+    4 witnessed -> deferred without permit 3
+    4 phase -> Disabled(Deferred)";
 
 #[test]
 fn calls_tell_what_they_did(rt: HostRuntime) {

@@ -74,12 +74,23 @@ pub struct Access {
     pub weight: usize,
 }
 
-/// What a look-up gave. What it found has to be taken or let go.
-pub struct LookUp<H> {
-    /// The meta and the reader of what stands under the key.
-    pub found: Option<(CacheMeta, H)>,
-    /// The lock, if it was asked for.
-    pub asked: Option<AskedLock>,
+/// What a look-up gave.
+pub enum LookUp<H> {
+    /// What it hands on: the meta, and the reader, which has to be taken or let go.
+    Found(CacheMeta, H),
+    /// It hands nothing on: the lock that it asked for, if it did, or why that was refused.
+    NotFound(Result<Option<AskedLock>, Error>),
+    /// The policy deferred, and caching is off: the lock that was released.
+    Deferred(Option<LockName>),
+}
+
+/// What the taking of a found pair gave.
+#[derive(Debug, Drop)]
+pub struct FoundReport {
+    /// The entry whose use was noted.
+    pub access: Option<Access>,
+    /// The lock that was asked for, if it was, or why that was refused.
+    pub asked: Result<Option<AskedLock>, Error>,
 }
 
 /// What the begin of a write gave.

@@ -1,12 +1,14 @@
-//! Looking a key up: what the store has, what is hidden of it, and the key's lock.
+//! Looking a key up: what the store has, what is hidden of it, the policy that decides of a key that
+//! is not stored, and the key's lock.
 //!
-//! `cache_lookup` is made of `find`, `hides` and `ask_for_key`, which callers who keep a history call
-//! one by one.
-use super::{AskedLock, HttpCache, take_lock_if};
+//! There is one way, `search`: `cache_lookup` has no policy to ask, `cache_lookup_with` has one, and
+//! `look_up` has a witness besides and tells what it did.
+use super::{AskedLock, HttpCache, LookUp, NoWitness, Witness, take_lock_if};
 use pcache_base::error::Result;
 use pcache_base::moment::Moment;
 use pcache_lock::lock::CacheKeyLock;
 use pcache_meta::meta::CacheMeta;
+use pcache_predict::admission::{AdmissionPolicy, Decision};
 use pcache_store::storage::{HandleHit, Storage};
 
 impl<S: Storage> HttpCache<S> {
@@ -14,9 +16,12 @@ impl<S: Storage> HttpCache<S> {
     ghost use Rattle.pcache_base.specs.declared.error.ErrorType.TheVariants.{OutOfMemory, NumbersExhausted};
     ghost use Rattle.pcache_lock.specs.Locks.{MayRefuseLock};
     ghost use Rattle.pcache_store.specs.Store.{followed, left};
+    ghost use Rattle.pcache_request.specs.Admissions.{Decides, asks_any, asks_policy, decision_of_any, decision_taken, looked_with, store_looked_with, table_looked_with, with_decision};
+    ghost use Rattle.pcache_request.specs.LookUps.{OnLooked, OnUnlocked, Tells, handed_on};
     ghost use Rattle.pcache_request.specs.Phases.{MayLookUp};
     ghost use Rattle.pcache_request.specs.Requests.{found_for};
     ghost use Rattle.pcache_request.specs.Variants.{is_hidden, visible, seen_for, hides_for, searched, with_key_lock, table_key_locked, asked_for_key, asks_unseen, looked_for, table_looked_for};
+    ghost use Rattle.pcache_request.specs.Witnesses.{HasHeard, passed_over};
 
     /// What the store has for the key, also if that is hidden: the meta, and a reader that has to be
     /// taken or let go. It is refused only when memory runs out, and changes nothing then.
@@ -43,9 +48,9 @@ impl<S: Storage> HttpCache<S> {
         }
     }
 
-    /// Asks for the key's lock, if one is in use, and lets an older one go once the new one was
-    /// given. Answers the lock that was asked for. Refused, it changes nothing.
-    pub fn ask_for_key<L: CacheKeyLock>(
+    // Asks for the key's lock, if one is in use, and lets an older one go once the new one was
+    // given. Returns the lock that was asked for.
+    fn ask_for_key<L: CacheKeyLock>(
         &mut self,
         lock: &mut L,
         now: Moment,
@@ -72,32 +77,72 @@ impl<S: Storage> HttpCache<S> {
         )
     }
 
-    // Hands a found pair on, or lets it go if it is hidden, and asks for the lock then.
-    pub(super) fn hand_on<L: CacheKeyLock>(
+    // What the store has for the key, of which the witness was told. If it refuses that, the pair is
+    // let go.
+    fn find_told<W: Witness<S>>(
+        &self,
+        storage: &mut S,
+        witness: &mut W,
+    ) -> Result<Option<(CacheMeta, S::Hit)>>
+        requires { MayLookUp self.now.phase }
+        ensures found { IfOk result (λ r. option_map (λ p. (p.0, S.Hit.reader p.1)) r ≡ found_for (S.state storage.old) self.now.key) }
+        ensures store { OnOk result (S.state storage.new ≡ followed (S.state storage.old) (found_for (S.state storage.old) self.now.key)) }
+        ensures heard { OnOk result (HasHeard W.hears witness.old (found_for (S.state storage.old) self.now.key) witness.new) }
+        ensures something { OnErr result (IsSome (found_for (S.state storage.old) self.now.key)) }
+        ensures refused { IfErr result (λ e. ((e ≡ OutOfMemory) × (S.state storage.new ≡ S.state storage.old)) ⊎ (W.may_refuse e × (S.state storage.new ≡ passed_over (S.state storage.old) self.now.key))) }
+    {
+        let Some((meta, hit)) = self.find(storage)? else {
+            return Ok(None);
+        };
+        if let Err(refused) = witness.found(&meta, &hit) {
+            hit.let_go(storage);
+            return Err(refused);
+        }
+        Ok(Some((meta, hit)))
+    }
+
+    // Looks the key up, with a policy to ask if the request asks any, or with none, and tells what
+    // it did.
+    fn search<L: CacheKeyLock, A: AdmissionPolicy, W: Witness<S>>(
         &mut self,
         storage: &mut S,
         lock: &mut L,
-        meta: CacheMeta,
-        hit: S::Hit,
+        policy: &mut A,
+        has_policy: bool,
+        witness: &mut W,
         now: Moment,
-    ) -> Result<Option<(CacheMeta, S::Hit)>>
+    ) -> Result<LookUp<S::Hit>>
         requires { MayLookUp self.old.phase }
-        ensures found { IfOk result (λ r. option_map (λ p. (p.0, S.Hit.reader p.1)) r ≡ visible self.old.valid_after (Some (meta, S.Hit.reader hit))) }
-        ensures store { S.state storage.new ≡ cond (is_hidden self.old.valid_after meta.created) (left (S.state storage.old) (S.Hit.reader hit)) (S.state storage.old) }
-        ensures request { OnOk result (self.new ≡ cond (is_hidden self.old.valid_after meta.created) (with_key_lock (L.table lock.old) self.old) self.old) }
-        ensures table { OnOk result (L.table lock.new ≡ cond (is_hidden self.old.valid_after meta.created) (table_key_locked now self.old (L.table lock.old)) (L.table lock.old)) }
+        ensures found { IfOk result (λ l. option_map (λ p. (p.0, S.Hit.reader p.1)) (handed_on l) ≡ seen_for (S.state storage.old) self.old) }
+        ensures told { IfOk result (λ l. Tells (decision_of_any has_policy (S.state storage.old) self.old self.new) (S.state storage.old) (L.table lock.old) self.old l) }
+        ensures heard { OnOk result (HasHeard W.hears witness.old (found_for (S.state storage.old) self.old.key) witness.new) }
+        ensures decides { IsTrue (asks_any has_policy (S.state storage.old) self.old) → Decides (λ k d. A.decides policy.old k d policy.new) self.old.key self.new.digest.admission }
+        ensures same_policy { asks_any has_policy (S.state storage.old) self.old ≡ false → policy.new ≡ policy.old }
+        ensures request { IfOk result (λ l. OnLooked l (self.new ≡ looked_with (decision_of_any has_policy (S.state storage.old) self.old self.new) (S.state storage.old) (L.table lock.old) self.old)) }
+        ensures table { IfOk result (λ l. OnLooked l (L.table lock.new ≡ table_looked_with (decision_of_any has_policy (S.state storage.old) self.old self.new) (S.state storage.old) now self.old (L.table lock.old))) }
+        ensures store { OnOk result (S.state storage.new ≡ store_looked_with (decision_of_any has_policy (S.state storage.old) self.old self.new) self.old (S.state storage.old)) }
+
+        // The lock was refused.
+        ensures unlocked_request { IfOk result (λ l. OnUnlocked l (self.new ≡ with_decision (decision_of_any has_policy (S.state storage.old) self.old self.new) self.old)) }
+        ensures unlocked_table { IfOk result (λ l. OnUnlocked l (L.table lock.new ≡ L.table lock.old)) }
+        ensures unlocked_store { IfOk result (λ l. OnUnlocked l (hides_for (S.state storage.old) self.old ≡ false → S.state storage.new ≡ S.state storage.old)) }
+
         ensures same_request { OnErr result (self.new ≡ self.old) }
         ensures same_table { OnErr result (L.table lock.new ≡ L.table lock.old) }
-        ensures kind { IfErr result (λ e. MayRefuseLock (L.table lock.old) e) }
-        ensures used { OnErr result (IsTrue self.old.uses.lock) }
-        ensures hidden { OnErr result (IsTrue (is_hidden self.old.valid_after meta.created)) }
+        ensures something { OnErr result (IsSome (found_for (S.state storage.old) self.old.key)) }
+        ensures refused { IfErr result (λ e. ((e ≡ OutOfMemory) × (S.state storage.new ≡ S.state storage.old)) ⊎ (W.may_refuse e × (S.state storage.new ≡ passed_over (S.state storage.old) self.old.key))) }
     {
+        let Some((meta, hit)) = self.find_told(storage, witness)? else {
+            if let Some(Decision::Defer { .. }) = self.decide(policy, has_policy) {
+                return Ok(LookUp::Deferred(self.defer(storage, lock)));
+            }
+            return Ok(LookUp::NotFound(self.ask_for_key(lock, now)));
+        };
         if !self.hides(&meta) {
-            return Ok(Some((meta, hit)));
+            return Ok(LookUp::Found(meta, hit));
         }
         hit.let_go(storage);
-        self.ask_for_key(lock, now)?;
-        Ok(None)
+        Ok(LookUp::NotFound(self.ask_for_key(lock, now)))
     }
 
     /// Looks for the key in the store, hides what was created before the moment from which variants
@@ -122,12 +167,80 @@ impl<S: Storage> HttpCache<S> {
         ensures kind { IfErr result (λ e. MayRefuseLock (L.table lock.old) e) }
         ensures numbers { IfErr result (λ e. e ≡ NumbersExhausted → IsTrue (asks_unseen (S.state storage.old) self.old)) }
     {
-        match self.find(storage)? {
-            Some((meta, hit)) => self.hand_on(storage, lock, meta, hit, now),
-            None => {
-                self.ask_for_key(lock, now)?;
-                Ok(None)
-            }
+        let mut unasked = Decision::Ready { observed: 0 };
+        match self.search(storage, lock, &mut unasked, false, &mut NoWitness, now)? {
+            LookUp::Found(meta, hit) => Ok(Some((meta, hit))),
+            LookUp::NotFound(Ok(_asked)) => Ok(None),
+            LookUp::NotFound(Err(refused)) => Err(refused),
+            LookUp::Deferred(_released) => Ok(None),
         }
+    }
+
+    /// Looks the key up as `cache_lookup` does, and if the store has nothing and a policy in use has
+    /// not decided yet, asks the policy first. If it defers, caching is turned off as deferred, and no
+    /// lock is asked for. Its decision is kept. Refused, the request is as before but for a decision, and
+    /// the lock table is as before; if the lock was refused, a hidden pair was let go.
+    pub fn cache_lookup_with<L: CacheKeyLock, A: AdmissionPolicy>(
+        &mut self,
+        storage: &mut S,
+        lock: &mut L,
+        policy: &mut A,
+        now: Moment,
+    ) -> Result<Option<(CacheMeta, S::Hit)>>
+        requires { MayLookUp self.old.phase }
+        ensures found { IfOk result (λ r. option_map (λ p. (p.0, S.Hit.reader p.1)) r ≡ seen_for (S.state storage.old) self.old) }
+        ensures decides { IsTrue (asks_policy (S.state storage.old) self.old) → Decides (λ k d. A.decides policy.old k d policy.new) self.old.key self.new.digest.admission }
+        ensures same_policy { asks_policy (S.state storage.old) self.old ≡ false → policy.new ≡ policy.old }
+        ensures request { OnOk result (self.new ≡ looked_with (decision_taken (S.state storage.old) self.old self.new) (S.state storage.old) (L.table lock.old) self.old) }
+        ensures store { OnOk result (S.state storage.new ≡ store_looked_with (decision_taken (S.state storage.old) self.old self.new) self.old (S.state storage.old)) }
+        ensures table { OnOk result (L.table lock.new ≡ table_looked_with (decision_taken (S.state storage.old) self.old self.new) (S.state storage.old) now self.old (L.table lock.old)) }
+        ensures decided { OnErr result (self.new ≡ with_decision (decision_taken (S.state storage.old) self.old self.new) self.old) }
+        ensures left_store { OnErr result ((S.state storage.new ≡ S.state storage.old) ⊎ (S.state storage.new ≡ searched (S.state storage.old) self.old)) }
+        ensures same_store { OnErr result (hides_for (S.state storage.old) self.old ≡ false → S.state storage.new ≡ S.state storage.old) }
+        ensures same_table { OnErr result (L.table lock.new ≡ L.table lock.old) }
+        ensures kind { IfErr result (λ e. MayRefuseLock (L.table lock.old) e) }
+        ensures numbers { IfErr result (λ e. e ≡ NumbersExhausted → IsTrue (asks_unseen (S.state storage.old) self.old)) }
+    {
+        match self.look_up(storage, lock, policy, &mut NoWitness, now)? {
+            LookUp::Found(meta, hit) => Ok(Some((meta, hit))),
+            LookUp::NotFound(Ok(_asked)) => Ok(None),
+            LookUp::NotFound(Err(refused)) => Err(refused),
+            LookUp::Deferred(_released) => Ok(None),
+        }
+    }
+
+    /// What `cache_lookup_with` does, told apart by how far it came: a witness is told what the store
+    /// has, also if that is hidden, before anything comes of it. Refused, the store refused to look, or
+    /// the witness did; the request, the lock table and the policy are as before then, and what was
+    /// found was let go.
+    pub fn look_up<L: CacheKeyLock, A: AdmissionPolicy, W: Witness<S>>(
+        &mut self,
+        storage: &mut S,
+        lock: &mut L,
+        policy: &mut A,
+        witness: &mut W,
+        now: Moment,
+    ) -> Result<LookUp<S::Hit>>
+        requires { MayLookUp self.old.phase }
+        ensures found { IfOk result (λ l. option_map (λ p. (p.0, S.Hit.reader p.1)) (handed_on l) ≡ seen_for (S.state storage.old) self.old) }
+        ensures told { IfOk result (λ l. Tells (decision_taken (S.state storage.old) self.old self.new) (S.state storage.old) (L.table lock.old) self.old l) }
+        ensures heard { OnOk result (HasHeard W.hears witness.old (found_for (S.state storage.old) self.old.key) witness.new) }
+        ensures decides { IsTrue (asks_policy (S.state storage.old) self.old) → Decides (λ k d. A.decides policy.old k d policy.new) self.old.key self.new.digest.admission }
+        ensures same_policy { asks_policy (S.state storage.old) self.old ≡ false → policy.new ≡ policy.old }
+        ensures request { IfOk result (λ l. OnLooked l (self.new ≡ looked_with (decision_taken (S.state storage.old) self.old self.new) (S.state storage.old) (L.table lock.old) self.old)) }
+        ensures table { IfOk result (λ l. OnLooked l (L.table lock.new ≡ table_looked_with (decision_taken (S.state storage.old) self.old self.new) (S.state storage.old) now self.old (L.table lock.old))) }
+        ensures store { OnOk result (S.state storage.new ≡ store_looked_with (decision_taken (S.state storage.old) self.old self.new) self.old (S.state storage.old)) }
+
+        // The lock was refused.
+        ensures unlocked_request { IfOk result (λ l. OnUnlocked l (self.new ≡ with_decision (decision_taken (S.state storage.old) self.old self.new) self.old)) }
+        ensures unlocked_table { IfOk result (λ l. OnUnlocked l (L.table lock.new ≡ L.table lock.old)) }
+        ensures unlocked_store { IfOk result (λ l. OnUnlocked l (hides_for (S.state storage.old) self.old ≡ false → S.state storage.new ≡ S.state storage.old)) }
+
+        ensures same_request { OnErr result (self.new ≡ self.old) }
+        ensures same_table { OnErr result (L.table lock.new ≡ L.table lock.old) }
+        ensures something { OnErr result (IsSome (found_for (S.state storage.old) self.old.key)) }
+        ensures refused { IfErr result (λ e. ((e ≡ OutOfMemory) × (S.state storage.new ≡ S.state storage.old)) ⊎ (W.may_refuse e × (S.state storage.new ≡ passed_over (S.state storage.old) self.old.key))) }
+    {
+        self.search(storage, lock, policy, true, witness, now)
     }
 }

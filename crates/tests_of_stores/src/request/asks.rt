@@ -2,6 +2,7 @@
 use super::*;
 use crate::rows::word;
 use bytes::Bytes;
+use pcache_base::error::{Error, ErrorType};
 use pcache_base::poll::Poll;
 use pcache_lock::lock::LockWaitOutcome;
 use pcache_meta::header_text::reader::header_deserialize;
@@ -29,6 +30,7 @@ fn reads(parts: &mut Parts, cache: &mut Request, call: &'static str, told: &mut 
         "reread" => reread(parts, cache, told),
         "wait" => wait(parts, cache, told),
         "asks" => asked(parts, cache, told),
+        "witnessed" => witnessed(parts, cache, word(call, 2) == "refusing", told),
         "finds-times" => found_times(parts, cache, told),
         other => return shows(parts, cache, other, told),
     }
@@ -257,24 +259,82 @@ fn waits(parts: &mut Parts, cache: &mut Request) -> bool {
         )
 }
 
-// Looks for the key, which is not there, and tells of the lock that was asked for.
+// Looks the key up, and tells what that told of itself.
 fn asked(parts: &mut Parts, cache: &mut Request, told: &mut Told) {
+    look_before(parts, cache, &mut NoWitness, told);
+}
+
+// The same before a witness, of which it tells too.
+fn witnessed(parts: &mut Parts, cache: &mut Request, refuses: bool, told: &mut Told) {
+    let mut witness = Weighing {
+        weight: None,
+        refuses,
+    };
+    look_before(parts, cache, &mut witness, told);
+    if let Some(weight) = witness.weight {
+        told.say(", weighed ");
+        told.shown(&weight);
+    }
+}
+
+// Takes note of the weight of what a look-up finds, or refuses to.
+#[derive(Drop)]
+struct Weighing {
+    weight: Option<usize>,
+    refuses: bool,
+}
+
+impl Witness<MemCache> for Weighing {
+    fn found(&mut self, _meta: &CacheMeta, hit: &lookups::Hit) -> Result<()> {
+        if self.refuses {
+            return Err(Error::new(ErrorType::InternalError));
+        }
+        self.weight = Some(hit.get_eviction_weight());
+        Ok(())
+    }
+}
+
+fn look_before<W: Witness<MemCache>>(
+    parts: &mut Parts,
+    cache: &mut Request,
+    witness: &mut W,
+    told: &mut Told,
+) {
     if !cache.phase().may_look_up() {
         return told.say("wrong");
     }
-    match cache.look_up(&mut parts.store, &mut parts.lock, parts.now) {
-        Ok(LookUp { found, asked }) => {
-            tell_asked(asked, told);
-            let_go(parts, found, told);
-        }
+    let looked = cache.look_up(
+        &mut parts.store,
+        &mut parts.lock,
+        &mut parts.policy,
+        witness,
+        parts.now,
+    );
+    match looked {
+        Ok(looked) => tell_looked(parts, looked, told),
         Err(refused) => told.refused(&refused),
     }
 }
 
-fn let_go(parts: &mut Parts, found: Option<(CacheMeta, lookups::Hit)>, told: &mut Told) {
-    if let Some((_meta, hit)) = found {
-        hit.let_go(&mut parts.store);
-        told.say(" found");
+fn tell_looked(parts: &mut Parts, looked: LookUp<lookups::Hit>, told: &mut Told) {
+    match looked {
+        LookUp::Found(_meta, hit) => {
+            hit.let_go(&mut parts.store);
+            told.say("found");
+        }
+        LookUp::NotFound(Ok(asked)) => tell_asked(asked, told),
+        LookUp::NotFound(Err(refused)) => told.refused(&refused),
+        LookUp::Deferred(released) => {
+            told.say("deferred");
+            tell_released(released, told);
+        }
+    }
+}
+
+fn tell_released(released: Option<LockName>, told: &mut Told) {
+    if let Some(released) = released {
+        told.say(" without ");
+        name(told, released);
     }
 }
 

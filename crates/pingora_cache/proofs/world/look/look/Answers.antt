@@ -1,6 +1,7 @@
 use Rattle.std.proofs.Common.{rules, inl, Some, subst, refl}
 use Rattle.pcache_request.specs.Phases.{MayLookUp}
 use Rattle.pingora_cache.specs.PartFacts.{facts_in}
+use Rattle.pcache_history.specs.Due.{KeepsKey}
 use Rattle.pcache_history.specs.Held.{Held, carrying}
 use Rattle.pcache_history.specs.Rules.{Looks}
 use Rattle.pingora_cache.proofs.Looking.{carried-moves, looks-by}
@@ -14,6 +15,11 @@ returns-clause-answers c =
     let may : MayLookUp c.args.request.now.request.phase = search rules in
     let looks = subst (λ (z : Held). Looks (facts_in c.args.store.now c.args.lock.now z.request) z c.look_up.result c.look_up.new.events.items) c.carry.ensures c.look_up.ensures.answers in
     inl (may, c.look_up.ensures.other, looks-by _ (facts_in c.args.store.now c.args.lock.now c.args.request.now.request) (carrying c.args.decision c.args.request.now) c.look_up.result c.look_up.new.events.items refl refl looks)
+
+pub returns-clause-keeps : goal.returns-clause-keeps
+returns-clause-keeps c w =
+    let h : KeepsKey (Some (carrying c.args.decision c.args.request.now)) (Some c.look_up.new.request) = subst (λ (z : Held). KeepsKey (Some z) (Some c.look_up.new.request)) c.carry.ensures c.look_up.ensures.keeps in
+    h (record { eviction = w.eviction; unnumbered = w.unnumbered; fills = w.fills })
 
 pub returns-clause-moves : goal.returns-clause-moves
 returns-clause-moves c = carried-moves c.args.decision c.args.request.now c.carry.new.request (Some c.look_up.new.request) c.args.store.now c.look_up.new.store c.look_up.new.events.items c.carry.ensures c.look_up.ensures.moves

@@ -1,0 +1,224 @@
+//! Taking what a look-up found.
+ghost use Rattle.std.specs.Prelude.{◌≡◌, IfOk, IfErr, OnOk, OnErr, Some, None, cond, not, ◌&&◌};
+ghost use Rattle.pcache_base.specs.declared.error.ErrorType.TheVariants.{OutOfMemory};
+ghost use Rattle.pcache_store.specs.Store.{counts_access, reader_weight};
+ghost use Rattle.pcache_evict.specs.Tracked.{added};
+ghost use Rattle.pcache_request.specs.Phases as phases;
+ghost use Rattle.pcache_request.specs.Requests.{entry_of, phase_found};
+
+use super::{Access, AskedLock, FoundReport, HttpCache, entry_for, replace_reader, take_lock_if};
+use crate::phase::{CachePhase, HitStatus};
+use pcache_base::error::Result;
+use pcache_base::key::CacheKey;
+use pcache_base::moment::Moment;
+use pcache_evict::eviction::EvictionManager;
+use pcache_lock::lock::CacheKeyLock;
+use pcache_meta::meta::CacheMeta;
+use pcache_store::storage::{HandleHit, Storage};
+
+// Notes the use of a body that counts and is not passed over, and returns what was noted.
+fn note_access<S: Storage, E: EvictionManager>(
+    eviction: &mut E,
+    key: &CacheKey,
+    meta: &CacheMeta,
+    hit: &S::Hit,
+    status: HitStatus,
+) -> Result<Option<Access>>
+    ensures access { IfOk result (λ a. a ≡ cond (counts_access (S.Hit.reader hit.now) && not (phases.is_treated_as_miss status)) (Some (record { entry = entry_of key.now (S.Hit.entry_number hit.now); weight = reader_weight (S.Hit.reader hit.now) })) None) }
+    ensures tracked { OnOk result (E.tracked eviction.new ≡ cond (counts_access (S.Hit.reader hit.now) && not (phases.is_treated_as_miss status)) (added (E.tracked eviction.old) (entry_of key.now (S.Hit.entry_number hit.now)) (reader_weight (S.Hit.reader hit.now))) (E.tracked eviction.old)) }
+    ensures err { OnErr result (E.tracked eviction.new ≡ E.tracked eviction.old) }
+    ensures limits { E.limits eviction.new ≡ E.limits eviction.old }
+    ensures evicted { E.evicted eviction.new ≡ E.evicted eviction.old }
+    ensures kind { IfErr result (λ e. e ≡ OutOfMemory) }
+{
+    if !hit.should_count_access() || status.is_treated_as_miss() {
+        return Ok(None);
+    }
+    let entry = entry_for(key, hit.entry_id())?;
+    let weight = hit.get_eviction_weight();
+    eviction.access(&entry, weight, meta.fresh_until())?;
+    Ok(Some(Access { entry, weight }))
+}
+
+// The phase that what was found brings.
+fn phase_found(status: HitStatus, phase: CachePhase) -> CachePhase
+    ensures { result ≡ phase_found status phase }
+{
+    match status {
+        HitStatus::Fresh | HitStatus::ForceFresh => CachePhase::Hit,
+        HitStatus::Expired | HitStatus::ForceExpired | HitStatus::ForceExpiredServeStale => {
+            CachePhase::Stale
+        }
+        HitStatus::ForceMiss | HitStatus::FailedHitFilter => phase,
+    }
+}
+
+impl<S: Storage> HttpCache<S> {
+    ghost use Rattle.std.specs.Prelude.{◌≡◌, ◌⊎◌, IfOk, IfErr, OnOk, OnErr, IsTrue};
+    ghost use Rattle.pcache_base.specs.declared.error.ErrorType.TheVariants.{OutOfMemory, NumbersExhausted};
+    ghost use Rattle.pcache_lock.specs.Locks.{MayRefuseLock};
+    ghost use Rattle.pcache_store.specs.Store.{left};
+    ghost use Rattle.pcache_request.specs.Phases.{MayLookUp};
+    ghost use Rattle.pcache_request.specs.Requests.{found_row, asks_for_hit, store_found, table_found, tracked_found};
+    ghost use Rattle.pcache_request.specs.Reports.{asked_by_found, access_by_found};
+
+    // Notes the use of what a look-up found, if a manager is in use and the hit counts and is not
+    // passed over. Returns the entry whose use was noted.
+    fn note_found<E: EvictionManager>(
+        &self,
+        eviction: &mut E,
+        meta: &CacheMeta,
+        hit: &S::Hit,
+        status: HitStatus,
+    ) -> Result<Option<Access>>
+        requires { MayLookUp self.now.phase }
+        ensures access { IfOk result (λ a. a ≡ access_by_found status (S.Hit.reader hit.now) (S.Hit.entry_number hit.now) self.now) }
+        ensures tracked { OnOk result (E.tracked eviction.new ≡ tracked_found status (S.Hit.reader hit.now) (S.Hit.entry_number hit.now) self.now (E.tracked eviction.old)) }
+        ensures err { OnErr result (E.tracked eviction.new ≡ E.tracked eviction.old) }
+        ensures limits { E.limits eviction.new ≡ E.limits eviction.old }
+        ensures evicted { E.evicted eviction.new ≡ E.evicted eviction.old }
+        ensures kind { IfErr result (λ e. e ≡ OutOfMemory) }
+    {
+        let Some(key) = &self.key else { unreachable!() };
+        if !self.uses.eviction {
+            return Ok(None);
+        }
+        note_access::<S, E>(eviction, key, meta, hit, status)
+    }
+
+    // Takes what a look-up found, whose use was noted. Returns the lock that was asked for. Refused,
+    // it lets the hit go.
+    fn place_found<L: CacheKeyLock>(
+        &mut self,
+        storage: &mut S,
+        lock: &mut L,
+        meta: CacheMeta,
+        hit: S::Hit,
+        status: HitStatus,
+        now: Moment,
+    ) -> Result<Option<AskedLock>>
+        requires { MayLookUp self.old.phase }
+        ensures asked { IfOk result (λ a. a ≡ asked_by_found status (L.table lock.old) self.old) }
+        ensures request { OnOk result (self.new ≡ found_row status meta (S.Hit.reader hit) (L.table lock.old) self.old) }
+        ensures store { OnOk result (S.state storage.new ≡ store_found status (S.Hit.reader hit) self.old (S.state storage.old)) }
+        ensures table { OnOk result (L.table lock.new ≡ table_found status now self.old (L.table lock.old)) }
+        ensures same_request { OnErr result (self.new ≡ self.old) }
+        ensures left_store { OnErr result (S.state storage.new ≡ left (S.state storage.old) (S.Hit.reader hit)) }
+        ensures same_table { OnErr result (L.table lock.new ≡ L.table lock.old) }
+        ensures kind { IfErr result (λ e. MayRefuseLock (L.table lock.old) e) }
+        ensures numbers { IfErr result (λ e. e ≡ NumbersExhausted → IsTrue (asks_for_hit status self.old)) }
+    {
+        let Some(key) = &self.key else { unreachable!() };
+        let phase = phase_found(status, self.phase);
+        let asked = match take_lock_if(
+            self.alloc,
+            self.uses.lock && !status.is_fresh(),
+            &mut self.held,
+            lock,
+            key,
+            phase.is_stale(),
+            now,
+        ) {
+            Ok(asked) => asked,
+            Err(refused) => {
+                hit.let_go(storage);
+                return Err(refused);
+            }
+        };
+        self.phase = phase;
+        if status.is_treated_as_miss() {
+            hit.let_go(storage);
+            self.meta = None;
+            replace_reader(&mut self.reader, None, storage);
+        } else {
+            self.traces.start_hit_span(phase, status);
+            self.traces.log_meta_in_hit_span(&meta);
+            self.meta = Some(meta);
+            replace_reader(&mut self.reader, Some(hit), storage);
+        }
+        Ok(asked)
+    }
+
+    /// Takes what a look-up found. Its use is noted, if a manager is in use and the hit counts and is
+    /// not passed over. A fresh hit is served; a stale one may be renewed, and one that is treated as
+    /// a miss is let go: both ask for the lock if one is in use. Refused, it lets the hit go; an
+    /// access noted before stays.
+    pub fn cache_found<L: CacheKeyLock, E: EvictionManager>(
+        &mut self,
+        storage: &mut S,
+        eviction: &mut E,
+        lock: &mut L,
+        meta: CacheMeta,
+        hit: S::Hit,
+        status: HitStatus,
+        now: Moment,
+    ) -> Result<()>
+        requires { MayLookUp self.old.phase }
+        ensures request { OnOk result (self.new ≡ found_row status meta (S.Hit.reader hit) (L.table lock.old) self.old) }
+        ensures store { OnOk result (S.state storage.new ≡ store_found status (S.Hit.reader hit) self.old (S.state storage.old)) }
+        ensures table { OnOk result (L.table lock.new ≡ table_found status now self.old (L.table lock.old)) }
+        ensures tracked { OnOk result (E.tracked eviction.new ≡ tracked_found status (S.Hit.reader hit) (S.Hit.entry_number hit) self.old (E.tracked eviction.old)) }
+        ensures same_request { OnErr result (self.new ≡ self.old) }
+        ensures left_store { OnErr result (S.state storage.new ≡ left (S.state storage.old) (S.Hit.reader hit)) }
+        ensures same_table { OnErr result (L.table lock.new ≡ L.table lock.old) }
+        ensures noted { OnErr result ((E.tracked eviction.new ≡ E.tracked eviction.old) ⊎ (E.tracked eviction.new ≡ tracked_found status (S.Hit.reader hit) (S.Hit.entry_number hit) self.old (E.tracked eviction.old))) }
+        ensures limits { E.limits eviction.new ≡ E.limits eviction.old }
+        ensures evicted { E.evicted eviction.new ≡ E.evicted eviction.old }
+        ensures kind { IfErr result (λ e. MayRefuseLock (L.table lock.old) e) }
+        ensures numbers { IfErr result (λ e. e ≡ NumbersExhausted → IsTrue (asks_for_hit status self.old)) }
+    {
+        let FoundReport { access: _, asked } = self.take_found(
+            storage, eviction, lock, meta, hit, status, now,
+        )?;
+        match asked {
+            Ok(_asked) => Ok(()),
+            Err(refused) => Err(refused),
+        }
+    }
+
+    /// What `cache_found` does, told apart by how far it came: refused, it only let the hit go; else
+    /// its use was noted, also if the lock was refused, and the hit was let go then.
+    pub fn take_found<L: CacheKeyLock, E: EvictionManager>(
+        &mut self,
+        storage: &mut S,
+        eviction: &mut E,
+        lock: &mut L,
+        meta: CacheMeta,
+        hit: S::Hit,
+        status: HitStatus,
+        now: Moment,
+    ) -> Result<FoundReport>
+        requires { MayLookUp self.old.phase }
+        ensures access { IfOk result (λ f. f.access ≡ access_by_found status (S.Hit.reader hit) (S.Hit.entry_number hit) self.old) }
+        ensures tracked { OnOk result (E.tracked eviction.new ≡ tracked_found status (S.Hit.reader hit) (S.Hit.entry_number hit) self.old (E.tracked eviction.old)) }
+        ensures asked { IfOk result (λ f. IfOk f.asked (λ a. a ≡ asked_by_found status (L.table lock.old) self.old)) }
+        ensures request { IfOk result (λ f. OnOk f.asked (self.new ≡ found_row status meta (S.Hit.reader hit) (L.table lock.old) self.old)) }
+        ensures store { IfOk result (λ f. OnOk f.asked (S.state storage.new ≡ store_found status (S.Hit.reader hit) self.old (S.state storage.old))) }
+        ensures table { IfOk result (λ f. OnOk f.asked (L.table lock.new ≡ table_found status now self.old (L.table lock.old))) }
+
+        // The lock was refused.
+        ensures unlocked_request { IfOk result (λ f. OnErr f.asked (self.new ≡ self.old)) }
+        ensures unlocked_store { IfOk result (λ f. OnErr f.asked (S.state storage.new ≡ left (S.state storage.old) (S.Hit.reader hit))) }
+        ensures unlocked_table { IfOk result (λ f. OnErr f.asked (L.table lock.new ≡ L.table lock.old)) }
+        ensures unlocked_kind { IfOk result (λ f. IfErr f.asked (λ e. MayRefuseLock (L.table lock.old) e)) }
+        ensures unlocked_numbers { IfOk result (λ f. IfErr f.asked (λ e. e ≡ NumbersExhausted → IsTrue (asks_for_hit status self.old))) }
+
+        ensures same_request { OnErr result (self.new ≡ self.old) }
+        ensures left_store { OnErr result (S.state storage.new ≡ left (S.state storage.old) (S.Hit.reader hit)) }
+        ensures same_table { OnErr result (L.table lock.new ≡ L.table lock.old) }
+        ensures same_tracked { OnErr result (E.tracked eviction.new ≡ E.tracked eviction.old) }
+        ensures limits { E.limits eviction.new ≡ E.limits eviction.old }
+        ensures evicted { E.evicted eviction.new ≡ E.evicted eviction.old }
+        ensures kind { IfErr result (λ e. e ≡ OutOfMemory) }
+    {
+        let access = match self.note_found(eviction, &meta, &hit, status) {
+            Ok(access) => access,
+            Err(refused) => {
+                hit.let_go(storage);
+                return Err(refused);
+            }
+        };
+        let asked = self.place_found(storage, lock, meta, hit, status, now);
+        Ok(FoundReport { access, asked })
+    }
+}
