@@ -97,7 +97,7 @@ fn tell_end(
     for list in receipts {
         for receipt in list {
             let place = receipt.place;
-            let request = receipt.call.request();
+            let request = receipt.call.request;
             told.push_str(format!(in alloc; "{place}:{request} ")?.as_str())?;
         }
         told.push('\n')?;

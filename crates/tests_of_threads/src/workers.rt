@@ -84,8 +84,8 @@ fn bit(place: usize) -> u64 {
 
 // Whether an entry has a receipt's request and reply.
 fn is_of(alloc: Global, entry: &Entry, receipt: &Receipt) -> Result<bool> {
-    let noted = format!(in alloc; "{} {:?}", entry.call.request(), entry.reply)?;
-    let told = format!(in alloc; "{} {:?}", receipt.call.request(), receipt.reply)?;
+    let noted = format!(in alloc; "{} {:?}", entry.call.request, entry.reply)?;
+    let told = format!(in alloc; "{} {:?}", receipt.call.request, receipt.reply)?;
     Ok(noted == told)
 }
 

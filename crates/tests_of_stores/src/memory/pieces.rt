@@ -92,7 +92,7 @@ fn all_are(alloc: Global, seed: u64) -> Result<bool> {
     let key = key_of(alloc, "aa")?;
     let mut it = Plain {
         alloc,
-        store: MemCache::new(alloc),
+        store: MemCache::new(alloc, Seed::fixed()),
         text: Vec::new(alloc),
         rng: StdRng::seed_from_u64(seed),
     };
