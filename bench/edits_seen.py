@@ -355,21 +355,22 @@ def sample(crates, minutes, seed):
             if file.startswith("wrong-bodies/"):
                 every += [(crate, file, it) for it in edits_in(f"{TOP}/crates/{crate}/{file}")]
     every.sort(key=lambda it: hashlib.sha256(f"{seed} {it[0]}/{it[1]} {it[2].name}".encode()).digest())
-    tried, bad, most = 0, 0, minutes * 60
+    tried, bad, most, lost, until = 0, 0, minutes * 60, 0, time.monotonic() + 3 * minutes * 60
     for crate, file, edit in every:
-        left = most - spent()
+        left = min(most - spent() - lost, until - time.monotonic())
         if left < most / 10:
             break
         try:
             seen = outcome_alone(crate, edit, min(left, most / 2))
         except NoTime:
-            seen = "not tried, for want of time"
+            # what a check took that was ended is not told
+            seen, lost = "not tried, for want of time", lost + min(left, most / 2)
         except (NotLookedAt, OSError) as why:
             seen = f"not tried: {why}"
         print(f"wrong body {crate}/{file}: {edit.name}: {seen}", flush=True)
         tried += seen == "refused"
-        bad += any(it in seen for it in ("LET THROUGH", "DOES NOT"))
-    print(f"wrong bodies: {tried} of {len(every)} seen refused, picked by {seed[:12]}; {bad} not; {spent() / 60:.1f} processor minutes", flush=True)
+        bad += seen.startswith(("LET THROUGH", "DOES NOT"))
+    print(f"wrong bodies: {tried} of {len(every)} seen refused, picked by {seed[:12]}; {bad} not; {(spent() + lost) / 60:.1f} processor minutes", flush=True)
     return 1 if bad else 0
 
 

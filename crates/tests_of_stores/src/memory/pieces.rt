@@ -15,11 +15,14 @@ struct Plain {
 // Hands a piece of up to 3,000 random bytes over, most of them small.
 fn is_handed_over(it: &mut Plain, writer: &mut MemMissHandler, eof: bool) -> Result<bool> {
     let small: bool = it.rng.random_range(0..3u32) > 0;
-    let most: usize = if small { 60 } else { 3_000 };
-    let len: usize = it.rng.random_range(0..most);
+    let len: usize = if small {
+        it.rng.random_range(0..60)
+    } else {
+        it.rng.random_range(0..3_000)
+    };
     let mut piece = Vec::with_capacity(it.alloc, len)?;
     for _ in 0..len {
-        let byte: u8 = it.rng.random_range(0..=255);
+        let byte: u8 = it.rng.random_range(0..250);
         piece.push(byte)?;
     }
     it.text.extend_from_slice(piece.as_slice())?;
@@ -27,14 +30,24 @@ fn is_handed_over(it: &mut Plain, writer: &mut MemMissHandler, eof: bool) -> Res
     Ok(!writer.at_eof(&it.store) && writer.write_body(&mut it.store, bytes, eof).is_ok())
 }
 
-// Whether a reader that was at this place reads what the plain text has from there on, and how far it is then.
+// Whether these bytes were read, or that there are none for now.
+fn is_rest(read: Result<Poll<Option<Bytes>>>, rest: &[u8]) -> bool {
+    match read {
+        Ok(Poll::Ready(Some(piece))) => !rest.is_empty() && piece.as_slice() == rest,
+        Ok(Poll::Ready(None)) => rest.is_empty(),
+        Ok(Poll::Pending) => rest.is_empty(),
+        Err(_refused) => false,
+    }
+}
+
+// How far a reader is that was at this place, if it reads what the plain text has from there on.
 fn reads_on(it: &mut Plain, reader: &mut MemHitHandler, place: usize) -> Option<usize> {
-    let rest = it.text.as_slice().get(place..)?;
-    match reader.read_body(it.alloc, &mut it.store) {
-        Ok(Poll::Ready(Some(piece))) if piece.as_slice() == rest => Some(it.text.len()),
-        Ok(Poll::Ready(None)) if rest.is_empty() => Some(place),
-        Ok(Poll::Pending) if rest.is_empty() => Some(place),
-        _ => None,
+    let read = reader.read_body(it.alloc, &mut it.store);
+    let rest = it.text.as_slice().get(place..).unwrap_or(&[]);
+    if is_rest(read, rest) {
+        Some(it.text.len())
+    } else {
+        None
     }
 }
 
