@@ -135,7 +135,7 @@ pub mod own {
 
 /// Worlds and their histories.
 pub mod world {
-    pub use pingora_cache::world::call::{Call, LockKind, Reply};
+    pub use pingora_cache::world::call::{Act, Call, LockKind, Reply, RequestAct};
     pub use pingora_cache::world::entry::{Answer, Entries, Entry, Event, Events};
     pub use pingora_cache::world::laws::{
         finds_exactly, finishes_exactly, hands_on_exactly, hits_read_the_last, is_wrong_exactly,
