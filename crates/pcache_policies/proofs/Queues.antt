@@ -233,7 +233,7 @@ kept-set c d total k w v kept found e fits =
     let at : weight_of k (plain c.entries) ≡ Some w.weight = plain-found k c.entries ∙ ap (option_map (λ (v : Seen). v.weight)) found in
     let here : unwrap_or (weight_of k (plain c.entries)) 0 ≡ w.weight = ap (λ o. unwrap_or o 0) at in
     let after : weight (plain d.entries) ≡ weight (others k (plain c.entries)) + v.weight =
-      ap (λ (c : LruCache CacheEntryKey Seen). weight (plain c.entries)) e ∙ ap weight (plain-set k v c.entries) ∙ weight-reweighed k v.weight (plain c.entries) once (subst IsSome (sym at) refl) in
+    ap (λ (c : LruCache CacheEntryKey Seen). weight (plain c.entries)) e ∙ ap weight (plain-set k v c.entries) ∙ weight-reweighed k v.weight (plain c.entries) once (subst IsSome (sym at) refl) in
     let few = kept.few in
     let many : length d.entries ≡ length c.entries = ap (λ (q : Queue). length q) is ∙ length-reseen k v c.entries in
     record {

@@ -294,8 +294,8 @@ far-more limits size count old now new far over once (step.ends over2 a p is) = 
 far-more limits size count old now new far over once (step.turns there a p is) =
     record {
       run = λ rest t m.
-        subst (λ (g : Queue). MakesRoom limits size count (left_of old) (reverse (keys_of g) ++ rest) t) (sym (ap (λ r. r.leaving) is))
-        (far.run rest t (turns (left_of now) t rest over a (subst (λ r. MakesRoom limits size count (left_of r) rest t) is m)));
+          subst (λ (g : Queue). MakesRoom limits size count (left_of old) (reverse (keys_of g) ++ rest) t) (sym (ap (λ r. r.leaving) is))
+          (far.run rest t (turns (left_of now) t rest over a (subst (λ r. MakesRoom limits size count (left_of r) rest t) is m)));
       same = same_all old now new now.passed now.leaving [] far.same is (turned_map now.ahead now.leaving now.passed once a);
     }
   where
@@ -307,8 +307,8 @@ far-more limits size count old now new far over once (step.turns there a p is) =
 far-more limits size count old now new far over once (step.clears k v there a used g p) =
     record {
       run = λ rest t m.
-        subst (λ (g : Queue). MakesRoom limits size count (left_of old) (reverse (keys_of g) ++ rest) t) (sym g)
-        (far.run rest t (clears (left_of now) (left_of new) t k v rest over a used p m));
+          subst (λ (g : Queue). MakesRoom limits size count (left_of old) (reverse (keys_of g) ++ rest) t) (sym g)
+          (far.run rest t (clears (left_of now) (left_of new) t k v rest over a used p m));
       same = cleared_map now.ahead new.ahead now.leaving new.leaving now.passed new.passed k v once a g p ∙ far.same;
     }
   where
@@ -317,9 +317,9 @@ far-more limits size count old now new far over once (step.clears k v there a us
 far-more limits size count old now new far over once (step.chooses k v there a idle g p) =
     record {
       run = λ rest t m.
-        subst (λ out. MakesRoom limits size count (left_of old) out t)
-        (sym (ap (λ out. out ++ rest) (ap (λ (g : Queue). reverse (keys_of g)) g ∙ reverse-cons k (keys_of now.leaving)) ∙ append_assoc (chosen now) (k ∷ []) rest))
-        (far.run (k ∷ rest) t (goes (left_of now) (left_of new) t k v rest over a idle p m));
+          subst (λ out. MakesRoom limits size count (left_of old) out t)
+          (sym (ap (λ out. out ++ rest) (ap (λ (g : Queue). reverse (keys_of g)) g ∙ reverse-cons k (keys_of now.leaving)) ∙ append_assoc (chosen now) (k ∷ []) rest))
+          (far.run (k ∷ rest) t (goes (left_of now) (left_of new) t k v rest over a idle p m));
       same = ap (λ h. map_of (plain (new.ahead ++ (h ++ new.passed)))) g ∙ ap (λ r. map_of (plain (new.ahead ++ (((k, v) ∷ now.leaving) ++ r)))) p ∙ ap (λ q. map_of (plain q)) (sym (last_ahead now.ahead new.ahead now.leaving now.passed (k, v) a)) ∙ far.same;
     }
 

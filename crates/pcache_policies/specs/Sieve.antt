@@ -1,12 +1,12 @@
 -- SIEVE: one list from the newest entry to the oldest, and a hand that lets entries go
 -- (Zhang, Yang, Yue, Vigfusson, Rashmi, NSDI 2024).
-use Rattle.std.specs.Prelude.{◌≡◌, ◌≢◌, ℕ, ◌+◌, ◌-◌, ◌^◌, ◌⊎◌, Option, None, Some, List, [], ◌∷◌, ◌++◌, length, min}
+use Rattle.std.specs.Prelude.{◌≡◌, ◌≢◌, ℕ, ◌+◌, ◌-◌, ◌^◌, ◌⊎◌, ◌==◌, Option, None, Some, List, [], ◌∷◌, ◌++◌, length, min, if◌then◌else◌}
 use Rattle.pcache_evict.specs.declared.eviction.entry_key.CacheEntryKey.{CacheEntryKey}
-use Rattle.pcache_evict.specs.Tracked.{Limits, Evicted, limits_of}
+use Rattle.pcache_evict.specs.Tracked.{Limits, Evicted, limits_of, raised}
 use Rattle.pcache_evict.specs.Recency.{Recency, weight}
 use Rattle.pcache_evict.specs.Listed.{map_of}
 use Rattle.pcache_policies.specs.declared.queue.Seen.{Seen}
-use Rattle.pcache_policies.specs.Queue.{Queue, plain, rest_of, reseen, unused}
+use Rattle.pcache_policies.specs.Queue.{Queue, plain, rest_of, reseen, unused, used}
 use Rattle.pcache_policies.specs.Leaving.{HasRoom}
 
 -- the list is `ahead ++ passed`; the hand stands at the last of `ahead`, or at the oldest if there is none
@@ -77,6 +77,21 @@ pub record Admits (old : Sieved) (k : CacheEntryKey) (n : ℕ) (new : Sieved) (o
   pub room : MakesRoom old.limits n 1 old.sieve gone left
   pub comes : (HasRoom old.limits n 1 (entries left) × (new.sieve ≡ entered k n left) × (out ≡ gone)) ⊎ ((¬ HasRoom old.limits n 1 (entries left)) × (new.sieve ≡ left) × (out ≡ gone ++ k ∷ []))
   pub counted : IsCounted old (n + weight (entries old.sieve)) new out
+
+-- an entry that is admitted again has its new weight where it stands, which is a use; a new one comes in
+abbrev pub Admission : Option Seen → Sieved → CacheEntryKey → ℕ → Sieved → List CacheEntryKey → Type 0
+Admission None old k n new out = Admits old k n new out
+Admission (Some v) old k n new out = KeepsLimits old (reseen_in k (used n) old.sieve) new out
+
+-- an increment raises the weight of an entry where it stands, which is no use; a new one comes in
+abbrev pub Increment : Option Seen → Sieved → CacheEntryKey → ℕ → Option ℕ → Sieved → List CacheEntryKey → Type 0
+Increment None old k delta most new out = Admits old k (raised delta most None) new out
+Increment (Some v) old k delta most new out = KeepsLimits old (reseen_in k (record v { weight = raised delta most (Some v.weight) }) old.sieve) new out
+
+-- a use sets the bit of an entry, where it stands; a new one comes in, even if there is no room
+abbrev pub accessed : Option Seen → CacheEntryKey → ℕ → Sieve → Sieve
+accessed None k n s = entered k n s
+accessed (Some v) k n s = if v.uses == 0 then reseen_in k (used v.weight) s else s
 
 -- a refused call leaves every entry with its weight, and what was evicted; the hand may have moved
 pub record IsRefused (old new : Sieved) : Type 0 where

@@ -9,7 +9,7 @@ ghost use Rattle.pcache_evict.specs.Recency.{weight};
 ghost use Rattle.pcache_policies.specs.declared.queue.Seen.{Seen};
 ghost use Rattle.pcache_policies.specs.Queue.{IsOnce, plain, seen_of, rest_of, reseen};
 ghost use Rattle.pcache_policies.specs.Leaving.{HasRoom};
-ghost use Rattle.pcache_policies.specs.Sieve.{entered, entries, turned};
+ghost use Rattle.pcache_policies.specs.Sieve.{entered, entries, turned, MakesRoom};
 ghost use Rattle.pcache_policies.specs.Ring.{Ring, ring, all, shown, left_of, Steps, Chooses, SameEntries, chosen};
 
 use crate::queue::{Queue, Seen};
@@ -111,6 +111,7 @@ impl Ring {
     pub(crate) fn leaving_len(&self) -> usize
         ensures value { result ≡ length self.now.leaving }
         ensures few { result < 2 ^ 63 }
+        ensures once { IsOnce (all self.now) }
     {
         self.len(); // for the prover: its contract says that the entries are few
         self.leaving.len()
@@ -185,6 +186,28 @@ impl Ring {
             }
         }
         Ok(())
+    }
+
+    /// Chooses what goes so that so many entries more of this weight fit, and makes a list with room
+    /// for the keys of all that and of one more.
+    pub(crate) fn prepare(
+        &mut self,
+        alloc: Global,
+        size: usize,
+        count: usize,
+        limit: usize,
+        watermark: Option<usize>,
+    ) -> Result<Vec<CacheEntryKey>>
+        requires { count < 2 ^ 63 }
+        ensures room { IfOk result (λ out. MakesRoom (limits_of limit watermark) size count (shown self.old) (chosen self.new) (left_of self.new)) }
+        ensures out { IfOk result (λ out. (out.items ≡ []) × (length self.new.leaving + 1 ≤ vec_capacity out)) }
+        ensures same { SameEntries self.old self.new }
+        ensures once { IfOk result (λ out. IsOnce (all self.new)) }
+        ensures kind { IfErr result (λ e. e ≡ OutOfMemory) }
+    {
+        self.settle()?;
+        self.make_room(size, count, limit, watermark)?;
+        Ok(Vec::with_capacity(alloc, self.leaving_len() + 1)?)
     }
 
     // The hand looks at one entry, or turns from the newest to the oldest. Answers whether there was
