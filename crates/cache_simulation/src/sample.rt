@@ -1,6 +1,5 @@
 //! Which keys stand for all: spatial sampling by the key's hash (Waldspurger, Park, Garthwaite,
 //! Ahmad, FAST 2015).
-ghost use Rattle.std.specs.Prelude.{◌≡◌, ◌*◌, ◌/◌, ◌-◌, ◌^◌, ◌<◌, ◌≤◌, min};
 
 /// A number in millionths.
 pub const WHOLE: u64 = 1_000_000;
@@ -32,9 +31,7 @@ impl Sample {
     }
 
     /// The size of a cache for these keys that stands for one of this size for all.
-    pub fn scaled(&self, size: usize) -> usize
-        ensures { result ≤ 2 ^ 64 - 1 }
-    {
+    pub fn scaled(&self, size: usize) -> usize {
         let scaled = (size as u128).saturating_mul(self.rate as u128) / (WHOLE as u128);
         usize::try_from(scaled).unwrap_or(usize::MAX)
     }
