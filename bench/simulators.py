@@ -1,0 +1,175 @@
+#!/usr/bin/env python3
+"""Caches that let entries go, written from the papers' text, and a comparison with `cache_sim`.
+
+    bench/simulators.py PROGRAM           # hand-made and Zipf traces, hit for hit
+    bench/simulators.py --trace SEED REQUESTS KEYS > FILE
+
+LRU; SIEVE (Zhang, Yang, Yue, Vigfusson, Rashmi, NSDI 2024). Each takes requests of (key, size) and tells hits.
+Nothing here is shared with the crates of this repository.
+"""
+import bisect
+import itertools
+import random
+import subprocess
+import sys
+
+
+class Lru:
+    """The least recently used entries go until what is there fits."""
+
+    def __init__(self, limit):
+        self.limit, self.used, self.sizes, self.evicted = limit, 0, {}, 0
+
+    def request(self, key, size):
+        if key in self.sizes:
+            self.sizes[key] = self.sizes.pop(key)
+            return True
+        self.sizes[key] = size
+        self.used += size
+        while self.used > self.limit:
+            oldest = next(iter(self.sizes))
+            self.used -= self.sizes.pop(oldest)
+            self.evicted += 1
+        return False
+
+
+class Node:
+    __slots__ = ("key", "size", "visited", "newer", "older")
+
+    def __init__(self, key, size):
+        self.key, self.size, self.visited, self.newer, self.older = key, size, False, None, None
+
+
+class Sieve:
+    """One linked list and a hand, as in the paper's Algorithm 1."""
+
+    def __init__(self, limit):
+        self.limit, self.used, self.nodes, self.evicted = limit, 0, {}, 0
+        self.head = self.tail = self.hand = None
+
+    def evict(self):
+        node = self.hand or self.tail
+        while node.visited:
+            node.visited = False
+            node = node.newer or self.tail
+        self.hand = node.newer
+        self.unlink(node)
+        self.used -= node.size
+        self.evicted += 1
+        del self.nodes[node.key]
+
+    def unlink(self, node):
+        if node.newer:
+            node.newer.older = node.older
+        else:
+            self.head = node.older
+        if node.older:
+            node.older.newer = node.newer
+        else:
+            self.tail = node.newer
+
+    def request(self, key, size):
+        node = self.nodes.get(key)
+        if node:
+            node.visited = True
+            return True
+        while self.nodes and self.used + size > self.limit:
+            self.evict()
+        if size > self.limit:
+            self.evicted += 1
+            return False
+        node = Node(key, size)
+        node.older = self.head
+        if self.head:
+            self.head.newer = node
+        self.head = node
+        self.tail = self.tail or node
+        self.nodes[key] = node
+        self.used += size
+        return False
+
+
+POLICIES = {"lru": Lru, "sieve": Sieve}
+
+
+def simulate(policy, limit, trace, passes_by):
+    cache = POLICIES[policy](limit)
+    hits = hit_bytes = total = 0
+    for key, size in trace:
+        total += size
+        if passes_by and size > limit:
+            continue
+        if cache.request(key, size):
+            hits += 1
+            hit_bytes += size
+    return (len(trace), hits, total, hit_bytes, cache.evicted)
+
+
+def zipf(seed, requests, keys, skew=0.9):
+    """Requests of keys whose popularity falls with their rank; each key has one size."""
+    draw = random.Random(seed)
+    weights = list(itertools.accumulate(1 / (rank + 1) ** skew for rank in range(keys)))
+    sizes = [draw.randint(1, 4000) for _ in range(keys)]
+    for _ in range(requests):
+        key = bisect.bisect_left(weights, draw.random() * weights[-1])
+        yield ("k%015d" % key, sizes[key])
+
+
+HAND_MADE = {
+    "scan": [(c, 1) for c in "abcdefghabcdefgh"],
+    "loop": [(c, 1) for c in "abcabcabcabc"],
+    "second chance": [(c, 1) for c in "abcaadbeacfbagdaab"],
+    "sizes": list(zip("abacabadbcbdcaed", [5, 3, 5, 4, 5, 3, 5, 2, 3, 4, 3, 2, 4, 5, 9, 2])),
+    "large": [("a", 2), ("b", 3), ("z", 50), ("a", 2), ("b", 3), ("z", 50), ("c", 4), ("a", 2)],
+    "nothing": [("a", 0), ("b", 0), ("a", 0), ("c", 7), ("b", 0), ("d", 7), ("a", 0)],
+}
+
+
+def rows_of(program, trace, sizes, passes_by):
+    text = "".join(f"{key} {size}\n" for key, size in trace)
+    words = [program, "--policy", ",".join(POLICIES), "--size", ",".join(map(str, sizes)), "--format", "csv"]
+    words += ["--large", "pass" if passes_by else "evict"]
+    output = subprocess.run(words, input=text, capture_output=True, text=True, check=True).stdout.split()
+    assert output[0] == "policy,size,requests,hits,bytes,hit_bytes,evicted", output[0]
+    for line in output[1:]:
+        policy, *numbers = line.split(",")
+        size, *counts = map(int, numbers)
+        yield policy, size, tuple(counts)
+
+
+def compare(program, name, trace, sizes):
+    for passes_by in (True, False):
+        rows = list(rows_of(program, trace, sizes, passes_by))
+        assert len(rows) == len(POLICIES) * len(sizes), rows
+        for policy, size, counts in rows:
+            wanted = simulate(policy, size, trace, passes_by)
+            if counts != wanted:
+                sys.exit(f"{name}, {policy} of {size}, passes by {passes_by}: {counts}, and not {wanted}")
+    print(f"{name}: {len(trace)} requests, {len(rows)} caches, large bodies passed by and not: equal")
+
+
+def each_prefix(program, name, trace, sizes):
+    """Equal counts after each request say that each is a hit in both or in none."""
+    for length in range(1, len(trace) + 1):
+        for policy, size, counts in rows_of(program, trace[:length], sizes, False):
+            assert counts == simulate(policy, size, trace[:length], False), (name, length, policy, size)
+    print(f"{name}: equal after each of {len(trace)} requests")
+
+
+def main():
+    if sys.argv[1] == "--trace":
+        seed, requests, keys = map(int, sys.argv[2:5])
+        for key, size in zipf(seed, requests, keys):
+            print(key, size)
+        return
+    program = sys.argv[1]
+    for name, trace in HAND_MADE.items():
+        each_prefix(program, name, trace, [1, 2, 3, 5, 8, 13])
+    for seed, requests, keys in [(1, 100_000, 5_000), (2, 100_000, 50_000), (3, 1_000_000, 100_000)]:
+        trace = list(zipf(seed, requests, keys))
+        total = sum({key: size for key, size in trace}.values())
+        compare(program, f"Zipf {seed}", trace, [max(1, total * part // 1000) for part in (1, 10, 100, 500)])
+
+
+if __name__ == "__main__":
+    main()

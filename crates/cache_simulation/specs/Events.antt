@@ -1,0 +1,62 @@
+-- What becomes of the requests of a trace, and what that does to what a manager tracks (own).
+use Rattle.std.specs.Prelude.{◌≡◌, ℕ, ◌+◌, Bool, true, false, ◌&&◌, ◌||◌, not, List, [], ◌∷◌, length, sum_by, if◌then◌else◌}
+use Rattle.std.specs.List.{list_any}
+use Rattle.std.specs.Ordering.{eq_by_cmp}
+use Rattle.std.specs.FinMap.{insert, contains_key}
+use Rattle.pcache_evict.specs.declared.eviction.entry_key.CacheEntryKey.{CacheEntryKey}
+use Rattle.pcache_evict.specs.Entry.{entry_cmp}
+use Rattle.pcache_evict.specs.Tracked.{Tracked, Limits, IsFair, without}
+
+-- a request for a body of some size: a stored one answers it; or it comes in, and these go; or it is passed by
+pub data Event : Type 0 where
+  Hit : CacheEntryKey → ℕ → Event
+  Came : CacheEntryKey → ℕ → List CacheEntryKey → Event
+  Passed : CacheEntryKey → ℕ → Event
+
+abbrev pub key_in : Event → CacheEntryKey
+key_in (Hit k n) = k
+key_in (Came k n out) = k
+key_in (Passed k n) = k
+
+abbrev pub size_in : Event → ℕ
+size_in (Hit k n) = n
+size_in (Came k n out) = n
+size_in (Passed k n) = n
+
+abbrev pub is_hit : Event → Bool
+is_hit (Hit k n) = true
+is_hit (Came k n out) = false
+is_hit (Passed k n) = false
+
+-- what is tracked after an event: a hit is of what is tracked, and what goes is a fair eviction
+abbrev pub Leads : Limits → Tracked → Event → Tracked → Type 0
+Leads limits m (Hit k n) m' = (contains_key m k ≡ true) × (m' ≡ m)
+Leads limits m (Came k n out) m' = IsFair limits (insert m k n) out × (m' ≡ without out (insert m k n))
+Leads limits m (Passed k n) m' = m' ≡ m
+
+-- what is tracked after a run of events
+abbrev pub RunsTo : Limits → Tracked → List Event → Tracked → Type 0
+RunsTo limits m [] after = after ≡ m
+RunsTo limits m (e ∷ es) after = (m' : Tracked) × Leads limits m e m' × RunsTo limits m' es after
+
+-- an entry stands after a past (the last event first) if it came in and did not go since
+abbrev pub stands : CacheEntryKey → List Event → Bool
+stands k [] = false
+stands k (Hit j n ∷ past) = stands k past
+stands k (Passed j n ∷ past) = stands k past
+stands k (Came j n out ∷ past) = (eq_by_cmp entry_cmp k j || stands k past) && not (list_any (eq_by_cmp entry_cmp k) out)
+
+-- each hit of these events is of an entry that stands when it is made
+abbrev pub HitsStand : List Event → List Event → Type 0
+HitsStand past [] = Unit {0}
+HitsStand past (Hit k n ∷ es) = (stands k past ≡ true) × HitsStand (Hit k n ∷ past) es
+HitsStand past (Came k n out ∷ es) = HitsStand (Came k n out ∷ past) es
+HitsStand past (Passed k n ∷ es) = HitsStand (Passed k n ∷ past) es
+
+-- so many events lead from one map to another, and hits and their bytes are counted
+pub record Plays (limits : Limits) (m after : Tracked) (count hits new_hits hit_bytes new_hit_bytes : ℕ) : Type 0 where
+  pub events : List Event
+  pub runs : RunsTo limits m events after
+  pub long : length events ≡ count
+  pub counted : new_hits ≡ hits + sum_by (λ e. if is_hit e then 1 else 0) events
+  pub weighed : new_hit_bytes ≡ hit_bytes + sum_by (λ e. if is_hit e then size_in e else 0) events

@@ -1,0 +1,71 @@
+//! What is counted of a trace.
+ghost use Rattle.std.specs.Prelude.{◌≡◌, ◌+◌, ◌*◌, ◌-◌, ◌^◌, ◌<◌, ◌≤◌, true, false, if◌then◌else◌};
+
+/// What was counted over a trace.
+#[derive(Clone, Copy, Debug)]
+pub struct Counts {
+    /// The requests.
+    pub requests: u64,
+    /// Those that a stored body answered.
+    pub hits: u64,
+    /// The bytes of the bodies that were asked for.
+    pub bytes: u128,
+    /// Those that a stored body answered.
+    pub hit_bytes: u128,
+    pub ghost few: { hits ≤ requests },
+    pub ghost light: { bytes ≤ requests * (2 ^ 64 - 1) },
+    pub ghost part: { hit_bytes ≤ bytes },
+}
+
+impl Counts {
+    /// Nothing yet.
+    pub fn none() -> Counts
+        ensures { (result.requests ≡ 0) × (result.hits ≡ 0) × (result.bytes ≡ 0) × (result.hit_bytes ≡ 0) }
+    {
+        Counts {
+            requests: 0,
+            hits: 0,
+            bytes: 0,
+            hit_bytes: 0,
+        }
+    }
+
+    /// The requests that no stored body answered.
+    pub fn misses(&self) -> u64
+        ensures { self.now.hits + result ≡ self.now.requests }
+    {
+        self.requests - self.hits
+    }
+
+    /// The bytes that no stored body answered.
+    pub fn miss_bytes(&self) -> u128
+        ensures { self.now.hit_bytes + result ≡ self.now.bytes }
+    {
+        self.bytes - self.hit_bytes
+    }
+
+    /// Whether no request can be counted any more.
+    pub fn is_full(&self) -> bool
+        ensures full { result ≡ true → self.now.requests ≡ 2 ^ 64 - 1 }
+        ensures room { result ≡ false → self.now.requests < 2 ^ 64 - 1 }
+    {
+        self.requests == u64::MAX
+    }
+
+    /// Counts a request for a body of this size.
+    pub fn note(&mut self, size: usize, is_hit: bool)
+        requires { self.old.requests < 2 ^ 64 - 1 }
+        ensures requests { self.new.requests ≡ self.old.requests + 1 }
+        ensures bytes { self.new.bytes ≡ self.old.bytes + size }
+        ensures hits { self.new.hits ≡ self.old.hits + (if is_hit then 1 else 0) }
+        ensures hit_bytes { self.new.hit_bytes ≡ self.old.hit_bytes + (if is_hit then size else 0) }
+    {
+        let (hits, hit_bytes) = if is_hit { (1, size as u128) } else { (0, 0) };
+        *self = Counts {
+            requests: self.requests + 1,
+            hits: self.hits + hits,
+            bytes: self.bytes + size as u128,
+            hit_bytes: self.hit_bytes + hit_bytes,
+        };
+    }
+}

@@ -1,0 +1,130 @@
+//! The managers of a simulation.
+ghost use Rattle.pcache_base.specs.declared.error.ErrorType.TheVariants.{OutOfMemory};
+
+use crate::options::{Options, Policy};
+use crate::report::Row;
+use crate::run::{Request, Run};
+use pcache_base::error::Result;
+use pcache_evict::eviction::{EvictionManager, sharded_lru, simple_lru};
+use pcache_policies::sieve;
+use std::alloc::Global;
+use std::time::Duration;
+
+// A run of a cache of this size, in bytes, for all keys.
+#[derive(Drop)]
+struct Sized<M: EvictionManager> {
+    size: usize,
+    run: Run<M>,
+}
+
+/// The runs of a simulation, for each policy one of each size.
+#[derive(Drop)]
+pub struct Runs {
+    alloc: Global,
+    policies: Vec<Policy>,
+    lru: Vec<Sized<simple_lru::Manager>>,
+    sharded: Vec<Sized<sharded_lru::Manager<16>>>,
+    sieve: Vec<Sized<sieve::Manager>>,
+}
+
+impl Runs {
+    /// The runs that the options ask for.
+    pub fn new(alloc: Global, options: &Options) -> Result<Runs> {
+        let mut runs = Runs {
+            alloc,
+            policies: Vec::new(alloc),
+            lru: Vec::new(alloc),
+            sharded: Vec::new(alloc),
+            sieve: Vec::new(alloc),
+        };
+        for policy in options.policies.as_slice() {
+            runs.policies.push(*policy)?;
+            for size in options.sizes.as_slice() {
+                runs.add(options, *policy, *size)?;
+            }
+        }
+        Ok(runs)
+    }
+
+    fn add(&mut self, options: &Options, policy: Policy, size: usize) -> Result<()> {
+        let limit = options.sample.scaled(size);
+        match policy {
+            Policy::Lru => {
+                let manager = simple_lru::Manager::new(self.alloc, limit)?;
+                add_run(self.alloc, &mut self.lru, options, manager, size)
+            }
+            Policy::Sharded => {
+                let manager = sharded_lru::Manager::with_capacity(self.alloc, limit, 0)?;
+                add_run(self.alloc, &mut self.sharded, options, manager, size)
+            }
+            Policy::Sieve => {
+                let manager = sieve::Manager::new(self.alloc, limit)?;
+                add_run(self.alloc, &mut self.sieve, options, manager, size)
+            }
+        }
+    }
+
+    /// Makes these requests of each cache.
+    pub fn play(&mut self, requests: &[Request]) -> Result<()> {
+        play_each(&mut self.lru, requests)?;
+        play_each(&mut self.sharded, requests)?;
+        play_each(&mut self.sieve, requests)
+    }
+
+    /// What each cache did, by policy and size in the order in which they were given.
+    pub fn rows(&self) -> Result<Vec<Row>> {
+        let mut rows = Vec::new(self.alloc);
+        for policy in self.policies.as_slice() {
+            match policy {
+                Policy::Lru => add_rows(&mut rows, "lru", self.lru.as_slice())?,
+                Policy::Sharded => add_rows(&mut rows, "sharded:16", self.sharded.as_slice())?,
+                Policy::Sieve => add_rows(&mut rows, "sieve", self.sieve.as_slice())?,
+            }
+        }
+        Ok(rows)
+    }
+}
+
+fn add_run<M: EvictionManager>(
+    alloc: Global,
+    runs: &mut Vec<Sized<M>>,
+    options: &Options,
+    manager: M,
+    size: usize,
+) -> Result<()> {
+    let most = if options.passes_by {
+        options.sample.scaled(size)
+    } else {
+        usize::MAX
+    };
+    let time = options.ttl.map(Duration::from_secs);
+    runs.push(Sized {
+        size,
+        run: Run::new(alloc, manager, most, time),
+    })?;
+    Ok(())
+}
+
+fn play_each<M: EvictionManager>(runs: &mut Vec<Sized<M>>, requests: &[Request]) -> Result<()> {
+    for sized in runs.iter_mut() {
+        sized.run.play(requests)?;
+    }
+    Ok(())
+}
+
+fn add_rows<M: EvictionManager>(
+    rows: &mut Vec<Row>,
+    policy: &'static str,
+    runs: &[Sized<M>],
+) -> Result<()> {
+    for sized in runs {
+        rows.push(Row {
+            policy,
+            size: sized.size,
+            counts: sized.run.counts,
+            evicted: sized.run.manager.evicted_items(),
+            tracked: sized.run.manager.total_size(),
+        })?;
+    }
+    Ok(())
+}

@@ -1,0 +1,118 @@
+-- Entries that leave a list one by one leave its map fairly.
+use Rattle.std.proofs.Common.{◌≡◌, ℕ, ◌+◌, Bool, true, false, cond, not, None, Some, is_some, unwrap_or, All, List, [], ◌∷◌, ◌++◌, refl, ap, sym, subst, ◌∙◌, arith}
+use Rattle.std.specs.Prelude.{IsTrue}
+use Rattle.std.specs.List.{IsDistinct, AllByRecursion}
+use Rattle.std.specs.Map.{keys_of}
+use Rattle.std.specs.Ordering.{eq_by_cmp}
+use Rattle.std.specs.Cmp.{eq_by_cmp_equiv}
+use Rattle.std.specs.FinMap as fin
+use Rattle.std.proofs.lemmas.Bool.{both_ways}
+use Rattle.std.proofs.lemmas.List.Elements.{All-cons, All-nil, All-weaker, recursion_from_All}
+use Rattle.std.proofs.lemmas.List.Sums.{sum_by-cons, sum_by-append}
+use Rattle.std.proofs.lemmas.Map.Keys.{IsDistinct-head, IsDistinct-tail, IsDistinct-cons}
+use Rattle.pcache_evict.specs.declared.eviction.entry_key.CacheEntryKey.{CacheEntryKey}
+use Rattle.pcache_evict.specs.Entry.{entry_eq, entry_cmp, entries_total}
+use Rattle.pcache_evict.specs.Tracked.{Tracked, Limits, IsWithin, IsFair, without, weight_in}
+use Rattle.pcache_evict.specs.Recency.{Recency, weight, weight_of, others, IsWithinAsList}
+use Rattle.pcache_evict.specs.Listed.{map_of, IsOnce}
+use Rattle.pcache_evict.proofs.Evictions.{left_there, gone_here}
+use Rattle.pcache_evict.proofs.Recency.{laws, distinct-others}
+use Rattle.pcache_evict.proofs.Maps.{get-map_of, map-others, within, inside}
+use Rattle.pcache_evict.proofs.TrackedMaps.{get-remove_apart}
+use Rattle.pcache_policies.specs.Leaving.{Leaves}
+
+abbrev E : Type 0
+E = CacheEntryKey × ℕ
+
+fresh_all : (m : Tracked) (k : CacheEntryKey) (out : List CacheEntryKey) → AllByRecursion (λ e. IsTrue (fin.contains_key (fin.remove m k) e)) out → AllByRecursion (λ y. eq_by_cmp entry_cmp k y ≡ false) out
+fresh_all m k [] a = tt
+fresh_all m k (x ∷ out) a = (
+  elim (eq_by_cmp entry_cmp k x) as (λ b. eq_by_cmp entry_cmp k x ≡ b → b ≡ false) [
+    | true ↦ λ t. absurd (both_ways _ (gone_here m k x ((eq_by_cmp_equiv entries_total).symm x k ∙ t)) a.0)
+    | false ↦ λ _. refl
+  ] refl,
+  fresh_all m k out a.1,
+)
+
+fair-none : (limits : Limits) (m : Tracked) → IsWithin limits m → IsFair limits m []
+unfolding IsDistinct
+fair-none limits m w = record { tracked = All-nil (λ e. IsTrue (fin.contains_key m e)); once = tt; enough = w; needed = λ front last h. absurd (empty front last h) }
+  where
+    empty : (front : List CacheEntryKey) (last : CacheEntryKey) → [] ≡ front ++ last ∷ [] → ⊥
+    empty [] last h = cc
+    empty (x ∷ front) last h = cc
+
+fair-first : (limits : Limits) (m : Tracked) (k : CacheEntryKey) (out : List CacheEntryKey) → fin.contains_key m k ≡ true → ¬ IsWithin limits m → IsFair limits (fin.remove m k) out → IsFair limits m (k ∷ out)
+fair-first limits m k out there over f =
+    record {
+      tracked = All-cons (λ e. IsTrue (fin.contains_key m e)) k out there (All-weaker (λ e. IsTrue (fin.contains_key (fin.remove m k) e)) (λ e. IsTrue (fin.contains_key m e)) (λ e h. left_there m k e h) out f.tracked);
+      once = IsDistinct-cons (eq_by_cmp entry_cmp) k out (fresh_all m k out (recursion_from_All (λ e. IsTrue (fin.contains_key (fin.remove m k) e)) out f.tracked)) f.once;
+      enough = f.enough;
+      needed = λ front last h. need front last h;
+    }
+  where
+    need : (front : List CacheEntryKey) (last : CacheEntryKey) → k ∷ out ≡ front ++ last ∷ [] → ¬ IsWithin limits (without front m)
+    need [] last h = over
+    need (x ∷ front) last h =
+        let head : k ≡ x = cc in
+        let tail : out ≡ front ++ last ∷ [] = cc in
+        subst (λ x. ¬ IsWithin limits (without front (fin.remove m x))) head (f.needed front last tail)
+
+apart_whole : (k : CacheEntryKey) (l : Recency) → AllByRecursion (λ y. entry_eq k y ≡ false) (keys_of l) → others k l ≡ l
+apart_whole k [] a = refl
+apart_whole k (e ∷ l) a = ap (λ b. cond (not b) (e ∷ others k l) (others k l)) a.0 ∙ ap (λ l. e ∷ l) (apart_whole k l a.1)
+
+apart_mid : (k : CacheEntryKey) (p b : Recency) (e : E) → AllByRecursion (λ y. entry_eq k y ≡ false) (keys_of (p ++ e ∷ b)) → entry_eq k e.0 ≡ false
+apart_mid k [] b e a = a.0
+apart_mid k (x ∷ p) b e a = apart_mid k p b e a.1
+
+others-mid : (p b : Recency) (e : E) → IsOnce (p ++ e ∷ b) → others e.0 (p ++ e ∷ b) ≡ p ++ b
+others-mid [] b e d = ap (λ t. cond (not t) (e ∷ others e.0 b) (others e.0 b)) (laws.refl e.0) ∙ apart_whole e.0 b (IsDistinct-head entry_eq e.0 (keys_of b) d)
+others-mid (x ∷ p) b e d =
+    ap (λ t. cond (not t) (x ∷ others e.0 (p ++ e ∷ b)) (others e.0 (p ++ e ∷ b))) (laws.symm e.0 x.0 ∙ apart_mid x.0 p b e (IsDistinct-head entry_eq x.0 (keys_of (p ++ e ∷ b)) d))
+    ∙ ap (λ l. x ∷ l) (others-mid p b e (IsDistinct-tail entry_eq x.0 (keys_of (p ++ e ∷ b)) d))
+
+found_mid : (p b : Recency) (e : E) → IsOnce (p ++ e ∷ b) → weight_of e.0 (p ++ e ∷ b) ≡ Some e.1
+found_mid [] b e d = ap (λ t. cond t (Some e.1) (weight_of e.0 b)) (laws.refl e.0)
+found_mid (x ∷ p) b e d =
+    ap (λ t. cond t (Some x.1) (weight_of e.0 (p ++ e ∷ b))) (laws.symm e.0 x.0 ∙ apart_mid x.0 p b e (IsDistinct-head entry_eq x.0 (keys_of (p ++ e ∷ b)) d))
+    ∙ found_mid p b e (IsDistinct-tail entry_eq x.0 (keys_of (p ++ e ∷ b)) d)
+
+-- what goes later is there without what went first
+weight-later : (m : Tracked) (k : CacheEntryKey) (out : List CacheEntryKey) → AllByRecursion (λ e. IsTrue (fin.contains_key (fin.remove m k) e)) out → weight_in m out ≡ weight_in (fin.remove m k) out
+weight-later m k [] a = refl
+weight-later m k (x ∷ out) a =
+    let off : eq_by_cmp entry_cmp x k ≡ false = (eq_by_cmp_equiv entries_total).symm x k ∙ (fresh_all m k (x ∷ out) a).0 in
+    let one : unwrap_or (fin.get (fin.remove m k) x) 0 ≡ unwrap_or (fin.get m x) 0 = ap (λ o. unwrap_or o 0) (get-remove_apart m x k off) in
+    let whole = sum_by-cons (λ (e : CacheEntryKey). unwrap_or (fin.get m e) 0) x out in
+    let later = sum_by-cons (λ (e : CacheEntryKey). unwrap_or (fin.get (fin.remove m k) e) 0) x out in
+    let rest = weight-later m k out a.1 in
+    omega arith
+
+pub record Run (limits : Limits) (out : List CacheEntryKey) (l after : Recency) : Type 0 where
+  pub fair : IsFair limits (map_of l) out
+  pub left : map_of after ≡ without out (map_of l)
+  pub gone : weight_in (map_of l) out + weight after ≡ weight l
+
+pub fair-run : (limits : Limits) (out : List CacheEntryKey) (l left : Recency) → IsOnce l → Leaves limits l out left → Run limits out l left
+fair-run limits [] l left once r = record { fair = fair-none limits (map_of l) (within limits l once r.1); left = ap map_of r.0; gone = let same = ap weight r.0 in let e : 0 + weight left ≡ weight l = omega arith in e }
+fair-run limits (k ∷ out) l left once (over, newer, n, older, is, rest) =
+    let next = newer ++ older in
+    let apart = subst IsOnce is once in
+    let taken : next ≡ others k l = sym (ap (others k) is ∙ others-mid newer older (k, n) apart) in
+    let later = fair-run limits out next left (subst IsOnce (sym taken) (distinct-others k l once)) rest in
+    let removed : map_of next ≡ fin.remove (map_of l) k = ap map_of taken ∙ map-others k l in
+    let found : fin.get (map_of l) k ≡ Some n = get-map_of l k ∙ ap (weight_of k) is ∙ found_mid newer older (k, n) apart in
+    let fair = subst (λ t. IsFair limits t out) removed later.fair in
+    let one = sum_by-cons (λ (e : CacheEntryKey). unwrap_or (fin.get (map_of l) e) 0) k out in
+    let here : unwrap_or (fin.get (map_of l) k) 0 ≡ n = ap (λ o. unwrap_or o 0) found in
+    let there : weight_in (map_of l) out ≡ weight_in (map_of next) out = weight-later (map_of l) k out (recursion_from_All (λ e. IsTrue (fin.contains_key (fin.remove (map_of l) k) e)) out fair.tracked) ∙ ap (λ m. weight_in m out) (sym removed) in
+    let old : weight l ≡ weight newer + weight ((k, n) ∷ older) = ap weight is ∙ sum_by-append (λ (e : E). e.1) newer ((k, n) ∷ older) in
+    let head = sum_by-cons (λ (e : E). e.1) (k, n) older in
+    let new : weight next ≡ weight newer + weight older = sum_by-append (λ (e : E). e.1) newer older in
+    let gone = later.gone in
+    record {
+      fair = fair-first limits (map_of l) k out (ap is_some found) (λ w. over (inside limits l once w)) fair;
+      left = later.left ∙ ap (without out) removed;
+      gone = omega arith;
+    }

@@ -1,0 +1,9 @@
+use Rattle.std.proofs.Common.{◌≡◌, length}
+use Rattle.pcache_policies.specs.Ring.{shown}
+use Rattle.pcache_policies.proofs.ring.Ring.settle.Given as goal
+
+abbrev pub invariant-loop : goal.invariant-loop
+invariant-loop l = shown l.self ≡ shown l.fn.self
+
+abbrev pub decreases-loop : goal.decreases-loop
+decreases-loop l = length l.self.leaving

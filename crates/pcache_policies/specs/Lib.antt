@@ -1,0 +1,4 @@
+pub mod Leaving
+pub mod Queue
+pub mod Ring
+pub mod Sieve

@@ -1,0 +1,47 @@
+-- Queues of entries, the newest first, with what a policy knows of each (own).
+use Rattle.std.specs.Prelude.{◌≡◌, ℕ, ◌-◌, ◌^◌, ◌<◌, ◌≤◌, not, Option, List, map, length, All, if◌then◌else◌}
+use Rattle.std.specs.List.{IsDistinct, filter}
+use Rattle.std.specs.Map.{lookup, keys_of}
+use Rattle.lru.specs.LruCache.{LruCache}
+use Rattle.pcache_evict.specs.declared.eviction.entry_key.CacheEntryKey.{CacheEntryKey}
+use Rattle.pcache_evict.specs.Entry.{entry_eq}
+use Rattle.pcache_evict.specs.Recency.{Recency, weight}
+use Rattle.pcache_policies.specs.declared.queue.Seen.{Seen}
+
+abbrev pub Queue : Type 0
+Queue = List (CacheEntryKey × Seen)
+
+-- the entries with their weights alone
+abbrev pub plain : Queue → Recency
+plain q = map (λ (e : CacheEntryKey × Seen). (e.0, e.1.weight)) q
+
+-- no entry stands twice
+abbrev pub IsOnce : Queue → Type 0
+IsOnce q = IsDistinct entry_eq (keys_of q)
+
+-- what is known of an entry
+abbrev pub seen_of : CacheEntryKey → Queue → Option Seen
+seen_of k q = lookup (entry_eq k) q
+
+-- the queue without an entry
+abbrev pub rest_of : CacheEntryKey → Queue → Queue
+rest_of k q = filter (λ e. not (entry_eq k e.0)) q
+
+-- the queue with this known of an entry, wherever it stands
+abbrev pub reseen : CacheEntryKey → Seen → Queue → Queue
+reseen k v q = map (λ (e : CacheEntryKey × Seen). if entry_eq k e.0 then (e.0, v) else e) q
+
+-- an entry whose bit is clear, and one whose bit is set
+abbrev pub unused : ℕ → Seen
+unused n = record { weight = n; uses = 0 }
+
+abbrev pub used : ℕ → Seen
+used n = record { weight = n; uses = 1 }
+
+-- what the code keeps of a queue
+pub record IsKept (cache : LruCache CacheEntryKey Seen) (total : ℕ) : Type 0 where
+  pub summed : total ≡ weight (plain cache.entries)
+  pub room : cache.cap ≡ 2 ^ 64 - 1
+  pub few : length cache.entries < 2 ^ 63
+  pub small : All (λ e. e.1.weight ≤ 2 ^ 64 - 1) cache.entries
+  pub once : IsOnce cache.entries

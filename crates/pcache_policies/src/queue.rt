@@ -1,0 +1,202 @@
+//! Entries in the order in which they came in.
+ghost use Rattle.std.specs.Prelude.{◌≡◌, ◌∷◌, ◌++◌, ◌*◌, ◌≤◌, ◌<◌, ◌^◌, ◌-◌, [], true, false, None, Some, is_some, length, OnOk, OnErr, IfOk, IfErr, IfSome, IfNone};
+ghost use Rattle.std.specs.Map.{set_value};
+ghost use Rattle.pcache_base.specs.declared.error.ErrorType.TheVariants.{OutOfMemory};
+ghost use Rattle.lru.specs.LruCache.{last_entry, lru_cache};
+ghost use Rattle.pcache_evict.specs.Entry.{entry_eq};
+ghost use Rattle.pcache_evict.specs.Recency.{weight};
+ghost use Rattle.pcache_policies.specs.Queue.{Queue, IsOnce, plain, seen_of, rest_of, reseen, unused, used};
+
+use lru::LruCache;
+use pcache_base::error::Result;
+use pcache_evict::eviction::CacheEntryKey;
+use std::alloc::Global;
+use std::marker::Model;
+
+/// What a policy knows of an entry.
+#[derive(Clone, Copy, Debug)]
+pub struct Seen {
+    /// What the entry weighs.
+    pub weight: usize,
+    /// How often it was used, as far as the policy counts.
+    pub uses: u8,
+}
+
+impl Seen {
+    /// What is known of an entry that was not used yet.
+    pub(crate) fn unused(weight: usize) -> Seen
+        ensures { result ≡ unused weight }
+    {
+        Seen { weight, uses: 0 }
+    }
+
+    /// What is known of an entry that was used.
+    pub(crate) fn used(weight: usize) -> Seen
+        ensures { result ≡ used weight }
+    {
+        Seen { weight, uses: 1 }
+    }
+}
+
+/// Entries, the newest first, and what they weigh together. No entry stands twice.
+///
+/// A contract sees the list. Each call takes at most one look-up.
+#[derive(Drop)]
+pub(crate) struct Queue {
+    cache: LruCache<CacheEntryKey, Seen>,
+    weight: u128,
+}
+
+impl Model for Queue {
+    ghost use Rattle.pcache_policies.specs.Queue.{Queue, IsKept};
+
+    ghost Value = { Queue };
+
+    ghost view = { λ q. q.cache.entries };
+
+    ghost invariant = { λ q. IsKept q.cache q.weight };
+}
+
+impl Queue {
+    /// An empty queue.
+    pub(crate) fn new(alloc: Global) -> Result<Queue>
+        ensures ok { IfOk result (λ queue. queue ≡ []) }
+        ensures kind { IfErr result (λ e. e ≡ OutOfMemory) }
+    {
+        Ok(Queue {
+            cache: LruCache::unbounded(alloc)?,
+            weight: 0,
+        })
+    }
+
+    /// The number of entries.
+    pub(crate) fn len(&self) -> usize
+        ensures value { result ≡ length self.now }
+        ensures once { IsOnce self.now }
+    {
+        self.cache.len()
+    }
+
+    /// The weights of the entries, added up.
+    pub(crate) fn weight(&self) -> u128
+        ensures value { result ≡ weight (plain self.now) }
+        ensures bound { result ≤ length self.now * (2 ^ 64 - 1) }
+    {
+        self.weight
+    }
+
+    /// What is known of an entry, if it is there.
+    pub(crate) fn get(&self, item: &CacheEntryKey) -> Option<Seen>
+        ensures value { result ≡ seen_of item.now self.now }
+        ensures fits { IfSome result (λ seen. seen.weight ≤ 2 ^ 64 - 1) }
+    {
+        self.cache.peek(item).copied()
+    }
+
+    /// Sets what is known of an entry, where it stands, and answers whether it is there.
+    pub(crate) fn set(&mut self, item: &CacheEntryKey, seen: Seen) -> bool
+        ensures was { result ≡ is_some (seen_of item.now self.old) }
+        ensures value { self.new ≡ reseen item.now seen self.old }
+    {
+        let weight = seen.weight;
+        let Some(before) = write_seen(&mut self.cache, item, seen) else {
+            return false;
+        };
+        self.weight = self.weight - before as u128 + weight as u128;
+        true
+    }
+
+    /// Puts in a new entry as the newest.
+    pub(crate) fn push(&mut self, item: CacheEntryKey, seen: Seen) -> Result<()>
+        requires { seen_of item self.old ≡ None }
+        ensures ok { OnOk result (self.new ≡ (item, seen) ∷ self.old) }
+        ensures kind { IfErr result (λ e. e ≡ OutOfMemory) }
+        ensures err { OnErr result (self.new ≡ self.old) }
+    {
+        let weight = seen.weight;
+        self.cache.put(item, seen)?;
+        self.cache.len(); // for the prover: its contract says that the list is valid
+        self.weight += weight as u128;
+        Ok(())
+    }
+
+    /// A copy of the oldest entry.
+    pub(crate) fn oldest(&self) -> Result<Option<(CacheEntryKey, Seen)>>
+        ensures ok { IfOk result (λ entry. entry ≡ last_entry self.now) }
+        ensures kind { IfErr result (λ e. e ≡ OutOfMemory) }
+    {
+        match self.cache.peek_lru() {
+            Some((key, seen)) => Ok(Some((key.copied()?, *seen))),
+            None => Ok(None),
+        }
+    }
+
+    /// Takes the oldest entry out.
+    pub(crate) fn pop(&mut self) -> Option<(CacheEntryKey, Seen)>
+        ensures value { result ≡ last_entry self.old }
+        ensures last { IfSome result (λ entry. self.old ≡ self.new ++ entry ∷ []) }
+        ensures empty { IfNone result ((self.old ≡ []) × (self.new ≡ [])) }
+    {
+        let (key, seen) = self.cache.pop_lru()?;
+        self.weight -= seen.weight as u128;
+        Some((key, seen))
+    }
+
+    /// Takes the oldest entry out, if there is one.
+    pub(crate) fn drop_oldest(&mut self)
+        ensures { IfSome (last_entry self.old) (λ entry. self.old ≡ self.new ++ entry ∷ []) }
+    {
+        self.pop();
+    }
+
+    /// Takes an entry out, and answers whether it was there.
+    pub(crate) fn remove(&mut self, item: &CacheEntryKey) -> bool
+        ensures was { result ≡ is_some (seen_of item.now self.old) }
+        ensures value { self.new ≡ rest_of item.now self.old }
+    {
+        let Some(gone) = self.cache.pop(item) else {
+            return false;
+        };
+        self.weight -= gone.weight as u128;
+        true
+    }
+
+    /// Adds copies of the entries with their weights, the newest first.
+    pub(crate) fn copy_into(&self, all: &mut Vec<(CacheEntryKey, usize)>) -> Result<()>
+        ensures ok { OnOk result (all.new.items ≡ all.old.items ++ plain self.now) }
+        ensures kind { IfErr result (λ e. e ≡ OutOfMemory) }
+    {
+        for (key, seen) in self.cache.iter() {
+            push_copy(all, key, seen.weight)?;
+        }
+        Ok(())
+    }
+}
+
+/// Adds a copy of an entry.
+fn push_copy(all: &mut Vec<(CacheEntryKey, usize)>, key: &CacheEntryKey, size: usize) -> Result<()>
+    ensures ok { OnOk result (all.new.items ≡ all.old.items ++ (key.now, size) ∷ []) }
+    ensures kind { IfErr result (λ e. e ≡ OutOfMemory) }
+{
+    all.push((key.copied()?, size))?;
+    Ok(())
+}
+
+/// Writes what is known of an entry, where it stands, and answers what it weighed before, if it is
+/// there.
+fn write_seen(
+    cache: &mut LruCache<CacheEntryKey, Seen>,
+    item: &CacheEntryKey,
+    seen: Seen,
+) -> Option<usize>
+    ensures there { IfSome result (λ before. (v : Seen) × (seen_of item.now cache.old.entries ≡ Some v) × (before ≡ v.weight)
+        × (cache.new ≡ lru_cache (set_value (entry_eq item.now) cache.old.entries seen) cache.old.cap)) }
+    ensures missing { IfNone result ((seen_of item.now cache.old.entries ≡ None) × (cache.new.entries ≡ cache.old.entries) × (cache.new.cap ≡ cache.old.cap)) }
+{
+    let Some(place) = cache.peek_mut(item) else {
+        return None;
+    };
+    let before = place.weight;
+    *place = seen;
+    Some(before)
+}

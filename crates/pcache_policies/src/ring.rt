@@ -1,0 +1,329 @@
+//! A list of entries with a hand, in three queues.
+ghost use Rattle.std.specs.Prelude.{◌≡◌, ◌≢◌, Some, ◌∷◌, ◌++◌, ◌+◌, ◌≤◌, ◌<◌, ◌^◌, ◌-◌, [], true, false, None, is_some, length, OnOk, OnErr, IfOk, IfErr, IfSome, IfNone};
+ghost use Rattle.std.specs.Vec.{vec_capacity};
+ghost use Rattle.pcache_base.specs.declared.error.ErrorType.TheVariants.{OutOfMemory};
+ghost use Rattle.lru.specs.LruCache.{last_entry};
+ghost use Rattle.pcache_evict.specs.declared.eviction.entry_key.CacheEntryKey.{CacheEntryKey};
+ghost use Rattle.pcache_evict.specs.Tracked.{limits_of};
+ghost use Rattle.pcache_evict.specs.Recency.{weight};
+ghost use Rattle.pcache_policies.specs.declared.queue.Seen.{Seen};
+ghost use Rattle.pcache_policies.specs.Queue.{IsOnce, plain, seen_of, rest_of, reseen};
+ghost use Rattle.pcache_policies.specs.Leaving.{HasRoom};
+ghost use Rattle.pcache_policies.specs.Sieve.{entered, entries, turned, MakesRoom};
+ghost use Rattle.pcache_policies.specs.Ring.{Ring, ring, all, shown, left_of, Steps, Chooses, SameEntries, chosen};
+
+use crate::queue::{Queue, Seen};
+use pcache_base::error::{Error, ErrorType, Result};
+use pcache_evict::eviction::CacheEntryKey;
+use std::alloc::Global;
+use std::marker::Model;
+use std::mem;
+
+/// So many entries are too many for one more.
+const FULL: usize = (1 << 63) - 1;
+
+/// The entries ahead of the hand, those that it chose to go, and those that it passed, each the
+/// newest first.
+///
+/// An entry that the hand passes moves from one queue to another, which may take memory. So what is
+/// to go is set aside at first, and leaves once nothing can be refused any more.
+#[derive(Drop)]
+pub(crate) struct Ring {
+    ahead: Queue,
+    leaving: Queue,
+    passed: Queue,
+}
+
+impl Model for Ring {
+    ghost use Rattle.pcache_policies.specs.Ring.{Ring, ring, IsRing};
+
+    ghost Value = { Ring };
+
+    ghost view = { λ r. ring r.ahead r.leaving r.passed };
+
+    ghost invariant = { λ r. IsRing r.ahead r.leaving r.passed };
+}
+
+impl Ring {
+    /// No entries.
+    pub(crate) fn new(alloc: Global) -> Result<Ring>
+        ensures ok { IfOk result (λ made. made ≡ ring [] [] []) }
+        ensures kind { IfErr result (λ e. e ≡ OutOfMemory) }
+    {
+        Ok(Ring {
+            ahead: Queue::new(alloc)?,
+            leaving: Queue::new(alloc)?,
+            passed: Queue::new(alloc)?,
+        })
+    }
+
+    /// The number of entries.
+    pub(crate) fn len(&self) -> usize
+        ensures value { result ≡ length (all self.now) }
+        ensures few { result < 2 ^ 63 }
+        ensures once { IsOnce (all self.now) }
+    {
+        self.ahead.len() + (self.leaving.len() + self.passed.len())
+    }
+
+    /// The weights of the entries, added up.
+    pub(crate) fn weight(&self) -> u128
+        ensures value { result ≡ weight (plain (all self.now)) }
+        ensures once { IsOnce (all self.now) }
+    {
+        self.ahead.weight() + (self.leaving.weight() + self.passed.weight())
+    }
+
+    /// What is known of an entry, if it is there.
+    pub(crate) fn get(&self, item: &CacheEntryKey) -> Option<Seen>
+        ensures value { result ≡ seen_of item.now (all self.now) }
+        ensures fits { IfSome result (λ seen. seen.weight ≤ 2 ^ 64 - 1) }
+        ensures once { IsOnce (all self.now) }
+    {
+        if let Some(seen) = self.ahead.get(item) {
+            return Some(seen);
+        }
+        if let Some(seen) = self.leaving.get(item) {
+            return Some(seen);
+        }
+        self.passed.get(item)
+    }
+
+    /// Sets what is known of an entry, where it stands.
+    pub(crate) fn set(&mut self, item: &CacheEntryKey, seen: Seen)
+        ensures { self.new ≡ ring (reseen item.now seen self.old.ahead) (reseen item.now seen self.old.leaving) (reseen item.now seen self.old.passed) }
+    {
+        self.ahead.set(item, seen);
+        self.leaving.set(item, seen);
+        self.passed.set(item, seen);
+    }
+
+    /// Takes an entry out.
+    pub(crate) fn remove(&mut self, item: &CacheEntryKey)
+        ensures { self.new ≡ ring (rest_of item.now self.old.ahead) (rest_of item.now self.old.leaving) (rest_of item.now self.old.passed) }
+    {
+        self.ahead.remove(item);
+        self.leaving.remove(item);
+        self.passed.remove(item);
+    }
+
+    /// The number of the entries that were chosen to go.
+    pub(crate) fn leaving_len(&self) -> usize
+        ensures value { result ≡ length self.now.leaving }
+        ensures few { result < 2 ^ 63 }
+        ensures once { IsOnce (all self.now) }
+    {
+        self.len(); // for the prover: its contract says that the entries are few
+        self.leaving.len()
+    }
+
+    /// What the entries weigh that were chosen to go.
+    pub(crate) fn leaving_weight(&self) -> u128
+        ensures { result ≡ weight (plain self.now.leaving) }
+    {
+        self.leaving.weight()
+    }
+
+    /// Whether the limits hold for what was not chosen, with so many entries more of this weight.
+    pub(crate) fn has_room(
+        &self,
+        size: usize,
+        count: usize,
+        limit: usize,
+        watermark: Option<usize>,
+    ) -> bool
+        requires { count < 2 ^ 63 }
+        ensures room { result ≡ true → HasRoom (limits_of limit watermark) size count (entries (left_of self.now)) }
+        ensures none { result ≡ false → ¬ HasRoom (limits_of limit watermark) size count (entries (left_of self.now)) }
+    {
+        let weight = size as u128 + self.ahead.weight() + self.passed.weight();
+        let items = count + (self.ahead.len() + self.passed.len());
+        weight <= limit as u128 && watermark.is_none_or(|most| items <= most)
+    }
+
+    /// Counts what was chosen and did not go as passed.
+    pub(crate) fn settle(&mut self) -> Result<()>
+        ensures shown { shown self.new ≡ shown self.old }
+        ensures ok { OnOk result (self.new.leaving ≡ []) }
+        ensures kind { IfErr result (λ e. e ≡ OutOfMemory) }
+    {
+        while self.settle_one()? {}
+        Ok(())
+    }
+
+    // One entry that was chosen counts as passed, if there is one.
+    fn settle_one(&mut self) -> Result<bool>
+        ensures shown { shown self.new ≡ shown self.old }
+        ensures more { IfOk result (λ more. more ≡ true → length self.new.leaving < length self.old.leaving) }
+        ensures none { IfOk result (λ more. more ≡ false → self.new.leaving ≡ []) }
+        ensures kind { IfErr result (λ e. e ≡ OutOfMemory) }
+    {
+        let Some((key, seen)) = self.leaving.oldest()? else {
+            return Ok(false);
+        };
+        self.passed.push(key, seen)?;
+        self.leaving.drop_oldest();
+        Ok(true)
+    }
+
+    /// Chooses what goes so that so many entries more of this weight fit.
+    pub(crate) fn make_room(
+        &mut self,
+        size: usize,
+        count: usize,
+        limit: usize,
+        watermark: Option<usize>,
+    ) -> Result<()>
+        requires none { self.old.leaving ≡ [] }
+        requires few { count < 2 ^ 63 }
+        ensures ok { OnOk result (Chooses (limits_of limit watermark) size count self.old self.new) }
+        ensures same { SameEntries self.old self.new }
+        ensures kind { IfErr result (λ e. e ≡ OutOfMemory) }
+    {
+        while !self.has_room(size, count, limit, watermark) {
+            if !self.step()? {
+                return Ok(());
+            }
+        }
+        Ok(())
+    }
+
+    /// Chooses what goes so that so many entries more of this weight fit, and makes a list with room
+    /// for the keys of all that and of one more.
+    pub(crate) fn prepare(
+        &mut self,
+        alloc: Global,
+        size: usize,
+        count: usize,
+        limit: usize,
+        watermark: Option<usize>,
+    ) -> Result<Vec<CacheEntryKey>>
+        requires { count < 2 ^ 63 }
+        ensures room { IfOk result (λ out. MakesRoom (limits_of limit watermark) size count (shown self.old) (chosen self.new) (left_of self.new)) }
+        ensures out { IfOk result (λ out. (out.items ≡ []) × (length self.new.leaving + 1 ≤ vec_capacity out)) }
+        ensures same { SameEntries self.old self.new }
+        ensures once { IfOk result (λ out. IsOnce (all self.new)) }
+        ensures kind { IfErr result (λ e. e ≡ OutOfMemory) }
+    {
+        self.settle()?;
+        self.make_room(size, count, limit, watermark)?;
+        Ok(Vec::with_capacity(alloc, self.leaving_len() + 1)?)
+    }
+
+    // The hand looks at one entry, or turns from the newest to the oldest. Answers whether there was
+    // one.
+    fn step(&mut self) -> Result<bool>
+        ensures ok { IfOk result (λ more. Steps self.old more self.new) }
+        ensures kind { IfErr result (λ e. e ≡ OutOfMemory) }
+        ensures err { OnErr result (self.new ≡ self.old) }
+        ensures once { IsOnce (all self.old) }
+    {
+        self.len(); // for the prover: its contract says that no entry stands twice
+        let Some((key, seen)) = self.ahead.oldest()? else {
+            return Ok(self.turn());
+        };
+        if seen.uses == 0 {
+            return self.choose(key, seen);
+        }
+        self.pass(key, seen)
+    }
+
+    // The entry at the hand is chosen to go.
+    fn choose(&mut self, key: CacheEntryKey, seen: Seen) -> Result<bool>
+        requires last { last_entry self.old.ahead ≡ Some (key, seen) }
+        requires idle { seen.uses ≡ 0 }
+        ensures ok { IfOk result (λ more. Steps self.old more self.new) }
+        ensures kind { IfErr result (λ e. e ≡ OutOfMemory) }
+        ensures err { OnErr result (self.new ≡ self.old) }
+    {
+        self.leaving.push(key, seen)?;
+        self.ahead.drop_oldest();
+        Ok(true)
+    }
+
+    // The hand passes the entry where it stands.
+    fn pass(&mut self, key: CacheEntryKey, seen: Seen) -> Result<bool>
+        requires last { last_entry self.old.ahead ≡ Some (key, seen) }
+        requires used { seen.uses ≢ 0 }
+        ensures ok { IfOk result (λ more. Steps self.old more self.new) }
+        ensures kind { IfErr result (λ e. e ≡ OutOfMemory) }
+        ensures err { OnErr result (self.new ≡ self.old) }
+    {
+        self.passed.push(key, Seen::unused(seen.weight))?;
+        self.ahead.drop_oldest();
+        Ok(true)
+    }
+
+    // The hand turns from the newest to the oldest.
+    fn turn(&mut self) -> bool
+        requires { self.old.ahead ≡ [] }
+        ensures { Steps self.old result self.new }
+    {
+        if self.passed.len() == 0 {
+            return false;
+        }
+        mem::swap(&mut self.ahead, &mut self.passed);
+        true
+    }
+
+    // The hand looks at the oldest entry, if none is ahead of it.
+    fn face(&mut self)
+        ensures hand { left_of self.new ≡ turned self.old.ahead self.old.passed }
+        ensures leaving { self.new.leaving ≡ self.old.leaving }
+        ensures same { SameEntries self.old self.new }
+        ensures absent { (k : CacheEntryKey) → seen_of k (all self.old) ≡ None → seen_of k (all self.new) ≡ None }
+    {
+        if self.ahead.len() == 0 {
+            mem::swap(&mut self.ahead, &mut self.passed);
+        }
+    }
+
+    /// Puts in a new entry as the newest.
+    pub(crate) fn enter(&mut self, item: CacheEntryKey, size: usize) -> Result<()>
+        requires { seen_of item (all self.old) ≡ None }
+        ensures ok { OnOk result (left_of self.new ≡ entered item size (left_of self.old)) }
+        ensures leaving { self.new.leaving ≡ self.old.leaving }
+        ensures kind { IfErr result (λ e. e ≡ OutOfMemory) }
+        ensures err { OnErr result (SameEntries self.old self.new) }
+    {
+        self.face();
+        if self.len() >= FULL {
+            return Err(Error::new(ErrorType::OutOfMemory));
+        }
+        self.ahead.push(item, Seen::unused(size))?;
+        Ok(())
+    }
+
+    /// Lets go what was chosen, and adds its keys to `out`.
+    pub(crate) fn drain(&mut self, out: &mut Vec<CacheEntryKey>)
+        requires { length out.old.items + length self.old.leaving ≤ vec_capacity out.old }
+        ensures ring { self.new ≡ ring self.old.ahead [] self.old.passed }
+        ensures out { out.new.items ≡ out.old.items ++ chosen self.old }
+        ensures capacity { vec_capacity out.new ≡ vec_capacity out.old }
+    {
+        while let Some(key) = self.pop_leaving() {
+            out.push_reserved(key);
+        }
+    }
+
+    // The next of what was chosen goes.
+    fn pop_leaving(&mut self) -> Option<CacheEntryKey>
+        ensures last { IfSome result (λ k. (v : Seen) × (self.old.leaving ≡ self.new.leaving ++ (k, v) ∷ [])) }
+        ensures empty { IfNone result (self.old.leaving ≡ []) }
+        ensures others { (self.new.ahead ≡ self.old.ahead) × (self.new.passed ≡ self.old.passed) }
+        ensures none { IfNone result (self.new.leaving ≡ []) }
+    {
+        let (key, _) = self.leaving.pop()?;
+        Some(key)
+    }
+
+    /// Adds copies of the entries with their weights, the newest first.
+    pub(crate) fn copy_into(&self, list: &mut Vec<(CacheEntryKey, usize)>) -> Result<()>
+        ensures ok { OnOk result (list.new.items ≡ list.old.items ++ plain (all self.now)) }
+        ensures kind { IfErr result (λ e. e ≡ OutOfMemory) }
+    {
+        self.ahead.copy_into(list)?;
+        self.leaving.copy_into(list)?;
+        self.passed.copy_into(list)
+    }
+}

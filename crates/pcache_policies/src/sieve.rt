@@ -1,0 +1,409 @@
+//! An eviction manager that lets go what was not used since its hand last passed it: SIEVE (Zhang,
+//! Yang, Yue, Vigfusson, Rashmi, NSDI 2024).
+ghost use Rattle.std.specs.Prelude.{◌≡◌, ◌++◌, ◌+◌, ◌-◌, ◌^◌, ◌≤◌, [], true, false, None, Some, is_some, length, OnOk, OnErr, IfOk, IfErr, IsOk, IsSome, min};
+ghost use Rattle.std.specs.Vec.{vec_capacity};
+ghost use Rattle.pcache_base.specs.declared.error.ErrorType.TheVariants.{OutOfMemory};
+ghost use Rattle.pcache_evict.specs.Tracked.{raised};
+ghost use Rattle.pcache_evict.specs.Recency.{weight, IsWithinAsList};
+ghost use Rattle.pcache_policies.specs.Queue.{IsOnce, plain, seen_of};
+ghost use Rattle.pcache_policies.specs.Ring as ring_specs;
+ghost use Rattle.pcache_policies.specs.Sieve.{Sieved, entries, whole, entered, reseen_in, rest_in, accessed, empty_sieve, Admits, KeepsLimits, Admission, Increment, IsRefused};
+
+use crate::queue::Seen;
+use crate::ring::Ring;
+use pcache_base::error::Result;
+use pcache_base::moment::Moment;
+use pcache_evict::eviction::{CacheEntryKey, EvictionManager};
+use std::alloc::Global;
+use std::marker::Model;
+
+/// Entries with weights from the newest to the oldest, a hand, and limits on the sum of the weights
+/// and on the number of entries.
+///
+/// A use of an entry sets its bit, and moves nothing. Before a new entry comes in, the hand makes
+/// room: it goes from the oldest entry to newer ones and round again, clears the bits that are set,
+/// and lets those go that are clear. A contract sees the list with the hand, the limits and the
+/// totals of evictions. Each call takes a fixed number of look-ups, and some for each entry that the
+/// hand passes or lets go; a bit that the hand clears was set by a use.
+#[derive(Drop)]
+pub struct Manager {
+    alloc: Global,
+    limit: usize,
+    watermark: Option<usize>,
+    ring: Ring,
+    evicted: Evictions,
+}
+
+impl Model for Manager {
+    ghost use Rattle.pcache_policies.specs.Ring.{shown};
+    ghost use Rattle.pcache_policies.specs.Sieve.{Sieved};
+
+    ghost Value = { Sieved };
+
+    ghost view = { λ a. record {
+      sieve = shown a.ring;
+      limits = record { weight = a.limit; watermark = a.watermark };
+      evicted = record { weight = a.evicted.weight; count = a.evicted.count };
+    } };
+}
+
+/// What was evicted so far, stopped at the largest `usize`.
+#[derive(Clone, Copy, Debug)]
+struct Evictions {
+    weight: usize,
+    count: usize,
+}
+
+impl Evictions {
+    /// Adds what went.
+    fn add(&mut self, weight: u128, count: usize)
+        ensures weight { self.new.weight ≡ min (self.old.weight + weight) (2 ^ 64 - 1) }
+        ensures count { self.new.count ≡ min (self.old.count + count) (2 ^ 64 - 1) }
+    {
+        let gone = usize::try_from(weight).unwrap_or(usize::MAX);
+        self.weight = self.weight.saturating_add(gone);
+        self.count = self.count.saturating_add(count);
+    }
+}
+
+/// Lets go what the hand chose, into a list with room for it.
+fn let_go(
+    ring: &mut Ring,
+    evicted: &mut Evictions,
+    mut out: Vec<CacheEntryKey>,
+) -> Vec<CacheEntryKey>
+    requires none { out.items ≡ [] }
+    requires room { length ring.old.leaving ≤ vec_capacity out }
+    ensures ring { ring.new ≡ ring_specs.ring ring.old.ahead [] ring.old.passed }
+    ensures out { result.items ≡ ring_specs.chosen ring.old }
+    ensures long { length result.items ≡ length ring.old.leaving }
+    ensures capacity { vec_capacity result ≡ vec_capacity out }
+    ensures weight { evicted.new.weight ≡ min (evicted.old.weight + weight (plain ring.old.leaving)) (2 ^ 64 - 1) }
+    ensures count { evicted.new.count ≡ min (evicted.old.count + length ring.old.leaving) (2 ^ 64 - 1) }
+{
+    evicted.add(ring.leaving_weight(), ring.leaving_len());
+    ring.drain(&mut out);
+    out
+}
+
+impl Manager {
+    /// An empty manager whose entries weigh at most `limit` once it has evicted.
+    pub fn new(alloc: Global, limit: usize) -> Result<Manager>
+        ensures ok { IfOk result (λ m. m ≡ empty_sieve limit None) }
+        ensures kind { IfErr result (λ e. e ≡ OutOfMemory) }
+    {
+        Manager::new_with_watermark(alloc, limit, None)
+    }
+
+    /// An empty manager whose entries weigh at most `limit` once it has evicted, and are at most
+    /// `items_watermark` if that is given.
+    pub fn new_with_watermark(
+        alloc: Global,
+        limit: usize,
+        items_watermark: Option<usize>,
+    ) -> Result<Manager>
+        ensures ok { IfOk result (λ m. m ≡ empty_sieve limit items_watermark) }
+        ensures kind { IfErr result (λ e. e ≡ OutOfMemory) }
+    {
+        Ok(Manager {
+            alloc,
+            limit,
+            watermark: items_watermark,
+            ring: Ring::new(alloc)?,
+            evicted: Evictions {
+                weight: 0,
+                count: 0,
+            },
+        })
+    }
+
+    /// The weights of the entries, added up; the largest `usize` if they are more.
+    pub fn total_size(&self) -> usize
+        ensures value { result ≡ min (weight (entries self.now.sieve)) (2 ^ 64 - 1) }
+        ensures once { IsOnce (whole self.now.sieve) }
+    {
+        usize::try_from(self.ring.weight()).unwrap_or(usize::MAX)
+    }
+
+    /// The number of entries.
+    pub fn total_items(&self) -> usize
+        ensures value { result ≡ length (whole self.now.sieve) }
+        ensures once { IsOnce (whole self.now.sieve) }
+    {
+        self.ring.len()
+    }
+
+    /// The weight of all that was evicted so far; the largest `usize` if it is more.
+    pub fn evicted_size(&self) -> usize
+        ensures { result ≡ self.now.evicted.weight }
+    {
+        self.evicted.weight
+    }
+
+    /// The number of entries that were evicted so far; the largest `usize` if they are more.
+    pub fn evicted_items(&self) -> usize
+        ensures { result ≡ self.now.evicted.count }
+    {
+        self.evicted.count
+    }
+
+    /// The entries with their weights, the newest first.
+    pub fn entries(&self) -> Result<Vec<(CacheEntryKey, usize)>>
+        ensures ok { IfOk result (λ list. list.items ≡ entries self.now.sieve) }
+        ensures once { IsOnce (whole self.now.sieve) }
+        ensures kind { IfErr result (λ e. e ≡ OutOfMemory) }
+    {
+        let mut list = Vec::with_capacity(self.alloc, self.ring.len())?;
+        self.ring.copy_into(&mut list)?;
+        Ok(list)
+    }
+
+    /// Whether an entry is there. That is no use.
+    pub fn peek(&self, item: &CacheEntryKey) -> bool
+        ensures { result ≡ is_some (seen_of item.now (whole self.now.sieve)) }
+    {
+        self.ring.get(item).is_some()
+    }
+
+    /// Makes room for a new entry, which then comes in as the newest; one that is there gets its
+    /// weight where it stands, which is a use, and then the hand goes until the limits hold. Answers
+    /// what went, in that order; an entry above the limit goes itself, last of all. `fresh_until` is
+    /// not read.
+    pub fn admit(
+        &mut self,
+        item: CacheEntryKey,
+        size: usize,
+        _fresh_until: Moment,
+    ) -> Result<Vec<CacheEntryKey>>
+        ensures ok { IfOk result (λ out. Admission (seen_of item (whole self.old.sieve)) self.old item size self.new out.items) }
+        ensures once { IsOnce (whole self.old.sieve) }
+        ensures kind { IfErr result (λ e. e ≡ OutOfMemory) }
+        ensures err { OnErr result (IsRefused self.old self.new) }
+    {
+        match self.ring.get(&item) {
+            Some(before) => self.reweigh(&item, before, Seen::used(size)),
+            None => self.admit_new(item, size),
+        }
+    }
+
+    /// Adds to the weight of an entry where it stands, up to `max_weight` (the largest `usize` if
+    /// that is `None`), which is no use; then the hand goes until the limits hold. A weight never
+    /// falls; a missing entry comes in with what is added, at least 1. It is not refused if the
+    /// entry is there and nothing is evicted.
+    pub fn increment_weight(
+        &mut self,
+        item: &CacheEntryKey,
+        delta: usize,
+        max_weight: Option<usize>,
+    ) -> Result<Vec<CacheEntryKey>>
+        ensures ok { IfOk result (λ out. Increment (seen_of item.now (whole self.old.sieve)) self.old item.now delta max_weight self.new out.items) }
+        ensures within { (v : Seen) → seen_of item.now (whole self.old.sieve) ≡ Some v
+            → IsWithinAsList self.old.limits (entries (reseen_in item.now (record v { weight = raised delta max_weight (Some v.weight) }) self.old.sieve)) → IsOk result }
+        ensures once { IsOnce (whole self.old.sieve) }
+        ensures kind { IfErr result (λ e. e ≡ OutOfMemory) }
+        ensures err { OnErr result (IsRefused self.old self.new) }
+    {
+        match self.ring.get(item) {
+            Some(before) => {
+                let weight = raised_weight(Some(before.weight), delta, max_weight);
+                self.reweigh(item, before, Seen { weight, ..before })
+            }
+            None => {
+                let copy = item.copied()?;
+                self.admit_new(copy, raised_weight(None, delta, max_weight))
+            }
+        }
+    }
+
+    /// Takes an entry out, if it is there. That is no eviction; the hand stays where it is.
+    pub fn remove(&mut self, item: &CacheEntryKey)
+        ensures { self.new ≡ record self.old { sieve = rest_in item.now self.old.sieve } }
+    {
+        self.ring.remove(item);
+    }
+
+    /// Sets the bit of an entry, or adds it as the newest with this weight. Answers whether it was
+    /// there. Nothing is evicted; `fresh_until` is not read. It is not refused if the entry is there.
+    pub fn access(
+        &mut self,
+        item: &CacheEntryKey,
+        size: usize,
+        _fresh_until: Moment,
+    ) -> Result<bool>
+        ensures was { IfOk result (λ was. was ≡ is_some (seen_of item.now (whole self.old.sieve))) }
+        ensures ok { OnOk result (self.new ≡ record self.old { sieve = accessed (seen_of item.now (whole self.old.sieve)) item.now size self.old.sieve }) }
+        ensures there { IsSome (seen_of item.now (whole self.old.sieve)) → IsOk result }
+        ensures once { IsOnce (whole self.old.sieve) }
+        ensures kind { IfErr result (λ e. e ≡ OutOfMemory) }
+        ensures err { OnErr result (IsRefused self.old self.new) }
+    {
+        let Some(seen) = self.ring.get(item) else {
+            return self.add(item, size);
+        };
+        if seen.uses == 0 {
+            self.ring.set(item, Seen::used(seen.weight));
+        }
+        Ok(true)
+    }
+
+    // Adds a new entry.
+    fn add(&mut self, item: &CacheEntryKey, size: usize) -> Result<bool>
+        requires { seen_of item.now (whole self.old.sieve) ≡ None }
+        ensures was { IfOk result (λ was. was ≡ false) }
+        ensures ok { OnOk result (self.new ≡ record self.old { sieve = entered item.now size self.old.sieve }) }
+        ensures kind { IfErr result (λ e. e ≡ OutOfMemory) }
+        ensures err { OnErr result (IsRefused self.old self.new) }
+    {
+        let copy = item.copied()?;
+        self.ring.settle()?;
+        self.ring.enter(copy, size)?;
+        Ok(false)
+    }
+
+    // Room is made, and then a new entry comes in; if there is none although nothing is left, it goes.
+    fn admit_new(&mut self, item: CacheEntryKey, size: usize) -> Result<Vec<CacheEntryKey>>
+        requires { seen_of item (whole self.old.sieve) ≡ None }
+        ensures ok { IfOk result (λ out. Admits self.old item size self.new out.items) }
+        ensures kind { IfErr result (λ e. e ≡ OutOfMemory) }
+        ensures err { OnErr result (IsRefused self.old self.new) }
+    {
+        self.ring.len(); // for the prover: its contract says that no entry stands twice
+        let out = self
+            .ring
+            .prepare(self.alloc, size, 1, self.limit, self.watermark)?;
+        if self.ring.has_room(size, 1, self.limit, self.watermark) {
+            self.ring.enter(item, size)?;
+            return Ok(let_go(&mut self.ring, &mut self.evicted, out));
+        }
+        let mut out = let_go(&mut self.ring, &mut self.evicted, out);
+        self.evicted.add(size as u128, 1);
+        out.push_reserved(item);
+        Ok(out)
+    }
+
+    // Sets what is known of an entry, and then the hand goes until the limits hold.
+    fn reweigh(
+        &mut self,
+        item: &CacheEntryKey,
+        before: Seen,
+        after: Seen,
+    ) -> Result<Vec<CacheEntryKey>>
+        requires { seen_of item.now (whole self.old.sieve) ≡ Some before }
+        ensures ok { IfOk result (λ out. KeepsLimits self.old (reseen_in item.now after self.old.sieve) self.new out.items) }
+        ensures within { IsWithinAsList self.old.limits (entries (reseen_in item.now after self.old.sieve)) → IsOk result }
+        ensures kind { IfErr result (λ e. e ≡ OutOfMemory) }
+        ensures err { OnErr result (IsRefused self.old self.new) }
+    {
+        self.ring.set(item, after);
+        match self.keep_limits() {
+            Ok(out) => Ok(out),
+            Err(error) => {
+                self.ring.set(item, before);
+                Err(error)
+            }
+        }
+    }
+
+    // The hand goes until the limits hold.
+    fn keep_limits(&mut self) -> Result<Vec<CacheEntryKey>>
+        ensures ok { IfOk result (λ out. KeepsLimits self.old self.old.sieve self.new out.items) }
+        ensures within { IsWithinAsList self.old.limits (entries self.old.sieve) → IsOk result }
+        ensures kind { IfErr result (λ e. e ≡ OutOfMemory) }
+        ensures err { OnErr result (IsRefused self.old self.new) }
+    {
+        self.ring.len(); // for the prover: its contract says that no entry stands twice
+        if self.is_within() {
+            self.evicted.add(0, 0); // for the prover: what is reported stops at the largest number
+            return Ok(Vec::new(self.alloc));
+        }
+        let out = self
+            .ring
+            .prepare(self.alloc, 0, 0, self.limit, self.watermark)?;
+        Ok(let_go(&mut self.ring, &mut self.evicted, out))
+    }
+
+    // Whether the limits hold.
+    fn is_within(&self) -> bool
+        ensures yes { result ≡ true → IsWithinAsList self.now.limits (entries self.now.sieve) }
+        ensures not { result ≡ false → ¬ IsWithinAsList self.now.limits (entries self.now.sieve) }
+    {
+        self.ring.weight() <= self.limit as u128
+            && self.watermark.is_none_or(|most| self.ring.len() <= most)
+    }
+}
+
+impl EvictionManager for Manager {
+    ghost use Rattle.pcache_evict.specs.Listed.{map_of};
+    ghost use Rattle.pcache_policies.specs.Sieve.{entries};
+
+    ghost tracked = { λ m. map_of (entries m.sieve) };
+
+    ghost limits = { λ m. m.limits };
+
+    ghost evicted = { λ m. m.evicted };
+
+    fn total_size(&self) -> usize {
+        Manager::total_size(self)
+    }
+
+    fn total_items(&self) -> usize {
+        Manager::total_items(self)
+    }
+
+    fn evicted_size(&self) -> usize {
+        Manager::evicted_size(self)
+    }
+
+    fn evicted_items(&self) -> usize {
+        Manager::evicted_items(self)
+    }
+
+    fn entries(&self) -> Result<Vec<(CacheEntryKey, usize)>> {
+        let all = Manager::entries(self)?;
+        Ok(all)
+    }
+
+    fn admit(
+        &mut self,
+        item: CacheEntryKey,
+        size: usize,
+        fresh_until: Moment,
+    ) -> Result<Vec<CacheEntryKey>> {
+        let out = Manager::admit(self, item, size, fresh_until)?;
+        Ok(out)
+    }
+
+    fn increment_weight(
+        &mut self,
+        item: &CacheEntryKey,
+        delta: usize,
+        max_weight: Option<usize>,
+    ) -> Result<Vec<CacheEntryKey>> {
+        let out = Manager::increment_weight(self, item, delta, max_weight)?;
+        Ok(out)
+    }
+
+    fn remove(&mut self, item: &CacheEntryKey) {
+        Manager::remove(self, item);
+    }
+
+    fn access(&mut self, item: &CacheEntryKey, size: usize, fresh_until: Moment) -> Result<bool> {
+        let was = Manager::access(self, item, size, fresh_until)?;
+        Ok(was)
+    }
+
+    fn peek(&self, item: &CacheEntryKey) -> bool {
+        Manager::peek(self, item)
+    }
+}
+
+/// The weight after an increment.
+fn raised_weight(present: Option<usize>, delta: usize, max_weight: Option<usize>) -> usize
+    ensures { result ≡ raised delta max_weight present }
+{
+    let most = max_weight.unwrap_or(usize::MAX);
+    match present {
+        Some(size) => size.saturating_add(delta).min(most).max(size),
+        None => delta.min(most).max(1),
+    }
+}
