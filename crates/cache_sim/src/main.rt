@@ -27,12 +27,21 @@ fn main(rt: HostRuntime) -> ExitCode {
 fn run(rt: &HostRuntime, alloc: Global, args: &[String]) -> Result<(), Stop> {
     let options = options::read(alloc, args).map_err(Stop::Words)?;
     let mut errors = rt.stderr();
-    simulate(rt, alloc, &options, rt.reader(), io::writer(rt), &mut errors)
+    simulate(
+        rt,
+        alloc,
+        &options,
+        rt.reader(),
+        io::writer(rt),
+        &mut errors,
+    )
 }
 
 fn tell(rt: &HostRuntime, stop: &Stop) -> io::Result<()> {
     match stop {
-        Stop::Words(Unusable::Word) => eprintln!(rt; "an option is not known, or its value is none"),
+        Stop::Words(Unusable::Word) => eprintln!(rt;
+            "an option is not known, or its value is none"
+        ),
         Stop::Words(Unusable::NoDistinct) => {
             eprintln!(rt; "a size in percent needs --distinct, the bytes of all bodies, each once")
         }

@@ -5,6 +5,7 @@ use crate::options::{Options, Policy};
 use crate::report::Row;
 use crate::run::{Request, Run};
 use pcache_base::error::Result;
+use pcache_base::seed::Seed;
 use pcache_evict::eviction::{EvictionManager, sharded_lru, simple_lru};
 use pcache_policies::sieve;
 use std::alloc::Global;
@@ -48,17 +49,19 @@ impl Runs {
 
     fn add(&mut self, options: &Options, policy: Policy, size: usize) -> Result<()> {
         let limit = options.sample.scaled(size);
+        // A run of the same trace is to take the same time again, and its keys are the reader's own.
+        let seed = Seed::fixed();
         match policy {
             Policy::Lru => {
-                let manager = simple_lru::Manager::new(self.alloc, limit)?;
+                let manager = simple_lru::Manager::new(self.alloc, seed, limit)?;
                 add_run(self.alloc, &mut self.lru, options, manager, size)
             }
             Policy::Sharded => {
-                let manager = sharded_lru::Manager::with_capacity(self.alloc, limit, 0)?;
+                let manager = sharded_lru::Manager::with_capacity(self.alloc, seed, limit, 0)?;
                 add_run(self.alloc, &mut self.sharded, options, manager, size)
             }
             Policy::Sieve => {
-                let manager = sieve::Manager::new(self.alloc, limit)?;
+                let manager = sieve::Manager::new(self.alloc, seed, limit)?;
                 add_run(self.alloc, &mut self.sieve, options, manager, size)
             }
         }

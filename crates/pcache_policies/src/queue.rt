@@ -9,6 +9,7 @@ ghost use Rattle.pcache_policies.specs.Queue.{Queue, IsOnce, plain, seen_of, res
 
 use lru::LruCache;
 use pcache_base::error::Result;
+use pcache_base::seed::Seed;
 use pcache_evict::eviction::CacheEntryKey;
 use std::alloc::Global;
 use std::marker::Model;
@@ -43,7 +44,7 @@ impl Seen {
 /// A contract sees the list. Each call takes at most one look-up.
 #[derive(Drop)]
 pub(crate) struct Queue {
-    cache: LruCache<CacheEntryKey, Seen>,
+    cache: LruCache<CacheEntryKey, Seen, Seed>,
     weight: u128,
 }
 
@@ -58,13 +59,13 @@ impl Model for Queue {
 }
 
 impl Queue {
-    /// An empty queue.
-    pub(crate) fn new(alloc: Global) -> Result<Queue>
+    /// An empty queue. Under which seed it hashes no answer shows.
+    pub(crate) fn new(alloc: Global, seed: Seed) -> Result<Queue>
         ensures ok { IfOk result (λ queue. queue ≡ []) }
         ensures kind { IfErr result (λ e. e ≡ OutOfMemory) }
     {
         Ok(Queue {
-            cache: LruCache::unbounded(alloc)?,
+            cache: LruCache::unbounded_with_hasher(alloc, seed)?,
             weight: 0,
         })
     }

@@ -14,6 +14,7 @@ ghost use Rattle.pcache_policies.specs.Ring.{Ring, ring, all, shown, left_of, St
 
 use crate::queue::{Queue, Seen};
 use pcache_base::error::{Error, ErrorType, Result};
+use pcache_base::seed::Seed;
 use pcache_evict::eviction::CacheEntryKey;
 use std::alloc::Global;
 use std::marker::Model;
@@ -46,14 +47,14 @@ impl Model for Ring {
 
 impl Ring {
     /// No entries.
-    pub(crate) fn new(alloc: Global) -> Result<Ring>
+    pub(crate) fn new(alloc: Global, seed: Seed) -> Result<Ring>
         ensures ok { IfOk result (λ made. made ≡ ring [] [] []) }
         ensures kind { IfErr result (λ e. e ≡ OutOfMemory) }
     {
         Ok(Ring {
-            ahead: Queue::new(alloc)?,
-            leaving: Queue::new(alloc)?,
-            passed: Queue::new(alloc)?,
+            ahead: Queue::new(alloc, seed)?,
+            leaving: Queue::new(alloc, seed)?,
+            passed: Queue::new(alloc, seed)?,
         })
     }
 

@@ -13,6 +13,7 @@ use crate::queue::Seen;
 use crate::ring::Ring;
 use pcache_base::error::Result;
 use pcache_base::moment::Moment;
+use pcache_base::seed::Seed;
 use pcache_evict::eviction::{CacheEntryKey, EvictionManager};
 use std::alloc::Global;
 use std::marker::Model;
@@ -87,18 +88,20 @@ fn let_go(
 }
 
 impl Manager {
-    /// An empty manager whose entries weigh at most `limit` once it has evicted.
-    pub fn new(alloc: Global, limit: usize) -> Result<Manager>
+    /// An empty manager whose entries weigh at most `limit` once it has evicted. Its lists hash under the
+    /// seed, which no answer shows.
+    pub fn new(alloc: Global, seed: Seed, limit: usize) -> Result<Manager>
         ensures ok { IfOk result (λ m. m ≡ empty_sieve limit None) }
         ensures kind { IfErr result (λ e. e ≡ OutOfMemory) }
     {
-        Manager::new_with_watermark(alloc, limit, None)
+        Manager::new_with_watermark(alloc, seed, limit, None)
     }
 
     /// An empty manager whose entries weigh at most `limit` once it has evicted, and are at most
     /// `items_watermark` if that is given.
     pub fn new_with_watermark(
         alloc: Global,
+        seed: Seed,
         limit: usize,
         items_watermark: Option<usize>,
     ) -> Result<Manager>
@@ -109,7 +112,7 @@ impl Manager {
             alloc,
             limit,
             watermark: items_watermark,
-            ring: Ring::new(alloc)?,
+            ring: Ring::new(alloc, seed)?,
             evicted: Evictions {
                 weight: 0,
                 count: 0,
