@@ -186,7 +186,7 @@ fn push_copy(all: &mut Vec<(CacheEntryKey, usize)>, key: &CacheEntryKey, size: u
 /// Writes what is known of an entry, where it stands, and answers what it weighed before, if it is
 /// there.
 fn write_seen(
-    cache: &mut LruCache<CacheEntryKey, Seen>,
+    cache: &mut LruCache<CacheEntryKey, Seen, Seed>,
     item: &CacheEntryKey,
     seen: Seen,
 ) -> Option<usize>
