@@ -343,7 +343,8 @@ impl<S: Storage> HttpCache<S> {
 
     /// The handler of the write, if there is one, to be asked.
     pub fn writer(&self) -> Option<&S::Miss>
-        ensures { option_map (λ w. S.Miss.write w.now) result ≡ self.now.write }
+        ensures write { option_map (λ w. S.Miss.write w.now) result ≡ self.now.write }
+        ensures entry { option_and_then (λ w. S.Miss.entry_number w.now) result ≡ self.now.entry }
     {
         self.writer.as_ref()
     }

@@ -163,6 +163,11 @@ shut_on xs k n (Some x) = with_slot xs k (record x { untouched = remove x.untouc
 abbrev pub shut : FinMap nat_cmp Slot → ℕ → ℕ → FinMap nat_cmp Slot
 shut xs k n = shut_on xs k n (get xs k)
 
+-- a write is of this key
+abbrev pub is_write_under : ℕ → Option Written → Bool
+is_write_under k None = false
+is_write_under k (Some w) = w.slot == k
+
 -- a write given up
 abbrev pub dropped_on : Store → ℕ → Option Written → Store
 dropped_on s n None = s

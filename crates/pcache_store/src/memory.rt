@@ -2,12 +2,13 @@
 ghost use Rattle.std.specs.Prelude.{◌≡◌, ◌<◌, ◌^◌, ℕ, Option, Some, None, IsOk, IsSome, IfOk, IfErr, OnOk, OnErr, option_map, option_copied, is_some, false, true};
 ghost use Rattle.std.specs.FinMap as map;
 ghost use Rattle.pcache_base.specs.declared.error.ErrorType.TheVariants.{OutOfMemory, WriteRemoved};
+ghost use Rattle.pcache_base.specs.Key.{slot};
 ghost use Rattle.pcache_table.specs.Sharding.{part_of};
 ghost use Rattle.pcache_store.specs.Finishes.{created};
 ghost use Rattle.pcache_store.specs.Purge.{target_slot};
 ghost use Rattle.pcache_store.specs.Refusals.{MayRefuseFinish};
 ghost use Rattle.pcache_store.specs.Shards.{of_shard};
-ghost use Rattle.pcache_store.specs.Store.{joined, left, wrote, dropped, finished, is_untouched, left_on, found_part};
+ghost use Rattle.pcache_store.specs.Store.{joined, left, wrote, dropped, finished, is_untouched, is_write_under, left_on, found_part};
 ghost use Rattle.pcache_store.specs.Tag.{named_by};
 ghost use Rattle.pcache_store.specs.Totals.{stored_bytes, slots};
 
@@ -112,6 +113,17 @@ impl MemCache {
         ensures { result ≡ map.len (of_shard shard self.now.writes) }
     {
         self.drafts.shard_len(shard)
+    }
+
+    /// Whether a write with this number is kept, and is of this key.
+    pub fn has_write(&self, key: &CacheKey, number: u64) -> bool
+        ensures { result ≡ is_write_under (slot key.now) (map.get self.now.writes number) }
+    {
+        let slot = key.slot();
+        match self.drafts.get(slot, number as u128) {
+            Some(draft) => draft.slot() == slot,
+            None => false,
+        }
     }
 
     // The record of a write, which stands in the shard of its key's slot.

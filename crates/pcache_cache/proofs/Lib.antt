@@ -1,0 +1,5 @@
+pub mod Standing
+pub mod Sums
+pub mod Kept
+pub mod Ended
+pub mod Own

@@ -1,0 +1,54 @@
+-- A store, an eviction manager and a lock table as one value, and what always holds of them (own).
+use Rattle.std.specs.Prelude.{◌≡◌, ℕ, ◌≤◌, not, Bool, true, false, List, Option, Some, None, IfSome, cond, length}
+use Rattle.std.specs.FinMap.{get}
+use Rattle.pcache_base.specs.Key.{Key, slot}
+use Rattle.pcache_evict.specs.Tracked.{Tracked, Limits, Evicted}
+use Rattle.pcache_evict.specs.declared.eviction.entry_key.CacheEntryKey.{CacheEntryKey}
+use Rattle.pcache_lock.specs.Locks.{Locks}
+use Rattle.pcache_request.specs.Finishing.{entry_slot}
+use Rattle.pcache_request.specs.Requests.{Request}
+use Rattle.pcache_store.specs.Store.{Store, Stored, complete_body, is_told, is_write_under, wrote}
+use Rattle.pcache_store.specs.Totals.{stored_bytes, slots}
+
+pub record Parts : Type 0 where
+  pub store : Store
+  -- what the manager tracks, its limits, and the totals of what it evicted
+  pub tracked : Tracked
+  pub limits : Limits
+  pub evicted : Evicted
+  pub locks : Locks
+
+-- each key under which a body is complete has an entry of its own, tracked with exactly the body's length
+abbrev pub TracksExactly : Store → Tracked → Type 0
+TracksExactly s m = (k : ℕ) (b : Stored) → complete_body (get s.slots k) ≡ Some b → (e : CacheEntryKey) × (entry_slot e ≡ Some k) × (get m e ≡ Some (length b.bytes))
+
+-- the complete bodies are within the limits: their lengths added up, and their number
+pub record IsBounded (limits : Limits) (s : Store) : Type 0 where
+  pub bytes : stored_bytes s ≤ limits.weight
+  pub count : IfSome limits.watermark (λ most. slots s ≤ most)
+
+-- what always holds
+pub record IsKept (limits : Limits) (m : Tracked) (s : Store) : Type 0 where
+  pub exact : TracksExactly s m
+  pub bounded : IsBounded limits s
+
+-- a request's write, if it has one, is a write of this store and of the request's key
+abbrev pub is_own_write : Store → Option Key → Option ℕ → Bool
+is_own_write s k None = true
+is_own_write s None (Some w) = false
+is_own_write s (Some k) (Some w) = is_write_under (slot k) (get s.writes w)
+
+-- a request may end its write: it uses the manager, and the write is its own
+pub record MayEnd (s : Store) (r : Request) : Type 0 where
+  pub uses : r.uses.eviction ≡ true
+  pub own : is_own_write s r.key r.write ≡ true
+
+-- whether a request's write takes more bytes: there is one, and its last bytes were not said
+abbrev pub takes_bytes : Store → Option ℕ → Bool
+takes_bytes s None = false
+takes_bytes s (Some w) = not (is_told (get s.writes w))
+
+-- the store once they were offered
+abbrev pub written_by : Option ℕ → List ℕ → Bool → Store → Store
+written_by None bytes eof s = s
+written_by (Some w) bytes eof s = cond (is_told (get s.writes w)) s (wrote s w bytes eof)

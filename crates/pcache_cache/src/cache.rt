@@ -1,0 +1,123 @@
+//! The value itself.
+ghost use Rattle.std.specs.Prelude.{◌≡◌};
+ghost use Rattle.std.specs.FinMap as map;
+
+use crate::fill::is_own_write;
+use crate::request::CacheRequest;
+use pcache_base::seed::Seed;
+use pcache_evict::eviction::EvictionManager;
+use pcache_lock::lock::CacheLock;
+use pcache_store::memory::MemCache;
+use std::alloc::Global;
+use std::marker::{Model, PhantomData};
+use std::time::Duration;
+
+/// The totals that an eviction manager reports; a total that is larger than a `usize` is the largest one.
+#[derive(Clone, Copy, Debug, PartialEq, Eq)]
+pub struct Totals {
+    /// The weights of the tracked entries, added up, in bytes.
+    pub weight: usize,
+    /// The number of tracked entries.
+    pub items: usize,
+    /// The weight and the number of all that was evicted.
+    pub evicted_weight: usize,
+    pub evicted_items: usize,
+}
+
+/// A store in memory, an eviction manager and a lock table as one value.
+///
+/// At all times, whatever call was refused: the lengths of the complete bodies add up to at most the manager's limit, there are
+/// at most as many as its watermark, and each key with a complete body has an entry of its own, tracked with exactly that
+/// body's length.
+///
+/// `K` is a mark, a type of the caller's that nothing else uses: a request of one cache cannot be lent another's parts.
+#[derive(Drop)]
+pub struct Cache<M: EvictionManager, K> {
+    pub(crate) alloc: Global,
+    pub(crate) store: MemCache,
+    pub(crate) manager: M,
+    pub(crate) lock: CacheLock,
+    of: PhantomData<K>,
+}
+
+impl<M: EvictionManager, K> Model for Cache<M, K> {
+    ghost use Rattle.pcache_cache.specs.Parts.{Parts, IsKept};
+    ghost use Rattle.pcache_cache.specs.PartsCode.{parts_code};
+
+    ghost Value = { Parts };
+
+    ghost coded = { parts_code };
+
+    ghost view = { λ c. record { store = c.store; tracked = M.tracked c.manager; limits = M.limits c.manager; evicted = M.evicted c.manager; locks = c.lock } };
+
+    ghost invariant = { λ c. IsKept (M.limits c.manager) (M.tracked c.manager) c.store };
+}
+
+impl<M: EvictionManager, K> Cache<M, K> {
+    ghost use Rattle.std.specs.Prelude.{◌≡◌, ◌≤◌, ◌-◌, ◌^◌, ◌↔◌, IfSome, IsTrue, min};
+    ghost use Rattle.std.specs.Duration.{as_nanos};
+    ghost use Rattle.pcache_evict.specs.Tracked.{weight};
+    ghost use Rattle.pcache_lock.specs.Locks.{no_locks};
+    ghost use Rattle.pcache_store.specs.Totals.{slots, stored_bytes};
+    ghost use Rattle.pcache_cache.specs.Parts.{MayEnd, TracksExactly};
+
+    /// A cache with nothing stored. Permits age out after `age_timeout`. The store's tables hash under the seed, which no
+    /// answer shows. The manager may track entries already, as those that it loaded.
+    pub fn new(alloc: Global, seed: Seed, manager: M, age_timeout: Duration) -> Cache<M, K>
+        ensures { result ≡ record { store = record { slots = map.empty; writes = map.empty; next = 0 }; tracked = M.tracked manager; limits = M.limits manager; evicted = M.evicted manager; locks = no_locks (as_nanos age_timeout) } }
+    {
+        Cache {
+            alloc,
+            store: MemCache::new(alloc, seed),
+            manager,
+            lock: CacheLock::new(alloc, age_timeout),
+            of: PhantomData,
+        }
+    }
+
+    /// The allocator that the cache was made with, for the keys and requests of its callers.
+    pub fn alloc(&self) -> Global {
+        self.alloc
+    }
+
+    /// The lengths of the complete bodies, added up: at most the manager's limit on weight. Each key with a complete body has
+    /// an entry of its own, tracked with exactly that body's length.
+    pub fn stored_bytes(&self) -> u128
+        ensures value { result ≡ stored_bytes self.now.store }
+        ensures within { result ≤ self.now.limits.weight }
+        ensures tracked { TracksExactly self.now.store self.now.tracked }
+    {
+        self.store.stored_bytes()
+    }
+
+    /// The number of complete bodies: at most the manager's watermark, if it has one.
+    pub fn slots(&self) -> usize
+        ensures value { result ≡ slots self.now.store }
+        ensures within { IfSome self.now.limits.watermark (λ most. result ≤ most) }
+    {
+        self.store.slots()
+    }
+
+    /// The manager's totals.
+    pub fn totals(&self) -> Totals
+        ensures weight { result.weight ≡ min (weight self.now.tracked) (2 ^ 64 - 1) }
+        ensures items { result.items ≡ map.len self.now.tracked }
+        ensures evicted_weight { result.evicted_weight ≡ self.now.evicted.weight }
+        ensures evicted_items { result.evicted_items ≡ self.now.evicted.count }
+    {
+        Totals {
+            weight: self.manager.total_size(),
+            items: self.manager.total_items(),
+            evicted_weight: self.manager.evicted_size(),
+            evicted_items: self.manager.evicted_items(),
+        }
+    }
+
+    /// Whether a request may end its write here: it uses the manager, and has no write, or one of this cache and of its own
+    /// key. That is so of each request that began its write here, until the write ends.
+    pub fn may_end(&self, request: &CacheRequest<K>) -> bool
+        ensures { IsTrue result ↔ MayEnd self.now.store request.now.cache }
+    {
+        request.cache.uses().eviction && is_own_write(&self.store, &request.cache)
+    }
+}

@@ -1,0 +1,107 @@
+//! Writes: their begin, their pieces and their end.
+ghost use Rattle.std.specs.Prelude.{◌≡◌};
+ghost use Rattle.pcache_cache.specs.Parts.{is_own_write};
+
+use crate::cache::Cache;
+use crate::request::CacheRequest;
+use bytes::Bytes;
+use pcache_base::error::Result;
+use pcache_evict::eviction::EvictionManager;
+use pcache_request::cache::{FinishReport, HttpCache};
+use pcache_store::memory::MemCache;
+use pcache_store::storage::HandleMiss;
+
+impl<M: EvictionManager, K> Cache<M, K> {
+    ghost use Rattle.std.specs.Prelude.{◌≡◌, ◌⊎◌, true, IfOk, IfErr, OnOk, OnErr, None, Some};
+    ghost use Rattle.pcache_base.specs.declared.error.ErrorType.TheVariants.{OutOfMemory};
+    ghost use Rattle.pcache_lock.specs.declared.lock.status.LockStatus.TheVariants.{Done};
+    ghost use Rattle.pcache_request.specs.Finishing.{after_finish};
+    ghost use Rattle.pcache_request.specs.Phases.{IsFilling};
+    ghost use Rattle.pcache_request.specs.Requests.{MayWrite, begun_for, settled, store_writing, writing};
+    ghost use Rattle.pcache_request.specs.WriteEnds.{Ends, EndsAs, evicted_after, finishes_of};
+    ghost use Rattle.pcache_store.specs.Finishes.{created};
+    ghost use Rattle.pcache_store.specs.Refusals.{MayRefuseWrite};
+    ghost use Rattle.pcache_cache.specs.Parts.{MayEnd, takes_bytes, written_by};
+
+    /// `HttpCache::set_miss_handler`: begins the write. Requires a phase in which a write may be made, a meta, and no write; ask
+    /// `may_write` of the request.
+    pub fn set_miss_handler(&mut self, request: &mut CacheRequest<K>) -> Result<()>
+        requires { MayWrite request.old.cache }
+        ensures request { OnOk result (request.new.cache ≡ writing true self.old.store.next None (begun_for request.old.cache.key request.old.cache.meta self.old.store) request.old.cache) }
+        ensures store { OnOk result (self.new.store ≡ store_writing true self.old.store.next request.old.cache self.old.store) }
+        ensures table { OnOk result (self.new.locks ≡ settled Done request.old.cache.held self.old.locks) }
+        ensures err { IfErr result (λ e. ((request.new.cache ≡ request.old.cache) × (self.new.store ≡ self.old.store) × (self.new.locks ≡ self.old.locks) × MayRefuseWrite self.old.store e)
+            ⊎ ((request.new.cache ≡ record request.old.cache { write = Some self.old.store.next; entry = None; held = None }) × (self.new.store ≡ begun_for request.old.cache.key request.old.cache.meta self.old.store) × (self.new.locks ≡ settled Done request.old.cache.held self.old.locks) × (e ≡ OutOfMemory))) }
+        ensures kind { IfErr result (λ e. (e ≡ OutOfMemory) ⊎ MayRefuseWrite self.old.store e) }
+        ensures phase { request.new.cache.phase ≡ request.old.cache.phase }
+        ensures own { request.old.cache.uses.eviction ≡ true → OnOk result (MayEnd self.new.store request.new.cache) }
+        ensures rest { self.new ≡ record self.old { store = self.new.store; locks = self.new.locks } }
+    {
+        // For the prover: the call tells that a request which fills has a key.
+        let _key = request.cache.key();
+        request
+            .cache
+            .set_miss_handler(&mut self.store, &mut self.lock)
+    }
+
+    /// Adds bytes to the request's write, and with `eof` says that they are the last. Without a write, or after the last bytes,
+    /// it returns `false` and changes nothing. It fails when memory runs out, and changes nothing then. Requires a phase in which
+    /// a write may be made.
+    pub fn write_body(
+        &mut self,
+        request: &mut CacheRequest<K>,
+        bytes: Bytes,
+        eof: bool,
+    ) -> Result<bool>
+        requires { IsFilling request.old.cache.phase }
+        ensures request { request.new.cache ≡ request.old.cache }
+        ensures written { IfOk result (λ b. b ≡ takes_bytes self.old.store request.old.cache.write) }
+        ensures store { OnOk result (self.new.store ≡ written_by request.old.cache.write bytes eof self.old.store) }
+        ensures same { OnErr result (self.new ≡ self.old) }
+        ensures own { MayEnd self.old.store request.old.cache → MayEnd self.new.store request.new.cache }
+        ensures rest { self.new ≡ record self.old { store = self.new.store } }
+        ensures kind { IfErr result (λ e. e ≡ OutOfMemory) }
+    {
+        let Some(writer) = request.cache.miss_handler() else {
+            return Ok(false);
+        };
+        if writer.at_eof(&self.store) {
+            return Ok(false);
+        }
+        writer.write_body(&mut self.store, bytes, eof)?;
+        Ok(true)
+    }
+
+    /// `HttpCache::finish_miss_handler`: ends the write and stores the body, whose entry is admitted; what is evicted for it is purged.
+    /// Requires a phase in which a write may be made, and a write of this cache; ask `may_end`.
+    pub fn finish_miss_handler(
+        &mut self,
+        request: &mut CacheRequest<K>,
+    ) -> Result<Option<FinishReport>>
+        requires phase { IsFilling request.old.cache.phase }
+        requires own { MayEnd self.old.store request.old.cache }
+        ensures request { request.new.cache ≡ after_finish request.old.cache }
+        ensures end { EndsAs result (λ end. Ends true request.old.cache request.old.cache.key request.old.cache.write (finishes_of (created self.old.store) request.old.cache.write) self.old.limits end self.old.store self.new.store self.old.tracked self.new.tracked self.old.locks self.new.locks) }
+        ensures evicted { EndsAs result (λ end. self.new.evicted ≡ evicted_after request.old.cache request.old.cache.key (finishes_of (created self.old.store) request.old.cache.write) self.old.tracked self.old.evicted end) }
+        ensures limits { self.new.limits ≡ self.old.limits }
+    {
+        // For the prover: the call tells that entries have no numbers.
+        let _writer = request.cache.writer();
+        request
+            .cache
+            .finish_miss_handler(&mut self.store, &mut self.manager, &mut self.lock)
+    }
+}
+
+// Whether a request's write, if it has one, is a write of the store and of the request's key.
+pub(crate) fn is_own_write(store: &MemCache, request: &HttpCache<MemCache>) -> bool
+    ensures { result ≡ is_own_write store.now request.now.key request.now.write }
+{
+    let Some(writer) = request.writer() else {
+        return true;
+    };
+    match request.key() {
+        Some(key) => store.has_write(key, writer.number()),
+        None => false,
+    }
+}

@@ -1,0 +1,182 @@
+//! Look-ups, hits, and the end of a request.
+use crate::cache::Cache;
+use crate::request::CacheRequest;
+use bytes::Bytes;
+use pcache_base::error::Result;
+use pcache_base::moment::Moment;
+use pcache_base::poll::Poll;
+use pcache_base::reason::NoCacheReason;
+use pcache_evict::eviction::EvictionManager;
+use pcache_meta::meta::CacheMeta;
+use pcache_predict::admission::AdmissionPolicy;
+use pcache_request::cache::LockName;
+use pcache_request::phase::HitStatus;
+use pcache_store::memory::MemHitHandler;
+use pcache_store::storage::HandleHit;
+
+impl<M: EvictionManager, K> Cache<M, K> {
+    ghost use Rattle.std.specs.Prelude.{◌≡◌, ◌⊎◌, false, IfOk, IfErr, IfSome, OnOk, OnErr, IsOk, IsSome, IsTrue, None, option_map};
+    ghost use Rattle.pcache_base.specs.declared.error.ErrorType.TheVariants.{NumbersExhausted, OutOfMemory};
+    ghost use Rattle.pcache_lock.specs.Locks.{MayRefuseLock};
+    ghost use Rattle.pcache_lock.specs.declared.lock.status.LockStatus.TheVariants.{GiveUp};
+    ghost use Rattle.pcache_request.specs.Admissions.{Decides, asks_policy, decision_taken, looked_with, store_looked_with, table_looked_with, with_decision};
+    ghost use Rattle.pcache_request.specs.Phases.{IsDisabled, MayFinishHit, MayLookUp};
+    ghost use Rattle.pcache_request.specs.Releasing.{MayDisable, disabled_for, status_for};
+    ghost use Rattle.pcache_request.specs.Reports.{name_of};
+    ghost use Rattle.pcache_request.specs.Requests.{HoldsNothing, asks_for_hit, dropped_by, found_row, left_by, let_go_by, settled, store_found, table_found, tracked_found, without_reader};
+    ghost use Rattle.pcache_request.specs.Variants.{asks_unseen, hides_for, looked_for, searched, seen_for, table_looked_for};
+    ghost use Rattle.pcache_store.specs.Readers.{reader_of};
+    ghost use Rattle.pcache_store.specs.Store.{left, read_of, reader_after};
+
+    /// `HttpCache::cache_lookup`: what the store has of the request's key, unless a variant hides it; if nothing is handed on, the key's lock
+    /// is asked for. Requires a key that was set, or a stale body that was found. A pair that is handed on has to be taken by `cache_found`
+    /// or let go.
+    #[tactic(auto, using(crate::proofs::Own::looked_phase, crate::proofs::Own::looked_uses))]
+    pub fn cache_lookup(
+        &mut self,
+        request: &mut CacheRequest<K>,
+        now: Moment,
+    ) -> Result<Option<(CacheMeta, MemHitHandler)>>
+        requires { MayLookUp request.old.cache.phase }
+        ensures found { IfOk result (λ r. option_map (λ p. (p.0, reader_of p.1)) r ≡ seen_for self.old.store request.old.cache) }
+        ensures request { OnOk result (request.new.cache ≡ looked_for self.old.store self.old.locks request.old.cache) }
+        ensures store { OnOk result (self.new.store ≡ searched self.old.store request.old.cache) }
+        ensures table { OnOk result (self.new.locks ≡ table_looked_for self.old.store now request.old.cache self.old.locks) }
+        ensures same_request { OnErr result (request.new.cache ≡ request.old.cache) }
+        ensures left_store { OnErr result ((self.new.store ≡ self.old.store) ⊎ (self.new.store ≡ searched self.old.store request.old.cache)) }
+        ensures same_store { OnErr result (hides_for self.old.store request.old.cache ≡ false → self.new.store ≡ self.old.store) }
+        ensures same_table { OnErr result (self.new.locks ≡ self.old.locks) }
+        ensures kind { IfErr result (λ e. MayRefuseLock self.old.locks e) }
+        ensures numbers { IfErr result (λ e. e ≡ NumbersExhausted → IsTrue (asks_unseen self.old.store request.old.cache)) }
+        ensures phase { OnOk result (request.new.cache.phase ≡ request.old.cache.phase) }
+        ensures uses { OnOk result (request.new.cache.uses ≡ request.old.cache.uses) }
+        ensures rest { self.new ≡ record self.old { store = self.new.store; locks = self.new.locks } }
+    {
+        request
+            .cache
+            .cache_lookup(&mut self.store, &mut self.lock, now)
+    }
+
+    /// `HttpCache::cache_lookup_with`: as `cache_lookup`, and if the store has nothing, a policy in use is asked first.
+    pub fn cache_lookup_with<A: AdmissionPolicy>(
+        &mut self,
+        request: &mut CacheRequest<K>,
+        policy: &mut A,
+        now: Moment,
+    ) -> Result<Option<(CacheMeta, MemHitHandler)>>
+        requires { MayLookUp request.old.cache.phase }
+        ensures found { IfOk result (λ r. option_map (λ p. (p.0, reader_of p.1)) r ≡ seen_for self.old.store request.old.cache) }
+        ensures decides { IsTrue (asks_policy self.old.store request.old.cache) → Decides (λ k d. A.decides policy.old k d policy.new) request.old.cache.key request.new.cache.digest.admission }
+        ensures same_policy { asks_policy self.old.store request.old.cache ≡ false → policy.new ≡ policy.old }
+        ensures request { OnOk result (request.new.cache ≡ looked_with (decision_taken self.old.store request.old.cache request.new.cache) self.old.store self.old.locks request.old.cache) }
+        ensures store { OnOk result (self.new.store ≡ store_looked_with (decision_taken self.old.store request.old.cache request.new.cache) request.old.cache self.old.store) }
+        ensures table { OnOk result (self.new.locks ≡ table_looked_with (decision_taken self.old.store request.old.cache request.new.cache) self.old.store now request.old.cache self.old.locks) }
+        ensures decided { OnErr result (request.new.cache ≡ with_decision (decision_taken self.old.store request.old.cache request.new.cache) request.old.cache) }
+        ensures left_store { OnErr result ((self.new.store ≡ self.old.store) ⊎ (self.new.store ≡ searched self.old.store request.old.cache)) }
+        ensures same_store { OnErr result (hides_for self.old.store request.old.cache ≡ false → self.new.store ≡ self.old.store) }
+        ensures same_table { OnErr result (self.new.locks ≡ self.old.locks) }
+        ensures kind { IfErr result (λ e. MayRefuseLock self.old.locks e) }
+        ensures numbers { IfErr result (λ e. e ≡ NumbersExhausted → IsTrue (asks_unseen self.old.store request.old.cache)) }
+        ensures rest { self.new ≡ record self.old { store = self.new.store; locks = self.new.locks } }
+    {
+        request
+            .cache
+            .cache_lookup_with(&mut self.store, &mut self.lock, policy, now)
+    }
+
+    /// `HttpCache::cache_found`: takes what a look-up found.
+    pub fn cache_found(
+        &mut self,
+        request: &mut CacheRequest<K>,
+        meta: CacheMeta,
+        hit: MemHitHandler,
+        status: HitStatus,
+        now: Moment,
+    ) -> Result<()>
+        requires { MayLookUp request.old.cache.phase }
+        ensures request { OnOk result (request.new.cache ≡ found_row status meta (reader_of hit) self.old.locks request.old.cache) }
+        ensures store { OnOk result (self.new.store ≡ store_found status (reader_of hit) request.old.cache self.old.store) }
+        ensures table { OnOk result (self.new.locks ≡ table_found status now request.old.cache self.old.locks) }
+        ensures tracked { OnOk result (self.new.tracked ≡ tracked_found status (reader_of hit) None request.old.cache self.old.tracked) }
+        ensures same_request { OnErr result (request.new.cache ≡ request.old.cache) }
+        ensures left_store { OnErr result (self.new.store ≡ left self.old.store (reader_of hit)) }
+        ensures same_table { OnErr result (self.new.locks ≡ self.old.locks) }
+        ensures noted { OnErr result ((self.new.tracked ≡ self.old.tracked) ⊎ (self.new.tracked ≡ tracked_found status (reader_of hit) None request.old.cache self.old.tracked)) }
+        ensures limits { self.new.limits ≡ self.old.limits }
+        ensures evicted { self.new.evicted ≡ self.old.evicted }
+        ensures kind { IfErr result (λ e. MayRefuseLock self.old.locks e) }
+        ensures numbers { IfErr result (λ e. e ≡ NumbersExhausted → IsTrue (asks_for_hit status request.old.cache)) }
+    {
+        request.cache.cache_found(
+            &mut self.store,
+            &mut self.manager,
+            &mut self.lock,
+            meta,
+            hit,
+            status,
+            now,
+        )
+    }
+
+    /// Lets go what a look-up found.
+    pub fn let_go(&mut self, hit: MemHitHandler)
+        ensures { self.new ≡ record self.old { store = left self.old.store (reader_of hit) } }
+    {
+        hit.let_go(&mut self.store);
+    }
+
+    /// `HttpCache::read_body`: reads on. Requires a reader.
+    pub fn read_body(&mut self, request: &mut CacheRequest<K>) -> Result<Poll<Option<Bytes>>>
+        requires { IsSome request.old.cache.reader }
+        ensures read { IfOk result (λ p. IfSome request.old.cache.reader (λ r. p ≡ read_of self.old.store r)) }
+        ensures request { OnOk result (request.new.cache ≡ record request.old.cache { reader = option_map (reader_after self.old.store) request.old.cache.reader }) }
+        ensures same_request { OnErr result (request.new.cache ≡ request.old.cache) }
+        ensures same_store { self.new.store ≡ self.old.store }
+        ensures kind { IfErr result (λ e. e ≡ OutOfMemory) }
+        ensures rest { self.new ≡ self.old }
+    {
+        request.cache.read_body(&mut self.store)
+    }
+
+    /// `HttpCache::finish_hit_handler`: ends the reader.
+    pub fn finish_hit_handler(&mut self, request: &mut CacheRequest<K>) -> Result<()>
+        requires { MayFinishHit request.old.cache.phase }
+        ensures request { request.new.cache ≡ without_reader request.old.cache }
+        ensures store { self.new.store ≡ left_by request.old.cache.reader self.old.store }
+        ensures kind { IfErr result (λ e. e ≡ OutOfMemory) }
+        ensures none { request.old.cache.reader ≡ None → IsOk result }
+        ensures rest { self.new ≡ record self.old { store = self.new.store } }
+    {
+        request.cache.finish_hit_handler(&mut self.store)
+    }
+
+    /// `HttpCache::disable`: turns caching off, and gives back all that is held.
+    pub fn disable(
+        &mut self,
+        request: &mut CacheRequest<K>,
+        reason: NoCacheReason,
+    ) -> Option<LockName>
+        requires { MayDisable reason request.old.cache }
+        ensures request { request.new.cache ≡ disabled_for reason request.old.cache }
+        ensures off { IsDisabled request.new.cache.phase }
+        ensures held { HoldsNothing request.new.cache }
+        ensures store { self.new.store ≡ left_by request.old.cache.reader (dropped_by request.old.cache.write self.old.store) }
+        ensures table { self.new.locks ≡ settled (status_for (λ text. GiveUp) reason) request.old.cache.held self.old.locks }
+        ensures released { result ≡ option_map name_of request.old.cache.held }
+        ensures rest { self.new ≡ record self.old { store = self.new.store; locks = self.new.locks } }
+    {
+        request
+            .cache
+            .disable(&mut self.store, &mut self.lock, reason)
+    }
+
+    /// `HttpCache::end`: gives back all that a request holds.
+    pub fn end(&mut self, request: CacheRequest<K>) -> Option<LockName>
+        ensures let_go { result ≡ option_map name_of request.cache.held }
+        ensures store { self.new.store ≡ left_by request.cache.reader (dropped_by request.cache.write self.old.store) }
+        ensures table { self.new.locks ≡ let_go_by request.cache.held self.old.locks }
+        ensures rest { self.new ≡ record self.old { store = self.new.store; locks = self.new.locks } }
+    {
+        request.into_cache().end(&mut self.store, &mut self.lock)
+    }
+}

@@ -1,0 +1,74 @@
+//! Removals.
+use crate::cache::Cache;
+use crate::request::CacheRequest;
+use pcache_base::error::Result;
+use pcache_base::moment::Moment;
+use pcache_evict::eviction::EvictionManager;
+
+impl<M: EvictionManager, K> Cache<M, K> {
+    ghost use Rattle.std.specs.Prelude.{◌≡◌, IfOk, IfErr, OnOk, OnErr, option_map};
+    ghost use Rattle.pcache_base.specs.Key.{slot};
+    ghost use Rattle.pcache_base.specs.declared.error.ErrorType.TheVariants.{OutOfMemory};
+    ghost use Rattle.pcache_request.specs.Phases.{MayPurge, MaySpawnPurge};
+    ghost use Rattle.pcache_request.specs.Requests.{is_removed_by, tracked_gone_for};
+    ghost use Rattle.pcache_store.specs.Purge.{expire_answer, expired_at, purge_answer, purged_at};
+
+    /// `HttpCache::purge`: removes what stands under the key, and takes its entry out of the manager. Returns whether anything was there.
+    pub fn purge(&mut self, request: &mut CacheRequest<K>) -> Result<bool>
+        requires { MayPurge request.old.cache.phase }
+        ensures same { request.new.cache ≡ request.old.cache }
+        ensures there { IfOk result (λ there. there ≡ is_removed_by (purge_answer self.old.store (option_map slot request.old.cache.key))) }
+        ensures store { OnOk result (self.new.store ≡ purged_at self.old.store (option_map slot request.old.cache.key)) }
+        ensures tracked { OnOk result (self.new.tracked ≡ tracked_gone_for request.old.cache.uses.eviction request.old.cache.key (purge_answer self.old.store (option_map slot request.old.cache.key)) self.old.tracked) }
+        ensures same_store { OnErr result (self.new.store ≡ self.old.store) }
+        ensures same_tracked { OnErr result (self.new.tracked ≡ self.old.tracked) }
+        ensures limits { self.new.limits ≡ self.old.limits }
+        ensures evicted { self.new.evicted ≡ self.old.evicted }
+        ensures kind { IfErr result (λ e. e ≡ OutOfMemory) }
+        ensures locks { self.new.locks ≡ self.old.locks }
+    {
+        request.cache.purge(&mut self.store, &mut self.manager)
+    }
+
+    /// `HttpCache::spawn_async_purge`: the same in any phase in which there is a key. It is done at once, and the context is not read.
+    pub fn spawn_async_purge(
+        &mut self,
+        request: &mut CacheRequest<K>,
+        context: &'static str,
+    ) -> Result<bool>
+        requires { MaySpawnPurge request.old.cache.phase }
+        ensures same { request.new.cache ≡ request.old.cache }
+        ensures there { IfOk result (λ there. there ≡ is_removed_by (purge_answer self.old.store (option_map slot request.old.cache.key))) }
+        ensures store { OnOk result (self.new.store ≡ purged_at self.old.store (option_map slot request.old.cache.key)) }
+        ensures tracked { OnOk result (self.new.tracked ≡ tracked_gone_for request.old.cache.uses.eviction request.old.cache.key (purge_answer self.old.store (option_map slot request.old.cache.key)) self.old.tracked) }
+        ensures same_store { OnErr result (self.new.store ≡ self.old.store) }
+        ensures same_tracked { OnErr result (self.new.tracked ≡ self.old.tracked) }
+        ensures limits { self.new.limits ≡ self.old.limits }
+        ensures evicted { self.new.evicted ≡ self.old.evicted }
+        ensures kind { IfErr result (λ e. e ≡ OutOfMemory) }
+        ensures locks { self.new.locks ≡ self.old.locks }
+    {
+        request
+            .cache
+            .spawn_async_purge(&mut self.store, &mut self.manager, context)
+    }
+
+    /// `HttpCache::expire`: ends the freshness of what stands under the key. Returns whether a body was there.
+    pub fn expire(&mut self, request: &mut CacheRequest<K>, now: Moment) -> Result<bool>
+        requires { MayPurge request.old.cache.phase }
+        ensures same { request.new.cache ≡ request.old.cache }
+        ensures there { IfOk result (λ there. there ≡ is_removed_by (expire_answer self.old.store (option_map slot request.old.cache.key))) }
+        ensures store { OnOk result (self.new.store ≡ expired_at now self.old.store (option_map slot request.old.cache.key)) }
+        ensures tracked { OnOk result (self.new.tracked ≡ tracked_gone_for request.old.cache.uses.eviction request.old.cache.key (expire_answer self.old.store (option_map slot request.old.cache.key)) self.old.tracked) }
+        ensures same_store { OnErr result (self.new.store ≡ self.old.store) }
+        ensures same_tracked { OnErr result (self.new.tracked ≡ self.old.tracked) }
+        ensures limits { self.new.limits ≡ self.old.limits }
+        ensures evicted { self.new.evicted ≡ self.old.evicted }
+        ensures kind { IfErr result (λ e. e ≡ OutOfMemory) }
+        ensures locks { self.new.locks ≡ self.old.locks }
+    {
+        request
+            .cache
+            .expire(&mut self.store, &mut self.manager, now)
+    }
+}

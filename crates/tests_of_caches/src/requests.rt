@@ -1,0 +1,112 @@
+//! Requests of a cache over one recency list, in few words.
+ghost use Rattle.std.specs.Prelude.{◌≡◌, IfOk, OnOk, true};
+ghost use Rattle.pcache_request.specs.Phases.{MayLookUp};
+ghost use Rattle.pcache_request.specs.declared.phase.CachePhase.TheVariants.{CacheKey};
+
+use bytes::Bytes;
+use http::StatusCode;
+use pcache_base::error::Result;
+use pcache_base::key::CacheKey;
+use pcache_base::moment::Moment;
+use pcache_base::poll::Poll;
+use pcache_base::seed::Seed;
+use pcache_cache::{Cache, CacheRequest};
+use pcache_evict::eviction::simple_lru::Manager;
+use pcache_meta::header::ResponseHeader;
+use pcache_meta::meta::CacheMeta;
+use pcache_request::HitStatus;
+use std::alloc::Global;
+use std::time::Duration;
+
+const NOW: Moment = Moment::EPOCH;
+
+/// Names the cache of a test.
+pub struct OfTest;
+
+/// A cache over one recency list.
+pub type List = Cache<Manager, OfTest>;
+
+/// A request of it.
+pub type Request = CacheRequest<OfTest>;
+
+/// A cache with nothing stored, in which bodies may have `limit` bytes together.
+pub fn list_of(alloc: Global, limit: usize) -> Result<List> {
+    let seed = Seed::fixed();
+    Ok(Cache::new(
+        alloc,
+        seed,
+        Manager::new(alloc, seed, limit)?,
+        Duration::from_secs(10),
+    ))
+}
+
+/// A request whose key has this name.
+pub fn request_for(alloc: Global, name: &str) -> Result<Request>
+    ensures phase { IfOk result (λ r. r.cache.phase ≡ CacheKey) }
+    ensures uses { IfOk result (λ r. r.cache.uses.eviction ≡ true) }
+{
+    let primary = name.as_bytes().to_vec(alloc)?;
+    let mut request = CacheRequest::new(alloc);
+    request
+        .cache
+        .set_cache_key(CacheKey::new(primary, String::new(alloc)));
+    Ok(request)
+}
+
+/// Looks a key up and fills it with this body if nothing is there. Returns whether it did.
+pub fn fill(cache: &mut List, name: &str, body: &'static [u8]) -> Result<bool> {
+    let mut request = request_for(cache.alloc(), name)?;
+    let filled = fill_in(cache, &mut request, body);
+    cache.end(request);
+    filled
+}
+
+fn fill_in(cache: &mut List, request: &mut Request, body: &'static [u8]) -> Result<bool>
+    requires phase { request.old.cache.phase ≡ CacheKey }
+    requires uses { request.old.cache.uses.eviction ≡ true }
+{
+    if let Some((_meta, hit)) = cache.cache_lookup(request, NOW)? {
+        cache.let_go(hit);
+        return Ok(false);
+    }
+    request.cache.cache_miss();
+    request.cache.set_cache_meta(meta_of(cache.alloc()));
+    cache.set_miss_handler(request)?;
+    cache.write_body(request, Bytes::from_static(body), true)?;
+    Ok(cache.finish_miss_handler(request)?.is_some())
+}
+
+fn meta_of(alloc: Global) -> CacheMeta {
+    let header = ResponseHeader::build(alloc, StatusCode::OK);
+    CacheMeta::new(Moment::from_secs(60), NOW, 0, 0, header)
+}
+
+/// Whether a key is found with this body, which is a use of it.
+pub fn finds(cache: &mut List, name: &str, body: &[u8]) -> Result<bool> {
+    let mut request = request_for(cache.alloc(), name)?;
+    let found = find_in(cache, &mut request, body);
+    cache.end(request);
+    found
+}
+
+fn find_in(cache: &mut List, request: &mut Request, body: &[u8]) -> Result<bool>
+    requires { request.old.cache.phase ≡ CacheKey }
+{
+    let Some((meta, hit)) = cache.cache_lookup(request, NOW)? else {
+        return Ok(false);
+    };
+    cache.cache_found(request, meta, hit, HitStatus::Fresh, NOW)?;
+    if !request.cache.has_body_reader() {
+        return Ok(false);
+    }
+    let read = cache.read_body(request)?;
+    Ok(matches!(read, Poll::Ready(Some(bytes)) if bytes.as_slice() == body))
+}
+
+/// Purges a key, and returns whether anything was there.
+pub fn purges(cache: &mut List, name: &str) -> Result<bool> {
+    let mut request = request_for(cache.alloc(), name)?;
+    let was_there = cache.purge(&mut request);
+    cache.end(request);
+    was_there
+}
