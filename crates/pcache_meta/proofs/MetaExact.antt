@@ -107,8 +107,8 @@ old_again bytes m rest t =
     rw (
       moment_exact.again bytes m.fresh_until t.later1 t.fresh_until,
       moment_exact.again t.later1 m.created t.later2 t.created,
-      number_below_again (2 ^ 32) t.later2 m.stale_while_revalidate w.later w.first w.first_fits,
-      number_below_again (2 ^ 32) w.later m.stale_if_error rest w.second w.second_fits,
+      number_below_again (2 ^ 32) t.later2 m.stale_while_revalidate_sec w.later w.first w.first_fits,
+      number_below_again (2 ^ 32) w.later m.stale_if_error_sec rest w.second w.second_fits,
     ) refl
 
 -- an old version as it is read: what it says, and what version 2 makes of that
@@ -175,8 +175,8 @@ new_again extra bytes m rest t =
       moment_exact.again bytes m.fresh_until t.later1 t.fresh_until,
       moment_exact.again t.later1 m.created t.later2 t.created,
       moment_exact.again t.later2 m.updated t.later3 t.updated,
-      number_below_again (2 ^ 32) t.later3 m.stale_while_revalidate w.later w.first w.first_fits,
-      number_below_again (2 ^ 32) w.later m.stale_if_error t.later4 w.second w.second_fits,
+      number_below_again (2 ^ 32) t.later3 m.stale_while_revalidate_sec w.later w.first w.first_fits,
+      number_below_again (2 ^ 32) w.later m.stale_if_error_sec t.later4 w.second w.second_fits,
       item_again (ltb 0 extra) hash_at HashThen hash_exact t.later4 m.variance t.later5 t.variance,
       item_again (ltb 1 extra) moment_at MomentThen moment_exact t.later5 m.epoch_override t.later6 t.epoch_override,
       item_again (ltb 2 extra) moment_at MomentThen moment_exact t.later6 m.provenance rest t.provenance,

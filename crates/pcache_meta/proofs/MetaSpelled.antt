@@ -63,8 +63,8 @@ moment_some m = simp length-append (omega (arith, array_some 2, number_some (m /
 old_then : (m : OldInternal) → IsOldInternal m → OldInternalThen (old_written m) m []
 unfolding old_written
 old_then m is =
-    let r4 : List ℕ = number_written m.stale_if_error ++ [] in
-    let r3 : List ℕ = number_written m.stale_while_revalidate ++ r4 in
+    let r4 : List ℕ = number_written m.stale_if_error_sec ++ [] in
+    let r3 : List ℕ = number_written m.stale_while_revalidate_sec ++ r4 in
     let r2 : List ℕ = moment_written m.created ++ r3 in
     let regrouped : old_written m ≡ moment_written m.fresh_until ++ r2 = simp (append_assoc, append-nil) in
     rw regrouped (record {
@@ -74,10 +74,10 @@ old_then m is =
       created = moment_then m.created r3 is.created;
       windows = record {
         later = r4;
-        first = number_then m.stale_while_revalidate r4 (omega (arith, is.stale_while_revalidate));
-        first_fits = is.stale_while_revalidate;
-        second = number_then m.stale_if_error [] (omega (arith, is.stale_if_error));
-        second_fits = is.stale_if_error;
+        first = number_then m.stale_while_revalidate_sec r4 (omega (arith, is.stale_while_revalidate_sec));
+        first_fits = is.stale_while_revalidate_sec;
+        second = number_then m.stale_if_error_sec [] (omega (arith, is.stale_if_error_sec));
+        second_fits = is.stale_if_error_sec;
       };
     })
 
@@ -99,8 +99,8 @@ version1_long m =
       array_some 5,
       moment_some m.fresh_until,
       moment_some m.created,
-      number_some m.stale_while_revalidate,
-      number_some m.stale_if_error,
+      number_some m.stale_while_revalidate_sec,
+      number_some m.stale_if_error_sec,
     ))
 
 -- ---- version 2
@@ -124,8 +124,8 @@ internal_then m is =
     let r8 : List ℕ = last_written m.provenance ++ [] in
     let r7 : List ℕ = optional_written moment_written m.epoch_override ++ r8 in
     let r6 : List ℕ = optional_written hash_written m.variance ++ r7 in
-    let r5 : List ℕ = number_written m.stale_if_error ++ r6 in
-    let r4 : List ℕ = number_written m.stale_while_revalidate ++ r5 in
+    let r5 : List ℕ = number_written m.stale_if_error_sec ++ r6 in
+    let r4 : List ℕ = number_written m.stale_while_revalidate_sec ++ r5 in
     let r3 : List ℕ = moment_written m.updated ++ r4 in
     let r2 : List ℕ = moment_written m.created ++ r3 in
     let r1 : List ℕ = moment_written m.fresh_until ++ r2 in
@@ -141,10 +141,10 @@ internal_then m is =
       later4 = r6;
       windows = record {
         later = r5;
-        first = number_then m.stale_while_revalidate r5 (omega (arith, is.stale_while_revalidate));
-        first_fits = is.stale_while_revalidate;
-        second = number_then m.stale_if_error r6 (omega (arith, is.stale_if_error));
-        second_fits = is.stale_if_error;
+        first = number_then m.stale_while_revalidate_sec r5 (omega (arith, is.stale_while_revalidate_sec));
+        first_fits = is.stale_while_revalidate_sec;
+        second = number_then m.stale_if_error_sec r6 (omega (arith, is.stale_if_error_sec));
+        second_fits = is.stale_if_error_sec;
       };
       later5 = r7;
       variance = item_then (ltb 0 extra) HashThen r6 m.variance r7 first (optional_then hash_written HashThen IsHash hash_then m.variance r7 is.variance);

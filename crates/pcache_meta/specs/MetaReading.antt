@@ -24,7 +24,7 @@ old_internal_at bytes = do
   first ← number_below_at (2 ^ 32) created.1
   second ← number_below_at (2 ^ 32) first.1
   Some (
-    record { fresh_until = fresh.0; created = created.0; stale_while_revalidate = first.0; stale_if_error = second.0 },
+    record { fresh_until = fresh.0; created = created.0; stale_while_revalidate_sec = first.0; stale_if_error_sec = second.0 },
     second.1,
   )
 
@@ -50,8 +50,8 @@ new_internal_at extra bytes = do
       fresh_until = fresh.0;
       created = created.0;
       updated = updated.0;
-      stale_while_revalidate = first.0;
-      stale_if_error = second.0;
+      stale_while_revalidate_sec = first.0;
+      stale_if_error_sec = second.0;
       variance = variance.0;
       epoch_override = epoch.0;
       provenance = provenance.0;

@@ -30,7 +30,7 @@ pub record OldInternalThen (bytes : List ℕ) (m : OldInternal) (rest : List ℕ
   pub fresh_until : MomentThen bytes m.fresh_until later1
   pub later2 : List ℕ
   pub created : MomentThen later1 m.created later2
-  pub windows : WindowsThen later2 m.stale_while_revalidate m.stale_if_error rest
+  pub windows : WindowsThen later2 m.stale_while_revalidate_sec m.stale_if_error_sec rest
 
 -- an item that is there, as a value or nil, or that is left out and reads as nil
 abbrev pub ItemThen : {A : Type 0} → Bool → (List ℕ → A → List ℕ → Type 0) → List ℕ → Option A → List ℕ → Type 0
@@ -46,7 +46,7 @@ pub record NewInternalThen (extra : ℕ) (bytes : List ℕ) (m : Internal) (rest
   pub later3 : List ℕ
   pub updated : MomentThen later2 m.updated later3
   pub later4 : List ℕ
-  pub windows : WindowsThen later3 m.stale_while_revalidate m.stale_if_error later4
+  pub windows : WindowsThen later3 m.stale_while_revalidate_sec m.stale_if_error_sec later4
   pub later5 : List ℕ
   pub variance : ItemThen (nat_lt 0 extra) HashThen later4 m.variance later5
   pub later6 : List ℕ

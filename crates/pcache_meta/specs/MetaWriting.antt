@@ -19,12 +19,12 @@ last_written (Some m) = moment_written m
 unfoldable pub internal_written : Internal → List ℕ
 internal_written m =
     array_written (item_count m.provenance) ++ 2 ∷ [] ++ moment_written m.fresh_until ++ moment_written m.created ++ moment_written m.updated
-    ++ number_written m.stale_while_revalidate ++ number_written m.stale_if_error ++ optional_written hash_written m.variance
+    ++ number_written m.stale_while_revalidate_sec ++ number_written m.stale_if_error_sec ++ optional_written hash_written m.variance
     ++ optional_written moment_written m.epoch_override ++ last_written m.provenance
 
 -- versions 0 and 1, after the head and the version
 unfoldable pub old_written : OldInternal → List ℕ
-old_written m = moment_written m.fresh_until ++ moment_written m.created ++ number_written m.stale_while_revalidate ++ number_written m.stale_if_error
+old_written m = moment_written m.fresh_until ++ moment_written m.created ++ number_written m.stale_while_revalidate_sec ++ number_written m.stale_if_error_sec
 
 unfoldable pub version0_written : OldInternal → List ℕ
 version0_written m = array_written 4 ++ old_written m
@@ -38,8 +38,8 @@ pub record IsInternal (m : Internal) : Type 0 where
   pub fresh_until : IsMoment m.fresh_until
   pub created : IsMoment m.created
   pub updated : IsMoment m.updated
-  pub stale_while_revalidate : m.stale_while_revalidate < 2 ^ 32
-  pub stale_if_error : m.stale_if_error < 2 ^ 32
+  pub stale_while_revalidate_sec : m.stale_while_revalidate_sec < 2 ^ 32
+  pub stale_if_error_sec : m.stale_if_error_sec < 2 ^ 32
   pub variance : IfSome m.variance IsHash
   pub epoch_override : IfSome m.epoch_override IsMoment
   pub provenance : IfSome m.provenance IsMoment
@@ -47,5 +47,5 @@ pub record IsInternal (m : Internal) : Type 0 where
 pub record IsOldInternal (m : OldInternal) : Type 0 where
   pub fresh_until : IsMoment m.fresh_until
   pub created : IsMoment m.created
-  pub stale_while_revalidate : m.stale_while_revalidate < 2 ^ 32
-  pub stale_if_error : m.stale_if_error < 2 ^ 32
+  pub stale_while_revalidate_sec : m.stale_while_revalidate_sec < 2 ^ 32
+  pub stale_if_error_sec : m.stale_if_error_sec < 2 ^ 32

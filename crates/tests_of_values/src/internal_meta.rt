@@ -95,7 +95,6 @@ fn old(call: &'static str) -> InternalMetaV0 {
 
 fn next(call: &'static str) -> InternalMetaV1 {
     InternalMetaV1 {
-        version: InternalMetaV1::VERSION,
         fresh_until: at(call, 1),
         created: at(call, 2),
         stale_while_revalidate_sec: window(call, 3),
@@ -106,7 +105,6 @@ fn next(call: &'static str) -> InternalMetaV1 {
 // Fresh until, created, updated, and the two windows; sixteen times a byte of variance, the override and the provenance.
 fn meta(call: &'static str) -> InternalMetaV2 {
     InternalMetaV2 {
-        version: InternalMetaV2::VERSION,
         fresh_until: at(call, 1),
         created: at(call, 2),
         updated: at(call, 3),
@@ -119,7 +117,7 @@ fn meta(call: &'static str) -> InternalMetaV2 {
 }
 
 fn tell_meta(meta: &InternalMetaV2, told: &mut Told) {
-    told.number(u64::from(meta.version));
+    told.number(u64::from(InternalMetaV2::VERSION));
     told.say(":");
     tell_moment(told, meta.fresh_until);
     tell_moment(told, meta.created);

@@ -1,7 +1,7 @@
 //! Metas as bytes: what they say beside their header, in MessagePack, and the text of their header.
 ghost use Rattle.std.specs.Prelude.{◌≡◌, ◌≤◌, ◌<◌, ◌++◌, [], length, OnOk, OnErr, IfOk, IfErr, IfSome, IsErrOf, ◌⊎◌};
 ghost use Rattle.pcache_meta.specs.HeaderText.{header_written};
-ghost use Rattle.pcache_meta.specs.Internal.{Internal, internal_of, upgraded};
+ghost use Rattle.pcache_meta.specs.Internal.{Internal, upgraded};
 ghost use Rattle.pcache_meta.specs.Meta.{Meta};
 ghost use Rattle.pcache_meta.specs.MetaBytes.{AreMetaBytes, SpellsMeta};
 ghost use Rattle.pcache_meta.specs.MetaReading.{internal_at, item_at, moment_at, new_internal_at, old_internal_at, upgraded_at, versioned_at};
@@ -90,7 +90,6 @@ fn read_version1(reader: &mut Reader<'_>) -> Result<InternalMetaV1>
     let stale_while_revalidate_sec = reader.number_below(1 << 32)? as u32;
     let stale_if_error_sec = reader.number_below(1 << 32)? as u32;
     Ok(InternalMetaV1 {
-        version: InternalMetaV1::VERSION,
         fresh_until,
         created,
         stale_while_revalidate_sec,
@@ -112,7 +111,6 @@ fn read_version2(reader: &mut Reader<'_>, extra: u64) -> Result<InternalMetaV2>
     let epoch_override = read_moment_item(reader, 1 < extra)?;
     let provenance = read_moment_item(reader, 2 < extra)?;
     Ok(InternalMetaV2 {
-        version: InternalMetaV2::VERSION,
         fresh_until,
         created,
         updated,
@@ -252,14 +250,14 @@ fn put_old(
     ensures written { OnOk result (out.new.items ≡ out.old.items ++ old_written (record {
       fresh_until = fresh_until;
       created = created;
-      stale_while_revalidate = stale_while_revalidate_sec;
-      stale_if_error = stale_if_error_sec;
+      stale_while_revalidate_sec = stale_while_revalidate_sec;
+      stale_if_error_sec = stale_if_error_sec;
     })) }
     ensures range { OnOk result (IsOldInternal (record {
       fresh_until = fresh_until;
       created = created;
-      stale_while_revalidate = stale_while_revalidate_sec;
-      stale_if_error = stale_if_error_sec;
+      stale_while_revalidate_sec = stale_while_revalidate_sec;
+      stale_if_error_sec = stale_if_error_sec;
     })) }
     ensures kind { IfErr result (λ e. e ≡ OutOfMemory) }
 {
@@ -348,23 +346,12 @@ impl CacheMeta {
     /// The meta as two byte strings: what it says beside its header, in version 2, and the text of
     /// its header. Both read back as this meta. It is refused only when memory runs out.
     pub fn serialize(&self, alloc: Global) -> Result<(Vec<u8>, Vec<u8>)>
-        ensures written_internal { IfOk result (λ p. p.0.items ≡ internal_written (internal_of self.now)) }
+        ensures written_internal { IfOk result (λ p. p.0.items ≡ internal_written self.now.internal) }
         ensures written_header { IfOk result (λ p. p.1.items ≡ header_written self.now.header) }
         ensures spelled { IfOk result (λ p. SpellsMeta p.0.items p.1.items self.now) }
         ensures kind { IfErr result (λ e. e ≡ OutOfMemory) }
     {
-        let internal = InternalMetaV2 {
-            version: InternalMetaV2::VERSION,
-            fresh_until: self.fresh_until,
-            created: self.created,
-            updated: self.updated,
-            stale_while_revalidate_sec: self.stale_while_revalidate_sec,
-            stale_if_error_sec: self.stale_if_error_sec,
-            variance: self.variance,
-            epoch_override: self.epoch_override,
-            provenance: self.provenance,
-        };
-        let internal = internal.serialize(alloc)?;
+        let internal = self.internal.serialize(alloc)?;
         let header = header_serialize(alloc, &self.header)?;
         Ok((internal, header))
     }
@@ -382,16 +369,6 @@ impl CacheMeta {
     {
         let internal = deserialize_internal(internal)?;
         let header = header_deserialize(alloc, header)?;
-        Ok(CacheMeta {
-            fresh_until: internal.fresh_until,
-            created: internal.created,
-            updated: internal.updated,
-            stale_while_revalidate_sec: internal.stale_while_revalidate_sec,
-            stale_if_error_sec: internal.stale_if_error_sec,
-            variance: internal.variance,
-            epoch_override: internal.epoch_override,
-            provenance: internal.provenance,
-            header,
-        })
+        Ok(CacheMeta { internal, header })
     }
 }

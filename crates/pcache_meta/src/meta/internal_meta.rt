@@ -26,23 +26,21 @@ impl Model for InternalMetaV0 {
     ghost view = { λ m. record {
       fresh_until = m.fresh_until;
       created = m.created;
-      stale_while_revalidate = m.stale_while_revalidate_sec;
-      stale_if_error = m.stale_if_error_sec;
+      stale_while_revalidate_sec = m.stale_while_revalidate_sec;
+      stale_if_error_sec = m.stale_if_error_sec;
     } };
 
     ghost inverse = { λ m. record {
       fresh_until = m.fresh_until;
       created = m.created;
-      stale_while_revalidate_sec = m.stale_while_revalidate;
-      stale_if_error_sec = m.stale_if_error;
+      stale_while_revalidate_sec = m.stale_while_revalidate_sec;
+      stale_if_error_sec = m.stale_if_error_sec;
     } };
 }
 
 /// What a meta of version 1 says.
 #[derive(Clone, Copy, Debug, PartialEq, Eq)]
 pub struct InternalMetaV1 {
-    /// 1.
-    pub version: u8,
     pub fresh_until: Moment,
     pub created: Moment,
     pub stale_while_revalidate_sec: u32,
@@ -50,20 +48,23 @@ pub struct InternalMetaV1 {
 }
 
 impl Model for InternalMetaV1 {
-    ghost use Rattle.std.specs.Prelude.{◌≡◌};
     ghost use Rattle.pcache_meta.specs.Internal.{OldInternal};
 
     ghost Value = { OldInternal };
 
-    ghost use Rattle.pcache_meta.specs.InternalParts.{of_version1, says1, version1_comes_back};
+    ghost view = { λ m. record {
+      fresh_until = m.fresh_until;
+      created = m.created;
+      stale_while_revalidate_sec = m.stale_while_revalidate_sec;
+      stale_if_error_sec = m.stale_if_error_sec;
+    } };
 
-    ghost view = { says1 };
-
-    ghost invariant = { λ m. m.version ≡ 1 };
-
-    ghost inverse = { of_version1 };
-
-    ghost inverse_ok = { version1_comes_back };
+    ghost inverse = { λ m. record {
+      fresh_until = m.fresh_until;
+      created = m.created;
+      stale_while_revalidate_sec = m.stale_while_revalidate_sec;
+      stale_if_error_sec = m.stale_if_error_sec;
+    } };
 }
 
 impl InternalMetaV1 {
@@ -71,10 +72,10 @@ impl InternalMetaV1 {
 }
 
 /// What a meta of version 2 says, the one that is written.
+///
+/// That it is version 2 its type says, so no field does.
 #[derive(Clone, Copy, Debug, PartialEq, Eq)]
 pub struct InternalMetaV2 {
-    /// 2.
-    pub version: u8,
     pub fresh_until: Moment,
     pub created: Moment,
     pub updated: Moment,
@@ -83,23 +84,6 @@ pub struct InternalMetaV2 {
     pub variance: Option<HashBinary>,
     pub epoch_override: Option<Moment>,
     pub provenance: Option<Moment>,
-}
-
-impl Model for InternalMetaV2 {
-    ghost use Rattle.std.specs.Prelude.{◌≡◌};
-    ghost use Rattle.pcache_meta.specs.Internal.{Internal};
-
-    ghost Value = { Internal };
-
-    ghost use Rattle.pcache_meta.specs.InternalParts.{of_version2, says2, version2_comes_back};
-
-    ghost view = { says2 };
-
-    ghost invariant = { λ m. m.version ≡ 2 };
-
-    ghost inverse = { of_version2 };
-
-    ghost inverse_ok = { version2_comes_back };
 }
 
 impl InternalMetaV2 {
@@ -111,17 +95,12 @@ impl Default for InternalMetaV2 {
 
     /// Created, updated and stale at the epoch.
     fn default() -> InternalMetaV2 {
-        InternalMetaV2 {
-            version: InternalMetaV2::VERSION,
+        InternalMetaV2::from(InternalMetaV0 {
             fresh_until: Moment::EPOCH,
             created: Moment::EPOCH,
-            updated: Moment::EPOCH,
             stale_while_revalidate_sec: 0,
             stale_if_error_sec: 0,
-            variance: None,
-            epoch_override: None,
-            provenance: None,
-        }
+        })
     }
 }
 
@@ -131,7 +110,6 @@ impl From<InternalMetaV0> for InternalMetaV2 {
     /// Updated when it was created.
     fn from(v0: InternalMetaV0) -> InternalMetaV2 {
         InternalMetaV2 {
-            version: InternalMetaV2::VERSION,
             fresh_until: v0.fresh_until,
             created: v0.created,
             updated: v0.created,
@@ -149,16 +127,11 @@ impl From<InternalMetaV1> for InternalMetaV2 {
 
     /// Updated when it was created.
     fn from(v1: InternalMetaV1) -> InternalMetaV2 {
-        InternalMetaV2 {
-            version: InternalMetaV2::VERSION,
+        InternalMetaV2::from(InternalMetaV0 {
             fresh_until: v1.fresh_until,
             created: v1.created,
-            updated: v1.created,
             stale_while_revalidate_sec: v1.stale_while_revalidate_sec,
             stale_if_error_sec: v1.stale_if_error_sec,
-            variance: None,
-            epoch_override: None,
-            provenance: None,
-        }
+        })
     }
 }
