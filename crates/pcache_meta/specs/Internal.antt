@@ -2,10 +2,11 @@
 -- older versions (own).
 use Rattle.std.specs.Prelude.{ℕ, Some, None}
 use Rattle.pcache_meta.specs.declared.meta.internal_meta.InternalMetaV2.{InternalMetaV2}
+use Rattle.pcache_meta.specs.declared.meta.internal_meta.InternalMetaV3.{InternalMetaV3}
 
 -- what the latest version says
 abbrev pub Internal : Type 0
-Internal = InternalMetaV2
+Internal = InternalMetaV3
 
 -- what versions 0 and 1 say
 pub record OldInternal : Type 0 where
@@ -14,9 +15,9 @@ pub record OldInternal : Type 0 where
   pub stale_while_revalidate_sec : ℕ
   pub stale_if_error_sec : ℕ
 
--- an older version, as the latest says it: updated when it was created, and nothing of what came later
-abbrev pub upgraded : OldInternal → Internal
-upgraded old = record {
+-- versions 0 and 1, as version 2 says them: updated when it was created, and nothing of what came later
+abbrev pub in_version2 : OldInternal → InternalMetaV2
+in_version2 old = record {
   fresh_until = old.fresh_until;
   created = old.created;
   updated = old.created;
@@ -26,6 +27,24 @@ upgraded old = record {
   epoch_override = None;
   provenance = None;
 }
+
+-- version 2, as the latest says it: with no number
+abbrev pub of_version2 : InternalMetaV2 → Internal
+of_version2 m = record {
+  fresh_until = m.fresh_until;
+  created = m.created;
+  updated = m.updated;
+  stale_while_revalidate_sec = m.stale_while_revalidate_sec;
+  stale_if_error_sec = m.stale_if_error_sec;
+  variance = m.variance;
+  epoch_override = m.epoch_override;
+  provenance = m.provenance;
+  entry_id = None;
+}
+
+-- versions 0 and 1, as the latest says them
+abbrev pub upgraded : OldInternal → Internal
+upgraded old = of_version2 (in_version2 old)
 
 -- what is said of a response that is stored for the first time: its body was fetched when it was created
 abbrev pub first_said : ℕ → ℕ → ℕ → ℕ → Internal
@@ -37,6 +56,6 @@ first_said fresh_until created while_revalidate if_error =
       stale_if_error_sec = if_error;
     })) { provenance = Some created }
 
--- made, updated and stale at the epoch, with nothing more
-abbrev pub of_the_epoch : Internal
-of_the_epoch = upgraded (record { fresh_until = 0; created = 0; stale_while_revalidate_sec = 0; stale_if_error_sec = 0 })
+-- made and stale at the epoch
+abbrev pub of_the_epoch : OldInternal
+of_the_epoch = record { fresh_until = 0; created = 0; stale_while_revalidate_sec = 0; stale_if_error_sec = 0 }

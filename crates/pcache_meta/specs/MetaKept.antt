@@ -3,7 +3,7 @@ use Rattle.std.specs.Prelude.{◌≡◌, ℕ, List, [], Option, Some, unwrap_or}
 use Rattle.pcache_meta.specs.Header.{Header}
 use Rattle.pcache_meta.specs.HeaderReading.{header_at}
 use Rattle.pcache_meta.specs.HeaderText.{header_written}
-use Rattle.pcache_meta.specs.Internal.{of_the_epoch}
+use Rattle.pcache_meta.specs.Internal.{of_the_epoch, upgraded}
 use Rattle.pcache_meta.specs.Meta.{Meta}
 use Rattle.pcache_meta.specs.MetaBytes.{SpellsMeta}
 use Rattle.pcache_meta.specs.MetaReading.{internal_at}
@@ -24,7 +24,7 @@ no_header = record { version = Http11; status = 200; fields = [] }
 
 -- the meta that two byte strings spell
 unfoldable pub meta_of : List ℕ → List ℕ → Meta
-meta_of internal header = unwrap_or (meta_at internal header) (record { internal = of_the_epoch; header = no_header })
+meta_of internal header = unwrap_or (meta_at internal header) (record { internal = upgraded of_the_epoch; header = no_header })
 
 -- the two byte strings are those that are written of a meta, and they spell it
 pub record AreOf (m : Meta) (internal header : List ℕ) : Type 0 where

@@ -12,6 +12,7 @@ pub mod spelled;
 use crate::header::ResponseHeader;
 use crate::meta::internal_meta::{InternalMetaLatest, InternalMetaV0};
 use http_header::HeaderMap;
+use pcache_base::entry_id::CacheEntryId;
 use pcache_base::error::Result;
 use pcache_base::key::HashBinary;
 use pcache_base::moment::Moment;
@@ -93,6 +94,13 @@ impl CacheMeta {
         ensures { result ≡ provenance_of self.now }
     {
         self.internal.provenance.unwrap_or(self.internal.created)
+    }
+
+    /// The number of the write that stored the body, if it is known.
+    pub fn entry_id(&self) -> Option<CacheEntryId>
+        ensures { result ≡ self.now.entry_id }
+    {
+        self.internal.entry_id
     }
 
     /// Sets when the body was fetched.
