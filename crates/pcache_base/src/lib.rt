@@ -6,12 +6,14 @@
 //! - `poll`: answers of calls that might have to wait
 //! - `text`: owned text that contracts see as its bytes
 //! - `key`: cache keys and their hashes; `blake2b`: the hash that they use
+//! - `entry_id`: the number of an entry
 //! - `variance`: what a response varies by, as a hash
 //! - `reason`: why a response is not cached; `fills`: fills that a request cannot use
 //! - `trace`: spans of a trace, without effect
 //! - `seed`: the seed of hash tables under keys that outsiders choose
 
 pub mod blake2b;
+pub mod entry_id;
 pub mod error;
 pub mod fills;
 pub mod key;

@@ -8,6 +8,7 @@ use Rattle.http_header.specs.FieldValue.{FieldValue}
 use Rattle.http_header.specs.HeaderMap.{Entries, get_all}
 use Rattle.httpdate.specs.Date.{parse_secs}
 use Rattle.pcache_meta.specs.Header.{shown}
+use Rattle.pcache_meta.specs.Internal.{first_said}
 use Rattle.pcache_meta.specs.Meta.{Meta}
 use Rattle.pcache_meta.specs.declared.header.ResponseHeader.{ResponseHeader}
 use Rattle.pcache_control.specs.declared.cache_control.CacheControl.{CacheControl}
@@ -98,13 +99,6 @@ stored_header (Some cc) header = stripped cc header
 -- the meta of a response that is stored now
 abbrev pub new_meta : ℕ → ℕ → ℕ × ℕ → ResponseHeader → Meta
 new_meta now fresh_until windows header = record {
-  fresh_until = fresh_until;
-  created = now;
-  updated = now;
-  stale_while_revalidate = windows.0;
-  stale_if_error = windows.1;
-  variance = None;
-  epoch_override = None;
-  provenance = Some now;
+  internal = first_said fresh_until now windows.0 windows.1;
   header = shown header;
 }

@@ -17,7 +17,8 @@ pub mod sharded_lru;
 mod shards;
 pub mod simple_lru;
 
-pub use entry_key::{CacheEntryId, CacheEntryKey, CacheEntryKeyRef};
+pub use entry_key::{CacheEntryKey, CacheEntryKeyRef};
+pub use pcache_base::entry_id::CacheEntryId;
 
 /// Decides which entries leave a cache, by their weights and by how they are used.
 ///

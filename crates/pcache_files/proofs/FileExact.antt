@@ -1,5 +1,5 @@
 -- A file is read exactly when it is spelled.
-use Rattle.std.proofs.Common.{◌≡◌, ℕ, zero, suc, ◌<◌, false, eqb, List, [], ◌∷◌, ◌++◌, length, Option, Some, None, refl, sym, ap, subst, ◌∙◌, arith, inl, inr}
+use Rattle.std.proofs.Common.{◌≡◌, ℕ, zero, suc, eqb, List, [], ◌∷◌, length, Option, Some, None, refl, sym, ap, subst, ◌∙◌, inl, inr}
 use Rattle.std.specs.Prelude.{Result, Ok, Err, IfErr, IfOk, IsErrOf, ◌⊎◌}
 use Rattle.std.proofs.lemmas.Bool.{eqb-true}
 use Rattle.std.proofs.lemmas.List.{nil_from_length}
@@ -10,31 +10,13 @@ use Rattle.pcache_base.specs.declared.key.CompactCacheKey.{CompactCacheKey}
 use Rattle.pcache_evict.specs.declared.eviction.entry_key.CacheEntryKey.{CacheEntryKey}
 use Rattle.pcache_evict.specs.Entry.{entry_with}
 use Rattle.pcache_evict.specs.Recency.{Recency}
-use Rattle.pcache_meta.specs.Spelling.{NumberForm, number_limit, number_text, NumberThen, ArrayThen, TextThen, HashThen, OptionThen}
-use Rattle.pcache_meta.specs.Spelling as form
-use Rattle.pcache_meta.specs.Reading.{when, GivesOrWants, number_at, array_at, items_at, text_at, hash_at, optional_at, starts_with_nil}
-use Rattle.pcache_meta.proofs.Exact.{IsBytes, IsExact, after, after_rest, when_some, chosen, same_parts, number_takes, number_again, number_behind, array_takes, array_again, array_behind, items_takes, items_again, optional_takes, optional_again, optional_behind, hash_exact}
+use Rattle.pcache_meta.specs.Spelling.{NumberThen, ArrayThen, HashThen, OptionThen}
+use Rattle.pcache_meta.specs.Reading.{when, GivesOrWants, number_at, array_at, items_at, text_at, hash_at, optional_at}
+use Rattle.pcache_meta.proofs.Exact.{IsBytes, after, after_rest, when_some, chosen, same_parts, number_takes, number_again, number_behind, number_exact, array_takes, array_again, array_behind, items_takes, items_again, optional_takes, optional_again, optional_behind, hash_exact}
 use Rattle.pcache_meta.proofs.TextExact.{text_takes, text_again, text_behind}
 use Rattle.pcache_files.specs.FileReading.{key_items_at, only_at, pair_at, entry_at, node_at, nodes_at, file_at}
 use Rattle.pcache_files.specs.FileSpelling.{KeyItemsThen, KeyThen, EntryThen, NodeThen, NodesThen, SpellsFile}
 use Rattle.pcache_files.specs.FileSpelling as spell
-
--- ---- numbers, which never begin as nil does
-
-form_not_nil : (f : NumberForm) (n : ℕ) (rest : List ℕ) → n < number_limit f → starts_with_nil (number_text f n ++ rest) ≡ false
-form_not_nil form.short n rest lt = Prim.grind arith
-form_not_nil form.wide8 n rest lt = refl
-form_not_nil form.wide16 n rest lt = refl
-form_not_nil form.wide32 n rest lt = refl
-form_not_nil form.wide64 n rest lt = refl
-
-number_exact : IsExact number_at NumberThen
-number_exact = record {
-  takes = number_takes;
-  again = number_again;
-  behind = number_behind;
-  not_nil = λ bytes n rest t. ap starts_with_nil t.text ∙ form_not_nil t.form n rest t.fits;
-}
 
 -- ---- keys
 

@@ -225,6 +225,22 @@ pub record IsExact {A : Type 0} (read : List ℕ → Option (A × List ℕ)) (Th
   pub behind : (bytes : List ℕ) (x : A) (rest : List ℕ) → IsBytes bytes → Then bytes x rest → IsBytes rest
   pub not_nil : (bytes : List ℕ) (x : A) (rest : List ℕ) → Then bytes x rest → starts_with_nil bytes ≡ false
 
+-- numbers, which never begin as nil does
+number_not_nil : (f : NumberForm) (n : ℕ) (rest : List ℕ) → n < number_limit f → starts_with_nil (number_text f n ++ rest) ≡ false
+number_not_nil spell.short n rest lt = Prim.grind arith
+number_not_nil spell.wide8 n rest lt = refl
+number_not_nil spell.wide16 n rest lt = refl
+number_not_nil spell.wide32 n rest lt = refl
+number_not_nil spell.wide64 n rest lt = refl
+
+pub number_exact : IsExact number_at NumberThen
+number_exact = record {
+  takes = number_takes;
+  again = number_again;
+  behind = number_behind;
+  not_nil = λ bytes n rest t. ap starts_with_nil t.text ∙ number_not_nil t.form n rest t.fits;
+}
+
 pub same_parts : {A : Type 0} (Then : List ℕ → A → List ℕ → Type 0) (bytes : List ℕ) (a x : A) (b y : List ℕ)
     → ◌≡◌ {A = Option (A × List ℕ)} (Some (a, b)) (Some (x, y)) → Then bytes a b → Then bytes x y
 same_parts Then bytes a x b y e t =

@@ -1,5 +1,5 @@
 -- What a reader of a head returned, as its callers see it.
-use Rattle.std.proofs.Common.{◌≡◌, ℕ, List, Some, None, refl, sym, ◌∙◌}
+use Rattle.std.proofs.Common.{◌≡◌, ℕ, List, Some, refl, sym, ◌∙◌}
 use Rattle.std.proofs.lemmas.Option.{same_Some}
 use Rattle.pcache_meta.specs.Header.{Header}
 use Rattle.pcache_meta.specs.HeaderText.{SpellsHeader}

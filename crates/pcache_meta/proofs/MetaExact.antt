@@ -8,12 +8,12 @@ use Rattle.pcache_base.specs.declared.error.ErrorType.{ErrorType}
 use Rattle.pcache_base.specs.declared.error.ErrorType.TheVariants.{InternalError}
 use Rattle.pcache_base.specs.Moments.{nanos_of}
 use Rattle.pcache_meta.specs.Internal.{Internal, OldInternal, upgraded}
-use Rattle.pcache_meta.specs.Spelling.{ArrayThen, HashThen}
+use Rattle.pcache_meta.specs.Spelling.{NumberThen, ArrayThen, HashThen}
 use Rattle.pcache_meta.specs.MetaSpelling.{MomentThen, WindowsThen, OldInternalThen, ItemThen, NewInternalThen, InternalThen, SpellsInternal}
 use Rattle.pcache_meta.specs.MetaSpelling as spell
 use Rattle.pcache_meta.specs.Reading.{when, Gives, number_at, number_below_at, array_at, items_at, hash_at, mark_at}
 use Rattle.pcache_meta.specs.MetaReading.{moment_at, item_at, old_internal_at, upgraded_at, new_internal_at, versioned_at, internal_at}
-use Rattle.pcache_meta.proofs.Exact.{IsBytes, IsBytes-rest, after, after_rest, when_some, chosen, same_parts, number_takes, number_again, number_behind, array_takes, array_again, array_behind, array_not_nil, items_takes, items_again, number_below_takes, number_below_again, IsExact, optional_takes, optional_again, optional_behind, hash_exact, mark_takes, mark_again}
+use Rattle.pcache_meta.proofs.Exact.{IsBytes, IsBytes-rest, after, after_rest, when_some, chosen, same_parts, number_takes, number_again, number_behind, number_exact, array_takes, array_again, array_behind, array_not_nil, items_takes, items_again, number_below_takes, number_below_again, IsExact, optional_takes, optional_again, optional_behind, hash_exact, mark_takes, mark_again}
 
 -- ---- moments
 
@@ -107,11 +107,11 @@ old_again bytes m rest t =
     rw (
       moment_exact.again bytes m.fresh_until t.later1 t.fresh_until,
       moment_exact.again t.later1 m.created t.later2 t.created,
-      number_below_again (2 ^ 32) t.later2 m.stale_while_revalidate w.later w.first w.first_fits,
-      number_below_again (2 ^ 32) w.later m.stale_if_error rest w.second w.second_fits,
+      number_below_again (2 ^ 32) t.later2 m.stale_while_revalidate_sec w.later w.first w.first_fits,
+      number_below_again (2 ^ 32) w.later m.stale_if_error_sec rest w.second w.second_fits,
     ) refl
 
--- an old version as it is read: what it says, and what version 2 makes of that
+-- an old version as it is read: what it says, and what the latest version makes of that
 upgraded_takes : {P : Type 0} (bytes : List ℕ) (m : Internal) (rest : List ℕ) → IsBytes bytes → upgraded_at bytes ≡ Some (m, rest)
     → ((old : OldInternal) → m ≡ upgraded old → OldInternalThen bytes old rest → P) → P
 unfolding upgraded_at
@@ -124,7 +124,7 @@ upgraded_again : (bytes : List ℕ) (old : OldInternal) (m : Internal) (rest : L
 unfolding upgraded_at
 upgraded_again bytes old m rest is t = rw (old_again bytes old rest t, is) refl
 
--- ---- version 2
+-- ---- versions 2 and 3
 
 new_takes : (extra : ℕ) (bytes : List ℕ) (m : Internal) (rest : List ℕ) → IsBytes bytes → new_internal_at extra bytes ≡ Some (m, rest) → NewInternalThen extra bytes m rest
 unfolding new_internal_at
@@ -149,9 +149,12 @@ new_takes extra bytes m rest fits e = after (moment_at bytes) _ (m, rest) e (λ 
     after (item_at (ltb 1 extra) moment_at r6) _ (m, rest) go (λ epoch r7 read7 go.
     let t7 = item_takes (ltb 1 extra) moment_at MomentThen moment_exact r6 epoch r7 f6 read7 in
     let f7 = item_behind (ltb 1 extra) moment_at MomentThen moment_exact r6 epoch r7 f6 t7 in
-    after (item_at (ltb 2 extra) moment_at r7) _ (m, rest) go (λ provenance r8 read8 end.
+    after (item_at (ltb 2 extra) moment_at r7) _ (m, rest) go (λ provenance r8 read8 go.
     let t8 = item_takes (ltb 2 extra) moment_at MomentThen moment_exact r7 provenance r8 f7 read8 in
-    same_parts (NewInternalThen extra) bytes _ m r8 rest end (record {
+    let f8 = item_behind (ltb 2 extra) moment_at MomentThen moment_exact r7 provenance r8 f7 t8 in
+    after (item_at (ltb 3 extra) number_at r8) _ (m, rest) go (λ number r9 read9 end.
+    let t9 = item_takes (ltb 3 extra) number_at NumberThen number_exact r8 number r9 f8 read9 in
+    same_parts (NewInternalThen extra) bytes _ m r9 rest end (record {
       later1 = r1;
       fresh_until = t1;
       later2 = r2;
@@ -164,8 +167,10 @@ new_takes extra bytes m rest fits e = after (moment_at bytes) _ (m, rest) e (λ 
       variance = t6;
       later6 = r7;
       epoch_override = t7;
+      later7 = r8;
       provenance = t8;
-    })))))))))
+      entry_id = t9;
+    }))))))))))
 
 new_again : (extra : ℕ) (bytes : List ℕ) (m : Internal) (rest : List ℕ) → NewInternalThen extra bytes m rest → new_internal_at extra bytes ≡ Some (m, rest)
 unfolding new_internal_at
@@ -175,11 +180,12 @@ new_again extra bytes m rest t =
       moment_exact.again bytes m.fresh_until t.later1 t.fresh_until,
       moment_exact.again t.later1 m.created t.later2 t.created,
       moment_exact.again t.later2 m.updated t.later3 t.updated,
-      number_below_again (2 ^ 32) t.later3 m.stale_while_revalidate w.later w.first w.first_fits,
-      number_below_again (2 ^ 32) w.later m.stale_if_error t.later4 w.second w.second_fits,
+      number_below_again (2 ^ 32) t.later3 m.stale_while_revalidate_sec w.later w.first w.first_fits,
+      number_below_again (2 ^ 32) w.later m.stale_if_error_sec t.later4 w.second w.second_fits,
       item_again (ltb 0 extra) hash_at HashThen hash_exact t.later4 m.variance t.later5 t.variance,
       item_again (ltb 1 extra) moment_at MomentThen moment_exact t.later5 m.epoch_override t.later6 t.epoch_override,
-      item_again (ltb 2 extra) moment_at MomentThen moment_exact t.later6 m.provenance rest t.provenance,
+      item_again (ltb 2 extra) moment_at MomentThen moment_exact t.later6 m.provenance t.later7 t.provenance,
+      item_again (ltb 3 extra) number_at NumberThen number_exact t.later7 m.entry_id rest t.entry_id,
     ) refl
 
 -- ---- any version
@@ -196,16 +202,22 @@ versioned_takes count bytes items m rest fits head e = elim (chosen (eqb count 4
         let five : count ≡ 5 = eqb-true _ _ q.0 in
         let begins = mark_takes 1 items r mark in
         upgraded_takes r m rest (IsBytes-rest 1 r (rw (← begins) fits)) go (λ old is there. spell.version1 old r is (rw (← five, ← begins) head) there))
-    | inr q ↦ elim (chosen (ltb count 6) _ _ _ q.1) [
-      | inl r ↦ absurd (cc r.1)
-      | inr r ↦ elim (chosen (ltb 9 count) _ _ _ r.1) [
-        | inl s ↦ absurd (cc s.1)
-        | inr s ↦ after_rest (mark_at 2 items) _ (m, rest) s.1 (λ k mark go.
-            let low : 6 ≤ count = ltb-false _ _ r.0 in
-            let high : count ≤ 9 = ltb-false _ _ s.0 in
-            let sum : 6 + (count - 6) ≡ count = omega arith in
-            let begins = mark_takes 2 items k mark in
-            spell.version2 (count - 6) k (omega arith) (rw (sum, ← begins) head) (new_takes (count - 6) k m rest (IsBytes-rest 2 k (rw (← begins) fits)) go))
+    | inr q ↦ elim (chosen (eqb count 10) _ _ _ q.1) [
+      | inl t ↦ after_rest (mark_at 3 items) _ (m, rest) t.1 (λ k mark go.
+          let ten : count ≡ 10 = eqb-true _ _ t.0 in
+          let begins = mark_takes 3 items k mark in
+          spell.version3 k (rw (← ten, ← begins) head) (new_takes 4 k m rest (IsBytes-rest 3 k (rw (← begins) fits)) go))
+      | inr t ↦ elim (chosen (ltb count 6) _ _ _ t.1) [
+        | inl r ↦ absurd (cc r.1)
+        | inr r ↦ elim (chosen (ltb 9 count) _ _ _ r.1) [
+          | inl s ↦ absurd (cc s.1)
+          | inr s ↦ after_rest (mark_at 2 items) _ (m, rest) s.1 (λ k mark go.
+              let low : 6 ≤ count = ltb-false _ _ r.0 in
+              let high : count ≤ 9 = ltb-false _ _ s.0 in
+              let sum : 6 + (count - 6) ≡ count = omega arith in
+              let begins = mark_takes 2 items k mark in
+              spell.version2 (count - 6) k (omega arith) (rw (sum, ← begins) head) (new_takes (count - 6) k m rest (IsBytes-rest 2 k (rw (← begins) fits)) go))
+        ]
       ]
     ]
   ]
@@ -236,14 +248,17 @@ versioned_again bytes m rest (spell.version1 old items is head t) =
 versioned_again bytes m rest (spell.version2 extra items few head t) =
     let not4 : eqb (6 + extra) 4 ≡ false = Prim.grind arith in
     let not5 : eqb (6 + extra) 5 ≡ false = Prim.grind arith in
+    let not10 : eqb (6 + extra) 10 ≡ false = Prim.grind (arith, few) in
     let low : ltb (6 + extra) 6 ≡ false = le-ltb _ _ (omega arith) in
     let high : ltb 9 (6 + extra) ≡ false = le-ltb _ _ (omega arith) in
     let same : 6 + extra - 6 ≡ extra = omega arith in (
       6 + extra,
       2 ∷ items,
       array_again bytes (6 + extra) (2 ∷ items) head,
-      rw (not4, not5, low, high, mark_again 2 items, same) (new_again extra items m rest t),
+      rw (not4, not5, not10, low, high, mark_again 2 items, same) (new_again extra items m rest t),
     )
+versioned_again bytes m rest (spell.version3 items head t) =
+    (10, 3 ∷ items, array_again bytes 10 (3 ∷ items) head, rw (mark_again 3 items) (new_again 4 items m rest t))
 
 -- what is spelled so is read
 pub internal_again : (bytes : List ℕ) (m : Internal) → SpellsInternal bytes m → internal_at bytes ≡ Some m

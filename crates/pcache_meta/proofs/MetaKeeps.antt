@@ -1,7 +1,6 @@
 -- Two byte strings that spell a meta are seen as that meta.
 use Rattle.std.proofs.Common.{◌≡◌, ℕ, List, ap, refl, inl, inr}
 use Rattle.std.specs.Prelude.{Result, Ok, Err, IfErr, IsErrOf, ◌⊎◌}
-use Rattle.pcache_meta.specs.Internal.{internal_of}
 use Rattle.pcache_meta.specs.Meta.{Meta}
 use Rattle.pcache_meta.specs.MetaBytes.{SpellsMeta}
 use Rattle.pcache_meta.specs.MetaKept.{meta_at, meta_of, AreOf}
@@ -13,7 +12,7 @@ use Rattle.pcache_meta.proofs.MetaExact.{internal_again}
 -- what spells a meta is read as that meta
 pub meta_again : (internal header : List ℕ) (m : Meta) → SpellsMeta internal header m → meta_of internal header ≡ m
 unfolding meta_at meta_of
-meta_again internal header m spelled = rw (internal_again internal (internal_of m) spelled.0, header_again header m.header spelled.1) refl
+meta_again internal header m spelled = rw (internal_again internal m.internal spelled.0, header_again header m.header spelled.1) refl
 
 -- the strings that are written of a meta, kept
 pub kept_of : (m : Meta) (internal header : List ℕ) → AreOf m internal header → AreOf (meta_of internal header) internal header

@@ -1,16 +1,17 @@
 -- What is written of a meta beside its head is spelled so.
-use Rattle.std.proofs.Common.{◌≡◌, ℕ, ◌+◌, ◌/◌, ◌%◌, ◌<◌, ◌≤◌, Bool, true, false, ltb, List, [], ◌∷◌, ◌++◌, length, Option, Some, None, refl, append_assoc, arith, length-append}
+use Rattle.std.proofs.Common.{◌≡◌, ℕ, ◌+◌, ◌/◌, ◌%◌, ◌^◌, ◌<◌, ◌≤◌, Bool, true, false, ltb, List, [], ◌∷◌, ◌++◌, length, Option, Some, None, refl, subst, append_assoc, arith, length-append}
 use Rattle.std.specs.Prelude.{IfSome, IfOk, OnOk, Result, Ok, Err}
 use Rattle.std.specs.Global.{Vec}
 use Rattle.std.proofs.lemmas.List.{append-nil}
 use Rattle.pcache_base.specs.Moments.{IsMoment}
-use Rattle.pcache_meta.specs.Internal.{Internal, OldInternal, upgraded}
-use Rattle.pcache_meta.specs.Spelling.{NumberForm, number_text, ArrayForm, array_text, OptionThen, HashThen}
+use Rattle.pcache_meta.specs.Internal.{Internal, OldInternal, of_version2, upgraded}
+use Rattle.pcache_meta.specs.declared.meta.internal_meta.InternalMetaV2.{InternalMetaV2}
+use Rattle.pcache_meta.specs.Spelling.{NumberForm, number_text, ArrayForm, array_text, NumberThen, OptionThen, HashThen}
 use Rattle.pcache_meta.specs.Spelling as form
 use Rattle.pcache_meta.specs.MetaSpelling.{MomentThen, OldInternalThen, ItemThen, NewInternalThen, InternalThen, SpellsInternal}
 use Rattle.pcache_meta.specs.MetaSpelling as spell
 use Rattle.pcache_meta.specs.Writing.{shortest_number, number_written, shortest_array, array_written, hash_written, optional_written, IsHash}
-use Rattle.pcache_meta.specs.MetaWriting.{moment_written, item_count, last_written, internal_written, old_written, version0_written, version1_written, IsInternal, IsOldInternal}
+use Rattle.pcache_meta.specs.MetaWriting.{moment_written, items_written, item_count, last_written, internal_written, old_written, version0_written, version1_written, version2_written, AreItems, IsInternal, IsOldInternal}
 use Rattle.pcache_meta.proofs.Spelled.{number_then, array_then, hash_then, optional_then}
 
 -- ---- moments
@@ -63,8 +64,8 @@ moment_some m = simp length-append (omega (arith, array_some 2, number_some (m /
 old_then : (m : OldInternal) → IsOldInternal m → OldInternalThen (old_written m) m []
 unfolding old_written
 old_then m is =
-    let r4 : List ℕ = number_written m.stale_if_error ++ [] in
-    let r3 : List ℕ = number_written m.stale_while_revalidate ++ r4 in
+    let r4 : List ℕ = number_written m.stale_if_error_sec ++ [] in
+    let r3 : List ℕ = number_written m.stale_while_revalidate_sec ++ r4 in
     let r2 : List ℕ = moment_written m.created ++ r3 in
     let regrouped : old_written m ≡ moment_written m.fresh_until ++ r2 = simp (append_assoc, append-nil) in
     rw regrouped (record {
@@ -74,10 +75,10 @@ old_then m is =
       created = moment_then m.created r3 is.created;
       windows = record {
         later = r4;
-        first = number_then m.stale_while_revalidate r4 (omega (arith, is.stale_while_revalidate));
-        first_fits = is.stale_while_revalidate;
-        second = number_then m.stale_if_error [] (omega (arith, is.stale_if_error));
-        second_fits = is.stale_if_error;
+        first = number_then m.stale_while_revalidate_sec r4 (omega (arith, is.stale_while_revalidate_sec));
+        first_fits = is.stale_while_revalidate_sec;
+        second = number_then m.stale_if_error_sec [] (omega (arith, is.stale_if_error_sec));
+        second_fits = is.stale_if_error_sec;
       };
     })
 
@@ -99,18 +100,11 @@ version1_long m =
       array_some 5,
       moment_some m.fresh_until,
       moment_some m.created,
-      number_some m.stale_while_revalidate,
-      number_some m.stale_if_error,
+      number_some m.stale_while_revalidate_sec,
+      number_some m.stale_if_error_sec,
     ))
 
--- ---- version 2
-
--- the last item, or none
-last_then : (o : Option ℕ) (rest : List ℕ) → IfSome o IsMoment
-    → (extra : ℕ) × (item_count o ≡ 6 + extra) × (extra ≤ 3) × (ltb 0 extra ≡ true) × (ltb 1 extra ≡ true) × ItemThen (ltb 2 extra) MomentThen (last_written o ++ rest) o rest
-unfolding last_written
-last_then None rest is = (2, refl, omega arith, refl, refl, (refl, refl))
-last_then (Some m) rest is = (3, refl, omega arith, refl, refl, moment_then m rest is)
+-- ---- versions 2 and 3
 
 -- an item that is there
 item_then : {A : Type 0} (present : Bool) (Then : List ℕ → A → List ℕ → Type 0) (bytes : List ℕ) (o : Option A) (rest : List ℕ)
@@ -118,20 +112,20 @@ item_then : {A : Type 0} (present : Bool) (Then : List ℕ → A → List ℕ �
 item_then true Then bytes o rest e t = t
 item_then false Then bytes o rest e t = absurd cc
 
-internal_then : (m : Internal) → IsInternal m → InternalThen (internal_written m) m []
-unfolding internal_written
-internal_then m is =
-    let r8 : List ℕ = last_written m.provenance ++ [] in
-    let r7 : List ℕ = optional_written moment_written m.epoch_override ++ r8 in
+-- the items that both have, and the last ones in any form
+items_then : (extra : ℕ) (m : Internal) (last after : List ℕ) → AreItems m → ltb 0 extra ≡ true → ltb 1 extra ≡ true
+    → ItemThen (ltb 2 extra) MomentThen last m.provenance after → ItemThen (ltb 3 extra) NumberThen after m.entry_id []
+    → NewInternalThen extra (items_written m ++ last) m []
+unfolding items_written
+items_then extra m last after is first second provenance number =
+    let r7 : List ℕ = optional_written moment_written m.epoch_override ++ last in
     let r6 : List ℕ = optional_written hash_written m.variance ++ r7 in
-    let r5 : List ℕ = number_written m.stale_if_error ++ r6 in
-    let r4 : List ℕ = number_written m.stale_while_revalidate ++ r5 in
+    let r5 : List ℕ = number_written m.stale_if_error_sec ++ r6 in
+    let r4 : List ℕ = number_written m.stale_while_revalidate_sec ++ r5 in
     let r3 : List ℕ = moment_written m.updated ++ r4 in
     let r2 : List ℕ = moment_written m.created ++ r3 in
-    let r1 : List ℕ = moment_written m.fresh_until ++ r2 in
-    let regrouped : internal_written m ≡ array_written (item_count m.provenance) ++ (2 ∷ r1) = simp (append_assoc, append-nil) in
-    let (extra, count, few, first, second, last) = last_then m.provenance [] is.provenance in
-    rw (regrouped, count) (spell.version2 extra r1 few (array_then (6 + extra) (2 ∷ r1) (omega arith)) (record {
+    let regrouped : items_written m ++ last ≡ moment_written m.fresh_until ++ r2 = simp append_assoc in
+    rw regrouped (record {
       later1 = r2;
       fresh_until = moment_then m.fresh_until r2 is.fresh_until;
       later2 = r3;
@@ -141,23 +135,70 @@ internal_then m is =
       later4 = r6;
       windows = record {
         later = r5;
-        first = number_then m.stale_while_revalidate r5 (omega (arith, is.stale_while_revalidate));
-        first_fits = is.stale_while_revalidate;
-        second = number_then m.stale_if_error r6 (omega (arith, is.stale_if_error));
-        second_fits = is.stale_if_error;
+        first = number_then m.stale_while_revalidate_sec r5 (omega (arith, is.stale_while_revalidate_sec));
+        first_fits = is.stale_while_revalidate_sec;
+        second = number_then m.stale_if_error_sec r6 (omega (arith, is.stale_if_error_sec));
+        second_fits = is.stale_if_error_sec;
       };
       later5 = r7;
       variance = item_then (ltb 0 extra) HashThen r6 m.variance r7 first (optional_then hash_written HashThen IsHash hash_then m.variance r7 is.variance);
-      later6 = r8;
+      later6 = last;
       epoch_override =
-          item_then (ltb 1 extra) MomentThen r7 m.epoch_override r8 second (optional_then moment_written MomentThen IsMoment moment_then m.epoch_override r8 is.epoch_override);
-      provenance = last;
-    }))
+          item_then (ltb 1 extra) MomentThen r7 m.epoch_override last second (optional_then moment_written MomentThen IsMoment moment_then m.epoch_override last is.epoch_override);
+      later7 = after;
+      provenance = provenance;
+      entry_id = number;
+    })
+
+-- they are nine bytes at least
+items_long : (m : Internal) → 9 ≤ length (items_written m)
+unfolding items_written
+items_long m = simp length-append (omega (arith, moment_some m.fresh_until, moment_some m.created, moment_some m.updated))
+
+internal_then : (m : Internal) → IsInternal m → InternalThen (internal_written m) m []
+unfolding internal_written
+internal_then m is =
+    let last : List ℕ = optional_written number_written m.entry_id ++ [] in
+    let r8 : List ℕ = optional_written moment_written m.provenance ++ last in
+    let regrouped : internal_written m ≡ array_written 10 ++ (3 ∷ (items_written m ++ r8)) = simp (append_assoc, append-nil) in
+    rw regrouped (
+    spell.version3 (items_written m ++ r8) (array_then 10 (3 ∷ (items_written m ++ r8)) (omega arith)) (
+    items_then 4 m r8 last is.items refl refl (optional_then moment_written MomentThen IsMoment moment_then m.provenance last is.provenance)
+    (optional_then number_written NumberThen (λ n. n < 2 ^ 64) number_then m.entry_id [] is.entry_id)
+    )
+    )
 
 internal_long : (m : Internal) → 10 ≤ length (internal_written m)
 unfolding internal_written
-internal_long m =
-    simp length-append (omega (arith, array_some (item_count m.provenance), moment_some m.fresh_until, moment_some m.created, moment_some m.updated))
+internal_long m = simp length-append (omega (arith, array_some 10, items_long m))
+
+-- the last item of version 2, or none
+last_then : (o : Option ℕ) → IfSome o IsMoment
+    → (extra : ℕ) × (item_count o ≡ 6 + extra) × (extra ≤ 3) × (ltb 0 extra ≡ true) × (ltb 1 extra ≡ true) × (ltb 3 extra ≡ false)
+    × ItemThen (ltb 2 extra) MomentThen (last_written o) o []
+unfolding last_written
+last_then None is = (2, refl, omega arith, refl, refl, refl, (refl, refl))
+last_then (Some m) is = (3, refl, omega arith, refl, refl, refl, subst (λ bytes. MomentThen bytes m []) (append-nil (moment_written m)) (moment_then m [] is))
+
+-- an item that is left out
+no_item : (present : Bool) (bytes : List ℕ) → present ≡ false → ItemThen present NumberThen bytes None bytes
+no_item true bytes e = absurd cc
+no_item false bytes e = (refl, refl)
+
+version2_then : (m : InternalMetaV2) → AreItems (of_version2 m) → IfSome m.provenance IsMoment → InternalThen (version2_written m) (of_version2 m) []
+unfolding version2_written
+version2_then m is last_is =
+    let r8 : List ℕ = last_written m.provenance in
+    let items : List ℕ = items_written (of_version2 m) ++ r8 in
+    let regrouped : version2_written m ≡ array_written (item_count m.provenance) ++ (2 ∷ items) = simp append_assoc in
+    let (extra, count, few, first, second, fourth, last) = last_then m.provenance last_is in
+    rw (regrouped, count) (
+    spell.version2 extra items few (array_then (6 + extra) (2 ∷ items) (omega arith)) (items_then extra (of_version2 m) r8 [] is first second last (no_item (ltb 3 extra) [] fourth))
+    )
+
+version2_long : (m : InternalMetaV2) → 10 ≤ length (version2_written m)
+unfolding version2_written
+version2_long m = simp length-append (omega (arith, array_some (item_count m.provenance), items_long (of_version2 m)))
 
 -- ---- the same of what a writer of the code returned
 
@@ -170,6 +211,11 @@ pub spelled_version1 : {E : Type 0} (r : Result (Vec ℕ) E) (m : OldInternal) �
     → IfOk r (λ v. SpellsInternal v.items (upgraded m))
 spelled_version1 (Ok v) m written is = rw written (version1_long m, version1_then m is)
 spelled_version1 (Err e) m written is = tt
+
+pub spelled_version2 : {E : Type 0} (r : Result (Vec ℕ) E) (m : InternalMetaV2) → IfOk r (λ v. v.items ≡ version2_written m) → OnOk r (AreItems (of_version2 m))
+    → OnOk r (IfSome m.provenance IsMoment) → IfOk r (λ v. SpellsInternal v.items (of_version2 m))
+spelled_version2 (Ok v) m written is last = rw written (version2_long m, version2_then m is last)
+spelled_version2 (Err e) m written is last = tt
 
 pub spelled_internal : {E : Type 0} (r : Result (Vec ℕ) E) (m : Internal) → IfOk r (λ v. v.items ≡ internal_written m) → OnOk r (IsInternal m)
     → IfOk r (λ v. SpellsInternal v.items m)

@@ -3,7 +3,6 @@ pub mod HeaderForm
 pub mod HeaderReading
 pub mod HeaderText
 pub mod Internal
-pub mod InternalParts
 pub mod Meta
 pub mod MetaBytes
 pub mod MetaKept

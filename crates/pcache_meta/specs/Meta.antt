@@ -1,21 +1,18 @@
--- What a contract sees of a `CacheMeta` (moments are nanoseconds since the epoch, windows are seconds), and what may be
--- asked of it (RFC 9111 section 4.2; the epoch override is own).
-use Rattle.std.specs.Prelude.{ℕ, ◌≢◌, ◌+◌, ◌-◌, ◌*◌, ◌/◌, ◌≤◌, ◌⊎◌, List, Option, unwrap_or, min}
+-- What a contract sees of a `CacheMeta`: what it says beside its head, each field of which is one of the meta, and its
+-- head; and what may be asked of it (RFC 9111 section 4.2; the epoch override is own).
+use Rattle.std.specs.Prelude.{ℕ, ◌≢◌, ◌+◌, ◌-◌, ◌*◌, ◌/◌, ◌≤◌, ◌⊎◌, unwrap_or, min}
 use Rattle.pcache_meta.specs.Header.{Header}
+use Rattle.pcache_meta.specs.Internal.{Internal}
 use Rattle.pcache_base.specs.Moments.{IsMoment}
 
 pub record Meta : Type 0 where
-  -- until when the response is fresh
-  pub fresh_until : ℕ
-  pub created : ℕ
-  pub updated : ℕ
-  -- for how long a stale response may be served while it is revalidated, and after an error
-  pub stale_while_revalidate : ℕ
-  pub stale_if_error : ℕ
-  pub variance : Option (List ℕ)
-  pub epoch_override : Option ℕ
-  pub provenance : Option ℕ
+  pub internal : Internal
+  pub open internal use *
   pub header : Header
+
+-- the meta with something else said beside its head
+abbrev pub internal_changed : (Internal → Internal) → Meta → Meta
+internal_changed change m = record m { internal = change m.internal }
 
 -- the moment from which ages count
 abbrev pub epoch_of : Meta → ℕ
@@ -34,4 +31,4 @@ MayServeStale fresh_until window t = (window ≢ 0) × ((t ≤ fresh_until + win
 
 -- the meta expired at t: the earlier of two ends of freshness, with both windows as before
 abbrev pub expired_at : ℕ → Meta → Meta
-expired_at t m = record m { fresh_until = min m.fresh_until t }
+expired_at t = internal_changed (λ x. record x { fresh_until = min x.fresh_until t })

@@ -24,17 +24,17 @@ old_internal_at bytes = do
   first ← number_below_at (2 ^ 32) created.1
   second ← number_below_at (2 ^ 32) first.1
   Some (
-    record { fresh_until = fresh.0; created = created.0; stale_while_revalidate = first.0; stale_if_error = second.0 },
+    record { fresh_until = fresh.0; created = created.0; stale_while_revalidate_sec = first.0; stale_if_error_sec = second.0 },
     second.1,
   )
 
--- the same, as version 2 says it
+-- the same, as the latest version says it
 unfoldable pub upgraded_at : List ℕ → Option (Internal × List ℕ)
 upgraded_at bytes = do
   old ← old_internal_at bytes
   Some (upgraded old.0, old.1)
 
--- version 2, after the head and the version
+-- versions 2 and 3, after the head and the version
 unfoldable pub new_internal_at : ℕ → List ℕ → Option (Internal × List ℕ)
 new_internal_at extra bytes = do
   fresh ← moment_at bytes
@@ -45,18 +45,20 @@ new_internal_at extra bytes = do
   variance ← item_at (nat_lt 0 extra) hash_at second.1
   epoch ← item_at (nat_lt 1 extra) moment_at variance.1
   provenance ← item_at (nat_lt 2 extra) moment_at epoch.1
+  number ← item_at (nat_lt 3 extra) number_at provenance.1
   Some (
     record {
       fresh_until = fresh.0;
       created = created.0;
       updated = updated.0;
-      stale_while_revalidate = first.0;
-      stale_if_error = second.0;
+      stale_while_revalidate_sec = first.0;
+      stale_if_error_sec = second.0;
       variance = variance.0;
       epoch_override = epoch.0;
       provenance = provenance.0;
+      entry_id = number.0;
     },
-    provenance.1,
+    number.1,
   )
 
 -- the version that the number of items tells
@@ -64,6 +66,7 @@ unfoldable pub versioned_at : ℕ → List ℕ → Option (Internal × List ℕ)
 versioned_at count bytes =
     if count == 4 then upgraded_at bytes
     else if count == 5 then (mark_at 1 bytes >>= upgraded_at)
+    else if count == 10 then (mark_at 3 bytes >>= new_internal_at 4)
     else if nat_lt count 6 then None
     else if nat_lt 9 count then None
     else (mark_at 2 bytes >>= new_internal_at (count - 6))

@@ -10,7 +10,9 @@ pub mod internal_meta;
 pub mod spelled;
 
 use crate::header::ResponseHeader;
+use crate::meta::internal_meta::{InternalMetaLatest, InternalMetaV0};
 use http_header::HeaderMap;
+use pcache_base::entry_id::CacheEntryId;
 use pcache_base::error::Result;
 use pcache_base::key::HashBinary;
 use pcache_base::moment::Moment;
@@ -20,14 +22,7 @@ use std::time::Duration;
 /// What is known of a stored response.
 #[derive(Drop)]
 pub struct CacheMeta {
-    fresh_until: Moment,
-    created: Moment,
-    updated: Moment,
-    stale_while_revalidate_sec: u32,
-    stale_if_error_sec: u32,
-    variance: Option<HashBinary>,
-    epoch_override: Option<Moment>,
-    provenance: Option<Moment>,
+    internal: InternalMetaLatest,
     header: ResponseHeader,
 }
 
@@ -37,21 +32,12 @@ impl Model for CacheMeta {
 
     ghost Value = { Meta };
 
-    ghost view = { λ m. record {
-      fresh_until = m.fresh_until;
-      created = m.created;
-      updated = m.updated;
-      stale_while_revalidate = m.stale_while_revalidate_sec;
-      stale_if_error = m.stale_if_error_sec;
-      variance = m.variance;
-      epoch_override = m.epoch_override;
-      provenance = m.provenance;
-      header = shown m.header;
-    } };
+    ghost view = { λ m. record { internal = m.internal; header = shown m.header } };
 }
 
 impl CacheMeta {
-    ghost use Rattle.pcache_meta.specs.Meta.{Meta, epoch_of, provenance_of, fresh_seconds, expired_at};
+    ghost use Rattle.pcache_meta.specs.Meta.{Meta, epoch_of, provenance_of, fresh_seconds, internal_changed, expired_at};
+    ghost use Rattle.pcache_meta.specs.Internal.{first_said};
     ghost use Rattle.std.specs.Borrow.{Lends, sem};
     ghost use Rattle.pcache_meta.specs.contracts.meta.CacheMeta.{the_row};
     ghost use Rattle.pcache_meta.specs.contracts.header.ResponseHeader as head;
@@ -65,119 +51,121 @@ impl CacheMeta {
         header: ResponseHeader,
     ) -> CacheMeta
         ensures { result ≡ record {
-          fresh_until = fresh_until;
-          created = created;
-          updated = created;
-          stale_while_revalidate = stale_while_revalidate_sec;
-          stale_if_error = stale_if_error_sec;
-          variance = None;
-          epoch_override = None;
-          provenance = Some created;
+          internal = first_said fresh_until created stale_while_revalidate_sec stale_if_error_sec;
           header = shown header;
         } }
     {
-        CacheMeta {
+        let old = InternalMetaV0 {
             fresh_until,
             created,
-            updated: created,
             stale_while_revalidate_sec,
             stale_if_error_sec,
-            variance: None,
-            epoch_override: None,
+        };
+        let internal = InternalMetaLatest {
             provenance: Some(created),
-            header,
-        }
+            ..InternalMetaLatest::from(old)
+        };
+        CacheMeta { internal, header }
     }
 
     /// When the response was first stored.
     pub fn created(&self) -> Moment
         ensures { result ≡ self.now.created }
     {
-        self.created
+        self.internal.created
     }
 
     /// Sets when the response was first stored.
     pub fn set_created(&mut self, created: Moment)
-        ensures { self.new ≡ record self.old { created = created } }
+        ensures { self.new ≡ internal_changed (λ x. record x { created = created }) self.old }
     {
-        self.created = created;
+        self.internal.created = created;
     }
 
     /// When the response was last revalidated.
     pub fn updated(&self) -> Moment
         ensures { result ≡ self.now.updated }
     {
-        self.updated
+        self.internal.updated
     }
 
     /// When the body was fetched: `created`, unless it was set.
     pub fn provenance(&self) -> Moment
         ensures { result ≡ provenance_of self.now }
     {
-        self.provenance.unwrap_or(self.created)
+        self.internal.provenance.unwrap_or(self.internal.created)
+    }
+
+    /// The number of the write that stored the body, if it is known.
+    pub fn entry_id(&self) -> Option<CacheEntryId>
+        ensures { result ≡ self.now.entry_id }
+    {
+        self.internal.entry_id
     }
 
     /// Sets when the body was fetched.
     pub fn set_provenance(&mut self, provenance: Moment)
-        ensures { self.new ≡ record self.old { provenance = Some provenance } }
+        ensures { self.new ≡ internal_changed (λ x. record x { provenance = Some provenance }) self.old }
     {
-        self.provenance = Some(provenance);
+        self.internal.provenance = Some(provenance);
     }
 
     /// The body was fetched when the response was first stored.
     pub fn reset_provenance_to_created(&mut self)
-        ensures { self.new ≡ record self.old { provenance = Some self.old.created } }
+        ensures { self.new ≡ internal_changed (λ x. record x { provenance = Some x.created }) self.old }
     {
-        self.provenance = Some(self.created);
+        self.internal.provenance = Some(self.internal.created);
     }
 
     /// The moment from which ages count: the override, else `updated`.
     pub fn epoch(&self) -> Moment
         ensures { result ≡ epoch_of self.now }
     {
-        self.epoch_override.unwrap_or(self.updated)
+        self.internal
+            .epoch_override
+            .unwrap_or(self.internal.updated)
     }
 
     /// The moment set in place of `updated`, if there is one.
     pub fn epoch_override(&self) -> Option<Moment>
         ensures { result ≡ self.now.epoch_override }
     {
-        self.epoch_override
+        self.internal.epoch_override
     }
 
     /// Sets the moment from which ages count.
     pub fn set_epoch_override(&mut self, epoch: Moment)
-        ensures { self.new ≡ record self.old { epoch_override = Some epoch } }
+        ensures { self.new ≡ internal_changed (λ x. record x { epoch_override = Some epoch }) self.old }
     {
-        self.epoch_override = Some(epoch);
+        self.internal.epoch_override = Some(epoch);
     }
 
     /// Ages count from `updated` again.
     pub fn remove_epoch_override(&mut self)
-        ensures { self.new ≡ record self.old { epoch_override = None } }
+        ensures { self.new ≡ internal_changed (λ x. record x { epoch_override = None }) self.old }
     {
-        self.epoch_override = None;
+        self.internal.epoch_override = None;
     }
 
     /// Whether the response is fresh at a moment: its freshness ends then or later.
     pub fn is_fresh(&self, time: Moment) -> bool
         ensures { IsTrue result ↔ (time ≤ self.now.fresh_until) }
     {
-        self.fresh_until >= time
+        self.internal.fresh_until >= time
     }
 
     /// The whole seconds from the epoch to the end of freshness, zero if that is earlier.
     pub fn fresh_sec(&self) -> u64
         ensures { result ≡ fresh_seconds self.now }
     {
-        self.fresh_until.since(self.epoch()).as_secs()
+        self.internal.fresh_until.since(self.epoch()).as_secs()
     }
 
     /// Until when the response is fresh.
     pub fn fresh_until(&self) -> Moment
         ensures { result ≡ self.now.fresh_until }
     {
-        self.fresh_until
+        self.internal.fresh_until
     }
 
     /// The time since the epoch, zero if that is later than now.
@@ -189,46 +177,60 @@ impl CacheMeta {
 
     /// For how many seconds a stale response may be served while it is revalidated.
     pub fn stale_while_revalidate_sec(&self) -> u32
-        ensures { result ≡ self.now.stale_while_revalidate }
+        ensures { result ≡ self.now.stale_while_revalidate_sec }
     {
-        self.stale_while_revalidate_sec
+        self.internal.stale_while_revalidate_sec
     }
 
     /// For how many seconds a stale response may be served after an error.
     pub fn stale_if_error_sec(&self) -> u32
-        ensures { result ≡ self.now.stale_if_error }
+        ensures { result ≡ self.now.stale_if_error_sec }
     {
-        self.stale_if_error_sec
+        self.internal.stale_if_error_sec
     }
 
     /// Whether the response may be served at a moment while it is revalidated.
     pub fn serve_stale_while_revalidate(&self, time: Moment) -> bool
-        ensures { IsTrue result ↔ MayServeStale self.now.fresh_until self.now.stale_while_revalidate time }
+        ensures { IsTrue result ↔ MayServeStale self.now.fresh_until self.now.stale_while_revalidate_sec time }
     {
-        may_serve_stale(self.fresh_until, self.stale_while_revalidate_sec, time)
+        self.can_serve_stale(self.internal.stale_while_revalidate_sec, time)
     }
 
     /// Whether the response may be served at a moment after an error.
     pub fn serve_stale_if_error(&self, time: Moment) -> bool
-        ensures { IsTrue result ↔ MayServeStale self.now.fresh_until self.now.stale_if_error time }
+        ensures { IsTrue result ↔ MayServeStale self.now.fresh_until self.now.stale_if_error_sec time }
     {
-        may_serve_stale(self.fresh_until, self.stale_if_error_sec, time)
+        self.can_serve_stale(self.internal.stale_if_error_sec, time)
+    }
+
+    // A sum that is no moment counts as a window that never ends.
+    fn can_serve_stale(&self, window: u32, time: Moment) -> bool
+        ensures { IsTrue result ↔ MayServeStale self.now.fresh_until window time }
+    {
+        if window == 0 {
+            return false;
+        }
+        let length = Duration::from_secs(u64::from(window));
+        match self.internal.fresh_until.checked_add(length) {
+            Some(end) => time <= end,
+            None => true,
+        }
     }
 
     /// A stale response may not be served any more.
     pub fn disable_serve_stale(&mut self)
-        ensures { self.new ≡ record self.old { stale_while_revalidate = 0; stale_if_error = 0 } }
+        ensures { self.new ≡ internal_changed (λ x. record x { stale_while_revalidate_sec = 0; stale_if_error_sec = 0 }) self.old }
     {
-        self.stale_while_revalidate_sec = 0;
-        self.stale_if_error_sec = 0;
+        self.internal.stale_while_revalidate_sec = 0;
+        self.internal.stale_if_error_sec = 0;
     }
 
     /// Freshness ends at this moment, unless it ends earlier. The windows stay.
     pub fn expire_at(&mut self, time: Moment)
         ensures { self.new ≡ expired_at time self.old }
     {
-        if time < self.fresh_until {
-            self.fresh_until = time;
+        if time < self.internal.fresh_until {
+            self.internal.fresh_until = time;
         }
     }
 
@@ -240,45 +242,45 @@ impl CacheMeta {
         stale_if_error_sec: u32,
         now: Moment,
     )
-        ensures { self.new ≡ record self.old {
+        ensures { self.new ≡ internal_changed (λ x. record x {
           fresh_until = fresh_until;
-          stale_while_revalidate = stale_while_revalidate_sec;
-          stale_if_error = stale_if_error_sec;
+          stale_while_revalidate_sec = stale_while_revalidate_sec;
+          stale_if_error_sec = stale_if_error_sec;
           updated = now;
-        } }
+        }) self.old }
     {
-        self.fresh_until = fresh_until;
-        self.stale_while_revalidate_sec = stale_while_revalidate_sec;
-        self.stale_if_error_sec = stale_if_error_sec;
-        self.updated = now;
+        self.internal.fresh_until = fresh_until;
+        self.internal.stale_while_revalidate_sec = stale_while_revalidate_sec;
+        self.internal.stale_if_error_sec = stale_if_error_sec;
+        self.internal.updated = now;
     }
 
     /// The hash of what the response varies on, if there is one.
     pub fn variance(&self) -> Option<HashBinary>
         ensures { result ≡ self.now.variance }
     {
-        self.variance
+        self.internal.variance
     }
 
     /// Sets the hash of what the response varies on.
     pub fn set_variance_key(&mut self, variance: HashBinary)
-        ensures { self.new ≡ record self.old { variance = Some variance } }
+        ensures { self.new ≡ internal_changed (λ x. record x { variance = Some variance }) self.old }
     {
-        self.variance = Some(variance);
+        self.internal.variance = Some(variance);
     }
 
     /// Sets the hash of what the response varies on.
     pub fn set_variance(&mut self, variance: HashBinary)
-        ensures { self.new ≡ record self.old { variance = Some variance } }
+        ensures { self.new ≡ internal_changed (λ x. record x { variance = Some variance }) self.old }
     {
         self.set_variance_key(variance);
     }
 
     /// The response varies on nothing.
     pub fn remove_variance(&mut self)
-        ensures { self.new ≡ record self.old { variance = None } }
+        ensures { self.new ≡ internal_changed (λ x. record x { variance = None }) self.old }
     {
-        self.variance = None;
+        self.internal.variance = None;
     }
 
     /// The response's head.
@@ -317,28 +319,8 @@ impl CacheMeta {
         ensures kind { IfErr result (λ e. e ≡ OutOfMemory) }
     {
         Ok(CacheMeta {
-            fresh_until: self.fresh_until,
-            created: self.created,
-            updated: self.updated,
-            stale_while_revalidate_sec: self.stale_while_revalidate_sec,
-            stale_if_error_sec: self.stale_if_error_sec,
-            variance: self.variance,
-            epoch_override: self.epoch_override,
-            provenance: self.provenance,
+            internal: self.internal,
             header: self.header.copied()?,
         })
-    }
-}
-
-// A sum that is no moment counts as a window that never ends.
-fn may_serve_stale(fresh_until: Moment, window: u32, time: Moment) -> bool
-    ensures { IsTrue result ↔ MayServeStale fresh_until window time }
-{
-    if window == 0 {
-        return false;
-    }
-    match fresh_until.checked_add(Duration::from_secs(u64::from(window))) {
-        Some(end) => time <= end,
-        None => true,
     }
 }

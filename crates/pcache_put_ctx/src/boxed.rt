@@ -1,6 +1,7 @@
 //! Values behind boxes, for what a put tells and for the calls and events of worlds.
 ghost use Rattle.std.specs.Prelude.{◌≡◌, IfErr, IfOk, Some};
 ghost use Rattle.pcache_base.specs.declared.error.ErrorType.TheVariants.{OutOfMemory};
+ghost use Rattle.pcache_meta.specs.Meta.{internal_changed};
 
 use pcache_base::error::Result;
 use pcache_base::moment::Moment;
@@ -51,14 +52,14 @@ impl<T: Drop> Boxed<T> {
 impl Boxed<CacheMeta> {
     /// Sets when the body was fetched.
     pub fn set_provenance(&mut self, provenance: Moment)
-        ensures { self.new ≡ record self.old { provenance = Some provenance } }
+        ensures { self.new ≡ internal_changed (λ x. record x { provenance = Some provenance }) self.old }
     {
         self.place.set_provenance(provenance);
     }
 
     /// Sets when the response was first stored.
     pub fn set_created(&mut self, created: Moment)
-        ensures { self.new ≡ record self.old { created = created } }
+        ensures { self.new ≡ internal_changed (λ x. record x { created = created }) self.old }
     {
         self.place.set_created(created);
     }

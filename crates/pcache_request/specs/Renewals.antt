@@ -5,7 +5,7 @@ use Rattle.http_header.specs.FieldValue.{FieldValue}
 use Rattle.http_header.specs.HeaderMap.{append, get_all, update}
 use Rattle.pcache_base.specs.Key.{Key, slot}
 use Rattle.pcache_meta.specs.Header.{Fields, Header}
-use Rattle.pcache_meta.specs.Meta.{Meta, provenance_of}
+use Rattle.pcache_meta.specs.Meta.{Meta, internal_changed, provenance_of}
 use Rattle.pcache_store.specs.Store.{Store, complete_body, meta_changed}
 use Rattle.pcache_request.specs.declared.phase.CachePhase.TheVariants as phase
 use Rattle.pcache_request.specs.Requests.{Request}
@@ -13,7 +13,7 @@ use Rattle.pcache_request.specs.Requests.{Request}
 -- the new meta of the old body: it was created, and its body came, when that of the old one was
 abbrev pub renewed_by : Meta → Option Meta → Meta
 renewed_by m None = m
-renewed_by m (Some old) = record m { created = old.created; provenance = Some (provenance_of old) }
+renewed_by m (Some old) = internal_changed (λ x. record x { created = old.created; provenance = Some (provenance_of old) }) m
 
 abbrev pub renewed : Meta → Request → Request
 renewed m r = record r { phase = phase.Revalidated; meta = Some (renewed_by m r.meta); held = None }

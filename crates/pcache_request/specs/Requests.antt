@@ -5,7 +5,7 @@ use Rattle.std.specs.FinMap.{remove}
 use Rattle.pcache_base.specs.Key.{Key, slot}
 use Rattle.pcache_base.specs.CompactKey.{compact_of}
 use Rattle.pcache_base.specs.declared.key.CompactCacheKey.{CompactCacheKey}
-use Rattle.pcache_meta.specs.Meta.{Meta, provenance_of}
+use Rattle.pcache_meta.specs.Meta.{Meta, internal_changed, provenance_of}
 use Rattle.pcache_base.specs.declared.reason.NoCacheReason.{NoCacheReason}
 use Rattle.pcache_base.specs.declared.reason.NoCacheReason.TheVariants as reason
 use Rattle.pcache_evict.specs.declared.eviction.entry_key.CacheEntryKey.{CacheEntryKey}
@@ -206,7 +206,7 @@ phase_with_meta p = p
 
 abbrev pub with_provenance_of : Option Meta → Meta → Meta
 with_provenance_of None m = m
-with_provenance_of (Some old) m = record m { provenance = Some (provenance_of old) }
+with_provenance_of (Some old) m = internal_changed (λ x. record x { provenance = Some (provenance_of old) }) m
 
 abbrev pub meta_taken : CachePhase → Option Meta → Meta → Meta
 meta_taken phase.Stale old m = with_provenance_of old m

@@ -74,8 +74,8 @@ stale_meta r = stale_meta_in r.phase r.meta
 -- a stale body may be served now, after an error or while it is updated
 abbrev pub ServesAfterError : ℕ → Option Meta → Type 0
 ServesAfterError now None = ⊥
-ServesAfterError now (Some m) = MayServeStale m.fresh_until m.stale_if_error now
+ServesAfterError now (Some m) = MayServeStale m.fresh_until m.stale_if_error_sec now
 
 abbrev pub ServesWhileUpdating : ℕ → Option Meta → Type 0
 ServesWhileUpdating now None = ⊥
-ServesWhileUpdating now (Some m) = MayServeStale m.fresh_until m.stale_while_revalidate now
+ServesWhileUpdating now (Some m) = MayServeStale m.fresh_until m.stale_while_revalidate_sec now

@@ -2,7 +2,7 @@
 -- varies on is RFC 9110 section 12.5.5, and how stored ones are told apart by it RFC 9111 section 4.1).
 use Rattle.std.specs.Prelude.{ℕ, ◌&&◌, nat_lt, bytes_eq, Bool, true, false, not, List, Option, Some, None, cond, is_none, is_some, option_map}
 use Rattle.pcache_base.specs.Key.{Key}
-use Rattle.pcache_meta.specs.Meta.{Meta, provenance_of}
+use Rattle.pcache_meta.specs.Meta.{Meta, internal_changed, provenance_of}
 use Rattle.pcache_lock.specs.Locks.{Locks}
 use Rattle.pcache_lock.specs.declared.lock.status.LockStatus.TheVariants.{Done}
 use Rattle.pcache_store.specs.Store.{Store, Reader, followed, left}
@@ -105,7 +105,7 @@ abbrev pub begins_variants : Option (List ℕ) → Request → Bool
 begins_variants v r = is_expired_phase r.phase && not (same_variance (former_variance r) v)
 
 abbrev pub meta_varied : Option (List ℕ) → Bool → Meta → Meta
-meta_varied v begins m = record m { variance = v; provenance = cond begins (Some m.created) m.provenance }
+meta_varied v begins = internal_changed (λ x. record x { variance = v; provenance = cond begins (Some x.created) x.provenance })
 
 -- a key that names another variance gives it up: the response is to stand under the key itself
 abbrev pub leaves_variant : Option (List ℕ) → Option Key → Bool

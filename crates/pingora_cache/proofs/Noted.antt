@@ -4,7 +4,7 @@ use Rattle.std.specs.FinMap as map
 use Rattle.pcache_base.specs.CompactKey.{compact_of}
 use Rattle.pcache_base.specs.Key.{Key, slot}
 use Rattle.pcache_meta.specs.Meta as metas
-use Rattle.pcache_meta.specs.Meta.{Meta}
+use Rattle.pcache_meta.specs.Meta.{Meta, internal_changed}
 use Rattle.pcache_base.specs.declared.error.ErrorType.{ErrorType}
 use Rattle.pcache_base.specs.declared.error.ErrorType.TheVariants.{OutOfMemory, NumbersExhausted}
 use Rattle.pcache_lock.specs.Locks.{Locks, MayRefuseLock, lock_given, holder, is_permit, number_of_lock}
@@ -235,10 +235,10 @@ expire-told s (Some k) b is = is ∙ elim (is_some (complete_body (map.get s.slo
 
 -- ---- what is noted of a revalidation
 
-pub renewed-as : (x : Request) (m noted old mid new : Meta) (prov made : ℕ) → x.meta ≡ Some old → noted ≡ m → prov ≡ metas.provenance_of old → made ≡ old.created → mid ≡ record noted { provenance = Some prov } → new ≡ record mid { created = made } → new ≡ renewed_by m x.meta
+pub renewed-as : (x : Request) (m noted old mid new : Meta) (prov made : ℕ) → x.meta ≡ Some old → noted ≡ m → prov ≡ metas.provenance_of old → made ≡ old.created → mid ≡ internal_changed (λ x. record x { provenance = Some prov }) noted → new ≡ internal_changed (λ x. record x { created = made }) mid → new ≡ renewed_by m x.meta
 renewed-as x m noted old mid new prov made has same from when one two =
-    two ∙ ap (λ (z : Meta). record z { created = made }) one
-    ∙ (λ i. let z : Meta = same i in record z { created = when i; provenance = Some (from i) })
+    two ∙ ap (internal_changed (λ x. record x { created = made })) one
+    ∙ (λ i. internal_changed (λ x. record x { created = when i; provenance = Some (from i) }) (same i))
     ∙ ap (renewed_by m) (sym has)
 
 same-body : (s : Store) (o : Option Key) → has_body s o ≡ complete_for s o

@@ -159,7 +159,7 @@ fn tell_copy(alloc: Global, meta: &CacheMeta, call: &'static str, told: &mut Tol
     }
 }
 
-// Until when it is fresh, when it was made, last validated and first made, what counts from when, and the windows.
+// Until when it is fresh, when it was made, last validated and first made, what counts from when, the windows, and the number.
 fn times(meta: &CacheMeta, told: &mut Told) {
     told.numbers(&[
         meta.fresh_until().secs(),
@@ -176,6 +176,10 @@ fn times(meta: &CacheMeta, told: &mut Told) {
         u64::from(meta.stale_while_revalidate_sec()),
         u64::from(meta.stale_if_error_sec()),
     ]);
+    if let Some(id) = meta.entry_id() {
+        told.say(" #");
+        told.number(id.get());
+    }
 }
 
 fn head(header: &ResponseHeader, told: &mut Told) {
@@ -328,16 +332,23 @@ fn times_windows_and_the_head(rt: HostRuntime) {
 
 const STRINGS: &str = r"
     # a new meta is written, and kept as its strings
-    write -> 990292cd012c009201009201001e3cc0c0920100 HTTP/1.1 200\r\n\r\n
-    kept -> 990292cd012c009201009201001e3cc0c0920100 HTTP/1.1 200\r\n\r\n 300 1 1 1 1, 30 60
+    write -> 9a0392cd012c009201009201001e3cc0c0920100c0 HTTP/1.1 200\r\n\r\n
+    kept -> 9a0392cd012c009201009201001e3cc0c0920100c0 HTTP/1.1 200\r\n\r\n 300 1 1 1 1, 30 60
     # a meta reads back
     variance-key-is 172
     epoch-is 7
     field cache-control max-age=5 -> yes
     again -> 300 1 1 1 7!, 30 60 acacacacacacacacacacacacacacacac, the same fields
     # each shorter beginning is refused
-    internal 99 02 92 cd 01 2c 00 92 01 00 92 01 00 1e 3c c0 c0 92 01 00
+    internal 9a 03 92 cd 01 2c 00 92 01 00 92 01 00 1e 3c c0 c0 92 01 00 07
     header HTTP/1.1 200\r\n\r\n
+    read -> 300 1 1 1 1, 30 60 #7
+    beginnings -> yes
+    internal dc 00 0a 03 92 cd 01 2c 00 92 01 00 92 01 00 1e 3c c0 c0 92 01 00 07
+    read -> 300 1 1 1 1, 30 60 #7
+    beginnings -> yes
+    # version 2 has no number
+    internal 99 02 92 cd 01 2c 00 92 01 00 92 01 00 1e 3c c0 c0 92 01 00
     read -> 300 1 1 1 1, 30 60
     beginnings -> yes
     # whichever of the two strings is none of a meta's, memory is not what is wanting

@@ -85,7 +85,7 @@ pub mod memory {
 /// Metas and their defaults.
 pub mod meta {
     pub use pingora_cache::meta::internal_meta::{
-        InternalMetaLatest, InternalMetaV0, InternalMetaV1, InternalMetaV2,
+        InternalMetaLatest, InternalMetaV0, InternalMetaV1, InternalMetaV2, InternalMetaV3,
     };
     pub use pingora_cache::meta::spelled::SpelledMeta;
     pub use pingora_cache::meta::{CacheMeta, CacheMetaDefaults, FreshDurationByStatusFn};

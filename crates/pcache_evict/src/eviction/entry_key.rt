@@ -1,46 +1,15 @@
 //! The keys of entries that eviction managers know.
-ghost use Rattle.std.specs.Prelude.{◌≡◌, ℕ, IfOk, IfErr, None, Some, refl};
+ghost use Rattle.std.specs.Prelude.{◌≡◌, IfOk, IfErr, None, Some, refl};
 ghost use Rattle.std.specs.Cmp.{partial_equiv_from_equiv};
 ghost use Rattle.pcache_base.specs.Key.{number_of};
 ghost use Rattle.pcache_base.specs.declared.error.ErrorType.TheVariants.{OutOfMemory};
 
+use pcache_base::entry_id::CacheEntryId;
 use pcache_base::error::Result;
 use pcache_base::key::{CompactCacheKey, HashBinary};
 use std::cmp::Ordering;
 use std::fmt;
 use std::hash::{Hash, Hasher};
-use std::marker::Model;
-
-/// The number that tells the entries of one key apart, if a storage keeps several of them.
-/// A contract sees the number.
-#[derive(Clone, Copy, Debug, PartialEq, Eq, PartialOrd, Ord, Hash)]
-pub struct CacheEntryId {
-    number: u64,
-}
-
-impl Model for CacheEntryId {
-    ghost Value = { ℕ };
-
-    ghost view = { λ id. id.number };
-
-    ghost inverse = { λ n. record { number = n } };
-}
-
-impl CacheEntryId {
-    /// The id with this number.
-    pub fn new(number: u64) -> CacheEntryId
-        ensures { result ≡ number }
-    {
-        CacheEntryId { number }
-    }
-
-    /// The number.
-    pub fn get(self) -> u64
-        ensures { result ≡ self }
-    {
-        self.number
-    }
-}
 
 /// The key of an entry of an eviction manager: a stored key alone, or one with the number of one
 /// of its entries. Entries with different numbers, or with and without one, are different.

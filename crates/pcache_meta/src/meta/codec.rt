@@ -1,23 +1,24 @@
 //! Metas as bytes: what they say beside their header, in MessagePack, and the text of their header.
-ghost use Rattle.std.specs.Prelude.{◌≡◌, ◌≤◌, ◌<◌, ◌++◌, [], length, OnOk, OnErr, IfOk, IfErr, IfSome, IsErrOf, ◌⊎◌};
+ghost use Rattle.std.specs.Prelude.{◌≡◌, ◌≤◌, ◌<◌, ◌^◌, ◌++◌, [], length, OnOk, OnErr, IfOk, IfErr, IfSome, IsErrOf, ◌⊎◌};
 ghost use Rattle.pcache_meta.specs.HeaderText.{header_written};
-ghost use Rattle.pcache_meta.specs.Internal.{Internal, internal_of, upgraded};
+ghost use Rattle.pcache_meta.specs.Internal.{Internal, of_version2, upgraded};
 ghost use Rattle.pcache_meta.specs.Meta.{Meta};
 ghost use Rattle.pcache_meta.specs.MetaBytes.{AreMetaBytes, SpellsMeta};
 ghost use Rattle.pcache_meta.specs.MetaReading.{internal_at, item_at, moment_at, new_internal_at, old_internal_at, upgraded_at, versioned_at};
 ghost use Rattle.pcache_meta.specs.MetaSpelling.{InternalThen, SpellsInternal};
-ghost use Rattle.pcache_meta.specs.MetaWriting.{IsInternal, IsOldInternal, internal_written, last_written, moment_written, old_written, version0_written, version1_written};
+ghost use Rattle.pcache_meta.specs.MetaWriting.{AreItems, IsInternal, IsOldInternal, internal_written, items_written, last_written, moment_written, old_written, version0_written, version1_written, version2_written};
 ghost use Rattle.pcache_base.specs.Moments.{IsMoment};
-ghost use Rattle.pcache_meta.specs.Reading.{Gives, hash_at, optional_at};
-ghost use Rattle.pcache_meta.specs.Writing.{optional_written};
+ghost use Rattle.pcache_meta.specs.Reading.{Gives, hash_at, number_at, optional_at};
+ghost use Rattle.pcache_meta.specs.Writing.{number_written, optional_written};
 ghost use Rattle.pcache_base.specs.declared.error.ErrorType.TheVariants.{InternalError, OutOfMemory};
 
 use crate::header_text::reader::header_deserialize;
 use crate::header_text::writer::header_serialize;
 use crate::meta::CacheMeta;
-use crate::meta::internal_meta::{InternalMetaV0, InternalMetaV1, InternalMetaV2};
+use crate::meta::internal_meta::{InternalMetaV0, InternalMetaV1, InternalMetaV2, InternalMetaV3};
 use crate::msgpack::reader::{Reader, unreadable};
 use crate::msgpack::writer::{put_array, put_nil, put_number, put_optional_hash};
+use pcache_base::entry_id::CacheEntryId;
 use pcache_base::error::Result;
 use pcache_base::key::HashBinary;
 use pcache_base::moment::Moment;
@@ -25,6 +26,9 @@ use std::alloc::Global;
 
 // No meta is shorter.
 const MIN_SIZE: usize = 10;
+
+// Enough bytes for nearly every meta, so that room is made once.
+const USUAL_SIZE: usize = 96;
 
 // ---- reading
 
@@ -63,6 +67,17 @@ fn read_moment_item(reader: &mut Reader<'_>, present: bool) -> Result<Option<Mom
     Ok(Some(read_moment(reader)?))
 }
 
+// An item that may be left out.
+#[tactic(auto, unfolding(crate::specs::Reading::optional_at, crate::specs::MetaReading::item_at))]
+fn read_number_item(reader: &mut Reader<'_>, present: bool) -> Result<Option<CacheEntryId>>
+    ensures { Gives (λ id. (id, reader.new)) result (item_at present number_at reader.old) }
+{
+    if !present || reader.skip_nil() {
+        return Ok(None);
+    }
+    Ok(Some(CacheEntryId::new(reader.number()?)))
+}
+
 // Version 0, after the head.
 #[tactic(auto, unfolding(crate::specs::MetaReading::old_internal_at))]
 fn read_version0(reader: &mut Reader<'_>) -> Result<InternalMetaV0>
@@ -90,7 +105,6 @@ fn read_version1(reader: &mut Reader<'_>) -> Result<InternalMetaV1>
     let stale_while_revalidate_sec = reader.number_below(1 << 32)? as u32;
     let stale_if_error_sec = reader.number_below(1 << 32)? as u32;
     Ok(InternalMetaV1 {
-        version: InternalMetaV1::VERSION,
         fresh_until,
         created,
         stale_while_revalidate_sec,
@@ -98,46 +112,42 @@ fn read_version1(reader: &mut Reader<'_>) -> Result<InternalMetaV1>
     })
 }
 
-// Version 2, after the head and the version, with so many of the items that may be left out.
+// Versions 2 and 3, after the head and the version, with so many of the items that may be left out.
 #[tactic(auto, unfolding(crate::specs::MetaReading::new_internal_at))]
-fn read_version2(reader: &mut Reader<'_>, extra: u64) -> Result<InternalMetaV2>
+fn read_items(reader: &mut Reader<'_>, extra: u64) -> Result<InternalMetaV3>
     ensures { Gives (λ m. (m, reader.new)) result (new_internal_at extra reader.old) }
 {
-    let fresh_until = read_moment(reader)?;
-    let created = read_moment(reader)?;
-    let updated = read_moment(reader)?;
-    let stale_while_revalidate_sec = reader.number_below(1 << 32)? as u32;
-    let stale_if_error_sec = reader.number_below(1 << 32)? as u32;
-    let variance = read_hash_item(reader, 0 < extra)?;
-    let epoch_override = read_moment_item(reader, 1 < extra)?;
-    let provenance = read_moment_item(reader, 2 < extra)?;
-    Ok(InternalMetaV2 {
-        version: InternalMetaV2::VERSION,
-        fresh_until,
-        created,
-        updated,
-        stale_while_revalidate_sec,
-        stale_if_error_sec,
-        variance,
-        epoch_override,
-        provenance,
+    Ok(InternalMetaV3 {
+        fresh_until: read_moment(reader)?,
+        created: read_moment(reader)?,
+        updated: read_moment(reader)?,
+        stale_while_revalidate_sec: reader.number_below(1 << 32)? as u32,
+        stale_if_error_sec: reader.number_below(1 << 32)? as u32,
+        variance: read_hash_item(reader, 0 < extra)?,
+        epoch_override: read_moment_item(reader, 1 < extra)?,
+        provenance: read_moment_item(reader, 2 < extra)?,
+        entry_id: read_number_item(reader, 3 < extra)?,
     })
 }
 
 // The version that the number of items tells.
 #[tactic(auto, unfolding(crate::specs::MetaReading::versioned_at, crate::specs::MetaReading::upgraded_at))]
-fn read_versioned(reader: &mut Reader<'_>, count: u64) -> Result<InternalMetaV2>
+fn read_versioned(reader: &mut Reader<'_>, count: u64) -> Result<InternalMetaV3>
     ensures { Gives (λ m. (m, reader.new)) result (versioned_at count reader.old) }
 {
     match count {
-        4 => Ok(InternalMetaV2::from(read_version0(reader)?)),
+        4 => Ok(InternalMetaV3::from(read_version0(reader)?)),
         5 => {
             reader.mark(InternalMetaV1::VERSION)?;
-            Ok(InternalMetaV2::from(read_version1(reader)?))
+            Ok(InternalMetaV3::from(read_version1(reader)?))
         }
         6..=9 => {
             reader.mark(InternalMetaV2::VERSION)?;
-            read_version2(reader, count - 6)
+            read_items(reader, count - 6)
+        }
+        10 => {
+            reader.mark(InternalMetaV3::VERSION)?;
+            read_items(reader, 4)
         }
         _ => Err(unreadable()),
     }
@@ -145,7 +155,7 @@ fn read_versioned(reader: &mut Reader<'_>, count: u64) -> Result<InternalMetaV2>
 
 // What all of the bytes say, read from left to right.
 #[tactic(auto, unfolding(crate::specs::MetaReading::internal_at))]
-fn read_internal(bytes: &[u8]) -> Result<InternalMetaV2>
+fn read_internal(bytes: &[u8]) -> Result<InternalMetaV3>
     ensures { Gives (λ m. m) result (internal_at bytes.now) }
 {
     if bytes.len() < MIN_SIZE {
@@ -161,7 +171,7 @@ fn read_internal(bytes: &[u8]) -> Result<InternalMetaV2>
 }
 
 /// What all of the bytes say, in any version.
-pub fn deserialize_internal(bytes: &[u8]) -> Result<InternalMetaV2>
+pub fn deserialize_internal(bytes: &[u8]) -> Result<InternalMetaV3>
     ensures found { IfOk result (λ m. SpellsInternal bytes.now m) }
     ensures same { (m : Internal) → SpellsInternal bytes.now m → IfOk result (λ found. found ≡ m) }
     ensures refused { OnErr result ((m : Internal) → ¬ (SpellsInternal bytes.now m)) }
@@ -197,7 +207,20 @@ fn put_optional_moment(out: &mut Vec<u8>, moment: Option<Moment>) -> Result<()>
     Ok(())
 }
 
-// The ninth item, if there is one.
+#[tactic(auto, unfolding(crate::specs::Writing::optional_written))]
+fn put_optional_number(out: &mut Vec<u8>, id: Option<CacheEntryId>) -> Result<()>
+    ensures written { OnOk result (out.new.items ≡ out.old.items ++ optional_written number_written id) }
+    ensures range { OnOk result (IfSome id (λ n. n < 2 ^ 64)) }
+    ensures kind { IfErr result (λ e. e ≡ OutOfMemory) }
+{
+    match id {
+        None => put_nil(out)?,
+        Some(id) => put_number(out, id.get())?,
+    }
+    Ok(())
+}
+
+// The ninth item of version 2, if there is one.
 #[tactic(auto, unfolding(crate::specs::MetaWriting::last_written))]
 fn put_last_moment(out: &mut Vec<u8>, moment: Option<Moment>) -> Result<()>
     ensures written { OnOk result (out.new.items ≡ out.old.items ++ last_written moment) }
@@ -210,32 +233,51 @@ fn put_last_moment(out: &mut Vec<u8>, moment: Option<Moment>) -> Result<()>
     Ok(())
 }
 
-// How many bytes are enough for nearly every meta in version 2, so that room is made once.
-fn usual_len(meta: &InternalMetaV2) -> usize {
-    if meta.variance.is_some() || meta.epoch_override.is_some() || meta.provenance.is_some() {
-        96
-    } else {
-        48
-    }
+// The items that versions 2 and 3 have alike.
+#[tactic(auto, unfolding(crate::specs::MetaWriting::items_written))]
+fn put_items(out: &mut Vec<u8>, meta: &InternalMetaV3) -> Result<()>
+    ensures written { OnOk result (out.new.items ≡ out.old.items ++ items_written meta.now) }
+    ensures range { OnOk result (AreItems meta.now) }
+    ensures kind { IfErr result (λ e. e ≡ OutOfMemory) }
+{
+    put_moment(out, meta.fresh_until)?;
+    put_moment(out, meta.created)?;
+    put_moment(out, meta.updated)?;
+    put_number(out, u64::from(meta.stale_while_revalidate_sec))?;
+    put_number(out, u64::from(meta.stale_if_error_sec))?;
+    put_optional_hash(out, meta.variance)?;
+    put_optional_moment(out, meta.epoch_override)?;
+    Ok(())
 }
 
-// Version 2.
+// Version 3.
 #[tactic(auto, unfolding(crate::specs::MetaWriting::internal_written))]
-fn write_internal(alloc: Global, meta: &InternalMetaV2) -> Result<Vec<u8>>
+fn write_internal(alloc: Global, meta: &InternalMetaV3) -> Result<Vec<u8>>
     ensures written { IfOk result (λ v. v.items ≡ internal_written meta.now) }
     ensures range { OnOk result (IsInternal meta.now) }
     ensures kind { IfErr result (λ e. e ≡ OutOfMemory) }
 {
-    let mut out = Vec::with_capacity(alloc, usual_len(meta))?;
+    let mut out = Vec::with_capacity(alloc, USUAL_SIZE)?;
+    put_array(&mut out, 10)?;
+    out.push(InternalMetaV3::VERSION)?;
+    put_items(&mut out, meta)?;
+    put_optional_moment(&mut out, meta.provenance)?;
+    put_optional_number(&mut out, meta.entry_id)?;
+    Ok(out)
+}
+
+// Version 2.
+#[tactic(auto, unfolding(crate::specs::MetaWriting::version2_written))]
+fn write_version2(alloc: Global, meta: &InternalMetaV2) -> Result<Vec<u8>>
+    ensures written { IfOk result (λ v. v.items ≡ version2_written meta.now) }
+    ensures items { OnOk result (AreItems (of_version2 meta.now)) }
+    ensures last { OnOk result (IfSome meta.now.provenance IsMoment) }
+    ensures kind { IfErr result (λ e. e ≡ OutOfMemory) }
+{
+    let mut out = Vec::new(alloc);
     put_array(&mut out, if meta.provenance.is_some() { 9 } else { 8 })?;
     out.push(InternalMetaV2::VERSION)?;
-    put_moment(&mut out, meta.fresh_until)?;
-    put_moment(&mut out, meta.created)?;
-    put_moment(&mut out, meta.updated)?;
-    put_number(&mut out, u64::from(meta.stale_while_revalidate_sec))?;
-    put_number(&mut out, u64::from(meta.stale_if_error_sec))?;
-    put_optional_hash(&mut out, meta.variance)?;
-    put_optional_moment(&mut out, meta.epoch_override)?;
+    put_items(&mut out, &InternalMetaV3::from(*meta))?;
     put_last_moment(&mut out, meta.provenance)?;
     Ok(out)
 }
@@ -252,14 +294,14 @@ fn put_old(
     ensures written { OnOk result (out.new.items ≡ out.old.items ++ old_written (record {
       fresh_until = fresh_until;
       created = created;
-      stale_while_revalidate = stale_while_revalidate_sec;
-      stale_if_error = stale_if_error_sec;
+      stale_while_revalidate_sec = stale_while_revalidate_sec;
+      stale_if_error_sec = stale_if_error_sec;
     })) }
     ensures range { OnOk result (IsOldInternal (record {
       fresh_until = fresh_until;
       created = created;
-      stale_while_revalidate = stale_while_revalidate_sec;
-      stale_if_error = stale_if_error_sec;
+      stale_while_revalidate_sec = stale_while_revalidate_sec;
+      stale_if_error_sec = stale_if_error_sec;
     })) }
     ensures kind { IfErr result (λ e. e ≡ OutOfMemory) }
 {
@@ -334,6 +376,17 @@ impl InternalMetaV1 {
 impl InternalMetaV2 {
     /// The bytes of version 2: the items that it names, each in its shortest form.
     pub fn serialize(&self, alloc: Global) -> Result<Vec<u8>>
+        ensures written { IfOk result (λ v. v.items ≡ version2_written self.now) }
+        ensures spelled { IfOk result (λ v. SpellsInternal v.items (of_version2 self.now)) }
+        ensures kind { IfErr result (λ e. e ≡ OutOfMemory) }
+    {
+        write_version2(alloc, self)
+    }
+}
+
+impl InternalMetaV3 {
+    /// The bytes of version 3: all ten items, each in its shortest form.
+    pub fn serialize(&self, alloc: Global) -> Result<Vec<u8>>
         ensures written { IfOk result (λ v. v.items ≡ internal_written self.now) }
         ensures spelled { IfOk result (λ v. SpellsInternal v.items self.now) }
         ensures kind { IfErr result (λ e. e ≡ OutOfMemory) }
@@ -345,26 +398,15 @@ impl InternalMetaV2 {
 // ---- metas
 
 impl CacheMeta {
-    /// The meta as two byte strings: what it says beside its header, in version 2, and the text of
+    /// The meta as two byte strings: what it says beside its header, in version 3, and the text of
     /// its header. Both read back as this meta. It is refused only when memory runs out.
     pub fn serialize(&self, alloc: Global) -> Result<(Vec<u8>, Vec<u8>)>
-        ensures written_internal { IfOk result (λ p. p.0.items ≡ internal_written (internal_of self.now)) }
+        ensures written_internal { IfOk result (λ p. p.0.items ≡ internal_written self.now.internal) }
         ensures written_header { IfOk result (λ p. p.1.items ≡ header_written self.now.header) }
         ensures spelled { IfOk result (λ p. SpellsMeta p.0.items p.1.items self.now) }
         ensures kind { IfErr result (λ e. e ≡ OutOfMemory) }
     {
-        let internal = InternalMetaV2 {
-            version: InternalMetaV2::VERSION,
-            fresh_until: self.fresh_until,
-            created: self.created,
-            updated: self.updated,
-            stale_while_revalidate_sec: self.stale_while_revalidate_sec,
-            stale_if_error_sec: self.stale_if_error_sec,
-            variance: self.variance,
-            epoch_override: self.epoch_override,
-            provenance: self.provenance,
-        };
-        let internal = internal.serialize(alloc)?;
+        let internal = self.internal.serialize(alloc)?;
         let header = header_serialize(alloc, &self.header)?;
         Ok((internal, header))
     }
@@ -382,16 +424,6 @@ impl CacheMeta {
     {
         let internal = deserialize_internal(internal)?;
         let header = header_deserialize(alloc, header)?;
-        Ok(CacheMeta {
-            fresh_until: internal.fresh_until,
-            created: internal.created,
-            updated: internal.updated,
-            stale_while_revalidate_sec: internal.stale_while_revalidate_sec,
-            stale_if_error_sec: internal.stale_if_error_sec,
-            variance: internal.variance,
-            epoch_override: internal.epoch_override,
-            provenance: internal.provenance,
-            header,
-        })
+        Ok(CacheMeta { internal, header })
     }
 }

@@ -1,13 +1,14 @@
 //! What a meta says beside its header, in each version of the format.
 ghost use Rattle.std.specs.Prelude.{◌≡◌};
-ghost use Rattle.pcache_meta.specs.Internal.{of_the_epoch, upgraded};
+ghost use Rattle.pcache_meta.specs.Internal.{in_version2, of_the_epoch, of_version2, upgraded};
 
+use pcache_base::entry_id::CacheEntryId;
 use pcache_base::key::HashBinary;
 use pcache_base::moment::Moment;
 use std::marker::Model;
 
 /// The version that is written.
-pub type InternalMetaLatest = InternalMetaV2;
+pub type InternalMetaLatest = InternalMetaV3;
 
 /// What a meta of version 0 says. It names no version.
 #[derive(Clone, Copy, Debug, PartialEq, Eq)]
@@ -26,23 +27,21 @@ impl Model for InternalMetaV0 {
     ghost view = { λ m. record {
       fresh_until = m.fresh_until;
       created = m.created;
-      stale_while_revalidate = m.stale_while_revalidate_sec;
-      stale_if_error = m.stale_if_error_sec;
+      stale_while_revalidate_sec = m.stale_while_revalidate_sec;
+      stale_if_error_sec = m.stale_if_error_sec;
     } };
 
     ghost inverse = { λ m. record {
       fresh_until = m.fresh_until;
       created = m.created;
-      stale_while_revalidate_sec = m.stale_while_revalidate;
-      stale_if_error_sec = m.stale_if_error;
+      stale_while_revalidate_sec = m.stale_while_revalidate_sec;
+      stale_if_error_sec = m.stale_if_error_sec;
     } };
 }
 
 /// What a meta of version 1 says.
 #[derive(Clone, Copy, Debug, PartialEq, Eq)]
 pub struct InternalMetaV1 {
-    /// 1.
-    pub version: u8,
     pub fresh_until: Moment,
     pub created: Moment,
     pub stale_while_revalidate_sec: u32,
@@ -50,31 +49,32 @@ pub struct InternalMetaV1 {
 }
 
 impl Model for InternalMetaV1 {
-    ghost use Rattle.std.specs.Prelude.{◌≡◌};
     ghost use Rattle.pcache_meta.specs.Internal.{OldInternal};
 
     ghost Value = { OldInternal };
 
-    ghost use Rattle.pcache_meta.specs.InternalParts.{of_version1, says1, version1_comes_back};
+    ghost view = { λ m. record {
+      fresh_until = m.fresh_until;
+      created = m.created;
+      stale_while_revalidate_sec = m.stale_while_revalidate_sec;
+      stale_if_error_sec = m.stale_if_error_sec;
+    } };
 
-    ghost view = { says1 };
-
-    ghost invariant = { λ m. m.version ≡ 1 };
-
-    ghost inverse = { of_version1 };
-
-    ghost inverse_ok = { version1_comes_back };
+    ghost inverse = { λ m. record {
+      fresh_until = m.fresh_until;
+      created = m.created;
+      stale_while_revalidate_sec = m.stale_while_revalidate_sec;
+      stale_if_error_sec = m.stale_if_error_sec;
+    } };
 }
 
 impl InternalMetaV1 {
     pub const VERSION: u8 = 1;
 }
 
-/// What a meta of version 2 says, the one that is written.
+/// What a meta of version 2 says. That it is version 2 its type says, so no field does.
 #[derive(Clone, Copy, Debug, PartialEq, Eq)]
 pub struct InternalMetaV2 {
-    /// 2.
-    pub version: u8,
     pub fresh_until: Moment,
     pub created: Moment,
     pub updated: Moment,
@@ -85,53 +85,30 @@ pub struct InternalMetaV2 {
     pub provenance: Option<Moment>,
 }
 
-impl Model for InternalMetaV2 {
-    ghost use Rattle.std.specs.Prelude.{◌≡◌};
-    ghost use Rattle.pcache_meta.specs.Internal.{Internal};
-
-    ghost Value = { Internal };
-
-    ghost use Rattle.pcache_meta.specs.InternalParts.{of_version2, says2, version2_comes_back};
-
-    ghost view = { says2 };
-
-    ghost invariant = { λ m. m.version ≡ 2 };
-
-    ghost inverse = { of_version2 };
-
-    ghost inverse_ok = { version2_comes_back };
-}
-
 impl InternalMetaV2 {
     pub const VERSION: u8 = 2;
 }
 
 impl Default for InternalMetaV2 {
-    ghost is_default = { λ m. m ≡ of_the_epoch };
+    ghost is_default = { λ m. m ≡ in_version2 of_the_epoch };
 
     /// Created, updated and stale at the epoch.
     fn default() -> InternalMetaV2 {
-        InternalMetaV2 {
-            version: InternalMetaV2::VERSION,
+        InternalMetaV2::from(InternalMetaV0 {
             fresh_until: Moment::EPOCH,
             created: Moment::EPOCH,
-            updated: Moment::EPOCH,
             stale_while_revalidate_sec: 0,
             stale_if_error_sec: 0,
-            variance: None,
-            epoch_override: None,
-            provenance: None,
-        }
+        })
     }
 }
 
 impl From<InternalMetaV0> for InternalMetaV2 {
-    ghost from_gives = { λ old new. new ≡ upgraded old };
+    ghost from_gives = { λ old new. new ≡ in_version2 old };
 
     /// Updated when it was created.
     fn from(v0: InternalMetaV0) -> InternalMetaV2 {
         InternalMetaV2 {
-            version: InternalMetaV2::VERSION,
             fresh_until: v0.fresh_until,
             created: v0.created,
             updated: v0.created,
@@ -145,20 +122,80 @@ impl From<InternalMetaV0> for InternalMetaV2 {
 }
 
 impl From<InternalMetaV1> for InternalMetaV2 {
-    ghost from_gives = { λ old new. new ≡ upgraded old };
+    ghost from_gives = { λ old new. new ≡ in_version2 old };
 
     /// Updated when it was created.
     fn from(v1: InternalMetaV1) -> InternalMetaV2 {
-        InternalMetaV2 {
-            version: InternalMetaV2::VERSION,
+        InternalMetaV2::from(InternalMetaV0 {
             fresh_until: v1.fresh_until,
             created: v1.created,
-            updated: v1.created,
             stale_while_revalidate_sec: v1.stale_while_revalidate_sec,
             stale_if_error_sec: v1.stale_if_error_sec,
-            variance: None,
-            epoch_override: None,
-            provenance: None,
+        })
+    }
+}
+
+/// What a meta of version 3 says, the one that is written.
+#[derive(Clone, Copy, Debug, PartialEq, Eq)]
+pub struct InternalMetaV3 {
+    pub fresh_until: Moment,
+    pub created: Moment,
+    pub updated: Moment,
+    pub stale_while_revalidate_sec: u32,
+    pub stale_if_error_sec: u32,
+    pub variance: Option<HashBinary>,
+    pub epoch_override: Option<Moment>,
+    pub provenance: Option<Moment>,
+    /// The number of the write that stored the body, if a storage gave one.
+    pub entry_id: Option<CacheEntryId>,
+}
+
+impl InternalMetaV3 {
+    pub const VERSION: u8 = 3;
+}
+
+impl Default for InternalMetaV3 {
+    ghost is_default = { λ m. m ≡ upgraded of_the_epoch };
+
+    /// Created, updated and stale at the epoch.
+    fn default() -> InternalMetaV3 {
+        InternalMetaV3::from(InternalMetaV2::default())
+    }
+}
+
+impl From<InternalMetaV0> for InternalMetaV3 {
+    ghost from_gives = { λ old new. new ≡ upgraded old };
+
+    /// Updated when it was created.
+    fn from(v0: InternalMetaV0) -> InternalMetaV3 {
+        InternalMetaV3::from(InternalMetaV2::from(v0))
+    }
+}
+
+impl From<InternalMetaV1> for InternalMetaV3 {
+    ghost from_gives = { λ old new. new ≡ upgraded old };
+
+    /// Updated when it was created.
+    fn from(v1: InternalMetaV1) -> InternalMetaV3 {
+        InternalMetaV3::from(InternalMetaV2::from(v1))
+    }
+}
+
+impl From<InternalMetaV2> for InternalMetaV3 {
+    ghost from_gives = { λ old new. new ≡ of_version2 old };
+
+    /// The same, with no number.
+    fn from(v2: InternalMetaV2) -> InternalMetaV3 {
+        InternalMetaV3 {
+            fresh_until: v2.fresh_until,
+            created: v2.created,
+            updated: v2.updated,
+            stale_while_revalidate_sec: v2.stale_while_revalidate_sec,
+            stale_if_error_sec: v2.stale_if_error_sec,
+            variance: v2.variance,
+            epoch_override: v2.epoch_override,
+            provenance: v2.provenance,
+            entry_id: None,
         }
     }
 }

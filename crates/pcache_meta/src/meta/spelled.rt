@@ -1,7 +1,6 @@
 //! Metas kept as bytes.
 ghost use Rattle.std.specs.Prelude.{◌≡◌, IfOk, IfErr};
 ghost use Rattle.pcache_meta.specs.HeaderText.{header_written};
-ghost use Rattle.pcache_meta.specs.Internal.{internal_of};
 ghost use Rattle.pcache_meta.specs.MetaBytes.{SpellsMeta};
 ghost use Rattle.pcache_meta.specs.MetaWriting.{internal_written};
 ghost use Rattle.pcache_base.specs.declared.error.ErrorType.TheVariants.{OutOfMemory};
@@ -43,7 +42,7 @@ impl SpelledMeta {
 
     /// The two byte strings: what the meta says beside its header, and the text of its header.
     pub fn strings(&self) -> (&[u8], &[u8])
-        ensures internal { result.0.now ≡ internal_written (internal_of self.now) }
+        ensures internal { result.0.now ≡ internal_written self.now.internal }
         ensures header { result.1.now ≡ header_written self.now.header }
         ensures spelled { SpellsMeta result.0.now result.1.now self.now }
     {
