@@ -4,15 +4,6 @@
 # that seed, and 100,000 under a drawn one. Each beside as many harmless ones. It ends non-zero if under the drawn seed a call
 # takes twice as long as with harmless keys: then a table does not hash under the seed that it was given. The program is proved and
 # built in a copy of the repository.
-set -eu
 . "$(dirname "$0")/in_a_copy.sh"
-mkdir -p crates/hostile_hashes/src
-for file in bench/hostile_hashes/*.rt.txt; do
-	cp "$file" "crates/hostile_hashes/src/$(basename "$file" .txt)"
-done
 build 'hostile_hashes: pcache_base pcache_evict pcache_meta pcache_predict pcache_put pcache_store bytes http'
-status=0
-crates/hostile_hashes/out/hostile_hashes >"$copy/lines" || status=$?
-grep -E '^(names|keys)=' "$copy/lines"
-echo "cores=$(nproc) load=$(cut -d' ' -f1 /proc/loadavg)"
-exit "$status"
+tell '^(names|keys)='

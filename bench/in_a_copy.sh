@@ -1,4 +1,6 @@
-# Goes into a copy of the repository, which is removed at the end, and has `build`, which makes a program there.
+# The head of the scripts that measure a program: goes into a copy of the repository, which is removed at the end, and has
+# `build`, which makes a program there, and `tell`, which runs it.
+set -eu
 top=$(cd "$(dirname "$0")/.." && pwd)
 copy=$(mktemp -d)
 trap 'rm -rf "$copy"' EXIT
@@ -8,11 +10,47 @@ mkdir "$copy/repository"
 (cd "$top" && tar cf - --exclude=out crates crates.txt HANDLES bench) | (cd "$copy/repository" && tar xf -)
 cd "$copy/repository"
 
-# build 'NAME: LIBRARY ..' proves and builds the program whose sources stand in crates/NAME, as crates/NAME/out/NAME. The gate
+# sources NAME puts a program's files into crates/NAME/src: those of bench/NAME, or bench/NAME.rt.txt alone.
+sources() {
+    mkdir -p "crates/$1/src"
+    if [ -d "bench/$1" ]; then
+        for file in "bench/$1"/*.rt.txt; do
+            cp "$file" "crates/$1/src/$(basename "$file" .txt)"
+        done
+    else
+        cp "bench/$1.rt.txt" "crates/$1/src/main.rt"
+    fi
+}
+
+# decreases NAME FUNCTION LOOP LIST: what a loop's measure is, the length of a list that it takes from.
+decreases() {
+    mkdir -p "crates/$1/proofs/$2"
+    cat >"crates/$1/proofs/$2/Invariants.antt" <<PROOF
+use Rattle.std.specs.Vec.{vec_len}
+use Rattle.$1.proofs.$2.Given as goal
+
+abbrev pub decreases-loop-$3 : goal.decreases-loop-$3
+decreases-loop-$3 l = vec_len l.$4
+PROOF
+}
+
+# tell PATTERN runs the program that was built, and prints its lines that match and what the machine had to do. Its status is the
+# program's.
+tell() {
+    status=0
+    "crates/$program/out/$program" >"$copy/lines" || status=$?
+    grep -E "$1" "$copy/lines"
+    echo "cores=$(nproc) load=$(cut -d' ' -f1 /proc/loadavg)"
+    return "$status"
+}
+
+# build 'NAME: LIBRARY ..' proves and builds a program, whose files `sources` finds if crates/NAME has none, as
+# crates/NAME/out/NAME. The gate
 # does it, over the crates below the program alone: what a gate on this machine proved of them is taken as it is. The gate also
 # compares what the program writes with a file that is not there, so only whether the program was built is looked at.
 build() {
     program=${1%%:*}
+    [ -d "crates/$program/src" ] || sources "$program"
     echo "$1" >>crates.txt
     awk -F: -v top="$program" '
         function visit(name, words, count, i) {

@@ -1,10 +1,6 @@
 #!/bin/sh
 # Nanoseconds of a put: one of a body of 4 bytes, and those of bodies of 1 MiB, 2 MiB and 4 MiB in pieces of 4 KiB, and of 1 MiB in pieces of 4 bytes.
 # The program is proved and built in a copy of the repository.
-set -eu
 . "$(dirname "$0")/in_a_copy.sh"
-mkdir -p crates/put_speed/src
-cp bench/put_speed.rt.txt crates/put_speed/src/main.rt
 build 'put_speed: pcache_base pcache_control pcache_evict pcache_meta pcache_put_ctx pcache_store http'
-crates/put_speed/out/put_speed | grep -E '^put '
-echo "cores=$(nproc) load=$(cut -d' ' -f1 /proc/loadavg)"
+tell '^put '

@@ -2,17 +2,8 @@
 # Whether readers of one stored body share it: the greatest resident memory of a program with one reader of a body of 1 MiB, and
 # with 1,000 that all keep what they read. It ends non-zero if a reader takes a hundredth of a body or more. The program is
 # proved and built in a copy of the repository.
-set -eu
 . "$(dirname "$0")/in_a_copy.sh"
-mkdir -p crates/shared_bodies/src crates/shared_bodies/proofs/let_all_go
-cp bench/shared_bodies.rt.txt crates/shared_bodies/src/main.rt
-cat >crates/shared_bodies/proofs/let_all_go/Invariants.antt <<'PROOF'
-use Rattle.std.specs.Vec.{vec_len}
-use Rattle.shared_bodies.proofs.let_all_go.Given as goal
-
-abbrev pub decreases-loop-reader : goal.decreases-loop-reader
-decreases-loop-reader l = vec_len l.readers
-PROOF
+decreases shared_bodies let_all_go reader readers
 build 'shared_bodies: pcache_base pcache_meta pcache_store bytes http'
 python3 - <<'MEASURE'
 import os, sys

@@ -2,10 +2,7 @@
 # How many bytes an entry of a world's history takes, of a wrong call and of a look-up that finds nothing, and how many a stored
 # body of eight bytes takes in the store and in the manager's list together. The program is proved and built in a copy of the
 # repository.
-set -eu
 . "$(dirname "$0")/in_a_copy.sh"
-mkdir -p crates/world_memory/src
-cp bench/world_memory.rt.txt crates/world_memory/src/main.rt
 build 'world_memory: pingora_cache bytes http'
 python3 - <<'MEASURE'
 import os, sys

@@ -1,5 +1,5 @@
 -- Keys of entries: what they are made of, when two are one, and an order of them (own, as the Rust derives it).
-use Rattle.std.specs.Prelude.{◌≡◌, ℕ, Bool, true, false, Option, None, Some, is_some, nat_eq, ◌&&◌, ◌++◌, refl}
+use Rattle.std.specs.Prelude.{◌≡◌, ℕ, Bool, true, false, Option, None, Some, List, [], ◌∷◌, is_some, nat_eq, ◌&&◌, ◌++◌, refl}
 use Rattle.std.specs.declared.cmp.Ordering.{Ordering}
 use Rattle.std.specs.declared.cmp.Ordering.TheVariants.{Equal}
 use Rattle.std.specs.Ordering.{nat_cmp, bool_cmp, ordering_then, eq_by_cmp}
@@ -8,8 +8,8 @@ use Rattle.std.specs.Hash as fed
 use Rattle.std.specs.Hash.{HashWrites, Alike, and-Alike, on_Alike, same_Alike}
 use Rattle.pcache_base.specs.Key.{number_of}
 use Rattle.std.specs.Cmp.{IsEquivalence, IsTotalOrder, IsPartialOrder, and_equiv, on_equiv, nat_eq_equiv, nat_cmp_total, bool_cmp_total, on_total, then_total, both_tied, unsigned_ties, partial_order_from_agreeing_total}
-use Rattle.std.specs.Cmp.Rules.{hashing}
-use Rattle.std.proofs.Common.{rules}
+use Rattle.std.proofs.Common.{ap, sym, true≢false}
+use Rattle.std.proofs.lemmas.Bool.{eqb-true}
 use Rattle.std.specs.Cmp.Lexicographic.{pointwise, bytes_decides, slice_cmp, options_equiv, options_total, nat_list_eq_equiv, nat_list_cmp_total, texts_ties}
 use Rattle.pcache_base.specs.declared.key.CompactCacheKey.{CompactCacheKey}
 use Rattle.pcache_evict.specs.declared.eviction.entry_key.CacheEntryKey.{CacheEntryKey}
@@ -50,18 +50,45 @@ compact_equiv = and_equiv (on_equiv (λ (k : CompactCacheKey). k.primary) nat_li
 pub entry_equiv : IsEquivalence entry_eq
 entry_equiv = and_equiv (on_equiv key_of compact_equiv) (on_equiv id_of (options_equiv nat_eq_equiv))
 
--- what a hasher is fed: the key's parts, then the number
+-- what a hasher is fed: the primary hash and the variance as numbers, the tag, and the number; nothing for what is not there
+abbrev pub variance_writes : Option (List ℕ) → HashWrites
+variance_writes None = []
+variance_writes (Some v) = fed.u128 (number_of v)
+
+abbrev pub id_writes : Option ℕ → HashWrites
+id_writes None = []
+id_writes (Some n) = fed.u64 n
+
 abbrev pub compact_writes : CompactCacheKey → HashWrites
-compact_writes k = fed.u128 (number_of k.primary) ++ fed.option (fed.slice fed.u8) k.variance ++ fed.str k.user_tag
+compact_writes k = fed.u128 (number_of k.primary) ++ variance_writes k.variance ++ (k.user_tag ∷ [])
 
 abbrev pub entry_writes : CacheEntryKey → HashWrites
-entry_writes e = compact_writes (key_of e) ++ fed.option fed.u64 (id_of e)
+entry_writes e = compact_writes (key_of e) ++ id_writes (id_of e)
+
+variance_alike : Alike (option_eq (pointwise nat_eq)) variance_writes
+variance_alike = record { fed = alike }
+  where
+    alike : (x y : Option (List ℕ)) → option_eq (pointwise nat_eq) x y ≡ true → variance_writes x ≡ variance_writes y
+    alike None None h = refl
+    alike None (Some y) h = absurd (true≢false (sym h))
+    alike (Some x) None h = absurd (true≢false (sym h))
+    alike (Some x) (Some y) h = ap (λ v. fed.u128 (number_of v)) ((bytes_decides x y).0 h)
+
+id_alike : Alike (option_eq nat_eq) id_writes
+id_alike = record { fed = alike }
+  where
+    alike : (x y : Option ℕ) → option_eq nat_eq x y ≡ true → id_writes x ≡ id_writes y
+    alike None None h = refl
+    alike None (Some y) h = absurd (true≢false (sym h))
+    alike (Some x) None h = absurd (true≢false (sym h))
+    alike (Some x) (Some y) h = ap fed.u64 (eqb-true x y h)
 
 compact_alike : Alike compact_eq compact_writes
-compact_alike = and-Alike (on_Alike (λ (k : CompactCacheKey). k.primary) (same_Alike (λ p. fed.u128 (number_of p)) bytes_decides)) (search (hashing, rules))
+compact_alike = and-Alike (on_Alike (λ (k : CompactCacheKey). k.primary) (same_Alike (λ p. fed.u128 (number_of p)) bytes_decides))
+    (and-Alike (on_Alike (λ (k : CompactCacheKey). k.variance) variance_alike) (on_Alike (λ (k : CompactCacheKey). k.user_tag) (same_Alike (λ t. t ∷ []) bytes_decides)))
 
 pub entry_alike : Alike entry_eq entry_writes
-entry_alike = and-Alike (on_Alike key_of compact_alike) (search (hashing, rules))
+entry_alike = and-Alike (on_Alike key_of compact_alike) (on_Alike id_of id_alike)
 
 -- ---- the order is total, and `==` is a tie in it
 

@@ -13,7 +13,8 @@ use Rattle.pcache_table.specs.Sharding.{all_entries, joined}
 use Rattle.pcache_table.proofs.Sharded.{by_test, same_key, off_not, get-insert-at, get-remove-at}
 use Rattle.pcache_store.specs.Store.{Written, is_named, kept, wrote_on, joined_on, left_on, grounded_on}
 use Rattle.pcache_store.specs.Shards.{parts, table_at, is_of_shard, of_shard, IsPlaceOf, AreRecords}
-use Rattle.pcache_store.proofs.Maps.{held, insert_len, remove_len}
+use Rattle.pcache_store.proofs.Maps.{insert_len, remove_len}
+use Rattle.pcache_store.specs.Shards.{held}
 
 abbrev Map : Type 0
 Map = FinMap nat_cmp Written
@@ -291,14 +292,13 @@ module _ {ms : List Map} {count : ℕ} (s : AreRecords ms count) (place number :
       pub fits : held (get (slice_index_or ms place d) number) ≤ count
       fits = subst (λ n. n ≤ count) (sym (ap held here)) (held-fits number s)
 
-      -- the number of records, if a call may take one out, and if none goes
-      pub kept-fewer : (x after : Map) → Changed ms place number x after → held (get x number) ≤ held (get (slice_index_or ms place d) number)
-          → AreRecords (slice_set ms place x) (count - held (get (slice_index_or ms place d) number) + held (get x number))
-      kept-fewer x after c less =
+      -- the number of records, if a call takes some out, and if none goes
+      pub kept-gone : (gone : ℕ) {x after : Map} (y : Map) → Changed ms place number x after → y ≡ x → held (get y number) + gone ≡ held (get (slice_index_or ms place d) number) → AreRecords (slice_set ms place y) (count - gone)
+      kept-gone gone {x} {after} y c e sum =
           let same : held (get (slice_index_or ms place d) number) ≡ held (get (all ms) number) = ap held here in
           let enough = fits in
           let few = s.few in
-          kept-changed place number _ x after s c (omega arith) (omega arith)
+          kept-changed place number _ y after s (subst (λ m. Changed ms place number m after) (sym e) c) (omega arith) (omega arith)
 
       pub kept-still : (x after : Map) → Changed ms place number x after → held (get x number) ≡ held (get (slice_index_or ms place d) number) → AreRecords (slice_set ms place x) count
       kept-still x after c still =
@@ -327,16 +327,6 @@ held-wrote m n bytes eof = elim (get m n) as (λ o. get m n ≡ o → held (get 
 
 pub held-joined : (m : Map) (n : ℕ) → held (get (joined_on m n (get m n)) n) ≡ held (get m n)
 held-joined m n = elim (get m n) as (λ o. get m n ≡ o → held (get (joined_on m n o) n) ≡ held o) [ None ↦ λ e. ap held e | Some w ↦ λ e. ap held (get-insert-at m n _) ] refl
-
-one-at-most : (o : Option Written) → held o ≤ 1
-one-at-most None = omega arith
-one-at-most (Some w) = omega arith
-
-pub held-left : (m : Map) (n : ℕ) → held (get (left_on m n (get m n)) n) ≤ held (get m n)
-held-left m n = elim (get m n) as (λ o. get m n ≡ o → held (get (left_on m n o) n) ≤ held o) [ None ↦ λ e. let same = ap held e in omega arith | Some w ↦ λ e. one-at-most (get (left_on m n (Some w)) n) ] refl
-
-pub held-landed : (m : Map) (n : ℕ) → held (get (grounded_on m n (get m n)) n) ≤ held (get m n)
-held-landed m n = elim (get m n) as (λ o. get m n ≡ o → held (get (grounded_on m n o) n) ≤ held o) [ None ↦ λ e. let same = ap held e in omega arith | Some w ↦ λ e. one-at-most (get (grounded_on m n (Some w)) n) ] refl
 
 pub held-gone : (m : Map) (n : ℕ) → held (get (remove m n) n) ≡ 0
 held-gone m n = ap held (get-remove-at m n)

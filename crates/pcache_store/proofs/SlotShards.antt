@@ -1,5 +1,5 @@
 -- Slots in shards as one map, after one table was changed at a key of its own.
-use Rattle.std.proofs.Common.{◌≡◌, ◌%◌, ◌<◌, ◌≤◌, ◌^◌, ◌+◌, ℕ, zero, suc, true, false, Option, None, Some, List, [], ◌∷◌, cond, refl, sym, ap, subst, ◌∙◌, arith, length}
+use Rattle.std.proofs.Common.{◌≡◌, ◌%◌, ◌<◌, ◌≤◌, ◌^◌, ◌+◌, ◌-◌, ℕ, zero, suc, true, false, Option, None, Some, List, [], ◌∷◌, cond, refl, sym, ap, subst, ◌∙◌, arith, length}
 use Rattle.std.specs.Prelude.{slice_get, slice_set, slice_index_or}
 use Rattle.std.specs.Ordering.{nat_cmp}
 use Rattle.std.specs.FinMap.{FinMap, empty, get, insert, remove, len, len-empty}
@@ -10,7 +10,8 @@ use Rattle.pcache_table.specs.Sharding.{Part, Belongs, Placed, AllPlaced, joined
 use Rattle.pcache_table.proofs.Sharded.{get-joined, insert-joined, remove-joined, all-set, part-joined, made-placed, made-empty, belongs-insert, belongs-remove, get-insert-at, get-remove-at}
 use Rattle.pcache_store.specs.Store.{Slot, Stored, is_idle, with_slot, slot_or_new, opened_in, opened, shut_on, stored_on, with_meta, meta_changed_in, meta_changed_on}
 use Rattle.pcache_store.specs.Shards.{parts, AreShards}
-use Rattle.pcache_store.proofs.Maps.{held, insert_len, remove_len}
+use Rattle.pcache_store.proofs.Maps.{insert_len, remove_len}
+use Rattle.pcache_store.specs.Shards.{held}
 
 abbrev Map : Type 0
 Map = FinMap nat_cmp Slot
@@ -133,16 +134,6 @@ held-meta m key f = elim (get m key) as (λ o. get m key ≡ o → held (get (me
     inside x None e = ap held e
     inside x (Some b) e = ap held (get-insert-at m key (with_meta f x (Some b)))
 
-pub held-shut : (m : Map) (key n : ℕ) → held (get (shut_on m key n (get m key)) key) ≤ held (get m key)
-held-shut m key n = elim (get m key) as (λ o. get m key ≡ o → held (get (shut_on m key n o) key) ≤ held o) [
-  | None ↦ λ e. let same = ap held e in omega arith
-  | Some x ↦ λ e. one (get (shut_on m key n (Some x)) key)
-] refl
-  where
-    one : (o : Option Slot) → held o ≤ 1
-    one None = omega arith
-    one (Some x) = omega arith
-
 pub held-opened : (m : Map) (key n : ℕ) → held (get (opened m key n) key) ≡ 1
 held-opened m key n = ap held (get-insert-at m key (opened_in (slot_or_new (get m key)) n))
 
@@ -169,6 +160,16 @@ kept-changed ms key count next d x after s c sum few =
       counted = (let e : next ≡ len after = omega arith in e) ∙ ap len (sym c.whole);
       few = few;
     }
+
+-- the same of a table that is one that was changed so, if keys went, and if keys came in
+pub kept-gone : (ms : List Map) (key count gone : ℕ) (d : Map) {x after : Map} (y : Map) → AreShards ms count → Changed ms key x after → y ≡ x → held (get y key) + gone ≡ held (get (slice_index_or ms (key % 16) d) key) → AreShards (slice_set ms (key % 16) y) (count - gone)
+kept-gone ms key count gone d {x} {after} y s c e sum =
+    let fits = held-fits ms key count d s in
+    let few = s.few in
+    kept-changed ms key count (count - gone) d y after s (subst (λ m. Changed ms key m after) (sym e) c) (omega arith) (omega arith)
+
+pub kept-more : (ms : List Map) (key count more : ℕ) (d : Map) {x after : Map} (y : Map) → AreShards ms count → Changed ms key x after → y ≡ x → held (get y key) ≡ 1 → held (get (slice_index_or ms (key % 16) d) key) + more ≡ 1 → count < 2 ^ 63 - 1 → AreShards (slice_set ms (key % 16) y) (count + more)
+kept-more ms key count more d {x} {after} y s c e one sum few = kept-changed ms key count (count + more) d y after s (subst (λ m. Changed ms key m after) (sym e) c) (omega arith) (omega arith)
 
 -- tables that were just made
 made : (ms : List Map) → length ms ≡ 16 → ((i : ℕ) (e : Map) → i < 16 → slice_index_or ms i e ≡ empty) → (i : ℕ) (e : Part Slot) → i < 16 → slice_index_or (parts 0 ms) i e ≡ part i empty

@@ -1,10 +1,17 @@
 -- Slots that were changed in place.
-use Rattle.std.proofs.Common.{◌≡◌, ℕ, true, false, Option, None, Some, ◌∙◌, sym, ap, cond}
+use Rattle.std.proofs.Common.{◌≡◌, ◌+◌, ℕ, true, false, Option, None, Some, Result, Ok, Err, OnErr, ◌∙◌, sym, ap, cond, refl}
 use Rattle.std.specs.Ordering.{nat_cmp}
 use Rattle.std.specs.FinMap.{FinMap, get, insert, remove}
 use Rattle.pcache_meta.specs.Meta.{Meta}
+use Rattle.pcache_table.proofs.Sharded.{get-insert-at, get-remove-at}
+use Rattle.pcache_store.specs.Shards.{held}
 use Rattle.pcache_store.proofs.Maps.{insert_same, remove-insert}
 use Rattle.pcache_store.specs.Store.{Slot, Stored, is_idle, with_slot, opened_in, opened, slot_or_new, shut_on, stored_on, with_meta, meta_changed_in, meta_changed_on}
+
+-- what holds anyway holds if a call is refused
+pub on_err : {A E P : Type 0} (r : Result A E) → P → OnErr r P
+on_err (Ok a) p = tt
+on_err (Err e) p = p
 
 module _ (xs : FinMap nat_cmp Slot) (k : ℕ) (x v : Slot) (m : FinMap nat_cmp Slot) (is : Some x ≡ get xs k) (set : m ≡ insert xs k v) where
   pub opened_there : (n : ℕ) → v ≡ opened_in x n → m ≡ opened xs k n
@@ -18,6 +25,16 @@ module _ (xs : FinMap nat_cmp Slot) (k : ℕ) (x v : Slot) (m : FinMap nat_cmp S
 
   pub shut_gone : (n : ℕ) (r : FinMap nat_cmp Slot) → v ≡ record x { untouched = remove x.untouched n } → is_idle v ≡ true → r ≡ remove m k → r ≡ shut_on xs k n (get xs k)
   shut_gone n r e idle out = out ∙ ap (λ y. remove y k) set ∙ remove-insert xs k v ∙ ap (λ b. cond b (remove xs k) (insert xs k v)) (sym idle) ∙ ap (with_slot xs k) e ∙ ap (shut_on xs k n) is
+
+  -- how many slots of the key there are, if it was changed where it stands, and if it was taken out then
+  found : Some v ≡ get m k
+  found = sym (ap (λ x. get x k) set ∙ get-insert-at xs k v)
+
+  pub one_stays : held (get m k) + 0 ≡ held (get xs k)
+  one_stays = rw (← is, ← found) refl
+
+  pub one_goes : (r : FinMap nat_cmp Slot) → r ≡ remove m k → held (get r k) + 1 ≡ held (get xs k)
+  one_goes r out = rw (← is, out, get-remove-at m k) refl
 
   pub stored_there : (n : ℕ) (b : Stored) → v ≡ record { body = Some b; untouched = remove x.untouched n } → m ≡ stored_on xs k n b (get xs k)
   stored_there n b e = set ∙ ap (insert xs k) e ∙ ap (stored_on xs k n b) is

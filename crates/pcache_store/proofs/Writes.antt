@@ -6,6 +6,8 @@ use Rattle.std.proofs.lemmas.Bool.Decides.{nat_tests}
 use Rattle.std.specs.FinMap.{FinMap, empty, get-empty, gets, get, insert, remove, get-insert}
 use Rattle.pcache_store.proofs.Maps.{insert_same, undone, remove-insert}
 use Rattle.pcache_store.specs.Store.{Written, Stored, kept, is_named, wrote_on, joined_on, left_on, grounded_on}
+use Rattle.pcache_table.proofs.Sharded.{get-remove-at}
+use Rattle.pcache_store.specs.Shards.{held}
 use Rattle.pcache_store.specs.Drafts.{Numbered, AreBefore, IsBodyOf}
 
 module _ (ws : FinMap nat_cmp Written) (n : ℕ) (w v : Written) (m : FinMap nat_cmp Written) (is : Some w ≡ get ws n) (set : m ≡ insert ws n v) where
@@ -39,6 +41,13 @@ module _ (ws : FinMap nat_cmp Written) (n : ℕ) (w v : Written) (m : FinMap nat
   -- the write that was changed, found again
   found : Some v ≡ get m n
   found = sym (ap (λ x. get x n) set ∙ get-insert nat_cmp_total ws n v n ∙ ap (λ r. cond (is_eq r) (Some v) (get ws n)) (tied_itself nat_cmp_total n))
+
+  -- how many records of the number there are, if it was changed where it stands, and if it was taken out then
+  pub one_stays : held (get m n) + 0 ≡ held (get ws n)
+  one_stays = rw (← is, ← found) refl
+
+  pub one_goes : (r : FinMap nat_cmp Written) → r ≡ remove m n → held (get r n) + 1 ≡ held (get ws n)
+  one_goes r out = rw (← is, out, get-remove-at m n) refl
 
   pub not_lost : None ≡ get m n → ⊥
   not_lost e = let h : None ≡ Some v = e ∙ sym found in cc

@@ -1,9 +1,13 @@
 -- What stands in shards (own): there are 16, and the shard of a key is the key modulo 16.
-use Rattle.std.specs.Prelude.{ℕ, ◌≡◌, ◌<◌, ◌^◌, ◌%◌, ◌==◌, suc, List, [], ◌∷◌, length, slice_index_or, Bool, false, Option, Some, None}
+use Rattle.std.specs.Prelude.{ℕ, ◌≡◌, ◌<◌, ◌^◌, ◌%◌, ◌==◌, suc, List, [], ◌∷◌, length, slice_index_or, Bool, false, Option, Some, None, is_some, cond}
 use Rattle.std.specs.Ordering.{nat_cmp}
 use Rattle.std.specs.FinMap.{FinMap, empty, get, len, retain_keys}
 use Rattle.pcache_table.specs.Sharding.{Part, AllPlaced, joined}
 use Rattle.pcache_store.specs.Store.{Slot, Written}
+
+-- one if a key has a value, else none
+abbrev pub held : {V : Type 0} → Option V → ℕ
+held o = cond (is_some o) 1 0
 
 -- tables side by side, each with its place
 abbrev pub parts : {V : Type 0} → ℕ → List (FinMap nat_cmp V) → List (Part V)

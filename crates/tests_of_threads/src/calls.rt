@@ -18,6 +18,7 @@ use pingora_cache::world::call::{Act, Call, RequestAct};
 use pingora_cache::world::policy::BySelf;
 use std::alloc::Global;
 use std::time::Duration;
+use test_rows::{some_number, word};
 
 /// A world over one recency list.
 pub type ListWorld = World<Manager, BySelf>;
@@ -84,13 +85,9 @@ fn call_of(alloc: Global, word: &str, request: u64, text: &'static str) -> Resul
 
 /// The call of a line: its word, the number of its request and perhaps a text.
 pub fn read_call(alloc: Global, line: &'static str) -> Result<Option<Call>> {
-    let mut words = line.split(' ');
-    let word = words.next().unwrap_or("");
-    let number = words.next().unwrap_or("");
-    let text = words.next().unwrap_or("");
-    match number.parse::<u64>() {
-        Ok(request) => call_of(alloc, word, request, text),
-        Err(_) => Ok(None),
+    match some_number(line, 1) {
+        Some(request) => call_of(alloc, word(line, 0), request, word(line, 2)),
+        None => Ok(None),
     }
 }
 

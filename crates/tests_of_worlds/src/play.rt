@@ -13,6 +13,7 @@ use std::alloc::Global;
 use std::process::Abort;
 use std::test::Fail;
 use std::time::Duration;
+use test_rows::other_seed;
 
 /// The limits of a world's manager, on the weight of its entries and on their number.
 #[derive(Clone, Copy)]
@@ -63,11 +64,6 @@ pub fn sharded_world_of<const N: usize>(
         alloc, seed, weight, 4, watermark,
     )?;
     Ok(World::new(alloc, seed, manager, Duration::from_secs(10)))
-}
-
-// A seed that is not the fixed one.
-fn other_seed() -> Seed {
-    Seed::new(*b"not all are zero")
 }
 
 /// Plays two texts on a new world, all calls of a text in one run, and on another world, under

@@ -17,6 +17,7 @@ use pingora_cache::world::boxed::Boxed;
 use pingora_cache::world::call::{Act, Call, RequestAct};
 use pingora_cache::world::tokens::Tokens;
 use std::alloc::Global;
+pub use test_rows::asked_of;
 
 // The variance of a key that has one.
 const VARIANCE: HashBinary = [0; 16];
@@ -74,14 +75,6 @@ pub fn line_of(asked: &str) -> Line {
     match asked.strip_prefix("at ").and_then(number) {
         Some(seconds) => Line::At(seconds),
         None => Line::Call,
-    }
-}
-
-/// A line without the reply that is wanted.
-pub fn asked_of(line: &'static str) -> &'static str {
-    match line.split_once(" -> ") {
-        Some((asked, _wanted)) => asked,
-        None => line,
     }
 }
 

@@ -1,8 +1,10 @@
 //! The keys of entries that eviction managers know.
-ghost use Rattle.std.specs.Prelude.{◌≡◌, IfOk, IfErr, None, Some, refl};
+ghost use Rattle.std.specs.Prelude.{◌≡◌, ◌++◌, ℕ, IfOk, IfErr, None, Some, refl};
+ghost use Rattle.std.specs.List.{fold};
 ghost use Rattle.std.specs.Cmp.{partial_equiv_from_equiv};
 ghost use Rattle.pcache_base.specs.Key.{number_of};
 ghost use Rattle.pcache_base.specs.declared.error.ErrorType.TheVariants.{OutOfMemory};
+ghost use Rattle.pcache_evict.specs.Entry.{compact_writes, id_writes};
 
 use pcache_base::entry_id::CacheEntryId;
 use pcache_base::error::Result;
@@ -32,6 +34,22 @@ fn number(hash: HashBinary) -> u128
     ensures { result ≡ number_of hash }
 {
     u128::from_be_bytes(hash)
+}
+
+// Feeds a hasher an entry's key and its number in as few steps as there are parts: each step of a hash under a seed
+// has its price, and what is not there is not fed.
+#[inline(always)]
+fn feed<H: Hasher>(key: &CompactCacheKey, id: Option<CacheEntryId>, state: &mut H)
+    ensures { state.new ≡ fold H.write state.old (compact_writes key.now ++ id_writes id) }
+{
+    state.write_u128(number(key.primary));
+    if let Some(variance) = key.variance {
+        state.write_u128(number(variance));
+    }
+    state.write(key.user_tag.as_str().as_bytes());
+    if let Some(id) = id {
+        state.write_u64(id.get());
+    }
 }
 
 impl CacheEntryKey {
@@ -133,11 +151,7 @@ impl Hash for CacheEntryKey {
     ghost respects_eq = { entry_alike.fed };
 
     fn hash<H: Hasher>(&self, state: &mut H) {
-        let key = self.key();
-        number(key.primary).hash(state);
-        key.variance.hash(state);
-        key.user_tag.hash(state);
-        self.entry_id().hash(state);
+        feed(self.key(), self.entry_id(), state);
     }
 }
 
@@ -300,10 +314,7 @@ impl<'a> Hash for CacheEntryKeyRef<'a> {
 
     fn hash<H: Hasher>(&self, state: &mut H) {
         let (key, id) = self.parts();
-        number(key.primary).hash(state);
-        key.variance.hash(state);
-        key.user_tag.hash(state);
-        id.hash(state);
+        feed(key, id, state);
     }
 }
 

@@ -1,14 +1,14 @@
 //! The records of writes by number, in shards.
-ghost use Rattle.std.specs.Prelude.{◌≡◌, ◌<◌, ◌++◌, ◌^◌, ℕ, Option, Some, None, IsSome, IfSome, IfNone, IfOk, IfErr, OnOk, OnErr, option_map, option_copied, is_some, cond};
+ghost use Rattle.std.specs.Prelude.{◌≡◌, ◌<◌, ◌++◌, ◌^◌, ℕ, Option, Some, None, IsSome, IfSome, IfNone, IfOk, IfErr, OnOk, OnErr, option_map, option_copied, ◌+◌};
 ghost use Rattle.std.specs.FinMap as map;
 ghost use Rattle.pcache_base.specs.declared.error.ErrorType.TheVariants.{OutOfMemory};
 ghost use Rattle.pcache_store.specs.Drafts.{IsBodyOf};
-ghost use Rattle.pcache_store.specs.Shards.{of_shard, table_at, IsPlaceOf};
+ghost use Rattle.pcache_store.specs.Shards.{held, of_shard, table_at, IsPlaceOf};
 ghost use Rattle.pcache_store.specs.Store.{Written, joined_on, left_on, wrote_on, grounded_on};
 
 use crate::memory::body::Body;
 use crate::memory::draft::Draft;
-use crate::memory::slot_table::SHARDS;
+use crate::memory::slot_table::{SHARDS, one_if};
 use bytes::Bytes;
 use pcache_base::error::{Error, ErrorType, Result};
 use pcache_base::seed::Seed;
@@ -114,9 +114,7 @@ impl DraftTable {
     {
         let place = place_of(&self.shards, slot, number);
         let table = &mut self.shards[place];
-        let was = held(table, number);
-        table.remove(number);
-        self.count -= was;
+        self.count -= one_if(table.remove(number).is_some());
     }
 
     pub(crate) fn write(
@@ -160,10 +158,7 @@ impl DraftTable {
     {
         let place = place_of(&self.shards, slot, number);
         let table = &mut self.shards[place];
-        let was = held(table, number);
-        leave_in(table, number);
-        let is = held(table, number);
-        self.count = self.count - was + is;
+        self.count -= leave_in(table, number);
     }
 
     // A write whose handler is gone.
@@ -172,10 +167,7 @@ impl DraftTable {
     {
         let place = place_of(&self.shards, slot, number);
         let table = &mut self.shards[place];
-        let was = held(table, number);
-        land_in(table, number);
-        let is = held(table, number);
-        self.count = self.count - was + is;
+        self.count -= land_in(table, number);
     }
 
     // A write whose handler is gone, and its body, which shares its bytes.
@@ -187,10 +179,8 @@ impl DraftTable {
     {
         let place = place_of(&self.shards, slot, number);
         let table = &mut self.shards[place];
-        let was = held(table, number);
-        let body = end_in(table, alloc, number);
-        let is = held(table, number);
-        self.count = self.count - was + is;
+        let (body, gone) = end_in(table, alloc, number);
+        self.count -= gone;
         body
     }
 }
@@ -224,16 +214,6 @@ fn place_with(shards: &[HashedTable<Draft>; 16], number: u128) -> Option<usize>
         }
     }
     None
-}
-
-// One if a table has a record of a number, else none.
-fn held(table: &HashedTable<Draft>, number: u128) -> usize
-    ensures { result ≡ cond (is_some (map.get table.now number)) 1 0 }
-{
-    match table.get(number) {
-        Some(_draft) => 1,
-        None => 0,
-    }
 }
 
 // What follows changes one table. Each method above lends the table of a number to one of these functions, so that
@@ -275,48 +255,56 @@ fn join_in(
     }
 }
 
-fn leave_in(writes: &mut HashedTable<Draft>, number: u128)
-    ensures { writes.new ≡ left_on writes.old number (map.get writes.old number) }
+// Answers how many records went.
+fn leave_in(writes: &mut HashedTable<Draft>, number: u128) -> usize
+    ensures after { writes.new ≡ left_on writes.old number (map.get writes.old number) }
+    ensures gone { held (map.get writes.new number) + result ≡ held (map.get writes.old number) }
 {
     let Some(draft) = writes.get_mut(number) else {
-        return;
+        return 0;
     };
     draft.leave();
     if draft.is_named() {
-        return;
+        return 0;
     }
     writes.remove(number);
+    1
 }
 
-fn land_in(writes: &mut HashedTable<Draft>, number: u128)
-    ensures { writes.new ≡ grounded_on writes.old number (map.get writes.old number) }
+// Answers how many records went.
+fn land_in(writes: &mut HashedTable<Draft>, number: u128) -> usize
+    ensures after { writes.new ≡ grounded_on writes.old number (map.get writes.old number) }
+    ensures gone { held (map.get writes.new number) + result ≡ held (map.get writes.old number) }
 {
     let Some(draft) = writes.get_mut(number) else {
-        return;
+        return 0;
     };
     draft.land();
     if draft.is_named() {
-        return;
+        return 0;
     }
     writes.remove(number);
+    1
 }
 
-// If nobody reads the write, its meta and bytes move into the body; else the body shares them.
-fn end_in(writes: &mut HashedTable<Draft>, alloc: Global, number: u128) -> Result<Body>
+// If nobody reads the write, its meta and bytes move into the body; else the body shares them. Answers also how many
+// records went.
+fn end_in(writes: &mut HashedTable<Draft>, alloc: Global, number: u128) -> (Result<Body>, usize)
     requires { IsSome (map.get writes.old number) }
-    ensures body { IfOk result (λ b. IsBodyOf (map.get writes.old number) b) }
-    ensures gone { writes.new ≡ grounded_on writes.old number (map.get writes.old number) }
-    ensures kind { IfErr result (λ e. e ≡ OutOfMemory) }
+    ensures body { IfOk result.0 (λ b. IsBodyOf (map.get writes.old number) b) }
+    ensures after { writes.new ≡ grounded_on writes.old number (map.get writes.old number) }
+    ensures gone { held (map.get writes.new number) + result.1 ≡ held (map.get writes.old number) }
+    ensures kind { IfErr result.0 (λ e. e ≡ OutOfMemory) }
 {
     let Some(draft) = writes.get_mut(number) else {
         unreachable!()
     };
     draft.land();
     if draft.is_named() {
-        return draft.to_body(alloc);
+        return (draft.to_body(alloc), 0);
     }
     let Some(draft) = writes.remove(number) else {
         unreachable!()
     };
-    draft.into_body(alloc)
+    (draft.into_body(alloc), 1)
 }

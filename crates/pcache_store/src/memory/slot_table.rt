@@ -1,9 +1,10 @@
 //! The slots by key, in shards.
-ghost use Rattle.std.specs.Prelude.{◌≡◌, ◌<◌, ◌^◌, ℕ, Option, Some, None, IsSome, IfOk, IfErr, OnOk, OnErr, option_copied, is_some, true, cond};
+ghost use Rattle.std.specs.Prelude.{◌≡◌, ◌<◌, ◌^◌, ℕ, Option, Some, None, IsSome, IfOk, IfErr, OnOk, OnErr, option_copied, is_some, true, cond, ◌+◌};
 ghost use Rattle.std.specs.FinMap as map;
 ghost use Rattle.pcache_meta.specs.Meta as meta_of;
 ghost use Rattle.pcache_base.specs.declared.error.ErrorType.TheVariants.{OutOfMemory};
 ghost use Rattle.pcache_table.specs.Sharding.{part_of};
+ghost use Rattle.pcache_store.specs.Shards.{held};
 ghost use Rattle.pcache_store.specs.Store.{opened, shut_on, stored_on, complete_body, meta_changed_on};
 
 use crate::memory::body::{Body, KeySlot};
@@ -98,9 +99,8 @@ impl SlotTable {
         }
         let place = (key % SHARDS) as usize;
         let table = &mut self.shards[place];
-        let was = held(table, key);
-        open_in(table, alloc, key, number)?;
-        self.count = self.count - was + 1;
+        let more = open_in(table, alloc, key, number)?;
+        self.count += more;
         Ok(())
     }
 
@@ -111,10 +111,7 @@ impl SlotTable {
         let _ = &self.shards; // for the prover: once a field is used, the invariant is known
         let place = (key % SHARDS) as usize;
         let table = &mut self.shards[place];
-        let was = held(table, key);
-        shut_in(table, key, number);
-        let is = held(table, key);
-        self.count = self.count - was + is;
+        self.count -= shut_in(table, key, number);
     }
 
     // A write of the key ends, and its body stands in place of an older one, which is answered.
@@ -137,9 +134,8 @@ impl SlotTable {
         let _ = &self.shards; // for the prover: once a field is used, the invariant is known
         let place = (key % SHARDS) as usize;
         let table = &mut self.shards[place];
-        let was = held(table, key);
         let slot = table.remove(key);
-        self.count -= was;
+        self.count -= one_if(slot.is_some());
         slot
     }
 
@@ -169,42 +165,52 @@ impl SlotTable {
     }
 }
 
-// One if a key has a slot, else none.
-fn held(table: &HashedTable<KeySlot>, key: u128) -> usize
-    ensures { result ≡ cond (is_some (map.get table.now key)) 1 0 }
+// One if something is so, else none.
+pub(crate) fn one_if(is_so: bool) -> usize
+    ensures { result ≡ cond is_so 1 0 }
 {
-    match table.get(key) {
-        Some(_slot) => 1,
-        None => 0,
-    }
+    if is_so { 1 } else { 0 }
 }
 
 // What follows changes one table. Each method above lends the table of a key to one of these functions, so that
 // the change has one clause over one table, and one lemma says what it makes of all tables together.
-fn open_in(slots: &mut HashedTable<KeySlot>, alloc: Global, key: u128, number: u128) -> Result<()>
+//
+// Answers how many keys came in, which is one or none.
+fn open_in(
+    slots: &mut HashedTable<KeySlot>,
+    alloc: Global,
+    key: u128,
+    number: u128,
+) -> Result<usize>
     ensures ok { OnOk result (slots.new ≡ opened slots.old key number) }
+    ensures more { IfOk result (λ n. held (map.get slots.old key) + n ≡ 1) }
     ensures kind { IfErr result (λ e. e ≡ OutOfMemory) }
     ensures err { OnErr result (slots.new ≡ slots.old) }
 {
     if let Some(slot) = slots.get_mut(key) {
-        return slot.open(number);
+        slot.open(number)?;
+        return Ok(0);
     }
     let mut slot = KeySlot::new(alloc);
     slot.open(number)?;
     slots.insert(key, slot)?;
-    Ok(())
+    Ok(1)
 }
 
-fn shut_in(slots: &mut HashedTable<KeySlot>, key: u128, number: u128)
-    ensures { slots.new ≡ shut_on slots.old key number (map.get slots.old key) }
+// Answers how many keys went.
+fn shut_in(slots: &mut HashedTable<KeySlot>, key: u128, number: u128) -> usize
+    ensures after { slots.new ≡ shut_on slots.old key number (map.get slots.old key) }
+    ensures gone { held (map.get slots.new key) + result ≡ held (map.get slots.old key) }
 {
     let Some(slot) = slots.get_mut(key) else {
-        return;
+        return 0;
     };
     slot.shut(number);
     if slot.is_idle() {
         slots.remove(key);
+        return 1;
     }
+    0
 }
 
 // Answers the older body.

@@ -1,11 +1,11 @@
 use Rattle.std.proofs.Common.{sym, ap, ◌∙◌}
 use Rattle.std.proofs.lemmas.Result.{IfOk-weaker}
-use Rattle.pcache_store.proofs.Writes.{landed_there, landed_gone, landed_body, not_lost}
+use Rattle.pcache_store.proofs.Writes.{landed_there, landed_gone, landed_body, not_lost, one_stays, one_goes}
 use Rattle.pcache_store.specs.Store.{is_named}
 use Rattle.pcache_store.proofs.memory.draft_table.end_in.Goals as goal
 
-pub returns-then-is_named-clause-gone : goal.returns-then-is_named-clause-gone
-returns-then-is_named-clause-gone c =
+pub returns-then-is_named-clause-after : goal.returns-then-is_named-clause-after
+returns-then-is_named-clause-after c =
     let is = rw c.in-Some.is at c.get_mut.ensures.value in
     let set = rw c.in-Some.is at (c.get_mut.follows.holds c.to_body.new.self) in
     landed_there c.args.writes.now c.args.number c.in-Some.draft.now c.to_body.new.self _ is set (c.to_body.ensures.same ∙ c.land.ensures) (ap is_named c.to_body.ensures.same ∙ sym c.is_named.ensures ∙ c.if-is_named.true)
@@ -22,8 +22,20 @@ returns-clause-body c =
     let set = rw c.in-Some.is at (c.get_mut.follows.holds c.land.new.self) in
     IfOk-weaker c.into_body.result _ _ (λ b. landed_body c.args.writes.now c.args.number c.in-Some.draft.now c.land.new.self _ is set c.in-Some-remove.draft b c.land.ensures (rw c.in-Some-remove.is at c.remove.ensures.before)) c.into_body.ensures.ok
 
+pub returns-clause-after : goal.returns-clause-after
+returns-clause-after c =
+    let is = rw c.in-Some.is at c.get_mut.ensures.value in
+    let set = rw c.in-Some.is at (c.get_mut.follows.holds c.land.new.self) in
+    landed_gone c.args.writes.now c.args.number c.in-Some.draft.now c.land.new.self _ is set _ c.land.ensures (sym c.is_named.ensures ∙ c.if-is_named.false) c.remove.ensures.removed
+
+pub returns-then-is_named-clause-gone : goal.returns-then-is_named-clause-gone
+returns-then-is_named-clause-gone c =
+    let is = rw c.in-Some.is at c.get_mut.ensures.value in
+    let set = rw c.in-Some.is at (c.get_mut.follows.holds c.to_body.new.self) in
+    one_stays c.args.writes.now c.args.number c.in-Some.draft.now c.to_body.new.self _ is set
+
 pub returns-clause-gone : goal.returns-clause-gone
 returns-clause-gone c =
     let is = rw c.in-Some.is at c.get_mut.ensures.value in
     let set = rw c.in-Some.is at (c.get_mut.follows.holds c.land.new.self) in
-    landed_gone c.args.writes.now c.args.number c.in-Some.draft.now c.land.new.self _ is set _ c.land.ensures (sym c.is_named.ensures ∙ c.if-is_named.false) c.remove.ensures.removed
+    one_goes c.args.writes.now c.args.number c.in-Some.draft.now c.land.new.self _ is set _ c.remove.ensures.removed

@@ -1,15 +1,27 @@
 use Rattle.std.proofs.Common.{sym, ◌∙◌}
-use Rattle.pcache_store.proofs.Writes.{left_there, left_gone}
+use Rattle.pcache_store.proofs.Writes.{left_there, left_gone, one_stays, one_goes}
 use Rattle.pcache_store.proofs.memory.draft_table.leave_in.Goals as goal
 
-pub returns-then-is_named : goal.returns-then-is_named
-returns-then-is_named c =
+pub returns-then-is_named-clause-after : goal.returns-then-is_named-clause-after
+returns-then-is_named-clause-after c =
     let is = rw c.in-Some.is at c.get_mut.ensures.value in
     let set = rw c.in-Some.is at (c.get_mut.follows.holds c.leave.new.self) in
     left_there c.args.writes.now c.args.number c.in-Some.draft.now c.leave.new.self _ is set c.leave.ensures (sym c.is_named.ensures ∙ c.if-is_named.true)
 
-pub returns : goal.returns
-returns c =
+pub returns-then-is_named-clause-gone : goal.returns-then-is_named-clause-gone
+returns-then-is_named-clause-gone c =
+    let is = rw c.in-Some.is at c.get_mut.ensures.value in
+    let set = rw c.in-Some.is at (c.get_mut.follows.holds c.leave.new.self) in
+    one_stays c.args.writes.now c.args.number c.in-Some.draft.now c.leave.new.self _ is set
+
+pub returns-clause-after : goal.returns-clause-after
+returns-clause-after c =
     let is = rw c.in-Some.is at c.get_mut.ensures.value in
     let set = rw c.in-Some.is at (c.get_mut.follows.holds c.leave.new.self) in
     left_gone c.args.writes.now c.args.number c.in-Some.draft.now c.leave.new.self _ is set _ c.leave.ensures (sym c.is_named.ensures ∙ c.if-is_named.false) c.remove.ensures.removed
+
+pub returns-clause-gone : goal.returns-clause-gone
+returns-clause-gone c =
+    let is = rw c.in-Some.is at c.get_mut.ensures.value in
+    let set = rw c.in-Some.is at (c.get_mut.follows.holds c.leave.new.self) in
+    one_goes c.args.writes.now c.args.number c.in-Some.draft.now c.leave.new.self _ is set _ c.remove.ensures.removed

@@ -1,0 +1,23 @@
+#![tactic(auto)]
+//! Tests as rows of text: a call on the left of an arrow, and on the right what it tells.
+//!
+//! A row of text costs nothing to prove, and the functions after the calls are proved once for all rows. What tells has
+//! no `?`: `Told` takes each result, also a refused one, and if memory was wanting no row is told as it should be.
+//!
+//! Only crates of tests use this crate. No function of it promises anything: a test sees what was told.
+
+mod rows;
+mod spelled;
+mod told;
+mod words;
+
+use pcache_base::seed::Seed;
+pub use rows::{Desk, asked_of, first_wrong};
+pub use spelled::{unescape, unhex};
+pub use told::Told;
+pub use words::{number, rest, size, some_byte, some_number, some_size, word};
+
+/// A seed that is not the fixed one.
+pub fn other_seed() -> Seed {
+    Seed::new(*b"not all are zero")
+}
