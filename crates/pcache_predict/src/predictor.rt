@@ -1,5 +1,5 @@
 //! Which keys' responses are predicted not to be cacheable.
-ghost use Rattle.std.specs.Prelude.{◌≡◌, ◌<◌, ℕ, Bool, List, Option, not, replicate, is_some, is_none, IfOk, IfErr, OnErr, Some, None, if◌then◌else◌, option_map};
+ghost use Rattle.std.specs.Prelude.{◌≡◌, ◌<◌, ℕ, Bool, true, List, Option, not, replicate, is_some, is_none, IfOk, IfErr, OnErr, Some, None, if◌then◌else◌, option_map};
 ghost use Rattle.std.specs.Option.{ForSome};
 ghost use Rattle.pcache_base.specs.Key.{primary_of, number_of};
 ghost use Rattle.pcache_base.specs.declared.error.ErrorType.TheVariants.{OutOfMemory};
@@ -33,6 +33,9 @@ pub trait CacheablePredictor {
     /// What marking a primary hash as not cacheable, for a reason, answers and leaves.
     ghost marks: { Self → List ℕ → NoCacheReason → Option Bool → Self → Type 0 };
 
+    /// Whether a marking for this reason may count.
+    ghost may_count: { Self → NoCacheReason → Type 0 };
+
     /// Whether the key's response is predicted to be cacheable.
     fn cacheable_prediction(&self, key: &CacheKey) -> bool
         ensures { result ≡ not (uncacheable self.now (primary_of key.now)) };
@@ -47,11 +50,12 @@ pub trait CacheablePredictor {
 
     /// Takes in that the key's response was not cacheable, for this reason: None if the reason does
     /// not count, else whether the key was predicted to be cacheable. It is refused only when memory
-    /// runs out, and then changes nothing.
+    /// runs out, for a reason that may count, and then changes nothing.
     fn mark_uncacheable(&mut self, key: &CacheKey, why: NoCacheReason) -> Result<Option<bool>>
         ensures ok { IfOk result (λ answer. marks self.old (primary_of key.now) why answer self.new) }
         ensures err { OnErr result (self.new ≡ self.old) }
-        ensures kind { IfErr result (λ e. e ≡ OutOfMemory) };
+        ensures kind { IfErr result (λ e. e ≡ OutOfMemory) }
+        ensures counted { OnErr result (may_count self.old why) };
 }
 
 #[tactic(auto, unfolding(pcache_base::specs::Key::number_of))]
@@ -156,6 +160,9 @@ impl<const N_SHARDS: usize> CacheablePredictor for Predictor<N_SHARDS> {
         × (answer ≡ (if counts why skipped then Some (is_none (reason_of (memory_of p) (number_of key))) else None))
         × (memory_of q ≡ (if counts why skipped then after_mark (memory_of p) (number_of key) why else memory_of p))
         × (predicate_of q ≡ predicate_of p) };
+
+    // A reason that the predicate does not skip, if it is a custom one.
+    ghost may_count = { λ p why. (skipped : Bool) × Skips CustomReasonPredicate.post (predicate_of p) why skipped × (counts why skipped ≡ true) };
 
     fn cacheable_prediction(&self, key: &CacheKey) -> bool {
         self.predicted_uncacheable_reason(key).is_none()

@@ -1,3 +1,4 @@
 pub mod Fields
+pub mod NoBody
 pub mod Polled
 pub mod Purging

@@ -4,6 +4,7 @@ pub mod Finishing
 pub mod LockUse
 pub mod LockWaits
 pub mod LookUps
+pub mod NoBody
 pub mod Phases
 pub mod Predictions
 pub mod Releasing

@@ -3,7 +3,7 @@
 //! A request is lent what it works on: the storage, the eviction manager and the lock table. Parts
 //! that it does not use are left as they are. What it holds (a lock, a reader, a write) has to be
 //! given back, so a request is spent by `end`.
-ghost use Rattle.std.specs.Prelude.{◌≡◌, IfOk, IfErr, OnOk, OnErr, Option, Some, None, option_map, cond, true};
+ghost use Rattle.std.specs.Prelude.{◌≡◌, IfOk, IfErr, OnOk, OnErr, IsSome, Option, Some, None, option_map, cond, true};
 ghost use Rattle.pcache_base.specs.Key.{slot};
 ghost use Rattle.pcache_base.specs.declared.error.ErrorType.TheVariants.{OutOfMemory};
 ghost use Rattle.std.specs.Option.{option_copied};
@@ -215,6 +215,7 @@ fn join_write<S: Storage>(
 ) -> Result<Option<S::Hit>>
     ensures joined { IfOk result (λ r. option_map S.Hit.reader r ≡ reader_in (find_write (S.state storage.old) (slot key.now) (named_by (option_copied tag.entry)))) }
     ensures ok { OnOk result (S.state storage.new ≡ followed (S.state storage.old) (find_write (S.state storage.old) (slot key.now) (named_by (option_copied tag.entry)))) }
+    ensures something { OnErr result (IsSome (find_write (S.state storage.old) (slot key.now) (named_by (option_copied tag.entry)))) }
     ensures err { OnErr result (S.state storage.new ≡ S.state storage.old) }
     ensures kind { IfErr result (λ e. e ≡ OutOfMemory) }
 {
@@ -252,7 +253,7 @@ impl<S: Storage> HttpCache<S> {
     ghost use Rattle.std.specs.Option.{option_copied, option_and_then};
     ghost use Rattle.pcache_store.specs.Refusals.{MayRefuseWrite};
     ghost use Rattle.pcache_request.specs.Phases.{IsDisabled, MayTakeKey, MayMiss, IsStale, IsFilling, IsReading, MayFinishHit, is_filling};
-    ghost use Rattle.pcache_request.specs.Requests.{HasKey, HoldsNothing, Request, new_request, enabled_with, with_key, missed, without_reader, MayTakeMeta, with_meta, MayWrite, writing, store_writing, begun_for, settled, left_by, dropped_by, let_go_by};
+    ghost use Rattle.pcache_request.specs.Requests.{HasKey, HoldsNothing, Request, new_request, enabled_with, with_key, missed, without_reader, MayTakeMeta, with_meta, MayWrite, writing, store_writing, begun_for, joined_for, settled, left_by, dropped_by, let_go_by};
     ghost use Rattle.pcache_request.specs.Reports.{name_of};
     ghost use Rattle.pcache_request.specs.contracts.cache.HttpCache.{the_row};
 
@@ -427,6 +428,7 @@ impl<S: Storage> HttpCache<S> {
         ensures store { S.state storage.new ≡ left_by self.old.reader (S.state storage.old) }
         ensures kind { IfErr result (λ e. e ≡ OutOfMemory) }
         ensures none { self.old.reader ≡ None → IsOk result }
+        ensures answer { IfSome self.old.reader (λ r. S.ends_hit storage.old r result) }
     {
         let Some(reader) = self.reader.take() else {
             return Ok(());
@@ -502,6 +504,7 @@ impl<S: Storage> HttpCache<S> {
         ensures err { IfErr result (λ e. ((self.new ≡ self.old) × (S.state storage.new ≡ S.state storage.old) × (L.table lock.new ≡ L.table lock.old) × MayRefuseWrite (S.state storage.old) e)
             ⊎ ((self.new ≡ record self.old { write = Some (S.state storage.old).next; entry = S.next_entry storage.old; held = None }) × (S.state storage.new ≡ begun_for self.old.key self.old.meta (S.state storage.old)) × (L.table lock.new ≡ settled Done self.old.held (L.table lock.old)) × (e ≡ OutOfMemory))) }
         ensures kind { IfErr result (λ e. (e ≡ OutOfMemory) ⊎ MayRefuseWrite (S.state storage.old) e) }
+        ensures something { OnErr result ((S.state storage.new ≡ S.state storage.old) ⊎ IsSome (joined_for self.old.key (S.state storage.old).next (begun_for self.old.key self.old.meta (S.state storage.old)))) }
     {
         self.begin_write(storage, lock)?.joined
     }
@@ -522,6 +525,7 @@ impl<S: Storage> HttpCache<S> {
         ensures unjoined_request { IfOk result (λ b. OnErr b.joined (self.new ≡ record self.old { write = Some (S.state storage.old).next; entry = S.next_entry storage.old; held = None })) }
         ensures unjoined_store { IfOk result (λ b. OnErr b.joined (S.state storage.new ≡ begun_for self.old.key self.old.meta (S.state storage.old))) }
         ensures unjoined_kind { IfOk result (λ b. IfErr b.joined (λ e. e ≡ OutOfMemory)) }
+        ensures unjoined_something { IfOk result (λ b. OnErr b.joined (IsSome (joined_for self.old.key (S.state storage.old).next (begun_for self.old.key self.old.meta (S.state storage.old))))) }
         ensures same_request { OnErr result (self.new ≡ self.old) }
         ensures same_store { OnErr result (S.state storage.new ≡ S.state storage.old) }
         ensures same_table { OnErr result (L.table lock.new ≡ L.table lock.old) }

@@ -224,6 +224,9 @@ impl StoreMeaning for MemCache {
     ghost next_entry = { λ _. None };
 
     ghost always_purges = { true };
+
+    // The end of a reader is never refused.
+    ghost ends_hit = { λ _ reader result. IsOk result };
 }
 
 // The slot that a target names, if the entry it names has no number.

@@ -2,10 +2,11 @@
 //!
 //! A store is lent to each call of its handlers. What a call does is stated over what the store
 //! means (`Store`: its slots by key and its writes by number), whatever the store keeps.
-ghost use Rattle.std.specs.Prelude.{◌≡◌, ◌<◌, ◌^◌, ℕ, Bool, false, true, Option, Some, None, IfOk, OnOk, OnErr, IfErr, IsOk, IsTrue, IsSome, ◌↔◌, option_map, is_some, option_copied};
+ghost use Rattle.std.specs.Prelude.{◌≡◌, ◌<◌, ◌^◌, ℕ, Bool, false, true, Option, Some, None, Result, IfOk, OnOk, OnErr, IfErr, IsOk, IsTrue, IsSome, ◌↔◌, option_map, is_some, option_copied};
 ghost use Rattle.std.specs.FinMap as map;
 ghost use Rattle.pcache_base.specs.Key.{slot};
 ghost use Rattle.pcache_meta.specs.Meta.{Meta};
+ghost use Rattle.pcache_base.specs.declared.error.ErrorType.{ErrorType};
 ghost use Rattle.pcache_base.specs.declared.error.ErrorType.TheVariants.{OutOfMemory, InternalError};
 ghost use Rattle.pcache_evict.specs.EntryRef.{referred};
 ghost use Rattle.pcache_store.specs.declared.storage.MissFinishType.{MissFinishType};
@@ -123,6 +124,9 @@ pub trait StoreMeaning {
 
     /// Whether a removal always succeeds.
     ghost always_purges: { Bool };
+
+    /// What the end of a reader answers: that it ended, or why that was refused.
+    ghost ends_hit: { Self → Reader → Result (Unit {0}) ErrorType → Type 0 };
 }
 
 /// A store of complete bodies, and of writes that fill it.
@@ -233,7 +237,8 @@ pub trait HandleHit<S: StoreMeaning> {
     /// Ends the reader, also if that is refused, which it is only when memory runs out.
     fn finish(self, store: &mut S) -> Result<()>
         ensures gone { S.state store.new ≡ left (S.state store.old) (reader self) }
-        ensures kind { IfErr result (λ e. e ≡ OutOfMemory) };
+        ensures kind { IfErr result (λ e. e ≡ OutOfMemory) }
+        ensures answer { S.ends_hit store.old (reader self) result };
 
     /// Lets the reader go.
     fn let_go(self, store: &mut S)

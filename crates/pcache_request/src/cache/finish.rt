@@ -47,11 +47,12 @@ fn status_after(end: &WriteEnd) -> LockStatus
 }
 
 impl<S: Storage> HttpCache<S> {
-    ghost use Rattle.std.specs.Prelude.{◌≡◌, true, IfOk, IfErr, IfSome, Ok, None, IsTrue, ◌↔◌, IsSome, is_some, cond, option_map};
+    ghost use Rattle.std.specs.Prelude.{◌≡◌, true, IfOk, IfErr, IfSome, OnErr, Ok, None, IsTrue, ◌↔◌, IsSome, is_some, cond, option_map};
     ghost use Rattle.pcache_lock.specs.Statuses.{IsReason};
     ghost use Rattle.pcache_request.specs.Phases.{IsFilling};
     ghost use Rattle.pcache_request.specs.Requests.{settled};
     ghost use Rattle.pcache_request.specs.Finishing.{after_finish};
+    ghost use Rattle.pcache_request.specs.NoBody.{HasNoBodyFor, IfWithdrawn, LeavesNone};
     ghost use Rattle.pcache_request.specs.WriteEnds.{Ends, EndsAs, finishes_of, evicted_after};
     ghost use Rattle.pcache_request.specs.Reports.{name_of, entry_stored};
 
@@ -79,6 +80,9 @@ impl<S: Storage> HttpCache<S> {
         ensures end { EndsAs result (λ end. Ends S.always_purges self.old self.old.key self.old.write (finishes_of (S.finishes storage.old) self.old.write) (E.limits eviction.old) end (S.state storage.old) (S.state storage.new) (E.tracked eviction.old) (E.tracked eviction.new) (L.table lock.old) (L.table lock.new)) }
         ensures evicted { EndsAs result (λ end. E.evicted eviction.new ≡ evicted_after self.old self.old.key (finishes_of (S.finishes storage.old) self.old.write) (E.tracked eviction.old) (E.evicted eviction.old) end) }
         ensures limits { E.limits eviction.new ≡ E.limits eviction.old }
+
+        // If the admission was refused, the key has no body in the store after the call.
+        ensures withdrawn { IsTrue S.always_purges → OnErr result (LeavesNone self.old.key self.old.write (S.state storage.old) (S.state storage.new)) }
     {
         let WriteReport {
             end,
@@ -107,6 +111,7 @@ impl<S: Storage> HttpCache<S> {
         ensures released { result.released ≡ cond (is_some self.old.write) (option_map name_of self.old.held) None }
         ensures evicted { E.evicted eviction.new ≡ evicted_after self.old self.old.key (finishes_of (S.finishes storage.old) self.old.write) (E.tracked eviction.old) (E.evicted eviction.old) result.end }
         ensures limits { E.limits eviction.new ≡ E.limits eviction.old }
+        ensures withdrawn { IsTrue S.always_purges → IfWithdrawn result.end (HasNoBodyFor (S.state storage.new) self.old.key) }
     {
         let Some(key) = &self.key else { unreachable!() };
         let Some(writer) = self.writer.take() else {

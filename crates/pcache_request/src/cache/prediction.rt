@@ -68,7 +68,7 @@ impl<S: Storage> HttpCache<S> {
     /// Tells a predictor in use that the response was not cacheable, for this reason. Answers what the
     /// predictor answers: whether the contrary was expected, or `None` for a reason that does not
     /// count; `None` also without one in use, which is not touched then. It is refused only when
-    /// memory runs out, and changes nothing then.
+    /// memory runs out, for a reason that may count, and changes nothing then.
     pub fn response_became_uncacheable<P: CacheablePredictor>(
         &self,
         predictor: &mut P,
@@ -80,6 +80,7 @@ impl<S: Storage> HttpCache<S> {
         ensures untouched { self.now.uses.predictor ≡ false → predictor.new ≡ predictor.old }
         ensures err { OnErr result (predictor.new ≡ predictor.old) }
         ensures kind { IfErr result (λ e. e ≡ OutOfMemory) }
+        ensures counted { OnErr result (IsTrue self.now.uses.predictor × P.may_count predictor.old reason) }
     {
         if !self.uses.predictor {
             return Ok(None);

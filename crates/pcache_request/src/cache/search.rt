@@ -166,6 +166,7 @@ impl<S: Storage> HttpCache<S> {
         ensures same_table { OnErr result (L.table lock.new ≡ L.table lock.old) }
         ensures kind { IfErr result (λ e. MayRefuseLock (L.table lock.old) e) }
         ensures numbers { IfErr result (λ e. e ≡ NumbersExhausted → IsTrue (asks_unseen (S.state storage.old) self.old)) }
+        ensures something { OnErr result (IsSome (found_for (S.state storage.old) self.old.key) ⊎ IsTrue self.old.uses.lock) }
     {
         let mut unasked = Decision::Ready { observed: 0 };
         match self.search(storage, lock, &mut unasked, false, &mut NoWitness, now)? {
@@ -200,6 +201,7 @@ impl<S: Storage> HttpCache<S> {
         ensures same_table { OnErr result (L.table lock.new ≡ L.table lock.old) }
         ensures kind { IfErr result (λ e. MayRefuseLock (L.table lock.old) e) }
         ensures numbers { IfErr result (λ e. e ≡ NumbersExhausted → IsTrue (asks_unseen (S.state storage.old) self.old)) }
+        ensures something { OnErr result (IsSome (found_for (S.state storage.old) self.old.key) ⊎ IsTrue self.old.uses.lock) }
     {
         match self.look_up(storage, lock, policy, &mut NoWitness, now)? {
             LookUp::Found(meta, hit) => Ok(Some((meta, hit))),
