@@ -13,11 +13,12 @@ use Rattle.std.proofs.lemmas.Map.Keys.{IsDistinct-head, IsDistinct-tail, IsDisti
 use Rattle.pcache_evict.specs.declared.eviction.entry_key.CacheEntryKey.{CacheEntryKey}
 use Rattle.pcache_evict.specs.Entry.{entry_eq, entry_cmp, entries_total}
 use Rattle.pcache_evict.specs.Tracked.{Tracked, Limits, IsWithin, IsFair, without, weight_in}
+use Rattle.pcache_evict.specs.Tracked as tracked
 use Rattle.pcache_evict.specs.Recency.{Recency, weight, weight_of, others, IsWithinAsList}
 use Rattle.pcache_evict.specs.Listed.{map_of, IsOnce}
 use Rattle.pcache_evict.proofs.Evictions.{left_there, gone_here}
 use Rattle.pcache_evict.proofs.Recency.{laws, distinct-others}
-use Rattle.pcache_evict.proofs.Maps.{get-map_of, map-others, within, inside}
+use Rattle.pcache_evict.proofs.Maps.{get-map_of, weight-map_of, map-others, within, inside}
 use Rattle.pcache_evict.proofs.TrackedMaps.{get-remove_apart}
 use Rattle.pcache_policies.specs.Leaving.{Leaves}
 
@@ -94,13 +95,16 @@ pub record Run (limits : Limits) (out : List CacheEntryKey) (l after : Recency) 
   pub left : map_of after ≡ without out (map_of l)
   pub gone : weight_in (map_of l) out + weight after ≡ weight l
 
-pub fair-run : (limits : Limits) (out : List CacheEntryKey) (l left : Recency) → IsOnce l → Leaves limits l out left → Run limits out l left
-fair-run limits [] l left once r = record { fair = fair-none limits (map_of l) (within limits l once r.1); left = ap map_of r.0; gone = let same = ap weight r.0 in let e : 0 + weight left ≡ weight l = omega arith in e }
-fair-run limits (k ∷ out) l left once (over, newer, n, older, is, rest) =
+pub run-none : (limits : Limits) (l : Recency) → IsOnce l → IsWithinAsList limits l → Run limits [] l l
+run-none limits l once w = record { fair = fair-none limits (map_of l) (within limits l once w); left = refl; gone = omega arith }
+
+-- one entry goes first
+pub run-first : (limits : Limits) (out : List CacheEntryKey) (l left newer older : Recency) (k : CacheEntryKey) (n : ℕ) → IsOnce l → ¬ IsWithinAsList limits l → l ≡ newer ++ (k, n) ∷ older → (IsOnce (newer ++ older) → Run limits out (newer ++ older) left) → Run limits (k ∷ out) l left
+run-first limits out l left newer older k n once over is rest =
     let next = newer ++ older in
     let apart = subst IsOnce is once in
     let taken : next ≡ others k l = sym (ap (others k) is ∙ others-mid newer older (k, n) apart) in
-    let later = fair-run limits out next left (subst IsOnce (sym taken) (distinct-others k l once)) rest in
+    let later = rest (subst IsOnce (sym taken) (distinct-others k l once)) in
     let removed : map_of next ≡ fin.remove (map_of l) k = ap map_of taken ∙ map-others k l in
     let found : fin.get (map_of l) k ≡ Some n = get-map_of l k ∙ ap (weight_of k) is ∙ found_mid newer older (k, n) apart in
     let fair = subst (λ t. IsFair limits t out) removed later.fair in
@@ -116,3 +120,18 @@ fair-run limits (k ∷ out) l left once (over, newer, n, older, is, rest) =
       left = later.left ∙ ap (without out) removed;
       gone = omega arith;
     }
+
+pub fair-run : (limits : Limits) (out : List CacheEntryKey) (l left : Recency) → IsOnce l → Leaves limits l out left → Run limits out l left
+fair-run limits [] l left once r = subst (λ m. Run limits [] l m) (sym r.0) (run-none limits l once r.1)
+fair-run limits (k ∷ out) l left once (over, newer, n, older, is, rest) = run-first limits out l left newer older k n once over is (λ apart. fair-run limits out (newer ++ older) left apart rest)
+
+-- the order in which entries stand does not matter
+pub run-same : (limits : Limits) (out : List CacheEntryKey) (l m left : Recency) → IsOnce l → IsOnce m → map_of m ≡ map_of l → Run limits out m left → Run limits out l left
+run-same limits out l m left once apart same run =
+    let heavy : weight m ≡ weight l = sym (weight-map_of m apart) ∙ ap tracked.weight same ∙ weight-map_of l once in
+    let gone = run.gone in
+    let there : weight_in (map_of m) out ≡ weight_in (map_of l) out = ap (λ m. weight_in m out) same in
+    record { fair = subst (λ t. IsFair limits t out) same run.fair; left = run.left ∙ ap (without out) same; gone = omega arith }
+
+pub run-ends-same : (limits : Limits) (out : List CacheEntryKey) (l m left : Recency) → map_of left ≡ map_of m → weight left ≡ weight m → Run limits out l m → Run limits out l left
+run-ends-same limits out l m left same heavy run = let gone = run.gone in record { fair = run.fair; left = same ∙ run.left; gone = omega arith }

@@ -1,3 +1,7 @@
+pub mod FifoMaps
+pub mod FifoRooms
+pub mod FifoSteps
+pub mod GhostKeys
 pub mod Leavings
 pub mod Queues
 pub mod Rings

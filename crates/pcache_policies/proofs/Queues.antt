@@ -1,6 +1,6 @@
 -- Queues: an entry taken out, put in, changed where it stands.
 use Rattle.std.proofs.Common.{◌≡◌, ℕ, zero, suc, ◌+◌, ◌*◌, ◌-◌, ◌<◌, ◌≤◌, ◌^◌, Bool, true, false, cond, not, Option, None, Some, is_some, option_map, unwrap_or, List, [], ◌∷◌, ◌++◌, map, refl, ap, sym, subst, ◌∙◌, arith, length, length-append, take, All}
-use Rattle.std.specs.Prelude.{IsSome}
+use Rattle.std.specs.Prelude.{IsSome, IfSome}
 use Rattle.std.specs.List.{IsDistinct, AllByRecursion, slice_get}
 use Rattle.std.specs.Option.{option_map_or}
 use Rattle.std.specs.Map.{lookup, lookup_entry, remove_entry, set_value, keys_of}
@@ -9,7 +9,7 @@ use Rattle.std.proofs.lemmas.List.Elements.{All-filter, All-cons, All-head, All-
 use Rattle.std.proofs.lemmas.List.Sums.{sum_by-cons, sum_by-le, sum_by-append}
 use Rattle.std.proofs.lemmas.Map.{keys-set_value, length-set_value}
 use Rattle.std.proofs.lemmas.Map.Keys.{IsDistinct-head, IsDistinct-tail, IsDistinct-cons}
-use Rattle.lru.specs.LruCache.{LruCache, put_entries, lru_cache, last_entry}
+use Rattle.lru.specs.LruCache.{LruCache, put_entries, promoted, lru_cache, last_entry}
 use Rattle.pcache_evict.specs.declared.eviction.entry_key.CacheEntryKey.{CacheEntryKey}
 use Rattle.pcache_evict.specs.Entry.{entry_eq}
 use Rattle.pcache_evict.specs.Recency.{Recency, weight, weight_of, others}
@@ -306,3 +306,90 @@ kept-popped c d total e kept h is =
         once = once-front d.entries (e ∷ []) (subst IsOnce split kept.once);
       };
     }
+
+-- ---- an entry put first
+
+entry-found : (k : CacheEntryKey) (q : Queue) (v : Seen) → seen_of k q ≡ Some v → lookup_entry (entry_eq k) q ≡ Some (k, v)
+entry-found k [] v h = cc
+entry-found k (e ∷ q) v h =
+    elim (entry_eq k e.0) as (λ b. entry_eq k e.0 ≡ b → cond b (Some e.1) (seen_of k q) ≡ Some v → cond b (Some e) (lookup_entry (entry_eq k) q) ≡ Some (k, v)) [
+      | true ↦ λ t h. ap (λ (x : CacheEntryKey). Some (x, e.1)) (sym (same_key k e.0 t)) ∙ ap (λ (o : Option Seen). option_map (λ w. (k, w)) o) h
+      | false ↦ λ t h. entry-found k q v h
+    ] refl h
+
+pub promoted-first : (k : CacheEntryKey) (q : Queue) (v : Seen) → IsOnce q → seen_of k q ≡ Some v → promoted (entry_eq k) q ≡ (k, v) ∷ rest_of k q
+promoted-first k q v d h = ap (λ o. option_map_or (λ (e : E). e ∷ remove_entry (entry_eq k) q) o q) (entry-found k q v h) ∙ ap (λ q. (k, v) ∷ q) (remove-rest k q d)
+
+promoted-none : (k : CacheEntryKey) (q : Queue) → seen_of k q ≡ None → promoted (entry_eq k) q ≡ q
+promoted-none k q h = ap (λ o. option_map_or (λ (e : E). e ∷ remove_entry (entry_eq k) q) o q) (entry_none k q h)
+
+found-small : (k : CacheEntryKey) (q : Queue) (v : Seen) → seen_of k q ≡ Some v → All IsSmall q → v.weight ≤ 2 ^ 64 - 1
+found-small k [] v h a = cc
+found-small k (e ∷ q) v h a =
+    elim (entry_eq k e.0) as (λ b. cond b (Some e.1) (seen_of k q) ≡ Some v → v.weight ≤ 2 ^ 64 - 1) [
+      | true ↦ λ h. let here = All-head IsSmall e q a in let same : e.1.weight ≡ v.weight = ap (λ (o : Option Seen). unwrap_or (option_map (λ (v : Seen). v.weight) o) 0) h in omega arith
+      | false ↦ λ h. found-small k q v h (All-tail IsSmall e q a)
+    ] h
+
+none-in-rest : (k : CacheEntryKey) (q : Queue) → AllByRecursion (λ y. entry_eq k y ≡ false) (keys_of (rest_of k q))
+none-in-rest k [] = tt
+none-in-rest k (e ∷ q) =
+    elim (entry_eq k e.0) as (λ b. entry_eq k e.0 ≡ b → AllByRecursion (λ y. entry_eq k y ≡ false) (keys_of (cond (not b) (e ∷ rest_of k q) (rest_of k q)))) [
+      | true ↦ λ t. none-in-rest k q
+      | false ↦ λ t. (t, none-in-rest k q)
+    ] refl
+
+pub kept-promoted : (c d : LruCache CacheEntryKey Seen) (total : ℕ) (k : CacheEntryKey) → IsKept c total → d ≡ lru_cache (promoted (entry_eq k) c.entries) c.cap → length d.entries < 2 ^ 63 → IsKept d total
+kept-promoted c d total k kept e few =
+    elim (seen_of k c.entries) as (λ o. seen_of k c.entries ≡ o → IsKept d total) [
+      | None ↦ λ h. subst (λ d. IsKept d total) (sym (e ∙ ap (λ q. lru_cache q c.cap) (promoted-none k c.entries h))) kept
+      | Some v ↦ λ h.
+          let is : d.entries ≡ (k, v) ∷ rest_of k c.entries = ap (λ (c : LruCache CacheEntryKey Seen). c.entries) e ∙ promoted-first k c.entries v kept.once h in
+          let parts = weight-others k (plain c.entries) (once-plain c.entries kept.once) in
+          let here : unwrap_or (weight_of k (plain c.entries)) 0 ≡ v.weight = ap (λ o. unwrap_or o 0) (plain-found k c.entries ∙ ap (option_map (λ (v : Seen). v.weight)) h) in
+          let left : weight (plain (rest_of k c.entries)) ≡ weight (others k (plain c.entries)) = ap weight (plain-rest k c.entries) in
+          let whole : weight (plain ((k, v) ∷ rest_of k c.entries)) ≡ v.weight + weight (plain (rest_of k c.entries)) = sum_by-cons (λ (e : CacheEntryKey × ℕ). e.1) (k, v.weight) (plain (rest_of k c.entries)) in
+          let sum : weight (plain d.entries) ≡ weight (plain ((k, v) ∷ rest_of k c.entries)) = ap (λ q. weight (plain q)) is in
+          record {
+            summed = omega (arith, kept.summed, parts, here, left, whole, sum);
+            room = ap (λ (c : LruCache CacheEntryKey Seen). c.cap) e ∙ kept.room;
+            few = few;
+            small = subst (All IsSmall) (sym is) (All-cons IsSmall (k, v) (rest_of k c.entries) (found-small k c.entries v h kept.small) (All-filter (λ (e : E). not (entry_eq k e.0)) IsSmall c.entries kept.small));
+            once = subst IsOnce (sym is) (IsDistinct-cons entry_eq k (keys_of (rest_of k c.entries)) (none-in-rest k c.entries) (once-rest k c.entries kept.once));
+          }
+    ] refl
+
+-- an entry set where it stands, and put first
+pub seen-set : (k : CacheEntryKey) (v : Seen) (q : Queue) → is_some (seen_of k q) ≡ true → seen_of k (reseen k v q) ≡ Some v
+seen-set k v [] h = cc
+seen-set k v (e ∷ q) h =
+    elim (entry_eq k e.0) as (λ b. entry_eq k e.0 ≡ b → is_some (cond b (Some e.1) (seen_of k q)) ≡ true → cond (entry_eq k (cond b (e.0, v) e).0) (Some (cond b (e.0, v) e).1) (seen_of k (reseen k v q)) ≡ Some v) [
+      | true ↦ λ t h. ap (λ b. cond b (Some v) (seen_of k (reseen k v q))) t
+      | false ↦ λ t h. ap (λ b. cond b (Some e.1) (seen_of k (reseen k v q))) t ∙ seen-set k v q h
+    ] refl h
+
+pub rest-set : (k : CacheEntryKey) (v : Seen) (q : Queue) → rest_of k (reseen k v q) ≡ rest_of k q
+rest-set k v [] = refl
+rest-set k v (e ∷ q) =
+    elim (entry_eq k e.0) as (λ b. entry_eq k e.0 ≡ b → cond (not (entry_eq k (cond b (e.0, v) e).0)) (cond b (e.0, v) e ∷ rest_of k (reseen k v q)) (rest_of k (reseen k v q)) ≡ cond (not b) (e ∷ rest_of k q) (rest_of k q)) [
+      | true ↦ λ t. ap (λ b. cond (not b) ((e.0, v) ∷ rest_of k (reseen k v q)) (rest_of k (reseen k v q))) t ∙ rest-set k v q
+      | false ↦ λ t. ap (λ b. cond (not b) (e ∷ rest_of k (reseen k v q)) (rest_of k (reseen k v q))) t ∙ ap (λ q. e ∷ q) (rest-set k v q)
+    ] refl
+
+-- ---- the newest entries
+
+pub take-front : (n : ℕ) (q : Queue) (e : E) → n < length (q ++ e ∷ []) → take n q ≡ take n (q ++ e ∷ [])
+take-front zero q e h = refl
+take-front (suc n) [] e h = absurd (omega arith)
+take-front (suc n) (x ∷ q) e h = ap (λ q. x ∷ q) (take-front n q e (omega arith))
+
+-- the oldest goes while there are more than so many
+pub keep-step : (n : ℕ) (q r : Queue) → n < length q → IfSome (last_entry q) (λ e. q ≡ r ++ e ∷ []) → (take n r ≡ take n q) × (length r < length q)
+keep-step n q r many h =
+    elim (last_entry q) as (λ o. last_entry q ≡ o → IfSome o (λ e. q ≡ r ++ e ∷ []) → (take n r ≡ take n q) × (length r < length q)) [
+      | None ↦ λ is h. let none : length q ≡ 0 = ap (λ (q : Queue). length q) (last_none q is) in absurd (omega arith)
+      | Some e ↦ λ is h.
+          let long : length q ≡ length (r ++ e ∷ []) = ap (λ (q : Queue). length q) h in
+          let parts = length-append r (e ∷ []) in
+          (take-front n r e (omega arith) ∙ ap (take n) (sym h), omega arith)
+    ] refl h

@@ -170,7 +170,7 @@ found_later k a b h = ap (λ o. cond (is_some o) o (seen_of k b)) h ∙ sym (fou
 -- ---- one step of the hand
 
 -- the last entry ahead, before the others
-last_ahead : (a b g p : Queue) (e : E) → a ≡ b ++ e ∷ [] → a ++ (g ++ p) ≡ b ++ e ∷ (g ++ p)
+pub last_ahead : (a b g p : Queue) (e : E) → a ≡ b ++ e ∷ [] → a ++ (g ++ p) ≡ b ++ e ∷ (g ++ p)
 last_ahead a b g p e is = ap (λ a. a ++ (g ++ p)) is ∙ append_assoc b (e ∷ []) (g ++ p)
 
 pub absent_leaving : (a b g p : Queue) (e : E) → IsRing a g p → a ≡ b ++ e ∷ [] → seen_of e.0 g ≡ None
@@ -408,3 +408,96 @@ ring-popped a g p h e r is =
 pub none_of : (o f : Option E) → o ≡ f → ((e : E) → o ≡ Some e → ⊥) → f ≡ None
 none_of None f e h = sym e
 none_of (Some v) f e h = absurd (h v refl)
+
+-- ---- the oldest of those that were passed
+
+pub last_whole : (a g p q : Queue) (e : E) → p ≡ q ++ e ∷ [] → a ++ (g ++ p) ≡ (a ++ (g ++ q)) ++ e ∷ []
+last_whole a g p q e is = ap (λ p. a ++ (g ++ p)) is ∙ ap (λ r. a ++ r) (sym (append_assoc g q (e ∷ []))) ∙ sym (append_assoc a (g ++ q) (e ∷ []))
+
+-- the others are not it, and stand once
+pub apart_last : (a g p q : Queue) (e : E) → IsOnce (a ++ (g ++ p)) → p ≡ q ++ e ∷ [] → Apart e.0 (a ++ (g ++ q)) × IsOnce (a ++ (g ++ q))
+apart_last a g p q e once is =
+    let whole = subst IsOnce (last_whole a g p q e is) once in
+    (subst (Apart e.0) (append-nil (a ++ (g ++ q))) (apart_mid (a ++ (g ++ q)) [] e whole), subst IsOnce (append-nil (a ++ (g ++ q))) (once_past (a ++ (g ++ q)) [] e whole))
+
+map-last : (a g p q : Queue) (e : E) → IsOnce (a ++ (g ++ p)) → p ≡ q ++ e ∷ [] → map_of (plain (a ++ (g ++ p))) ≡ map_of (plain (e ∷ (a ++ (g ++ q))))
+map-last a g p q e once is =
+    let apart = apart_last a g p q e once is in
+    ap (λ r. map_of (plain r)) (last_whole a g p q e is) ∙ map-mid e.0 e.1 (a ++ (g ++ q)) [] apart.0 ∙ ap (λ r. map_of (plain (e ∷ r))) (append-nil (a ++ (g ++ q)))
+
+-- it comes in there anew
+pub again : (a g p q : Queue) (e : E) (v : Seen) → IsOnce (a ++ (g ++ p)) → p ≡ q ++ e ∷ [] → v.weight ≡ e.1.weight
+    → IsOnce (a ++ (g ++ (e.0, v) ∷ q)) × (map_of (plain (a ++ (g ++ (e.0, v) ∷ q))) ≡ map_of (plain (a ++ (g ++ p))))
+again a g p q e v once is w =
+    let (apart, left) = apart_last a g p q e once is in
+    let join = append_assoc a g q in
+    let there = append_assoc a g ((e.0, v) ∷ q) in
+    let apart2 = subst (Apart e.0) (sym join) apart in (
+      subst IsOnce there (once_in (a ++ g) q (e.0, v) apart2 (subst IsOnce (sym join) left)),
+      ap (λ r. map_of (plain r)) (sym there)
+          ∙ map-mid e.0 v (a ++ g) q (apart_front e.0 (a ++ g) q apart2)
+          ∙ ap (λ n. map_of ((e.0, n) ∷ plain ((a ++ g) ++ q))) w
+          ∙ ap (λ r. map_of (plain (e ∷ r))) join
+          ∙ sym (map-last a g p q e once is),
+    )
+
+-- it is chosen
+pub chosen_last : (a g p q : Queue) (e : E) → IsOnce (a ++ (g ++ p)) → p ≡ q ++ e ∷ [] → IsOnce (a ++ ((e ∷ g) ++ q)) × (map_of (plain (a ++ ((e ∷ g) ++ q))) ≡ map_of (plain (a ++ (g ++ p))))
+chosen_last a g p q e once is =
+    let (apart, left) = apart_last a g p q e once is in
+    (once_in a (g ++ q) e apart left, map-mid e.0 e.1 a (g ++ q) (apart_front e.0 a (g ++ q) apart) ∙ sym (map-last a g p q e once is))
+
+pub ring-again : (a g p q : Queue) (e : E) (v : Seen) → IsRing a g p → p ≡ q ++ e ∷ [] → v.weight ≡ e.1.weight → IsRing a g ((e.0, v) ∷ q)
+ring-again a g p q e v r is w =
+    let many = ap (λ (q : Queue). length q) is in
+    let longer = length-append q (e ∷ []) in
+    let few = r.few in
+    record { once = (again a g p q e v r.once is w).0; few = omega arith }
+
+pub ring-chosen : (a g p q : Queue) (e : E) → IsRing a g p → p ≡ q ++ e ∷ [] → IsRing a (e ∷ g) q
+ring-chosen a g p q e r is =
+    let many = ap (λ (q : Queue). length q) is in
+    let longer = length-append q (e ∷ []) in
+    let few = r.few in
+    record { once = (chosen_last a g p q e r.once is).0; few = omega arith }
+
+pub absent_last_chosen : (a g p : Queue) (e : E) → IsRing a g p → last_entry p ≡ Some e → seen_of e.0 g ≡ None
+absent_last_chosen a g p e r last =
+    let apart = apart_last a g p _ e r.once (last_split p e last) in
+    none_apart e.0 g (apart_front e.0 g _ (apart_back e.0 a _ apart.0))
+
+-- the last of a list is found, and the others are the rest
+pub found_last : (q : Queue) (e : E) → Apart e.0 q → seen_of e.0 (q ++ e ∷ []) ≡ Some e.1
+found_last [] e a = ap (λ b. cond b (Some e.1) None) (laws.refl e.0)
+found_last (f ∷ q) e a = ap (λ b. cond b (Some f.1) (seen_of e.0 (q ++ e ∷ []))) a.0 ∙ found_last q e a.1
+
+pub rest_last : (q : Queue) (e : E) → Apart e.0 q → rest_of e.0 (q ++ e ∷ []) ≡ q
+rest_last [] e a = ap (λ b. cond (not b) (e ∷ []) []) (laws.refl e.0)
+rest_last (f ∷ q) e a = ap (λ b. cond (not b) (f ∷ rest_of e.0 (q ++ e ∷ [])) (rest_of e.0 (q ++ e ∷ []))) a.0 ∙ ap (λ q. f ∷ q) (rest_last q e a.1)
+
+-- the oldest that was passed comes in there anew: what stands before and after
+pub record Again (p : Queue) (e : E) : Type 0 where
+  pub rest : Queue
+  pub split : p ≡ rest ++ e ∷ []
+  pub others : rest_of e.0 p ≡ rest
+  pub there : seen_of e.0 p ≡ Some e.1
+
+pub again-of : (a g p : Queue) (e : E) → IsRing a g p → last_entry p ≡ Some e → Again p e
+again-of a g p e r last =
+    let split = last_split p e last in
+    let apart = apart_last a g p _ e r.once split in
+    let own = apart_back e.0 g _ (apart_back e.0 a _ apart.0) in
+    record { rest = _; split = split; others = ap (rest_of e.0) split ∙ rest_last _ e own; there = ap (seen_of e.0) split ∙ found_last _ e own }
+
+pub ring-entered-passed : (a g p : Queue) (k : CacheEntryKey) (v : Seen) → IsRing a g p → seen_of k (a ++ (g ++ p)) ≡ None → length (a ++ (g ++ p)) < 2 ^ 63 - 1 → IsRing a g ((k, v) ∷ p)
+ring-entered-passed a g p k v r none few =
+    let long = length-append a (g ++ p) in
+    let rest = length-append g p in
+    let join = append_assoc a g p in
+    record {
+      once = subst IsOnce (append_assoc a g ((k, v) ∷ p)) (once_in (a ++ g) p (k, v) (subst (Apart k) (sym join) (apart_none k (a ++ (g ++ p)) none)) (subst IsOnce (sym join) r.once));
+      few = omega arith;
+    }
+
+pub absent_passed_in : (a g p : Queue) (k : CacheEntryKey) → seen_of k (a ++ (g ++ p)) ≡ None → seen_of k p ≡ None
+absent_passed_in a g p k h = none_apart k p (apart_back k g p (apart_back k a (g ++ p) (apart_none k (a ++ (g ++ p)) h)))

@@ -30,17 +30,17 @@ pub record Coming (coming : Recency) (size count : ℕ) : Type 0 where
   pub sum : (l : Recency) → weight (coming ++ l) ≡ size + weight l
   pub long : (l : Recency) → length (coming ++ l) ≡ count + length l
 
-none_comes : Coming [] 0 0
+pub none_comes : Coming [] 0 0
 none_comes = record { sum = λ l. omega arith; long = λ l. omega arith }
 
-one_comes : (k : CacheEntryKey) (n : ℕ) → Coming ((k, n) ∷ []) n 1
+pub one_comes : (k : CacheEntryKey) (n : ℕ) → Coming ((k, n) ∷ []) n 1
 one_comes k n = record { sum = λ l. sum_by-cons (λ (e : CacheEntryKey × ℕ). e.1) (k, n) l; long = λ l. omega arith }
 
-within_of : (limits : Limits) (coming l : Recency) (size count : ℕ) → Coming coming size count → HasRoom limits size count l → IsWithinAsList limits (coming ++ l)
+pub within_of : (limits : Limits) (coming l : Recency) (size count : ℕ) → Coming coming size count → HasRoom limits size count l → IsWithinAsList limits (coming ++ l)
 within_of limits coming l size count c r =
     record { weight = subst (λ n. n ≤ limits.weight) (sym (c.sum l)) r.heavy; count = subst (λ n. IfSome limits.watermark (λ most. n ≤ most)) (sym (c.long l)) r.many }
 
-room_of : (limits : Limits) (coming l : Recency) (size count : ℕ) → Coming coming size count → IsWithinAsList limits (coming ++ l) → HasRoom limits size count l
+pub room_of : (limits : Limits) (coming l : Recency) (size count : ℕ) → Coming coming size count → IsWithinAsList limits (coming ++ l) → HasRoom limits size count l
 room_of limits coming l size count c i =
     record { heavy = subst (λ n. n ≤ limits.weight) (c.sum l) i.weight; many = subst (λ n. IfSome limits.watermark (λ most. n ≤ most)) (c.long l) i.count }
 
@@ -82,7 +82,7 @@ kept-run old new from out keeps once =
     at_end (inr e) = subst (λ q. IsWithinAsList old.limits (plain q)) (sym e) (inside-none old.limits)
 
 -- a new entry came in, or went itself
-none_plain : (k : CacheEntryKey) (q : Queue) → seen_of k q ≡ None → weight_of k (plain q) ≡ None
+pub none_plain : (k : CacheEntryKey) (q : Queue) → seen_of k q ≡ None → weight_of k (plain q) ≡ None
 none_plain k q none = plain-found k q ∙ ap (option_map (λ (v : Seen). v.weight)) none
 
 pub admits-run : (old new : Sieved) (k : CacheEntryKey) (n : ℕ) (out : List CacheEntryKey) → Admits old k n new out → IsOnce (whole old.sieve) → seen_of k (whole old.sieve) ≡ None → Run old.limits out ((k, n) ∷ entries old.sieve) (entries new.sieve)
@@ -144,7 +144,7 @@ pub admission : (o : Option Seen) (old new : Sieved) (k : CacheEntryKey) (n : �
 admission None old new k n out is a once = admits-facts old new k n out a once is
 admission (Some v) old new k n out is a once = keeps-facts old new k (used n) out a once (ap is_some is)
 
-got : (k : CacheEntryKey) (q : Queue) (o : Option Seen) → seen_of k q ≡ o → fin.get (map_of (plain q)) k ≡ option_map (λ (v : Seen). v.weight) o
+pub got : (k : CacheEntryKey) (q : Queue) (o : Option Seen) → seen_of k q ≡ o → fin.get (map_of (plain q)) k ≡ option_map (λ (v : Seen). v.weight) o
 got k q o is = get-map_of (plain q) k ∙ plain-found k q ∙ ap (option_map (λ (v : Seen). v.weight)) is
 
 pub increment : (o : Option Seen) (old new : Sieved) (k : CacheEntryKey) (delta : ℕ) (most : Option ℕ) (out : List CacheEntryKey) → seen_of k (whole old.sieve) ≡ o → Increment o old k delta most new out → IsOnce (whole old.sieve) → Facts old (incremented (map_of (entries old.sieve)) k delta most) new out

@@ -112,7 +112,7 @@ keeps-in limits w c w2 c2 before r u out once apart made same is keys long heavy
       counted = (refl, omega (arith, heavy, parts, left), omega (arith, many, long));
     }
 
-room-within : (limits : Limits) (l : Recency) → IsWithinAsList limits l → HasRoom limits 0 0 l
+pub room-within : (limits : Limits) (l : Recency) → IsWithinAsList limits l → HasRoom limits 0 0 l
 room-within limits l i = record { heavy = (let h = i.weight in omega arith); many = fewer limits.watermark i.count }
   where
     fewer : (o : Option ℕ) → IfSome o (λ most. length l ≤ most) → IfSome o (λ most. 0 + length l ≤ most)

@@ -1,4 +1,6 @@
+pub mod Fifos
 pub mod Leaving
 pub mod Queue
 pub mod Ring
+pub mod S3Fifo
 pub mod Sieve

@@ -1,5 +1,5 @@
 -- Queues of entries, the newest first, with what a policy knows of each (own).
-use Rattle.std.specs.Prelude.{◌≡◌, ℕ, ◌-◌, ◌^◌, ◌<◌, ◌≤◌, not, Option, List, map, length, All, if◌then◌else◌}
+use Rattle.std.specs.Prelude.{◌≡◌, ℕ, ◌+◌, ◌-◌, ◌^◌, ◌<◌, ◌≤◌, not, Option, List, map, length, min, All, if◌then◌else◌}
 use Rattle.std.specs.List.{IsDistinct, filter}
 use Rattle.std.specs.Map.{lookup, keys_of}
 use Rattle.lru.specs.LruCache.{LruCache}
@@ -37,6 +37,13 @@ unused n = record { weight = n; uses = 0 }
 
 abbrev pub used : ℕ → Seen
 used n = record { weight = n; uses = 1 }
+
+-- what is known of an entry that is used once more, counted up to 3, and of one that went round the main queue
+abbrev pub reused : Seen → Seen
+reused v = record v { uses = min (v.uses + 1) 3 }
+
+abbrev pub spent : Seen → Seen
+spent v = record v { uses = v.uses - 1 }
 
 -- what the code keeps of a queue
 pub record IsKept (cache : LruCache CacheEntryKey Seen) (total : ℕ) : Type 0 where

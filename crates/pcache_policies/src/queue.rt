@@ -1,11 +1,11 @@
 //! Entries in the order in which they came in.
-ghost use Rattle.std.specs.Prelude.{◌≡◌, ◌∷◌, ◌++◌, ◌*◌, ◌≤◌, ◌<◌, ◌^◌, ◌-◌, [], true, false, None, Some, is_some, length, OnOk, OnErr, IfOk, IfErr, IfSome, IfNone};
+ghost use Rattle.std.specs.Prelude.{◌≡◌, ◌∷◌, ◌++◌, ◌*◌, ◌≤◌, ◌<◌, ◌^◌, ◌-◌, [], true, false, None, Some, is_some, length, take, IsSome, OnOk, OnErr, IfOk, IfErr, IfSome, IfNone};
 ghost use Rattle.std.specs.Map.{set_value};
 ghost use Rattle.pcache_base.specs.declared.error.ErrorType.TheVariants.{OutOfMemory};
 ghost use Rattle.lru.specs.LruCache.{last_entry, lru_cache};
 ghost use Rattle.pcache_evict.specs.Entry.{entry_eq};
 ghost use Rattle.pcache_evict.specs.Recency.{weight};
-ghost use Rattle.pcache_policies.specs.Queue.{Queue, IsOnce, plain, seen_of, rest_of, reseen, unused, used};
+ghost use Rattle.pcache_policies.specs.Queue.{Queue, IsOnce, plain, seen_of, rest_of, reseen, unused, used, reused};
 
 use lru::LruCache;
 use pcache_base::error::Result;
@@ -13,6 +13,9 @@ use pcache_base::seed::Seed;
 use pcache_evict::eviction::CacheEntryKey;
 use std::alloc::Global;
 use std::marker::Model;
+
+/// So many uses are counted at most: what two bits hold.
+pub(crate) const MOST_USES: u8 = 3;
 
 /// What a policy knows of an entry.
 #[derive(Clone, Copy, Debug)]
@@ -29,6 +32,16 @@ impl Seen {
         ensures { result ≡ unused weight }
     {
         Seen { weight, uses: 0 }
+    }
+
+    /// What is known of an entry once it is used again, and has this weight.
+    pub(crate) fn used_again(&self, weight: usize) -> Seen
+        ensures { result ≡ record (reused self.now) { weight = weight } }
+    {
+        Seen {
+            weight,
+            uses: self.uses.saturating_add(1).min(MOST_USES),
+        }
     }
 
     /// What is known of an entry that was used.
@@ -148,6 +161,32 @@ impl Queue {
         ensures { IfSome (last_entry self.old) (λ entry. self.old ≡ self.new ++ entry ∷ []) }
     {
         self.pop();
+    }
+
+    /// Sets what is known of an entry that is there, and puts it first.
+    pub(crate) fn requeue(&mut self, item: &CacheEntryKey, seen: Seen)
+        requires { IsSome (seen_of item.now self.old) }
+        ensures { self.new ≡ (item.now, seen) ∷ rest_of item.now self.old }
+    {
+        self.set(item, seen);
+        self.promote(item);
+    }
+
+    // Puts an entry that is there first.
+    fn promote(&mut self, item: &CacheEntryKey)
+        ensures { (v : Seen) → seen_of item.now self.old ≡ Some v → self.new ≡ (item.now, v) ∷ rest_of item.now self.old }
+    {
+        self.cache.promote(item);
+        self.cache.len(); // for the prover: its contract says that the list is valid
+    }
+
+    /// Keeps so many of the newest entries.
+    pub(crate) fn keep(&mut self, most: usize)
+        ensures { self.new ≡ take most self.old }
+    {
+        while self.len() > most {
+            self.drop_oldest();
+        }
     }
 
     /// Takes an entry out, and answers whether it was there.

@@ -7,7 +7,7 @@ ghost use Rattle.pcache_evict.specs.declared.eviction.entry_key.CacheEntryKey.{C
 ghost use Rattle.pcache_evict.specs.Tracked.{limits_of};
 ghost use Rattle.pcache_evict.specs.Recency.{weight};
 ghost use Rattle.pcache_policies.specs.declared.queue.Seen.{Seen};
-ghost use Rattle.pcache_policies.specs.Queue.{IsOnce, plain, seen_of, rest_of, reseen};
+ghost use Rattle.pcache_policies.specs.Queue.{Queue, IsOnce, plain, seen_of, rest_of, reseen, unused};
 ghost use Rattle.pcache_policies.specs.Leaving.{HasRoom};
 ghost use Rattle.pcache_policies.specs.Sieve.{entered, entries, turned, MakesRoom};
 ghost use Rattle.pcache_policies.specs.Ring.{Ring, ring, all, shown, left_of, Steps, Chooses, SameEntries, chosen};
@@ -237,8 +237,7 @@ impl Ring {
         ensures kind { IfErr result (λ e. e ≡ OutOfMemory) }
         ensures err { OnErr result (self.new ≡ self.old) }
     {
-        self.leaving.push(key, seen)?;
-        self.ahead.drop_oldest();
+        self.choose_ahead(key, seen)?;
         Ok(true)
     }
 
@@ -250,9 +249,125 @@ impl Ring {
         ensures kind { IfErr result (λ e. e ≡ OutOfMemory) }
         ensures err { OnErr result (self.new ≡ self.old) }
     {
+        self.pass_unused(key, seen)?;
+        Ok(true)
+    }
+
+    /// The oldest entry ahead is chosen to go.
+    pub(crate) fn choose_ahead(&mut self, key: CacheEntryKey, seen: Seen) -> Result<()>
+        requires { last_entry self.old.ahead ≡ Some (key, seen) }
+        ensures ahead { OnOk result (self.old.ahead ≡ self.new.ahead ++ (key, seen) ∷ []) }
+        ensures others { OnOk result ((self.new.leaving ≡ (key, seen) ∷ self.old.leaving) × (self.new.passed ≡ self.old.passed)) }
+        ensures kind { IfErr result (λ e. e ≡ OutOfMemory) }
+        ensures err { OnErr result (self.new ≡ self.old) }
+    {
+        self.leaving.push(key, seen)?;
+        self.ahead.drop_oldest();
+        Ok(())
+    }
+
+    /// The oldest entry ahead is passed, its uses forgotten.
+    pub(crate) fn pass_unused(&mut self, key: CacheEntryKey, seen: Seen) -> Result<()>
+        requires { last_entry self.old.ahead ≡ Some (key, seen) }
+        ensures ahead { OnOk result (self.old.ahead ≡ self.new.ahead ++ (key, seen) ∷ []) }
+        ensures others { OnOk result ((self.new.leaving ≡ self.old.leaving) × (self.new.passed ≡ (key, unused seen.weight) ∷ self.old.passed)) }
+        ensures kind { IfErr result (λ e. e ≡ OutOfMemory) }
+        ensures err { OnErr result (self.new ≡ self.old) }
+    {
         self.passed.push(key, Seen::unused(seen.weight))?;
         self.ahead.drop_oldest();
-        Ok(true)
+        Ok(())
+    }
+
+    /// The oldest entry that was passed is chosen to go.
+    pub(crate) fn choose_passed(&mut self, key: CacheEntryKey, seen: Seen) -> Result<()>
+        requires { last_entry self.old.passed ≡ Some (key, seen) }
+        ensures passed { OnOk result (self.old.passed ≡ self.new.passed ++ (key, seen) ∷ []) }
+        ensures others { OnOk result ((self.new.leaving ≡ (key, seen) ∷ self.old.leaving) × (self.new.ahead ≡ self.old.ahead)) }
+        ensures kind { IfErr result (λ e. e ≡ OutOfMemory) }
+        ensures err { OnErr result (self.new ≡ self.old) }
+    {
+        self.leaving.push(key, seen)?;
+        self.passed.drop_oldest();
+        Ok(())
+    }
+
+    /// The oldest entry that was passed is the newest of these from now on, with this known of it.
+    pub(crate) fn pass_again(&mut self, key: &CacheEntryKey, before: Seen, after: Seen)
+        requires last { last_entry self.old.passed ≡ Some (key.now, before) }
+        requires weight { after.weight ≡ before.weight }
+        ensures passed { (rest : Queue) × (self.old.passed ≡ rest ++ (key.now, before) ∷ []) × (self.new.passed ≡ (key.now, after) ∷ rest) }
+        ensures others { (self.new.leaving ≡ self.old.leaving) × (self.new.ahead ≡ self.old.ahead) }
+    {
+        self.passed.requeue(key, after);
+    }
+
+    /// A copy of the oldest entry ahead.
+    pub(crate) fn oldest_ahead(&self) -> Result<Option<(CacheEntryKey, Seen)>>
+        ensures ok { IfOk result (λ entry. entry ≡ last_entry self.now.ahead) }
+        ensures kind { IfErr result (λ e. e ≡ OutOfMemory) }
+    {
+        self.ahead.oldest()
+    }
+
+    /// A copy of the oldest entry that was passed.
+    pub(crate) fn oldest_passed(&self) -> Result<Option<(CacheEntryKey, Seen)>>
+        ensures ok { IfOk result (λ entry. entry ≡ last_entry self.now.passed) }
+        ensures kind { IfErr result (λ e. e ≡ OutOfMemory) }
+    {
+        self.passed.oldest()
+    }
+
+    /// The number of the entries ahead, and of those that were passed.
+    pub(crate) fn lens(&self) -> (usize, usize)
+        ensures ahead { result.0 ≡ length self.now.ahead }
+        ensures passed { result.1 ≡ length self.now.passed }
+        ensures few { result.0 + result.1 < 2 ^ 63 }
+    {
+        (self.ahead.len(), self.passed.len())
+    }
+
+    /// The number of the entries that were not chosen.
+    pub(crate) fn left_len(&self) -> usize
+        ensures { result ≡ length self.now.ahead + length self.now.passed }
+    {
+        let (ahead, passed) = self.lens();
+        ahead + passed
+    }
+
+    /// What the entries ahead weigh.
+    pub(crate) fn ahead_weight(&self) -> u128
+        ensures { result ≡ weight (plain self.now.ahead) }
+    {
+        self.ahead.weight()
+    }
+
+    /// Puts in a new entry as the newest ahead.
+    pub(crate) fn add_ahead(&mut self, item: CacheEntryKey, size: usize) -> Result<()>
+        requires { seen_of item (all self.old) ≡ None }
+        ensures ok { OnOk result (self.new ≡ ring ((item, unused size) ∷ self.old.ahead) self.old.leaving self.old.passed) }
+        ensures kind { IfErr result (λ e. e ≡ OutOfMemory) }
+        ensures err { OnErr result (self.new ≡ self.old) }
+    {
+        if self.len() >= FULL {
+            return Err(Error::new(ErrorType::OutOfMemory));
+        }
+        self.ahead.push(item, Seen::unused(size))?;
+        Ok(())
+    }
+
+    /// Puts in a new entry as the newest of those that were passed.
+    pub(crate) fn add_passed(&mut self, item: CacheEntryKey, size: usize) -> Result<()>
+        requires { seen_of item (all self.old) ≡ None }
+        ensures ok { OnOk result (self.new ≡ ring self.old.ahead self.old.leaving ((item, unused size) ∷ self.old.passed)) }
+        ensures kind { IfErr result (λ e. e ≡ OutOfMemory) }
+        ensures err { OnErr result (self.new ≡ self.old) }
+    {
+        if self.len() >= FULL {
+            return Err(Error::new(ErrorType::OutOfMemory));
+        }
+        self.passed.push(item, Seen::unused(size))?;
+        Ok(())
     }
 
     // The hand turns from the newest to the oldest.
@@ -288,10 +403,7 @@ impl Ring {
         ensures err { OnErr result (SameEntries self.old self.new) }
     {
         self.face();
-        if self.len() >= FULL {
-            return Err(Error::new(ErrorType::OutOfMemory));
-        }
-        self.ahead.push(item, Seen::unused(size))?;
+        self.add_ahead(item, size)?;
         Ok(())
     }
 

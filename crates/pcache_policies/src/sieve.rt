@@ -1,14 +1,13 @@
 //! An eviction manager that lets go what was not used since its hand last passed it: SIEVE (Zhang,
 //! Yang, Yue, Vigfusson, Rashmi, NSDI 2024).
-ghost use Rattle.std.specs.Prelude.{◌≡◌, ◌++◌, ◌+◌, ◌-◌, ◌^◌, ◌≤◌, [], true, false, None, Some, is_some, length, OnOk, OnErr, IfOk, IfErr, IsOk, IsSome, min};
-ghost use Rattle.std.specs.Vec.{vec_capacity};
+ghost use Rattle.std.specs.Prelude.{◌≡◌, ◌-◌, ◌^◌, true, false, None, Some, is_some, length, OnOk, OnErr, IfOk, IfErr, IsOk, IsSome, min};
 ghost use Rattle.pcache_base.specs.declared.error.ErrorType.TheVariants.{OutOfMemory};
 ghost use Rattle.pcache_evict.specs.Tracked.{raised};
 ghost use Rattle.pcache_evict.specs.Recency.{weight, IsWithinAsList};
-ghost use Rattle.pcache_policies.specs.Queue.{IsOnce, plain, seen_of};
-ghost use Rattle.pcache_policies.specs.Ring as ring_specs;
+ghost use Rattle.pcache_policies.specs.Queue.{IsOnce, seen_of};
 ghost use Rattle.pcache_policies.specs.Sieve.{Sieved, entries, whole, entered, reseen_in, rest_in, accessed, empty_sieve, Admits, KeepsLimits, Admission, Increment, IsRefused};
 
+use crate::evictions::{Evictions, let_go, raised_weight};
 use crate::queue::Seen;
 use crate::ring::Ring;
 use pcache_base::error::Result;
@@ -48,45 +47,6 @@ impl Model for Manager {
     } };
 }
 
-/// What was evicted so far, stopped at the largest `usize`.
-#[derive(Clone, Copy, Debug)]
-struct Evictions {
-    weight: usize,
-    count: usize,
-}
-
-impl Evictions {
-    /// Adds what went.
-    fn add(&mut self, weight: u128, count: usize)
-        ensures weight { self.new.weight ≡ min (self.old.weight + weight) (2 ^ 64 - 1) }
-        ensures count { self.new.count ≡ min (self.old.count + count) (2 ^ 64 - 1) }
-    {
-        let gone = usize::try_from(weight).unwrap_or(usize::MAX);
-        self.weight = self.weight.saturating_add(gone);
-        self.count = self.count.saturating_add(count);
-    }
-}
-
-/// Lets go what the hand chose, into a list with room for it.
-fn let_go(
-    ring: &mut Ring,
-    evicted: &mut Evictions,
-    mut out: Vec<CacheEntryKey>,
-) -> Vec<CacheEntryKey>
-    requires none { out.items ≡ [] }
-    requires room { length ring.old.leaving ≤ vec_capacity out }
-    ensures ring { ring.new ≡ ring_specs.ring ring.old.ahead [] ring.old.passed }
-    ensures out { result.items ≡ ring_specs.chosen ring.old }
-    ensures long { length result.items ≡ length ring.old.leaving }
-    ensures capacity { vec_capacity result ≡ vec_capacity out }
-    ensures weight { evicted.new.weight ≡ min (evicted.old.weight + weight (plain ring.old.leaving)) (2 ^ 64 - 1) }
-    ensures count { evicted.new.count ≡ min (evicted.old.count + length ring.old.leaving) (2 ^ 64 - 1) }
-{
-    evicted.add(ring.leaving_weight(), ring.leaving_len());
-    ring.drain(&mut out);
-    out
-}
-
 impl Manager {
     /// An empty manager whose entries weigh at most `limit` once it has evicted. Its lists hash under the
     /// seed, which no answer shows.
@@ -113,10 +73,7 @@ impl Manager {
             limit,
             watermark: items_watermark,
             ring: Ring::new(alloc, seed)?,
-            evicted: Evictions {
-                weight: 0,
-                count: 0,
-            },
+            evicted: Evictions::none(),
         })
     }
 
@@ -397,16 +354,5 @@ impl EvictionManager for Manager {
 
     fn peek(&self, item: &CacheEntryKey) -> bool {
         Manager::peek(self, item)
-    }
-}
-
-/// The weight after an increment.
-fn raised_weight(present: Option<usize>, delta: usize, max_weight: Option<usize>) -> usize
-    ensures { result ≡ raised delta max_weight present }
-{
-    let most = max_weight.unwrap_or(usize::MAX);
-    match present {
-        Some(size) => size.saturating_add(delta).min(most).max(size),
-        None => delta.min(most).max(1),
     }
 }

@@ -1,15 +1,11 @@
-use Rattle.std.proofs.Common.{◌≡◌, ◌∷◌, ◌∙◌, ◌++◌, ◌<◌, ◌-◌, ◌^◌, None, sym, subst, ap, arith, length}
-use Rattle.pcache_policies.specs.Queue.{seen_of, unused}
-use Rattle.pcache_policies.specs.Ring.{IsRing, all}
-use Rattle.pcache_policies.proofs.Rings.{absent_ahead, ring-entered}
+use Rattle.std.proofs.Common.{◌≡◌, ◌∷◌, ◌∙◌, ap}
+use Rattle.pcache_policies.specs.Queue.{unused}
+use Rattle.pcache_policies.specs.Ring.{left_of}
+use Rattle.pcache_policies.specs.Sieve.{Sieve, sieve}
 use Rattle.pcache_policies.proofs.ring.Ring.enter.Goals as goal
 
-pub push-requires : goal.push-requires
-push-requires c = absent_ahead c.self.inside.ahead (c.self.inside.leaving ++ c.self.inside.passed) c.args.item (ap (λ r. seen_of c.args.item (all r)) c.self.view_is ∙ c.face.ensures.absent c.args.item c.requires)
+pub add_ahead-requires : goal.add_ahead-requires
+add_ahead-requires c = c.face.ensures.absent c.args.item c.requires
 
-pub invariant_of-self-2 : goal.invariant_of-self-2
-invariant_of-self-2 c =
-    subst (λ a. IsRing a c.self.inside.leaving c.self.inside.passed) (sym c.in_ok-push.ensures.ok)
-    (ring-entered c.self.inside.ahead c.self.inside.leaving c.self.inside.passed c.args.item c.unused.result c.self.invariant
-    (ap (λ r. seen_of c.args.item (all r)) c.self.view_is ∙ c.face.ensures.absent c.args.item c.requires)
-    (let same = ap (λ r. length (all r)) c.self.view_is in let long = c.len.ensures.value in omega arith))
+pub returns-clause-ok : goal.returns-clause-ok
+returns-clause-ok c = ap left_of c.in_ok-add_ahead.ensures.ok ∙ ap (λ (at : Sieve). sieve ((c.args.item, unused c.args.size) ∷ at.ahead) at.passed) c.face.ensures.hand

@@ -1,22 +1,6 @@
-use Rattle.std.proofs.Common.{◌≡◌, ◌∷◌, ◌∙◌, true, Some, refl, sym, subst, ap}
-use Rattle.lru.specs.LruCache.{last_entry}
-use Rattle.pcache_policies.specs.Queue.{unused}
-use Rattle.pcache_policies.specs.Ring.{Steps, clears, ring, IsRing}
-use Rattle.pcache_policies.proofs.Rings.{absent_last_passed, popped_last, moved-passed}
+use Rattle.std.proofs.Common.{refl}
+use Rattle.pcache_policies.specs.Ring.{clears}
 use Rattle.pcache_policies.proofs.ring.Ring.pass.Goals as goal
 
-pub push-requires : goal.push-requires
-push-requires c = absent_last_passed c.self.inside.ahead c.self.inside.leaving c.self.inside.passed (c.args.key, c.args.seen) c.self.invariant (subst (λ r. last_entry r.ahead ≡ Some (c.args.key, c.args.seen)) (sym c.self.view_is) c.requires.last)
-
-pub invariant_of-self-2 : goal.invariant_of-self-2
-invariant_of-self-2 c =
-    subst (λ p. IsRing c.drop_oldest.new.self c.self.inside.leaving p) (sym (c.in_ok-push.ensures.ok ∙ ap (λ v. (c.args.key, v) ∷ c.self.inside.passed) c.unused.ensures))
-    (moved-passed c.self.inside.ahead c.drop_oldest.new.self c.self.inside.leaving c.self.inside.passed (c.args.key, c.args.seen) (unused c.args.seen.weight) c.self.invariant
-    (popped_last c.self.inside.ahead c.drop_oldest.new.self (c.args.key, c.args.seen) (subst (λ r. last_entry r.ahead ≡ Some (c.args.key, c.args.seen)) (sym c.self.view_is) c.requires.last) c.drop_oldest.ensures) refl).ring
-
 pub returns-clause-ok : goal.returns-clause-ok
-returns-clause-ok c =
-    subst (λ r. Steps r true (ring c.drop_oldest.new.self c.self.inside.leaving c.push.new.self)) c.self.view_is
-    (clears c.args.key c.args.seen refl
-    (popped_last c.self.inside.ahead c.drop_oldest.new.self (c.args.key, c.args.seen) (subst (λ r. last_entry r.ahead ≡ Some (c.args.key, c.args.seen)) (sym c.self.view_is) c.requires.last) c.drop_oldest.ensures)
-    c.requires.used refl (c.in_ok-push.ensures.ok ∙ ap (λ v. (c.args.key, v) ∷ c.self.inside.passed) c.unused.ensures))
+returns-clause-ok c = clears c.args.key c.args.seen refl c.in_ok-pass_unused.ensures.ahead c.requires.used c.in_ok-pass_unused.ensures.others.0 c.in_ok-pass_unused.ensures.others.1

@@ -1,0 +1,9 @@
+use Rattle.std.proofs.Common.{◌∙◌, ap}
+use Rattle.std.specs.Map.{keys_of}
+use Rattle.pcache_policies.specs.Queue.{Queue}
+use Rattle.pcache_policies.specs.S3Fifo.{forgotten}
+use Rattle.pcache_policies.proofs.GhostKeys.{keys-rest}
+use Rattle.pcache_policies.proofs.ghosts.Ghosts.forget.Goals as goal
+
+pub returns : goal.returns
+returns c = ap (λ (q : Queue). keys_of q) c.remove.ensures.value ∙ keys-rest c.args.key.now c.self.inside.queue ∙ ap (forgotten c.args.key.now) c.self.view_is

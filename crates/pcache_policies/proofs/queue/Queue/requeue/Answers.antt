@@ -1,0 +1,9 @@
+use Rattle.std.proofs.Common.{◌∷◌, ◌∙◌, ap}
+use Rattle.pcache_policies.specs.Queue.{seen_of, rest_of}
+use Rattle.pcache_policies.proofs.Queues.{seen-set, rest-set}
+use Rattle.pcache_policies.proofs.queue.Queue.requeue.Goals as goal
+
+pub returns : goal.returns
+returns c =
+    c.promote.ensures c.args.seen (ap (seen_of c.args.item.now) c.set.ensures.value ∙ seen-set c.args.item.now c.args.seen c.args.self.now c.requires)
+    ∙ ap (λ q. (c.args.item.now, c.args.seen) ∷ q) (ap (rest_of c.args.item.now) c.set.ensures.value ∙ rest-set c.args.item.now c.args.seen c.args.self.now)

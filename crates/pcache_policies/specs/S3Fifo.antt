@@ -1,0 +1,123 @@
+-- S3-FIFO: a small queue for new entries, a main queue for those that were used there or come in again soon, and the keys
+-- of those that went from the small one, their ghosts (Yang, Zhang, Qiu, Yue, Vigfusson, SOSP 2023).
+use Rattle.std.specs.Prelude.{◌≡◌, ℕ, ◌+◌, ◌-◌, ◌*◌, ◌/◌, ◌^◌, ◌<◌, ◌≤◌, ◌⊎◌, ◌==◌, Bool, not, Option, None, Some, List, [], ◌∷◌, ◌++◌, length, min, take, if◌then◌else◌}
+use Rattle.std.specs.List.{list_any, filter}
+use Rattle.pcache_evict.specs.declared.eviction.entry_key.CacheEntryKey.{CacheEntryKey}
+use Rattle.pcache_evict.specs.Entry.{entry_eq}
+use Rattle.pcache_evict.specs.Tracked.{Limits, Evicted, limits_of, raised}
+use Rattle.pcache_evict.specs.Recency.{Recency, weight}
+use Rattle.pcache_evict.specs.Listed.{map_of}
+use Rattle.pcache_policies.specs.declared.queue.Seen.{Seen}
+use Rattle.pcache_policies.specs.Queue.{Queue, plain, rest_of, reseen, unused, reused, spent}
+use Rattle.pcache_policies.specs.Leaving.{HasRoom}
+
+abbrev pub Ghosts : Type 0
+Ghosts = List CacheEntryKey
+
+-- two queues and the ghosts, each the newest first
+pub record Fifos : Type 0 where
+  pub small : Queue
+  pub main : Queue
+  pub ghosts : Ghosts
+
+abbrev pub fifos : Queue → Queue → Ghosts → Fifos
+fifos s m g = record { small = s; main = m; ghosts = g }
+
+abbrev pub whole : Fifos → Queue
+whole f = f.small ++ f.main
+
+abbrev pub entries : Fifos → Recency
+entries f = plain (whole f)
+
+-- a key is among the ghosts, and the ghosts without it
+abbrev pub is_ghost : CacheEntryKey → Ghosts → Bool
+is_ghost k g = list_any (entry_eq k) g
+
+abbrev pub forgotten : CacheEntryKey → Ghosts → Ghosts
+forgotten k g = filter (λ j. not (entry_eq k j)) g
+
+-- a key becomes the newest ghost as one of so many entries; the oldest go if there are more than nine tenths of that number
+abbrev pub ghosted : CacheEntryKey → ℕ → Ghosts → Ghosts
+ghosted k n g = take (n - n / 10) (k ∷ forgotten k g)
+
+-- the oldest of the small queue is next if that has its share, a tenth of the limit, or the main queue is empty
+abbrev pub IsSmallNext : ℕ → Fifos → Type 0
+IsSmallNext limit f = (f.main ≡ []) ⊎ (limit ≤ 10 * weight (plain f.small))
+
+-- the oldest of the main queue is next otherwise
+abbrev pub IsMainNext : ℕ → Fifos → Type 0
+IsMainNext limit f = (f.small ≡ []) ⊎ (10 * weight (plain f.small) < limit)
+
+-- room is made for so many entries of this weight: as long as there is none, the next entry is looked at. One of the small
+-- queue that was used more than once moves to the main one, its uses forgotten, and another goes and leaves its ghost.
+-- One of the main queue that was used comes in there anew, with one use less, and another goes.
+pub data MakesRoom (limits : Limits) (size count : ℕ) : Fifos → List CacheEntryKey → Fifos → Type 0 where
+  rests : (f : Fifos) → HasRoom limits size count (entries f) ⊎ (whole f ≡ []) → MakesRoom limits size count f [] f
+  moves : (f t : Fifos) (s : Queue) (k : CacheEntryKey) (v : Seen) (out : List CacheEntryKey) → ¬ HasRoom limits size count (entries f) → IsSmallNext limits.weight f
+      → f.small ≡ s ++ (k, v) ∷ [] → 1 < v.uses → MakesRoom limits size count (fifos s ((k, unused v.weight) ∷ f.main) f.ghosts) out t → MakesRoom limits size count f out t
+  leaves : (f t : Fifos) (s : Queue) (k : CacheEntryKey) (v : Seen) (out : List CacheEntryKey) → ¬ HasRoom limits size count (entries f) → IsSmallNext limits.weight f
+      → f.small ≡ s ++ (k, v) ∷ [] → v.uses ≤ 1 → MakesRoom limits size count (fifos s f.main (ghosted k (length (whole f)) f.ghosts)) out t → MakesRoom limits size count f (k ∷ out) t
+  returns : (f t : Fifos) (m : Queue) (k : CacheEntryKey) (v : Seen) (out : List CacheEntryKey) → ¬ HasRoom limits size count (entries f) → IsMainNext limits.weight f
+      → f.main ≡ m ++ (k, v) ∷ [] → 0 < v.uses → MakesRoom limits size count (fifos f.small ((k, spent v) ∷ m) f.ghosts) out t → MakesRoom limits size count f out t
+  goes : (f t : Fifos) (m : Queue) (k : CacheEntryKey) (v : Seen) (out : List CacheEntryKey) → ¬ HasRoom limits size count (entries f) → IsMainNext limits.weight f
+      → f.main ≡ m ++ (k, v) ∷ [] → v.uses ≡ 0 → MakesRoom limits size count (fifos f.small m f.ghosts) out t → MakesRoom limits size count f (k ∷ out) t
+
+-- a new entry comes in, not used yet: to the main queue if its ghost is there, which goes then, and else to the small one
+abbrev pub entered : CacheEntryKey → ℕ → Fifos → Fifos
+entered k n f = if is_ghost k f.ghosts then fifos f.small ((k, unused n) ∷ f.main) (forgotten k f.ghosts) else fifos ((k, unused n) ∷ f.small) f.main f.ghosts
+
+-- an entry with this known of it, wherever it stands, and the queues without an entry
+abbrev pub reseen_in : CacheEntryKey → Seen → Fifos → Fifos
+reseen_in k v f = fifos (reseen k v f.small) (reseen k v f.main) f.ghosts
+
+abbrev pub rest_in : CacheEntryKey → Fifos → Fifos
+rest_in k f = fifos (rest_of k f.small) (rest_of k f.main) f.ghosts
+
+-- the queues, the limits, and what was evicted so far
+pub record Queued : Type 0 where
+  pub fifos : Fifos
+  pub limits : Limits
+  pub evicted : Evicted
+
+-- a new manager with these limits
+abbrev pub empty_fifos : ℕ → Option ℕ → Queued
+empty_fifos limit watermark = record { fifos = fifos [] [] []; limits = limits_of limit watermark; evicted = record { weight = 0; count = 0 } }
+
+-- the totals once so much of this weight went
+abbrev pub IsCounted : Queued → ℕ → Queued → List CacheEntryKey → Type 0
+IsCounted old before new out =
+    (new.limits ≡ old.limits) × (new.evicted.weight ≡ min (old.evicted.weight + (before - weight (entries new.fifos))) (2 ^ 64 - 1)) × (new.evicted.count ≡ min (old.evicted.count + length out) (2 ^ 64 - 1))
+
+-- entries of these queues go until the limits hold
+pub record KeepsLimits (old : Queued) (from : Fifos) (new : Queued) (out : List CacheEntryKey) : Type 0 where
+  pub room : MakesRoom old.limits 0 0 from out new.fifos
+  pub counted : IsCounted old (weight (entries from)) new out
+
+-- room is made, and then a new entry comes in; one for which there is no room though nothing is left goes itself
+pub record Admits (old : Queued) (k : CacheEntryKey) (n : ℕ) (new : Queued) (out : List CacheEntryKey) : Type 0 where
+  pub left : Fifos
+  pub gone : List CacheEntryKey
+  pub room : MakesRoom old.limits n 1 old.fifos gone left
+  pub comes : (HasRoom old.limits n 1 (entries left) × (new.fifos ≡ entered k n left) × (out ≡ gone)) ⊎ ((¬ HasRoom old.limits n 1 (entries left)) × (new.fifos ≡ left) × (out ≡ gone ++ k ∷ []))
+  pub counted : IsCounted old (n + weight (entries old.fifos)) new out
+
+-- an entry that is admitted again has its new weight where it stands, which is a use; a new one comes in
+abbrev pub Admission : Option Seen → Queued → CacheEntryKey → ℕ → Queued → List CacheEntryKey → Type 0
+Admission None old k n new out = Admits old k n new out
+Admission (Some v) old k n new out = KeepsLimits old (reseen_in k (record (reused v) { weight = n }) old.fifos) new out
+
+-- an increment raises the weight of an entry where it stands, which is no use; a new one comes in
+abbrev pub Increment : Option Seen → Queued → CacheEntryKey → ℕ → Option ℕ → Queued → List CacheEntryKey → Type 0
+Increment None old k delta most new out = Admits old k (raised delta most None) new out
+Increment (Some v) old k delta most new out = KeepsLimits old (reseen_in k (record v { weight = raised delta most (Some v.weight) }) old.fifos) new out
+
+-- a use counts one more, where the entry stands; a new one comes in, even if there is no room
+abbrev pub accessed : Option Seen → CacheEntryKey → ℕ → Fifos → Fifos
+accessed None k n f = entered k n f
+accessed (Some v) k n f = if v.uses == 3 then f else reseen_in k (reused v) f
+
+-- a refused call leaves every entry with its weight, and what was evicted; queues, uses and ghosts may have changed
+pub record IsRefused (old new : Queued) : Type 0 where
+  pub same : map_of (entries new.fifos) ≡ map_of (entries old.fifos)
+  pub limits : new.limits ≡ old.limits
+  pub evicted : new.evicted ≡ old.evicted

@@ -1,0 +1,74 @@
+//! What is evicted, and what it weighs.
+ghost use Rattle.std.specs.Prelude.{◌≡◌, ◌+◌, ◌-◌, ◌^◌, ◌≤◌, [], length, min};
+ghost use Rattle.std.specs.Vec.{vec_capacity};
+ghost use Rattle.pcache_evict.specs.Tracked.{raised};
+ghost use Rattle.pcache_evict.specs.Recency.{weight};
+ghost use Rattle.pcache_policies.specs.Queue.{plain};
+ghost use Rattle.pcache_policies.specs.Ring as ring_specs;
+
+use crate::ring::Ring;
+use pcache_evict::eviction::CacheEntryKey;
+
+/// What was evicted so far, stopped at the largest `usize`.
+#[derive(Clone, Copy, Debug)]
+pub(crate) struct Evictions {
+    pub(crate) weight: usize,
+    pub(crate) count: usize,
+}
+
+impl Evictions {
+    /// Nothing yet.
+    pub(crate) fn none() -> Evictions
+        ensures { (result.weight ≡ 0) × (result.count ≡ 0) }
+    {
+        Evictions {
+            weight: 0,
+            count: 0,
+        }
+    }
+
+    /// Adds what went.
+    pub(crate) fn add(&mut self, weight: u128, count: usize)
+        ensures weight { self.new.weight ≡ min (self.old.weight + weight) (2 ^ 64 - 1) }
+        ensures count { self.new.count ≡ min (self.old.count + count) (2 ^ 64 - 1) }
+    {
+        let gone = usize::try_from(weight).unwrap_or(usize::MAX);
+        self.weight = self.weight.saturating_add(gone);
+        self.count = self.count.saturating_add(count);
+    }
+}
+
+/// Lets go what the hand chose, into a list with room for it.
+pub(crate) fn let_go(
+    ring: &mut Ring,
+    evicted: &mut Evictions,
+    mut out: Vec<CacheEntryKey>,
+) -> Vec<CacheEntryKey>
+    requires none { out.items ≡ [] }
+    requires room { length ring.old.leaving ≤ vec_capacity out }
+    ensures ring { ring.new ≡ ring_specs.ring ring.old.ahead [] ring.old.passed }
+    ensures out { result.items ≡ ring_specs.chosen ring.old }
+    ensures long { length result.items ≡ length ring.old.leaving }
+    ensures capacity { vec_capacity result ≡ vec_capacity out }
+    ensures weight { evicted.new.weight ≡ min (evicted.old.weight + weight (plain ring.old.leaving)) (2 ^ 64 - 1) }
+    ensures count { evicted.new.count ≡ min (evicted.old.count + length ring.old.leaving) (2 ^ 64 - 1) }
+{
+    evicted.add(ring.leaving_weight(), ring.leaving_len());
+    ring.drain(&mut out);
+    out
+}
+
+/// The weight after an increment.
+pub(crate) fn raised_weight(
+    present: Option<usize>,
+    delta: usize,
+    max_weight: Option<usize>,
+) -> usize
+    ensures { result ≡ raised delta max_weight present }
+{
+    let most = max_weight.unwrap_or(usize::MAX);
+    match present {
+        Some(size) => size.saturating_add(delta).min(most).max(size),
+        None => delta.min(most).max(1),
+    }
+}

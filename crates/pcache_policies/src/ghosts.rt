@@ -1,0 +1,64 @@
+//! The keys of entries that went.
+ghost use Rattle.std.specs.Prelude.{◌≡◌, [], IfOk, IfErr, OnOk};
+ghost use Rattle.pcache_base.specs.declared.error.ErrorType.TheVariants.{OutOfMemory};
+ghost use Rattle.pcache_policies.specs.S3Fifo.{is_ghost, forgotten, ghosted};
+
+use crate::queue::{Queue, Seen};
+use pcache_base::error::Result;
+use pcache_base::seed::Seed;
+use pcache_evict::eviction::CacheEntryKey;
+use std::alloc::Global;
+use std::marker::Model;
+
+/// Keys, the newest first, each once. A contract sees the list. Each call takes at most one look-up,
+/// and one for each key that goes.
+#[derive(Drop)]
+pub(crate) struct Ghosts {
+    queue: Queue,
+}
+
+impl Model for Ghosts {
+    ghost use Rattle.std.specs.Map.{keys_of};
+    ghost use Rattle.pcache_policies.specs.S3Fifo.{Ghosts};
+
+    ghost Value = { Ghosts };
+
+    ghost view = { λ g. keys_of g.queue };
+}
+
+impl Ghosts {
+    /// No keys.
+    pub(crate) fn new(alloc: Global, seed: Seed) -> Result<Ghosts>
+        ensures ok { IfOk result (λ made. made ≡ []) }
+        ensures kind { IfErr result (λ e. e ≡ OutOfMemory) }
+    {
+        Ok(Ghosts {
+            queue: Queue::new(alloc, seed)?,
+        })
+    }
+
+    /// Whether a key is there.
+    pub(crate) fn has(&self, key: &CacheEntryKey) -> bool
+        ensures { result ≡ is_ghost key.now self.now }
+    {
+        self.queue.get(key).is_some()
+    }
+
+    /// Forgets a key.
+    pub(crate) fn forget(&mut self, key: &CacheEntryKey)
+        ensures { self.new ≡ forgotten key.now self.old }
+    {
+        self.queue.remove(key);
+    }
+
+    /// Adds the key of one of so many entries as the newest, and keeps nine tenths of that number.
+    pub(crate) fn add(&mut self, key: CacheEntryKey, count: usize) -> Result<()>
+        ensures ok { OnOk result (self.new ≡ ghosted key count self.old) }
+        ensures kind { IfErr result (λ e. e ≡ OutOfMemory) }
+    {
+        self.queue.remove(&key);
+        self.queue.push(key, Seen::unused(0))?;
+        self.queue.keep(count - count / 10);
+        Ok(())
+    }
+}

@@ -1,0 +1,366 @@
+//! An eviction manager that lets most new entries go soon, and keeps those that were used: S3-FIFO
+//! (Yang, Zhang, Qiu, Yue, Vigfusson, SOSP 2023).
+ghost use Rattle.std.specs.Prelude.{◌≡◌, ◌-◌, ◌^◌, true, false, None, Some, is_some, length, OnOk, OnErr, IfOk, IfErr, IsOk, IsSome, min};
+ghost use Rattle.pcache_base.specs.declared.error.ErrorType.TheVariants.{OutOfMemory};
+ghost use Rattle.pcache_evict.specs.Tracked.{raised};
+ghost use Rattle.pcache_evict.specs.Recency.{weight, IsWithinAsList};
+ghost use Rattle.pcache_policies.specs.Queue.{IsOnce, seen_of};
+ghost use Rattle.pcache_policies.specs.S3Fifo.{Queued, entries, whole, entered, reseen_in, rest_in, accessed, empty_fifos, Admits, KeepsLimits, Admission, Increment, IsRefused};
+
+use crate::evictions::{Evictions, let_go, raised_weight};
+use crate::fifos::Fifos;
+use crate::queue::{MOST_USES, Seen};
+use pcache_base::error::Result;
+use pcache_base::moment::Moment;
+use pcache_base::seed::Seed;
+use pcache_evict::eviction::{CacheEntryKey, EvictionManager};
+use std::alloc::Global;
+use std::marker::Model;
+
+/// Entries with weights in a small and a main queue, the keys of those that went from the small one,
+/// and limits on the sum of the weights and on the number of entries.
+///
+/// A use of an entry is counted, up to three, and moves nothing. New entries come in to the small
+/// queue, or to the main one if their ghost is there. Before that, room is made: the small queue, if
+/// it has a tenth of the limit, and else the main one looks at its oldest entry. What was used more
+/// than once moves from the small to the main queue, what was used comes in to the main queue anew
+/// with one use less, and other entries go. A contract sees the queues with the ghosts, the limits
+/// and the totals of evictions. Each call takes a fixed number of look-ups, and some for each entry
+/// that is looked at; the uses of those that do not go are used up.
+#[derive(Drop)]
+pub struct Manager {
+    alloc: Global,
+    limit: usize,
+    watermark: Option<usize>,
+    fifos: Fifos,
+    evicted: Evictions,
+}
+
+impl Model for Manager {
+    ghost use Rattle.pcache_policies.specs.Fifos.{shown};
+    ghost use Rattle.pcache_policies.specs.S3Fifo.{Queued};
+
+    ghost Value = { Queued };
+
+    ghost view = { λ a. record {
+      fifos = shown a.fifos;
+      limits = record { weight = a.limit; watermark = a.watermark };
+      evicted = record { weight = a.evicted.weight; count = a.evicted.count };
+    } };
+}
+
+impl Manager {
+    /// An empty manager whose entries weigh at most `limit` once it has evicted. Its lists hash under the
+    /// seed, which no answer shows.
+    pub fn new(alloc: Global, seed: Seed, limit: usize) -> Result<Manager>
+        ensures ok { IfOk result (λ m. m ≡ empty_fifos limit None) }
+        ensures kind { IfErr result (λ e. e ≡ OutOfMemory) }
+    {
+        Manager::new_with_watermark(alloc, seed, limit, None)
+    }
+
+    /// An empty manager whose entries weigh at most `limit` once it has evicted, and are at most
+    /// `items_watermark` if that is given.
+    pub fn new_with_watermark(
+        alloc: Global,
+        seed: Seed,
+        limit: usize,
+        items_watermark: Option<usize>,
+    ) -> Result<Manager>
+        ensures ok { IfOk result (λ m. m ≡ empty_fifos limit items_watermark) }
+        ensures kind { IfErr result (λ e. e ≡ OutOfMemory) }
+    {
+        Ok(Manager {
+            alloc,
+            limit,
+            watermark: items_watermark,
+            fifos: Fifos::new(alloc, seed)?,
+            evicted: Evictions::none(),
+        })
+    }
+
+    /// The weights of the entries, added up; the largest `usize` if they are more.
+    pub fn total_size(&self) -> usize
+        ensures value { result ≡ min (weight (entries self.now.fifos)) (2 ^ 64 - 1) }
+        ensures once { IsOnce (whole self.now.fifos) }
+    {
+        usize::try_from(self.fifos.ring.weight()).unwrap_or(usize::MAX)
+    }
+
+    /// The number of entries.
+    pub fn total_items(&self) -> usize
+        ensures value { result ≡ length (whole self.now.fifos) }
+        ensures once { IsOnce (whole self.now.fifos) }
+    {
+        self.fifos.ring.len()
+    }
+
+    /// The weight of all that was evicted so far; the largest `usize` if it is more.
+    pub fn evicted_size(&self) -> usize
+        ensures { result ≡ self.now.evicted.weight }
+    {
+        self.evicted.weight
+    }
+
+    /// The number of entries that were evicted so far; the largest `usize` if they are more.
+    pub fn evicted_items(&self) -> usize
+        ensures { result ≡ self.now.evicted.count }
+    {
+        self.evicted.count
+    }
+
+    /// The entries with their weights, the newest first.
+    pub fn entries(&self) -> Result<Vec<(CacheEntryKey, usize)>>
+        ensures ok { IfOk result (λ list. list.items ≡ entries self.now.fifos) }
+        ensures once { IsOnce (whole self.now.fifos) }
+        ensures kind { IfErr result (λ e. e ≡ OutOfMemory) }
+    {
+        let mut list = Vec::with_capacity(self.alloc, self.fifos.ring.len())?;
+        self.fifos.ring.copy_into(&mut list)?;
+        Ok(list)
+    }
+
+    /// Whether an entry is there. That is no use.
+    pub fn peek(&self, item: &CacheEntryKey) -> bool
+        ensures { result ≡ is_some (seen_of item.now (whole self.now.fifos)) }
+    {
+        self.fifos.ring.get(item).is_some()
+    }
+
+    /// Makes room for a new entry, which then comes in as the newest; one that is there gets its
+    /// weight where it stands, which is a use, and then the hand goes until the limits hold. Answers
+    /// what went, in that order; an entry above the limit goes itself, last of all. `fresh_until` is
+    /// not read.
+    pub fn admit(
+        &mut self,
+        item: CacheEntryKey,
+        size: usize,
+        _fresh_until: Moment,
+    ) -> Result<Vec<CacheEntryKey>>
+        ensures ok { IfOk result (λ out. Admission (seen_of item (whole self.old.fifos)) self.old item size self.new out.items) }
+        ensures once { IsOnce (whole self.old.fifos) }
+        ensures kind { IfErr result (λ e. e ≡ OutOfMemory) }
+        ensures err { OnErr result (IsRefused self.old self.new) }
+    {
+        match self.fifos.ring.get(&item) {
+            Some(before) => self.reweigh(&item, before, before.used_again(size)),
+            None => self.admit_new(item, size),
+        }
+    }
+
+    /// Adds to the weight of an entry where it stands, up to `max_weight` (the largest `usize` if
+    /// that is `None`), which is no use; then the hand goes until the limits hold. A weight never
+    /// falls; a missing entry comes in with what is added, at least 1. It is not refused if the
+    /// entry is there and nothing is evicted.
+    pub fn increment_weight(
+        &mut self,
+        item: &CacheEntryKey,
+        delta: usize,
+        max_weight: Option<usize>,
+    ) -> Result<Vec<CacheEntryKey>>
+        ensures ok { IfOk result (λ out. Increment (seen_of item.now (whole self.old.fifos)) self.old item.now delta max_weight self.new out.items) }
+        ensures within { (v : Seen) → seen_of item.now (whole self.old.fifos) ≡ Some v
+            → IsWithinAsList self.old.limits (entries (reseen_in item.now (record v { weight = raised delta max_weight (Some v.weight) }) self.old.fifos)) → IsOk result }
+        ensures once { IsOnce (whole self.old.fifos) }
+        ensures kind { IfErr result (λ e. e ≡ OutOfMemory) }
+        ensures err { OnErr result (IsRefused self.old self.new) }
+    {
+        match self.fifos.ring.get(item) {
+            Some(before) => {
+                let weight = raised_weight(Some(before.weight), delta, max_weight);
+                self.reweigh(item, before, Seen { weight, ..before })
+            }
+            None => {
+                let copy = item.copied()?;
+                self.admit_new(copy, raised_weight(None, delta, max_weight))
+            }
+        }
+    }
+
+    /// Takes an entry out, if it is there. That is no eviction; the hand stays where it is.
+    pub fn remove(&mut self, item: &CacheEntryKey)
+        ensures { self.new ≡ record self.old { fifos = rest_in item.now self.old.fifos } }
+    {
+        self.fifos.ring.remove(item);
+    }
+
+    /// Sets the bit of an entry, or adds it as the newest with this weight. Answers whether it was
+    /// there. Nothing is evicted; `fresh_until` is not read. It is not refused if the entry is there.
+    pub fn access(
+        &mut self,
+        item: &CacheEntryKey,
+        size: usize,
+        _fresh_until: Moment,
+    ) -> Result<bool>
+        ensures was { IfOk result (λ was. was ≡ is_some (seen_of item.now (whole self.old.fifos))) }
+        ensures ok { OnOk result (self.new ≡ record self.old { fifos = accessed (seen_of item.now (whole self.old.fifos)) item.now size self.old.fifos }) }
+        ensures there { IsSome (seen_of item.now (whole self.old.fifos)) → IsOk result }
+        ensures once { IsOnce (whole self.old.fifos) }
+        ensures kind { IfErr result (λ e. e ≡ OutOfMemory) }
+        ensures err { OnErr result (IsRefused self.old self.new) }
+    {
+        let Some(seen) = self.fifos.ring.get(item) else {
+            return self.add(item, size);
+        };
+        if seen.uses != MOST_USES {
+            self.fifos.ring.set(item, seen.used_again(seen.weight));
+        }
+        Ok(true)
+    }
+
+    // Adds a new entry.
+    fn add(&mut self, item: &CacheEntryKey, size: usize) -> Result<bool>
+        requires { seen_of item.now (whole self.old.fifos) ≡ None }
+        ensures was { IfOk result (λ was. was ≡ false) }
+        ensures ok { OnOk result (self.new ≡ record self.old { fifos = entered item.now size self.old.fifos }) }
+        ensures kind { IfErr result (λ e. e ≡ OutOfMemory) }
+        ensures err { OnErr result (IsRefused self.old self.new) }
+    {
+        let copy = item.copied()?;
+        self.fifos.ring.settle()?;
+        self.fifos.enter(copy, size)?;
+        Ok(false)
+    }
+
+    // Room is made, and then a new entry comes in; if there is none although nothing is left, it goes.
+    fn admit_new(&mut self, item: CacheEntryKey, size: usize) -> Result<Vec<CacheEntryKey>>
+        requires { seen_of item (whole self.old.fifos) ≡ None }
+        ensures ok { IfOk result (λ out. Admits self.old item size self.new out.items) }
+        ensures kind { IfErr result (λ e. e ≡ OutOfMemory) }
+        ensures err { OnErr result (IsRefused self.old self.new) }
+    {
+        self.fifos.ring.len(); // for the prover: its contract says that no entry stands twice
+        let out = self
+            .fifos
+            .prepare(self.alloc, size, 1, self.limit, self.watermark)?;
+        if self
+            .fifos
+            .ring
+            .has_room(size, 1, self.limit, self.watermark)
+        {
+            self.fifos.enter(item, size)?;
+            return Ok(let_go(&mut self.fifos.ring, &mut self.evicted, out));
+        }
+        let mut out = let_go(&mut self.fifos.ring, &mut self.evicted, out);
+        self.evicted.add(size as u128, 1);
+        out.push_reserved(item);
+        Ok(out)
+    }
+
+    // Sets what is known of an entry, and then the hand goes until the limits hold.
+    fn reweigh(
+        &mut self,
+        item: &CacheEntryKey,
+        before: Seen,
+        after: Seen,
+    ) -> Result<Vec<CacheEntryKey>>
+        requires { seen_of item.now (whole self.old.fifos) ≡ Some before }
+        ensures ok { IfOk result (λ out. KeepsLimits self.old (reseen_in item.now after self.old.fifos) self.new out.items) }
+        ensures within { IsWithinAsList self.old.limits (entries (reseen_in item.now after self.old.fifos)) → IsOk result }
+        ensures kind { IfErr result (λ e. e ≡ OutOfMemory) }
+        ensures err { OnErr result (IsRefused self.old self.new) }
+    {
+        self.fifos.ring.set(item, after);
+        match self.keep_limits() {
+            Ok(out) => Ok(out),
+            Err(error) => {
+                self.fifos.ring.set(item, before);
+                Err(error)
+            }
+        }
+    }
+
+    // The hand goes until the limits hold.
+    fn keep_limits(&mut self) -> Result<Vec<CacheEntryKey>>
+        ensures ok { IfOk result (λ out. KeepsLimits self.old self.old.fifos self.new out.items) }
+        ensures within { IsWithinAsList self.old.limits (entries self.old.fifos) → IsOk result }
+        ensures kind { IfErr result (λ e. e ≡ OutOfMemory) }
+        ensures err { OnErr result (IsRefused self.old self.new) }
+    {
+        self.fifos.ring.len(); // for the prover: its contract says that no entry stands twice
+        if self.is_within() {
+            self.evicted.add(0, 0); // for the prover: what is reported stops at the largest number
+            return Ok(Vec::new(self.alloc));
+        }
+        let out = self
+            .fifos
+            .prepare(self.alloc, 0, 0, self.limit, self.watermark)?;
+        Ok(let_go(&mut self.fifos.ring, &mut self.evicted, out))
+    }
+
+    // Whether the limits hold.
+    fn is_within(&self) -> bool
+        ensures yes { result ≡ true → IsWithinAsList self.now.limits (entries self.now.fifos) }
+        ensures not { result ≡ false → ¬ IsWithinAsList self.now.limits (entries self.now.fifos) }
+    {
+        self.fifos.ring.weight() <= self.limit as u128
+            && self
+                .watermark
+                .is_none_or(|most| self.fifos.ring.len() <= most)
+    }
+}
+
+impl EvictionManager for Manager {
+    ghost use Rattle.pcache_evict.specs.Listed.{map_of};
+    ghost use Rattle.pcache_policies.specs.S3Fifo.{entries};
+
+    ghost tracked = { λ m. map_of (entries m.fifos) };
+
+    ghost limits = { λ m. m.limits };
+
+    ghost evicted = { λ m. m.evicted };
+
+    fn total_size(&self) -> usize {
+        Manager::total_size(self)
+    }
+
+    fn total_items(&self) -> usize {
+        Manager::total_items(self)
+    }
+
+    fn evicted_size(&self) -> usize {
+        Manager::evicted_size(self)
+    }
+
+    fn evicted_items(&self) -> usize {
+        Manager::evicted_items(self)
+    }
+
+    fn entries(&self) -> Result<Vec<(CacheEntryKey, usize)>> {
+        let all = Manager::entries(self)?;
+        Ok(all)
+    }
+
+    fn admit(
+        &mut self,
+        item: CacheEntryKey,
+        size: usize,
+        fresh_until: Moment,
+    ) -> Result<Vec<CacheEntryKey>> {
+        let out = Manager::admit(self, item, size, fresh_until)?;
+        Ok(out)
+    }
+
+    fn increment_weight(
+        &mut self,
+        item: &CacheEntryKey,
+        delta: usize,
+        max_weight: Option<usize>,
+    ) -> Result<Vec<CacheEntryKey>> {
+        let out = Manager::increment_weight(self, item, delta, max_weight)?;
+        Ok(out)
+    }
+
+    fn remove(&mut self, item: &CacheEntryKey) {
+        Manager::remove(self, item);
+    }
+
+    fn access(&mut self, item: &CacheEntryKey, size: usize, fresh_until: Moment) -> Result<bool> {
+        let was = Manager::access(self, item, size, fresh_until)?;
+        Ok(was)
+    }
+
+    fn peek(&self, item: &CacheEntryKey) -> bool {
+        Manager::peek(self, item)
+    }
+}
