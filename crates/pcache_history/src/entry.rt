@@ -1,7 +1,6 @@
 //! What a world notes of a call.
-ghost use Rattle.std.specs.Prelude.{◌≡◌};
-
 use crate::call::{Call, Reply};
+use crate::listed::Listed;
 use bytes::Bytes;
 use pcache_base::key::CompactCacheKey;
 use pcache_base::moment::Moment;
@@ -9,7 +8,6 @@ use pcache_base::poll::Poll;
 use pcache_evict::eviction::CacheEntryKey;
 use pcache_meta::meta::CacheMeta;
 use pcache_put_ctx::boxed::Boxed;
-use std::marker::Model;
 
 /// What a look-up found.
 #[derive(Drop)]
@@ -105,62 +103,10 @@ pub enum Event {
 }
 
 /// Keys of entries. A contract sees the list.
-#[derive(Drop)]
-pub struct Entries {
-    keys: Vec<CacheEntryKey>,
-}
-
-impl Model for Entries {
-    ghost use Rattle.std.specs.Prelude.{List};
-    ghost use Rattle.pcache_evict.specs.declared.eviction.entry_key.CacheEntryKey.{CacheEntryKey};
-
-    ghost Value = { List CacheEntryKey };
-
-    ghost view = { λ a. a.keys.items };
-}
-
-impl Entries {
-    pub fn new(keys: Vec<CacheEntryKey>) -> Entries
-        ensures { result ≡ keys.items }
-    {
-        Entries { keys }
-    }
-
-    pub fn as_slice(&self) -> &[CacheEntryKey]
-        ensures { result.now ≡ self.now }
-    {
-        self.keys.as_slice()
-    }
-}
+pub type Entries = Listed<CacheEntryKey>;
 
 /// Events, in the order in which they came. A contract sees the list.
-#[derive(Drop)]
-pub struct Events {
-    events: Vec<Event>,
-}
-
-impl Model for Events {
-    ghost use Rattle.std.specs.Prelude.{List};
-    ghost use Rattle.pcache_history.specs.declared.entry.Event.{Event};
-
-    ghost Value = { List Event };
-
-    ghost view = { λ a. a.events.items };
-}
-
-impl Events {
-    pub fn new(events: Vec<Event>) -> Events
-        ensures { result ≡ events.items }
-    {
-        Events { events }
-    }
-
-    pub fn as_slice(&self) -> &[Event]
-        ensures { result.now ≡ self.now }
-    {
-        self.events.as_slice()
-    }
-}
+pub type Events = Listed<Event>;
 
 /// One call of a history: what was asked and answered, and what was done.
 #[derive(Drop)]

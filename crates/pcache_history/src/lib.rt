@@ -4,6 +4,7 @@
 //! - `call`: the calls of requests and puts, and the replies
 //! - `entry`: what a history notes of a call
 //! - `tokens`: what a call publishes
+//! - `listed`: the lists that all these have
 //! - `laws`: what holds of every legal history
 //!
 //! Nothing here has a store, a lock table or an eviction manager: whoever reads `specs/` reads what is
@@ -13,4 +14,5 @@ pub mod call;
 mod call_copy;
 pub mod entry;
 pub mod laws;
+pub mod listed;
 pub mod tokens;

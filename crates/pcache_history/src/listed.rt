@@ -1,0 +1,48 @@
+//! Lists of what calls and events have.
+ghost use Rattle.std.specs.Prelude.{◌≡◌, IfErr, IfOk};
+ghost use Rattle.pcache_base.specs.declared.error.ErrorType.TheVariants.{OutOfMemory};
+
+use pcache_base::error::Result;
+use std::marker::Model;
+
+/// Values in an order, which nothing changes. A contract sees the list, and not where it lies.
+#[derive(Debug, Drop)]
+pub struct Listed<T> {
+    list: Vec<T>,
+}
+
+impl<T> Model for Listed<T> {
+    ghost use Rattle.std.specs.Prelude.{List};
+
+    ghost Value = { List T };
+
+    ghost view = { λ a. a.list.items };
+}
+
+impl<T> Listed<T> {
+    /// These values, in this order.
+    pub fn new(list: Vec<T>) -> Listed<T>
+        ensures { result ≡ list.items }
+    {
+        Listed { list }
+    }
+
+    /// The values, in their order.
+    pub fn as_slice(&self) -> &[T]
+        ensures { result.now ≡ self.now }
+    {
+        self.list.as_slice()
+    }
+}
+
+impl Listed<u64> {
+    /// A second list of the same numbers. It is refused only when memory runs out.
+    pub fn copied(&self) -> Result<Listed<u64>>
+        ensures ok { IfOk result (λ copy. copy ≡ self.now) }
+        ensures kind { IfErr result (λ e. e ≡ OutOfMemory) }
+    {
+        Ok(Listed {
+            list: self.list.clone()?,
+        })
+    }
+}
