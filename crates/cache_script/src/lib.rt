@@ -2,11 +2,15 @@
 //! Scripts of cache calls: each line is a call of a world, and has a reply of one line.
 //!
 //! - `replay`: runs a script
+//! - `torment`: runs one whose calls may be refused, and tells all of each call
 //! - `script`: a line as a call
 //! - `reply`: a reply as a line
+//! - `told`: an entry of a history as lines
 //! - `policy`: which of the responses that a script puts are stored
 
 mod policy;
 pub mod replay;
 mod reply;
 mod script;
+mod told;
+pub mod torment;

@@ -15,12 +15,12 @@ use std::fs::Files;
 use std::io::{BufRead, BufReader, BufWriter, Read, Write};
 use std::time::Duration;
 
-// After how many seconds a permit ages out.
-const AGE_TIMEOUT_SECS: u64 = 10;
+/// After how many seconds a permit ages out.
+pub(crate) const AGE_TIMEOUT_SECS: u64 = 10;
 
-// Why a run ended early.
+/// Why a run ended early.
 #[derive(Debug, Drop)]
-enum Stop {
+pub(crate) enum Stop {
     BadArguments,
     BadCall(u64),
     OutOfMemory,
@@ -28,11 +28,24 @@ enum Stop {
     OutputFailed,
 }
 
-// A manager's limits, as the arguments give them.
+impl Stop {
+    /// Writes what was wrong, as a line.
+    pub(crate) fn tell<E: Write>(&self, errors: &mut E) {
+        let _ = match self {
+            Stop::BadArguments => writeln!(errors, "bad arguments"),
+            Stop::BadCall(line) => writeln!(errors, "line {line}: bad call"),
+            Stop::OutOfMemory => writeln!(errors, "out of memory"),
+            Stop::InputFailed => writeln!(errors, "input failed"),
+            Stop::OutputFailed => writeln!(errors, "output failed"),
+        };
+    }
+}
+
+/// A manager's limits, as the arguments give them.
 #[derive(Clone, Copy)]
-struct Limits {
-    weight: usize,
-    watermark: Option<usize>,
+pub(crate) struct Limits {
+    pub weight: usize,
+    pub watermark: Option<usize>,
 }
 
 /// Runs the script that `input` has, with `LIMIT [WATERMARK]` as arguments, and writes one reply a
@@ -52,13 +65,7 @@ pub fn replay<F: Files, R: Read + Drop, W: Write + Drop, E: Write>(
         Ok(()) => return 0,
         Err(stop) => stop,
     };
-    let _ = match stop {
-        Stop::BadArguments => writeln!(errors, "bad arguments"),
-        Stop::BadCall(line) => writeln!(errors, "line {line}: bad call"),
-        Stop::OutOfMemory => writeln!(errors, "out of memory"),
-        Stop::InputFailed => writeln!(errors, "input failed"),
-        Stop::OutputFailed => writeln!(errors, "output failed"),
-    };
+    stop.tell(errors);
     1
 }
 
@@ -168,8 +175,8 @@ fn file_reply(done: pingora_cache::error::Result<Option<()>>) -> Reply {
     }
 }
 
-// Reads a line without its end, and answers whether there was one.
-fn read_line<R: BufRead>(reader: &mut R, line: &mut Vec<u8>) -> Result<bool, Stop> {
+/// Reads a line without its end, and answers whether there was one.
+pub(crate) fn read_line<R: BufRead>(reader: &mut R, line: &mut Vec<u8>) -> Result<bool, Stop> {
     let mut is_there = false;
     for _ in 0..u64::MAX {
         let (taken, is_whole) = match reader.fill_buf() {
@@ -197,8 +204,8 @@ fn extend(line: &mut Vec<u8>, bytes: &[u8]) -> Result<usize, Stop> {
     }
 }
 
-// One or two decimal numbers that fit `usize`.
-fn read_limits(args: &[String]) -> Option<Limits> {
+/// One or two decimal numbers that fit `usize`.
+pub(crate) fn read_limits(args: &[String]) -> Option<Limits> {
     match args {
         [weight] => Some(Limits {
             weight: number(weight)?,

@@ -95,8 +95,8 @@ fn error_number(kind: ErrorType) -> u8 {
     }
 }
 
-// Bytes as a word, so that reading the word gives them back.
-fn write_text<W: Write>(output: &mut W, bytes: &[u8]) -> io::Result<()> {
+/// Bytes as a word, so that reading the word gives them back.
+pub(crate) fn write_text<W: Write>(output: &mut W, bytes: &[u8]) -> io::Result<()> {
     if bytes.is_empty() {
         return write!(output, "\\e");
     }

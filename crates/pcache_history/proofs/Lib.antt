@@ -10,6 +10,7 @@ pub mod PutShape
 pub mod PutWrites
 pub mod ReadsLaw
 pub mod Runs
+pub mod SettlesLaw
 pub mod Steps
 pub mod Sums
 pub mod Taken

@@ -12,6 +12,7 @@ pub mod LogCode
 pub mod PutHistory
 pub mod ReadSoFar
 pub mod Rules
+pub mod Settling
 pub mod Taking
 pub mod Waiting
 pub mod Waits

@@ -1,5 +1,6 @@
 //! What is promised of every legal history, whatever calls it has.
 ghost use Rattle.pcache_history.specs.Headline.{EvictsFairly, FindsExactly, FinishesExactly, GivesThePermitExactly, HandsOnExactly, IsWithinLimits, IsWrongExactly, LooksAreTrue, OnePermitWaits, PutsAreWritten, ReadsABeginning, ReadsAreTrue, ReadsTheLast, ReadsTheWhole, ReadsWhatWasFound, TellsExactly, TracksExactly, WaitsAreTrue};
+ghost use Rattle.pcache_history.specs.Settling.{SettlesAtOnce};
 
 /// A call is answered as a wrong one exactly when its condition fails.
 pub fn is_wrong_exactly()
@@ -98,4 +99,10 @@ pub fn reads_what_was_found()
 /// the meta that this began with.
 pub fn puts_are_written()
     ensures { PutsAreWritten }
+{}
+
+/// The finish of a body that is stored is followed, in its own entry, by the admission of its key with
+/// the body's length, or by the purge of its slot with a refusal for memory.
+pub fn settles_at_once()
+    ensures { SettlesAtOnce }
 {}

@@ -1,6 +1,7 @@
 pub mod Bodies
 pub mod Declared
 pub mod Heads
+pub mod NoBody
 pub mod Pieces
 pub mod Results
 pub mod Why

@@ -260,3 +260,8 @@ abbrev pub EndsAs : Result PutOutcome ErrorType → (PutEnd → Type 0) → Type
 EndsAs (Ok (answer.NotCached reason)) P = P (end.NotCached reason)
 EndsAs (Ok (answer.Stored report)) P = P (end.Stored report)
 EndsAs (Err e) P = P (end.Refused e) ⊎ P (end.Dropped e) ⊎ P (end.Withdrawn e)
+
+-- if the admission was refused
+abbrev pub IfWithdrawn : PutEnd → Type 0 → Type 0
+IfWithdrawn (end.Withdrawn e) P = P
+IfWithdrawn how P = Unit {0}

@@ -79,14 +79,15 @@ fn leave<M>(place: &mut Stage<M>, end: PutEnd, entry: Option<CacheEntryKey>) -> 
 }
 
 impl<C: CachePut, S: Storage> CachePutCtx<C, S> {
-    ghost use Rattle.std.specs.Prelude.{◌≡◌, ◌⊎◌, ◌++◌, ◌∷◌, [], List, true, IfSome, OnOk, IfErr, Option, Some, None, option_map};
+    ghost use Rattle.std.specs.Prelude.{◌≡◌, ◌⊎◌, ◌++◌, ◌∷◌, [], List, true, IfSome, IsTrue, OnOk, OnErr, IfErr, Option, Some, None, option_map};
     ghost use Rattle.pcache_base.specs.declared.error.ErrorType.TheVariants.{InternalError};
     ghost use Rattle.pcache_meta.specs.Meta.{Meta};
     ghost use Rattle.pcache_put.specs.Progress.{AtHead, HasFailed};
+    ghost use Rattle.pcache_request.specs.NoBody.{HasNoBody, LeavesNone};
     ghost use Rattle.pcache_request.specs.Requests.{dropped_by};
     ghost use Rattle.pcache_put_ctx.specs.Puts.{Piece, IsResult};
     ghost use Rattle.pcache_put_ctx.specs.State.{InHead, Filled, HasTaken, limit_of, write_in};
-    ghost use Rattle.pcache_put_ctx.specs.Steps.{Done, store_after, store_left, stage_begun, filled_on, BeginsAtHead, EndsPiece, TakesPiece, StandsAnswered, RepeatsAnswer, AnswersAgain, IfRefused, MayRefusePiece, is_done, EndsPut, EndsAs, stage_ended, entry_told, evicted_ended, TellsResult};
+    ghost use Rattle.pcache_put_ctx.specs.Steps.{Done, store_after, store_left, stage_begun, filled_on, BeginsAtHead, EndsPiece, TakesPiece, StandsAnswered, RepeatsAnswer, AnswersAgain, IfRefused, MayRefusePiece, is_done, EndsPut, EndsAs, stage_ended, entry_told, evicted_ended, IfWithdrawn, TellsResult};
 
     /// A put of a key, with no limit on its body.
     pub fn new(alloc: Global, policy: C, key: CacheKey) -> CachePutCtx<C, S>
@@ -210,6 +211,9 @@ impl<C: CachePut, S: Storage> CachePutCtx<C, S> {
 
         // What comes of the put is what comes of its bytes, all pieces together.
         ensures tells { (pieces : List Piece) (f : Option Filled) → HasTaken (C.says self.old.policy) self.old pieces f → EndsAs result (TellsResult (IsResult (C.says self.old.policy) (limit_of self.old.size) pieces) f) }
+
+        // If the admission was refused, the key has no body in the store after the call.
+        ensures withdrawn { IsTrue S.always_purges → OnErr result (LeavesNone (Some self.old.key) (write_in self.old.stage) (S.state storage.old) (S.state storage.new)) }
     {
         let PutReport { end, entry: _ } = self.end_put(storage, eviction);
         match end {
@@ -233,6 +237,7 @@ impl<C: CachePut, S: Storage> CachePutCtx<C, S> {
 
         // What comes of the put is what comes of its bytes, all pieces together.
         ensures tells { (pieces : List Piece) (f : Option Filled) → HasTaken (C.says self.old.policy) self.old pieces f → TellsResult (IsResult (C.says self.old.policy) (limit_of self.old.size) pieces) f result.end }
+        ensures withdrawn { IsTrue S.always_purges → IfWithdrawn result.end (HasNoBody (S.state storage.new) self.old.key) }
     {
         match take_stage(&mut self.stage) {
             Stage::Head => leave(

@@ -1,4 +1,5 @@
 //! Calls of a world, each with the reply that is wanted.
+mod bounded;
 mod phases;
 mod puts;
 mod random_script;

@@ -77,6 +77,7 @@ impl<M: EvictionManager, P: PutPolicy> World<M, P> {
     ghost use Rattle.pcache_base.specs.declared.error.ErrorType.TheVariants.{OutOfMemory};
     ghost use Rattle.pcache_evict.specs.Tracked.{weight};
     ghost use Rattle.pcache_history.specs.Headline.{EvictsNothingWithin, FindsUntouched, FinishesUntouched, GivesWhereNoneWaits, HandsOnUnhidden, HitsTheLast, IsWithinAlways};
+    ghost use Rattle.pcache_history.specs.Settling.{SettlesAlways};
 
     /// A world with no requests, nothing stored and an empty history. Permits age out after
     /// `age_timeout`. The store's tables hash under the seed, which no reply and no event shows.
@@ -192,6 +193,22 @@ impl<M: EvictionManager, P: PutPolicy> World<M, P> {
         let (noted, answered) = doubled(reply);
         note(self.alloc, &mut self.history, call, noted, events);
         Ok(answered)
+    }
+
+    /// Makes one call as `step` does, and says what holds whichever requests for memory are refused: the
+    /// complete bodies sum to at most the manager's limit on weight, and are at most as many as its
+    /// watermark, after this call as after each before it; a body that was stored is admitted in the
+    /// call that finished it, or its key is purged there. A refused call leaves all as it was, and no
+    /// entry.
+    pub fn bounded_step(&mut self, call: Call) -> Result<Reply>
+        ensures within { IsWithinAlways self.new }
+        ensures settles { SettlesAlways self.new }
+        ensures refused { OnErr result (self.new ≡ self.old) }
+        ensures no_entry { OnErr result (self.new.history ≡ self.old.history) }
+        ensures entry { IfOk result (λ reply. Adds self.old call reply self.new) }
+        ensures kind { IfErr result (λ e. e ≡ OutOfMemory) }
+    {
+        self.step(call)
     }
 
     /// Makes the calls in order, and answers their replies. Refused when memory runs out, it made

@@ -1,0 +1,188 @@
+//! Running a script whose requests for memory may be refused.
+//!
+//! A refused call ends nothing: the next line follows. After each call the reply is told, what the history has of
+//! it, the world's numbers and the length of the history, so that all of it can be compared with the definitions.
+ghost use Rattle.std.specs.Prelude.{◌≤◌};
+
+use crate::policy::OneSecond;
+use crate::replay::{AGE_TIMEOUT_SECS, Limits, Stop, read_limits, read_line};
+use crate::reply::{write_reply, write_stat};
+use crate::script::{Line, Unread, read};
+use crate::told::write_entry;
+use pingora_cache::eviction::{EvictionManager, sharded_lru, simple_lru};
+use pingora_cache::moment::Moment;
+use pingora_cache::seed::Seed;
+use pingora_cache::world::World;
+use pingora_cache::world::call::{Call, Reply};
+use std::alloc::Global;
+use std::io;
+use std::io::{BufRead, BufReader, BufWriter, Read, Write};
+use std::time::Duration;
+
+// How many bytes a line may have before reading it asks for more memory.
+const LINE: usize = 4096;
+
+/// Runs the script that `input` has, with `MANAGER LIMIT [WATERMARK]` as arguments, where MANAGER is `simple`, or
+/// `shards` for the manager in two shards, and tells of each line. Answers the status: 0, or 1 after a line to
+/// `errors` that says what was wrong.
+pub fn torment<R: Read + Drop, W: Write + Drop, E: Write>(
+    alloc: Global,
+    args: &[String],
+    input: R,
+    output: W,
+    errors: &mut E,
+) -> u8
+    ensures { result ≤ 1 }
+{
+    match run(alloc, args, input, output) {
+        Ok(()) => 0,
+        Err(stop) => {
+            stop.tell(errors);
+            1
+        }
+    }
+}
+
+fn run<R: Read + Drop, W: Write + Drop>(
+    alloc: Global,
+    args: &[String],
+    input: R,
+    output: W,
+) -> Result<(), Stop> {
+    let Some((name, numbers)) = args.split_first() else {
+        return Err(Stop::BadArguments);
+    };
+    let limits = read_limits(numbers).ok_or(Stop::BadArguments)?;
+    match name.as_str() {
+        "simple" => run_simple(alloc, limits, input, output),
+        "shards" => run_sharded(alloc, limits, input, output),
+        _ => Err(Stop::BadArguments),
+    }
+}
+
+fn run_simple<R: Read + Drop, W: Write + Drop>(
+    alloc: Global,
+    limits: Limits,
+    input: R,
+    output: W,
+) -> Result<(), Stop> {
+    let Limits { weight, watermark } = limits;
+    match simple_lru::Manager::new_with_watermark(alloc, Seed::fixed(), weight, watermark) {
+        Ok(manager) => run_over(alloc, manager, input, output),
+        Err(_) => Err(Stop::OutOfMemory),
+    }
+}
+
+fn run_sharded<R: Read + Drop, W: Write + Drop>(
+    alloc: Global,
+    limits: Limits,
+    input: R,
+    output: W,
+) -> Result<(), Stop> {
+    let Limits { weight, watermark } = limits;
+    match sharded_lru::Manager::<2>::with_capacity_and_watermark(
+        alloc,
+        Seed::fixed(),
+        weight,
+        4,
+        watermark,
+    ) {
+        Ok(manager) => run_over(alloc, manager, input, output),
+        Err(_) => Err(Stop::OutOfMemory),
+    }
+}
+
+fn run_over<M: EvictionManager, R: Read + Drop, W: Write + Drop>(
+    alloc: Global,
+    manager: M,
+    input: R,
+    output: W,
+) -> Result<(), Stop> {
+    let mut world: World<M, OneSecond> = World::new(
+        alloc,
+        Seed::fixed(),
+        manager,
+        Duration::from_secs(AGE_TIMEOUT_SECS),
+    );
+    let Ok(mut reader) = BufReader::new(alloc, input) else {
+        return Err(Stop::OutOfMemory);
+    };
+    let Ok(mut writer) = BufWriter::new(alloc, output) else {
+        return Err(Stop::OutOfMemory);
+    };
+    let result = run_lines(alloc, &mut world, &mut reader, &mut writer);
+    let flushed = writer.flush();
+    result?;
+    flushed.map_err(|_| Stop::OutputFailed)
+}
+
+fn run_lines<M: EvictionManager, R: BufRead, W: Write>(
+    alloc: Global,
+    world: &mut World<M, OneSecond>,
+    reader: &mut R,
+    writer: &mut W,
+) -> Result<(), Stop> {
+    let Ok(mut line) = Vec::with_capacity(alloc, LINE) else {
+        return Err(Stop::OutOfMemory);
+    };
+    let mut now = Moment::EPOCH;
+    for number in 1..u64::MAX {
+        line.clear();
+        if !read_line(reader, &mut line)? {
+            return Ok(());
+        }
+        let written = match read(alloc, line.as_slice(), now) {
+            Ok(read) => run_line(world, read, number, &mut now, writer)?,
+            Err(Unread::BadCall) => return Err(Stop::BadCall(number)),
+            Err(Unread::OutOfMemory) => writeln!(writer, "not read"),
+        };
+        written.map_err(|_| Stop::OutputFailed)?;
+    }
+    Ok(())
+}
+
+// Does what a line with this number asks for, and tells of it. Files are not touched.
+fn run_line<M: EvictionManager, W: Write>(
+    world: &mut World<M, OneSecond>,
+    line: Line,
+    number: u64,
+    now: &mut Moment,
+    writer: &mut W,
+) -> Result<io::Result<()>, Stop> {
+    match line {
+        Line::Skip => Ok(Ok(())),
+        Line::At(moment) => {
+            *now = moment;
+            Ok(write_reply(writer, &Reply::Done))
+        }
+        Line::Stat => Ok(write_numbers(world, writer)),
+        Line::Save(_) | Line::Load(_) => Err(Stop::BadCall(number)),
+        Line::Call(call) => Ok(run_call(world, call, writer)),
+    }
+}
+
+// Makes a call, and tells what it added to the history.
+fn run_call<M: EvictionManager, W: Write>(
+    world: &mut World<M, OneSecond>,
+    call: Call,
+    writer: &mut W,
+) -> io::Result<()> {
+    let before = world.history().len();
+    match world.step(call) {
+        Ok(reply) => write_reply(writer, &reply)?,
+        Err(_) => writeln!(writer, "no step")?,
+    }
+    for entry in world.history().get(before..).unwrap_or(&[]) {
+        write_entry(writer, entry)?;
+    }
+    write_numbers(world, writer)
+}
+
+fn write_numbers<M: EvictionManager, W: Write>(
+    world: &World<M, OneSecond>,
+    writer: &mut W,
+) -> io::Result<()> {
+    write_stat(writer, world.stored_bytes(), world.slots(), world.totals())?;
+    let entries = world.history().len();
+    writeln!(writer, "entries {entries}")
+}
