@@ -24,7 +24,6 @@ use denote.Triple.Walked.{Stays, stay_dropped, walk_of, Goes-dropped}
 use Rattle.core.proofs.alloc.Calls.{Al, handle_tells}
 use Rattle.std.proofs.raw_atomic.Walks.{proved_at, leaves}
 use Rattle.std.specs.Box.Ownership.{box_owns}
-use Rattle.libc.specs.Heap.{chunk}
 use Rattle.std.specs.contracts.alloc.Global as heap
 use Rattle.std.proofs.alloc.Global.TheLaws as heap_laws
 use Rattle.std.specs.contracts.impls.GlobalAllocator.TheImpl.{ghosts}
@@ -51,7 +50,7 @@ into_loose_spec 𝓤 𝓛 𝓜 𝓡 wired =
     move ! (1 ∷ []) $ heard ! (IsTrue (is_some v.value)) (λ held. let it = found v.value held in
     split ! $ move ! (1 ∷ []) $ fsplit ! $ held_out ! v z.0.4.0 (λ ws.
     rewrite ! 0 (λ (w : Option Object). ‵ (held_at v.at w)) it.1 refl $
-    in_a_block ! v.at (λ p. box_owns chunk R p it.0) (fst∗ 𝓤 (never 𝓤) (sem 𝓛 (chunk (bare (lone R.mir)) null_ptr))) (λ b o e.
+    in_a_block ! v.at (λ p. box_owns (ghosts.dealloc_token a) R p it.0) (fst∗ 𝓤 (never 𝓤) (sem 𝓛 (ghosts.dealloc_token a (bare (lone R.mir)) null_ptr))) (λ b o e.
     move ! (1 ∷ []) $ fsplit ! $ handle_tells al ! a z.0.4.1.0 (λ h eh fits.
     move ! (1 ∷ []) $ drop ! $
     let typed = loose_good R Z LZ ghosts b o h fits in
