@@ -1,0 +1,13 @@
+-- What a handle has: an object in a box that a pointer leads to, or nothing.
+use Rattle.std.specs.Prelude.{Option, None, Some}
+use Rattle.std.specs.Box.Ownership.{box_owns}
+use base.Fml.{Fml, ftrue}
+use denote.RawPtr.{Ptr}
+use Rattle.std.specs.contracts.impls.GlobalAllocator.TheImpl.{ghosts}
+use Rattle.pcache_c.specs.declared.object.Object.{Object}
+use Rattle.pcache_c.specs.contracts.object.Object.{the_row}
+
+-- The memory at the pointer: that of the object with its block, or none (own).
+abbrev pub held_at : Ptr → Option Object → Fml
+held_at p None = ftrue
+held_at p (Some v) = box_owns (ghosts.dealloc_token (record { memory = record { seal = tt } })) the_row p v

@@ -1,0 +1,66 @@
+//! The keys of entries of eviction managers.
+ghost use Rattle.std.specs.Prelude.{◌≡◌, IfOk, None, Some, if◌then◌else◌};
+
+use crate::codes::{BAD_VALUE, NO_MEMORY};
+use crate::hashes::hash_from;
+use pcache_base::key::{CompactCacheKey, HashBinary};
+use pcache_base::text::Text;
+use pcache_evict::eviction::{CacheEntryId, CacheEntryKey};
+use std::alloc::Global;
+
+/// What stands beside the hash and the tag of an entry's key. A number counts only if its flag is
+/// not 0.
+#[repr(C)]
+#[derive(Clone, Copy)]
+pub struct PcacheEntry {
+    /// The entry's number, of several entries of a key.
+    pub id: u64,
+    /// Whether it has a number.
+    pub has_id: u32,
+    /// Whether there is a variance.
+    pub has_variance: u32,
+    /// The bytes of the tag of the user whom the entry is counted for.
+    pub tag_len: usize,
+}
+
+fn variance_of(bytes: &[u8]) -> Result<Option<HashBinary>, u32> {
+    if bytes.is_empty() {
+        return Ok(None);
+    }
+    match hash_from(bytes) {
+        Some(hash) => Ok(Some(hash)),
+        None => Err(BAD_VALUE),
+    }
+}
+
+/// The key of an entry from a primary hash, a variance (of no bytes for none), a tag, which is
+/// text, and a number if there is one.
+pub(crate) fn entry_from(
+    alloc: Global,
+    primary: &[u8],
+    variance: &[u8],
+    tag: &[u8],
+    entry: &PcacheEntry,
+) -> Result<CacheEntryKey, u32> {
+    let Some(primary) = hash_from(primary) else {
+        return Err(BAD_VALUE);
+    };
+    let variance = variance_of(variance)?;
+    let Ok(tag) = std::str::from_utf8(tag) else {
+        return Err(BAD_VALUE);
+    };
+    let Ok(tag) = tag.to_string(alloc) else {
+        return Err(NO_MEMORY);
+    };
+    let key = CompactCacheKey {
+        primary,
+        variance,
+        user_tag: Text::new(tag),
+    };
+    let id = if entry.has_id != 0 {
+        Some(CacheEntryId::new(entry.id))
+    } else {
+        None
+    };
+    Ok(CacheEntryKey::from_entry_id(key, id))
+}

@@ -1,0 +1,113 @@
+//! A handle, as C has it.
+ghost use Rattle.std.specs.Prelude.{◌≡◌, Option, None, Some, IfSome, IsTrue, is_some};
+ghost use Rattle.std.specs.Coded.{coded_option};
+ghost use Rattle.pcache_c.specs.contracts.object.Object.{the_row};
+ghost use Rattle.pcache_c.specs.declared.object.Object.{Object};
+ghost use Rattle.pcache_c.specs.Handle.{held_at};
+
+use crate::codes::{BAD_HANDLE, NO_MEMORY, OK};
+use crate::loose::Loose;
+use crate::object::Object;
+use std::alloc::Global;
+use std::marker::Model;
+use std::{mem, ptr};
+
+/// The pointer to an object's box, under a type that C can have, or no object.
+#[repr(C)]
+#[derive(Drop)]
+pub struct Held {
+    at: *mut u8,
+    /// The object.
+    pub ghost value: { Option Object } by { coded_option the_row.coded },
+}
+
+impl Model for Held {
+    ghost also_owns = { λ h. held_at h.at h.value };
+}
+
+impl Held {
+    /// No object.
+    pub(crate) fn none() -> Held
+        ensures { result.value ≡ None }
+    {
+        Held {
+            at: ptr::null_mut(),
+        }
+    }
+
+    /// The pointer of a box.
+    pub(crate) fn of(loose: Loose<Object, Global>) -> Held
+        ensures { result.value ≡ Some loose.value }
+    {
+        let Loose { at, alloc: _ } = loose;
+        Held { at: at as *mut u8 }
+    }
+
+    /// The box of a pointer.
+    pub(crate) fn into_loose(self, alloc: Global) -> Loose<Object, Global>
+        requires { IsTrue (is_some self.value) }
+        ensures { Some result.value ≡ self.value }
+    {
+        let Held { at } = self;
+        Loose {
+            at: at as *mut Object,
+            alloc,
+        }
+    }
+}
+
+/// What a handle with an object in it begins with: the letters PCACHE01.
+const TAG: u64 = 0x5043_4143_4845_3031;
+
+/// A handle, as C keeps it: an object in a box, or nothing. All zeros is nothing.
+#[repr(C)]
+#[derive(Drop)]
+pub struct PcacheHandle {
+    tag: u64,
+    /// The object.
+    pub held: Held,
+    ghost tied: { tag ≡ 5783538103704956977 → IsTrue (is_some held.value) },
+}
+
+impl PcacheHandle {
+    /// Whether there is an object.
+    pub(crate) fn is_live(&self) -> bool {
+        self.tag == TAG
+    }
+
+    /// Takes the object out, if there is one.
+    pub(crate) fn take(&mut self, alloc: Global) -> Option<Box<Object>>
+        ensures taken { IfSome result (λ object. self.old.held.value ≡ Some object.value) }
+    {
+        if self.tag != TAG {
+            return None;
+        }
+        self.tag = 0;
+        let held = mem::replace(&mut self.held, Held::none());
+        Some(held.into_loose(alloc).into_box())
+    }
+
+    /// Puts an object into a handle that has none.
+    pub(crate) fn fill(&mut self, alloc: Global, object: Object) -> u32
+        ensures filled { result ≡ 0 → self.new.held.value ≡ Some object }
+    {
+        if self.is_live() {
+            return BAD_HANDLE;
+        }
+        match Box::new(alloc, object) {
+            Ok(object) => {
+                self.put(object);
+                OK
+            }
+            Err(_) => NO_MEMORY,
+        }
+    }
+
+    /// Puts an object in.
+    pub(crate) fn put(&mut self, object: Box<Object>)
+        ensures put { self.new.held.value ≡ Some object.value }
+    {
+        self.held = Held::of(Loose::of(object));
+        self.tag = TAG;
+    }
+}

@@ -1,0 +1,209 @@
+//! Heads of responses, what Cache-Control says of them, and whether they are to be stored.
+ghost use Rattle.std.specs.Prelude.{◌≡◌};
+
+use crate::codes::{BAD_HANDLE, BAD_VALUE, NO_MEMORY, NONE, OK, WRONG_KIND, code_of};
+use crate::handle::PcacheHandle;
+use crate::metas::moment_of;
+use crate::object::Object;
+use http::StatusCode;
+use http_header::{HeaderName, HeaderValue};
+use pcache_base::moment::Moment;
+use pcache_control::cache_control::{CacheControl, Cacheable};
+use pcache_control::defaults::CacheMetaDefaults;
+use pcache_control::filters::resp_cacheable;
+use pcache_control::interpret::InterpretCacheControl;
+use pcache_control::response::RespCacheable;
+use pcache_meta::header::ResponseHeader;
+use std::alloc::Global;
+use std::time::Duration;
+
+/// Begins the head of a response of HTTP/1.1 with this status and no fields.
+#[unsafe(no_mangle)]
+pub extern "C" fn pcache_head_new(alloc: Global, handle: &mut PcacheHandle, status: u16) -> u32 {
+    match StatusCode::from_u16(status) {
+        Ok(status) => handle.fill(alloc, Object::Head(ResponseHeader::build(alloc, status))),
+        Err(_) => BAD_VALUE,
+    }
+}
+
+fn add_field(alloc: Global, head: &mut ResponseHeader, name: &[u8], value: &[u8]) -> u32 {
+    let Ok(name) = HeaderName::from_bytes(alloc, name) else {
+        return BAD_VALUE;
+    };
+    let Ok(value) = HeaderValue::from_bytes(alloc, value) else {
+        return BAD_VALUE;
+    };
+    match head.headers.append(name, value) {
+        Ok(_) => OK,
+        Err(_) => NO_MEMORY,
+    }
+}
+
+/// Adds a field to a head, beside those of the same name.
+#[unsafe(no_mangle)]
+pub extern "C" fn pcache_head_add(
+    alloc: Global,
+    handle: &mut PcacheHandle,
+    name: &[u8],
+    value: &[u8],
+) -> u32 {
+    let Some(mut object) = handle.take(alloc) else {
+        return BAD_HANDLE;
+    };
+    let code = match &mut *object {
+        Object::Head(head) => add_field(alloc, head, name, value),
+        _ => WRONG_KIND,
+    };
+    handle.put(object);
+    code
+}
+
+fn read_control(alloc: Global, head: &ResponseHeader, control: &mut PcacheHandle) -> u32 {
+    match CacheControl::from_resp_headers(alloc, head) {
+        Ok(Some(read)) => control.fill(alloc, Object::Control(read)),
+        Ok(None) => NONE,
+        Err(e) => code_of(e),
+    }
+}
+
+/// Reads the Cache-Control of a head. There is nothing to hand over if it has none.
+#[unsafe(no_mangle)]
+pub extern "C" fn pcache_control_read(
+    alloc: Global,
+    control: &mut PcacheHandle,
+    head: &mut PcacheHandle,
+) -> u32 {
+    let Some(object) = head.take(alloc) else {
+        return BAD_HANDLE;
+    };
+    let code = match &*object {
+        Object::Head(read) => read_control(alloc, read, control),
+        _ => WRONG_KIND,
+    };
+    head.put(object);
+    code
+}
+
+/// What Cache-Control says of a response. A number of seconds counts only if its flag is not 0.
+#[repr(C)]
+#[derive(Drop)]
+pub struct PcacheAnswers {
+    /// The seconds for which the response is fresh.
+    pub fresh_secs: u64,
+    /// The seconds in which it may be served stale while it is revalidated.
+    pub stale_while_revalidate_secs: u64,
+    /// The seconds in which it may be served stale after an error.
+    pub stale_if_error_secs: u64,
+    /// Whether it may be stored: 0 for no, 1 for yes, 2 for what is the default.
+    pub cacheable: u32,
+    /// Whether it may be stored if its request had an Authorization.
+    pub authorized: u32,
+    /// Whether there are seconds for which it is fresh.
+    pub has_fresh: u32,
+    /// Whether there are seconds in which it may be served while it is revalidated.
+    pub has_stale_while_revalidate: u32,
+    /// Whether there are seconds in which it may be served after an error.
+    pub has_stale_if_error: u32,
+}
+
+fn seconds_of(duration: Option<Duration>) -> (u32, u64) {
+    match duration {
+        Some(duration) => (1, duration.as_secs()),
+        None => (0, 0),
+    }
+}
+
+fn answer(control: &CacheControl, out: &mut PcacheAnswers) {
+    let (has_fresh, fresh_secs) = seconds_of(control.fresh_duration());
+    let (has_while, while_secs) = seconds_of(control.serve_stale_while_revalidate_duration());
+    let (has_error, error_secs) = seconds_of(control.serve_stale_if_error_duration());
+    out.cacheable = match control.is_cacheable() {
+        Cacheable::No => 0,
+        Cacheable::Yes => 1,
+        Cacheable::Default => 2,
+    };
+    out.authorized = u32::from(control.allow_caching_authorized_req());
+    out.has_fresh = has_fresh;
+    out.fresh_secs = fresh_secs;
+    out.has_stale_while_revalidate = has_while;
+    out.stale_while_revalidate_secs = while_secs;
+    out.has_stale_if_error = has_error;
+    out.stale_if_error_secs = error_secs;
+}
+
+/// What Cache-Control says.
+#[unsafe(no_mangle)]
+pub extern "C" fn pcache_control_answers(
+    alloc: Global,
+    control: &mut PcacheHandle,
+    out: &mut PcacheAnswers,
+) -> u32 {
+    let Some(object) = control.take(alloc) else {
+        return BAD_HANDLE;
+    };
+    let code = match &*object {
+        Object::Control(read) => {
+            answer(read, out);
+            OK
+        }
+        _ => WRONG_KIND,
+    };
+    control.put(object);
+    code
+}
+
+fn no_default(_status: StatusCode) -> Option<Duration> {
+    None
+}
+
+fn fill_meta(
+    alloc: Global,
+    head: &ResponseHeader,
+    authorization: u32,
+    windows: (u32, u32),
+    now: Moment,
+    meta: &mut PcacheHandle,
+) -> u32 {
+    let control = match CacheControl::from_resp_headers(alloc, head) {
+        Ok(control) => control,
+        Err(e) => return code_of(e),
+    };
+    let head = match head.copied() {
+        Ok(head) => head,
+        Err(e) => return code_of(e),
+    };
+    let defaults = CacheMetaDefaults::new(no_default, windows.0, windows.1);
+    match resp_cacheable(control.as_ref(), head, authorization != 0, &defaults, now) {
+        RespCacheable::Cacheable(made) => meta.fill(alloc, Object::Meta(made)),
+        RespCacheable::Uncacheable(_) => NONE,
+    }
+}
+
+/// Whether the response of a head is to be stored: if so, its meta goes to a second handle, and if
+/// not, there is nothing to hand over. A response that says nothing of its lifetime is not stored.
+/// The windows are what holds in seconds if it says nothing of being served stale.
+#[unsafe(no_mangle)]
+pub extern "C" fn pcache_resp_cacheable(
+    alloc: Global,
+    meta: &mut PcacheHandle,
+    head: &mut PcacheHandle,
+    authorization: u32,
+    stale_while_revalidate_secs: u32,
+    stale_if_error_secs: u32,
+    now_secs: u64,
+    now_nanos: u32,
+) -> u32 {
+    let Some(now) = moment_of(now_secs, now_nanos) else {
+        return BAD_VALUE;
+    };
+    let Some(object) = head.take(alloc) else {
+        return BAD_HANDLE;
+    };
+    let windows = (stale_while_revalidate_secs, stale_if_error_secs);
+    let code = match &*object {
+        Object::Head(read) => fill_meta(alloc, read, authorization, windows, now, meta),
+        _ => WRONG_KIND,
+    };
+    head.put(object);
+    code
+}

@@ -1,0 +1,25 @@
+//! What handles lead to.
+
+use crate::managers::Managed;
+use pcache_base::variance::VarianceBuilder;
+use pcache_control::cache_control::CacheControl;
+use pcache_evict::eviction::{sharded_lru, simple_lru};
+use pcache_meta::header::ResponseHeader;
+use pcache_meta::meta::CacheMeta;
+
+/// What a handle leads to.
+#[derive(Drop)]
+pub enum Object {
+    /// What a variance is made of.
+    Variance(VarianceBuilder<'static>),
+    /// The head of a response.
+    Head(ResponseHeader),
+    /// What Cache-Control says.
+    Control(CacheControl),
+    /// The meta of a stored response.
+    Meta(CacheMeta),
+    /// An eviction manager with one list.
+    Simple(Managed<simple_lru::Manager>),
+    /// An eviction manager in 16 shards.
+    Sharded(Managed<sharded_lru::Manager<16>>),
+}

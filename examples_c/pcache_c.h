@@ -1,0 +1,175 @@
+/* The proved cache, for C and C++. docs/FROM_C.md says what a caller has to uphold.
+ *
+ * A handle is kept by the caller and begins as all zeros. It leads to an object of one kind, is used
+ * by one thread at a time, and is ended once. Bytes go in as a pointer and a length, and come out in
+ * a buffer of the caller's. Pointers are never null, those of empty buffers neither. */
+#ifndef PCACHE_C_H
+#define PCACHE_C_H
+
+#include <stddef.h>
+#include <stdint.h>
+
+#ifdef __cplusplus
+extern "C" {
+#endif
+
+/* What each function returns. */
+enum {
+    PCACHE_OK = 0,
+    PCACHE_NO_MEMORY = 1,        /* memory that was asked for was not given */
+    PCACHE_BAD_HANDLE = 2,       /* no object, or one where there was to be none */
+    PCACHE_WRONG_KIND = 3,       /* the object is of another kind */
+    PCACHE_BAD_VALUE = 4,        /* a number, text or length that the call does not take */
+    PCACHE_UNREADABLE = 5,       /* bytes that cannot be read */
+    PCACHE_NONE = 6,             /* there is nothing to hand over */
+    PCACHE_WRONG_CALL = 7,       /* the call may not be made now */
+    PCACHE_INVALID_HEAD = 8,
+    PCACHE_TOO_LARGE = 9,
+    PCACHE_INCOMPLETE = 10,
+    PCACHE_REMOVED = 11,
+    PCACHE_EXHAUSTED = 12,
+    PCACHE_IO = 13
+};
+
+/* An object, or nothing if all is zero. The fields are the library's. */
+typedef struct pcache_handle {
+    uint64_t tag;
+    void *at;
+} pcache_handle;
+
+/* Ends an object of any kind and frees what it has. The handle is nothing from then on. */
+uint32_t pcache_end(pcache_handle *handle);
+
+/* ---- hashes: 16 bytes each ---- */
+
+uint32_t pcache_hash_key(const uint8_t *key, size_t key_len, uint8_t *out, size_t out_len);
+/* No variance is one of no bytes. */
+uint32_t pcache_combined_hash(const uint8_t *primary, size_t primary_len, const uint8_t *variance,
+                              size_t variance_len, uint8_t *out, size_t out_len);
+uint32_t pcache_variance_new(pcache_handle *variance);
+/* The name is UTF-8. The last value of a name stands. */
+uint32_t pcache_variance_add(pcache_handle *variance, const uint8_t *name, size_t name_len,
+                             const uint8_t *value, size_t value_len);
+/* Ends the handle. PCACHE_NONE if nothing was added. */
+uint32_t pcache_variance_finish(pcache_handle *variance, uint8_t *out, size_t out_len);
+
+/* ---- heads of responses, and Cache-Control ---- */
+
+uint32_t pcache_head_new(pcache_handle *head, uint16_t status);
+uint32_t pcache_head_add(pcache_handle *head, const uint8_t *name, size_t name_len,
+                         const uint8_t *value, size_t value_len);
+
+/* Seconds count only if their flag is not 0. */
+typedef struct pcache_answers {
+    uint64_t fresh_secs;
+    uint64_t stale_while_revalidate_secs;
+    uint64_t stale_if_error_secs;
+    uint32_t cacheable; /* 0 no, 1 yes, 2 as by default */
+    uint32_t authorized;
+    uint32_t has_fresh;
+    uint32_t has_stale_while_revalidate;
+    uint32_t has_stale_if_error;
+} pcache_answers;
+
+/* PCACHE_NONE if the head has no Cache-Control. */
+uint32_t pcache_control_read(pcache_handle *control, pcache_handle *head);
+uint32_t pcache_control_answers(pcache_handle *control, pcache_answers *out);
+/* PCACHE_NONE if the response is not to be stored. */
+uint32_t pcache_resp_cacheable(pcache_handle *meta, pcache_handle *head, uint32_t authorization,
+                               uint32_t stale_while_revalidate_secs, uint32_t stale_if_error_secs,
+                               uint64_t now_secs, uint32_t now_nanos);
+
+/* ---- metas of stored responses ---- */
+
+/* Since 1970-01-01 00:00:00 UTC. */
+typedef struct pcache_moment {
+    uint64_t secs;
+    uint32_t nanos;
+} pcache_moment;
+
+typedef struct pcache_meta {
+    pcache_moment created;
+    pcache_moment updated;
+    pcache_moment fresh_until;
+    uint32_t stale_while_revalidate_secs;
+    uint32_t stale_if_error_secs;
+} pcache_meta;
+
+typedef struct pcache_servable {
+    uint32_t fresh;
+    uint32_t while_revalidating;
+    uint32_t after_error;
+} pcache_servable;
+
+uint32_t pcache_meta_new(pcache_handle *meta, pcache_handle *head, const pcache_meta *said);
+uint32_t pcache_meta_says(pcache_handle *meta, pcache_meta *out);
+uint32_t pcache_meta_servable(pcache_handle *meta, uint64_t now_secs, uint32_t now_nanos,
+                              pcache_servable *out);
+uint32_t pcache_meta_read(pcache_handle *meta, const uint8_t *internal, size_t internal_len,
+                          const uint8_t *header, size_t header_len);
+/* Says both lengths first. PCACHE_BAD_VALUE if a buffer is too short, and nothing is written. */
+uint32_t pcache_meta_write(pcache_handle *meta, uint8_t *internal, size_t internal_room,
+                           uint8_t *header, size_t header_room, size_t *internal_len,
+                           size_t *header_len);
+
+/* ---- eviction managers ---- */
+
+/* What stands beside the hashes and the tag of an entry's key. `has_variance` and `tag_len` are
+ * written, and not read. */
+typedef struct pcache_entry {
+    uint64_t id;
+    uint32_t has_id;
+    uint32_t has_variance;
+    size_t tag_len;
+} pcache_entry;
+
+typedef struct pcache_totals {
+    size_t weight;
+    size_t entries;
+    size_t evicted_weight;
+    size_t evicted_entries;
+    size_t waiting; /* evicted, and not handed over yet */
+} pcache_totals;
+
+/* The seed is 16 bytes that the caller drew at random. A watermark of 0 is none. */
+uint32_t pcache_simple_lru_new(pcache_handle *manager, const uint8_t *seed, size_t seed_len,
+                               size_t limit, size_t watermark);
+uint32_t pcache_sharded_lru_new(pcache_handle *manager, const uint8_t *seed, size_t seed_len,
+                                size_t limit, size_t watermark);
+/* PCACHE_WRONG_CALL while evicted entries wait to be handed over. */
+uint32_t pcache_manager_admit(pcache_handle *manager, const uint8_t *primary, size_t primary_len,
+                              const uint8_t *variance, size_t variance_len, const uint8_t *tag,
+                              size_t tag_len, const pcache_entry *entry, size_t weight,
+                              uint64_t fresh_until_secs, uint32_t fresh_until_nanos);
+/* `most` is what the weight may become, or 0. */
+uint32_t pcache_manager_increment(pcache_handle *manager, const uint8_t *primary,
+                                  size_t primary_len, const uint8_t *variance, size_t variance_len,
+                                  const uint8_t *tag, size_t tag_len, const pcache_entry *entry,
+                                  size_t delta, size_t most);
+uint32_t pcache_manager_access(pcache_handle *manager, const uint8_t *primary, size_t primary_len,
+                               const uint8_t *variance, size_t variance_len, const uint8_t *tag,
+                               size_t tag_len, const pcache_entry *entry, size_t weight,
+                               uint64_t fresh_until_secs, uint32_t fresh_until_nanos,
+                               uint32_t *was);
+uint32_t pcache_manager_remove(pcache_handle *manager, const uint8_t *primary, size_t primary_len,
+                               const uint8_t *variance, size_t variance_len, const uint8_t *tag,
+                               size_t tag_len, const pcache_entry *entry);
+uint32_t pcache_manager_peek(pcache_handle *manager, const uint8_t *primary, size_t primary_len,
+                             const uint8_t *variance, size_t variance_len, const uint8_t *tag,
+                             size_t tag_len, const pcache_entry *entry, uint32_t *was);
+uint32_t pcache_manager_totals(pcache_handle *manager, pcache_totals *out);
+/* The next evicted entry: its hashes go to two buffers of 16. PCACHE_NONE after the last. */
+uint32_t pcache_manager_next(pcache_handle *manager, uint8_t *primary, size_t primary_len,
+                             uint8_t *variance, size_t variance_len, pcache_entry *out);
+/* The tag of the entry that was handed over last. */
+uint32_t pcache_manager_tag(pcache_handle *manager, uint8_t *out, size_t out_len);
+/* Says the length first. Shard 0 of a manager with one list, 0 to 15 of one in shards. */
+uint32_t pcache_manager_save(pcache_handle *manager, size_t shard, uint8_t *out, size_t out_room,
+                             size_t *len);
+uint32_t pcache_manager_load(pcache_handle *manager, const uint8_t *bytes, size_t bytes_len);
+
+#ifdef __cplusplus
+}
+#endif
+
+#endif

@@ -1,0 +1,103 @@
+//! Hashes, what Cache-Control says, a meta and its bytes, and an eviction manager, from Rust. It prints
+//! what examples_c/values.c prints.
+mod pcache;
+
+use pcache::{combined_hash, hash_key, Hash, Head, Key, Manager, Meta, Moment, Refused, Variance, NONE, UNREADABLE};
+
+fn at(secs: u64) -> Moment {
+    Moment { secs, nanos: 0 }
+}
+
+fn hex(hash: &Hash) -> String {
+    hash.iter().map(|byte| format!("{byte:02x}")).collect()
+}
+
+fn hashes() -> Result<(), Refused> {
+    let primary = hash_key(b"aa");
+    println!("primary {}", hex(&primary));
+    let mut builder = Variance::new()?;
+    builder.add("accept", b"text/html")?;
+    let variance = builder.finish()?;
+    println!("variance {}", hex(&variance));
+    println!("combined {}", hex(&combined_hash(&primary, Some(&variance))));
+    let same = combined_hash(&primary, None) == primary;
+    println!("no variance: {}", if same { "the primary hash" } else { "another" });
+    Ok(())
+}
+
+fn responses() -> Result<(), Refused> {
+    let mut head = Head::new(200)?;
+    assert_eq!(head.answers().err(), Some(NONE));
+    head.add("Cache-Control", b"public, max-age=60, stale-while-revalidate=10")?;
+    head.add("Content-Type", b"text/html")?;
+    let said = head.answers()?;
+    println!(
+        "cacheable {} authorized {} fresh {}/{} while {}/{} error {}/{}",
+        said.cacheable, said.authorized, said.has_fresh, said.fresh_secs, said.has_stale_while_revalidate,
+        said.stale_while_revalidate_secs, said.has_stale_if_error, said.stale_if_error_secs
+    );
+    let mut meta = head.meta(false, (0, 5), at(1000))?;
+    let says = meta.says();
+    println!(
+        "created {} fresh until {} while {} error {}",
+        says.created.secs, says.fresh_until.secs, says.stale_while_revalidate_secs, says.stale_if_error_secs
+    );
+    for secs in [1059, 1065, 1100] {
+        let may = meta.servable(at(secs))?;
+        println!("at {secs}: fresh {} while {} error {}", may.fresh, may.while_revalidating, may.after_error);
+    }
+    let (internal, header) = meta.write()?;
+    println!("internal {} bytes, header {} bytes", internal.len(), header.len());
+    println!("read back: fresh until {}", Meta::read(&internal, &header)?.says().fresh_until.secs);
+    assert_eq!(Meta::read(&internal[..1], &header).err(), Some(UNREADABLE));
+    Ok(())
+}
+
+fn key(name: &str, tag: &str) -> Key {
+    Key { primary: hash_key(name.as_bytes()), tag: tag.to_string(), ..Key::default() }
+}
+
+fn admit(manager: &mut Manager, name: &str, tag: &str) -> Result<(), Refused> {
+    for gone in manager.admit(&key(name, tag), 2, at(1060))? {
+        println!("{name} lets go, with tag {}, {}", gone.tag, hex(&gone.primary));
+    }
+    Ok(())
+}
+
+fn print_totals(manager: &mut Manager) {
+    let now = manager.totals();
+    println!("weight {} entries {} evicted {}/{}", now.weight, now.entries, now.evicted_weight, now.evicted_entries);
+}
+
+fn managers() -> Result<(), Refused> {
+    let mut seed = [0; 16];
+    seed[..3].copy_from_slice(&[1, 2, 3]);
+    let mut manager = Manager::simple(&seed, 4, 0)?;
+    admit(&mut manager, "a", "ann")?;
+    admit(&mut manager, "b", "bob")?;
+    println!("a was there: {}", u32::from(manager.access(&key("a", "ann"), 1, at(1060))?));
+    admit(&mut manager, "c", "")?;
+    print_totals(&mut manager);
+    let file = manager.save(0)?;
+    println!("file of {} bytes", file.len());
+    let mut second = Manager::simple(&seed, 4, 0)?;
+    assert_eq!(second.load(&file[..file.len() - 1]), Err(UNREADABLE));
+    second.load(&file)?;
+    print_totals(&mut second);
+    let c = key("c", "");
+    second.remove(&c)?;
+    println!("c is there: {}", u32::from(second.peek(&c)?));
+    second.increment(&c, 9, 2)?;
+    print_totals(&mut second);
+    let mut sharded = Manager::sharded(&seed, 4, 0)?;
+    admit(&mut sharded, "a", "")?;
+    admit(&mut sharded, "b", "")?;
+    print_totals(&mut sharded);
+    Ok(())
+}
+
+fn main() -> Result<(), Refused> {
+    hashes()?;
+    responses()?;
+    managers()
+}
