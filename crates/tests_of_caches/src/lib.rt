@@ -20,7 +20,8 @@ fn a_body_is_stored_and_found(rt: HostRuntime) -> Result<()> {
 }
 
 fn stored_and_found(cache: &mut List) -> bool {
-    matches!(fill(cache, "a", b"hi"), Ok(true)) && matches!(finds(cache, "a", b"hi"), Ok(true))
+    matches!(fill(cache, "a", b"hi"), Ok(true))
+        && matches!(finds(cache, "a", b"hi"), Ok(true))
         && matches!(finds(cache, "b", b"hi"), Ok(false))
 }
 
@@ -33,7 +34,8 @@ fn what_is_stored_stays_within_the_limit(rt: HostRuntime) -> Result<()> {
 }
 
 fn stays_within(cache: &mut List) -> bool {
-    matches!(fill(cache, "a", b"aa"), Ok(true)) && matches!(fill(cache, "b", b"bb"), Ok(true))
+    matches!(fill(cache, "a", b"aa"), Ok(true))
+        && matches!(fill(cache, "b", b"bb"), Ok(true))
         && matches!(finds(cache, "a", b"aa"), Ok(true))
         && matches!(fill(cache, "c", b"cc"), Ok(true))
         && matches!(finds(cache, "a", b"aa"), Ok(true))
@@ -51,7 +53,8 @@ fn a_purge_takes_the_body_out(rt: HostRuntime) -> Result<()> {
 }
 
 fn is_purged(cache: &mut List) -> bool {
-    matches!(fill(cache, "a", b"hi"), Ok(true)) && matches!(purges(cache, "a"), Ok(true))
+    matches!(fill(cache, "a", b"hi"), Ok(true))
+        && matches!(purges(cache, "a"), Ok(true))
         && matches!(purges(cache, "a"), Ok(false))
         && matches!(finds(cache, "a", b"hi"), Ok(false))
         && cache.stored_bytes() == 0
