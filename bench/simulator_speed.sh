@@ -18,7 +18,7 @@ for key in range(keys):
 for place in range(keys):
     print("k%015d 1" % (place * 7919 % keys))
 END
-    for command in "$folder/plain_lru $keys" "$program --policy lru --size $keys" "$program --policy sharded:16 --size $keys" "$program --policy sieve --size $keys"; do
+    for command in "$folder/plain_lru $keys" "$program --policy lru --size $keys" "$program --policy sharded:16 --size $keys" "$program --policy sieve --size $keys" "$program --policy s3-fifo --size $keys"; do
         /usr/bin/env python3 - "$folder/trace" "$keys" $command <<'END'
 import resource, subprocess, sys, time
 trace, keys, *command = sys.argv[1:]

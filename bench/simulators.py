@@ -4,10 +4,11 @@
     bench/simulators.py PROGRAM           # hand-made and Zipf traces, hit for hit
     bench/simulators.py --trace SEED REQUESTS KEYS > FILE
 
-LRU; SIEVE (Zhang, Yang, Yue, Vigfusson, Rashmi, NSDI 2024). Each takes requests of (key, size) and tells hits.
+LRU; SIEVE (Zhang, Yang, Yue, Vigfusson, Rashmi, NSDI 2024); S3-FIFO (Yang, Zhang, Qiu, Yue, Vigfusson, SOSP 2023). Each takes requests of (key, size) and tells hits.
 Nothing here is shared with the crates of this repository.
 """
 import bisect
+import collections
 import itertools
 import random
 import subprocess
@@ -89,7 +90,67 @@ class Sieve:
         return False
 
 
-POLICIES = {"lru": Lru, "sieve": Sieve}
+class S3Fifo:
+    """Three queues of keys, the oldest on the left, as in the paper's Algorithm 1. What the paper leaves open: the
+    small queue has a tenth of the bytes; room is looked for before each step; there are as many ghosts as nine tenths
+    of the entries when one is added, and a ghost goes when its key comes in."""
+
+    def __init__(self, limit):
+        self.limit, self.used, self.evicted = limit, 0, 0
+        self.small, self.main, self.ghosts = collections.deque(), collections.deque(), {}
+        self.sizes, self.freq, self.small_used = {}, {}, 0
+
+    def request(self, key, size):
+        if key in self.sizes:
+            self.freq[key] = min(self.freq[key] + 1, 3)
+            return True
+        while self.sizes and self.used + size > self.limit:
+            if self.small and (not self.main or 10 * self.small_used >= self.limit):
+                self.evict_small()
+            else:
+                self.evict_main()
+        if size > self.limit:
+            self.evicted += 1
+            return False
+        if key in self.ghosts:
+            del self.ghosts[key]
+            self.main.append(key)
+        else:
+            self.small.append(key)
+            self.small_used += size
+        self.sizes[key], self.freq[key] = size, 0
+        self.used += size
+        return False
+
+    def evict_small(self):
+        count = len(self.sizes)
+        key = self.small.popleft()
+        self.small_used -= self.sizes[key]
+        if self.freq[key] > 1:
+            self.freq[key] = 0
+            self.main.append(key)
+            return
+        self.ghosts.pop(key, None)
+        self.ghosts[key] = True
+        while len(self.ghosts) > count - count // 10:
+            del self.ghosts[next(iter(self.ghosts))]
+        self.drop(key)
+
+    def evict_main(self):
+        key = self.main.popleft()
+        if self.freq[key] > 0:
+            self.freq[key] -= 1
+            self.main.append(key)
+        else:
+            self.drop(key)
+
+    def drop(self, key):
+        self.used -= self.sizes.pop(key)
+        del self.freq[key]
+        self.evicted += 1
+
+
+POLICIES = {"lru": Lru, "sieve": Sieve, "s3-fifo": S3Fifo}
 
 
 def simulate(policy, limit, trace, passes_by):

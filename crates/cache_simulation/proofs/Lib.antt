@@ -1,1 +1,2 @@
+pub mod FreshMaps
 pub mod Standing

@@ -1,15 +1,20 @@
 -- What a manager tracks is what stands after the events so far.
 use Rattle.std.proofs.Common.{◌≡◌, ℕ, ◌+◌, arith, length, length-append, sum_by, Bool, true, false, cond, not, ◌&&◌, ◌||◌, Option, None, Some, is_some, List, [], ◌∷◌, ◌++◌, refl, ap, sym, subst, ◌∙◌}
+use Rattle.std.specs.Prelude.{◌<◌, ◌≤◌}
 use Rattle.std.specs.List.{list_any}
 use Rattle.std.specs.Ordering.{eq_by_cmp}
 use Rattle.std.specs.FinMap as fin
+use Rattle.std.proofs.lemmas.Bool.{both_ways}
 use Rattle.std.proofs.lemmas.List.Sums.{sum_by-append, sum_by-cons}
 use Rattle.pcache_evict.specs.declared.eviction.entry_key.CacheEntryKey.{CacheEntryKey}
 use Rattle.pcache_evict.specs.Entry.{entry_cmp, entries_total}
 use Rattle.pcache_evict.specs.Tracked.{Tracked, Limits, IsWithin, without}
 use Rattle.pcache_evict.proofs.Evictions.{is_gone}
 use Rattle.pcache_evict.proofs.TrackedMaps.{get-without_apart}
-use Rattle.cache_simulation.specs.Events.{Event, Hit, Came, Passed, Leads, RunsTo, stands, HitsStand, Plays, is_hit, size_in}
+use Rattle.cache_simulation.specs.declared.run.Request.{Request}
+use Rattle.cache_simulation.specs.declared.counts.Counts.{Counts}
+use Rattle.cache_simulation.specs.Events.{Event, Hit, Came, Passed, Leads, RunsTo, stands, HitsStand, is_hit, size_in}
+use Rattle.cache_simulation.specs.Plays.{Rules, State, IsEvent, Becomes, Plays, IsCounted}
 
 abbrev ties : CacheEntryKey → CacheEntryKey → Bool
 ties = eq_by_cmp entry_cmp
@@ -60,31 +65,66 @@ stays-within limits m (Hit k n ∷ es) after w (next, (there, same), rest) = sta
 stays-within limits m (Came k n out ∷ es) after w (next, (fair, is), rest) = stays-within limits next es after (subst (IsWithin limits) (sym is) fair.enough) rest
 stays-within limits m (Passed k n ∷ es) after w (next, same, rest) = stays-within limits next es after (subst (IsWithin limits) (sym same) w) rest
 
--- one event more at the end of a run
-pub runs-more : (limits : Limits) (m : Tracked) (es : List Event) (e : Event) (next after : Tracked) → RunsTo limits m es next → Leads limits next e after → RunsTo limits m (es ++ e ∷ []) after
-runs-more limits m [] e next after r h = (after, subst (λ m. Leads limits m e after) r h, refl)
-runs-more limits m (f ∷ es) e next after (step, leads, rest) h = (step, leads, runs-more limits step es e next after rest h)
+-- what is played is a run
+pub runs-of : (rules : Rules) (s t : State) (requests : List Request) (es : List Event) → Plays rules s requests es t → RunsTo rules.limits s.tracked es t.tracked
+runs-of rules s t [] [] p = ap (λ s. s.tracked) p
+runs-of rules s t [] (e ∷ es) p = absurd p
+runs-of rules s t (a ∷ requests) [] p = absurd p
+runs-of rules s t (a ∷ requests) (e ∷ es) (between, becomes, rest) = (between.tracked, becomes.leads, runs-of rules between t requests es rest)
 
-pub plays-none : (limits : Limits) (m : Tracked) (h b : ℕ) → Plays limits m m 0 h h b b
-plays-none limits m h b = record { events = []; runs = refl; long = refl; counted = omega arith; weighed = omega arith }
+-- one request more at the end
+pub plays-more : (rules : Rules) (s t u : State) (requests : List Request) (es : List Event) (a : Request) (e : Event) → Plays rules s requests es t → Becomes rules t a e u → Plays rules s (requests ++ a ∷ []) (es ++ e ∷ []) u
+plays-more rules s t u [] [] a e p b = (u, subst (λ s. Becomes rules s a e u) p b, refl)
+plays-more rules s t u [] (f ∷ es) a e p b = absurd p
+plays-more rules s t u (x ∷ requests) [] a e p b = absurd p
+plays-more rules s t u (x ∷ requests) (f ∷ es) a e (between, becomes, rest) b = (between, becomes, plays-more rules between t u requests es a e rest b)
 
-pub plays-more : (limits : Limits) (m now after : Tracked) (count h h1 h2 b b1 b2 : ℕ) (e : Event) → Plays limits m now count h h1 b b1 → Leads limits now e after → h2 ≡ h1 + cond (is_hit e) 1 0 → b2 ≡ b1 + cond (is_hit e) (size_in e) 0
-    → Plays limits m after (count + 1) h h2 b b2
-plays-more limits m now after count h h1 h2 b b1 b2 e p leads hit bytes =
+pub counted-none : (c : Counts) → IsCounted c [] c
+counted-none c = record { requests = omega arith; bytes = omega arith; hits = omega arith; hit_bytes = omega arith }
+
+pub counted-more : (old now new : Counts) (es : List Event) (e : Event) → IsCounted old es now → IsCounted now (e ∷ []) new → IsCounted old (es ++ e ∷ []) new
+counted-more old now new es e p q =
     let f : Event → ℕ = λ e. cond (is_hit e) 1 0 in
     let g : Event → ℕ = λ e. cond (is_hit e) (size_in e) 0 in
-    let hits = sum_by-append f p.events (e ∷ []) in
+    let hits = sum_by-append f es (e ∷ []) in
+    let sizes = sum_by-append g es (e ∷ []) in
+    let all = sum_by-append size_in es (e ∷ []) in
+    let longer = length-append es (e ∷ []) in
+    let a1 = p.requests in
+    let a2 = p.bytes in
+    let a3 = p.hits in
+    let a4 = p.hit_bytes in
+    let b1 = q.requests in
+    let b2 = q.bytes in
+    let b3 = q.hits in
+    let b4 = q.hit_bytes in
+    record { requests = omega arith; bytes = omega arith; hits = omega arith; hit_bytes = omega arith }
+
+-- one event is counted
+pub counted-one : (old new : Counts) (e : Event) (hits bytes : ℕ) → new.requests ≡ old.requests + 1 → new.bytes ≡ old.bytes + size_in e → new.hits ≡ old.hits + hits → new.hit_bytes ≡ old.hit_bytes + bytes → cond (is_hit e) 1 0 ≡ hits → cond (is_hit e) (size_in e) 0 ≡ bytes → IsCounted old (e ∷ []) new
+counted-one old new e hits bytes a b c d h g =
+    let f : Event → ℕ = λ e. cond (is_hit e) 1 0 in
+    let w : Event → ℕ = λ e. cond (is_hit e) (size_in e) 0 in
     let one : sum_by f (e ∷ []) ≡ f e + 0 = sum_by-cons f e [] in
-    let sizes = sum_by-append g p.events (e ∷ []) in
-    let own : sum_by g (e ∷ []) ≡ g e + 0 = sum_by-cons g e [] in
-    let longer = length-append p.events (e ∷ []) in
-    let long = p.long in
-    let counted = p.counted in
-    let weighed = p.weighed in
-    record {
-      events = p.events ++ e ∷ [];
-      runs = runs-more limits m p.events e now after p.runs leads;
-      long = omega arith;
-      counted = omega arith;
-      weighed = omega arith;
-    }
+    let own : sum_by w (e ∷ []) ≡ w e + 0 = sum_by-cons w e [] in
+    let all : sum_by size_in (e ∷ []) ≡ size_in e + 0 = sum_by-cons size_in e [] in
+    record { requests = omega arith; bytes = omega arith; hits = omega arith; hit_bytes = omega arith }
+
+-- ---- which event a request is
+
+pub both_first : (a b : Bool) → (a && b) ≡ true → a ≡ true
+both_first true b h = refl
+both_first false b h = h
+
+pub is-hit : (there : Bool) (most : ℕ) (k : CacheEntryKey) (n : ℕ) → there ≡ true → IsEvent there most k n (Hit k n)
+is-hit there most k n y = record { hit = λ _. refl; passed = λ z more. absurd (both_ways _ z y); came = λ z few. absurd (both_ways _ z y) }
+
+pub is-passed : (there : Bool) (most : ℕ) (k : CacheEntryKey) (n : ℕ) → there ≡ false → most < n → IsEvent there most k n (Passed k n)
+is-passed there most k n z large = record { hit = λ y. absurd (both_ways _ z y); passed = λ _ _. refl; came = λ _ few. absurd (omega arith) }
+
+pub is-come : (there : Bool) (most : ℕ) (k : CacheEntryKey) (n : ℕ) (out : List CacheEntryKey) → there ≡ false → n ≤ most → IsEvent there most k n (Came k n out)
+is-come there most k n out z few = record { hit = λ y. absurd (both_ways _ z y); passed = λ _ large. absurd (omega arith); came = λ _ _. (out, refl) }
+
+-- the rules of a cache stay
+pub same-rules : (l m : Limits) (a b : ℕ) (s t : State) (asked : Request) (e : Event) → l ≡ m → a ≡ b → Becomes (record { limits = l; most = a }) s asked e t → Becomes (record { limits = m; most = b }) s asked e t
+same-rules l m a b s t asked e lm ab h = subst (λ b. Becomes (record { limits = m; most = b }) s asked e t) ab (subst (λ m. Becomes (record { limits = m; most = a }) s asked e t) lm h)

@@ -53,10 +53,12 @@ HitsStand past (Hit k n ∷ es) = (stands k past ≡ true) × HitsStand (Hit k n
 HitsStand past (Came k n out ∷ es) = HitsStand (Came k n out ∷ past) es
 HitsStand past (Passed k n ∷ es) = HitsStand (Passed k n ∷ past) es
 
--- so many events lead from one map to another, and hits and their bytes are counted
-pub record Plays (limits : Limits) (m after : Tracked) (count hits new_hits hit_bytes new_hit_bytes : ℕ) : Type 0 where
-  pub events : List Event
-  pub runs : RunsTo limits m events after
-  pub long : length events ≡ count
-  pub counted : new_hits ≡ hits + sum_by (λ e. if is_hit e then 1 else 0) events
-  pub weighed : new_hit_bytes ≡ hit_bytes + sum_by (λ e. if is_hit e then size_in e else 0) events
+-- the hits of these events, what their bodies weigh, and what all bodies weigh
+abbrev pub hits_of : List Event → ℕ
+hits_of es = sum_by (λ e. if is_hit e then 1 else 0) es
+
+abbrev pub hit_bytes_of : List Event → ℕ
+hit_bytes_of es = sum_by (λ e. if is_hit e then size_in e else 0) es
+
+abbrev pub bytes_of : List Event → ℕ
+bytes_of es = sum_by size_in es

@@ -1,1 +1,4 @@
 pub mod Events
+pub mod Fresh
+pub mod FreshCode
+pub mod Plays

@@ -1,55 +1,89 @@
 //! Until when bodies are fresh, if they do not stay fresh for ever.
-ghost use Rattle.std.specs.Prelude.{◌≡◌, IfErr};
+ghost use Rattle.std.specs.Prelude.{◌≡◌, ◌+◌, OnOk, IfErr};
+ghost use Rattle.std.specs.Duration.{as_nanos};
+ghost use Rattle.std.specs.FinMap as map;
 ghost use Rattle.pcache_base.specs.declared.error.ErrorType.TheVariants.{OutOfMemory};
+ghost use Rattle.pcache_evict.specs.Tracked.{without};
+ghost use Rattle.cache_simulation.specs.Fresh.{is_fresh_at, is_fresh_since, none_fresh};
 
 use pcache_base::error::Result;
 use pcache_base::moment::Moment;
 use pcache_evict::eviction::CacheEntryKey;
 use std::alloc::Global;
 use std::collections::HashMap;
+use std::marker::Model;
 use std::time::Duration;
 
-/// How long bodies are fresh, and until when each stored one is.
+/// How long bodies are fresh, and when each stored one came in.
 #[derive(Drop)]
-pub(crate) struct Freshness {
+pub struct Freshness {
     time: Duration,
-    until: HashMap<CacheEntryKey, Moment>,
+    came: HashMap<CacheEntryKey, Moment>,
+}
+
+impl Model for Freshness {
+    ghost use Rattle.std.specs.Duration.{as_nanos};
+    ghost use Rattle.pcache_evict.specs.Listed.{map_of};
+    ghost use Rattle.cache_simulation.specs.Fresh.{Fresh};
+    ghost use Rattle.cache_simulation.specs.FreshCode.{fresh_code};
+
+    ghost Value = { Fresh };
+
+    ghost coded = { fresh_code };
+
+    ghost view = { λ f. record { time = as_nanos f.time; came = map_of f.came.entries } };
 }
 
 impl Freshness {
-    /// Bodies are fresh for so long once they are stored.
-    pub(crate) fn new(alloc: Global, time: Duration) -> Freshness {
+    /// Bodies are fresh for so long once they came in.
+    pub fn new(alloc: Global, time: Duration) -> Freshness
+        ensures { result ≡ none_fresh (as_nanos time) }
+    {
         Freshness {
             time,
-            until: HashMap::new(alloc),
+            came: HashMap::new(alloc),
         }
     }
 
     /// Whether a stored body is fresh at a moment: its time ends then or later.
-    pub(crate) fn is_fresh(&self, item: &CacheEntryKey, now: Moment) -> bool {
-        match self.until.get(item) {
-            Some(until) => *until >= now,
+    pub fn is_fresh(&self, item: &CacheEntryKey, now: Moment) -> bool
+        ensures { result ≡ is_fresh_since (map.get self.now.came item.now) self.now.time now }
+    {
+        match self.came.get(item) {
+            Some(came) => is_within(*came, self.time, now),
             None => false,
         }
     }
 
-    /// The moment until which a body is fresh that is stored now.
-    pub(crate) fn until(&self, now: Moment) -> Moment {
-        now.checked_add(self.time).unwrap_or(now)
-    }
-
-    /// Notes until when a body is fresh.
-    pub(crate) fn set(&mut self, item: CacheEntryKey, until: Moment) -> Result<()>
+    /// Notes when a body came in.
+    pub fn set(&mut self, item: CacheEntryKey, now: Moment) -> Result<()>
+        ensures ok { OnOk result (self.new ≡ record self.old { came = map.insert self.old.came item now }) }
         ensures kind { IfErr result (λ e. e ≡ OutOfMemory) }
     {
-        self.until.insert(item, until)?;
+        self.came.insert(item, now)?;
         Ok(())
     }
 
     /// Forgets bodies that went.
-    pub(crate) fn forget(&mut self, gone: &[CacheEntryKey]) {
+    pub fn forget(&mut self, gone: &[CacheEntryKey])
+        ensures { self.new ≡ record self.old { came = without gone.now self.old.came } }
+    {
         for item in gone {
-            self.until.remove(item);
+            self.remove(item);
         }
     }
+
+    // Forgets a body.
+    fn remove(&mut self, item: &CacheEntryKey)
+        ensures { self.new ≡ record self.old { came = map.remove self.old.came item.now } }
+    {
+        self.came.remove(item);
+    }
+}
+
+// Whether the time of a body that came in then ends now or later.
+fn is_within(came: Moment, time: Duration, now: Moment) -> bool
+    ensures { result ≡ is_fresh_at (came + as_nanos time) now }
+{
+    now.as_nanos() <= came.as_nanos() + time.as_nanos()
 }

@@ -13,6 +13,8 @@ pub enum Policy {
     Sharded,
     /// Those that were not used since the hand passed them.
     Sieve,
+    /// New ones that were not used soon, and then others that were not used.
+    S3Fifo,
 }
 
 impl Policy {
@@ -22,6 +24,7 @@ impl Policy {
             "lru" => Some(Policy::Lru),
             "sharded:16" => Some(Policy::Sharded),
             "sieve" => Some(Policy::Sieve),
+            "s3-fifo" => Some(Policy::S3Fifo),
             _ => None,
         }
     }
@@ -36,13 +39,68 @@ pub enum Output {
     Csv,
 }
 
+/// The size of a cache.
+#[derive(Clone, Copy, Debug, PartialEq, Eq)]
+pub enum Size {
+    /// So many bytes.
+    Bytes(usize),
+    /// So many millionths of a percent of the bytes of all bodies of the trace, each once.
+    Share(u64),
+}
+
+impl Size {
+    /// The size in bytes, if all bodies together have so many.
+    pub fn in_bytes(self, distinct: u64) -> usize {
+        match self {
+            Size::Bytes(bytes) => bytes,
+            Size::Share(part) => {
+                let bytes = (distinct as u128).saturating_mul(part as u128) / (100 * WHOLE as u128);
+                usize::try_from(bytes).unwrap_or(usize::MAX)
+            }
+        }
+    }
+}
+
+/// The words of the command line, by option.
+#[derive(Clone, Copy)]
+pub struct Words<'a> {
+    /// The names of policies, with commas.
+    pub policy: &'a str,
+    /// Sizes, with commas.
+    pub size: &'a str,
+    /// The file of the trace.
+    pub trace: Option<&'a str>,
+    /// The bytes of all bodies of the trace, each once.
+    pub distinct: Option<&'a str>,
+    /// For how many seconds a body is fresh.
+    pub ttl: Option<&'a str>,
+    /// What becomes of a body above the size of a cache.
+    pub large: &'a str,
+    /// The names of columns, with commas.
+    pub columns: &'a str,
+    /// Which part of the keys stands for all.
+    pub sample: &'a str,
+    /// The number of that part.
+    pub part: &'a str,
+    /// What is written.
+    pub format: &'a str,
+    /// The file of the drawing.
+    pub plot: Option<&'a str>,
+    /// How many lines may be bad.
+    pub bad_lines: &'a str,
+}
+
 /// What the command line asks for.
 #[derive(Debug, Drop)]
 pub struct Options {
     /// The policies.
     pub policies: Vec<Policy>,
-    /// The sizes of the caches, in bytes.
-    pub sizes: Vec<usize>,
+    /// The sizes of the caches.
+    pub sizes: Vec<Size>,
+    /// The file of the trace; standard input if there is none.
+    pub trace: Option<String>,
+    /// The bytes of all bodies of the trace, each once, if they are given.
+    pub distinct: Option<u64>,
     /// For how many seconds a body is fresh; for ever if there is no number.
     pub ttl: Option<u64>,
     /// What is written.
@@ -59,73 +117,59 @@ pub struct Options {
     pub columns: Columns,
 }
 
+impl Options {
+    /// Whether a size is a share of the bytes of all bodies.
+    pub fn have_share(&self) -> bool {
+        self.sizes.iter().any(|size| matches!(size, Size::Share(_)))
+    }
+}
+
 /// Why the words cannot be used.
 #[derive(Clone, Copy, Debug, PartialEq, Eq)]
 pub enum Unusable {
-    /// There is no option of that name, or its value is missing or is none.
-    Word,
-    /// A size in percent needs the number of distinct bytes.
+    /// The value of the option of this name is none.
+    Value(&'static str),
+    /// A size in percent needs the bytes of all bodies, or a trace that can be read twice.
     NoDistinct,
     /// There is no memory.
     Memory,
 }
 
-// The options as they stand in the words: sizes in percent wait for the distinct bytes.
-#[derive(Drop)]
-struct Given<'a> {
-    policies: &'a str,
-    sizes: &'a str,
-    ttl: Option<u64>,
-    output: Output,
-    plot: Option<&'a str>,
-    rate: u64,
-    part: u64,
-    passes_by: bool,
-    bad_lines: u64,
-    columns: Columns,
-    distinct: Option<u64>,
+/// Reads the words of the command line.
+pub fn read(alloc: Global, words: &Words<'_>) -> Result<Options, Unusable> {
+    let rate = value("sample", millionths(words.sample))?;
+    let part = value("part", words.part.parse::<u64>().ok())?;
+    Ok(Options {
+        policies: policies(alloc, words.policy)?,
+        sizes: sizes(alloc, words.size)?,
+        trace: owned(alloc, words.trace)?,
+        distinct: distinct(words.distinct)?,
+        ttl: ttl(words.ttl)?,
+        output: value("format", output_named(words.format))?,
+        plot: owned(alloc, words.plot)?,
+        sample: Sample::new(rate, part),
+        passes_by: value("large", large(words.large))?,
+        bad_lines: value("bad-lines", words.bad_lines.parse::<u64>().ok())?,
+        columns: value("columns", Columns::read(words.columns))?,
+    })
 }
 
-/// Reads the words after the program's name.
-pub fn read(alloc: Global, words: &[String]) -> Result<Options, Unusable> {
-    let mut given = Given {
-        policies: "lru",
-        sizes: "100MB",
-        ttl: None,
-        output: Output::Table,
-        plot: None,
-        rate: WHOLE,
-        part: 0,
-        passes_by: true,
-        bad_lines: 100,
-        columns: Columns::USUAL,
-        distinct: None,
-    };
-    for pair in words.chunks(2) {
-        let [name, value] = pair else {
-            return Err(Unusable::Word);
-        };
-        given = set(given, name.as_str(), value.as_str()).ok_or(Unusable::Word)?;
-    }
-    complete(alloc, given)
+fn value<T>(name: &'static str, value: Option<T>) -> Result<T, Unusable> {
+    value.ok_or(Unusable::Value(name))
 }
 
-fn set<'a>(mut given: Given<'a>, name: &str, value: &'a str) -> Option<Given<'a>> {
-    match name {
-        "--policy" => given.policies = value,
-        "--size" => given.sizes = value,
-        "--ttl" => given.ttl = Some(value.parse::<u64>().ok()?),
-        "--format" => given.output = output_named(value)?,
-        "--plot" => given.plot = Some(value),
-        "--sample" => given.rate = millionths(value)?,
-        "--part" => given.part = value.parse::<u64>().ok()?,
-        "--large" => given.passes_by = large(value)?,
-        "--bad-lines" => given.bad_lines = value.parse::<u64>().ok()?,
-        "--columns" => given.columns = Columns::read(value)?,
-        "--distinct" => given.distinct = Some(bytes(value)?),
-        _ => return None,
+fn distinct(text: Option<&str>) -> Result<Option<u64>, Unusable> {
+    match text {
+        Some(text) => Ok(Some(value("distinct", bytes(text))?)),
+        None => Ok(None),
     }
-    Some(given)
+}
+
+fn ttl(text: Option<&str>) -> Result<Option<u64>, Unusable> {
+    match text {
+        Some(text) => Ok(Some(value("ttl", text.parse::<u64>().ok())?)),
+        None => Ok(None),
+    }
 }
 
 fn output_named(value: &str) -> Option<Output> {
@@ -144,29 +188,12 @@ fn large(value: &str) -> Option<bool> {
     }
 }
 
-fn complete(alloc: Global, given: Given<'_>) -> Result<Options, Unusable> {
-    let policies = policies(alloc, given.policies)?;
-    let sizes = sizes(alloc, given.sizes, given.distinct)?;
-    let plot = match given.plot {
-        Some(path) => Some(owned(alloc, path)?),
-        None => None,
+fn owned(alloc: Global, text: Option<&str>) -> Result<Option<String>, Unusable> {
+    let Some(text) = text else {
+        return Ok(None);
     };
-    Ok(Options {
-        policies,
-        sizes,
-        ttl: given.ttl,
-        output: given.output,
-        plot,
-        sample: Sample::new(given.rate, given.part),
-        passes_by: given.passes_by,
-        bad_lines: given.bad_lines,
-        columns: given.columns,
-    })
-}
-
-fn owned(alloc: Global, text: &str) -> Result<String, Unusable> {
     match String::from_str(alloc, text) {
-        Ok(text) => Ok(text),
+        Ok(text) => Ok(Some(text)),
         Err(AllocError) => Err(Unusable::Memory),
     }
 }
@@ -174,7 +201,7 @@ fn owned(alloc: Global, text: &str) -> Result<String, Unusable> {
 fn policies(alloc: Global, names: &str) -> Result<Vec<Policy>, Unusable> {
     let mut policies = Vec::new(alloc);
     for name in names.split(',') {
-        let policy = Policy::named(name).ok_or(Unusable::Word)?;
+        let policy = value("policy", Policy::named(name))?;
         if policies.push(policy).is_err() {
             return Err(Unusable::Memory);
         }
@@ -182,10 +209,10 @@ fn policies(alloc: Global, names: &str) -> Result<Vec<Policy>, Unusable> {
     Ok(policies)
 }
 
-fn sizes(alloc: Global, texts: &str, distinct: Option<u64>) -> Result<Vec<usize>, Unusable> {
+fn sizes(alloc: Global, texts: &str) -> Result<Vec<Size>, Unusable> {
     let mut sizes = Vec::new(alloc);
     for text in texts.split(',') {
-        let size = size(text, distinct)?;
+        let size = value("size", read_size(text))?;
         if sizes.push(size).is_err() {
             return Err(Unusable::Memory);
         }
@@ -193,16 +220,12 @@ fn sizes(alloc: Global, texts: &str, distinct: Option<u64>) -> Result<Vec<usize>
     Ok(sizes)
 }
 
-// A size in bytes, or in percent of the distinct bytes.
-fn size(text: &str, distinct: Option<u64>) -> Result<usize, Unusable> {
-    let Some(percent) = text.strip_suffix("%") else {
-        let size = bytes(text).ok_or(Unusable::Word)?;
-        return usize::try_from(size).map_err(|_| Unusable::Word);
-    };
-    let parts = millionths(percent).ok_or(Unusable::Word)?;
-    let whole = distinct.ok_or(Unusable::NoDistinct)?;
-    let size = (whole as u128).saturating_mul(parts as u128) / (100 * WHOLE as u128);
-    usize::try_from(size).map_err(|_| Unusable::Word)
+// A size in bytes, or in percent of the bytes of all bodies.
+fn read_size(text: &str) -> Option<Size> {
+    match text.strip_suffix("%") {
+        Some(percent) => Some(Size::Share(millionths(percent)?)),
+        None => Some(Size::Bytes(usize::try_from(bytes(text)?).ok()?)),
+    }
 }
 
 // A number of bytes, with a unit of decimal or binary thousands.

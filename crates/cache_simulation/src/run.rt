@@ -1,8 +1,12 @@
 //! One manager over a trace.
-ghost use Rattle.std.specs.Prelude.{◌≡◌, ◌+◌, ◌-◌, ◌^◌, ◌<◌, ◌≤◌, List, length, OnOk, IfErr, if◌then◌else◌};
-ghost use Rattle.pcache_base.specs.declared.error.ErrorType.TheVariants.{OutOfMemory};
+ghost use Rattle.std.specs.Prelude.{◌≡◌, ◌&&◌, ◌-◌, ◌^◌, ◌<◌, ◌⊎◌, None, Some, List, [], ◌∷◌, OnOk, OnErr, IfErr, option_map};
+ghost use Rattle.std.specs.Duration.{as_nanos};
+ghost use Rattle.std.specs.FinMap as map;
+ghost use Rattle.pcache_base.specs.declared.error.ErrorType.TheVariants.{OutOfMemory, NumbersExhausted};
 ghost use Rattle.pcache_evict.specs.declared.eviction.entry_key.CacheEntryKey.{CacheEntryKey};
-ghost use Rattle.cache_simulation.specs.Events.{Event, Came, Leads, Plays, key_in, size_in, is_hit};
+ghost use Rattle.cache_simulation.specs.Fresh.{is_fresh, none_fresh, noted};
+ghost use Rattle.cache_simulation.specs.Events.{Event, Came, Leads};
+ghost use Rattle.cache_simulation.specs.Plays.{Becomes, Plays, IsCounted, state};
 
 use crate::counts::Counts;
 use crate::freshness::Freshness;
@@ -31,8 +35,10 @@ pub struct Run<M: EvictionManager> {
     pub manager: M,
     /// What was counted.
     pub counts: Counts,
-    most: usize,
-    freshness: Option<Freshness>,
+    /// The size of the largest body that is not passed by, in bytes.
+    pub most: usize,
+    /// Which bodies are fresh; all that are tracked if it is `None`.
+    pub freshness: Option<Freshness>,
 }
 
 impl<M: EvictionManager> Run<M> {
@@ -41,29 +47,35 @@ impl<M: EvictionManager> Run<M> {
     pub fn new(alloc: Global, manager: M, most: usize, time: Option<Duration>) -> Run<M>
         ensures manager { result.manager ≡ manager }
         ensures counts { (result.counts.requests ≡ 0) × (result.counts.hits ≡ 0) × (result.counts.bytes ≡ 0) × (result.counts.hit_bytes ≡ 0) }
+        ensures most { result.most ≡ most }
+        ensures fresh { result.freshness ≡ option_map (λ t. none_fresh (as_nanos t)) time }
     {
+        let freshness = match time {
+            Some(time) => Some(Freshness::new(alloc, time)),
+            None => None,
+        };
         Run {
             manager,
             counts: Counts::none(),
             most,
-            freshness: time.map(|time| Freshness::new(alloc, time)),
+            freshness,
         }
     }
 
     /// Makes one request: what is there and fresh is used; what is not comes in, or is passed by if
-    /// it is too large.
+    /// it is too large. A request that memory is refused for is not counted; its body may have come
+    /// in then.
     pub fn request(&mut self, asked: &Request) -> Result<()>
         requires { self.old.counts.requests < 2 ^ 64 - 1 }
+        ensures ok { OnOk result ((e : Event) × IsCounted self.old.counts (e ∷ []) self.new.counts
+            × Becomes (record { limits = M.limits self.old.manager; most = self.old.most }) (state (M.tracked self.old.manager) self.old.freshness)
+            asked.now e (state (M.tracked self.new.manager) self.new.freshness)) }
         ensures limits { M.limits self.new.manager ≡ M.limits self.old.manager }
-        ensures leads { OnOk result ((e : Event) × Leads (M.limits self.old.manager) (M.tracked self.old.manager) e (M.tracked self.new.manager)
-            × (key_in e ≡ asked.now.item) × (size_in e ≡ asked.now.size)
-            × (self.new.counts.hits ≡ self.old.counts.hits + (if is_hit e then 1 else 0))
-            × (self.new.counts.hit_bytes ≡ self.old.counts.hit_bytes + (if is_hit e then size_in e else 0))) }
-        ensures requests { OnOk result (self.new.counts.requests ≡ self.old.counts.requests + 1) }
-        ensures bytes { OnOk result (self.new.counts.bytes ≡ self.old.counts.bytes + asked.now.size) }
+        ensures most { self.new.most ≡ self.old.most }
         ensures kind { IfErr result (λ e. e ≡ OutOfMemory) }
+        ensures err { OnErr result (self.new.counts ≡ self.old.counts) }
     {
-        if self.manager.peek(&asked.item) && self.is_fresh(asked) {
+        if self.has_fresh(asked) {
             self.manager.access(&asked.item, asked.size, asked.time)?;
             self.counts.note(asked.size, true);
             return Ok(());
@@ -80,10 +92,12 @@ impl<M: EvictionManager> Run<M> {
     /// Makes these requests, one after the other. It is refused when memory runs out, or once 2^64 - 1
     /// requests are counted.
     pub fn play(&mut self, requests: &[Request]) -> Result<()>
+        ensures ok { OnOk result ((es : List Event) × IsCounted self.old.counts es self.new.counts
+            × Plays (record { limits = M.limits self.old.manager; most = self.old.most }) (state (M.tracked self.old.manager) self.old.freshness)
+            requests.now es (state (M.tracked self.new.manager) self.new.freshness)) }
         ensures limits { M.limits self.new.manager ≡ M.limits self.old.manager }
-        ensures plays { OnOk result (Plays (M.limits self.old.manager) (M.tracked self.old.manager) (M.tracked self.new.manager) (length requests.now)
-            self.old.counts.hits self.new.counts.hits self.old.counts.hit_bytes self.new.counts.hit_bytes) }
-        ensures requests { OnOk result (self.new.counts.requests ≡ self.old.counts.requests + length requests.now) }
+        ensures most { self.new.most ≡ self.old.most }
+        ensures kind { IfErr result (λ e. (e ≡ OutOfMemory) ⊎ ((e ≡ NumbersExhausted) × (self.new.counts.requests ≡ 2 ^ 64 - 1))) }
     {
         for asked in requests {
             if self.counts.is_full() {
@@ -96,8 +110,11 @@ impl<M: EvictionManager> Run<M> {
 
     // A body comes in.
     fn fill(&mut self, asked: &Request) -> Result<()>
+        ensures leads { OnOk result ((out : List CacheEntryKey)
+            × Leads (M.limits self.old.manager) (M.tracked self.old.manager) (Came asked.now.item asked.now.size out) (M.tracked self.new.manager)
+            × (self.new.freshness ≡ noted asked.now.item asked.now.time out self.old.freshness)) }
         ensures limits { M.limits self.new.manager ≡ M.limits self.old.manager }
-        ensures leads { OnOk result ((out : List CacheEntryKey) × Leads (M.limits self.old.manager) (M.tracked self.old.manager) (Came asked.now.item asked.now.size out) (M.tracked self.new.manager)) }
+        ensures most { self.new.most ≡ self.old.most }
         ensures counts { self.new.counts ≡ self.old.counts }
         ensures kind { IfErr result (λ e. e ≡ OutOfMemory) }
     {
@@ -106,23 +123,33 @@ impl<M: EvictionManager> Run<M> {
         self.remember(asked, out)
     }
 
-    // Notes until when a body is fresh that came in, and forgets those that went.
+    // Notes when a body came in, and forgets those that went.
     fn remember(&mut self, asked: &Request, gone: Vec<CacheEntryKey>) -> Result<()>
+        ensures fresh { OnOk result (self.new.freshness ≡ noted asked.now.item asked.now.time gone.items self.old.freshness) }
         ensures manager { self.new.manager ≡ self.old.manager }
+        ensures most { self.new.most ≡ self.old.most }
         ensures counts { self.new.counts ≡ self.old.counts }
         ensures kind { IfErr result (λ e. e ≡ OutOfMemory) }
     {
         let Some(freshness) = &mut self.freshness else {
             return Ok(());
         };
-        let until = freshness.until(asked.time);
-        freshness.set(asked.item.copied()?, until)?;
+        freshness.set(asked.item.copied()?, asked.time)?;
         freshness.forget(gone.as_slice());
         Ok(())
     }
 
+    // Whether a body is there and fresh when it is asked for.
+    fn has_fresh(&self, asked: &Request) -> bool
+        ensures { result ≡ (map.contains_key (M.tracked self.now.manager) asked.now.item && is_fresh self.now.freshness asked.now.item asked.now.time) }
+    {
+        self.manager.peek(&asked.item) && self.is_fresh(asked)
+    }
+
     // Whether a stored body is fresh when it is asked for.
-    fn is_fresh(&self, asked: &Request) -> bool {
+    fn is_fresh(&self, asked: &Request) -> bool
+        ensures { result ≡ is_fresh self.now.freshness asked.now.item asked.now.time }
+    {
         match &self.freshness {
             Some(freshness) => freshness.is_fresh(&asked.item, asked.time),
             None => true,

@@ -7,7 +7,7 @@ use crate::run::{Request, Run};
 use pcache_base::error::Result;
 use pcache_base::seed::Seed;
 use pcache_evict::eviction::{EvictionManager, sharded_lru, simple_lru};
-use pcache_policies::sieve;
+use pcache_policies::{s3_fifo, sieve};
 use std::alloc::Global;
 use std::time::Duration;
 
@@ -26,22 +26,24 @@ pub struct Runs {
     lru: Vec<Sized<simple_lru::Manager>>,
     sharded: Vec<Sized<sharded_lru::Manager<16>>>,
     sieve: Vec<Sized<sieve::Manager>>,
+    s3_fifo: Vec<Sized<s3_fifo::Manager>>,
 }
 
 impl Runs {
-    /// The runs that the options ask for.
-    pub fn new(alloc: Global, options: &Options) -> Result<Runs> {
+    /// The runs that the options ask for, over a trace whose bodies have so many bytes, each once.
+    pub fn new(alloc: Global, options: &Options, distinct: u64) -> Result<Runs> {
         let mut runs = Runs {
             alloc,
             policies: Vec::new(alloc),
             lru: Vec::new(alloc),
             sharded: Vec::new(alloc),
             sieve: Vec::new(alloc),
+            s3_fifo: Vec::new(alloc),
         };
         for policy in options.policies.as_slice() {
             runs.policies.push(*policy)?;
             for size in options.sizes.as_slice() {
-                runs.add(options, *policy, *size)?;
+                runs.add(options, *policy, size.in_bytes(distinct))?;
             }
         }
         Ok(runs)
@@ -64,6 +66,10 @@ impl Runs {
                 let manager = sieve::Manager::new(self.alloc, seed, limit)?;
                 add_run(self.alloc, &mut self.sieve, options, manager, size)
             }
+            Policy::S3Fifo => {
+                let manager = s3_fifo::Manager::new(self.alloc, seed, limit)?;
+                add_run(self.alloc, &mut self.s3_fifo, options, manager, size)
+            }
         }
     }
 
@@ -71,7 +77,8 @@ impl Runs {
     pub fn play(&mut self, requests: &[Request]) -> Result<()> {
         play_each(&mut self.lru, requests)?;
         play_each(&mut self.sharded, requests)?;
-        play_each(&mut self.sieve, requests)
+        play_each(&mut self.sieve, requests)?;
+        play_each(&mut self.s3_fifo, requests)
     }
 
     /// What each cache did, by policy and size in the order in which they were given.
@@ -82,6 +89,7 @@ impl Runs {
                 Policy::Lru => add_rows(&mut rows, "lru", self.lru.as_slice())?,
                 Policy::Sharded => add_rows(&mut rows, "sharded:16", self.sharded.as_slice())?,
                 Policy::Sieve => add_rows(&mut rows, "sieve", self.sieve.as_slice())?,
+                Policy::S3Fifo => add_rows(&mut rows, "s3-fifo", self.s3_fifo.as_slice())?,
             }
         }
         Ok(rows)

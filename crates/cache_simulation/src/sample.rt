@@ -35,4 +35,13 @@ impl Sample {
         let scaled = (size as u128).saturating_mul(self.rate as u128) / (WHOLE as u128);
         usize::try_from(scaled).unwrap_or(usize::MAX)
     }
+
+    /// How many bytes all keys have if these keys have so many.
+    pub fn whole(&self, bytes: u64) -> u64 {
+        let whole = (bytes as u128)
+            .saturating_mul(WHOLE as u128)
+            .checked_div(self.rate as u128)
+            .unwrap_or(0);
+        u64::try_from(whole).unwrap_or(u64::MAX)
+    }
 }

@@ -1,18 +1,20 @@
 //! A trace from its first line to the report.
 
+use crate::lines::Lines;
 use crate::options::{Options, Unusable};
+use crate::progress::Progress;
 use crate::report::{draw, write_rows};
 use crate::run::Request;
 use crate::runs::Runs;
 use crate::trace::{Asked, read_line};
-use pcache_base::key::{CompactCacheKey, hash_key};
+use pcache_base::key::{CompactCacheKey, HashBinary, hash_key};
 use pcache_base::moment::Moment;
 use pcache_base::text::Text;
 use pcache_evict::eviction::CacheEntryKey;
 use std::alloc::Global;
-use std::io::{BufRead, BufReader, BufWriter, Read, Write};
+use std::collections::HashSet;
+use std::io::{BufWriter, Read, Write};
 use std::rt::{Clock, Files};
-use std::time::Instant;
 use std::{fs, io, str};
 
 // So many requests are read before they are made of each cache in turn.
@@ -20,9 +22,6 @@ const BATCH: usize = 1024;
 
 // After so many lines it is said how far the simulation is.
 const LINES_BETWEEN: u64 = 1_000_000;
-
-// So many bad lines are named.
-const NAMED: u64 = 10;
 
 /// Why a simulation ended early.
 #[derive(Debug, Drop)]
@@ -38,7 +37,7 @@ pub enum Stop {
 }
 
 /// Reads a trace, plays it to each cache that the options ask for, and writes what they did. How far it is goes to
-/// `errors`, and so do the numbers of bad lines.
+/// `errors`, and so do the numbers of bad lines. The trace is `input` if the options name no file.
 pub fn simulate<C: Clock + Files, R: Read + Drop, W: Write + Drop, E: Write>(
     rt: &C,
     alloc: Global,
@@ -47,60 +46,63 @@ pub fn simulate<C: Clock + Files, R: Read + Drop, W: Write + Drop, E: Write>(
     output: W,
     errors: &mut E,
 ) -> Result<(), Stop> {
-    let Ok(mut runs) = Runs::new(alloc, options) else {
+    let distinct = distinct(rt, alloc, options)?;
+    let Ok(mut runs) = Runs::new(alloc, options, distinct) else {
         return Err(Stop::Memory);
     };
-    let mut reader = BufReader::new(alloc, input).map_err(Stop::Io)?;
-    read_trace(rt, alloc, options, &mut runs, &mut reader, errors)?;
+    match &options.trace {
+        Some(path) => {
+            let progress = Progress::start(rt, length(rt, path.as_str()))?;
+            let lines = Lines::new(alloc, fs::open(rt, path.as_str()).map_err(Stop::Io)?)?;
+            read_trace(rt, alloc, options, &mut runs, lines, progress, errors)?;
+        }
+        None => {
+            let progress = Progress::start(rt, length(rt, "/dev/stdin"))?;
+            let lines = Lines::new(alloc, input)?;
+            read_trace(rt, alloc, options, &mut runs, lines, progress, errors)?;
+        }
+    }
     report(rt, alloc, options, &runs, output)
 }
 
-// What was read so far.
-#[derive(Clone, Copy)]
-struct Progress {
-    start: Instant,
-    lines: u64,
-    bad: u64,
+// The length of a file, if it is one that tells it.
+fn length<C: Files>(rt: &C, path: &str) -> Option<u64> {
+    let metadata = fs::metadata(rt, path).ok()?;
+    if metadata.is_file() {
+        Some(metadata.len())
+    } else {
+        None
+    }
 }
 
-fn read_trace<C: Clock, R: BufRead, E: Write>(
+fn read_trace<C: Clock, R: Read + Drop, E: Write>(
     rt: &C,
     alloc: Global,
     options: &Options,
     runs: &mut Runs,
-    reader: &mut R,
+    mut lines: Lines<R>,
+    mut progress: Progress,
     errors: &mut E,
 ) -> Result<(), Stop> {
-    let start = Instant::now(rt).map_err(Stop::Io)?;
-    let mut progress = Progress {
-        start,
-        lines: 0,
-        bad: 0,
-    };
-    let mut line = Vec::new(alloc);
     let mut batch = Vec::new(alloc);
     for number in 1..u64::MAX {
-        line.clear();
-        if !next_line(reader, &mut line)? {
+        if !lines.advance()? {
             break;
         }
         progress.lines = number;
-        take_line(
-            alloc,
-            options,
-            line.as_slice(),
-            &mut batch,
-            &mut progress,
-            errors,
-        )?;
+        match asked(options, lines.line()) {
+            Some(asked) => add(alloc, options, asked, &mut batch)?,
+            None => progress.bad_line(options.bad_lines, errors)?,
+        }
         if batch.len() >= BATCH {
             play(runs, &mut batch)?;
         }
         if number % LINES_BETWEEN == 0 {
-            say(rt, &progress, errors)?;
+            progress.say(rt, lines.bytes_read(), errors)?;
         }
     }
-    play(runs, &mut batch)
+    play(runs, &mut batch)?;
+    progress.say_bad(errors)
 }
 
 fn play(runs: &mut Runs, batch: &mut Vec<Request>) -> Result<(), Stop> {
@@ -111,41 +113,20 @@ fn play(runs: &mut Runs, batch: &mut Vec<Request>) -> Result<(), Stop> {
     Ok(())
 }
 
-// Reads one line, and adds its request to those that wait, if its key is among those that are asked for.
-fn take_line<E: Write>(
-    alloc: Global,
-    options: &Options,
-    line: &[u8],
-    batch: &mut Vec<Request>,
-    progress: &mut Progress,
-    errors: &mut E,
-) -> Result<(), Stop> {
-    let text = str::from_utf8(line).unwrap_or("");
-    match read_line(text, options.columns) {
-        Some(asked) => add(alloc, options, asked, batch),
-        None => bad_line(options, progress, errors),
-    }
+// What a line asks for, if it is a request.
+fn asked<'a>(options: &Options, line: &'a [u8]) -> Option<Asked<'a>> {
+    read_line(str::from_utf8(line).ok()?, options.columns)
 }
 
-// A first line that is no request is a header; further ones are counted.
-fn bad_line<E: Write>(
-    options: &Options,
-    progress: &mut Progress,
-    errors: &mut E,
-) -> Result<(), Stop> {
-    if progress.lines == 1 {
-        return Ok(());
-    }
-    progress.bad = progress.bad.saturating_add(1);
-    if progress.bad <= NAMED {
-        writeln!(errors, "line {} is no request", progress.lines).map_err(Stop::Io)?;
-    }
-    if progress.bad > options.bad_lines {
-        return Err(Stop::BadLines(progress.lines));
-    }
-    Ok(())
+// Whether the key of this hash is among those that are asked for.
+fn is_sampled(options: &Options, primary: HashBinary) -> bool {
+    let [a, b, c, d, e, f, g, h, ..] = primary;
+    options
+        .sample
+        .has(u64::from_be_bytes([a, b, c, d, e, f, g, h]))
 }
 
+// Adds a request to those that wait, if its key is among those that are asked for.
 fn add(
     alloc: Global,
     options: &Options,
@@ -153,11 +134,7 @@ fn add(
     batch: &mut Vec<Request>,
 ) -> Result<(), Stop> {
     let primary = hash_key(asked.key.as_bytes());
-    let [a, b, c, d, e, f, g, h, ..] = primary;
-    if !options
-        .sample
-        .has(u64::from_be_bytes([a, b, c, d, e, f, g, h]))
-    {
+    if !is_sampled(options, primary) {
         return Ok(());
     }
     let item = CacheEntryKey::key_only(CompactCacheKey {
@@ -173,43 +150,50 @@ fn add(
     batch.push(request).map_err(|_| Stop::Memory)
 }
 
-// Says how far it is.
-fn say<C: Clock, E: Write>(rt: &C, progress: &Progress, errors: &mut E) -> Result<(), Stop> {
-    let passed = progress.start.elapsed(rt).map_err(Stop::Io)?;
-    let rate = (progress.lines as u128)
-        .saturating_mul(1000)
-        .checked_div(passed.as_millis())
-        .unwrap_or(0);
-    writeln!(errors, "{} lines, {rate} a second", progress.lines).map_err(Stop::Io)
+// The bytes of all bodies of the trace, each once, if a size is a share of them. They are given, or the trace is read
+// for them.
+fn distinct<C: Files>(rt: &C, alloc: Global, options: &Options) -> Result<u64, Stop> {
+    if !options.have_share() {
+        return Ok(0);
+    }
+    if let Some(distinct) = options.distinct {
+        return Ok(distinct);
+    }
+    let Some(path) = &options.trace else {
+        return Err(Stop::Words(Unusable::NoDistinct));
+    };
+    let file = fs::open(rt, path.as_str()).map_err(Stop::Io)?;
+    let sampled = distinct_of(alloc, options, Lines::new(alloc, file)?)?;
+    Ok(options.sample.whole(sampled))
 }
 
-// Reads a line without its end, and answers whether there was one.
-fn next_line<R: BufRead>(reader: &mut R, line: &mut Vec<u8>) -> Result<bool, Stop> {
-    let mut is_there = false;
+// The bytes of the bodies under the keys that are asked for, each once with its first size.
+fn distinct_of<R: Read + Drop>(
+    alloc: Global,
+    options: &Options,
+    mut lines: Lines<R>,
+) -> Result<u64, Stop> {
+    let mut keys = HashSet::new(alloc);
+    let mut bytes = 0u64;
     for _ in 0..u64::MAX {
-        let (taken, is_whole) = match reader.fill_buf() {
-            Ok(buffer) if buffer.is_empty() => return Ok(is_there),
-            Ok(buffer) => match buffer.iter().position(|byte| *byte == b'\n') {
-                Some(end) => (extend(line, &buffer[..end])?.saturating_add(1), true),
-                None => (extend(line, buffer)?, false),
-            },
-            Err(failed) if failed.kind() == io::ErrorKind::Interrupted => continue,
-            Err(failed) => return Err(Stop::Io(failed)),
+        if !lines.advance()? {
+            break;
+        }
+        let Some(asked) = asked(options, lines.line()) else {
+            continue;
         };
-        is_there = true;
-        reader.consume(taken);
-        if is_whole {
-            return Ok(true);
+        let primary = hash_key(asked.key.as_bytes());
+        if !is_sampled(options, primary) {
+            continue;
+        }
+        if keys
+            .insert(u128::from_be_bytes(primary))
+            .map_err(|_| Stop::Memory)?
+        {
+            bytes = bytes.saturating_add(asked.size as u64);
         }
     }
-    Ok(is_there)
-}
-
-fn extend(line: &mut Vec<u8>, bytes: &[u8]) -> Result<usize, Stop> {
-    match line.extend_from_slice(bytes) {
-        Ok(()) => Ok(bytes.len()),
-        Err(_) => Err(Stop::Memory),
-    }
+    Ok(bytes)
 }
 
 fn report<C: Files, W: Write + Drop>(

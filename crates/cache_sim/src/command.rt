@@ -1,0 +1,99 @@
+//! The command line.
+
+use cache_simulation::options::Words;
+use clap::{Arg, ArgMatches, Command};
+use std::alloc::{AllocError, Global};
+
+/// The options, with what stands for those that are not given.
+pub fn command<'a>(alloc: Global) -> Result<Command<'a>, AllocError> {
+    let command = Command::new(alloc, "cache_sim").about(
+        "Tells what caches of some sizes and policies would have served of a trace of requests.",
+    );
+    let command = caches(alloc, command)?;
+    let command = trace(alloc, command)?;
+    report(alloc, command)
+}
+
+fn caches<'a>(alloc: Global, command: Command<'a>) -> Result<Command<'a>, AllocError> {
+    command
+        .arg(
+            option(alloc, "policy", "NAMES")
+                .default_value("lru")
+                .help("lru, sharded:16, sieve or s3-fifo, with commas"),
+        )?
+        .arg(
+            option(alloc, "size", "SIZES").default_value("100MB").help(
+                "the sizes of the caches, with commas: 10MB, 1GiB, or 1% of the bytes of all bodies",
+            ),
+        )?
+        .arg(option(alloc, "ttl", "SECONDS").help(
+            "for how long a body is fresh once it came in; for ever without it",
+        ))?
+        .arg(
+            option(alloc, "large", "WHAT").default_value("pass").help(
+                "a body above the size of a cache: pass it by, or let it evict all others",
+            ),
+        )
+}
+
+fn trace<'a>(alloc: Global, command: Command<'a>) -> Result<Command<'a>, AllocError> {
+    command
+        .arg(option(alloc, "trace", "FILE").help("the trace; standard input without it"))?
+        .arg(
+            option(alloc, "columns", "NAMES")
+                .default_value("time,key,size")
+                .help("the columns of lines with commas"),
+        )?
+        .arg(option(alloc, "distinct", "BYTES").help(
+            "the bytes of all bodies of the trace, each once",
+        ))?
+        .arg(
+            option(alloc, "sample", "PART")
+                .default_value("1")
+                .help("the part of the keys that stands for all, as 0.01"),
+        )?
+        .arg(
+            option(alloc, "part", "NUMBER")
+                .default_value("0")
+                .help("which of the parts of that size"),
+        )?
+        .arg(
+            option(alloc, "bad-lines", "NUMBER")
+                .default_value("100")
+                .help("how many lines may be no requests"),
+        )
+}
+
+fn report<'a>(alloc: Global, command: Command<'a>) -> Result<Command<'a>, AllocError> {
+    command
+        .arg(
+            option(alloc, "format", "FORMAT")
+                .default_value("table")
+                .help("table, or csv for plots"),
+        )?
+        .arg(option(alloc, "plot", "FILE").help(
+            "a file for a drawing in SVG: the ratio of hits by size",
+        ))
+}
+
+fn option<'a>(alloc: Global, name: &'a str, value: &'a str) -> Arg<'a> {
+    Arg::new(alloc, name).long(name).value_name(value)
+}
+
+/// The words by option.
+pub fn words<'a>(matches: &ArgMatches<'a>) -> Words<'a> {
+    Words {
+        policy: matches.get_str("policy").unwrap_or(""),
+        size: matches.get_str("size").unwrap_or(""),
+        trace: matches.get_str("trace"),
+        distinct: matches.get_str("distinct"),
+        ttl: matches.get_str("ttl"),
+        large: matches.get_str("large").unwrap_or(""),
+        columns: matches.get_str("columns").unwrap_or(""),
+        sample: matches.get_str("sample").unwrap_or(""),
+        part: matches.get_str("part").unwrap_or(""),
+        format: matches.get_str("format").unwrap_or(""),
+        plot: matches.get_str("plot"),
+        bad_lines: matches.get_str("bad-lines").unwrap_or(""),
+    }
+}

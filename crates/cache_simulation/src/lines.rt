@@ -1,0 +1,79 @@
+//! The lines of a reader, one after the other.
+
+use crate::simulation::Stop;
+use std::alloc::Global;
+use std::io;
+use std::io::{BufRead, BufReader, Read};
+
+/// Lines that are read one after the other, in the memory of one of them.
+#[derive(Drop)]
+pub(crate) struct Lines<R: Read + Drop> {
+    reader: BufReader<R>,
+    line: Vec<u8>,
+    read: u64,
+}
+
+impl<R: Read + Drop> Lines<R> {
+    /// The lines of a reader.
+    pub(crate) fn new(alloc: Global, input: R) -> Result<Lines<R>, Stop> {
+        Ok(Lines {
+            reader: BufReader::new(alloc, input).map_err(Stop::Io)?,
+            line: Vec::new(alloc),
+            read: 0,
+        })
+    }
+
+    /// The line that was read last, without its end.
+    pub(crate) fn line(&self) -> &[u8] {
+        self.line.as_slice()
+    }
+
+    /// How many bytes were read; the largest number if they are more.
+    pub(crate) fn bytes_read(&self) -> u64 {
+        self.read
+    }
+
+    /// Reads the next line, and answers whether there was one.
+    pub(crate) fn advance(&mut self) -> Result<bool, Stop> {
+        self.line.clear();
+        let mut is_there = false;
+        for _ in 0..u64::MAX {
+            let Some((taken, is_whole)) = take(&mut self.reader, &mut self.line)? else {
+                return Ok(is_there);
+            };
+            is_there = true;
+            self.reader.consume(taken);
+            self.read = self.read.saturating_add(taken as u64);
+            if is_whole {
+                return Ok(true);
+            }
+        }
+        Ok(is_there)
+    }
+}
+
+// Adds what is at hand of a line: how many bytes that were, and whether the line ended. `None` at the end.
+fn take<R: BufRead>(reader: &mut R, line: &mut Vec<u8>) -> Result<Option<(usize, bool)>, Stop> {
+    for _ in 0..u64::MAX {
+        let buffer = match reader.fill_buf() {
+            Ok(buffer) => buffer,
+            Err(failed) if failed.kind() == io::ErrorKind::Interrupted => continue,
+            Err(failed) => return Err(Stop::Io(failed)),
+        };
+        if buffer.is_empty() {
+            return Ok(None);
+        }
+        return match buffer.iter().position(|byte| *byte == b'\n') {
+            Some(end) => Ok(Some((extend(line, &buffer[..end])?.saturating_add(1), true))),
+            None => Ok(Some((extend(line, buffer)?, false))),
+        };
+    }
+    Ok(None)
+}
+
+fn extend(line: &mut Vec<u8>, bytes: &[u8]) -> Result<usize, Stop> {
+    match line.extend_from_slice(bytes) {
+        Ok(()) => Ok(bytes.len()),
+        Err(_) => Err(Stop::Memory),
+    }
+}
