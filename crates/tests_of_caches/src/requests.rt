@@ -6,7 +6,6 @@ ghost use Rattle.pcache_request.specs.declared.phase.CachePhase.TheVariants.{Cac
 use bytes::Bytes;
 use http::StatusCode;
 use pcache_base::error::Result;
-use pcache_base::key::CacheKey;
 use pcache_base::moment::Moment;
 use pcache_base::poll::Poll;
 use pcache_base::seed::Seed;
@@ -47,9 +46,7 @@ pub fn request_for(alloc: Global, name: &str) -> Result<Request>
 {
     let primary = name.as_bytes().to_vec(alloc)?;
     let mut request = CacheRequest::new(alloc);
-    request
-        .cache
-        .set_cache_key(CacheKey::new(primary, String::new(alloc)));
+    request.cache.set_cache_key(pcache_base::key::CacheKey::new(primary, String::new(alloc)));
     Ok(request)
 }
 
