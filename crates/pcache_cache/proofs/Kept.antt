@@ -14,7 +14,7 @@ use Rattle.pcache_evict.specs.declared.eviction.entry_key.CacheEntryKey.{CacheEn
 use Rattle.pcache_evict.specs.Entry.{entry_cmp, entries_total, entry_with}
 use Rattle.pcache_evict.specs.Tracked.{Tracked, Limits, added}
 use Rattle.pcache_evict.proofs.EntryOrder.{exact_entries}
-use Rattle.pcache_meta.specs.Meta.{Meta, expired_at}
+use Rattle.pcache_meta.specs.Meta.{Meta, expired_at, in_place_of}
 use Rattle.pcache_predict.specs.declared.admission.Decision.{Decision}
 use Rattle.pcache_request.specs.Admissions.{is_deferral, store_looked_with}
 use Rattle.pcache_request.specs.Finishing.{entry_slot}
@@ -186,7 +186,7 @@ kept_beginning B C D E F G limits m s t r (Err e) ok (inr begun) k = kept_begun 
 
 fewer-meta_of : (x : Meta) (k : Option Key) (s : Store) → Fewer s.slots (with_meta_of x k s).slots
 fewer-meta_of x None s = fewer-same s.slots
-fewer-meta_of x (Some k) s = fewer-changed (λ _. x) s (slot k)
+fewer-meta_of x (Some k) s = fewer-changed (λ old. in_place_of old x) s (slot k)
 
 pub kept_renewed : {A : Type 0} (limits : Limits) (m : Tracked) (s t : Store) (x : Meta) (key : Option Key) (result : Result A ErrorType) → OnOk result (t ≡ with_meta_of x key s) → OnErr result (t ≡ s) → IsKept limits m s → IsKept limits m t
 kept_renewed limits m s t x key result ok err k =

@@ -8,7 +8,7 @@ use Rattle.std.proofs.lemmas.Bool.{both_ways, eq-eqb, or_left}
 use Rattle.pcache_base.specs.Key.{Key, slot}
 use Rattle.pcache_lock.specs.Locks.{Locks}
 use Rattle.pcache_lock.specs.declared.lock.permit.Locked.{Locked}
-use Rattle.pcache_meta.specs.Meta.{Meta}
+use Rattle.pcache_meta.specs.Meta.{Meta, numbered}
 use Rattle.pcache_request.specs.Requests.{Request, begun_for, joined_for, left_by, store_writing, with_lock, writing, HasKey, MayWrite}
 use Rattle.pcache_request.specs.Phases.{IsFilling}
 use Rattle.pcache_request.specs.declared.phase.CachePhase.{CachePhase}
@@ -51,7 +51,7 @@ here : (ws : FinMap nat_cmp Written) (n : ℕ) (w : Written) → get (insert ws 
 here ws n w = get-insert nat_cmp_total ws n w n ∙ ap (λ r. cond (is_eq r) (Some w) (get ws n)) (tied_itself nat_cmp_total n)
 
 pub flies-begun : (s : Store) (k : ℕ) (m : Meta) → Flies (begun s k m).writes s.next k
-flies-begun s k m = (new_write k m, here s.writes s.next (new_write k m), refl, refl)
+flies-begun s k m = let w = new_write k (numbered s.next m) in (w, here s.writes s.next w, refl, refl)
 
 -- another write's record, or its own with other readers
 flies-insert : (ws : FinMap nat_cmp Written) (n k j : ℕ) (x : Written) → Flies ws n k → (get ws j ≡ Some x) → (y : Written) → y.flying ≡ x.flying → y.slot ≡ x.slot → Flies (insert ws j y) n k

@@ -8,7 +8,7 @@ use Rattle.std.specs.FinMap as map
 use Rattle.std.proofs.lemmas.Bool.{eqb-true, eq-eqb, both_ways, or_parts}
 use Rattle.std.proofs.lemmas.List.Sums.{sum_by-cons, sum_by-le-sum_by}
 use Rattle.std.proofs.lemmas.Map.Keys.{IsDistinct-cons}
-use Rattle.pcache_meta.specs.Meta.{Meta, expired_at}
+use Rattle.pcache_meta.specs.Meta.{Meta, expired_at, in_place_of}
 use Rattle.pcache_base.specs.Totals.{total, share}
 use Rattle.pcache_base.proofs.Totals.{sum-le-total, len-total}
 use Rattle.pcache_evict.specs.declared.eviction.entry_key.CacheEntryKey.{CacheEntryKey}
@@ -197,9 +197,9 @@ bound-renew limits es k m tidy b =
       count = if_some {P = λ most. slots es ≤ most} {Q = λ most. slots (Renew k m ∷ es) ≤ most} limits.watermark (λ most h. let a = less (λ _. 1) (λ x. refl) in omega arith) b.count;
     }
   where
-    less : (f : Stored → ℕ) → ((x : Stored) → f (altered_body (λ _. m) x) ≡ f x) → standing f (Renew k m ∷ es) ≤ standing f es
+    less : (f : Stored → ℕ) → ((x : Stored) → f (altered_body (λ old. in_place_of old m) x) ≡ f x) → standing f (Renew k m ∷ es) ≤ standing f es
     less f same = sum_by-le-sum_by (λ q. share f (complete q (Renew k m ∷ es))) (λ q. share f (complete q es)) (finished_keys es)
-        (λ q. let e = ap (share f) (complete-renew es k m tidy q) ∙ same-share f (k == q) (λ _. m) (complete q es) same in omega arith)
+        (λ q. let e = ap (share f) (complete-renew es k m tidy q) ∙ same-share f (k == q) (λ old. in_place_of old m) (complete q es) same in omega arith)
 
 -- a finish that stores: but for its key, what stands is within the limits
 pub bound-undone : (limits : Limits) (es : List Event) (w k : ℕ) (m : Meta) → IsTidy es → in_flight w es ≡ true → begin_of w es ≡ Some (k, m) → is_removed w es ≡ false → IsBounded limits es → IsBounded limits (Purge k ∷ Finish w true ∷ es)

@@ -2,7 +2,7 @@
 -- its key, what stands is tracked exactly, and it is within the limits.
 use Rattle.std.proofs.Common.{◌≡◌, ◌≢◌, ℕ, ◌<◌, Bool, true, false, not, ◌&&◌, ◌||◌, ◌==◌, if◌then◌else◌, Option, None, Some, is_some, List, [], ◌∷◌, ◌++◌, refl, ap, sym, subst, ◌∙◌, arith, reverse, inl, inr, ◌⊎◌}
 use Rattle.std.proofs.lemmas.Bool.{eqb-true, eqb-false, eq-eqb, ne_eqb, and_parts}
-use Rattle.pcache_meta.specs.Meta.{Meta}
+use Rattle.pcache_meta.specs.Meta.{Meta, numbered}
 use Rattle.pcache_evict.specs.Tracked.{Tracked, Limits}
 use Rattle.pcache_store.specs.Store.{Stored}
 use Rattle.pcache_history.specs.declared.entry.Event.{Event}
@@ -84,10 +84,10 @@ module _ (es : List Event) (n k : ℕ) (m : Meta) (f slots : ℕ → Option ℕ)
 
   begun-flies : (w : ℕ) → begun es ≡ w → in_flight w now ≡ true
   begun-flies w same = subst (λ x. in_flight x now ≡ true) same
-      (let t = same-number (begun es) in let live : has_ended (begun es) es ≡ false = tidy.not_ended (begun es) (omega arith) in λ i. is_some (if t i then Some (k, m) else begin_of (begun es) es) && not (live i))
+      (let t = same-number (begun es) in let live : has_ended (begun es) es ≡ false = tidy.not_ended (begun es) (omega arith) in λ i. is_some (if t i then Some (k, numbered (begun es) m) else begin_of (begun es) es) && not (live i))
 
   kept-begin : (w : ℕ) → begun es ≢ w → begin_of w now ≡ begin_of w es
-  kept-begin w ne = ap (λ b. if b then Some (k, m) else begin_of w es) (ne_eqb (begun es) w ne)
+  kept-begin w ne = ap (λ b. if b then Some (k, numbered (begun es) m) else begin_of w es) (ne_eqb (begun es) w ne)
 
   made-begun : AreMade after slots now
   made-begun = record {
@@ -95,7 +95,7 @@ module _ (es : List Event) (n k : ℕ) (m : Meta) (f slots : ℕ → Option ℕ)
       | inl p ↦ elim (came s w b) [ inl q ↦ made.only r s w p.0 q.0 | inr q ↦ absurd (p.1 q.1) ]
       | inr p ↦ elim (came s w b) [ inl q ↦ absurd (q.1 p.1) | inr q ↦ sym p.0 ∙ q.0 ]
     ];
-    some = λ w fly. elim (begun es == w) as (λ b. (begun es == w) ≡ b → (is_some (if b then Some (k, m) else begin_of w es) && not (has_ended w es)) ≡ true → (r : ℕ) × (after r ≡ Some w)) [
+    some = λ w fly. elim (begun es == w) as (λ b. (begun es == w) ≡ b → (is_some (if b then Some (k, numbered (begun es) m) else begin_of w es) && not (has_ended w es)) ≡ true → (r : ℕ) × (after r ≡ Some w)) [
       | true ↦ λ t _. (n, here n (Some (begun es)) f ∙ ap Some (eqb-true (begun es) w t))
       | false ↦ λ e old. let p = made.some w old in (p.0, stays p.0 w p.1)
     ] refl fly;
@@ -105,7 +105,7 @@ module _ (es : List Event) (n k : ℕ) (m : Meta) (f slots : ℕ → Option ℕ)
     ];
     keyed = λ r w h. elim (came r w h) [
       | inl p ↦ let old = made.keyed r w p.0 in (old.0, old.1, old.2, kept-begin w p.1 ∙ old.3)
-      | inr p ↦ (k, m, subst (λ x. slots x ≡ Some k) p.0 slot, ap (λ b. if b then Some (k, m) else begin_of w es) (eq-eqb (begun es) w p.1))
+      | inr p ↦ (k, numbered (begun es) m, subst (λ x. slots x ≡ Some k) p.0 slot, ap (λ b. if b then Some (k, numbered (begun es) m) else begin_of w es) (eq-eqb (begun es) w p.1))
     ];
   }
 

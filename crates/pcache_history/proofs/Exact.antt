@@ -8,7 +8,7 @@ use Rattle.std.specs.FinMap as map
 use Rattle.std.specs.Option.{option_map}
 use Rattle.std.proofs.lemmas.Bool.{eqb-true, eq-eqb, both_ways, or_parts}
 use Rattle.pcache_base.specs.Key.{Key, slot}
-use Rattle.pcache_meta.specs.Meta.{Meta, expired_at}
+use Rattle.pcache_meta.specs.Meta.{Meta, expired_at, in_place_of}
 use Rattle.pcache_evict.specs.declared.eviction.entry_key.CacheEntryKey.{CacheEntryKey}
 use Rattle.pcache_evict.specs.Entry.{entry_cmp, entries_total}
 use Rattle.pcache_evict.specs.Tracked.{Tracked, without, added}
@@ -118,7 +118,7 @@ exact-expire start es k t tidy ex = λ q b h.
 
 pub exact-renew : (start : Tracked) (es : List Event) (k : ℕ) (m : Meta) → IsTidy es → IsExact start es → IsExact start (Renew k m ∷ es)
 exact-renew start es k m tidy ex = λ q b h.
-    let was = was-stored (k == q) (λ _. m) (complete q es) b (sym (complete-renew es k m tidy q) ∙ h) in
+    let was = was-stored (k == q) (λ old. in_place_of old m) (complete q es) b (sym (complete-renew es k m tidy q) ∙ h) in
     let old = ex q was.0 was.1 in
     (old.0, old.1, old.2 ∙ ap Some was.2)
 

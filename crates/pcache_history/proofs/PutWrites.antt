@@ -4,6 +4,7 @@ use Rattle.std.proofs.lemmas.Bool.{and_parts, both_ways, eqb-true, eqb-false, ne
 use Rattle.pcache_base.specs.Key.{Key}
 use Rattle.pcache_evict.specs.Tracked.{Tracked, Limits}
 use Rattle.pcache_put_ctx.specs.State.{Filled}
+use Rattle.pcache_meta.specs.Meta.{numbered}
 use Rattle.pcache_history.specs.declared.call.Act.{Act}
 use Rattle.pcache_history.specs.declared.call.Act.TheVariants as C
 use Rattle.pcache_history.specs.declared.call.Reply.{Reply}
@@ -32,7 +33,7 @@ use Rattle.pcache_history.proofs.Taken.{taken_keeps}
 -- what a write was given is its body, and it began with this meta
 abbrev Gave : Option Filled → Option ℕ → List Event → Type 0
 Gave f None es = Unit {0}
-Gave f (Some w) es = (g : Filled) × (f ≡ Some g) × (g.body ≡ body_of w es) × ((k : ℕ) × (begin_of w es ≡ Some (k, g.meta)))
+Gave f (Some w) es = (g : Filled) × (f ≡ Some g) × (g.body ≡ body_of w es) × ((k : ℕ) × (begin_of w es ≡ Some (k, numbered w g.meta)))
 
 -- no number that is free has bytes, and a write has a number that was given
 abbrev AreUnwritten : List Event → Type 0
@@ -70,7 +71,7 @@ wrote-more es w bytes eof f h = (
 gave-next : (limits : Limits) (m : Tracked) (es : List Event) (q : Option Held) (o owed : Option ℕ) (e : Event) (f : Option Filled) → IsNext limits m es q o owed e → AreUnwritten es → Gave f o es → Gave (filled_noted e f) (makes e o) (e ∷ es)
 gave-next limits m es q o None (E.Begin w k n) f due unwritten h =
     let is : w ≡ begun es = due.0 in
-    (record { meta = n; body = [] }, refl, sym (unwritten w (omega (arith, is))), (k, ap (λ b. if b then Some (k, n) else begin_of w es) (same-number w)))
+    (record { meta = n; body = [] }, refl, sym (unwritten w (omega (arith, is))), (k, ap (λ b. if b then Some (k, numbered w n) else begin_of w es) (same-number w)))
 gave-next limits m es q o (Some x) (E.Begin w k n) f due unwritten h = absurd due
 gave-next limits m es q o None (E.Wrote w bytes eof) f due unwritten h = subst (λ z. Gave (filled_noted (E.Wrote w bytes eof) f) z (E.Wrote w bytes eof ∷ es)) (sym due) (wrote-more es w bytes eof f (subst (λ z. Gave f z es) due h))
 gave-next limits m es q o (Some x) (E.Wrote w bytes eof) f due unwritten h = absurd due
@@ -94,7 +95,7 @@ gave-away : (limits : Limits) (m : Tracked) (es : List Event) (q : Option Held) 
 gave-away limits m es q o None (E.Begin x k n) f w due low other h =
     let is : x ≡ begun es = due.0 in
     let apart : x ≢ w = λ same. omega (arith, is, same, low) in
-    (h.0, h.1, h.2, (h.3.0, ap (λ b. if b then Some (k, n) else begin_of w es) (ne_eqb x w apart) ∙ h.3.1))
+    (h.0, h.1, h.2, (h.3.0, ap (λ b. if b then Some (k, numbered x n) else begin_of w es) (ne_eqb x w apart) ∙ h.3.1))
 gave-away limits m es q o (Some y) (E.Begin x k n) f w due low other h = absurd due
 gave-away limits m es q o None (E.Wrote x bytes eof) f w due low other h =
     let apart : x ≢ w = λ same. other (due ∙ ap Some same) in

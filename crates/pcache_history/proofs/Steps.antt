@@ -3,7 +3,7 @@ use Rattle.std.proofs.Common.{◌≡◌, ℕ, ◌<◌, Bool, true, false, ◌||�
 use Rattle.std.specs.Option.{option_map, option_and_then}
 use Rattle.std.specs.List.{list_any}
 use Rattle.std.proofs.lemmas.Bool.{eqb-true, ne_eqb, and_parts, both_ways, cases_lt, not-true}
-use Rattle.pcache_meta.specs.Meta.{Meta, expired_at}
+use Rattle.pcache_meta.specs.Meta.{Meta, expired_at, in_place_of, numbered}
 use Rattle.pcache_evict.specs.declared.eviction.entry_key.CacheEntryKey.{CacheEntryKey}
 use Rattle.pcache_store.specs.Store.{Stored}
 use Rattle.pcache_history.specs.declared.entry.Event.{Event}
@@ -43,7 +43,7 @@ complete-begin es k m tidy q =
     by_last (last_finished q es) _ _ (λ x is.
     let lt : x < begun es = below x es tidy (begun_of q x es (tidy.finished q x is).1) in
     let apart : (begun es == x) ≡ false = ne_eqb (begun es) x (omega arith) in
-    ap (λ b. unless_removed (option_any (λ (a : ℕ × Meta). list_any (removes a.0) (if b then [] else Begin (begun es) k m ∷ since x es)) (if b then Some (k, m) else begin_of x es)) (if b then Some (k, m) else begin_of x es) (meta_kept x es) (body_of x es)) apart)
+    ap (λ b. unless_removed (option_any (λ (a : ℕ × Meta). list_any (removes a.0) (if b then [] else Begin (begun es) k m ∷ since x es)) (if b then Some (k, numbered (begun es) m) else begin_of x es)) (if b then Some (k, numbered (begun es) m) else begin_of x es) (meta_kept x es) (body_of x es)) apart)
 
 -- an event that removes keys
 removed-last : (p : ℕ → Bool) (k : ℕ) (o : Option (ℕ × Meta)) (rest : List Event) (f : ℕ → Meta → Meta) (body : List ℕ) → option_any (λ (b : ℕ × Meta). b.0 == k) o ≡ true
@@ -131,5 +131,5 @@ pub complete-expire : (es : List Event) (k t : ℕ) → IsTidy es → (q : ℕ) 
 complete-expire es k t tidy q = complete-altered es k (expired_at t) tidy q
 
 -- a revalidation
-pub complete-renew : (es : List Event) (k : ℕ) (m : Meta) → IsTidy es → (q : ℕ) → complete q (Renew k m ∷ es) ≡ (if k == q then option_map (altered_body (λ _. m)) (complete q es) else complete q es)
-complete-renew es k m tidy q = complete-altered es k (λ _. m) tidy q
+pub complete-renew : (es : List Event) (k : ℕ) (m : Meta) → IsTidy es → (q : ℕ) → complete q (Renew k m ∷ es) ≡ (if k == q then option_map (altered_body (λ old. in_place_of old m)) (complete q es) else complete q es)
+complete-renew es k m tidy q = complete-altered es k (λ old. in_place_of old m) tidy q

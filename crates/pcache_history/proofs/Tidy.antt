@@ -3,7 +3,7 @@ use Rattle.std.proofs.Common.{◌≡◌, ◌≢◌, ℕ, ◌<◌, ◌≤◌, Boo
 use Rattle.std.specs.List.{list_any}
 use Rattle.std.specs.Option.{option_map}
 use Rattle.std.proofs.lemmas.Bool.{eqb-true, eq-eqb, ne_eqb, both_ways, or_left, or_right, or_parts}
-use Rattle.pcache_meta.specs.Meta.{Meta, expired_at}
+use Rattle.pcache_meta.specs.Meta.{Meta, expired_at, in_place_of, numbered}
 use Rattle.pcache_evict.specs.declared.eviction.entry_key.CacheEntryKey.{CacheEntryKey}
 use Rattle.pcache_store.specs.Store.{Stored}
 use Rattle.pcache_history.specs.declared.entry.Answer.{Answer}
@@ -99,14 +99,14 @@ tidy-renew es k m t = record {
   not_told = t.not_told;
   not_stored = t.not_stored;
   finished = t.finished;
-  survives = λ q w st of kept. ap is_some (complete-renew es k m t q) ∙ still-some (k == q) (λ _. m) (complete q es) ∙ t.survives q w st of kept;
+  survives = λ q w st of kept. ap is_some (complete-renew es k m t q) ∙ still-some (k == q) (λ old. in_place_of old m) (complete q es) ∙ t.survives q w st of kept;
 }
 
 -- writes
 pub tidy-begin : (es : List Event) (k : ℕ) (m : Meta) → IsTidy es → IsTidy (Begin (begun es) k m ∷ es)
 tidy-begin es k m t =
     record {
-      unbegun = λ q h. let le : begun es ≤ q = omega arith in ap (λ b. if b then Some (k, m) else begin_of q es) (ne_eqb (begun es) q (omega arith)) ∙ t.unbegun q le;
+      unbegun = λ q h. let le : begun es ≤ q = omega arith in ap (λ b. if b then Some (k, numbered (begun es) m) else begin_of q es) (ne_eqb (begun es) q (omega arith)) ∙ t.unbegun q le;
       not_ended = λ q h. let le : begun es ≤ q = omega arith in t.not_ended q le;
       no_body = λ q h. let le : begun es ≤ q = omega arith in t.no_body q le;
       not_told = λ q h. let le : begun es ≤ q = omega arith in t.not_told q le;
@@ -114,12 +114,12 @@ tidy-begin es k m t =
       finished = λ x q is.
           let old = t.finished x q is in
           let lt : q < begun es = below q es t (begun_of x q es old.1) in
-          (old.0, ap (λ b. option_any (λ (a : ℕ × Meta). a.0 == x) (if b then Some (k, m) else begin_of q es)) (ne_eqb (begun es) q (omega arith)) ∙ old.1, old.2);
+          (old.0, ap (λ b. option_any (λ (a : ℕ × Meta). a.0 == x) (if b then Some (k, numbered (begun es) m) else begin_of q es)) (ne_eqb (begun es) q (omega arith)) ∙ old.1, old.2);
       survives = λ x q st of kept.
           let ne : begun es ≢ q = λ same. both_ways _ (t.not_stored q (omega arith)) st in
           let no : (begun es == q) ≡ false = ne_eqb (begun es) q ne in
-          let of' : is_of x q es ≡ true = sym (ap (λ b. option_any (λ (a : ℕ × Meta). a.0 == x) (if b then Some (k, m) else begin_of q es)) no) ∙ of in
-          let kept' : is_removed q es ≡ false = sym (ap (λ b. option_any (λ (a : ℕ × Meta). list_any (removes a.0) (if b then [] else Begin (begun es) k m ∷ since q es)) (if b then Some (k, m) else begin_of q es)) no) ∙ kept in
+          let of' : is_of x q es ≡ true = sym (ap (λ b. option_any (λ (a : ℕ × Meta). a.0 == x) (if b then Some (k, numbered (begun es) m) else begin_of q es)) no) ∙ of in
+          let kept' : is_removed q es ≡ false = sym (ap (λ b. option_any (λ (a : ℕ × Meta). list_any (removes a.0) (if b then [] else Begin (begun es) k m ∷ since q es)) (if b then Some (k, numbered (begun es) m) else begin_of q es)) no) ∙ kept in
           ap is_some (complete-begin es k m t x) ∙ t.survives x q st of' kept';
     }
 

@@ -4,7 +4,7 @@ use Rattle.std.specs.Prelude.{ℕ, ◌+◌, Bool, true, false, not, ◌&&◌, �
 use Rattle.std.specs.Option.{option_map, option_and_then}
 use Rattle.std.specs.List.{list_any}
 use Rattle.std.specs.FinMap as map
-use Rattle.pcache_meta.specs.Meta.{Meta, expired_at}
+use Rattle.pcache_meta.specs.Meta.{Meta, expired_at, in_place_of, numbered}
 use Rattle.pcache_base.specs.Totals.{share}
 use Rattle.pcache_evict.specs.declared.eviction.entry_key.CacheEntryKey.{CacheEntryKey}
 use Rattle.pcache_evict.specs.Tracked.{Tracked, without, added}
@@ -29,13 +29,13 @@ abbrev pub count_begin : Event → ℕ → ℕ
 count_begin (Begin x k m) n = n + 1
 count_begin _ n = n
 
--- whether it begins the write, and the write's slot and meta
+-- whether it begins the write, and the write's slot and meta, which has the write's number from then on
 abbrev pub begins : ℕ → Event → Bool
 begins w (Begin x k m) = x == w
 begins w _ = false
 
 abbrev pub begin_at : ℕ → Event → Option (ℕ × Meta) → Option (ℕ × Meta)
-begin_at w (Begin x k m) before = if x == w then Some (k, m) else before
+begin_at w (Begin x k m) before = if x == w then Some (k, numbered x m) else before
 begin_at w _ before = before
 
 -- the write's bytes, and whether they are said to be all
@@ -74,10 +74,11 @@ removes k (Purge q) = q == k
 removes k (Admit e n out) = names_key k out
 removes k _ = false
 
--- what it makes of the meta of the complete body of a key: an expiry ends its freshness, a revalidation sets another
+-- what it makes of the meta of the complete body of a key: an expiry ends its freshness, a revalidation sets another,
+-- which has the number of the same write
 abbrev pub alters : ℕ → Event → Meta → Meta
 alters k (Expire q now) m = if q == k then expired_at now m else m
-alters k (Renew q new) m = if q == k then new else m
+alters k (Renew q new) m = if q == k then in_place_of m new else m
 alters k _ m = m
 
 -- what it leaves tracked

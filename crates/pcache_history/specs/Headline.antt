@@ -8,7 +8,7 @@ use Rattle.pcache_base.specs.declared.poll.Poll.TheVariants.{Ready}
 use Rattle.pcache_base.specs.declared.error.ErrorType.TheVariants.{OutOfMemory}
 use Rattle.pcache_lock.specs.Permits as lock
 use Rattle.pcache_lock.specs.declared.lock.permit.Locked.TheVariants as locked
-use Rattle.pcache_meta.specs.Meta.{Meta}
+use Rattle.pcache_meta.specs.Meta.{Meta, numbered}
 use Rattle.pcache_evict.specs.Tracked.{Tracked, Limits, IsWithin, IsFair}
 use Rattle.pcache_predict.specs.declared.admission.Decision.{Decision}
 use Rattle.pcache_request.specs.LockWaits.{unusable_in}
@@ -50,6 +50,18 @@ IsWrongExactly = (age : ℕ) (limits : Limits) (start : Tracked) (before : List 
 abbrev pub LooksAreTrue : Type 0
 LooksAreTrue = (age : ℕ) (limits : Limits) (start : Tracked) (before : List Entry) (entry : Entry) (k : ℕ) (answer : Answer) (rest : List Event) → IsLegal age limits start (entry ∷ before) → entry.events ≡ Look k answer ∷ rest
     → Finds (events_of before) k answer
+
+-- the meta that is found has the number of the write that is found, or that stored the body
+abbrev pub IsOfItsWrite : List Event → ℕ → Answer → Type 0
+IsOfItsWrite es k A.Nothing = Unit {0}
+IsOfItsWrite es k (A.Streaming m w) = m.entry_id ≡ Some w
+IsOfItsWrite es k (A.Complete m body) = (w : ℕ) × (last_finished k es ≡ Some w) × (m.entry_id ≡ Some w)
+
+-- a found meta has the number of its write, whatever number the metas had that were handed in
+abbrev pub FoundIsNumbered : Type 0
+FoundIsNumbered =
+    (age : ℕ) (limits : Limits) (start : Tracked) (before : List Entry) (entry : Entry) (k : ℕ) (answer : Answer) (rest : List Event)
+    → IsLegal age limits start (entry ∷ before) → entry.events ≡ Look k answer ∷ rest → IsOfItsWrite (events_of before) k answer
 
 -- a read gives what the events before it say of its reader: all that is unread of a write, nothing yet if more may come,
 -- else the end; of a complete body its range once, then the end
@@ -153,10 +165,11 @@ abbrev pub ReadsWhatWasFound : Type 0
 ReadsWhatWasFound = (age : ℕ) (limits : Limits) (start : Tracked) (h : List Entry) (r : ℕ) (x : Held) (body : List ℕ) (from to : ℕ) (done : Bool) → IsLegal age limits start h → request_of r h ≡ Some x → x.request.reader ≡ Some (Whole body from to done)
     → (f : IsFoundBy h r body) × (w : ℕ) × (last_finished f.3 (events_of f.2) ≡ Some w) × (is_removed w (events_of f.2) ≡ false) × (body ≡ body_of w (events_of f.2))
 
--- what the history says was written of an open put is the body of its write, with the meta that the write began with
+-- what the history says was written of an open put is the body of its write, with the meta that the write began with, as it is
+-- kept
 abbrev pub PutsAreWritten : Type 0
 PutsAreWritten = (age : ℕ) (limits : Limits) (start : Tracked) (before : List Entry) (r w : ℕ) (x : Held) (p : Taking) → IsLegal age limits start before → request_of r before ≡ Some x → x.put ≡ Some p → x.request.write ≡ Some w
-    → (f : Filled) × (filled_of r before ≡ Some f) × (f.body ≡ body_of w (events_of before)) × ((k : ℕ) × (begin_of w (events_of before) ≡ Some (k, f.meta)))
+    → (f : Filled) × (filled_of r before ≡ Some f) × (f.body ≡ body_of w (events_of before)) × ((k : ℕ) × (begin_of w (events_of before) ≡ Some (k, numbered w f.meta)))
 
 -- The same of what a world has: of each entry of its history with those before it, newest first.
 

@@ -1,5 +1,5 @@
 //! What is promised of every legal history, whatever calls it has.
-ghost use Rattle.pcache_history.specs.Headline.{EvictsFairly, FindsExactly, FinishesExactly, GivesThePermitExactly, HandsOnExactly, IsWithinLimits, IsWrongExactly, LooksAreTrue, OnePermitWaits, PutsAreWritten, ReadsABeginning, ReadsAreTrue, ReadsTheLast, ReadsTheWhole, ReadsWhatWasFound, TellsExactly, TracksExactly, WaitsAreTrue};
+ghost use Rattle.pcache_history.specs.Headline.{EvictsFairly, FindsExactly, FinishesExactly, FoundIsNumbered, GivesThePermitExactly, HandsOnExactly, IsWithinLimits, IsWrongExactly, LooksAreTrue, OnePermitWaits, PutsAreWritten, ReadsABeginning, ReadsAreTrue, ReadsTheLast, ReadsTheWhole, ReadsWhatWasFound, TellsExactly, TracksExactly, WaitsAreTrue};
 ghost use Rattle.pcache_history.specs.Settling.{SettlesAtOnce};
 
 /// A call is answered as a wrong one exactly when its condition fails.
@@ -10,6 +10,12 @@ pub fn is_wrong_exactly()
 /// A look-up answers what the events before it say of its key.
 pub fn looks_are_true()
     ensures { LooksAreTrue }
+{}
+
+/// A found meta has the number of the write that is found, or that stored the body, whatever numbers the
+/// metas had that were handed in.
+pub fn found_is_numbered()
+    ensures { FoundIsNumbered }
 {}
 
 /// A read gives what the events before it say of its reader.

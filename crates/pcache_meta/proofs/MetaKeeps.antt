@@ -3,6 +3,7 @@ use Rattle.std.proofs.Common.{◌≡◌, ℕ, List, ap, refl, inl, inr}
 use Rattle.std.specs.Prelude.{Result, Ok, Err, IfErr, IsErrOf, ◌⊎◌}
 use Rattle.pcache_meta.specs.Meta.{Meta}
 use Rattle.pcache_meta.specs.MetaBytes.{SpellsMeta}
+use Rattle.pcache_meta.specs.MetaSpelling.{SpellsInternal}
 use Rattle.pcache_meta.specs.MetaKept.{meta_at, meta_of, AreOf}
 use Rattle.pcache_base.specs.declared.error.ErrorType.{ErrorType}
 use Rattle.pcache_base.specs.declared.error.ErrorType.TheVariants.{OutOfMemory, InternalError}
@@ -22,6 +23,10 @@ kept_of m internal header are = rw (meta_again internal header m are.spelled) ar
 pub kept_spelled : (m : Meta) (a b internal header : List ℕ) → a ≡ internal → b ≡ header → meta_of internal header ≡ m
     → AreOf (meta_of internal header) internal header → SpellsMeta a b m
 kept_spelled m a b internal header first second is are = rw (first, second, ← is) are.spelled
+
+-- what the first of them says is what the meta says beside its head
+pub kept_said : (m : Meta) (a internal header : List ℕ) → a ≡ internal → meta_of internal header ≡ m → AreOf (meta_of internal header) internal header → SpellsInternal a m.internal
+kept_said m a internal header first is are = rw (first, ← is) are.spelled.0
 
 -- a refusal to read what spells a meta comes only of a lack of memory
 pub wants_memory : {T : Type 0} (r : Result T ErrorType) (m : Meta) (internal header : List ℕ) → SpellsMeta internal header m

@@ -1,6 +1,6 @@
 -- What a contract sees of a `CacheMeta`: what it says beside its head, each field of which is one of the meta, and its
 -- head; and what may be asked of it (RFC 9111 section 4.2; the epoch override is own).
-use Rattle.std.specs.Prelude.{ℕ, ◌≢◌, ◌+◌, ◌-◌, ◌*◌, ◌/◌, ◌≤◌, ◌⊎◌, unwrap_or, min}
+use Rattle.std.specs.Prelude.{ℕ, Option, Some, ◌≢◌, ◌+◌, ◌-◌, ◌*◌, ◌/◌, ◌≤◌, ◌⊎◌, unwrap_or, min}
 use Rattle.pcache_meta.specs.Header.{Header}
 use Rattle.pcache_meta.specs.Internal.{Internal}
 use Rattle.pcache_base.specs.Moments.{IsMoment}
@@ -32,3 +32,15 @@ MayServeStale fresh_until window t = (window ≢ 0) × ((t ≤ fresh_until + win
 -- the meta expired at t: the earlier of two ends of freshness, with both windows as before
 abbrev pub expired_at : ℕ → Meta → Meta
 expired_at t = internal_changed (λ x. record x { fresh_until = min x.fresh_until t })
+
+-- the meta with this number, or none, for that of the write that stored the body
+abbrev pub with_entry_id : Option ℕ → Meta → Meta
+with_entry_id n = internal_changed (λ x. record x { entry_id = n })
+
+-- what a store keeps of the meta that a write of this number is given: it names the write, whatever it named before
+abbrev pub numbered : ℕ → Meta → Meta
+numbered n = with_entry_id (Some n)
+
+-- what a store keeps of a meta that is set in the place of an old one: the body is still that of the same write
+abbrev pub in_place_of : Meta → Meta → Meta
+in_place_of old m = with_entry_id old.entry_id m

@@ -6,7 +6,7 @@ use Rattle.std.specs.FinMap.{FinMap, get, insert, get-insert}
 use Rattle.std.specs.Ordering.{nat_cmp, eq_by_cmp}
 use Rattle.pcache_base.specs.declared.error.ErrorType.{ErrorType}
 use Rattle.pcache_base.specs.declared.error.ErrorType.TheVariants.{OutOfMemory, InternalError, InvalidHttpHeader, ResponseTooLarge, IncompleteHttpBody, WriteRemoved, NumbersExhausted, Io}
-use Rattle.pcache_meta.specs.Meta.{Meta}
+use Rattle.pcache_meta.specs.Meta.{Meta, numbered}
 use Rattle.pcache_put.specs.Progress.{Parsed, AtBody, HasFailed}
 use Rattle.pcache_put_ctx.specs.Puts.{Piece, Says}
 use Rattle.pcache_put_ctx.specs.State.{IsWhyOver, Overrun, InHead}
@@ -49,7 +49,7 @@ pub why_begun : (s t : Store) (k w : ℕ) (meta : Meta) (e : ErrorType) → t �
 why_begun s t k w meta OutOfMemory is at may = tt
 why_begun s t k w meta ResponseTooLarge is at may = tt
 why_begun s t k w meta InternalError is at may =
-    let told : is_told (get t.writes w) ≡ false = ap (λ (x : Store). is_told (get x.writes w)) is ∙ ap (λ (n : ℕ). is_told (get (begun s k meta).writes n)) at ∙ told_new s.writes s.next (new_write k meta) in
+    let told : is_told (get t.writes w) ≡ false = ap (λ (x : Store). is_told (get x.writes w)) is ∙ ap (λ (n : ℕ). is_told (get (begun s k meta).writes n)) at ∙ told_new s.writes s.next (new_write k (numbered s.next meta)) in
     absurd (cc (may, told))
 why_begun s t k w meta InvalidHttpHeader is at may = absurd may
 why_begun s t k w meta IncompleteHttpBody is at may = absurd may

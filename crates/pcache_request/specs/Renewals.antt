@@ -6,7 +6,7 @@ use Rattle.http_header.specs.HeaderMap.{append, get_all, update}
 use Rattle.pcache_base.specs.Key.{Key, slot}
 use Rattle.pcache_meta.specs.Header.{Fields, Header}
 use Rattle.pcache_meta.specs.Meta.{Meta, internal_changed, provenance_of}
-use Rattle.pcache_store.specs.Store.{Store, complete_body, meta_changed}
+use Rattle.pcache_store.specs.Store.{Store, complete_body, meta_set}
 use Rattle.pcache_request.specs.declared.phase.CachePhase.TheVariants as phase
 use Rattle.pcache_request.specs.Requests.{Request}
 
@@ -26,7 +26,7 @@ has_body s (Some k) = is_some (complete_body (get s.slots (slot k)))
 -- the store with this meta for the key's complete body
 abbrev pub with_meta_of : Meta → Option Key → Store → Store
 with_meta_of m None s = s
-with_meta_of m (Some k) s = meta_changed (λ _. m) s (slot k)
+with_meta_of m (Some k) s = meta_set m s (slot k)
 
 -- the fields that a new answer renews
 abbrev pub renewed_names : List (List ℕ)

@@ -2,7 +2,7 @@
 use Rattle.std.specs.Prelude.{ℕ, ◌+◌, ◌-◌, ◌==◌, ◌&&◌, ◌||◌, nat_le, nat_lt, not, Bool, true, false, Option, Some, None, is_none, is_some, cond, List, [], ◌++◌, drop, length, slice_range, min}
 use Rattle.std.specs.Ordering.{nat_cmp}
 use Rattle.std.specs.FinMap.{FinMap, empty, get, insert, remove, contains_key, len}
-use Rattle.pcache_meta.specs.Meta.{Meta}
+use Rattle.pcache_meta.specs.Meta.{Meta, in_place_of, numbered}
 use Rattle.pcache_base.specs.declared.poll.Poll.{Poll}
 use Rattle.pcache_base.specs.declared.poll.Poll.TheVariants.{Ready, Pending}
 use Rattle.pcache_table.specs.Numbers.{least}
@@ -120,8 +120,9 @@ opened xs k n = insert xs k (opened_in (slot_or_new (get xs k)) n)
 abbrev pub new_write : ℕ → Meta → Written
 new_write k m = record { slot = k; meta = m; bytes = []; told = false; flying = true; readers = 0 }
 
+-- its meta has its number, whatever number it is given
 abbrev pub begun : Store → ℕ → Meta → Store
-begun s k m = record { slots = opened s.slots k s.next; writes = insert s.writes s.next (new_write k m); next = s.next + 1 }
+begun s k m = record { slots = opened s.slots k s.next; writes = insert s.writes s.next (new_write k (numbered s.next m)); next = s.next + 1 }
 
 -- more bytes of a write
 abbrev pub wrote_on : FinMap nat_cmp Written → ℕ → List ℕ → Bool → Option Written → FinMap nat_cmp Written
@@ -216,6 +217,10 @@ meta_changed_on f xs k (Some x) = meta_changed_in f xs k x x.body
 
 abbrev pub meta_changed : (Meta → Meta) → Store → ℕ → Store
 meta_changed f s k = record s { slots = meta_changed_on f s.slots k (get s.slots k) }
+
+-- a meta set for a complete body, which stays that of its write
+abbrev pub meta_set : Meta → Store → ℕ → Store
+meta_set m = meta_changed (λ old. in_place_of old m)
 
 -- one read of a write: all that is unread; nothing yet if more may come; else the end
 abbrev pub read_part : ℕ → Option Written → Poll (Option (List ℕ))

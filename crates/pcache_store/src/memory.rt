@@ -33,7 +33,7 @@ use pcache_base::error::{Error, ErrorType, Result};
 use pcache_base::key::{CacheHashKey, CacheKey};
 use pcache_base::moment::Moment;
 use pcache_base::seed::Seed;
-use pcache_evict::eviction::CacheEntryKey;
+use pcache_evict::eviction::{CacheEntryId, CacheEntryKey};
 use pcache_meta::meta::CacheMeta;
 use pcache_meta::meta::spelled::SpelledMeta;
 use slots::Slots;
@@ -308,7 +308,8 @@ impl Storage for MemCache {
             return Err(Error::new(ErrorType::NumbersExhausted));
         };
         let slot = key.slot();
-        let draft = Draft::new(alloc, slot, SpelledMeta::new(alloc, meta)?);
+        let meta = SpelledMeta::with_entry_id(alloc, meta, Some(CacheEntryId::new(number)))?;
+        let draft = Draft::new(alloc, slot, meta);
         self.drafts.begin(draft)?;
         if let Err(refused) = self.slots.open(alloc, slot, number as u128) {
             self.drafts.take_back(slot);
@@ -346,11 +347,12 @@ impl Storage for MemCache {
     }
 
     fn update_meta(&mut self, alloc: Global, key: &CacheKey, meta: &CacheMeta) -> Result<bool> {
-        if !self.slots.has_body(key.slot()) {
+        let slot = key.slot();
+        let Some(body) = self.slots.body(slot) else {
             return Ok(false);
-        }
-        let meta = SpelledMeta::new(alloc, meta)?;
-        Ok(self.slots.set_meta(key.slot(), meta))
+        };
+        let meta = SpelledMeta::with_entry_id(alloc, meta, body.entry_id())?;
+        Ok(self.slots.set_meta(slot, meta))
     }
 
     fn support_streaming_partial_write(&self) -> bool {

@@ -13,7 +13,7 @@ ghost use Rattle.pcache_store.specs.declared.storage.MissFinishType.{MissFinishT
 ghost use Rattle.pcache_store.specs.declared.storage.PurgeOutcome.TheVariants.{Expired};
 ghost use Rattle.pcache_store.specs.Purge.{target_key, removed_entry, IsNumberOf, target_slot, purged_at, purge_answer, expired_at, expire_answer};
 ghost use Rattle.pcache_store.specs.Refusals.{MayRefuseWrite, MayRefuseFinish};
-ghost use Rattle.pcache_store.specs.Store.{Store, Reader, find, find_write, followed, left, begun, wrote, dropped, finished, is_untouched, complete_body, meta_changed, is_told, gives_piece, read_of, reader_after, sought, can_seek, counts_access, reader_weight};
+ghost use Rattle.pcache_store.specs.Store.{Store, Reader, find, find_write, followed, left, begun, wrote, dropped, finished, is_untouched, complete_body, meta_set, is_told, gives_piece, read_of, reader_after, sought, can_seek, counts_access, reader_weight};
 ghost use Rattle.pcache_store.specs.Tag.{named_by};
 
 use bytes::Bytes;
@@ -163,8 +163,8 @@ pub trait Storage: StoreMeaning + Sized {
         ensures kind { IfErr result (λ e. e ≡ OutOfMemory) }
         ensures err { OnErr result (Self.state self.new ≡ Self.state self.old) };
 
-    /// Begins a write of a key. It is refused when memory runs out, and exactly when all 64-bit
-    /// numbers of writes are used.
+    /// Begins a write of a key. Its meta is kept with the write's number, whatever number it has. It is refused
+    /// when memory runs out, and exactly when all 64-bit numbers of writes are used.
     fn get_miss_handler(
         &mut self,
         alloc: Global,
@@ -201,11 +201,11 @@ pub trait Storage: StoreMeaning + Sized {
         ensures kind { IfErr result (λ e. e ≡ OutOfMemory) }
         ensures err { OnErr result (Self.state self.new ≡ Self.state self.old) };
 
-    /// Sets the meta of a key's complete body, and answers whether there is one.
-    /// It is refused only when memory runs out, and only if there is one.
+    /// Sets the meta of a key's complete body, and answers whether there is one. The number of the write
+    /// that stored the body stays, whatever number the new meta has. It is refused only when memory runs out, and only if there is one.
     fn update_meta(&mut self, alloc: Global, key: &CacheKey, meta: &CacheMeta) -> Result<bool>
         ensures there { IfOk result (λ b. b ≡ is_some (complete_body (map.get (Self.state self.old).slots (slot key.now)))) }
-        ensures ok { OnOk result (Self.state self.new ≡ meta_changed (λ _. meta.now) (Self.state self.old) (slot key.now)) }
+        ensures ok { OnOk result (Self.state self.new ≡ meta_set meta.now (Self.state self.old) (slot key.now)) }
         ensures something { OnErr result (is_some (complete_body (map.get (Self.state self.old).slots (slot key.now))) ≡ true) }
         ensures kind { IfErr result (λ e. e ≡ OutOfMemory) }
         ensures err { OnErr result (Self.state self.new ≡ Self.state self.old) };

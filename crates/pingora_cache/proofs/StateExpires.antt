@@ -4,8 +4,8 @@ use Rattle.std.specs.Option.{option_map}
 use Rattle.std.specs.Ordering.{nat_cmp}
 use Rattle.std.specs.FinMap.{FinMap, get, contains_key}
 use Rattle.std.proofs.lemmas.Bool.{eqb-true}
-use Rattle.pcache_meta.specs.Meta.{Meta, expired_at}
-use Rattle.pcache_store.specs.Store.{Store, Slot, Stored, is_untouched_in, is_idle, complete_body, with_meta, meta_changed_in, meta_changed_on, meta_changed}
+use Rattle.pcache_meta.specs.Meta.{Meta, expired_at, in_place_of}
+use Rattle.pcache_store.specs.Store.{Store, Slot, Stored, is_untouched_in, is_idle, complete_body, with_meta, meta_changed_in, meta_changed_on, meta_changed, meta_set}
 use Rattle.pcache_history.specs.declared.entry.Event.{Event}
 use Rattle.pcache_history.specs.declared.entry.Event.TheVariants.{Expire, Renew}
 use Rattle.pcache_history.specs.Events.{complete, is_open}
@@ -87,12 +87,12 @@ state-expire es n s k t tidy st = record {
   known = st.known;
 }
 
-pub state-renew : (es : List Event) (n : ℕ → ℕ) (s : Store) (k : ℕ) (m : Meta) → IsTidy es → IsState es n s → IsState (Renew k m ∷ es) n (meta_changed (λ _. m) s k)
+pub state-renew : (es : List Event) (n : ℕ → ℕ) (s : Store) (k : ℕ) (m : Meta) → IsTidy es → IsState es n s → IsState (Renew k m ∷ es) n (meta_set m s k)
 state-renew es n s k m tidy st = record {
   next = st.next;
   writes = st.writes;
-  untouched = changed-untouched es n s k (λ _. m) st;
-  bodies = λ q. changed-bodies es n s k (λ _. m) st q ∙ sym (complete-renew es k m tidy q);
-  filled = still-filled es n s k (λ _. m) st;
+  untouched = changed-untouched es n s k (λ old. in_place_of old m) st;
+  bodies = λ q. changed-bodies es n s k (λ old. in_place_of old m) st q ∙ sym (complete-renew es k m tidy q);
+  filled = still-filled es n s k (λ old. in_place_of old m) st;
   known = st.known;
 }

@@ -4,7 +4,7 @@ use Rattle.std.specs.List.{list_any}
 use Rattle.std.specs.Ordering.{nat_cmp}
 use Rattle.std.specs.FinMap.{FinMap, get, insert, remove, contains_key, len, get-empty, empty_of_len}
 use Rattle.std.proofs.lemmas.Bool.{eqb-true, both_ways, and_parts, cases_lt, false_from_ne_true, and_right}
-use Rattle.pcache_meta.specs.Meta.{Meta}
+use Rattle.pcache_meta.specs.Meta.{Meta, numbered}
 use Rattle.pcache_store.specs.Store.{Store, Slot, Stored, is_untouched_in, is_idle, complete_body, with_slot, slot_or_new, opened_in, opened, new_write, begun, grounded, shut_on, shut, dropped_on, dropped, stored_on, finished_on, finished}
 use Rattle.pcache_history.specs.declared.entry.Event.{Event}
 use Rattle.pcache_history.specs.declared.entry.Event.TheVariants.{Begin, Finish, Dropped}
@@ -203,15 +203,15 @@ module _ (es : List Event) (n : ℕ → ℕ) (s : Store) (k : ℕ) (m : Meta) (t
   unread : n s.next ≡ 0
   unread = elim (cases_lt 0 (n s.next)) [ inl lt ↦ absurd (both_ways _ (ap is_some (tidy.unbegun s.next first-number)) (st.known s.next lt)) | inr le ↦ omega arith ]
 
-  begun-writes : (q : ℕ) → get (insert s.writes s.next (new_write k m)) q ≡ record_of q (n q) (Begin s.next k m ∷ es)
+  begun-writes : (q : ℕ) → get (insert s.writes s.next (new_write k (numbered s.next m))) q ≡ record_of q (n q) (Begin s.next k m ∷ es)
   begun-writes =
       let w = s.next in
       let t = same-number w in
       let live : has_ended w es ≡ false = tidy.not_ended w first-number in
       let none : ev.body_of w es ≡ [] = tidy.no_body w first-number in
       let still : is_told w es ≡ false = tidy.not_told w first-number in
-      changed-at s.writes _ es (Begin w k m ∷ es) n n w (Some (new_write k m)) (get-set s.writes w (new_write k m)) st.writes
-      (λ i. recorded (is_some (if sym t i then Some (k, m) else begin_of w es) && not (sym live i)) (sym unread i) (sym none i) (sym still i) (if sym t i then Some (k, m) else begin_of w es))
+      changed-at s.writes _ es (Begin w k m ∷ es) n n w (Some (new_write k (numbered s.next m))) (get-set s.writes w (new_write k (numbered s.next m))) st.writes
+      (λ i. recorded (is_some (if sym t i then Some (k, numbered s.next m) else begin_of w es) && not (sym live i)) (sym unread i) (sym none i) (sym still i) (if sym t i then Some (k, numbered s.next m) else begin_of w es))
       (λ q f. rw f refl)
 
   -- a number that was not given is of no key
@@ -221,9 +221,9 @@ module _ (es : List Event) (n : ℕ → ℕ) (s : Store) (k : ℕ) (m : Meta) (t
   begun-open : (j q : ℕ) → is_open j q (Begin s.next k m ∷ es) ≡ (if s.next == q then k == j else is_open j q es)
   begun-open j q =
       elim (s.next == q) as (λ b. (s.next == q) ≡ b
-      → (option_any (λ (c : ℕ × Meta). c.0 == j) (if b then Some (k, m) else begin_of q es)
-      && ((is_some (if b then Some (k, m) else begin_of q es) && not (has_ended q es))
-      && not (option_any (λ (c : ℕ × Meta). list_any (removes c.0) (if b then [] else Begin s.next k m ∷ since q es)) (if b then Some (k, m) else begin_of q es))))
+      → (option_any (λ (c : ℕ × Meta). c.0 == j) (if b then Some (k, numbered s.next m) else begin_of q es)
+      && ((is_some (if b then Some (k, numbered s.next m) else begin_of q es) && not (has_ended q es))
+      && not (option_any (λ (c : ℕ × Meta). list_any (removes c.0) (if b then [] else Begin s.next k m ∷ since q es)) (if b then Some (k, numbered s.next m) else begin_of q es))))
       ≡ (if b then k == j else is_open j q es)) [
         | true ↦ λ t.
             let same : s.next ≡ q = eqb-true s.next q t in
@@ -259,5 +259,5 @@ module _ (es : List Event) (n : ℕ → ℕ) (s : Store) (k : ℕ) (m : Meta) (t
         untouched = begun-untouched;
         bodies = λ j. bodies-at s.slots (opened s.slots k s.next) k (Some y) set (new-body (get s.slots k)) j ∙ st.bodies j ∙ sym (ap (λ x. complete j (Begin x k m ∷ es)) st.next ∙ complete-begin es k m tidy j);
         filled = filled-at s.slots (opened s.slots k s.next) k (Some y) set (λ z e. let same : y ≡ z = cc in ap is_idle (sym same) ∙ busy-key y s.next has) st.filled;
-        known = λ q lt. elim (s.next == q) as (λ b. is_some (if b then Some (k, m) else begin_of q es) ≡ true) [ true ↦ refl | false ↦ st.known q lt ];
+        known = λ q lt. elim (s.next == q) as (λ b. is_some (if b then Some (k, numbered s.next m) else begin_of q es) ≡ true) [ true ↦ refl | false ↦ st.known q lt ];
       }

@@ -221,6 +221,8 @@ fn tell_of_store(parts: &mut Parts, call: &'static str, told: &mut Told) {
         "purge-exact" => tell_removed(purge_exact(parts, name, number), told),
         "expire" => tell_removed(expire(parts, name, number.unwrap_or(0)), told),
         "update" => tell_updated(update(parts, name, number.unwrap_or(0)), told),
+        "update-as" => tell_updated(update_as(parts, name, word(call, 2)), told),
+        "number" => tell_number(number_found(parts, name), told),
         "writes" => told.shown(&parts.store.write_records()),
         "total" => totals(&parts.store, told),
         _ => told.say("no such call"),
@@ -409,6 +411,46 @@ fn update(parts: &mut Parts, name: &str, fresh_until: u64) -> Result<bool> {
     store.update_meta(alloc, &named.key, &meta_until(alloc, fresh_until))
 }
 
+// Sets the meta that is found of another key.
+fn update_as(parts: &mut Parts, name: &str, other: &str) -> Result<bool> {
+    match meta_found(parts, other)? {
+        Some(meta) => {
+            let alloc = parts.alloc;
+            let (store, named) = parts.with(name);
+            store.update_meta(alloc, &named.key, &meta)
+        }
+        None => Ok(false),
+    }
+}
+
+fn meta_found(parts: &mut Parts, name: &str) -> Result<Option<CacheMeta>> {
+    let alloc = parts.alloc;
+    let (store, named) = parts.with(name);
+    match store.lookup(alloc, &named.key)? {
+        Some((meta, reader)) => {
+            reader.let_go(store);
+            Ok(Some(meta))
+        }
+        None => Ok(None),
+    }
+}
+
+// The number in the meta that is found.
+fn number_found(parts: &mut Parts, name: &str) -> Result<Option<CacheEntryId>> {
+    match meta_found(parts, name)? {
+        Some(meta) => Ok(meta.entry_id()),
+        None => Ok(None),
+    }
+}
+
+fn tell_number(found: Result<Option<CacheEntryId>>, told: &mut Told) {
+    match found {
+        Ok(Some(id)) => told.shown(&id.get()),
+        Ok(None) => told.say("none"),
+        Err(refused) => told.refused(&refused),
+    }
+}
+
 fn totals(store: &MemCache, told: &mut Told) {
     told.shown(&store.stored_bytes());
     told.say(" bytes in ");
@@ -453,6 +495,33 @@ const A_BODY_THAT_WAS_WRITTEN_IS_READ: &str = "
 #[test]
 fn a_body_that_was_written_is_read(rt: HostRuntime) {
     run(&rt, rt.alloc(), A_BODY_THAT_WAS_WRITTEN_IS_READ);
+}
+
+const A_FOUND_META_HAS_THE_NUMBER_OF_ITS_WRITE: &str = "
+    number a -> none
+    1 begins a
+    number a -> 0
+    1 finishes -> Created(0)
+    number a -> 0
+    1 begins a
+    2 begins b
+    number a -> 1
+    number b -> 2
+    1 finishes -> Created(0)
+    2 finishes -> Created(0)
+    number a -> 1
+    update a 90 -> updated
+    number a -> 1
+    update-as a b -> updated
+    number a -> 1
+    number b -> 2
+    expire a 5 -> Expired
+    number a -> 1
+    close";
+
+#[test]
+fn a_found_meta_has_the_number_of_its_write(rt: HostRuntime) {
+    run(&rt, rt.alloc(), A_FOUND_META_HAS_THE_NUMBER_OF_ITS_WRITE);
 }
 
 const RANGES_OF_A_BODY_ARE_READ: &str = "

@@ -138,9 +138,9 @@ pub mod world {
     pub use pingora_cache::world::call::{Act, Call, LockKind, Reply, RequestAct};
     pub use pingora_cache::world::entry::{Answer, Entries, Entry, Event, Events};
     pub use pingora_cache::world::laws::{
-        finds_exactly, finishes_exactly, hands_on_exactly, hits_read_the_last, is_wrong_exactly,
-        looks_are_true, puts_are_written, reads_a_beginning, reads_are_true, settles_at_once,
-        stored_is_within_limits,
+        finds_exactly, finishes_exactly, found_is_numbered, hands_on_exactly, hits_read_the_last,
+        is_wrong_exactly, looks_are_true, puts_are_written, reads_a_beginning, reads_are_true,
+        settles_at_once, stored_is_within_limits,
     };
     pub use pingora_cache::world::policy::{BySelf, PutPolicy};
     pub use pingora_cache::world::{Totals, World};

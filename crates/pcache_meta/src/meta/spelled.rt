@@ -1,11 +1,16 @@
 //! Metas kept as bytes.
 ghost use Rattle.std.specs.Prelude.{◌≡◌, IfOk, IfErr};
 ghost use Rattle.pcache_meta.specs.HeaderText.{header_written};
+ghost use Rattle.pcache_meta.specs.Meta.{with_entry_id};
 ghost use Rattle.pcache_meta.specs.MetaBytes.{SpellsMeta};
 ghost use Rattle.pcache_meta.specs.MetaWriting.{internal_written};
 ghost use Rattle.pcache_base.specs.declared.error.ErrorType.TheVariants.{OutOfMemory};
 
+use crate::header_text::writer::header_serialize;
 use crate::meta::CacheMeta;
+use crate::meta::codec::deserialize_internal;
+use crate::meta::internal_meta::InternalMetaLatest;
+use pcache_base::entry_id::CacheEntryId;
 use pcache_base::error::Result;
 use std::alloc::Global;
 use std::marker::Model;
@@ -36,8 +41,36 @@ impl SpelledMeta {
         ensures ok { IfOk result (λ kept. kept ≡ meta.now) }
         ensures kind { IfErr result (λ e. e ≡ OutOfMemory) }
     {
-        let (internal, header) = meta.serialize(alloc)?;
+        SpelledMeta::with_entry_id(alloc, meta, meta.entry_id())
+    }
+
+    /// Keeps what is written of a meta as that of the write with this number, whatever number the meta has. It is refused
+    /// only when memory runs out.
+    pub fn with_entry_id(
+        alloc: Global,
+        meta: &CacheMeta,
+        entry_id: Option<CacheEntryId>,
+    ) -> Result<SpelledMeta>
+        ensures ok { IfOk result (λ kept. kept ≡ with_entry_id entry_id meta.now) }
+        ensures kind { IfErr result (λ e. e ≡ OutOfMemory) }
+    {
+        let said = InternalMetaLatest {
+            entry_id,
+            ..meta.internal
+        };
+        let internal = said.serialize(alloc)?;
+        let header = header_serialize(alloc, &meta.header)?;
         Ok(SpelledMeta { internal, header })
+    }
+
+    /// The number of the write that stored the body, if the meta names one.
+    pub fn entry_id(&self) -> Option<CacheEntryId>
+        ensures { result ≡ self.now.entry_id }
+    {
+        match deserialize_internal(self.internal.as_slice()) {
+            Ok(said) => said.entry_id,
+            Err(_) => unreachable!(),
+        }
     }
 
     /// The two byte strings: what the meta says beside its header, and the text of its header.

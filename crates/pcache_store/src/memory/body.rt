@@ -7,6 +7,7 @@ ghost use Rattle.pcache_table.specs.Numbers.{least};
 ghost use Rattle.pcache_store.specs.Store.{opened_in, is_idle, with_meta};
 
 use bytes::Bytes;
+use pcache_base::entry_id::CacheEntryId;
 use pcache_base::error::Result;
 use pcache_base::moment::Moment;
 use pcache_meta::meta::CacheMeta;
@@ -55,6 +56,13 @@ impl Body {
         let meta = self.meta.meta(alloc)?;
         let bytes = self.bytes.clone()?;
         Ok((meta, bytes))
+    }
+
+    // The number of the write that stored the body.
+    pub(crate) fn entry_id(&self) -> Option<CacheEntryId>
+        ensures { result ≡ self.now.meta.entry_id }
+    {
+        self.meta.entry_id()
     }
 
     pub(crate) fn set_meta(&mut self, meta: SpelledMeta)

@@ -91,14 +91,11 @@ impl Slots {
         }
     }
 
-    // Whether there is a complete body.
-    pub(crate) fn has_body(&self, key: u128) -> bool
-        ensures { result ≡ is_some (complete_body (map.get self.now key)) }
+    // The complete body, if there is one.
+    pub(crate) fn body(&self, key: u128) -> Option<&Body>
+        ensures { option_copied result ≡ complete_body (map.get self.now key) }
     {
-        match self.slots.get(key) {
-            Some(slot) => slot.body().is_some(),
-            None => false,
-        }
+        self.slots.get(key)?.body()
     }
 
     // A write of the key begins.
