@@ -120,17 +120,33 @@ impl Hasher for SeededHasher {
     }
 }
 
-// The state after the bytes of one write.
+// The state after the bytes of one write. Most writes are one piece, a number or a short text, which goes past the loop.
 #[inline(always)]
-#[tactic(auto, unfolding(crate::specs::Seeds::written, crate::specs::Seeds::after_pieces))]
 fn written(keys: &[u64; 6], before: u64, bytes: &[u8]) -> u64
     ensures { result ≡ written keys.now before bytes.now }
+{
+    let len = bytes.len();
+    if len > PIECE_LEN {
+        return written_in_pieces(*keys, before, bytes);
+    }
+    if len == 0 {
+        return before;
+    }
+    after_piece(keys, before, &bytes[0..len])
+}
+
+// The state after the bytes of one write of any length. It stands apart, so that what is inlined stays small, and takes the
+// keys by value: with a reference to them a hasher would have to stand in memory, and not in registers.
+#[inline(never)]
+#[tactic(auto, unfolding(crate::specs::Seeds::written, crate::specs::Seeds::after_pieces))]
+fn written_in_pieces(keys: [u64; 6], before: u64, bytes: &[u8]) -> u64
+    ensures { result ≡ written keys before bytes.now }
 {
     let mut state = before;
     for place in 0..bytes.len().div_ceil(PIECE_LEN) {
         let start = PIECE_LEN * place;
         let end = bytes.len().min(start + PIECE_LEN);
-        state = after_piece(keys, state, &bytes[start..end]);
+        state = after_piece(&keys, state, &bytes[start..end]);
     }
     state
 }
