@@ -110,8 +110,9 @@ def take_along(name, lane, libraries):
     """Makes the lane a copy of the sources, with what was kept of the crate and the libraries that it uses."""
     shutil.rmtree(lane, ignore_errors=True)
     os.makedirs(lane)
-    for file in ("crates.txt", "HANDLES"):
-        shutil.copy(f"{TOP}/{file}", lane)
+    shutil.copy(f"{TOP}/HANDLES", lane)
+    with open(f"{TOP}/crates.txt", encoding="utf-8") as it, open(f"{lane}/crates.txt", "w", encoding="utf-8") as to:
+        to.writelines(line for line in it if line.partition(":")[0].split()[:1] in [[here] for here in (name, *libraries)])
     for it in [name, *libraries]:
         shutil.copytree(f"{TOP}/crates/{it}", f"{lane}/crates/{it}", ignore=shutil.ignore_patterns("out"))
     for it in libraries:

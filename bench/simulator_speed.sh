@@ -1,7 +1,9 @@
 #!/bin/sh
 # Requests a second and bytes of memory an entry of the built `cache_sim`, for each policy, with all keys tracked, and
 # of a plain LRU in C++ beside it. KEYS are 16 bytes long; each is asked for once, and then all again in another order.
-#     bench/simulator_speed.sh PROGRAM KEYS..
+# The programs have their turns, ROUNDS of them (3 if it is not set), and the least processor time of each counts. Bytes
+# are the most that a process had, without what it has before it reads.
+#     ROUNDS=3 bench/simulator_speed.sh PROGRAM KEYS..
 set -eu
 program=$1
 shift
@@ -9,27 +11,49 @@ folder=$(mktemp -d)
 trap 'rm -rf "$folder"' EXIT
 cp "$(dirname "$0")/plain_lru.cpp.txt" "$folder/plain_lru.cpp"
 g++ -O2 -o "$folder/plain_lru" "$folder/plain_lru.cpp"
-for keys in "$@"; do
-    python3 - "$keys" >"$folder/trace" <<'END'
+cat >"$folder/measure.py" <<'END_OF_MEASURE'
+import os
+import subprocess
 import sys
-keys = int(sys.argv[1])
-for key in range(keys):
-    print("k%015d 1" % key)
-for place in range(keys):
-    print("k%015d 1" % (place * 7919 % keys))
-END
-    for command in "$folder/plain_lru $keys" "$program --policy lru --size $keys" "$program --policy sharded:16 --size $keys" "$program --policy sieve --size $keys" "$program --policy s3-fifo --size $keys"; do
-        /usr/bin/env python3 - "$folder/trace" "$keys" $command <<'END'
-import resource, subprocess, sys, time
-trace, keys, *command = sys.argv[1:]
-start = time.monotonic()
-subprocess.run(command, stdin=open(trace), stdout=subprocess.DEVNULL, stderr=subprocess.DEVNULL, check=True)
-passed = time.monotonic() - start
-usage = resource.getrusage(resource.RUSAGE_CHILDREN)
-print("%s keys, %s: %.0f requests a second (%.0f by processor time), %.0f bytes an entry" % (
-    keys, command[0].split("/")[-1] + " " + " ".join(command[1:]), 2 * int(keys) / passed,
-    2 * int(keys) / (usage.ru_utime + usage.ru_stime), usage.ru_maxrss * 1024 / int(keys)))
-END
-    done
-done
+import time
+
+folder, program, rounds, *sizes = sys.argv[1:]
+
+
+def write_trace(keys):
+    with open(f"{folder}/trace", "w", encoding="ascii") as it:
+        it.writelines(f"k{key:015d} 1\n" for key in range(keys))
+        it.writelines(f"k{place * 7919 % keys:015d} 1\n" for place in range(keys))
+
+
+def before_it_reads(command):
+    """The kilobytes that a process has while it waits for its first line."""
+    with subprocess.Popen(command, stdin=subprocess.PIPE, stdout=subprocess.DEVNULL, stderr=subprocess.DEVNULL) as ran:
+        time.sleep(0.5)
+        with open(f"/proc/{ran.pid}/status", encoding="ascii") as it:
+            return next(int(line.split()[1]) for line in it if line.startswith("VmHWM"))
+
+
+def run(command):
+    """The processor seconds and the kilobytes of a process that reads the trace."""
+    with open(f"{folder}/trace", "rb") as trace:
+        ran = subprocess.Popen(command, stdin=trace, stdout=subprocess.DEVNULL, stderr=subprocess.DEVNULL)
+        _, status, usage = os.wait4(ran.pid, 0)
+    assert status == 0, command
+    return usage.ru_utime + usage.ru_stime, usage.ru_maxrss
+
+
+for keys in map(int, sizes):
+    write_trace(keys)
+    commands = [[f"{folder}/plain_lru", str(keys)]]
+    commands += [[program, "--policy", policy, "--size", str(keys)] for policy in ("lru", "sharded:16", "sieve", "s3-fifo")]
+    seen = [[run(command) for command in commands] for _ in range(int(rounds))]
+    plain = min(turn[0][0] for turn in seen)
+    for place, command in enumerate(commands):
+        seconds = min(turn[place][0] for turn in seen)
+        kilobytes = min(turn[place][1] for turn in seen) - before_it_reads(command)
+        name = command[2] if place else "the LRU in C++"
+        print(f"{keys} keys, {name}: {2 * keys / seconds:.0f} requests a second, {seconds / plain:.2f} times the time in C++, {kilobytes * 1024 / keys:.0f} bytes an entry", flush=True)
+END_OF_MEASURE
+python3 "$folder/measure.py" "$folder" "$program" "${ROUNDS:-3}" "$@"
 echo "cores=$(nproc) load=$(cut -d' ' -f1 /proc/loadavg)"

@@ -72,9 +72,10 @@ class Key:
         both = own if self.variance is None else digest(own + self.variance)
         return f"{int.from_bytes(both, 'big'):x}"
 
-    @property
-    def entry(self):
-        return f"{self.slot}/{word_of(self.tag)}"
+    def entry(self, number):
+        """The entry of a write under this key as it is told, or of the key alone if there is no number."""
+        end = "" if number is None else f"/{number}"
+        return f"{self.slot}/{word_of(self.tag)}{end}"
 
 
 class Meta:
@@ -189,7 +190,7 @@ class World:
         if write is None:
             return "nothing", None
         meta = self.metas[slot]
-        return f"complete {meta.told()} {word_of(write.body)}", (meta, ["whole", write.body, 0, len(write.body), False])
+        return f"complete {meta.told()} {word_of(write.body)}", (meta, ["whole", write.body, 0, len(write.body), False, self.standing[slot]])
 
     def reads(self, reader):
         if reader[0] == "whole":
@@ -234,7 +235,7 @@ class World:
         self.evicted[1] += sum(tracked[one] for one in out)
         self.tracked = rest
         for one in out:
-            self.remove(one.split("/")[0])
+            self.writes[int(one.rsplit("/", 1)[1])].removed = True  # each entry that a script's world tracks has a number
 
     def follows_lists(self, tracked, out):
         """Each evicted entry is the one used least recently, of all or of its shard's."""
@@ -439,8 +440,9 @@ class World:
             return
         accesses = []
         if one.manager and reader[0] == "whole" and not missed:
-            accesses = [f"access {one.key.entry} {len(reader[1])}"]
-            self.access(one.key.entry, len(reader[1]))
+            entry = one.key.entry(reader[5])
+            accesses = [f"access {entry} {len(reader[1])}"]
+            self.access(entry, len(reader[1]))
         require(events[: len(accesses)] == accesses, f"{accesses} is wanted")
         one.pair = None
         if reply == E1:
@@ -527,8 +529,9 @@ class World:
             self.remove(key.slot)
             return
         size, out = len(write.body), words[3:]
-        require(words[:3] == ["admit", key.entry, str(size)], f"{key.entry} of {size} is admitted")
-        self.admit(key.entry, size, out)
+        entry = key.entry(number)
+        require(words[:3] == ["admit", entry, str(size)], f"{entry} of {size} is admitted")
+        self.admit(entry, size, out)
         require(reply == f"stored {size} evicted {len(out)}", "what is stored")
 
     def do_read(self, words, reply, events, number, one):
@@ -551,7 +554,7 @@ class World:
             return
         self.is_idle(reply, events, "ok")
         length = len(reader[1])
-        one.reader = ["whole", reader[1], start, length if end is None else min(end, length), False]
+        one.reader = ["whole", reader[1], start, length if end is None else min(end, length), False, reader[5]]
 
     def do_done(self, words, reply, events, number, one):
         self.is_idle(reply, events, "ok")
@@ -561,12 +564,14 @@ class World:
         if reply == E1 and not events:
             return
         slot = one.key.slot
-        there = self.complete(slot) is not None or self.serving(slot) is not None
-        wanted = [f"purge {slot}"] + ([f"untrack {one.key.entry}"] if there and one.manager else [])
+        stands = self.complete(slot) is not None
+        there = stands or self.serving(slot) is not None
+        entry = one.key.entry(self.standing[slot] if stands else None)
+        wanted = [f"purge {slot}"] + ([f"untrack {entry}"] if there and one.manager else [])
         require(events == wanted and reply == ("purged" if there else "absent"), f"{wanted} is wanted")
         self.remove(slot)
         if there and one.manager:
-            self.tracked.pop(one.key.entry, None)
+            self.tracked.pop(entry, None)
 
     def do_expire(self, words, reply, events, number, one):
         slot = one.key.slot

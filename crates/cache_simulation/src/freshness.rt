@@ -6,9 +6,12 @@ ghost use Rattle.pcache_base.specs.declared.error.ErrorType.TheVariants.{OutOfMe
 ghost use Rattle.pcache_evict.specs.Tracked.{without};
 ghost use Rattle.cache_simulation.specs.Fresh.{is_fresh_at, is_fresh_since, none_fresh};
 
+use http::StatusCode;
 use pcache_base::error::Result;
 use pcache_base::moment::Moment;
 use pcache_evict::eviction::CacheEntryKey;
+use pcache_meta::header::ResponseHeader;
+use pcache_meta::meta::CacheMeta;
 use std::alloc::Global;
 use std::collections::HashMap;
 use std::marker::Model;
@@ -17,6 +20,7 @@ use std::time::Duration;
 /// How long bodies are fresh, and when each stored one came in.
 #[derive(Drop)]
 pub struct Freshness {
+    alloc: Global,
     time: Duration,
     came: HashMap<CacheEntryKey, Moment>,
 }
@@ -40,17 +44,18 @@ impl Freshness {
         ensures { result ≡ none_fresh (as_nanos time) }
     {
         Freshness {
+            alloc,
             time,
             came: HashMap::new(alloc),
         }
     }
 
-    /// Whether a stored body is fresh at a moment: its time ends then or later.
+    /// Whether a stored body is fresh at a moment, as its meta says: its time ends then or later.
     pub fn is_fresh(&self, item: &CacheEntryKey, now: Moment) -> bool
         ensures { result ≡ is_fresh_since (map.get self.now.came item.now) self.now.time now }
     {
         match self.came.get(item) {
-            Some(came) => is_within(*came, self.time, now),
+            Some(came) => is_meta_fresh(self.alloc, *came, self.time, now),
             None => false,
         }
     }
@@ -81,9 +86,15 @@ impl Freshness {
     }
 }
 
-// Whether the time of a body that came in then ends now or later.
-fn is_within(came: Moment, time: Duration, now: Moment) -> bool
+// Whether the meta that a body was given when it came in is fresh now. It says until when the body is fresh alone, so it is
+// made when it is asked; a time that ends at no moment does not end.
+fn is_meta_fresh(alloc: Global, came: Moment, time: Duration, now: Moment) -> bool
     ensures { result ≡ is_fresh_at (came + as_nanos time) now }
 {
-    now.as_nanos() <= came.as_nanos() + time.as_nanos()
+    let Some(ends) = came.checked_add(time) else {
+        now.secs(); // for the prover: its contract says that it is a moment
+        return true;
+    };
+    let header = ResponseHeader::build(alloc, StatusCode::OK);
+    CacheMeta::new(ends, came, 0, 0, header).is_fresh(now)
 }

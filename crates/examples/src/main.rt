@@ -1,5 +1,5 @@
 #![tactic(auto)]
-//! `examples LIMIT < TRACE`: three ways to use the cache. A proxy and a purge service show what they
+//! `examples LIMIT < TRACE`: four ways to use the cache. A proxy and a purge service show what they
 //! answer; a simulator reads a trace, and tells what a cache of LIMIT bytes would have served of it.
 
 mod origin;
@@ -7,6 +7,7 @@ mod parts;
 mod proxy;
 mod purge;
 mod simulate;
+mod threads;
 
 use anyhow::{Context, Result, anyhow};
 use parts::Parts;
@@ -18,11 +19,14 @@ use std::alloc::Global;
 use std::env;
 use std::io::{BufRead, BufReader};
 use std::random::RandomSource;
+use std::sync::Wait;
+use std::thread::Threads;
 
 fn main(rt: HostRuntime) -> Result<()> {
     let limit = limit_of(&rt)?;
     let seed = drawn(&rt)?;
     run_services(&rt, rt.alloc(), seed)?;
+    run_threads(&rt, rt.alloc(), seed)?;
     run_simulator(&rt, rt.alloc(), seed, limit)
 }
 
@@ -64,6 +68,17 @@ fn show_purges(rt: &impl Print, parts: &mut Parts) -> Result<()> {
     }
     let served = proxy::serve(parts, "/news", Moment::from_secs(62))?;
     println!(rt; "62 s /news: {served:?}")?;
+    Ok(())
+}
+
+// The proxy over four threads. What it prints is the same whichever thread comes first.
+fn run_threads<R: Print + Threads + Wait + Sync>(rt: &R, alloc: Global, seed: Seed) -> Result<()> {
+    let threads::Report {
+        served,
+        fetches,
+        stored,
+    } = threads::run(rt, alloc, seed)?;
+    println!(rt; "four threads: {served} served with {fetches} fetches, {stored} bytes stored")?;
     Ok(())
 }
 

@@ -1,18 +1,19 @@
 -- What always holds of a cache still holds after the end of a write.
-use Rattle.std.proofs.Common.{◌≡◌, ◌≢◌, ℕ, ◌==◌, ◌⊎◌, inl, inr, Bool, true, false, cond, Option, None, Some, IsSome, Result, Ok, Err, List, [], ◌∷◌, length, refl, ap, sym, subst, ◌∙◌, arith}
-use Rattle.std.specs.Option.{option_and_then}
+use Rattle.pcache_store.specs.Readers.{in_memory}
+use Rattle.std.proofs.Common.{◌≡◌, ◌≢◌, ℕ, inl, inr, Bool, true, false, cond, Option, None, Some, Result, Ok, Err, List, [], ◌∷◌, length, refl, ap, sym, subst, ◌∙◌, arith, is_none, nat_eq, option_map}
+use Rattle.std.specs.Option.{option_and_then, option_eq}
 use Rattle.std.specs.Ordering.{nat_cmp, eq_by_cmp, is_eq}
 use Rattle.std.specs.Cmp.{tied_itself}
 use Rattle.std.specs.FinMap.{FinMap, get, insert, remove, get-insert, get-remove}
-use Rattle.std.proofs.lemmas.Bool.{both_ways, eq-eqb, eqb-true}
+use Rattle.std.proofs.lemmas.Bool.{both_ways, eq-eqb, eqb-true, and_parts}
 use Rattle.pcache_base.specs.Key.{Key, slot}
 use Rattle.pcache_base.specs.declared.error.ErrorType.{ErrorType}
 use Rattle.pcache_evict.specs.declared.eviction.entry_key.CacheEntryKey.{CacheEntryKey}
-use Rattle.pcache_evict.specs.Entry.{entry_cmp, entries_total}
-use Rattle.pcache_evict.specs.Tracked.{Tracked, Limits, IsFair, without}
+use Rattle.pcache_evict.specs.Entry.{entry_cmp, entries_total, id_of}
+use Rattle.pcache_evict.specs.Tracked.{Tracked, Limits, without}
 use Rattle.pcache_lock.specs.Locks.{Locks}
 use Rattle.pcache_lock.specs.declared.lock.status.LockStatus.{LockStatus}
-use Rattle.pcache_request.specs.Finishing.{Admits, Drops, PurgesAll, Stores, Withdraws, entry_slot, with_entry}
+use Rattle.pcache_request.specs.Finishing.{Drops, PurgesAll, Stores, Withdraws, entry_slot}
 use Rattle.pcache_request.specs.Requests.{Request, entry_of, settled}
 use Rattle.pcache_request.specs.WriteEnds.{Ends, EndsAs, EndsBody, EndsIdle, finishes_of}
 use Rattle.pcache_request.specs.declared.cache.finish.FinishReport.{FinishReport}
@@ -20,8 +21,8 @@ use Rattle.pcache_request.specs.declared.cache.finish.WriteEnd.{WriteEnd}
 use Rattle.pcache_request.specs.declared.cache.finish.WriteEnd.TheVariants as end
 use Rattle.pcache_store.specs.Finishes.{created}
 use Rattle.pcache_store.specs.declared.storage.MissFinishType.{MissFinishType}
-use Rattle.pcache_store.specs.Purge.{purged_at}
-use Rattle.pcache_store.specs.Store.{Store, Slot, Stored, Written, complete_body, dropped, finished, finished_on, is_untouched, is_untouched_in, is_untouched_on, is_write_under, purged, stored_on, written_size}
+use Rattle.pcache_store.specs.Purge.{entry_purged, entry_purged_in}
+use Rattle.pcache_store.specs.Store.{Store, Slot, Stored, Written, complete_body, dropped, finished, finished_on, is_untouched, is_untouched_in, is_untouched_on, is_write_under, purged, stored_on, written_size, is_idle, with_slot, slot_without, write_gone_on, body_without, has_body_of, write_purged}
 use Rattle.pcache_cache.specs.Parts.{IsKept, MayEnd, TracksExactly, is_own_write}
 use Rattle.pcache_cache.proofs.Kept.{kept_fewer}
 use Rattle.pcache_cache.proofs.Standing.{Fewer, Stands, body-insert, body-remove, cmp_same, fewer-dropped, same-key}
@@ -31,41 +32,89 @@ use Rattle.pcache_cache.proofs.Sums.{bounded-within, entries-apart, entry-same}
 
 abbrev purged_each : Store → List CacheEntryKey → Store
 purged_each s [] = s
-purged_each s (e ∷ es) = purged_each (purged_at s (entry_slot e)) es
+purged_each s (e ∷ es) = purged_each (entry_purged true s e) es
 
-abbrev NoneNames : ℕ → List CacheEntryKey → Type 0
-NoneNames q [] = Unit {0}
-NoneNames q (e ∷ es) = (entry_slot e ≡ Some q → ⊥) × NoneNames q es
+-- none of these is the entry of a body under a key
+abbrev NoneNames : ℕ → Stored → List CacheEntryKey → Type 0
+NoneNames q b [] = Unit {0}
+NoneNames q b (e ∷ es) = (entry_slot e ≡ q → id_of e ≡ b.meta.entry_id → ⊥) × NoneNames q b es
 
-purges-each : (s t : Store) (es : List CacheEntryKey) (n : ℕ) → n ≡ 0 → PurgesAll s es n t → t ≡ purged_each s es
+purges-each : (s t : Store) (es : List CacheEntryKey) (n : ℕ) → n ≡ 0 → PurgesAll true s es n t → t ≡ purged_each s es
 purges-each s t [] n none p = p.1
-purges-each s t (e ∷ es) n none (inl p) = purges-each (purged_at s (entry_slot e)) t es n none p
+purges-each s t (e ∷ es) n none (inl p) = purges-each (entry_purged true s e) t es n none p
 purges-each s t (e ∷ es) n none (inr p) = let more = p.1 in absurd (omega arith)
 
--- what is complete then was so before, and no entry that went names its key
-stands-one : (s : Store) (o : Option ℕ) (q : ℕ) (b : Stored) → complete_body (get (purged_at s o).slots q) ≡ Some b → (complete_body (get s.slots q) ≡ Some b) × (o ≡ Some q → ⊥)
-stands-one s None q b is = (is, λ e. absurd (cc))
-stands-one s (Some k) q b is =
-    elim (eq_by_cmp nat_cmp q k) as (λ t. eq_by_cmp nat_cmp q k ≡ t → cond t None (complete_body (get s.slots q)) ≡ Some b → (complete_body (get s.slots q) ≡ Some b) × (◌≡◌ {A = Option ℕ} (Some k) (Some q) → ⊥)) [
+-- what is complete once a key was purged
+stands-purged : (s : Store) (k q : ℕ) (b : Stored) → complete_body (get (purged s k).slots q) ≡ Some b → (complete_body (get s.slots q) ≡ Some b) × (k ≡ q → ⊥)
+stands-purged s k q b is =
+    elim (eq_by_cmp nat_cmp q k) as (λ t. eq_by_cmp nat_cmp q k ≡ t → cond t None (complete_body (get s.slots q)) ≡ Some b → (complete_body (get s.slots q) ≡ Some b) × (k ≡ q → ⊥)) [
       | true ↦ λ t none. absurd (cc)
-      | false ↦ λ t there. (there, λ e. let same : k ≡ q = cc in both_ways _ t (cmp_same q k ∙ eq-eqb k q same))
+      | false ↦ λ t there. (there, λ same. both_ways _ t (cmp_same q k ∙ eq-eqb k q same))
     ] refl (sym (body-remove s.slots k q) ∙ is)
 
-stands-each : (s : Store) (es : List CacheEntryKey) (q : ℕ) (b : Stored) → complete_body (get (purged_each s es).slots q) ≡ Some b → (complete_body (get s.slots q) ≡ Some b) × NoneNames q es
+-- and once one of its writes was
+idle-body : (x : Slot) → is_idle x ≡ true → x.body ≡ None
+idle-body x idle = inner x.body (and_parts _ _ idle).0
+  where
+    inner : (o : Option Stored) → is_none o ≡ true → o ≡ None
+    inner None e = refl
+    inner (Some b) e = absurd (cc)
+
+body-slot : (xs : FinMap nat_cmp Slot) (k q : ℕ) (x : Slot) → complete_body (get (with_slot xs k x) q) ≡ cond (eq_by_cmp nat_cmp q k) x.body (complete_body (get xs q))
+body-slot xs k q x =
+    elim (is_idle x) as (λ t. is_idle x ≡ t → complete_body (get (cond t (remove xs k) (insert xs k x)) q) ≡ cond (eq_by_cmp nat_cmp q k) x.body (complete_body (get xs q))) [
+      | true ↦ λ idle. body-remove xs k q ∙ ap (λ o. cond (eq_by_cmp nat_cmp q k) o (complete_body (get xs q))) (sym (idle-body x idle))
+      | false ↦ λ busy. body-insert xs k q x
+    ] refl
+
+body-lost : (xs : FinMap nat_cmp Slot) (k n q : ℕ) → complete_body (get (write_gone_on xs k n (get xs k)) q) ≡ cond (eq_by_cmp nat_cmp q k) (body_without n (complete_body (get xs k))) (complete_body (get xs q))
+body-lost xs k n q =
+    elim (get xs k) as (λ o. get xs k ≡ o → complete_body (get (write_gone_on xs k n o) q) ≡ cond (eq_by_cmp nat_cmp q k) (body_without n (complete_body o)) (complete_body (get xs q))) [
+      | None ↦ λ is. elim (eq_by_cmp nat_cmp q k) as (λ t. eq_by_cmp nat_cmp q k ≡ t → complete_body (get xs q) ≡ cond t None (complete_body (get xs q))) [
+        | true ↦ λ t. ap (λ y. complete_body (get xs y)) (same-key q k t) ∙ ap complete_body is
+        | false ↦ λ t. refl
+      ] refl
+      | Some x ↦ λ is. body-slot xs k q (slot_without n x)
+    ] refl
+
+-- a body that stays is of another write
+stays-other : (n : ℕ) (o : Option Stored) (b : Stored) → body_without n o ≡ Some b → (o ≡ Some b) × (b.meta.entry_id ≡ Some n → ⊥)
+stays-other n o b is =
+    elim (has_body_of n o) as (λ t. has_body_of n o ≡ t → cond t None o ≡ Some b → (o ≡ Some b) × (b.meta.entry_id ≡ Some n → ⊥)) [
+      | true ↦ λ t none. absurd (cc)
+      | false ↦ λ t there. (there, λ own. both_ways _ t (ap (has_body_of n) there ∙ ap (λ i. option_eq nat_eq i (Some n)) own ∙ eq-eqb n n refl))
+    ] refl is
+
+stands-lost : (s : Store) (k n q : ℕ) (b : Stored) → complete_body (get (write_purged s k n).slots q) ≡ Some b → (complete_body (get s.slots q) ≡ Some b) × (k ≡ q → b.meta.entry_id ≡ Some n → ⊥)
+stands-lost s k n q b is =
+    elim (eq_by_cmp nat_cmp q k) as (λ t. eq_by_cmp nat_cmp q k ≡ t → cond t (body_without n (complete_body (get s.slots k))) (complete_body (get s.slots q)) ≡ Some b → (complete_body (get s.slots q) ≡ Some b) × (k ≡ q → b.meta.entry_id ≡ Some n → ⊥)) [
+      | true ↦ λ t left. let p = stays-other n (complete_body (get s.slots k)) b left in (ap (λ y. complete_body (get s.slots y)) (same-key q k t) ∙ p.0, λ same. p.1)
+      | false ↦ λ t there. (there, λ same own. both_ways _ t (cmp_same q k ∙ eq-eqb k q same))
+    ] refl (sym (body-lost s.slots k n q) ∙ is)
+
+-- what is complete then was so before, and the entry that went is not its own
+stands-one : (s : Store) (e : CacheEntryKey) (q : ℕ) (b : Stored) → complete_body (get (entry_purged true s e).slots q) ≡ Some b → (complete_body (get s.slots q) ≡ Some b) × (entry_slot e ≡ q → id_of e ≡ b.meta.entry_id → ⊥)
+stands-one s e q b is = inner (id_of e) is
+  where
+    inner : (o : Option ℕ) → complete_body (get (entry_purged_in true s (entry_slot e) o).slots q) ≡ Some b → (complete_body (get s.slots q) ≡ Some b) × (entry_slot e ≡ q → o ≡ b.meta.entry_id → ⊥)
+    inner None is = let p = stands-purged s (entry_slot e) q b is in (p.0, λ same own. p.1 same)
+    inner (Some n) is = let p = stands-lost s (entry_slot e) n q b is in (p.0, λ same own. p.1 same (sym own))
+
+stands-each : (s : Store) (es : List CacheEntryKey) (q : ℕ) (b : Stored) → complete_body (get (purged_each s es).slots q) ≡ Some b → (complete_body (get s.slots q) ≡ Some b) × NoneNames q b es
 stands-each s [] q b is = (is, tt)
 stands-each s (e ∷ es) q b is =
-    let rest = stands-each (purged_at s (entry_slot e)) es q b is in
-    let first = stands-one s (entry_slot e) q b rest.0 in
+    let rest = stands-each (entry_purged true s e) es q b is in
+    let first = stands-one s e q b rest.0 in
     (first.0, (first.1, rest.1))
 
 -- what is tracked of an entry that stays
-kept-without : (out : List CacheEntryKey) (m : Tracked) (x : CacheEntryKey) (q : ℕ) → entry_slot x ≡ Some q → NoneNames q out → get (without out m) x ≡ get m x
-kept-without [] m x q of none = refl
-kept-without (e ∷ out) m x q of none =
-    kept-without out (remove m e) x q of none.1
+kept-without : (out : List CacheEntryKey) (m : Tracked) (x : CacheEntryKey) (q : ℕ) (b : Stored) → entry_slot x ≡ q → id_of x ≡ b.meta.entry_id → NoneNames q b out → get (without out m) x ≡ get m x
+kept-without [] m x q b of own none = refl
+kept-without (e ∷ out) m x q b of own none =
+    kept-without out (remove m e) x q b of own none.1
     ∙ get-remove entries_total m e x
     ∙ elim (eq_by_cmp entry_cmp x e) as (λ t. eq_by_cmp entry_cmp x e ≡ t → cond t None (get m x) ≡ get m x) [
-      | true ↦ λ t. absurd (none.0 (ap entry_slot (sym (entry-same x e t)) ∙ of))
+      | true ↦ λ t. absurd (none.0 (ap entry_slot (sym (entry-same x e t)) ∙ of) (ap id_of (sym (entry-same x e t)) ∙ own))
       | false ↦ λ t. refl
     ] refl
 
@@ -80,9 +129,9 @@ body-stored s w x q is whole =
       | Some y ↦ λ yes. body-insert s.slots x.slot q (record { body = Some (record { meta = x.meta; bytes = x.bytes }); untouched = remove y.untouched w })
     ] (sym (ap (is_untouched_on s w) is) ∙ whole)
 
-module _ (limits : Limits) (m : Tracked) (s : Store) (k : Key) (w : ℕ) (x : Written) (is : get s.writes w ≡ Some x) (of : x.slot ≡ slot k) (kept : IsKept limits m s) where
+module _ (limits : Limits) (m : Tracked) (s : Store) (k : Key) (w : ℕ) (x : Written) (is : get s.writes w ≡ Some x) (of : x.slot ≡ slot k) (named : x.meta.entry_id ≡ Some w) (kept : IsKept limits m s) where
   abbrev mine : CacheEntryKey
-  mine = entry_of k None
+  mine = entry_of k (Some w)
 
   abbrev admitted : Tracked
   admitted = insert m mine (written_size (get s.writes w))
@@ -93,27 +142,30 @@ module _ (limits : Limits) (m : Tracked) (s : Store) (k : Key) (w : ℕ) (x : Wr
   exact-stored : (out : List CacheEntryKey) → is_untouched s w ≡ true → TracksExactly (purged_each (finished s w) out) (without out admitted)
   exact-stored out whole q b complete =
       let p = stands-each (finished s w) out q b complete in
-      elim (eq_by_cmp nat_cmp q x.slot) as (λ t. eq_by_cmp nat_cmp q x.slot ≡ t → cond t (Some (record { meta = x.meta; bytes = x.bytes })) (complete_body (get s.slots q)) ≡ Some b → (e : CacheEntryKey) × (entry_slot e ≡ Some q) × (get (without out admitted) e ≡ Some (length b.bytes))) [
+      elim (eq_by_cmp nat_cmp q x.slot) as (λ t. eq_by_cmp nat_cmp q x.slot ≡ t → cond t (Some (record { meta = x.meta; bytes = x.bytes })) (complete_body (get s.slots q)) ≡ Some b → (e : CacheEntryKey) × (entry_slot e ≡ q) × (get (without out admitted) e ≡ Some (length b.bytes)) × (id_of e ≡ b.meta.entry_id)) [
         | true ↦ λ t here.
             let own : record { meta = x.meta; bytes = x.bytes } ≡ b = cc in
-            let at : ◌≡◌ {A = Option ℕ} (Some (slot k)) (Some q) = ap Some (sym of ∙ sym (same-key q x.slot t)) in (
+            let at : slot k ≡ q = sym of ∙ sym (same-key q x.slot t) in
+            let number : id_of mine ≡ b.meta.entry_id = sym named ∙ ap (λ (y : Stored). y.meta.entry_id) own in (
               mine,
               at,
-              kept-without out admitted mine q at p.1 ∙ get-insert entries_total m mine (written_size (get s.writes w)) mine
+              kept-without out admitted mine q b at number p.1 ∙ get-insert entries_total m mine (written_size (get s.writes w)) mine
                   ∙ ap (λ r. cond (is_eq r) (Some (written_size (get s.writes w))) (get m mine)) (tied_itself entries_total mine)
                   ∙ ap Some (size-is ∙ ap (λ (y : Stored). length y.bytes) own),
+              number,
             )
         | false ↦ λ t there.
             let old = kept.exact q b there in
             let ne : q ≢ slot k = λ same. both_ways _ t (cmp_same q x.slot ∙ eq-eqb x.slot q (of ∙ sym same)) in (
               old.0,
               old.1,
-              kept-without out admitted old.0 q old.1 p.1 ∙ get-insert entries_total m mine (written_size (get s.writes w)) old.0
+              kept-without out admitted old.0 q b old.1 old.3 p.1 ∙ get-insert entries_total m mine (written_size (get s.writes w)) old.0
                   ∙ ap (λ y. cond y (Some (written_size (get s.writes w))) (get m old.0)) (entries-apart old.0 mine q (slot k) old.1 refl ne) ∙ old.2,
+              old.3,
             )
       ] refl (sym (body-stored s w x q is whole) ∙ p.0)
 
-  kept-stored : (Lets : LockStatus → Type 0) (size failed : ℕ) (out : List CacheEntryKey) (s' : Store) (m' : Tracked) → Stores true true None Lets k w (created s w) limits size failed out s s' m m' → IsKept limits m' s'
+  kept-stored : (Lets : LockStatus → Type 0) (size failed : ℕ) (out : List CacheEntryKey) (s' : Store) (m' : Tracked) → Stores in_memory true (Some w) Lets k w (created s w) limits size failed out s s' m m' → IsKept limits m' s'
   kept-stored Lets size failed out s' m' stores =
       let store : s' ≡ purged_each (finished s w) out = purges-each (finished s w) s' out failed (stores.sure refl) stores.purges in
       let exact = exact-stored out stores.untouched in
@@ -123,10 +175,10 @@ module _ (limits : Limits) (m : Tracked) (s : Store) (k : Key) (w : ℕ) (x : Wr
   -- a body that is purged again leaves what was complete under other keys
   fewer-withdrawn : is_untouched s w ≡ true → Fewer s.slots (purged (finished s w) (slot k)).slots
   fewer-withdrawn whole q b complete =
-      let p = stands-one (finished s w) (Some (slot k)) q b complete in
+      let p = stands-purged (finished s w) (slot k) q b complete in
       elim (eq_by_cmp nat_cmp q x.slot) as (λ t. eq_by_cmp nat_cmp q x.slot ≡ t → cond t (Some (record { meta = x.meta; bytes = x.bytes })) (complete_body (get s.slots q)) ≡ Some b → Stands s.slots q b) [
-        | true ↦ λ t here. absurd (p.1 (ap Some (sym of ∙ sym (same-key q x.slot t))))
-        | false ↦ λ t there. (b, there, refl)
+        | true ↦ λ t here. absurd (p.1 (sym of ∙ sym (same-key q x.slot t)))
+        | false ↦ λ t there. (b, there, refl, refl)
       ] refl (sym (body-stored s w x q is whole) ∙ p.0)
 
   kept-withdrawn : (Lets : LockStatus → Type 0) (e : ErrorType) (s' : Store) (m' : Tracked) → Withdraws true Lets k w e s s' m m' → IsKept limits m' s'
@@ -142,33 +194,37 @@ kept-drops limits Lets w e s s' m m' drops kept =
     subst (λ n. IsKept limits n s') (sym drops.tracked) (subst (IsKept limits m) (sym drops.dropped) (kept_fewer limits m s (dropped s w) (fewer-dropped s w) kept))
 
 -- a write of the key of a slot
-written-under : (k w : ℕ) (s : Store) → is_write_under k (get s.writes w) ≡ true → (x : Written) × (get s.writes w ≡ Some x) × (x.slot ≡ k)
+written-under : (k w : ℕ) (s : Store) → is_write_under k w (get s.writes w) ≡ true → (x : Written) × (get s.writes w ≡ Some x) × (x.slot ≡ k) × (x.meta.entry_id ≡ Some w)
 written-under k w s own =
-    elim (get s.writes w) as (λ o. get s.writes w ≡ o → is_write_under k o ≡ true → (x : Written) × (get s.writes w ≡ Some x) × (x.slot ≡ k)) [
+    elim (get s.writes w) as (λ o. get s.writes w ≡ o → is_write_under k w o ≡ true → (x : Written) × (get s.writes w ≡ Some x) × (x.slot ≡ k) × (x.meta.entry_id ≡ Some w)) [
       | None ↦ λ is no. absurd (cc)
-      | Some x ↦ λ is yes. (x, is, eqb-true x.slot k yes)
+      | Some x ↦ λ is yes. let p = and_parts _ _ yes in (x, is, eqb-true x.slot k p.0, is-some x.meta.entry_id w p.1)
     ] refl own
+  where
+    is-some : (o : Option ℕ) (w : ℕ) → option_eq nat_eq o (Some w) ≡ true → o ≡ Some w
+    is-some None w h = absurd (cc)
+    is-some (Some x) w h = ap Some (eqb-true x w h)
 
 -- any end of a write of a key
-pub kept_body : (limits : Limits) (Lets : LockStatus → Type 0) (k : Key) (w : ℕ) (how : WriteEnd) (s s' : Store) (m m' : Tracked) → is_write_under (slot k) (get s.writes w) ≡ true → EndsBody true true None Lets k w (created s w) limits how s s' m m' → IsKept limits m s → IsKept limits m' s'
+pub kept_body : (limits : Limits) (Lets : LockStatus → Type 0) (k : Key) (w : ℕ) (how : WriteEnd) (s s' : Store) (m m' : Tracked) → is_write_under (slot k) w (get s.writes w) ≡ true → EndsBody in_memory true (Some w) Lets k w (created s w) limits how s s' m m' → IsKept limits m s → IsKept limits m' s'
 kept_body limits Lets k w end.Nothing s s' m m' own ends kept = absurd ends
-kept_body limits Lets k w (end.Stored f) s s' m m' own ends kept = let x = written-under (slot k) w s own in kept-stored limits m s k w x.0 x.1 x.2 kept Lets f.size f.failed_purges f.evicted.items s' m' ends
+kept_body limits Lets k w (end.Stored f) s s' m m' own ends kept = let x = written-under (slot k) w s own in kept-stored limits m s k w x.0 x.1 x.2 x.3 kept Lets f.size f.failed_purges f.evicted.items s' m' ends
 kept_body limits Lets k w (end.Dropped e) s s' m m' own ends kept = kept-drops limits Lets w e s s' m m' ends kept
-kept_body limits Lets k w (end.Withdrawn e) s s' m m' own ends kept = let x = written-under (slot k) w s own in kept-withdrawn limits m s k w x.0 x.1 x.2 kept Lets e s' m' ends
+kept_body limits Lets k w (end.Withdrawn e) s s' m m' own ends kept = let x = written-under (slot k) w s own in kept-withdrawn limits m s k w x.0 x.1 x.2 x.3 kept Lets e s' m' ends
 
 -- the same end, with what the request uses and the number of its entry apart
 abbrev EndsOf : Bool → Option ℕ → Request → Option Key → Option ℕ → MissFinishType → Limits → WriteEnd → Store → Store → Tracked → Tracked → Locks → Locks → Type 0
 EndsOf uses id r k None kind limits how s s' m m' t t' = EndsIdle how s s' m m' t t'
-EndsOf uses id r (Some k) (Some w) kind limits how s s' m m' t t' = EndsBody true uses id (λ status. t' ≡ settled status r.held t) k w kind limits how s s' m m'
+EndsOf uses id r (Some k) (Some w) kind limits how s s' m m' t t' = EndsBody in_memory uses id (λ status. t' ≡ settled status r.held t) k w kind limits how s s' m m'
 EndsOf uses id r None (Some w) kind limits how s s' m m' t t' = ⊥
 
-ends-of : (r : Request) (key : Option Key) (write : Option ℕ) (kind : MissFinishType) (limits : Limits) (how : WriteEnd) (s s' : Store) (m m' : Tracked) (t t' : Locks) → Ends true r key write kind limits how s s' m m' t t' → EndsOf r.uses.eviction r.entry r key write kind limits how s s' m m' t t'
+ends-of : (r : Request) (key : Option Key) (write : Option ℕ) (kind : MissFinishType) (limits : Limits) (how : WriteEnd) (s s' : Store) (m m' : Tracked) (t t' : Locks) → Ends in_memory r key write kind limits how s s' m m' t t' → EndsOf r.uses.eviction r.entry r key write kind limits how s s' m m' t t'
 ends-of r key None kind limits how s s' m m' t t' ends = ends
 ends-of r (Some k) (Some w) kind limits how s s' m m' t t' ends = ends
 ends-of r None (Some w) kind limits how s s' m m' t t' ends = absurd ends
 
 kept-ends : (limits : Limits) (r : Request) (uses : Bool) (id : Option ℕ) (key : Option Key) (write : Option ℕ) (how : WriteEnd) (s s' : Store) (m m' : Tracked) (t t' : Locks)
-    → uses ≡ true → id ≡ None → is_own_write s key write ≡ true → EndsOf uses id r key write (finishes_of (created s) write) limits how s s' m m' t t' → IsKept limits m s → IsKept limits m' s'
+    → uses ≡ true → id ≡ write → is_own_write s key write ≡ true → EndsOf uses id r key write (finishes_of (created s) write) limits how s s' m m' t t' → IsKept limits m s → IsKept limits m' s'
 kept-ends limits r uses id key None end.Nothing s s' m m' t t' used none own ends kept = subst (IsKept limits m') (sym ends.0) (subst (λ n. IsKept limits n s) (sym ends.1) kept)
 kept-ends limits r uses id key None (end.Stored f) s s' m m' t t' used none own ends kept = absurd ends
 kept-ends limits r uses id key None (end.Dropped e) s s' m m' t t' used none own ends kept = absurd ends
@@ -176,23 +232,20 @@ kept-ends limits r uses id key None (end.Withdrawn e) s s' m m' t t' used none o
 kept-ends limits r uses id None (Some w) how s s' m m' t t' used none own ends kept = absurd (cc)
 kept-ends limits r uses id (Some k) (Some w) how s s' m m' t t' used none own ends kept =
     kept_body limits (λ status. t' ≡ settled status r.held t) k w how s s' m m' own
-    (subst (λ i. EndsBody true true i (λ status. t' ≡ settled status r.held t) k w (created s w) limits how s s' m m') none (subst (λ u. EndsBody true u id (λ status. t' ≡ settled status r.held t) k w (created s w) limits how s s' m m') used ends)) kept
+    (subst (λ i. EndsBody in_memory true i (λ status. t' ≡ settled status r.held t) k w (created s w) limits how s s' m m') none (subst (λ u. EndsBody in_memory u id (λ status. t' ≡ settled status r.held t) k w (created s w) limits how s s' m m') used ends)) kept
 
-kept-by : (limits : Limits) (r : Request) (s s' : Store) (m m' : Tracked) (t t' : Locks) (how : WriteEnd) → MayEnd s r → r.entry ≡ None → Ends true r r.key r.write (finishes_of (created s) r.write) limits how s s' m m' t t' → IsKept limits m s → IsKept limits m' s'
+kept-by : (limits : Limits) (r : Request) (s s' : Store) (m m' : Tracked) (t t' : Locks) (how : WriteEnd) → MayEnd s r → r.entry ≡ r.write → Ends in_memory r r.key r.write (finishes_of (created s) r.write) limits how s s' m m' t t' → IsKept limits m s → IsKept limits m' s'
 kept-by limits r s s' m m' t t' how may none ends kept =
     kept-ends limits r r.uses.eviction r.entry r.key r.write how s s' m m' t t' may.uses none may.own (ends-of r r.key r.write (finishes_of (created s) r.write) limits how s s' m m' t t' ends) kept
 
-pub kept_finished : (limits : Limits) (r : Request) (s s' : Store) (m m' : Tracked) (t t' : Locks) (result : Result (Option FinishReport) ErrorType) → MayEnd s r → r.entry ≡ None
-    → EndsAs result (λ how. Ends true r r.key r.write (finishes_of (created s) r.write) limits how s s' m m' t t') → IsKept limits m s → IsKept limits m' s'
+pub kept_finished : (limits : Limits) (r : Request) (s s' : Store) (m m' : Tracked) (t t' : Locks) (result : Result (Option FinishReport) ErrorType) → MayEnd s r → r.entry ≡ r.write
+    → EndsAs result (λ how. Ends in_memory r r.key r.write (finishes_of (created s) r.write) limits how s s' m m' t t') → IsKept limits m s → IsKept limits m' s'
 kept_finished limits r s s' m m' t t' (Ok None) may none ends kept = kept-by limits r s s' m m' t t' end.Nothing may none ends kept
 kept_finished limits r s s' m m' t t' (Ok (Some f)) may none ends kept = kept-by limits r s s' m m' t t' (end.Stored f) may none ends kept
 kept_finished limits r s s' m m' t t' (Err e) may none (inl ends) kept = kept-by limits r s s' m m' t t' (end.Dropped e) may none ends kept
 kept_finished limits r s s' m m' t t' (Err e) may none (inr ends) kept = kept-by limits r s s' m m' t t' (end.Withdrawn e) may none ends kept
 
--- no write of the store in memory has an entry with a number
-abbrev no_number : {X : Type 0} → X → Option ℕ
-no_number x = None
-
-pub unnumbered : {X : Type 0} (o : Option X) → option_and_then no_number o ≡ None
-unnumbered None = refl
-unnumbered (Some x) = refl
+-- the entry of a write of the store in memory has the write's number
+pub same-number : {X : Type 0} (number : X → ℕ) (o : Option X) → option_and_then (λ x. Some (number x)) o ≡ option_map number o
+same-number number None = refl
+same-number number (Some x) = refl

@@ -1,8 +1,8 @@
 -- What always holds of a cache still holds after each call but the end of a write.
-use Rattle.std.proofs.Common.{◌≡◌, ◌≢◌, ℕ, ◌==◌, ◌≤◌, arith, ◌⊎◌, inl, inr, Bool, true, false, cond, Option, None, Some, is_some, Result, Ok, Err, refl, ap, sym, subst, ◌∙◌, option_map, if◌then◌else◌}
+use Rattle.std.proofs.Common.{◌≡◌, ◌≢◌, ℕ, ◌≤◌, arith, ◌⊎◌, inl, inr, Bool, true, false, cond, Option, None, Some, is_some, Result, Ok, Err, refl, ap, sym, subst, ◌∙◌, option_map, if◌then◌else◌}
 use Rattle.std.specs.Prelude.{IfErr, IfSome, OnErr, OnOk, length}
 use Rattle.std.specs.Ordering.{eq_by_cmp, nat_cmp}
-use Rattle.std.specs.FinMap.{FinMap, get, insert, remove, contains_key, empty, get-empty, get-insert, get-remove}
+use Rattle.std.specs.FinMap.{get, insert, remove, contains_key, empty, get-empty, get-insert, get-remove}
 use Rattle.std.specs.Cmp.{nat_cmp_total}
 use Rattle.pcache_base.proofs.Totals.{total-empty}
 use Rattle.pcache_store.specs.Totals.{body_count, body_size, slots}
@@ -11,9 +11,8 @@ use Rattle.pcache_base.specs.Key.{Key, slot}
 use Rattle.pcache_base.specs.CompactKey.{compact_of}
 use Rattle.pcache_base.specs.declared.error.ErrorType.{ErrorType}
 use Rattle.pcache_evict.specs.declared.eviction.entry_key.CacheEntryKey.{CacheEntryKey}
-use Rattle.pcache_evict.specs.Entry.{entry_cmp, entries_total, entry_with}
+use Rattle.pcache_evict.specs.Entry.{entry_cmp, entries_total, id_of}
 use Rattle.pcache_evict.specs.Tracked.{Tracked, Limits, added}
-use Rattle.pcache_evict.proofs.EntryOrder.{exact_entries}
 use Rattle.pcache_meta.specs.Meta.{Meta, expired_at, in_place_of}
 use Rattle.pcache_predict.specs.declared.admission.Decision.{Decision}
 use Rattle.pcache_request.specs.Admissions.{is_deferral, store_looked_with}
@@ -24,11 +23,10 @@ use Rattle.pcache_request.specs.Phases.{is_treated_as_miss}
 use Rattle.pcache_request.specs.Variants.{is_hidden, searched, without_hidden}
 use Rattle.pcache_request.specs.declared.phase.HitStatus.{HitStatus}
 use Rattle.pcache_store.specs.Purge as purge
-use Rattle.pcache_store.specs.Purge.{purge_answer, purged_at, expire_answer}
-use Rattle.pcache_store.specs.Store.{Store, Slot, Stored, Reader, complete_body, followed, left, meta_changed, purged, reader_weight}
-use Rattle.pcache_store.specs.declared.storage.PurgeOutcome.{PurgeOutcome}
-use Rattle.pcache_store.specs.declared.storage.PurgeOutcome.TheVariants.{NotFound, Purged, Expired}
-use Rattle.pcache_cache.specs.Parts.{IsKept, TracksExactly}
+use Rattle.pcache_store.specs.Purge.{purge_answer, purged_at, expire_answer, slot_answer}
+use Rattle.pcache_store.specs.Store.{Store, Slot, Reader, complete_body, followed, left, meta_changed, purged, reader_weight, number_of_body}
+use Rattle.pcache_store.specs.declared.storage.PurgeOutcome.TheVariants.{NotFound, Expired}
+use Rattle.pcache_cache.specs.Parts.{IsKept}
 use Rattle.pcache_cache.proofs.Standing.{Fewer, body-remove, cmp_same, fewer-begun_for, fewer-changed, fewer-dropped_by, fewer-purged_at, fewer-same, fewer-slots, fewer-then, slots-followed, slots-left, slots-left_by}
 use Rattle.pcache_cache.proofs.Sums.{bounded-fewer, entries-apart, entry-same}
 
@@ -48,7 +46,7 @@ kept_none limits m s is = subst (IsKept limits m) (sym is) (record {
 
 pub kept_fewer : (limits : Limits) (m : Tracked) (s t : Store) → Fewer s.slots t.slots → IsKept limits m s → IsKept limits m t
 kept_fewer limits m s t fewer k = record {
-  exact = λ q b is. let p = fewer q b is in let e = k.exact q p.0 p.1 in (e.0, e.1, e.2 ∙ ap (λ bs. Some (length bs)) p.2);
+  exact = λ q b is. let p = fewer q b is in let e = k.exact q p.0 p.1 in (e.0, e.1, e.2 ∙ ap (λ bs. Some (length bs)) p.2, e.3 ∙ p.3);
   bounded = bounded-fewer limits s t fewer k.bounded;
 }
 
@@ -116,7 +114,7 @@ stays-added m e x n v is =
     ] refl
 
 pub kept_tracked : (limits : Limits) (m n : Tracked) (s : Store) → ((x : CacheEntryKey) (v : ℕ) → get m x ≡ Some v → get n x ≡ Some v) → IsKept limits m s → IsKept limits n s
-kept_tracked limits m n s stays k = record { exact = λ q b is. let e = k.exact q b is in (e.0, e.1, stays e.0 (length b.bytes) e.2); bounded = k.bounded }
+kept_tracked limits m n s stays k = record { exact = λ q b is. let e = k.exact q b is in (e.0, e.1, stays e.0 (length b.bytes) e.2, e.3); bounded = k.bounded }
 
 stays-counted : (b : Bool) (m : Tracked) (e x : CacheEntryKey) (n v : ℕ) → get m x ≡ Some v → get (cond b (added m e n) m) x ≡ Some v
 stays-counted true m e x n v is = stays-added m e x n v is
@@ -186,7 +184,7 @@ kept_beginning B C D E F G limits m s t r (Err e) ok (inr begun) k = kept_begun 
 
 fewer-meta_of : (x : Meta) (k : Option Key) (s : Store) → Fewer s.slots (with_meta_of x k s).slots
 fewer-meta_of x None s = fewer-same s.slots
-fewer-meta_of x (Some k) s = fewer-changed (λ old. in_place_of old x) s (slot k)
+fewer-meta_of x (Some k) s = fewer-changed (λ old. in_place_of old x) (λ y. refl) s (slot k)
 
 pub kept_renewed : {A : Type 0} (limits : Limits) (m : Tracked) (s t : Store) (x : Meta) (key : Option Key) (result : Result A ErrorType) → OnOk result (t ≡ with_meta_of x key s) → OnErr result (t ≡ s) → IsKept limits m s → IsKept limits m t
 kept_renewed limits m s t x key result ok err k =
@@ -197,33 +195,38 @@ kept_renewed limits m s t x key result ok err k =
 -- ---- removals
 
 -- what is tracked once an entry of a slot is taken out, under which nothing is complete any more
-pub kept_purged : (limits : Limits) (m : Tracked) (s : Store) (k : ℕ) (e : CacheEntryKey) → entry_slot e ≡ Some k → IsKept limits m s → IsKept limits (remove m e) (purged s k)
+pub kept_purged : (limits : Limits) (m : Tracked) (s : Store) (k : ℕ) (e : CacheEntryKey) → entry_slot e ≡ k → IsKept limits m s → IsKept limits (remove m e) (purged s k)
 kept_purged limits m s k e of kept = record {
   exact = λ q b is.
       let here = body-remove s.slots k q in
-      elim (eq_by_cmp nat_cmp q k) as (λ t. eq_by_cmp nat_cmp q k ≡ t → cond t None (complete_body (get s.slots q)) ≡ Some b → (x : CacheEntryKey) × (entry_slot x ≡ Some q) × (get (remove m e) x ≡ Some (length b.bytes))) [
+      elim (eq_by_cmp nat_cmp q k) as (λ t. eq_by_cmp nat_cmp q k ≡ t → cond t None (complete_body (get s.slots q)) ≡ Some b → (x : CacheEntryKey) × (entry_slot x ≡ q) × (get (remove m e) x ≡ Some (length b.bytes)) × (id_of x ≡ b.meta.entry_id)) [
         | true ↦ λ t none. absurd (cc)
         | false ↦ λ t there.
             let old = kept.exact q b there in
             let ne : q ≢ k = λ same. both_ways _ t (cmp_same q k ∙ eq-eqb k q (sym same)) in
-            (old.0, old.1, get-remove entries_total m e old.0 ∙ ap (λ y. cond y None (get m old.0)) (entries-apart old.0 e q k old.1 of ne) ∙ old.2)
+            (old.0, old.1, get-remove entries_total m e old.0 ∙ ap (λ y. cond y None (get m old.0)) (entries-apart old.0 e q k old.1 of ne) ∙ old.2, old.3)
       ] refl (sym here ∙ is);
   bounded = bounded-fewer limits s (purged s k) (fewer-purged_at s (Some k)) kept.bounded;
 }
 
--- the outcome of a purge, by whether something was there
-kept-gone : (limits : Limits) (m : Tracked) (s : Store) (uses : Bool) (k : Key) (there : Bool) → IsKept limits m s → IsKept limits (tracked_gone uses (compact_of k) (cond there (Purged None) NotFound) m) (purged s (slot k))
-kept-gone limits m s true k true kept = kept_purged limits m s (slot k) (entry_with (compact_of k) None) refl kept
-kept-gone limits m s false k true kept = kept_fewer limits m s (purged s (slot k)) (fewer-purged_at s (Some (slot k))) kept
-kept-gone limits m s uses k false kept = kept_fewer limits m s (purged s (slot k)) (fewer-purged_at s (Some (slot k))) kept
+-- an entry of a key is of its slot, whatever number it has
+pub entry-of-slot : (k : Key) (n : Option ℕ) → entry_slot (entry_of k n) ≡ slot k
+entry-of-slot k None = refl
+entry-of-slot k (Some n) = refl
+
+-- the outcome of a purge, by what was there
+kept-gone : (limits : Limits) (m : Tracked) (s : Store) (uses : Bool) (k : Key) (x : Option Slot) → IsKept limits m s → IsKept limits (tracked_gone uses (compact_of k) (slot_answer true x) m) (purged s (slot k))
+kept-gone limits m s true k (Some x) kept = kept_purged limits m s (slot k) (entry_of k (number_of_body x.body)) (entry-of-slot k (number_of_body x.body)) kept
+kept-gone limits m s false k (Some x) kept = kept_fewer limits m s (purged s (slot k)) (fewer-purged_at s (Some (slot k))) kept
+kept-gone limits m s uses k None kept = kept_fewer limits m s (purged s (slot k)) (fewer-purged_at s (Some (slot k))) kept
 
 kept-gone_for : (limits : Limits) (m : Tracked) (s : Store) (uses : Bool) (key : Option Key) → IsKept limits m s
-    → IsKept limits (tracked_gone_for uses key (purge_answer s (option_map slot key)) m) (purged_at s (option_map slot key))
+    → IsKept limits (tracked_gone_for uses key (purge_answer true s (option_map slot key)) m) (purged_at s (option_map slot key))
 kept-gone_for limits m s uses None kept = kept
-kept-gone_for limits m s uses (Some k) kept = kept-gone limits m s uses k (is_some (get s.slots (slot k))) kept
+kept-gone_for limits m s uses (Some k) kept = kept-gone limits m s uses k (get s.slots (slot k)) kept
 
 pub kept_removed : {A : Type 0} (limits : Limits) (m n : Tracked) (s t : Store) (uses : Bool) (key : Option Key) (result : Result A ErrorType)
-    → OnOk result (t ≡ purged_at s (option_map slot key)) → OnOk result (n ≡ tracked_gone_for uses key (purge_answer s (option_map slot key)) m) → OnErr result (t ≡ s) → OnErr result (n ≡ m) → IsKept limits m s → IsKept limits n t
+    → OnOk result (t ≡ purged_at s (option_map slot key)) → OnOk result (n ≡ tracked_gone_for uses key (purge_answer true s (option_map slot key)) m) → OnErr result (t ≡ s) → OnErr result (n ≡ m) → IsKept limits m s → IsKept limits n t
 kept_removed limits m n s t uses key (Ok a) store tracked same_store same_tracked kept =
     subst (IsKept limits n) (sym store) (subst (λ x. IsKept limits x (purged_at s (option_map slot key))) (sym tracked) (kept-gone_for limits m s uses key kept))
 kept_removed limits m n s t uses key (Err e) store tracked same_store same_tracked kept =
@@ -231,8 +234,8 @@ kept_removed limits m n s t uses key (Err e) store tracked same_store same_track
 
 -- an expiry takes nothing out
 kept-stale : (limits : Limits) (m : Tracked) (s : Store) (uses : Bool) (k : Key) (now : ℕ) (there : Bool) → IsKept limits m s → IsKept limits (tracked_gone uses (compact_of k) (cond there Expired NotFound) m) (meta_changed (expired_at now) s (slot k))
-kept-stale limits m s uses k now true kept = kept_fewer limits m s (meta_changed (expired_at now) s (slot k)) (fewer-changed (expired_at now) s (slot k)) kept
-kept-stale limits m s uses k now false kept = kept_fewer limits m s (meta_changed (expired_at now) s (slot k)) (fewer-changed (expired_at now) s (slot k)) kept
+kept-stale limits m s uses k now true kept = kept_fewer limits m s (meta_changed (expired_at now) s (slot k)) (fewer-changed (expired_at now) (λ x. refl) s (slot k)) kept
+kept-stale limits m s uses k now false kept = kept_fewer limits m s (meta_changed (expired_at now) s (slot k)) (fewer-changed (expired_at now) (λ x. refl) s (slot k)) kept
 
 kept-stale_for : (limits : Limits) (m : Tracked) (s : Store) (uses : Bool) (key : Option Key) (now : ℕ) → IsKept limits m s
     → IsKept limits (tracked_gone_for uses key (expire_answer s (option_map slot key)) m) (purge.expired_at now s (option_map slot key))

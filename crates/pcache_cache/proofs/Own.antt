@@ -1,10 +1,11 @@
 -- A request's own write stays its own: what a look-up and a begin leave of a request, and of the write.
-use Rattle.std.proofs.Common.{◌≡◌, ℕ, ◌+◌, ◌-◌, ◌==◌, ◌||◌, Bool, true, false, cond, Option, None, Some, IsSome, List, ◌++◌, Result, Ok, Err, refl, ap, sym, subst, ◌∙◌}
+use Rattle.std.proofs.Common.{◌≡◌, ℕ, ◌+◌, ◌-◌, nat_eq, Bool, true, false, cond, Option, None, Some, IsSome, List, ◌++◌, Result, Ok, Err, refl, ap, sym, subst, ◌∙◌}
 use Rattle.std.specs.Prelude.{OnErr, OnOk}
 use Rattle.std.specs.Ordering.{nat_cmp, eq_by_cmp, is_eq}
 use Rattle.std.specs.Cmp.{nat_cmp_total, tied_itself}
 use Rattle.std.specs.FinMap.{FinMap, get, insert, remove, get-insert, get-remove}
-use Rattle.std.proofs.lemmas.Bool.{both_ways, eq-eqb, or_left}
+use Rattle.std.specs.Option.{option_eq}
+use Rattle.std.proofs.lemmas.Bool.{both_ways, eq-eqb, or_left, and_from}
 use Rattle.pcache_base.specs.Key.{Key, slot}
 use Rattle.pcache_lock.specs.Locks.{Locks}
 use Rattle.pcache_lock.specs.declared.lock.permit.Locked.{Locked}
@@ -14,7 +15,7 @@ use Rattle.pcache_request.specs.Phases.{IsFilling}
 use Rattle.pcache_request.specs.declared.phase.CachePhase.{CachePhase}
 use Rattle.pcache_request.specs.declared.phase.CachePhase.TheVariants as phase
 use Rattle.pcache_request.specs.Variants.{is_unseen_for, looked_for, with_key_lock}
-use Rattle.pcache_store.specs.Store.{Store, Written, Reader, Whole, Part, begun, followed, followed_by, is_named, is_told, is_write_under, joined, joined_on, kept, left, left_on, new_write, wrote, wrote_on}
+use Rattle.pcache_store.specs.Store.{Store, Written, Reader, Whole, Part, begun, followed, followed_by, is_named, is_told, is_write_under, joined_on, kept, left, left_on, new_write, wrote, wrote_on}
 use Rattle.pcache_cache.specs.Parts.{MayEnd, is_own_write, written_by}
 use Rattle.pcache_cache.proofs.Standing.{same-key}
 
@@ -45,22 +46,22 @@ looked_uses s t r = looked (λ x. x.uses) (λ x h. refl) s t r
 -- ---- a write in flight of a key stays one
 
 abbrev pub Flies : FinMap nat_cmp Written → ℕ → ℕ → Type 0
-Flies ws n k = (w : Written) × (get ws n ≡ Some w) × (w.flying ≡ true) × (w.slot ≡ k)
+Flies ws n k = (w : Written) × (get ws n ≡ Some w) × (w.flying ≡ true) × (w.slot ≡ k) × (w.meta.entry_id ≡ Some n)
 
 here : (ws : FinMap nat_cmp Written) (n : ℕ) (w : Written) → get (insert ws n w) n ≡ Some w
 here ws n w = get-insert nat_cmp_total ws n w n ∙ ap (λ r. cond (is_eq r) (Some w) (get ws n)) (tied_itself nat_cmp_total n)
 
 pub flies-begun : (s : Store) (k : ℕ) (m : Meta) → Flies (begun s k m).writes s.next k
-flies-begun s k m = let w = new_write k (numbered s.next m) in (w, here s.writes s.next w, refl, refl)
+flies-begun s k m = let w = new_write k (numbered s.next m) in (w, here s.writes s.next w, refl, refl, refl)
 
 -- another write's record, or its own with other readers
-flies-insert : (ws : FinMap nat_cmp Written) (n k j : ℕ) (x : Written) → Flies ws n k → (get ws j ≡ Some x) → (y : Written) → y.flying ≡ x.flying → y.slot ≡ x.slot → Flies (insert ws j y) n k
-flies-insert ws n k j x own at y flying of =
+flies-insert : (ws : FinMap nat_cmp Written) (n k j : ℕ) (x : Written) → Flies ws n k → (get ws j ≡ Some x) → (y : Written) → y.flying ≡ x.flying → y.slot ≡ x.slot → y.meta ≡ x.meta → Flies (insert ws j y) n k
+flies-insert ws n k j x own at y flying of meta =
     elim (eq_by_cmp nat_cmp n j) as (λ b. eq_by_cmp nat_cmp n j ≡ b → Flies (insert ws j y) n k) [
       | true ↦ λ t.
           let same : x ≡ own.0 = some_same x own.0 (sym at ∙ ap (get ws) (sym (same-key n j t)) ∙ own.1) in
-          (y, get-insert nat_cmp_total ws j y n ∙ ap (λ b. cond b (Some y) (get ws n)) t, flying ∙ ap (λ (w : Written). w.flying) same ∙ own.2, of ∙ ap (λ (w : Written). w.slot) same ∙ own.3)
-      | false ↦ λ t. (own.0, get-insert nat_cmp_total ws j y n ∙ ap (λ b. cond b (Some y) (get ws n)) t ∙ own.1, own.2, own.3)
+          (y, get-insert nat_cmp_total ws j y n ∙ ap (λ b. cond b (Some y) (get ws n)) t, flying ∙ ap (λ (w : Written). w.flying) same ∙ own.2, of ∙ ap (λ (w : Written). w.slot) same ∙ own.3, ap (λ (m : Meta). m.entry_id) meta ∙ ap (λ (w : Written). w.meta.entry_id) same ∙ own.4)
+      | false ↦ λ t. (own.0, get-insert nat_cmp_total ws j y n ∙ ap (λ b. cond b (Some y) (get ws n)) t ∙ own.1, own.2, own.3, own.4)
     ] refl
   where
     some_same : (a b : Written) → ◌≡◌ {A = Option Written} (Some a) (Some b) → a ≡ b
@@ -70,7 +71,7 @@ flies-joined : (ws : FinMap nat_cmp Written) (n k j : ℕ) → Flies ws n k → 
 flies-joined ws n k j own =
     elim (get ws j) as (λ o. get ws j ≡ o → Flies (joined_on ws j o) n k) [
       | None ↦ λ is. own
-      | Some x ↦ λ is. flies-insert ws n k j x own is (record x { readers = x.readers + 1 }) refl refl
+      | Some x ↦ λ is. flies-insert ws n k j x own is (record x { readers = x.readers + 1 }) refl refl refl
     ] refl
 
 flies-followed : (s : Store) (n k : ℕ) (p : Option (Meta × Reader)) → Flies s.writes n k → Flies (followed s p).writes n k
@@ -78,20 +79,20 @@ flies-followed s n k None own = own
 flies-followed s n k (Some p) own = by p.1
   where
     by : (r : Reader) → Flies (followed_by s r).writes n k
-    by (Whole body start stop done) = own
+    by (Whole id body start stop done) = own
     by (Part j place) = flies-joined s.writes n k j own
 
-flies-kept : (ws : FinMap nat_cmp Written) (n k j : ℕ) (x y : Written) → Flies ws n k → get ws j ≡ Some x → y.flying ≡ x.flying → y.slot ≡ x.slot → Flies (kept ws j y) n k
-flies-kept ws n k j x y own at flying of =
+flies-kept : (ws : FinMap nat_cmp Written) (n k j : ℕ) (x y : Written) → Flies ws n k → get ws j ≡ Some x → y.flying ≡ x.flying → y.slot ≡ x.slot → y.meta ≡ x.meta → Flies (kept ws j y) n k
+flies-kept ws n k j x y own at flying of meta =
     elim (is_named y) as (λ b. is_named y ≡ b → Flies (cond b (insert ws j y) (remove ws j)) n k) [
-      | true ↦ λ named. flies-insert ws n k j x own at y flying of
+      | true ↦ λ named. flies-insert ws n k j x own at y flying of meta
       | false ↦ λ none.
           elim (eq_by_cmp nat_cmp n j) as (λ b. eq_by_cmp nat_cmp n j ≡ b → Flies (remove ws j) n k) [
             | true ↦ λ t.
                 let same : x ≡ own.0 = some_same x own.0 (sym at ∙ ap (get ws) (sym (same-key n j t)) ∙ own.1) in
                 let flies : y.flying ≡ true = flying ∙ ap (λ (w : Written). w.flying) same ∙ own.2 in
                 absurd (both_ways _ none (or_left _ _ flies))
-            | false ↦ λ t. (own.0, get-remove nat_cmp_total ws j n ∙ ap (λ b. cond b None (get ws n)) t ∙ own.1, own.2, own.3)
+            | false ↦ λ t. (own.0, get-remove nat_cmp_total ws j n ∙ ap (λ b. cond b None (get ws n)) t ∙ own.1, own.2, own.3, own.4)
           ] refl
     ] refl
   where
@@ -99,19 +100,19 @@ flies-kept ws n k j x y own at flying of =
     some_same a b e = cc
 
 flies-left : (s : Store) (n k : ℕ) (r : Reader) → Flies s.writes n k → Flies (left s r).writes n k
-flies-left s n k (Whole body start stop done) own = own
+flies-left s n k (Whole id body start stop done) own = own
 flies-left s n k (Part j place) own =
     elim (get s.writes j) as (λ o. get s.writes j ≡ o → Flies (left_on s.writes j o) n k) [
       | None ↦ λ is. own
-      | Some x ↦ λ is. flies-kept s.writes n k j x (record x { readers = x.readers - 1 }) own is refl refl
+      | Some x ↦ λ is. flies-kept s.writes n k j x (record x { readers = x.readers - 1 }) own is refl refl refl
     ] refl
 
 flies-left_by : (s : Store) (n k : ℕ) (o : Option Reader) → Flies s.writes n k → Flies (left_by o s).writes n k
 flies-left_by s n k None own = own
 flies-left_by s n k (Some r) own = flies-left s n k r own
 
-flies-under : (s : Store) (n k : ℕ) → Flies s.writes n k → is_write_under k (get s.writes n) ≡ true
-flies-under s n k own = ap (is_write_under k) own.1 ∙ eq-eqb own.0.slot k own.3
+flies-under : (s : Store) (n k : ℕ) → Flies s.writes n k → is_write_under k n (get s.writes n) ≡ true
+flies-under s n k own = ap (is_write_under k n) own.1 ∙ and_from _ _ (eq-eqb own.0.slot k own.3) (ap (λ o. option_eq nat_eq o (Some n)) own.4 ∙ eq-eqb n n refl)
 
 -- the write that a request begins is its own
 pub writing_own : (r : Request) (s : Store) (key : Option Key) (meta : Option Meta) → r.key ≡ key → r.meta ≡ meta → IsSome key → IsSome meta → is_own_write (store_writing true s.next r s) key (Some s.next) ≡ true
@@ -124,11 +125,11 @@ writing_own r s (Some k) (Some m) is of has_key has_meta =
     flies-under (store_writing true s.next r s) s.next (slot k) (flies-left_by (followed t (joined_for r.key s.next t)) s.next (slot k) r.reader (flies-followed t s.next (slot k) (joined_for r.key s.next t) first))
 
 -- more bytes leave a write its own
-wrote-under : (k w : ℕ) (s : Store) (bytes : List ℕ) (eof : Bool) → is_write_under k (get s.writes w) ≡ true → is_write_under k (get (wrote s w bytes eof).writes w) ≡ true
+wrote-under : (k w : ℕ) (s : Store) (bytes : List ℕ) (eof : Bool) → is_write_under k w (get s.writes w) ≡ true → is_write_under k w (get (wrote s w bytes eof).writes w) ≡ true
 wrote-under k w s bytes eof own =
-    elim (get s.writes w) as (λ o. get s.writes w ≡ o → is_write_under k o ≡ true → is_write_under k (get (wrote_on s.writes w bytes eof o) w) ≡ true) [
+    elim (get s.writes w) as (λ o. get s.writes w ≡ o → is_write_under k w o ≡ true → is_write_under k w (get (wrote_on s.writes w bytes eof o) w) ≡ true) [
       | None ↦ λ is no. absurd (cc)
-      | Some x ↦ λ is yes. ap (is_write_under k) (here s.writes w (record x { bytes = x.bytes ++ bytes; told = eof })) ∙ yes
+      | Some x ↦ λ is yes. ap (is_write_under k w) (here s.writes w (record x { bytes = x.bytes ++ bytes; told = eof })) ∙ yes
     ] refl own
 
 wrote-own : (s : Store) (key : Option Key) (w : ℕ) (bytes : List ℕ) (eof : Bool) → is_own_write s key (Some w) ≡ true → is_own_write (wrote s w bytes eof) key (Some w) ≡ true
@@ -159,9 +160,9 @@ filling-key (phase.RevalidatedNoCache r) k fills has = absurd fills
 
 -- a begin that is not refused
 pub beginning_own : {A E : Type 0} (r r' : Request) (s t : Store) (result : Result A E) → MayWrite r → HasKey r.phase r.key → r.uses.eviction ≡ true
-    → OnOk result (r' ≡ writing true s.next None (begun_for r.key r.meta s) r) → OnOk result (t ≡ store_writing true s.next r s) → OnOk result (MayEnd t r')
+    → OnOk result (r' ≡ writing true s.next (Some s.next) (begun_for r.key r.meta s) r) → OnOk result (t ≡ store_writing true s.next r s) → OnOk result (MayEnd t r')
 beginning_own r r' s t (Err e) may has uses request store = tt
-beginning_own r r' s t (Ok a) may has uses request store = subst (λ x. MayEnd t x) (sym request) (subst (λ x. MayEnd x (writing true s.next None (begun_for r.key r.meta s) r)) (sym store) (record {
+beginning_own r r' s t (Ok a) may has uses request store = subst (λ x. MayEnd t x) (sym request) (subst (λ x. MayEnd x (writing true s.next (Some s.next) (begun_for r.key r.meta s) r)) (sym store) (record {
   uses = uses;
   own = writing_own r s r.key r.meta refl refl (filling-key r.phase r.key may.0 has) may.1;
 }))

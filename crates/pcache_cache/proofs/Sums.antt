@@ -1,5 +1,5 @@
 -- Sums over the slots of a store, against those of another store and against what is tracked.
-use Rattle.std.proofs.Common.{◌≡◌, ◌≢◌, ℕ, zero, suc, ◌+◌, ◌-◌, ◌≤◌, ◌==◌, Bool, true, false, cond, Option, None, Some, is_some, List, [], ◌∷◌, length, refl, ap, sym, subst, ◌∙◌, arith, ◌⊎◌, inl, inr}
+use Rattle.std.proofs.Common.{◌≡◌, ◌≢◌, ℕ, zero, suc, ◌-◌, ◌≤◌, true, false, cond, Option, None, Some, is_some, List, [], ◌∷◌, length, refl, ap, sym, subst, ◌∙◌, arith, ◌⊎◌, inl, inr}
 use Rattle.std.specs.Prelude.{IfSome}
 use Rattle.std.specs.declared.cmp.Ordering.{Ordering}
 use Rattle.std.specs.declared.cmp.Ordering.TheVariants.{Less, Equal, Greater}
@@ -7,9 +7,8 @@ use Rattle.std.specs.Ordering.{nat_cmp, eq_by_cmp, is_eq}
 use Rattle.std.specs.Cmp.{nat_cmp_total, tied_itself}
 use Rattle.std.specs.FinMap.{FinMap, get, remove, entries, len, find, get-remove, get-entries, len-remove, len-entries, empty_of_len, nat_cmp-IsAntisymmetric}
 use Rattle.std.proofs.lemmas.Bool.{both_ways, eq-eqb}
-use Rattle.std.proofs.lemmas.Bool.Decides.{nat_tests}
 use Rattle.pcache_base.specs.Totals.{total, share}
-use Rattle.pcache_base.proofs.Totals.{total-remove, total-empty, get-remove_apart, len-total}
+use Rattle.pcache_base.proofs.Totals.{total-remove, total-empty, len-total}
 use Rattle.pcache_evict.specs.Entry.{entry_cmp, entries_total}
 use Rattle.pcache_evict.specs.Tracked.{Tracked, Limits, IsWithin, weight}
 use Rattle.pcache_evict.specs.declared.eviction.entry_key.CacheEntryKey.{CacheEntryKey}
@@ -63,23 +62,20 @@ pub entry-same : (a b : CacheEntryKey) → eq_by_cmp entry_cmp a b ≡ true → 
 entry-same a b t = exact_entries a b (tie _ t)
 
 -- entries of different slots are different
-pub entries-apart : (a b : CacheEntryKey) (j k : ℕ) → entry_slot a ≡ Some j → entry_slot b ≡ Some k → j ≢ k → eq_by_cmp entry_cmp a b ≡ false
+pub entries-apart : (a b : CacheEntryKey) (j k : ℕ) → entry_slot a ≡ j → entry_slot b ≡ k → j ≢ k → eq_by_cmp entry_cmp a b ≡ false
 entries-apart a b j k is at ne =
     elim (eq_by_cmp entry_cmp a b) as (λ t. eq_by_cmp entry_cmp a b ≡ t → t ≡ false) [
-      | true ↦ λ t. absurd (ne (same j k (sym is ∙ ap entry_slot (entry-same a b t) ∙ at)))
+      | true ↦ λ t. absurd (ne (sym is ∙ ap entry_slot (entry-same a b t) ∙ at))
       | false ↦ λ t. refl
     ] refl
-  where
-    same : (x y : ℕ) → ◌≡◌ {A = Option ℕ} (Some x) (Some y) → x ≡ y
-    same x y e = cc
 
 -- an entry of the key's slot weighs at least what the key's slot adds
 abbrev pub HasEntry : (Slot → ℕ) → (ℕ → ℕ) → FinMap nat_cmp Slot → Tracked → ℕ → Type 0
-HasEntry f g xs m k = (e : CacheEntryKey) × (entry_slot e ≡ Some k) × (share f (get xs k) ≤ share g (get m e))
+HasEntry f g xs m k = (e : CacheEntryKey) × (entry_slot e ≡ k) × (share f (get xs k) ≤ share g (get m e))
 
 module _ (f : Slot → ℕ) (g : ℕ → ℕ) where
   -- the others once a key and its entry are taken out
-  rest-has : (xs : FinMap nat_cmp Slot) (m : Tracked) (k : ℕ) (e : CacheEntryKey) → entry_slot e ≡ Some k → ((q : ℕ) → (share f (get xs q) ≡ 0) ⊎ HasEntry f g xs m q)
+  rest-has : (xs : FinMap nat_cmp Slot) (m : Tracked) (k : ℕ) (e : CacheEntryKey) → entry_slot e ≡ k → ((q : ℕ) → (share f (get xs q) ≡ 0) ⊎ HasEntry f g xs m q)
       → (q : ℕ) → (share f (get (remove xs k) q) ≡ 0) ⊎ HasEntry f g (remove xs k) (remove m e) q
   rest-has xs m k e of all q =
       elim (eq_by_cmp nat_cmp q k) as (λ b. eq_by_cmp nat_cmp q k ≡ b → (share f (get (remove xs k) q) ≡ 0) ⊎ HasEntry f g (remove xs k) (remove m e) q) [

@@ -2,6 +2,7 @@
 use Rattle.std.specs.Prelude.{◌≡◌, ℕ, ◌≤◌, not, Bool, true, false, List, Option, Some, None, IfSome, cond, length}
 use Rattle.std.specs.FinMap.{get}
 use Rattle.pcache_base.specs.Key.{Key, slot}
+use Rattle.pcache_evict.specs.Entry.{id_of}
 use Rattle.pcache_evict.specs.Tracked.{Tracked, Limits, Evicted}
 use Rattle.pcache_evict.specs.declared.eviction.entry_key.CacheEntryKey.{CacheEntryKey}
 use Rattle.pcache_lock.specs.Locks.{Locks}
@@ -18,9 +19,11 @@ pub record Parts : Type 0 where
   pub evicted : Evicted
   pub locks : Locks
 
--- each key under which a body is complete has an entry of its own, tracked with exactly the body's length
+-- each key under which a body is complete has an entry of its own, with the number of the write that stored the body, tracked
+-- with exactly the body's length
 abbrev pub TracksExactly : Store → Tracked → Type 0
-TracksExactly s m = (k : ℕ) (b : Stored) → complete_body (get s.slots k) ≡ Some b → (e : CacheEntryKey) × (entry_slot e ≡ Some k) × (get m e ≡ Some (length b.bytes))
+TracksExactly s m = (k : ℕ) (b : Stored) → complete_body (get s.slots k) ≡ Some b
+    → (e : CacheEntryKey) × (entry_slot e ≡ k) × (get m e ≡ Some (length b.bytes)) × (id_of e ≡ b.meta.entry_id)
 
 -- the complete bodies are within the limits: their lengths added up, and their number
 pub record IsBounded (limits : Limits) (s : Store) : Type 0 where
@@ -36,7 +39,7 @@ pub record IsKept (limits : Limits) (m : Tracked) (s : Store) : Type 0 where
 abbrev pub is_own_write : Store → Option Key → Option ℕ → Bool
 is_own_write s k None = true
 is_own_write s None (Some w) = false
-is_own_write s (Some k) (Some w) = is_write_under (slot k) (get s.writes w)
+is_own_write s (Some k) (Some w) = is_write_under (slot k) w (get s.writes w)
 
 -- a request may end its write: it uses the manager, and the write is its own
 pub record MayEnd (s : Store) (r : Request) : Type 0 where

@@ -20,6 +20,7 @@ impl<M: EvictionManager, K> Cache<M, K> {
     ghost use Rattle.pcache_request.specs.Requests.{MayWrite, begun_for, settled, store_writing, writing};
     ghost use Rattle.pcache_request.specs.WriteEnds.{Ends, EndsAs, evicted_after, finishes_of};
     ghost use Rattle.pcache_store.specs.Finishes.{created};
+    ghost use Rattle.pcache_store.specs.Readers.{in_memory};
     ghost use Rattle.pcache_store.specs.Refusals.{MayRefuseWrite};
     ghost use Rattle.pcache_cache.specs.Parts.{MayEnd, takes_bytes, written_by};
 
@@ -27,11 +28,11 @@ impl<M: EvictionManager, K> Cache<M, K> {
     /// `may_write` of the request.
     pub fn set_miss_handler(&mut self, request: &mut CacheRequest<K>) -> Result<()>
         requires { MayWrite request.old.cache }
-        ensures request { OnOk result (request.new.cache ≡ writing true self.old.store.next None (begun_for request.old.cache.key request.old.cache.meta self.old.store) request.old.cache) }
+        ensures request { OnOk result (request.new.cache ≡ writing true self.old.store.next (Some self.old.store.next) (begun_for request.old.cache.key request.old.cache.meta self.old.store) request.old.cache) }
         ensures store { OnOk result (self.new.store ≡ store_writing true self.old.store.next request.old.cache self.old.store) }
         ensures table { OnOk result (self.new.locks ≡ settled Done request.old.cache.held self.old.locks) }
         ensures err { IfErr result (λ e. ((request.new.cache ≡ request.old.cache) × (self.new.store ≡ self.old.store) × (self.new.locks ≡ self.old.locks) × MayRefuseWrite self.old.store e)
-            ⊎ ((request.new.cache ≡ record request.old.cache { write = Some self.old.store.next; entry = None; held = None }) × (self.new.store ≡ begun_for request.old.cache.key request.old.cache.meta self.old.store) × (self.new.locks ≡ settled Done request.old.cache.held self.old.locks) × (e ≡ OutOfMemory))) }
+            ⊎ ((request.new.cache ≡ record request.old.cache { write = Some self.old.store.next; entry = Some self.old.store.next; held = None }) × (self.new.store ≡ begun_for request.old.cache.key request.old.cache.meta self.old.store) × (self.new.locks ≡ settled Done request.old.cache.held self.old.locks) × (e ≡ OutOfMemory))) }
         ensures kind { IfErr result (λ e. (e ≡ OutOfMemory) ⊎ MayRefuseWrite self.old.store e) }
         ensures phase { request.new.cache.phase ≡ request.old.cache.phase }
         ensures own { request.old.cache.uses.eviction ≡ true → OnOk result (MayEnd self.new.store request.new.cache) }
@@ -81,11 +82,11 @@ impl<M: EvictionManager, K> Cache<M, K> {
         requires phase { IsFilling request.old.cache.phase }
         requires own { MayEnd self.old.store request.old.cache }
         ensures request { request.new.cache ≡ after_finish request.old.cache }
-        ensures end { EndsAs result (λ end. Ends true request.old.cache request.old.cache.key request.old.cache.write (finishes_of (created self.old.store) request.old.cache.write) self.old.limits end self.old.store self.new.store self.old.tracked self.new.tracked self.old.locks self.new.locks) }
+        ensures end { EndsAs result (λ end. Ends in_memory request.old.cache request.old.cache.key request.old.cache.write (finishes_of (created self.old.store) request.old.cache.write) self.old.limits end self.old.store self.new.store self.old.tracked self.new.tracked self.old.locks self.new.locks) }
         ensures evicted { EndsAs result (λ end. self.new.evicted ≡ evicted_after request.old.cache request.old.cache.key (finishes_of (created self.old.store) request.old.cache.write) self.old.tracked self.old.evicted end) }
         ensures limits { self.new.limits ≡ self.old.limits }
     {
-        // For the prover: the call tells that entries have no numbers.
+        // For the prover: the call tells that the entry of the write has the write's number.
         let _writer = request.cache.writer();
         request
             .cache

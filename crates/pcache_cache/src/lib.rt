@@ -3,11 +3,13 @@
 //! with what went before, and what it stores is within its manager's limits at all times, whatever was refused.
 //!
 //! - `cache`: the value, and what it tells of itself
+//! - `inspect`: its manager, and what always holds of it
 //! - `request`: a request of it
 //! - `look`, `fill`, `remove`, `locks`, `renew`: what a request does, each the call of `HttpCache` with the parts lent
 
 mod cache;
 mod fill;
+mod inspect;
 mod locks;
 mod look;
 mod remove;

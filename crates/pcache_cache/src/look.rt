@@ -15,7 +15,7 @@ use pcache_store::memory::MemHitHandler;
 use pcache_store::storage::HandleHit;
 
 impl<M: EvictionManager, K> Cache<M, K> {
-    ghost use Rattle.std.specs.Prelude.{◌≡◌, ◌⊎◌, false, IfOk, IfErr, IfSome, OnOk, OnErr, IsOk, IsSome, IsTrue, None, option_map};
+    ghost use Rattle.std.specs.Prelude.{◌≡◌, ◌⊎◌, false, IfOk, IfErr, IfSome, OnOk, OnErr, IsOk, IsSome, IsTrue, None, option_map, true};
     ghost use Rattle.pcache_base.specs.declared.error.ErrorType.TheVariants.{NumbersExhausted, OutOfMemory};
     ghost use Rattle.pcache_lock.specs.Locks.{MayRefuseLock};
     ghost use Rattle.pcache_lock.specs.declared.lock.status.LockStatus.TheVariants.{GiveUp};
@@ -26,7 +26,7 @@ impl<M: EvictionManager, K> Cache<M, K> {
     ghost use Rattle.pcache_request.specs.Requests.{HoldsNothing, asks_for_hit, dropped_by, found_row, left_by, let_go_by, settled, store_found, table_found, tracked_found, without_reader};
     ghost use Rattle.pcache_request.specs.Variants.{asks_unseen, hides_for, looked_for, searched, seen_for, table_looked_for};
     ghost use Rattle.pcache_store.specs.Readers.{reader_of};
-    ghost use Rattle.pcache_store.specs.Store.{left, read_of, reader_after};
+    ghost use Rattle.pcache_store.specs.Store.{gives_piece, left, read_of, reader_after, write_read};
 
     /// `HttpCache::cache_lookup`: what the store has of the request's key, unless a variant hides it; if nothing is handed on, the key's lock
     /// is asked for. Requires a key that was set, or a stale body that was found. A pair that is handed on has to be taken by `cache_found`
@@ -97,11 +97,11 @@ impl<M: EvictionManager, K> Cache<M, K> {
         ensures request { OnOk result (request.new.cache ≡ found_row status meta (reader_of hit) self.old.locks request.old.cache) }
         ensures store { OnOk result (self.new.store ≡ store_found status (reader_of hit) request.old.cache self.old.store) }
         ensures table { OnOk result (self.new.locks ≡ table_found status now request.old.cache self.old.locks) }
-        ensures tracked { OnOk result (self.new.tracked ≡ tracked_found status (reader_of hit) None request.old.cache self.old.tracked) }
+        ensures tracked { OnOk result (self.new.tracked ≡ tracked_found status (reader_of hit) (write_read (reader_of hit)) request.old.cache self.old.tracked) }
         ensures same_request { OnErr result (request.new.cache ≡ request.old.cache) }
         ensures left_store { OnErr result (self.new.store ≡ left self.old.store (reader_of hit)) }
         ensures same_table { OnErr result (self.new.locks ≡ self.old.locks) }
-        ensures noted { OnErr result ((self.new.tracked ≡ self.old.tracked) ⊎ (self.new.tracked ≡ tracked_found status (reader_of hit) None request.old.cache self.old.tracked)) }
+        ensures noted { OnErr result ((self.new.tracked ≡ self.old.tracked) ⊎ (self.new.tracked ≡ tracked_found status (reader_of hit) (write_read (reader_of hit)) request.old.cache self.old.tracked)) }
         ensures limits { self.new.limits ≡ self.old.limits }
         ensures evicted { self.new.evicted ≡ self.old.evicted }
         ensures kind { IfErr result (λ e. MayRefuseLock self.old.locks e) }
@@ -125,13 +125,14 @@ impl<M: EvictionManager, K> Cache<M, K> {
         hit.let_go(&mut self.store);
     }
 
-    /// `HttpCache::read_body`: reads on. Requires a reader.
+    /// `HttpCache::read_body`: reads on. Requires a reader. It fails only if there is a piece to give.
     pub fn read_body(&mut self, request: &mut CacheRequest<K>) -> Result<Poll<Option<Bytes>>>
         requires { IsSome request.old.cache.reader }
         ensures read { IfOk result (λ p. IfSome request.old.cache.reader (λ r. p ≡ read_of self.old.store r)) }
         ensures request { OnOk result (request.new.cache ≡ record request.old.cache { reader = option_map (reader_after self.old.store) request.old.cache.reader }) }
         ensures same_request { OnErr result (request.new.cache ≡ request.old.cache) }
         ensures same_store { self.new.store ≡ self.old.store }
+        ensures something { OnErr result (IfSome request.old.cache.reader (λ r. gives_piece (read_of self.old.store r) ≡ true)) }
         ensures kind { IfErr result (λ e. e ≡ OutOfMemory) }
         ensures rest { self.new ≡ self.old }
     {

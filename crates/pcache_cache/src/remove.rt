@@ -6,7 +6,7 @@ use pcache_base::moment::Moment;
 use pcache_evict::eviction::EvictionManager;
 
 impl<M: EvictionManager, K> Cache<M, K> {
-    ghost use Rattle.std.specs.Prelude.{◌≡◌, IfOk, IfErr, OnOk, OnErr, option_map};
+    ghost use Rattle.std.specs.Prelude.{◌≡◌, true, IfOk, IfErr, OnOk, OnErr, option_map};
     ghost use Rattle.pcache_base.specs.Key.{slot};
     ghost use Rattle.pcache_base.specs.declared.error.ErrorType.TheVariants.{OutOfMemory};
     ghost use Rattle.pcache_request.specs.Phases.{MayPurge, MaySpawnPurge};
@@ -17,9 +17,9 @@ impl<M: EvictionManager, K> Cache<M, K> {
     pub fn purge(&mut self, request: &mut CacheRequest<K>) -> Result<bool>
         requires { MayPurge request.old.cache.phase }
         ensures same { request.new.cache ≡ request.old.cache }
-        ensures there { IfOk result (λ there. there ≡ is_removed_by (purge_answer self.old.store (option_map slot request.old.cache.key))) }
+        ensures there { IfOk result (λ there. there ≡ is_removed_by (purge_answer true self.old.store (option_map slot request.old.cache.key))) }
         ensures store { OnOk result (self.new.store ≡ purged_at self.old.store (option_map slot request.old.cache.key)) }
-        ensures tracked { OnOk result (self.new.tracked ≡ tracked_gone_for request.old.cache.uses.eviction request.old.cache.key (purge_answer self.old.store (option_map slot request.old.cache.key)) self.old.tracked) }
+        ensures tracked { OnOk result (self.new.tracked ≡ tracked_gone_for request.old.cache.uses.eviction request.old.cache.key (purge_answer true self.old.store (option_map slot request.old.cache.key)) self.old.tracked) }
         ensures same_store { OnErr result (self.new.store ≡ self.old.store) }
         ensures same_tracked { OnErr result (self.new.tracked ≡ self.old.tracked) }
         ensures limits { self.new.limits ≡ self.old.limits }
@@ -38,9 +38,9 @@ impl<M: EvictionManager, K> Cache<M, K> {
     ) -> Result<bool>
         requires { MaySpawnPurge request.old.cache.phase }
         ensures same { request.new.cache ≡ request.old.cache }
-        ensures there { IfOk result (λ there. there ≡ is_removed_by (purge_answer self.old.store (option_map slot request.old.cache.key))) }
+        ensures there { IfOk result (λ there. there ≡ is_removed_by (purge_answer true self.old.store (option_map slot request.old.cache.key))) }
         ensures store { OnOk result (self.new.store ≡ purged_at self.old.store (option_map slot request.old.cache.key)) }
-        ensures tracked { OnOk result (self.new.tracked ≡ tracked_gone_for request.old.cache.uses.eviction request.old.cache.key (purge_answer self.old.store (option_map slot request.old.cache.key)) self.old.tracked) }
+        ensures tracked { OnOk result (self.new.tracked ≡ tracked_gone_for request.old.cache.uses.eviction request.old.cache.key (purge_answer true self.old.store (option_map slot request.old.cache.key)) self.old.tracked) }
         ensures same_store { OnErr result (self.new.store ≡ self.old.store) }
         ensures same_tracked { OnErr result (self.new.tracked ≡ self.old.tracked) }
         ensures limits { self.new.limits ≡ self.old.limits }

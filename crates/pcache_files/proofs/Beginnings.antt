@@ -16,7 +16,7 @@ use Rattle.pcache_files.proofs.FileExact.{file_again, nodes_again}
 number_longer : (bytes : List ℕ) (n : ℕ) (rest more : List ℕ) → NumberThen bytes n rest → NumberThen (bytes ++ more) n (rest ++ more)
 number_longer bytes n rest more t = record { form = t.form; fits = t.fits; text = ap (λ b. b ++ more) t.text ∙ append_assoc (number_text t.form n) rest more }
 
-array_longer : (bytes : List ℕ) (n : ℕ) (rest more : List ℕ) → ArrayThen bytes n rest → ArrayThen (bytes ++ more) n (rest ++ more)
+pub array_longer : (bytes : List ℕ) (n : ℕ) (rest more : List ℕ) → ArrayThen bytes n rest → ArrayThen (bytes ++ more) n (rest ++ more)
 array_longer bytes n rest more t = record { form = t.form; fits = t.fits; text = ap (λ b. b ++ more) t.text ∙ append_assoc (array_text t.form n) rest more }
 
 text_longer : (bytes s rest more : List ℕ) → TextThen bytes s rest → TextThen (bytes ++ more) s (rest ++ more)
@@ -63,7 +63,7 @@ entry_longer bytes e rest more (spell.only k is t) = spell.only k is (key_longer
 entry_longer bytes e rest more (spell.pair k id items later is head t number) =
     spell.pair k id (items ++ more) (later ++ more) is (array_longer bytes 2 items more head) (key_longer items k later more t) (option_longer NumberThen number_longer later id rest more number)
 
-node_longer : (bytes : List ℕ) (node : CacheEntryKey × ℕ) (rest more : List ℕ) → NodeThen bytes node rest → NodeThen (bytes ++ more) node (rest ++ more)
+pub node_longer : (bytes : List ℕ) (node : CacheEntryKey × ℕ) (rest more : List ℕ) → NodeThen bytes node rest → NodeThen (bytes ++ more) node (rest ++ more)
 node_longer bytes node rest more t =
     record {
       items = t.items ++ more;
@@ -73,7 +73,7 @@ node_longer bytes node rest more t =
       weight = number_longer t.later node.1 rest more t.weight;
     }
 
-nodes_longer : (bytes : List ℕ) (l : Recency) (rest more : List ℕ) → NodesThen bytes l rest → NodesThen (bytes ++ more) l (rest ++ more)
+pub nodes_longer : (bytes : List ℕ) (l : Recency) (rest more : List ℕ) → NodesThen bytes l rest → NodesThen (bytes ++ more) l (rest ++ more)
 nodes_longer bytes [] rest more t = ap (λ b. b ++ more) t
 nodes_longer bytes (node ∷ l) rest more t = (t.0 ++ more, node_longer bytes node t.0 more t.1, nodes_longer t.0 l rest more t.2)
 

@@ -96,7 +96,7 @@ entry_behind bytes e rest fits (spell.pair k id items later is head t number) =
 
 -- ---- nodes
 
-node_takes : (bytes : List ℕ) (node : CacheEntryKey × ℕ) (rest : List ℕ) → IsBytes bytes → node_at bytes ≡ Some (node, rest) → NodeThen bytes node rest
+pub node_takes : (bytes : List ℕ) (node : CacheEntryKey × ℕ) (rest : List ℕ) → IsBytes bytes → node_at bytes ≡ Some (node, rest) → NodeThen bytes node rest
 unfolding node_at
 node_takes bytes node rest fits read = after_rest (items_at 2 bytes) _ (node, rest) read (λ items read1 go.
     let t1 = items_takes 2 bytes items fits read1 in
@@ -108,7 +108,7 @@ node_takes bytes node rest fits read = after_rest (items_at 2 bytes) _ (node, re
     let t3 = number_takes r2 weight r3 f2 read3 in
     same_parts NodeThen bytes (e, weight) node r3 rest end (record { items = items; head = t1; later = r2; entry = t2; weight = t3 }))))
 
-node_again : (bytes : List ℕ) (node : CacheEntryKey × ℕ) (rest : List ℕ) → NodeThen bytes node rest → node_at bytes ≡ Some (node, rest)
+pub node_again : (bytes : List ℕ) (node : CacheEntryKey × ℕ) (rest : List ℕ) → NodeThen bytes node rest → node_at bytes ≡ Some (node, rest)
 unfolding node_at
 node_again bytes node rest t =
     rw (items_again 2 bytes t.items t.head, entry_again t.items node.0 t.later t.entry, number_again t.later node.1 rest t.weight) refl

@@ -5,7 +5,7 @@ use Rattle.pcache_base.specs.declared.key.CompactCacheKey.{CompactCacheKey}
 use Rattle.pcache_evict.specs.declared.eviction.entry_key.CacheEntryKey.{CacheEntryKey}
 use Rattle.pcache_evict.specs.Entry.{entry_with}
 use Rattle.pcache_evict.specs.Recency.{Recency}
-use Rattle.pcache_meta.specs.Reading.{◌>>=◌, when, number_at, array_at, items_at, text_at, hash_at, optional_at}
+use Rattle.pcache_meta.specs.Reading.{◌>>=◌, when, number_at, array_at, items_at, text_at, text_head_at, hash_at, optional_at}
 
 -- the items of a key, after the head
 unfoldable pub key_items_at : List ℕ → Option (CompactCacheKey × List ℕ)
@@ -56,3 +56,27 @@ file_at bytes = do
   nodes ← nodes_at count.0 count.1
   rest ← when (length nodes.1 == 0) nodes.1
   Some nodes.0
+
+-- ---- of a node whose bytes are not all there
+
+-- the bytes from the tag of the next node on
+unfoldable pub tag_at : List ℕ → Option (List ℕ)
+tag_at bytes = do
+  items ← items_at 2 bytes
+  count ← array_at items
+  key ← (if count.0 == 3 then Some count.1 else if count.0 == 2 then items_at 3 count.1 else None)
+  primary ← hash_at key
+  variance ← optional_at hash_at primary.1
+  Some variance.1
+
+-- how many bytes the text has that comes next
+unfoldable pub text_len_at : List ℕ → Option ℕ
+text_len_at bytes = do
+  size ← text_head_at bytes
+  Some size.0
+
+-- how many bytes the tag of the next node has
+unfoldable pub tag_len_at : List ℕ → Option ℕ
+tag_len_at bytes = do
+  tag ← tag_at bytes
+  text_len_at tag

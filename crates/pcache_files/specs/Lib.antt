@@ -3,3 +3,4 @@ pub mod FileLaws
 pub mod FileReading
 pub mod FileSpelling
 pub mod FileWriting
+pub mod Folder

@@ -1,12 +1,14 @@
 //! The bytes of an eviction manager's file: an array of entries with their weights, most recent
 //! first, in the forms of MessagePack that `pcache_meta::msgpack` has.
-ghost use Rattle.std.specs.Prelude.{◌≡◌, ◌<◌, ◌≤◌, ◌^◌, ◌++◌, ◌⊎◌, length, OnOk, IfErr, IfOk, IfSome, IsErrOf};
+ghost use Rattle.std.specs.Prelude.{◌≡◌, ◌-◌, ◌<◌, ◌≤◌, ◌^◌, ◌++◌, ◌⊎◌, drop, length, None, OnOk, OnErr, IfErr, IfOk, IfSome, IsErrOf};
 ghost use Rattle.pcache_base.specs.declared.error.ErrorType.TheVariants.{InternalError, OutOfMemory};
 ghost use Rattle.pcache_evict.specs.Entry.{key_of, id_of};
 ghost use Rattle.pcache_evict.specs.Recency.{Recency};
-ghost use Rattle.pcache_meta.specs.Reading.{GivesOrWants, number_at, optional_at};
-ghost use Rattle.pcache_files.specs.FileReading.{key_items_at, only_at, pair_at, entry_at, node_at, nodes_at, file_at};
-ghost use Rattle.pcache_files.specs.FileSpelling.{SpellsFile};
+ghost use Rattle.pcache_meta.specs.Reading.{Gives, GivesOrWants, array_at, number_at, optional_at, wide_at};
+ghost use Rattle.std.specs.Int.{w8, w16, w32};
+ghost use Rattle.pcache_files.specs.FileReading.{key_items_at, only_at, pair_at, entry_at, node_at, nodes_at, file_at, tag_at, text_len_at, tag_len_at};
+ghost use Rattle.pcache_files.specs.FileSpelling.{NodeThen, SpellsFile};
+ghost use Rattle.pcache_meta.specs.Spelling.{ArrayThen};
 ghost use Rattle.pcache_files.specs.FileWriting.{key_written, entry_written, node_written, file_written, IsKey, IsNode, IsTooLong};
 
 use lru::Iter;
@@ -24,8 +26,8 @@ const NODE_BYTES: usize = 24;
 
 // ---- reading
 
-// The refusal of bytes that spell no list.
-fn unreadable() -> Error
+/// The refusal of bytes that spell no list.
+pub(crate) fn unreadable() -> Error
     ensures { result ≡ InternalError }
 {
     Error::new(ErrorType::InternalError)
@@ -147,6 +149,121 @@ pub fn read_file(alloc: Global, bytes: &[u8]) -> Result<Vec<(CacheEntryKey, usiz
     ensures kinds { IfErr result (λ e. (e ≡ OutOfMemory) ⊎ (e ≡ InternalError)) }
 {
     read_list(alloc, bytes)
+}
+
+// ---- a node whose bytes are not all there
+
+// What stands before the tag of the next node.
+#[tactic(auto, unfolding(crate::specs::FileReading::tag_at))]
+fn pass_front(reader: &mut Reader<'_>) -> Result<()>
+    ensures { Gives (λ _. reader.new) result (tag_at reader.old) }
+{
+    reader.items(2)?;
+    match reader.array()? {
+        3 => {}
+        2 => reader.items(3)?,
+        _ => return Err(unreadable()),
+    }
+    reader.hash()?;
+    reader.optional_hash()?;
+    Ok(())
+}
+
+// The last bytes, so many.
+fn last_bytes(bytes: &[u8], count: usize) -> &[u8]
+    requires { count ≤ length bytes.now }
+    ensures { result.now ≡ drop (length bytes.now - count) bytes.now }
+{
+    &bytes[bytes.len() - count..]
+}
+
+// The bytes from the tag of the next node on.
+fn tag_on(bytes: &[u8]) -> Result<&[u8]>
+    ensures { Gives (λ tag. tag.now) result (tag_at bytes.now) }
+{
+    let mut reader = Reader::new(bytes);
+    pass_front(&mut reader)?;
+    Ok(last_bytes(bytes, reader.remaining()))
+}
+
+#[tactic(auto, unfolding(pcache_meta::specs::Reading::wide_at))]
+fn wide8(bytes: &[u8]) -> Result<usize>
+    ensures { Gives (λ n. (n, drop 1 bytes.now)) result (wide_at w8 bytes.now) }
+{
+    let Some((b, _)) = bytes.split_at_checked(1) else {
+        return Err(unreadable());
+    };
+    Ok(usize::from(u8::from_be_bytes([b[0]])))
+}
+
+#[tactic(auto, unfolding(pcache_meta::specs::Reading::wide_at))]
+fn wide16(bytes: &[u8]) -> Result<usize>
+    ensures { Gives (λ n. (n, drop 2 bytes.now)) result (wide_at w16 bytes.now) }
+{
+    let Some((b, _)) = bytes.split_at_checked(2) else {
+        return Err(unreadable());
+    };
+    Ok(usize::from(u16::from_be_bytes([b[0], b[1]])))
+}
+
+#[tactic(auto, unfolding(pcache_meta::specs::Reading::wide_at))]
+fn wide32(bytes: &[u8]) -> Result<usize>
+    ensures { Gives (λ n. (n, drop 4 bytes.now)) result (wide_at w32 bytes.now) }
+{
+    let Some((b, _)) = bytes.split_at_checked(4) else {
+        return Err(unreadable());
+    };
+    Ok(u32::from_be_bytes([b[0], b[1], b[2], b[3]]) as usize)
+}
+
+// How many bytes the text has that comes next.
+#[tactic(auto, unfolding(crate::specs::FileReading::text_len_at, pcache_meta::specs::Reading::text_head_at))]
+fn text_len(bytes: &[u8]) -> Result<usize>
+    ensures { Gives (λ n. n) result (text_len_at bytes.now) }
+{
+    let [first, rest @ ..] = bytes else {
+        return Err(unreadable());
+    };
+    match *first {
+        0xD9 => wide8(rest),
+        0xDA => wide16(rest),
+        0xDB => wide32(rest),
+        0xA0..=0xBF => Ok(usize::from(*first - 0xA0)),
+        _ => Err(unreadable()),
+    }
+}
+
+/// How many bytes the tag of the next node has.
+#[tactic(auto, unfolding(crate::specs::FileReading::tag_len_at))]
+pub(crate) fn tag_len(bytes: &[u8]) -> Result<usize>
+    ensures { Gives (λ n. n) result (tag_len_at bytes.now) }
+{
+    let tag = tag_on(bytes)?;
+    text_len(tag)
+}
+
+/// The head of an array that comes first: how many items it has, and how many bytes are behind it.
+pub(crate) fn first_count(bytes: &[u8]) -> Result<(u64, usize)>
+    ensures found { IfOk result (λ x. ArrayThen bytes.now x.0 (drop (length bytes.now - x.1) bytes.now)) }
+    ensures within { IfOk result (λ x. x.1 ≤ length bytes.now) }
+    ensures refused { OnErr result (array_at bytes.now ≡ None) }
+    ensures kind { IfErr result (λ e. e ≡ InternalError) }
+{
+    let mut reader = Reader::new(bytes);
+    let count = reader.array()?;
+    Ok((count, reader.remaining()))
+}
+
+/// The node that comes first, and how many bytes are behind it.
+pub(crate) fn first_node(alloc: Global, bytes: &[u8]) -> Result<((CacheEntryKey, usize), usize)>
+    ensures found { IfOk result (λ x. NodeThen bytes.now x.0 (drop (length bytes.now - x.1) bytes.now)) }
+    ensures within { IfOk result (λ x. x.1 ≤ length bytes.now) }
+    ensures refused { IsErrOf result InternalError → node_at bytes.now ≡ None }
+    ensures kinds { IfErr result (λ e. (e ≡ OutOfMemory) ⊎ (e ≡ InternalError)) }
+{
+    let mut reader = Reader::new(bytes);
+    let node = read_node(alloc, &mut reader)?;
+    Ok((node, reader.remaining()))
 }
 
 // ---- writing

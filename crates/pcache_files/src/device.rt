@@ -137,34 +137,23 @@ impl<T: Write> CountedWrite for Counted<T> {
     }
 
     fn flush(&mut self) -> Result<()> {
-        match self.device.flush() {
-            Ok(()) => Ok(()),
-            Err(_) => Err(self.fail()),
+        'tries: for _ in 0..u64::MAX {
+            match self.device.flush() {
+                Ok(()) => return Ok(()),
+                Err(error) => {
+                    if error.kind() != ErrorKind::Interrupted {
+                        return Err(self.fail());
+                    }
+                }
+            }
         }
+        Err(self.fail())
     }
 
     fn failures(&self) -> u64 {
         let Counted { failures, .. } = self;
         *failures
     }
-}
-
-/// All bytes that a reader has left.
-pub fn read_whole<D: CountedRead>(alloc: Global, from: &mut D) -> Result<Vec<u8>>
-    ensures whole { IfOk result (λ v. Gave (D.remaining from.old) (D.remaining from.new) v.items) }
-    ensures counted { Counts (D.failed from.old) (D.failed from.new) result }
-    ensures kinds { IfErr result (λ e. (e ≡ OutOfMemory) ⊎ (e ≡ Io)) }
-{
-    let mut bytes = Vec::new(alloc);
-    let mut piece = [0; 8192];
-    'pieces: for _ in 0..u64::MAX {
-        let count = from.read(&mut piece)?;
-        if count == 0 {
-            return Ok(bytes);
-        }
-        bytes.extend_from_slice(&piece[..count])?;
-    }
-    unreachable!()
 }
 
 /// Writes all of the bytes, and flushes. If the writer fails, it has taken a beginning of them.

@@ -1,14 +1,19 @@
 //! The files of a folder: one that is opened, and one that is written under a temporary name and
 //! then renamed. No contract says what a file holds.
-ghost use Rattle.std.specs.Prelude.{◌≡◌, ◌⊎◌, IfErr};
+ghost use Rattle.std.specs.Prelude.{◌≡◌, ◌⊎◌, IfErr, IsErrOf};
 ghost use Rattle.pcache_base.specs.declared.error.ErrorType.TheVariants.{Io, OutOfMemory};
+ghost use Rattle.pcache_files.specs.Folder.{IsUnopened};
 
 use crate::device::{Counted, write_whole};
 use pcache_base::error::{Error, ErrorType, Result};
 use std::alloc::Global;
 use std::fs::Files;
-use std::path::Path;
+use std::io::Write;
+use std::path::{Path, PathBuf};
 use std::{fs, io};
+
+/// How many suffixes are tried for a temporary file, if there are files with the first ones.
+const SUFFIXES: u32 = 64;
 
 /// Opens a file of a folder to be read.
 pub(crate) fn open_file<R: Files>(
@@ -17,7 +22,8 @@ pub(crate) fn open_file<R: Files>(
     dir: &str,
     name: &str,
 ) -> Result<Counted<R::File>>
-    ensures { IfErr result (λ e. (e ≡ OutOfMemory) ⊎ (e ≡ Io)) }
+    ensures kinds { IfErr result (λ e. (e ≡ OutOfMemory) ⊎ (e ≡ Io)) }
+    ensures unopened { IsErrOf result Io → IsUnopened }
 {
     let path = Path::new(dir).join(alloc, name)?;
     match fs::open(files, path.as_str()) {
@@ -27,8 +33,9 @@ pub(crate) fn open_file<R: Files>(
 }
 
 /// Puts a file with these bytes in the place of an older one. The folder is made with its parents
-/// if it is missing, and the bytes go to a file whose name ends in the suffix first. What a
-/// refusal leaves of that file is open.
+/// if it is missing. The bytes go to a new file first, whose name ends in the suffix, or in the next
+/// one for which there is no file; one that is there is never written to. The new file is taken away
+/// again if a call on it fails, and the older one stays.
 pub(crate) fn replace_file<R: Files>(
     alloc: Global,
     files: &R,
@@ -39,26 +46,69 @@ pub(crate) fn replace_file<R: Files>(
 ) -> Result<()>
     ensures { IfErr result (λ e. (e ≡ OutOfMemory) ⊎ (e ≡ Io)) }
 {
-    let folder = Path::new(dir);
-    let path = folder.join(alloc, name)?;
-    let temporary = format!(in alloc; "{name}.{suffix:08x}.tmp")?;
-    let temporary = folder.join(alloc, temporary.as_str())?;
+    let path = Path::new(dir).join(alloc, name)?;
     told(fs::create_dir_all(files, dir))?;
-    write_new(files, temporary.as_str(), bytes)?;
-    told(fs::rename(files, temporary.as_str(), path.as_str()))
+    for step in 0..SUFFIXES {
+        let temporary = temporary_path(alloc, dir, name, suffix.wrapping_add(step))?;
+        match fs::File::create_new(files, temporary.as_str()) {
+            Ok(file) => {
+                return put_in_place(files, file, temporary.as_str(), path.as_str(), bytes);
+            }
+            Err(error) => {
+                if error.kind() != io::ErrorKind::AlreadyExists {
+                    return Err(refusal(&error));
+                }
+            }
+        }
+    }
+    Err(Error::new(ErrorType::Io))
 }
 
-// Writes a new file.
-fn write_new<R: Files>(files: &R, path: &str, bytes: &[u8]) -> Result<()>
+// The path of the temporary file with a suffix.
+fn temporary_path(alloc: Global, dir: &str, name: &str, suffix: u32) -> Result<PathBuf>
+    ensures { IfErr result (λ e. e ≡ OutOfMemory) }
+{
+    let temporary = format!(in alloc; "{name}.{suffix:08x}.tmp")?;
+    Ok(Path::new(dir).join(alloc, temporary.as_str())?)
+}
+
+// Writes a new file and gives it the name of an older one, or takes it away.
+fn put_in_place<R: Files>(
+    files: &R,
+    file: R::File,
+    temporary: &str,
+    path: &str,
+    bytes: &[u8],
+) -> Result<()>
     ensures { IfErr result (λ e. (e ≡ OutOfMemory) ⊎ (e ≡ Io)) }
 {
-    match fs::create(files, path) {
-        Ok(file) => {
-            let mut file = Counted::new(file);
-            write_whole(&mut file, bytes)
-        }
-        Err(error) => Err(refusal(&error)),
+    let placed = write_and_rename(files, file, temporary, path, bytes);
+    if placed.is_err() {
+        let _ = fs::remove_file(files, temporary);
     }
+    placed
+}
+
+// The file is closed before it gets its name.
+fn write_and_rename<R: Files>(
+    files: &R,
+    file: R::File,
+    temporary: &str,
+    path: &str,
+    bytes: &[u8],
+) -> Result<()>
+    ensures { IfErr result (λ e. (e ≡ OutOfMemory) ⊎ (e ≡ Io)) }
+{
+    write_new(file, bytes)?;
+    told(fs::rename(files, temporary, path))
+}
+
+// Writes all of a new file, and closes it.
+fn write_new<W: Write + Drop>(file: W, bytes: &[u8]) -> Result<()>
+    ensures { IfErr result (λ e. e ≡ Io) }
+{
+    let mut file = Counted::new(file);
+    write_whole(&mut file, bytes)
 }
 
 // What a call on the file system answered.

@@ -1,14 +1,15 @@
 //! The files of the manager in shards, one for each shard.
-ghost use Rattle.std.specs.Prelude.{◌≡◌, ◌<◌, ◌≤◌, ◌⊎◌, ℕ, IfErr, IfOk, IsErrOf, OnErr, OnOk};
+ghost use Rattle.std.specs.Prelude.{◌≡◌, ◌+◌, ◌^◌, ◌<◌, ◌≤◌, ◌⊎◌, ◌++◌, ℕ, IfErr, IfOk, IfNone, IfSome, IsErrOf, OnErr, OnOk};
 ghost use Rattle.pcache_base.specs.declared.error.ErrorType.TheVariants.{InternalError, Io, OutOfMemory};
 ghost use Rattle.pcache_evict.specs.Recency.{Recency};
 ghost use Rattle.pcache_evict.specs.Shards.{ArePlaced, joined_all, list_at};
 ghost use Rattle.pcache_files.specs.FileSpelling.{SpellsFile};
+ghost use Rattle.pcache_files.specs.Folder.{IsRead, IsSkipped, Loads};
 ghost use Rattle.pcache_files.specs.FileWriting.{file_written, IsTooLong};
 
 use crate::codec::{read_file, write_file};
-use crate::device::read_whole;
 use crate::folder::{open_file, replace_file};
+use crate::pieces::read_list_from;
 use pcache_base::error::{Error, ErrorType, Result};
 use pcache_evict::eviction::CacheEntryKey;
 use pcache_evict::eviction::sharded_lru::Manager;
@@ -50,8 +51,10 @@ pub fn deserialize_shard<const N: usize>(
 }
 
 /// Saves each shard as `lru.data.` and its number in a folder, which is made with its parents if
-/// it is missing, each written under a name that ends in the suffix in eight hexadecimal digits and
-/// `.tmp`, and then renamed. If a shard is refused, those before it are saved.
+/// it is missing, each written under a name that ends in the suffix in eight hexadecimal digits (or
+/// the next one of 64 for which there is no file yet) and `.tmp`, and then renamed. If a shard is
+/// refused, those before it are saved, older files stay for the others, and what was written of it is
+/// taken away.
 pub fn save<R: Files, const N: usize>(
     alloc: Global,
     manager: &Manager<N>,
@@ -88,54 +91,68 @@ fn save_shard<R: Files, const N: usize>(
 }
 
 /// Puts in what the files of a folder hold, shard after shard, each entry as `deserialize_shard` does,
-/// and answers how many files were skipped, since they could not be read or spell no list. All are
-/// read before anything is put in, and a refusal, which comes only when memory runs out, changes
-/// nothing.
+/// and answers how many files were skipped: those that could not be opened or read, and those that
+/// spell no list. All are read before anything is put in, and a refusal, which comes only when memory
+/// runs out, changes nothing. That the files are those of these names no contract says.
 pub fn load<R: Files, const N: usize>(
     alloc: Global,
     manager: &mut Manager<N>,
     files: &R,
     dir: &str,
 ) -> Result<usize>
-    ensures ok { OnOk result ((l : Recency)
+    ensures ok { IfOk result (λ skipped. (l : Recency) × Loads R.File.remaining N skipped l
         × (manager.new ≡ record manager.old { shards = joined_all N l manager.old.shards })) }
     ensures skipped { IfOk result (λ n. n ≤ N) }
+    ensures placed { ArePlaced N manager.old.shards }
     ensures kind { IfErr result (λ e. e ≡ OutOfMemory) }
     ensures err { OnErr result (manager.new ≡ manager.old) }
 {
+    let shards = manager.shards();
     let mut entries = Vec::new(alloc);
     let mut skipped = 0;
-    for shard in 0..N {
-        let read = read_shard(alloc, files, dir, shard, &mut entries)?;
-        if !read {
-            skipped += 1;
-        }
+    for shard in 0..shards {
+        let list = read_shard(alloc, files, dir, shard)?;
+        take_in(&mut entries, &mut skipped, list)?;
     }
     manager.load_entries(entries)?;
     Ok(skipped)
 }
 
-// Adds what the file of a shard holds, and answers whether it could be read.
+// Adds the list of one more file, or counts the file as skipped.
+fn take_in(
+    entries: &mut Vec<(CacheEntryKey, usize)>,
+    skipped: &mut usize,
+    list: Option<Vec<(CacheEntryKey, usize)>>,
+) -> Result<()>
+    requires { skipped.old + 1 < 2 ^ 64 }
+    ensures added { OnOk result (IfSome list (λ v. (entries.new.items ≡ entries.old.items ++ v.items) × (skipped.new ≡ skipped.old))) }
+    ensures missed { OnOk result (IfNone list ((entries.new.items ≡ entries.old.items) × (skipped.new ≡ skipped.old + 1))) }
+    ensures kind { IfErr result (λ e. e ≡ OutOfMemory) }
+{
+    match list {
+        Some(mut list) => entries.append(&mut list)?,
+        None => *skipped += 1,
+    }
+    Ok(())
+}
+
+// The list of a shard's file, or none if it is skipped.
 fn read_shard<R: Files>(
     alloc: Global,
     files: &R,
     dir: &str,
     shard: usize,
-    entries: &mut Vec<(CacheEntryKey, usize)>,
-) -> Result<bool>
-    ensures { IfErr result (λ e. e ≡ OutOfMemory) }
+) -> Result<Option<Vec<(CacheEntryKey, usize)>>>
+    ensures read { IfOk result (λ o. IfSome o (λ v. IsRead R.File.remaining v.items)) }
+    ensures skipped { IfOk result (λ o. IfNone o (IsSkipped R.File.remaining)) }
+    ensures kind { IfErr result (λ e. e ≡ OutOfMemory) }
 {
     let name = file_name(alloc, shard)?;
     match read_entries(alloc, files, dir, name.as_str()) {
-        Ok(read) => {
-            for entry in read {
-                entries.push(entry)?;
-            }
-            Ok(true)
-        }
+        Ok(list) => Ok(Some(list)),
         Err(refused) => match refused.etype() {
             ErrorType::OutOfMemory => Err(Error::new(ErrorType::OutOfMemory)),
-            _ => Ok(false),
+            _ => Ok(None),
         },
     }
 }
@@ -146,10 +163,12 @@ fn read_entries<R: Files>(
     files: &R,
     dir: &str,
     name: &str,
-) -> Result<Vec<(CacheEntryKey, usize)>> {
+) -> Result<Vec<(CacheEntryKey, usize)>>
+    ensures found { IfOk result (λ v. IsRead R.File.remaining v.items) }
+    ensures skipped { IfErr result (λ e. (e ≡ OutOfMemory) ⊎ IsSkipped R.File.remaining) }
+{
     let mut file = open_file(alloc, files, dir, name)?;
-    let bytes = read_whole(alloc, &mut file)?;
-    read_file(alloc, &bytes)
+    read_list_from(alloc, &mut file)
 }
 
 // The name of a shard's file.

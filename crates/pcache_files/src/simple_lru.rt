@@ -1,16 +1,18 @@
 //! The file of the manager with one recency list.
-ghost use Rattle.std.specs.Prelude.{◌≡◌, ◌≢◌, ◌⊎◌, ℕ, List, IfErr, IfOk, IsErrOf, OnErr, OnOk};
+ghost use Rattle.std.specs.Prelude.{◌≡◌, ◌≢◌, ◌⊎◌, ℕ, List, Some, IfErr, IfOk, IsErrOf, OnErr, OnOk};
 ghost use Rattle.std.specs.Io.KnownBytes.{Appends, Keeps};
 ghost use Rattle.pcache_base.specs.declared.error.ErrorType.TheVariants.{InternalError, Io, OutOfMemory};
 ghost use Rattle.pcache_evict.specs.Listed.{IsOnce};
 ghost use Rattle.pcache_evict.specs.Recency.{Recency, loaded_all};
 ghost use Rattle.pcache_files.specs.Device.{Counts, Gave, TookBeginning};
 ghost use Rattle.pcache_files.specs.FileSpelling.{SpellsFile};
+ghost use Rattle.pcache_files.specs.Folder.{IsRead};
 ghost use Rattle.pcache_files.specs.FileWriting.{file_written, IsTooLong};
 
 use crate::codec::{read_file, write_file};
-use crate::device::{CountedRead, CountedWrite, read_whole, write_whole};
+use crate::device::{CountedRead, CountedWrite, write_whole};
 use crate::folder::{open_file, replace_file};
+use crate::pieces::read_list_from;
 use pcache_base::error::Result;
 use pcache_evict::eviction::simple_lru::Manager;
 use std::alloc::Global;
@@ -61,25 +63,26 @@ pub fn save_to<W: CountedWrite>(alloc: Global, manager: &Manager, to: &mut W) ->
 }
 
 /// Puts in the list of the file that a reader gives up to its end, as `deserialize` does. The file
-/// is read whole before anything is put in, and a refusal leaves the manager as it was.
+/// is read whole before anything is put in, and a refusal leaves the manager as it was. Bytes that
+/// begin no list are refused as soon as they show it, and no more is read then.
 pub fn load_from<D: CountedRead>(alloc: Global, manager: &mut Manager, from: &mut D) -> Result<()>
     ensures ok { OnOk result ((bytes : List ℕ) × (l : Recency)
         × Gave (D.remaining from.old) (D.remaining from.new) bytes × SpellsFile bytes l
         × (manager.new ≡ record manager.old { entries = loaded_all l manager.old.entries })) }
-    ensures refused { IsErrOf result InternalError → (bytes : List ℕ)
-        × Gave (D.remaining from.old) (D.remaining from.new) bytes
-        × ((l : Recency) → ¬ (SpellsFile bytes l)) }
+    ensures refused { IsErrOf result InternalError → (bytes : List ℕ) → D.remaining from.old ≡ Some bytes
+        → (l : Recency) → ¬ (SpellsFile bytes l) }
     ensures counted { Counts (D.failed from.old) (D.failed from.new) result }
     ensures kinds { IfErr result (λ e. (e ≡ OutOfMemory) ⊎ (e ≡ InternalError) ⊎ (e ≡ Io)) }
     ensures err { OnErr result (manager.new ≡ manager.old) }
 {
-    let bytes = read_whole(alloc, from)?;
-    deserialize(alloc, manager, &bytes)
+    let entries = read_list_from(alloc, from)?;
+    manager.load_entries(entries)
 }
 
 /// Saves the manager as `simple_lru.data` in a folder, which is made with its parents if it is
 /// missing. It is written as `simple_lru.data.XXXXXXXX.tmp`, with the suffix in eight hexadecimal
-/// digits, and then renamed.
+/// digits (or the next one of 64 for which there is no file yet), and then renamed. If it is
+/// refused, an older `simple_lru.data` stays, and what was written is taken away.
 pub fn save<R: Files>(
     alloc: Global,
     manager: &Manager,
@@ -95,9 +98,9 @@ pub fn save<R: Files>(
 }
 
 /// Puts in the list of the file `simple_lru.data` of a folder, as `load_from` does. A file that can't
-/// be opened is an `Io` error.
+/// be opened is an `Io` error. That the file is the one of this name no contract says.
 pub fn load<R: Files>(alloc: Global, manager: &mut Manager, files: &R, dir: &str) -> Result<()>
-    ensures ok { OnOk result ((l : Recency)
+    ensures ok { OnOk result ((l : Recency) × IsRead R.File.remaining l
         × (manager.new ≡ record manager.old { entries = loaded_all l manager.old.entries })) }
     ensures kinds { IfErr result (λ e. (e ≡ OutOfMemory) ⊎ (e ≡ InternalError) ⊎ (e ≡ Io)) }
     ensures err { OnErr result (manager.new ≡ manager.old) }

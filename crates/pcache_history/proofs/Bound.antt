@@ -1,11 +1,11 @@
 -- What is stored stays within the limits.
-use Rattle.std.proofs.Common.{◌≡◌, ◌≢◌, ℕ, ◌≤◌, Bool, true, false, ◌==◌, if◌then◌else◌, Option, None, Some, List, [], ◌∷◌, refl, ap, sym, subst, ◌∙◌, arith}
+use Rattle.std.proofs.Common.{◌≡◌, ◌≢◌, ℕ, ◌≤◌, Bool, true, false, ◌&&◌, ◌==◌, if◌then◌else◌, Option, None, Some, is_some, List, [], ◌∷◌, refl, ap, sym, subst, ◌∙◌, arith}
 use Rattle.std.specs.Prelude.{IfSome}
 use Rattle.std.specs.Option.{option_map, unwrap_or}
 use Rattle.std.specs.List.{AllByRecursion, IsDistinct, list_any, sum_by}
 use Rattle.std.specs.Ordering.{nat_cmp, eq_by_cmp}
 use Rattle.std.specs.FinMap as map
-use Rattle.std.proofs.lemmas.Bool.{eqb-true, eq-eqb, both_ways, or_parts}
+use Rattle.std.proofs.lemmas.Bool.{eqb-true, eq-eqb, both_ways, or_parts, and_parts}
 use Rattle.std.proofs.lemmas.List.Sums.{sum_by-cons, sum_by-le-sum_by}
 use Rattle.std.proofs.lemmas.Map.Keys.{IsDistinct-cons}
 use Rattle.pcache_meta.specs.Meta.{Meta, expired_at, in_place_of}
@@ -13,7 +13,7 @@ use Rattle.pcache_base.specs.Totals.{total, share}
 use Rattle.pcache_base.proofs.Totals.{sum-le-total, len-total}
 use Rattle.pcache_evict.specs.declared.eviction.entry_key.CacheEntryKey.{CacheEntryKey}
 use Rattle.pcache_evict.specs.declared.eviction.entry_key.CacheEntryKey.TheVariants.{KeyOnly, Identified}
-use Rattle.pcache_evict.specs.Entry.{entry_cmp, entries_total}
+use Rattle.pcache_evict.specs.Entry.{entry_cmp, entries_total, id_of}
 use Rattle.pcache_evict.specs.Tracked.{Tracked, Limits, IsWithin, weight}
 use Rattle.pcache_evict.proofs.EntryOrder.{exact_entries}
 use Rattle.pcache_base.specs.CompactKey.{compact_slot}
@@ -24,7 +24,7 @@ use Rattle.pcache_history.specs.Events.{begun, begin_of, names_slot, is_removed,
 use Rattle.pcache_history.specs.Kept.{IsTidy, IsExact, IsBounded, standing_entry}
 use Rattle.pcache_history.proofs.Steps.{complete-wrote, complete-begin, complete-purge, complete-expire, complete-renew, complete-finish, body_with, altered_body}
 use Rattle.pcache_history.proofs.Tidy.{tidy-finish}
-use Rattle.pcache_history.proofs.Exact.{apart, standing-names}
+use Rattle.pcache_history.proofs.Exact.{apart, standing-numbered}
 use Rattle.pcache_history.proofs.Sums.{cmp_same}
 
 -- The keys of finished writes are each there once.
@@ -67,24 +67,36 @@ keys_distinct (Read a ∷ es) = keys_distinct es
 
 -- What stands is tracked: so it is within what is tracked, by weight and by number.
 
+-- an entry for a key of which none was admitted with a number: one without a number
+abbrev missing : ℕ → CacheEntryKey
+missing k = KeyOnly (record { primary = []; variance = None; user_tag = k ∷ [] })
+
 -- the number by which an entry is told from those of other keys
+abbrev first : List ℕ → ℕ
+first [] = 0
+first (k ∷ ks) = k
+
 abbrev mark : CacheEntryKey → ℕ
-mark (KeyOnly c) = compact_slot c
-mark (Identified c n) = n
+mark (KeyOnly c) = first c.user_tag
+mark (Identified c n) = compact_slot c
 
--- the entry of a key; one that names no slot if none was admitted
+-- the entry of a key
 abbrev place : List Event → ℕ → CacheEntryKey
-place es k = unwrap_or (standing_entry k es) (Identified (record { primary = []; variance = None; user_tag = [] }) k)
+place es k = unwrap_or (standing_entry k es) (missing k)
 
-marked : (k : ℕ) (e : CacheEntryKey) → names_slot k e ≡ true → mark e ≡ k
-marked k (KeyOnly c) h = eqb-true (compact_slot c) k h
-marked k (Identified c n) h = absurd (cc)
+marked : (k : ℕ) (e : CacheEntryKey) → (names_slot k e && is_some (id_of e)) ≡ true → mark e ≡ k
+marked k (KeyOnly c) h = absurd (both_ways _ (never (names_slot k (KeyOnly c))) h)
+  where
+    never : (b : Bool) → (b && false) ≡ false
+    never true = refl
+    never false = refl
+marked k (Identified c n) h = eqb-true (compact_slot c) k (and_parts _ _ h).0
 
 place-mark : (es : List Event) (k : ℕ) → mark (place es k) ≡ k
 place-mark es k =
-    elim (standing_entry k es) as (λ o. standing_entry k es ≡ o → mark (unwrap_or o (Identified (record { primary = []; variance = None; user_tag = [] }) k)) ≡ k) [
+    elim (standing_entry k es) as (λ o. standing_entry k es ≡ o → mark (unwrap_or o (missing k)) ≡ k) [
       | None ↦ λ _. refl
-      | Some e ↦ λ is. marked k e (standing-names es k e is)
+      | Some e ↦ λ is. marked k e (standing-numbered es k e is)
     ] refl
 
 apart_places : (k : ℕ) (ks : List ℕ) (es : List Event) → AllByRecursion (λ y. eq_by_cmp nat_cmp k y ≡ false) ks → AllByRecursion (λ y. eq_by_cmp entry_cmp (place es k) (place es y) ≡ false) ks
@@ -117,7 +129,7 @@ standing_within f g start es ex same =
           | Some b ↦ λ is.
               let x = ex k b is in
               let e = same b in
-              let at : place es k ≡ x.0 = ap (λ o. unwrap_or o (Identified (record { primary = []; variance = None; user_tag = [] }) k)) x.1 in
+              let at : place es k ≡ x.0 = ap (λ o. unwrap_or o (missing k)) x.1 in
               let h = ap (share g) (ap (map.get (tracked start es)) at ∙ x.2) in
               omega arith
         ] refl

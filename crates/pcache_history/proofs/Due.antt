@@ -7,8 +7,8 @@ use Rattle.pcache_evict.specs.Tracked.{Tracked, Limits}
 use Rattle.pcache_store.specs.Store.{Stored}
 use Rattle.pcache_history.specs.declared.entry.Event.{Event}
 use Rattle.pcache_history.specs.declared.entry.Event.TheVariants as E
-use Rattle.pcache_history.specs.Due.{slot_of, makes, owes, IsNext, AreDue}
-use Rattle.pcache_history.specs.Events.{begun, begin_of, has_ended, in_flight, body_of, complete, stored_size, tracked, names_slot}
+use Rattle.pcache_history.specs.Due.{Owed, slot_of, makes, owes, IsNext, AreDue}
+use Rattle.pcache_history.specs.Events.{option_any, begun, begin_of, has_ended, in_flight, body_of, last_finished, complete, stored_size, tracked, names_slot}
 use Rattle.pcache_history.specs.Held.{Held}
 use Rattle.pcache_history.specs.Kept.{IsTidy, IsExact, IsBounded}
 use Rattle.pcache_history.proofs.Bound.{bound-within, bound-wrote, bound-begin, bound-purge, bound-expire, bound-renew, bound-undone}
@@ -136,28 +136,28 @@ module _ (e : Event) (es : List Event) (n w : ℕ) (f slots : ℕ → Option ℕ
 
 -- What stands: it is tracked and within the limits, but for the key of a body whose weight is owed.
 
-abbrev pub IsSettled : Limits → Tracked → List Event → Option ℕ → Option ℕ → Type 0
+abbrev pub IsSettled : Limits → Tracked → List Event → Option ℕ → Option Owed → Type 0
 IsSettled limits start es slot None = IsExact start es × IsBounded limits es
-IsSettled limits start es slot (Some n) = (k : ℕ) × (b : Stored) × (slot ≡ Some k) × (complete k es ≡ Some b) × (stored_size b ≡ n) × IsExact start (E.Purge k ∷ es) × IsBounded limits (E.Purge k ∷ es)
+IsSettled limits start es slot (Some owed) = (k : ℕ) × (b : Stored) × (slot ≡ Some k) × (complete k es ≡ Some b) × (stored_size b ≡ owed.weight) × IsExact start (E.Purge k ∷ es) × IsBounded limits (E.Purge k ∷ es) × (last_finished k es ≡ Some owed.write)
 
-pub record IsOn (limits : Limits) (start : Tracked) (n : ℕ) (f slots : ℕ → Option ℕ) (es : List Event) (o owed : Option ℕ) : Type 0 where
+pub record IsOn (limits : Limits) (start : Tracked) (n : ℕ) (f slots : ℕ → Option ℕ) (es : List Event) (o : Option ℕ) (owed : Option Owed) : Type 0 where
   pub tidy : IsTidy es
   pub made : AreMade (with_one n o f) slots es
   pub settled : IsSettled limits start es (slots n) owed
 
 module _ (limits : Limits) (start : Tracked) (n : ℕ) (f slots : ℕ → Option ℕ) (q : Option Held) (own : slots n ≡ slot_of q) where
-  abbrev On : List Event → Option ℕ → Option ℕ → Type 0
+  abbrev On : List Event → Option ℕ → Option Owed → Type 0
   On es o owed = IsOn limits start n f slots es o owed
 
   module _ (es : List Event) (o : Option ℕ) where
-    flight : (owed : Option ℕ) → On es o owed → (w : ℕ) → o ≡ Some w → in_flight w es ≡ true
+    flight : (owed : Option Owed) → On es o owed → (w : ℕ) → o ≡ Some w → in_flight w es ≡ true
     flight owed k w is = k.made.flies n w (here n o f ∙ is)
 
-    mine : (owed : Option ℕ) → On es o owed → (w : ℕ) → o ≡ Some w → IsKeyed es w (slots n)
+    mine : (owed : Option Owed) → On es o owed → (w : ℕ) → o ≡ Some w → IsKeyed es w (slots n)
     mine owed k w is = k.made.keyed n w (here n o f ∙ is)
 
     -- an event that changes none of this
-    quiet : (e : Event) (owed : Option ℕ) → On es o owed → IsTidy (e ∷ es) → ((w : ℕ) → begin_of w (e ∷ es) ≡ begin_of w es) → ((w : ℕ) → has_ended w (e ∷ es) ≡ has_ended w es) → IsSettled limits start (e ∷ es) (slots n) owed → On (e ∷ es) o owed
+    quiet : (e : Event) (owed : Option Owed) → On es o owed → IsTidy (e ∷ es) → ((w : ℕ) → begin_of w (e ∷ es) ≡ begin_of w es) → ((w : ℕ) → has_ended w (e ∷ es) ≡ has_ended w es) → IsSettled limits start (e ∷ es) (slots n) owed → On (e ∷ es) o owed
     quiet e owed k tidy b d settled = record { tidy = tidy; made = made-on e es (with_one n o f) slots b d k.made; settled = settled }
 
     ended : (e : Event) (w : ℕ) → o ≡ Some w → On es o None → IsTidy (e ∷ es) → ((x : ℕ) → begin_of x (e ∷ es) ≡ begin_of x es) → ((x : ℕ) → has_ended x (e ∷ es) ≡ (w == x || has_ended x es)) → AreMade (with_one n None f) slots (e ∷ es)
@@ -192,6 +192,7 @@ module _ (limits : Limits) (start : Tracked) (n : ℕ) (f slots : ℕ → Option
             refl,
             exact-undone start es w b.0 b.1 k.tidy fly b.3 due.1 k.settled.0,
             bound-undone limits es w b.0 b.1 k.tidy fly b.3 due.1 k.settled.1,
+            ap (λ o. if option_any (λ (a : ℕ × Meta). a.0 == b.0) o then Some w else last_finished b.0 es) b.3 ∙ ap (λ a. if a then Some w else last_finished b.0 es) (same-number b.0),
           );
         }
     come (E.Finish w false) k due =
@@ -214,27 +215,27 @@ module _ (limits : Limits) (start : Tracked) (n : ℕ) (f slots : ℕ → Option
     same-slot : (j k : ℕ) → slot_of q ≡ Some j → slots n ≡ Some k → j ≡ k
     same-slot j k a b = let is : ◌≡◌ {A = Option ℕ} (Some j) (Some k) = sym a ∙ sym own ∙ b in cc
 
-    settle : (owed : ℕ) (e : Event) → On es o (Some owed) → IsNext limits (tracked start es) es q o (Some owed) e → On (e ∷ es) (makes e o) (owes es e (Some owed))
+    settle : (owed : Owed) (e : Event) → On es o (Some owed) → IsNext limits (tracked start es) es q o (Some owed) e → On (e ∷ es) (makes e o) (owes es e (Some owed))
     settle owed (E.Release l) k due =
         let p = k.settled in
-        quiet (E.Release l) (Some owed) k (tidy-release es l k.tidy) (λ w. refl) (λ w. refl) (p.0, p.1, p.2, p.3, p.4, p.5, record { bytes = p.6.bytes; count = p.6.count })
+        quiet (E.Release l) (Some owed) k (tidy-release es l k.tidy) (λ w. refl) (λ w. refl) (p.0, p.1, p.2, p.3, p.4, p.5, record { bytes = p.6.bytes; count = p.6.count }, p.7)
     settle owed (E.Admit x c out) k due =
         let p = k.settled in
         let own-slot = due.1 in
         let same = same-slot own-slot.0 p.0 own-slot.1 p.2 in
-        let ex : IsExact start (E.Admit x c out ∷ es) = subst (λ y. IsExact start (E.Admit x y out ∷ es)) (p.4 ∙ sym due.0) (exact-admit start es p.0 p.1 x out k.tidy p.3 (subst (λ y. names_slot y x ≡ true) same own-slot.2) p.5) in
-        record { tidy = tidy-admit es x c out k.tidy; made = made-on (E.Admit x c out) es (with_one n o f) slots (λ w. refl) (λ w. refl) k.made; settled = (ex, bound-within limits start (E.Admit x c out ∷ es) ex due.2.enough) }
+        let ex : IsExact start (E.Admit x c out ∷ es) = subst (λ y. IsExact start (E.Admit x y out ∷ es)) (p.4 ∙ sym due.0) (exact-admit start es p.0 p.1 x out k.tidy p.3 (subst (λ y. names_slot y x ≡ true) same own-slot.2) (due.2 ∙ sym p.7) p.5) in
+        record { tidy = tidy-admit es x c out k.tidy; made = made-on (E.Admit x c out) es (with_one n o f) slots (λ w. refl) (λ w. refl) k.made; settled = (ex, bound-within limits start (E.Admit x c out ∷ es) ex due.3.enough) }
     settle owed (E.Purge j) k due =
         let p = k.settled in
         let same = same-slot j p.0 due p.2 in
         record { tidy = tidy-purge es j k.tidy; made = made-on (E.Purge j) es (with_one n o f) slots (λ w. refl) (λ w. refl) k.made; settled = subst (λ y. IsExact start (E.Purge y ∷ es) × IsBounded limits (E.Purge y ∷ es)) (sym same) (p.5, p.6) }
     settle owed e k due = absurd due
 
-    one-due : (owed : Option ℕ) (e : Event) → On es o owed → IsNext limits (tracked start es) es q o owed e → On (e ∷ es) (makes e o) (owes es e owed)
+    one-due : (owed : Option Owed) (e : Event) → On es o owed → IsNext limits (tracked start es) es q o owed e → On (e ∷ es) (makes e o) (owes es e owed)
     one-due None e k due = come e k due
     one-due (Some n) e k due = settle n e k due
 
-  pub due-keeps : (events es : List Event) (o o' owed : Option ℕ) → IsOn limits start n f slots es o owed → AreDue limits start es q o owed events o' → IsOn limits start n f slots (reverse events ++ es) o' None
+  pub due-keeps : (events es : List Event) (o o' : Option ℕ) (owed : Option Owed) → IsOn limits start n f slots es o owed → AreDue limits start es q o owed events o' → IsOn limits start n f slots (reverse events ++ es) o' None
   due-keeps [] es o o' owed k due = subst (λ p. On es p None) (sym due.0) (subst (On es o) due.1 k)
   due-keeps (e ∷ events) es o o' owed k due =
       subst (λ xs. On xs o' None) (sym (turned e events es)) (due-keeps events (e ∷ es) (makes e o) o' (owes es e owed) (one-due es o owed e k due.0) due.1)

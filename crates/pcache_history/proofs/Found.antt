@@ -36,7 +36,7 @@ use Rattle.pcache_history.proofs.ReadsLaw.{asked-reader, decided-reader, waited-
 -- a reader of a complete body has one of these
 abbrev IsOf : (List ℕ → Type 0) → Option Reader → Type 0
 IsOf P None = Unit {0}
-IsOf P (Some (Whole body start stop done)) = P body
+IsOf P (Some (Whole id body start stop done)) = P body
 IsOf P (Some (Part w place)) = Unit {0}
 
 abbrev AreOf : (List ℕ → Type 0) → Option Held → Type 0
@@ -45,7 +45,7 @@ AreOf P (Some x) = IsOf P x.request.reader × IsOf P (pair_reader x.pair)
 
 is-of-more : (P Q : List ℕ → Type 0) (o : Option Reader) → ((body : List ℕ) → P body → Q body) → IsOf P o → IsOf Q o
 is-of-more P Q None more h = tt
-is-of-more P Q (Some (Whole body start stop done)) more h = more body h
+is-of-more P Q (Some (Whole id body start stop done)) more h = more body h
 is-of-more P Q (Some (Part w place)) more h = tt
 
 are-of-more : (P Q : List ℕ → Type 0) (q : Option Held) → ((body : List ℕ) → P body → Q body) → AreOf P q → AreOf Q q
@@ -101,7 +101,7 @@ module _ (P : List ℕ → Type 0) (events : List Event) (found : (k : ℕ) (m :
 
   past-of : (a : Poll (Option (List ℕ))) (r : Option Reader) → IsOf P r → IsOf P (option_map (read_past a) r)
   past-of a None h = tt
-  past-of a (Some (Whole body start stop done)) h = h
+  past-of a (Some (Whole id body start stop done)) h = h
   past-of (Ready (Some bs)) (Some (Part w place)) h = tt
   past-of (Ready None) (Some (Part w place)) h = tt
   past-of Pending (Some (Part w place)) h = tt
@@ -115,8 +115,8 @@ module _ (P : List ℕ → Type 0) (events : List Event) (found : (k : ℕ) (m :
   sought-of : (start : ℕ) (end : Option ℕ) (r : Option Reader) → IsOf P r → IsOf P (sought_in start end r)
   sought-of start end None h = tt
   sought-of start end (Some (Part w place)) h = tt
-  sought-of start end (Some (Whole body from to done)) h =
-      elim (nat_lt start (length body) && is_forward start end) as (λ b. IsOf P (cond b (Some (Whole body start (end_or end (length body)) false)) None)) [ true ↦ h | false ↦ tt ]
+  sought-of start end (Some (Whole id body from to done)) h =
+      elim (nat_lt start (length body) && is_forward start end) as (λ b. IsOf P (cond b (Some (Whole id body start (end_or end (length body)) false)) None)) [ true ↦ h | false ↦ tt ]
 
   change-of : (change : Change) (q : Option Held) → AreOf P q → AreOf P (changed change o events q)
   change-of (opens options) q h = either P (is_done o) (Some (opened options)) q (tt, tt) h
@@ -176,7 +176,7 @@ held-found r (e ∷ h) =
     ] refl)
 
 pub reads_what_was_found : ReadsWhatWasFound
-reads_what_was_found age limits start h r x body from to done l is has =
+reads_what_was_found age limits start h r x id body from to done l is has =
     let all : AreOf (IsFoundBy h r) (Some x) = subst (AreOf (IsFoundBy h r)) is (held-found r h) in
     let f : IsFoundBy h r body = subst (IsOf (IsFoundBy h r)) has all.0 in
     let at = legal-part age limits start f.0 f.1 f.2 (subst (IsLegal age limits start) f.6 l) in

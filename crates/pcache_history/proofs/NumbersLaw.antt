@@ -39,7 +39,7 @@ meta-stands true o f body x h = absurd (cc)
 meta-stands false None f body x h = absurd (cc)
 meta-stands false (Some p) f body x h = let e : record { meta = f p.0 p.1; bytes = body } ≡ x = cc in (p, refl, ap (λ (y : Stored). y.meta) (sym e))
 
-complete-numbered : (k : ℕ) (es : List Event) (x : Stored) → complete k es ≡ Some x → (w : ℕ) × (last_finished k es ≡ Some w) × (x.meta.entry_id ≡ Some w)
+pub complete-numbered : (k : ℕ) (es : List Event) (x : Stored) → complete k es ≡ Some x → (w : ℕ) × (last_finished k es ≡ Some w) × (x.meta.entry_id ≡ Some w)
 complete-numbered k es x is =
     elim (last_finished k es) as (λ o. last_finished k es ≡ o → option_and_then (λ w. unless_removed (is_removed w es) (begin_of w es) (meta_kept w es) (body_of w es)) o ≡ Some x → (w : ℕ) × (last_finished k es ≡ Some w) × (x.meta.entry_id ≡ Some w)) [
       | None ↦ λ _ h. absurd (cc)

@@ -91,7 +91,7 @@ module _ (b : Bool) (x : Held) where
   Tells es f events = (k : Key) × (a : Answer) × (more : List Event) × (x.request.key ≡ Some k) × (pair_of a ≡ f.found) × (events ≡ E.Look (slot k) a ∷ more) × ((b ≡ true) ↔ IsHandedOn x a)
 
   by-looks : (es : List Event) (f : Facts) (d : Option Decision) (reply : Reply) (events : List Event) → told_found reply ≡ Some b → Looks f (carrying d x) reply events → Tells es f events
-  by-looks es f d reply events told (inl idle) = tells-none reply (R.Refused _) b idle.0 refl told
+  by-looks es f d reply events told (inl idle) = tells-none reply (R.Refused _) b idle.1.0 refl told
   by-looks es f d reply events told (inr (k, a, key, found, on)) =
       let y = carrying d x in
       let first = looks-first (is_deferral (decides a y)) (is_unseen y.request.valid_after (pair_of a)) f (slot k) a y.request reply events refl on in

@@ -12,7 +12,7 @@ use Rattle.pcache_history.specs.declared.call.Reply.TheVariants as R
 use Rattle.pcache_history.specs.declared.entry.Entry.{Entry}
 use Rattle.pcache_history.specs.declared.entry.Event.{Event}
 use Rattle.pcache_history.specs.declared.entry.Event.TheVariants as E
-use Rattle.pcache_history.specs.Due.{makes, makes_of, owes, AreDue, IsNext}
+use Rattle.pcache_history.specs.Due.{Owed, makes, makes_of, owes, AreDue, IsNext}
 use Rattle.pcache_history.specs.Events.{begun, begin_of, body_of, tracked}
 use Rattle.pcache_history.specs.Facts.{Facts}
 use Rattle.pcache_history.specs.Headline.{PutsAreWritten}
@@ -43,7 +43,7 @@ abbrev IsBelow : Option ℕ → List Event → Type 0
 IsBelow None es = Unit {0}
 IsBelow (Some w) es = w < begun es
 
-unwritten-next : (limits : Limits) (m : Tracked) (es : List Event) (q : Option Held) (o owed : Option ℕ) (e : Event) → IsNext limits m es q o owed e → AreUnwritten es → IsBelow o es → AreUnwritten (e ∷ es)
+unwritten-next : (limits : Limits) (m : Tracked) (es : List Event) (q : Option Held) (o : Option ℕ) (owed : Option Owed) (e : Event) → IsNext limits m es q o owed e → AreUnwritten es → IsBelow o es → AreUnwritten (e ∷ es)
 unwritten-next limits m es q o None (E.Begin w k n) due unwritten low = λ x h. unwritten x (omega (arith, h))
 unwritten-next limits m es q o (Some n) (E.Begin w k y) due unwritten low = absurd due
 unwritten-next limits m es q o None (E.Wrote w bytes eof) due unwritten low = λ x h.
@@ -52,7 +52,7 @@ unwritten-next limits m es q o None (E.Wrote w bytes eof) due unwritten low = λ
 unwritten-next limits m es q o (Some n) (E.Wrote w bytes eof) due unwritten low = absurd due
 unwritten-next limits m es q o owed e due unwritten low = unwritten
 
-below-next : (limits : Limits) (m : Tracked) (es : List Event) (q : Option Held) (o owed : Option ℕ) (e : Event) → IsNext limits m es q o owed e → IsBelow o es → IsBelow (makes e o) (e ∷ es)
+below-next : (limits : Limits) (m : Tracked) (es : List Event) (q : Option Held) (o : Option ℕ) (owed : Option Owed) (e : Event) → IsNext limits m es q o owed e → IsBelow o es → IsBelow (makes e o) (e ∷ es)
 below-next limits m es q o None (E.Begin w k n) due low = let is : w ≡ begun es = due.0 in omega (arith, is)
 below-next limits m es q o (Some n) (E.Begin w k y) due low = absurd due
 below-next limits m es q o owed (E.Finish w kept) due low = tt
@@ -68,7 +68,7 @@ wrote-more es w bytes eof f h = (
   h.3,
 )
 
-gave-next : (limits : Limits) (m : Tracked) (es : List Event) (q : Option Held) (o owed : Option ℕ) (e : Event) (f : Option Filled) → IsNext limits m es q o owed e → AreUnwritten es → Gave f o es → Gave (filled_noted e f) (makes e o) (e ∷ es)
+gave-next : (limits : Limits) (m : Tracked) (es : List Event) (q : Option Held) (o : Option ℕ) (owed : Option Owed) (e : Event) (f : Option Filled) → IsNext limits m es q o owed e → AreUnwritten es → Gave f o es → Gave (filled_noted e f) (makes e o) (e ∷ es)
 gave-next limits m es q o None (E.Begin w k n) f due unwritten h =
     let is : w ≡ begun es = due.0 in
     (record { meta = n; body = [] }, refl, sym (unwritten w (omega (arith, is))), (k, ap (λ b. if b then Some (k, numbered w n) else begin_of w es) (same-number w)))
@@ -81,7 +81,7 @@ gave-next limits m es q None owed e f due unwritten h = tt
 gave-next limits m es q (Some w) owed e f due unwritten h = h
 
 -- the events of a call of the put
-run-own : (limits : Limits) (start : Tracked) (q : Option Held) (events es : List Event) (o owed o' : Option ℕ) (f : Option Filled) → AreDue limits start es q o owed events o' → AreUnwritten es → IsBelow o es → Gave f o es → Gave (filled_by events f) o' (reverse events ++ es)
+run-own : (limits : Limits) (start : Tracked) (q : Option Held) (events es : List Event) (o : Option ℕ) (owed : Option Owed) (o' : Option ℕ) (f : Option Filled) → AreDue limits start es q o owed events o' → AreUnwritten es → IsBelow o es → Gave f o es → Gave (filled_by events f) o' (reverse events ++ es)
 run-own limits start q [] es o owed o' f due unwritten low h = subst (λ z. Gave f z es) (sym due.0) h
 run-own limits start q (e ∷ events) es o owed o' f due unwritten low h =
     subst (Gave (filled_by events (filled_noted e f)) o') (sym (turned e events es))
@@ -91,7 +91,7 @@ run-own limits start q (e ∷ events) es o owed o' f due unwritten low h =
     (gave-next limits (tracked start es) es q o owed e f due.0 unwritten h))
 
 -- an event of a call of another
-gave-away : (limits : Limits) (m : Tracked) (es : List Event) (q : Option Held) (o owed : Option ℕ) (e : Event) (f : Option Filled) (w : ℕ) → IsNext limits m es q o owed e → w < begun es → (o ≡ Some w → ⊥) → Gave f (Some w) es → Gave f (Some w) (e ∷ es)
+gave-away : (limits : Limits) (m : Tracked) (es : List Event) (q : Option Held) (o : Option ℕ) (owed : Option Owed) (e : Event) (f : Option Filled) (w : ℕ) → IsNext limits m es q o owed e → w < begun es → (o ≡ Some w → ⊥) → Gave f (Some w) es → Gave f (Some w) (e ∷ es)
 gave-away limits m es q o None (E.Begin x k n) f w due low other h =
     let is : x ≡ begun es = due.0 in
     let apart : x ≢ w = λ same. omega (arith, is, same, low) in
@@ -107,14 +107,14 @@ begun-grows : (e : Event) (es : List Event) (w : ℕ) → w < begun es → w < b
 begun-grows (E.Begin x k n) es w low = omega (arith, low)
 begun-grows e es w low = low
 
-other-next : (limits : Limits) (m : Tracked) (es : List Event) (q : Option Held) (o owed : Option ℕ) (e : Event) (w : ℕ) → IsNext limits m es q o owed e → w < begun es → (o ≡ Some w → ⊥) → makes e o ≡ Some w → ⊥
+other-next : (limits : Limits) (m : Tracked) (es : List Event) (q : Option Held) (o : Option ℕ) (owed : Option Owed) (e : Event) (w : ℕ) → IsNext limits m es q o owed e → w < begun es → (o ≡ Some w → ⊥) → makes e o ≡ Some w → ⊥
 other-next limits m es q o None (E.Begin x k n) w due low other same = let is : x ≡ begun es = due.0 in let at : x ≡ w = cc in omega (arith, is, at, low)
 other-next limits m es q o (Some y) (E.Begin x k n) w due low other same = absurd due
 other-next limits m es q o owed (E.Finish x kept) w due low other same = absurd (cc)
 other-next limits m es q o owed (E.Dropped x) w due low other same = absurd (cc)
 other-next limits m es q o owed e w due low other same = other same
 
-run-away : (limits : Limits) (start : Tracked) (q : Option Held) (events es : List Event) (o owed o' : Option ℕ) (f : Option Filled) (w : ℕ) → AreDue limits start es q o owed events o' → w < begun es → (o ≡ Some w → ⊥) → Gave f (Some w) es → Gave f (Some w) (reverse events ++ es)
+run-away : (limits : Limits) (start : Tracked) (q : Option Held) (events es : List Event) (o : Option ℕ) (owed : Option Owed) (o' : Option ℕ) (f : Option Filled) (w : ℕ) → AreDue limits start es q o owed events o' → w < begun es → (o ≡ Some w → ⊥) → Gave f (Some w) es → Gave f (Some w) (reverse events ++ es)
 run-away limits start q [] es o owed o' f w due low other h = h
 run-away limits start q (e ∷ events) es o owed o' f w due low other h =
     subst (Gave f (Some w)) (sym (turned e events es))

@@ -48,7 +48,7 @@ use Rattle.pcache_history.proofs.Copied.{outcome-copied}
 
 -- a reader that has given nothing
 abbrev IsAtStart : Reader → Type 0
-IsAtStart (Whole body start stop done) = done ≡ false
+IsAtStart (Whole id body start stop done) = done ≡ false
 IsAtStart (Part w place) = place ≡ 0
 
 abbrev FollowsIn : List Event → Held → List ℕ → Type 0
@@ -73,7 +73,7 @@ part-stays (E.Wrote x bytes eof) es w place got h =
 part-stays e es w place got h = h
 
 reader-stays : (e : Event) (es : List Event) (reader : Reader) (got : List ℕ) → HasRead es reader got → HasRead (e ∷ es) reader got
-reader-stays e es (Whole body start stop done) got h = h
+reader-stays e es (Whole id body start stop done) got h = h
 reader-stays e es (Part w place) got h = part-stays e es w place got h
 
 run-stays : (events es : List Event) (reader : Reader) (got : List ℕ) → HasRead es reader got → HasRead (events ++ es) reader got
@@ -88,15 +88,15 @@ still events es (Some x) got h =
 -- A reader that came to be.
 
 starts : (es : List Event) (reader : Reader) → IsAtStart reader → HasRead es reader []
-starts es (Whole body start stop done) h = ap (λ b. cond b (slice_range body start stop) []) (sym h)
+starts es (Whole id body start stop done) h = ap (λ b. cond b (slice_range body start stop) []) (sym h)
 starts es (Part w place) h = subst (λ p. HasRead es (Part w p) []) (sym h) (refl, omega arith)
 
 -- a reader that was sent to another range has given nothing of it
 sought-follows : (es : List Event) (start : ℕ) (end : Option ℕ) (o : Option Reader) → IfSome (sought_in start end o) (λ reader. HasRead es reader [])
 sought-follows es start end None = tt
 sought-follows es start end (Some (Part w place)) = tt
-sought-follows es start end (Some (Whole body from to done)) =
-    elim (nat_lt start (length body) && is_forward start end) as (λ b. IfSome (cond b (Some (Whole body start (end_or end (length body)) false)) None) (λ reader. HasRead es reader [])) [ true ↦ refl | false ↦ tt ]
+sought-follows es start end (Some (Whole id body from to done)) =
+    elim (nat_lt start (length body) && is_forward start end) as (λ b. IfSome (cond b (Some (Whole id body start (end_or end (length body)) false)) None) (λ reader. HasRead es reader [])) [ true ↦ refl | false ↦ tt ]
 
 -- A read.
 
@@ -125,8 +125,8 @@ abbrev pub written_as : ℕ → List Event → ℕ × Meta → Written
 written_as w es b = record { slot = b.0; meta = b.1; bytes = body_of w es; told = is_told w es; flying = in_flight w es; readers = 0 }
 
 gave : (es : List Event) (reader : Reader) (got : List ℕ) → HasRead es reader got → HasRead (E.Read (reads es reader) ∷ es) (read_past (reads es reader) reader) (got ++ given_in (E.Read (reads es reader) ∷ []))
-gave es (Whole body start stop true) got h = gave-none es (Whole body start stop true) got h
-gave es (Whole body start stop false) got h = ap (λ (xs : List ℕ). xs ++ slice_range body start stop) h
+gave es (Whole id body start stop true) got h = gave-none es (Whole id body start stop true) got h
+gave es (Whole id body start stop false) got h = ap (λ (xs : List ℕ). xs ++ slice_range body start stop) h
 gave es (Part w place) got h =
     elim (begin_of w es) as (λ o. HasReadPast es w place got (read_part place (option_map (written_as w es) o))) [
       | None ↦ gave-none es (Part w place) got h
@@ -238,7 +238,7 @@ abbrev GivesRead : List Event → Request → Facts → Type 0
 GivesRead es x f = (rd : Reader) → x.reader ≡ Some rd → f.given ≡ reads es rd
 
 read-follows : (f : Facts) (es : List Event) (x : Held) (got : List ℕ) (reply : Reply) (events : List Event) → GivesRead es x.request f → IsSome x.request.reader → FollowsIn es x got → Reads f reply events → FollowsRead es x got events
-read-follows f es x got reply events says some h (inl a) = subst (FollowsRead es x got) (sym a.1) (none-read es x got h)
+read-follows f es x got reply events says some h (inl a) = subst (FollowsRead es x got) (sym a.1.1) (none-read es x got h)
 read-follows f es x got reply events says some h (inr (done, told)) = by x.request.reader refl some
   where
     by : (o : Option Reader) → x.request.reader ≡ o → IsSome o → FollowsRead es x got events

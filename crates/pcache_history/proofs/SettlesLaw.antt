@@ -1,11 +1,10 @@
 -- In a legal history the finish of a body that is stored comes first in its entry, and the rest of the entry settles the body.
-use Rattle.std.proofs.Common.{◌≡◌, ◌⊎◌, ℕ, Bool, true, false, if◌then◌else◌, ◌||◌, Option, None, Some, IfSome, List, [], ◌∷◌, ◌++◌, length, refl, ap, sym, subst, ◌∙◌, inl, inr}
+use Rattle.std.proofs.Common.{◌≡◌, ℕ, Bool, true, false, if◌then◌else◌, ◌||◌, Option, None, Some, IfSome, List, [], ◌∷◌, ◌++◌, length, refl, ap, sym, subst, ◌∙◌, inl, inr}
 use Rattle.std.specs.List.{list_any}
 use Rattle.std.specs.Option.{option_map}
 use Rattle.std.proofs.lemmas.List.Folds.{list_any-append}
 use Rattle.pcache_base.specs.Key.{Key, slot}
 use Rattle.pcache_base.specs.declared.error.ErrorType.TheVariants.{OutOfMemory}
-use Rattle.pcache_evict.specs.declared.eviction.entry_key.CacheEntryKey.{CacheEntryKey}
 use Rattle.pcache_evict.specs.Tracked.{Tracked, Limits}
 use Rattle.pcache_lock.specs.Permits.{Permit}
 use Rattle.pcache_lock.specs.declared.lock.permit.Locked.{Locked}
@@ -14,7 +13,6 @@ use Rattle.pcache_put_ctx.specs.State.{Stage, InHead, InBody, HasDeclined, IsOve
 use Rattle.pcache_put_ctx.specs.Steps.{stage_begun}
 use Rattle.pcache_put_ctx.specs.declared.report.Written.{Written}
 use Rattle.pcache_request.specs.Admissions.{is_deferral}
-use Rattle.pcache_request.specs.Phases.{is_fresh}
 use Rattle.pcache_request.specs.Requests.{Request, entry_of, counts_found}
 use Rattle.pcache_request.specs.Variants.{is_unseen, leaves_variant}
 use Rattle.pcache_request.specs.declared.phase.HitStatus.{HitStatus}
@@ -32,12 +30,11 @@ use Rattle.pcache_history.specs.declared.entry.Event.TheVariants as E
 use Rattle.pcache_history.specs.Due.{makes_of, slot_of}
 use Rattle.pcache_history.specs.Events.{begin_of, body_of}
 use Rattle.pcache_history.specs.Facts.{Facts, request_in}
-use Rattle.pcache_history.specs.Headline.{IsEntryOf}
 use Rattle.pcache_history.specs.Held.{Held, carrying, decides, held_put, pair_of, request_of}
 use Rattle.pcache_history.specs.History.{events_of}
-use Rattle.pcache_history.specs.Legal.{Gives, IsLegal}
+use Rattle.pcache_history.specs.Legal.{IsLegal}
 use Rattle.pcache_history.specs.Log.{Log, HasLegal}
-use Rattle.pcache_history.specs.Rules.{Answers, AsksIf, Closes, ClosesAt, Does, EndsFilling, Feeds, FeedsAt, Finishes, HandsOn, IsCopy, IsDone, IsIdle, LooksOn, Misses, Replies, Takes, TakesPiece, accesses, began_noted, drop_of, each, given_up, let_go_of, permit_of, piece_noted, release_by_variance, release_of, renew_of, untrack_of, wrote_noted, number_read}
+use Rattle.pcache_history.specs.Rules.{Answers, AsksIf, Closes, ClosesAt, Does, EndsFilling, Feeds, FeedsAt, Finishes, HandsOn, IsCopy, IsDone, IsIdle, LooksOn, Misses, Replies, Takes, TakesPiece, accesses, began_noted, drop_of, each, given_up, let_go_of, permit_of, piece_noted, release_of, renew_of, wrote_noted, number_read}
 use Rattle.pcache_history.specs.Settling.{Settles, SettlesAtOnce, SettlesWrite, SettlesAlways}
 use Rattle.pcache_history.specs.Taking.{Taking, filling}
 use Rattle.pcache_history.proofs.Exact.{entry_names}
@@ -124,7 +121,7 @@ none-takes f k stage w m b reply events (inr (inl (reason, none, idle))) = none-
 none-takes f k stage w m b reply events (inr (inr (e, why, told, is))) = subst StoresNone (sym is) (none-both (piece_noted k w m b) (drop_of w) (none-piece k w m b) (none-drop w))
 
 none-feeds : (f : Facts) (k : ℕ) (stage : Stage) (reply : Reply) (events : List Event) → FeedsAt f k stage reply events → StoresNone events
-none-feeds f k InHead reply events (m, b, takes) = none-takes f k InHead (write_in (stage_begun InHead m f.next None)) m b reply events takes
+none-feeds f k InHead reply events (m, b, takes) = none-takes f k InHead (write_in (stage_begun InHead m f.next (Some f.next))) m b reply events takes
 none-feeds f k (InBody w id until) reply events (b, takes) = none-takes f k (InBody w id until) (Some w) None b reply events takes
 none-feeds f k (HasDeclined reason) reply events idle = none-idle _ reply events idle
 none-feeds f k (IsOver kind) reply events idle = none-idle _ reply events idle
@@ -143,7 +140,7 @@ none-does f act None reply events plain d = absurd d
 none-does f (C.Request (Q.Enable options)) (Some x) reply events plain d = none-idle _ reply events d
 none-does f (C.Request (Q.Disable why)) (Some x) reply events plain d = subst StoresNone (sym d.1) (none-both (release_of x.request.held) (drop_of x.request.write) (none-release x.request.held) (none-drop x.request.write))
 none-does f (C.Request (Q.Key k)) (Some x) reply events plain d = none-done reply events d
-none-does f (C.Request (Q.Look t c)) (Some x) reply events plain (inl idle) = none-idle _ reply events idle
+none-does f (C.Request (Q.Look t c)) (Some x) reply events plain (inl (some, idle)) = none-idle _ reply events idle
 none-does f (C.Request (Q.Look t c)) (Some x) reply events plain (inr (k, a, key, found, on)) = none-looks (is_deferral (decides a (carrying c x))) f (slot k) a (carrying c x).request reply events on
 none-does f (C.Request (Q.Vary v)) (Some x) reply events plain d = none-idle _ reply events d
 none-does f (C.Request (Q.Found s t)) (Some x) reply events plain d = takes x.pair d
@@ -161,12 +158,12 @@ none-does f (C.Request Q.Begin) (Some x) reply events plain (inr (k, m, key, met
 none-does f (C.Request (Q.Write bytes eof)) (Some x) reply events plain (inl idle) = none-idle _ reply events idle
 none-does f (C.Request (Q.Write bytes eof)) (Some x) reply events plain (inr (w, writes, told, is)) = subst StoresNone (sym is) refl
 none-does f (C.Request Q.Finish) (Some x) reply events plain d = absurd plain
-none-does f (C.Request Q.Read) (Some x) reply events plain (inl idle) = none-idle _ reply events idle
+none-does f (C.Request Q.Read) (Some x) reply events plain (inl (some, idle)) = none-idle _ reply events idle
 none-does f (C.Request Q.Read) (Some x) reply events plain (inr (is, told)) = subst StoresNone (sym is) refl
 none-does f (C.Request (Q.Seek start end)) (Some x) reply events plain d = none-idle _ reply events d
 none-does f (C.Request Q.Done) (Some x) reply events plain d = none-done reply events d
 none-does f (C.Request Q.Purge) (Some x) reply events plain (inl idle) = none-idle _ reply events idle
-none-does f (C.Request Q.Purge) (Some x) reply events plain (inr (k, key, is, told)) = subst StoresNone (sym is) (none-if _ (E.Untrack (entry_of k None) ∷ []) refl)
+none-does f (C.Request Q.Purge) (Some x) reply events plain (inr (k, key, is, told)) = subst StoresNone (sym is) (none-if _ (E.Untrack (entry_of k f.number) ∷ []) refl)
 none-does f (C.Request (Q.Expire t)) (Some x) reply events plain (inl idle) = none-idle _ reply events idle
 none-does f (C.Request (Q.Expire t)) (Some x) reply events plain (inr (k, key, is, told)) = subst StoresNone (sym is) refl
 none-does f (C.Request (Q.Lock is_used)) (Some x) reply events plain d = none-idle _ reply events d
@@ -208,9 +205,9 @@ comes-first : (earlier tail rest : List Event) (v w : ℕ) → StoresNone tail �
 comes-first [] tail rest v w none is = (refl, cc, cc)
 comes-first (e ∷ earlier) tail rest v w none is = let behind : tail ≡ earlier ++ E.Finish w true ∷ rest = cc in never tail earlier rest w none behind
 
-settles-behind : (k n : ℕ) (reply : Reply) (o : Option ℕ) (events : List Event) → Settles k n reply events → Settles k n reply (each E.Release o ++ events)
-settles-behind k n reply None events h = h
-settles-behind k n reply (Some l) events h = h
+settles-behind : (k w n : ℕ) (reply : Reply) (o : Option ℕ) (events : List Event) → Settles k w n reply events → Settles k w n reply (each E.Release o ++ events)
+settles-behind k w n reply None events h = h
+settles-behind k w n reply (Some l) events h = h
 
 -- The end of a write.
 
@@ -220,16 +217,16 @@ starved-copy reply told (inr other) is = other.0
 
 module _ (f : Facts) (x : Request) (k : Key) (v w : ℕ) (reply told : Reply) (copy : IsCopy reply told) (events earlier rest : List Event) (at : events ≡ earlier ++ E.Finish w true ∷ rest) where
   abbrev Ended : Type 0
-  Ended = (earlier ≡ []) × (v ≡ w) × Settles (slot k) f.size told rest
+  Ended = (earlier ≡ []) × (v ≡ w) × Settles (slot k) v f.size told rest
 
-  ended-by : (last : Event) → stores_one last ≡ false → events ≡ E.Finish v true ∷ release_of x.held ++ last ∷ [] → Settles (slot k) f.size told (last ∷ []) → Ended
+  ended-by : (last : Event) → stores_one last ≡ false → events ≡ E.Finish v true ∷ release_of x.held ++ last ∷ [] → Settles (slot k) v f.size told (last ∷ []) → Ended
   ended-by last plain is settles =
       let tail = release_of x.held ++ last ∷ [] in
       let first = comes-first earlier tail rest v w (none-both (release_of x.held) (last ∷ []) (none-release x.held) (ap (λ b. b || false) plain)) (sym is ∙ at) in
-      (first.0, first.1, subst (Settles (slot k) f.size told) first.2 (settles-behind (slot k) f.size told (permit_of x.held) (last ∷ []) settles))
+      (first.0, first.1, subst (Settles (slot k) v f.size told) first.2 (settles-behind (slot k) v f.size told (permit_of x.held) (last ∷ []) settles))
 
   by-ends : EndsFilling f x k v reply events → Ended
-  by-ends (inl (out, untouched, is, stored)) = ended-by (E.Admit (entry_of k None) f.size out) refl is (entry_names k, refl, refl)
+  by-ends (inl (out, untouched, is, stored)) = ended-by (E.Admit (entry_of k (Some v)) f.size out) refl is (entry_names k (Some v), refl, refl, refl)
   by-ends (inr (inl (untouched, is, starved))) = ended-by (E.Purge (slot k)) refl is (refl, starved-copy reply told copy starved, refl)
   by-ends (inr (inr (inl (removed, is, refused)))) = never events earlier rest w (subst StoresNone (sym is) (none-release x.held)) at
   by-ends (inr (inr (inr (is, starved)))) = never events earlier rest w (subst StoresNone (sym is) (none-release x.held)) at
@@ -251,7 +248,7 @@ module _ (age : ℕ) (limits : Limits) (start : Tracked) (before : List Entry) (
       let slots : ◌≡◌ {A = Option ℕ} (Some made.0) (Some (slot k)) = sym made.2 ∙ ap slot_of has ∙ ap (option_map slot) key in
       let same : made.0 ≡ slot k = cc in
       let size : f.size ≡ length (body_of v es) = legal.0.says.size v (ap (λ q. (request_in q).write) has ∙ writes) in
-      (e.0, (made.0, made.1, subst (λ n. begin_of n es ≡ Some (made.0, made.1)) e.1 made.3, subst (λ n. Settles made.0 n entry.reply rest) (size ∙ ap (λ n. length (body_of n es)) e.1) (subst (λ q. Settles q f.size entry.reply rest) (sym same) e.2)))
+      (e.0, (made.0, made.1, subst (λ n. begin_of n es ≡ Some (made.0, made.1)) e.1 made.3, subst (λ n. Settles made.0 w n entry.reply rest) (size ∙ ap (λ n. length (body_of n es)) e.1) (subst (λ q. Settles q w f.size entry.reply rest) (sym same) (subst (λ n. Settles (slot k) n f.size entry.reply rest) e.1 e.2))))
 
   by-none : StoresNone entry.events → Settled
   by-none none = never entry.events earlier rest w none at

@@ -27,7 +27,7 @@ taken_keeps P holds (C.Give to) was_done r giver (Some x) is = elim (to == r) as
 taken_keeps P holds act o r giver q is = is
 
 pub holding_world : (x : Held) (h : Option Locked) → IsOfWorldIn (Some x) → IsOfWorldIn (Some (holding_in h x))
-holding_world x h is = record { eviction = is.eviction; unnumbered = is.unnumbered; fills = is.fills }
+holding_world x h is = record { eviction = is.eviction; fills = is.fills }
 
 -- a call that names one request hands nothing over
 pub not_taken : (act : Act) (o : Outcome) (r : ℕ) (giver q : Option Held) → IsOfOne act → taken_over act o r giver q ≡ q

@@ -10,7 +10,7 @@ use Rattle.pcache_evict.proofs.EntryOrder.{exact_entries}
 use Rattle.pcache_evict.specs.Entry.{entries_total}
 use Rattle.pcache_history.specs.declared.entry.Event.{Event}
 use Rattle.pcache_history.specs.declared.entry.Event.TheVariants as E
-use Rattle.pcache_history.specs.Due.{makes_of, makes, owes, IsNext, AreDue}
+use Rattle.pcache_history.specs.Due.{Owed, makes_of, makes, owes, IsNext, AreDue}
 use Rattle.pcache_history.specs.Events.{tracked}
 use Rattle.pcache_history.specs.Headline.{EvictsFairly, TracksExactly}
 use Rattle.pcache_history.specs.Held.{Held, row, request_of}
@@ -21,11 +21,11 @@ use Rattle.pcache_history.proofs.Runs.{turned}
 
 module _ (limits : Limits) (start : Tracked) (q : Option Held) (o' : Option ℕ) (e : CacheEntryKey) (n : ℕ) (out : List CacheEntryKey) (rest : List Event) where
   -- only what is owed is admitted
-  fair-next : (m : Tracked) (es : List Event) (o owed : Option ℕ) → IsNext limits m es q o owed (E.Admit e n out) → IsFair limits (map.insert m e n) out
+  fair-next : (m : Tracked) (es : List Event) (o : Option ℕ) (owed : Option Owed) → IsNext limits m es q o owed (E.Admit e n out) → IsFair limits (map.insert m e n) out
   fair-next m es o None next = absurd next
-  fair-next m es o (Some c) next = next.2
+  fair-next m es o (Some c) next = next.3
 
-  fair-in : (earlier es : List Event) (o owed : Option ℕ) → AreDue limits start es q o owed (earlier ++ E.Admit e n out ∷ rest) o' → IsFair limits (map.insert (tracked start (reverse earlier ++ es)) e n) out
+  fair-in : (earlier es : List Event) (o : Option ℕ) (owed : Option Owed) → AreDue limits start es q o owed (earlier ++ E.Admit e n out ∷ rest) o' → IsFair limits (map.insert (tracked start (reverse earlier ++ es)) e n) out
   fair-in [] es o owed due = fair-next (tracked start es) es o owed due.0
   fair-in (x ∷ earlier) es o owed due =
       subst (λ xs. IsFair limits (map.insert (tracked start xs) e n) out) (sym (turned x earlier es)) (fair-in earlier (x ∷ es) (makes x o) (owes es x owed) due.1)
@@ -72,4 +72,4 @@ pub tracks-exactly : TracksExactly
 tracks-exactly age limits start before k b l is =
     let x = (legal_kept age limits start before l).exact k b is in
     let own = standing-names (events_of before) k x.0 x.1 in
-    (x.0, own, x.2, λ q other. eqb-true k q (sym (names_only k x.0 own q) ∙ other))
+    (x.0, own, x.3, x.2, λ q other. eqb-true k q (sym (names_only k x.0 own q) ∙ other))

@@ -17,7 +17,7 @@ use Rattle.pcache_history.specs.Due.{makes_of, slot_of, AreDue, KeepsKey, IsOfWo
 use Rattle.pcache_history.specs.Legal.{IsLegal}
 use Rattle.pcache_history.specs.Kept.{IsTidy, IsExact, IsBounded}
 use Rattle.pcache_history.specs.Headline.{HasUntouched, FindsExactly, FinishesExactly, ReadsTheLast, IsWithinLimits}
-use Rattle.pcache_history.proofs.Steps.{unless_removed, body_with}
+use Rattle.pcache_history.proofs.Steps.{unless_removed, body_with, survives}
 use Rattle.pcache_history.proofs.Tidy.{tidy-none}
 use Rattle.pcache_history.proofs.Exact.{exact-none}
 use Rattle.pcache_history.proofs.Bound.{bound-none}
@@ -162,7 +162,7 @@ nothing : (k : ℕ) (es : List Event) → IsTidy es → ((q : ℕ) → is_open k
 nothing k es t closed none u =
     elim u.2 [
       | inl fly ↦ both_ways _ (closed u.0) (and_from _ _ u.1 (and_from _ _ fly (ap not u.3)))
-      | inr st ↦ both_ways _ (ap is_some none) (t.survives k u.0 st u.1 u.3)
+      | inr st ↦ both_ways _ (ap is_some none) (survives k u.0 es st u.1 u.3)
     ]
 
 pub finds_exactly : FindsExactly

@@ -3,6 +3,7 @@ use Rattle.std.specs.Prelude.{◌≡◌, ℕ, true, false, Option, None, Some, I
 use Rattle.std.specs.Option.{option_map, option_and_then}
 use Rattle.std.specs.FinMap as map
 use Rattle.pcache_base.specs.Key.{slot}
+use Rattle.pcache_evict.specs.Entry.{id_of}
 use Rattle.pcache_evict.specs.Tracked.{Tracked, Limits, IsFair}
 use Rattle.pcache_request.specs.Phases.{IsFilling, IsOn}
 use Rattle.pcache_request.specs.Requests.{Request}
@@ -30,10 +31,14 @@ makes (Finish w kept) o = None
 makes (Dropped w) o = None
 makes _ o = o
 
--- the weight that is owed to the manager after one event: of a body that was stored, until its entry is admitted or its key
--- purged
-abbrev pub owes : List Event → Event → Option ℕ → Option ℕ
-owes es (Finish w true) owed = Some (length (body_of w es))
+-- what is owed to the manager: the entry of a write whose body was stored, with its weight, until it is admitted or its key purged
+pub record Owed : Type 0 where
+  pub write : ℕ
+  pub weight : ℕ
+
+-- what is owed after one event
+abbrev pub owes : List Event → Event → Option Owed → Option Owed
+owes es (Finish w true) owed = Some (record { write = w; weight = length (body_of w es) })
 owes es (Admit e n out) owed = None
 owes es (Purge k) owed = None
 owes es _ owed = owed
@@ -53,29 +58,27 @@ MayCome es q o (Untrack e) = (k : ℕ) → names_slot k e ≡ true → complete 
 MayCome es q o (Read a) = (rd : Reader) × (reader_for q ≡ Some rd) × (a ≡ reads es rd)
 MayCome es q o _ = Unit {0}
 
--- If this weight is owed for the request's key: the entry of the key is admitted with it, by a fair eviction, or the key is
+-- If this is owed for the request's key: the entry of the write is admitted with its weight, by a fair eviction, or the key is
 -- purged; before that only a permit is released.
-abbrev pub MaySettle : Limits → Tracked → Option Held → ℕ → Event → Type 0
-MaySettle limits m q owed (Admit e n out) = (n ≡ owed) × ((k : ℕ) × (slot_of q ≡ Some k) × (names_slot k e ≡ true)) × IsFair limits (map.insert m e n) out
+abbrev pub MaySettle : Limits → Tracked → Option Held → Owed → Event → Type 0
+MaySettle limits m q owed (Admit e n out) = (n ≡ owed.weight) × ((k : ℕ) × (slot_of q ≡ Some k) × (names_slot k e ≡ true)) × (id_of e ≡ Some owed.write) × IsFair limits (map.insert m e n) out
 MaySettle limits m q owed (Purge k) = slot_of q ≡ Some k
 MaySettle limits m q owed (Release n) = Unit {0}
 MaySettle limits m q owed _ = ⊥
 
-abbrev pub IsNext : Limits → Tracked → List Event → Option Held → Option ℕ → Option ℕ → Event → Type 0
+abbrev pub IsNext : Limits → Tracked → List Event → Option Held → Option ℕ → Option Owed → Event → Type 0
 IsNext limits m es q o None e = MayCome es q o e
-IsNext limits m es q o (Some n) e = MaySettle limits m q n e
+IsNext limits m es q o (Some owed) e = MaySettle limits m q owed e
 
 -- these events come one after another, and leave the request with the write o', or none, and nothing owed
-abbrev pub AreDue : Limits → Tracked → List Event → Option Held → Option ℕ → Option ℕ → List Event → Option ℕ → Type 0
+abbrev pub AreDue : Limits → Tracked → List Event → Option Held → Option ℕ → Option Owed → List Event → Option ℕ → Type 0
 AreDue limits start es q o owed [] o' = (o' ≡ o) × (owed ≡ None)
 AreDue limits start es q o owed (e ∷ events) o' =
     IsNext limits (tracked start es) es q o owed e × AreDue limits start (e ∷ es) q (makes e o) (owes es e owed) events o'
 
--- a request of a world: it uses the manager while caching is on, its entries have no numbers, and if it makes a write it
--- fills
+-- a request of a world: it uses the manager while caching is on, and if it makes a write it fills
 pub record IsOfWorld (x : Request) : Type 0 where
   pub eviction : IsOn x.phase → x.uses.eviction ≡ true
-  pub unnumbered : x.entry ≡ None
   pub fills : IsSome x.write → IsFilling x.phase
 
 -- a request of a world, or none

@@ -1,12 +1,13 @@
 -- What the events of a history say of writes, keys and entries (own). Events stand newest first. A function says what one
 -- event makes of the answer so far, if most events say nothing; the definition over the list is then two clauses.
-use Rattle.std.specs.Prelude.{ℕ, ◌+◌, Bool, true, false, not, ◌&&◌, ◌==◌, if◌then◌else◌, Option, None, Some, is_some, List, [], ◌∷◌, ◌++◌, length, sum_by}
-use Rattle.std.specs.Option.{option_map, option_and_then}
+use Rattle.std.specs.Prelude.{ℕ, ◌+◌, Bool, true, false, not, ◌&&◌, ◌||◌, ◌==◌, nat_eq, if◌then◌else◌, Option, None, Some, is_some, List, [], ◌∷◌, ◌++◌, length, sum_by}
+use Rattle.std.specs.Option.{option_map, option_and_then, option_eq}
 use Rattle.std.specs.List.{list_any}
 use Rattle.std.specs.FinMap as map
 use Rattle.pcache_meta.specs.Meta.{Meta, expired_at, in_place_of, numbered}
 use Rattle.pcache_base.specs.Totals.{share}
 use Rattle.pcache_evict.specs.declared.eviction.entry_key.CacheEntryKey.{CacheEntryKey}
+use Rattle.pcache_evict.specs.Entry.{id_of}
 use Rattle.pcache_evict.specs.Tracked.{Tracked, without, added}
 use Rattle.pcache_store.specs.Store.{Stored}
 use Rattle.pcache_request.specs.Finishing.{entry_slot}
@@ -61,18 +62,26 @@ abbrev pub stores : ℕ → Event → Bool
 stores w (Finish x true) = x == w
 stores w _ = false
 
--- whether an evicted entry names a slot
+-- whether an entry is of a slot: of a key with it, whatever the key's user tag
 abbrev pub names_slot : ℕ → CacheEntryKey → Bool
-names_slot k e = option_any (λ q. q == k) (entry_slot e)
+names_slot k e = entry_slot e == k
 
-abbrev pub names_key : ℕ → List CacheEntryKey → Bool
-names_key k out = list_any (names_slot k) out
+-- whether a write of a slot goes when an entry is evicted: the entry is of the slot, and has no number or that of the write
+abbrev pub is_number : ℕ → Option ℕ → Bool
+is_number w None = true
+is_number w (Some n) = n == w
 
--- a removal of the key: a purge of it, or an admission that evicts its key-only entry
-abbrev pub removes : ℕ → Event → Bool
-removes k (Purge q) = q == k
-removes k (Admit e n out) = names_key k out
-removes k _ = false
+abbrev pub goes_with : ℕ → ℕ → CacheEntryKey → Bool
+goes_with k w e = names_slot k e && is_number w (id_of e)
+
+abbrev pub goes_with_any : ℕ → ℕ → List CacheEntryKey → Bool
+goes_with_any k w out = list_any (goes_with k w) out
+
+-- a removal of the write w of the slot k: a purge of its key, or an admission that evicts its entry, or that of its key alone
+abbrev pub removes : ℕ → ℕ → Event → Bool
+removes k w (Purge q) = q == k
+removes k w (Admit e n out) = goes_with_any k w out
+removes k w _ = false
 
 -- what it makes of the meta of the complete body of a key: an expiry ends its freshness, a revalidation sets another,
 -- which has the number of the same write
@@ -104,10 +113,6 @@ begin_of w (e ∷ es) = begin_at w e (begin_of w es)
 abbrev pub since : ℕ → List Event → List Event
 since w es = until (begins w) es
 
--- whether the write's key was removed since it began: it is untouched if not
-abbrev pub is_removed : ℕ → List Event → Bool
-is_removed w es = option_any (λ b. list_any (removes b.0) (since w es)) (begin_of w es)
-
 abbrev pub has_ended : ℕ → List Event → Bool
 has_ended w es = list_any (ends w) es
 
@@ -119,6 +124,23 @@ was_stored w es = list_any (stores w) es
 abbrev pub in_flight : ℕ → List Event → Bool
 in_flight w es = is_some (begin_of w es) && not (has_ended w es)
 
+-- whether the write is of the key
+abbrev pub is_of : ℕ → ℕ → List Event → Bool
+is_of k w es = option_any (λ b. b.0 == k) (begin_of w es)
+
+-- the write of the key whose successful finish comes last
+abbrev pub last_finished : ℕ → List Event → Option ℕ
+last_finished k [] = None
+last_finished k (e ∷ es) = if option_any (λ w. is_of k w es) (finishes e) then finishes e else last_finished k es
+
+-- whether the write of this slot was stored, and another of the slot after it
+abbrev pub is_replaced : ℕ → ℕ → List Event → Bool
+is_replaced k w es = was_stored w es && not (option_eq nat_eq (last_finished k es) (Some w))
+
+-- whether the write was removed since it began, or replaced since it was stored: it is untouched if not
+abbrev pub is_removed : ℕ → List Event → Bool
+is_removed w es = option_any (λ b. list_any (removes b.0 w) (since w es) || is_replaced b.0 w es) (begin_of w es)
+
 -- all bytes of the write, joined, also those after a removal
 abbrev pub body_of : ℕ → List Event → List ℕ
 body_of w [] = []
@@ -128,15 +150,6 @@ body_of w (e ∷ es) = with_bytes_of w e (body_of w es)
 abbrev pub is_told : ℕ → List Event → Bool
 is_told w [] = false
 is_told w (e ∷ es) = told_at w e (is_told w es)
-
--- whether the write is of the key
-abbrev pub is_of : ℕ → ℕ → List Event → Bool
-is_of k w es = option_any (λ b. b.0 == k) (begin_of w es)
-
--- the write of the key whose successful finish comes last
-abbrev pub last_finished : ℕ → List Event → Option ℕ
-last_finished k [] = None
-last_finished k (e ∷ es) = if option_any (λ w. is_of k w es) (finishes e) then finishes e else last_finished k es
 
 -- the meta of a key's body after these events
 abbrev pub altered_by : ℕ → List Event → Meta → Meta

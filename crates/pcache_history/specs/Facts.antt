@@ -7,7 +7,7 @@ use Rattle.pcache_lock.specs.declared.lock.permit.Locked.TheVariants.{Read}
 use Rattle.pcache_meta.specs.Meta.{Meta}
 use Rattle.pcache_base.specs.declared.poll.Poll.{Poll}
 use Rattle.pcache_request.specs.Requests.{Request, new_request}
-use Rattle.pcache_store.specs.Store.{Reader}
+use Rattle.pcache_store.specs.Store.{Reader, number_of_body}
 use Rattle.pcache_history.specs.declared.entry.Answer.{Answer}
 use Rattle.pcache_history.specs.declared.entry.Event.{Event}
 use Rattle.pcache_history.specs.Deeds.{Deed}
@@ -24,8 +24,9 @@ pub record Facts : Type 0 where
   -- what a look-up of the key finds, and whether anything of it is there
   pub found : Option (Meta × Reader)
   pub there : Bool
-  -- whether a complete body of it is there
+  -- whether a complete body of it is there, and the number of the write that stored it
   pub complete : Bool
+  pub number : Option ℕ
   -- what the reader gives
   pub given : Poll (Option (List ℕ))
   -- of the write: whether its last bytes were told, whether its key met no removal since it began, its size
@@ -51,6 +52,7 @@ pub record Says (age : ℕ) (es : List Event) (ds : List Deed) (r : ℕ) (x : Re
   pub found : (k : Key) (a : Answer) → x.key ≡ Some k → pair_of a ≡ f.found → Finds es (slot k) a
   pub there : (k : Key) → x.key ≡ Some k → HasAny es (slot k) f.there
   pub complete : (k : Key) → x.key ≡ Some k → f.complete ≡ is_some (complete (slot k) es)
+  pub number : (k : Key) → x.key ≡ Some k → f.number ≡ number_of_body (ev.complete (slot k) es)
   pub given : (rd : Reader) → x.reader ≡ Some rd → f.given ≡ reads es rd
   pub told : (w : ℕ) → x.write ≡ Some w → f.told ≡ ev.is_told w es
   pub untouched : (w : ℕ) → x.write ≡ Some w → f.untouched ≡ not (is_removed w es)

@@ -9,6 +9,7 @@ use Rattle.pcache_base.specs.declared.error.ErrorType.TheVariants.{OutOfMemory}
 use Rattle.pcache_lock.specs.Permits as lock
 use Rattle.pcache_lock.specs.declared.lock.permit.Locked.TheVariants as locked
 use Rattle.pcache_meta.specs.Meta.{Meta, numbered}
+use Rattle.pcache_evict.specs.Entry.{id_of}
 use Rattle.pcache_evict.specs.Tracked.{Tracked, Limits, IsWithin, IsFair}
 use Rattle.pcache_predict.specs.declared.admission.Decision.{Decision}
 use Rattle.pcache_request.specs.LockWaits.{unusable_in}
@@ -110,10 +111,11 @@ EvictsFairly = (age : ℕ) (limits : Limits) (start : Tracked) (before : List En
     → entry.events ≡ earlier ++ Admit e n out ∷ rest
     → IsFair limits (map.insert (tracked start (reverse earlier ++ events_of before)) e n) out × (IsWithin limits (map.insert (tracked start (reverse earlier ++ events_of before)) e n) → out ≡ [])
 
--- each standing key has an entry of its own, tracked with exactly the length of its body
+-- each standing key has an entry of its own, with the number of its last finished write, tracked with exactly the length of
+-- its body
 abbrev pub TracksExactly : Type 0
 TracksExactly = (age : ℕ) (limits : Limits) (start : Tracked) (before : List Entry) (k : ℕ) (b : Stored) → IsLegal age limits start before → complete k (events_of before) ≡ Some b
-    → (e : CacheEntryKey) × (names_slot k e ≡ true) × (map.get (tracked start (events_of before)) e ≡ Some (stored_size b)) × ((q : ℕ) → names_slot q e ≡ true → k ≡ q)
+    → (e : CacheEntryKey) × (names_slot k e ≡ true) × (id_of e ≡ last_finished k (events_of before)) × (map.get (tracked start (events_of before)) e ≡ Some (stored_size b)) × ((q : ℕ) → names_slot q e ≡ true → k ≡ q)
 
 -- a request for the lock of a key is given the permit exactly when its key has no permit waiting
 abbrev pub GivesThePermitExactly : Type 0
@@ -162,7 +164,7 @@ IsFoundBy h r body = (later : List Entry) × (entry : Entry) × (before : List E
 -- what a request reads through a hit is the body that a look-up of it found: that of the write of the key which had finished
 -- last then
 abbrev pub ReadsWhatWasFound : Type 0
-ReadsWhatWasFound = (age : ℕ) (limits : Limits) (start : Tracked) (h : List Entry) (r : ℕ) (x : Held) (body : List ℕ) (from to : ℕ) (done : Bool) → IsLegal age limits start h → request_of r h ≡ Some x → x.request.reader ≡ Some (Whole body from to done)
+ReadsWhatWasFound = (age : ℕ) (limits : Limits) (start : Tracked) (h : List Entry) (r : ℕ) (x : Held) (id : Option ℕ) (body : List ℕ) (from to : ℕ) (done : Bool) → IsLegal age limits start h → request_of r h ≡ Some x → x.request.reader ≡ Some (Whole id body from to done)
     → (f : IsFoundBy h r body) × (w : ℕ) × (last_finished f.3 (events_of f.2) ≡ Some w) × (is_removed w (events_of f.2) ≡ false) × (body ≡ body_of w (events_of f.2))
 
 -- what the history says was written of an open put is the body of its write, with the meta that the write began with, as it is

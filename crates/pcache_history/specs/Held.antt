@@ -16,7 +16,7 @@ use Rattle.pcache_base.specs.declared.error.ErrorType.{ErrorType}
 use Rattle.pcache_base.specs.declared.error.ErrorType.TheVariants.{OutOfMemory}
 use Rattle.pcache_base.specs.declared.reason.NoCacheReason.{NoCacheReason}
 use Rattle.pcache_base.specs.declared.reason.NoCacheReason.TheVariants.{Deferred}
-use Rattle.pcache_put_ctx.specs.State.{Stage, InBody, HasDeclined, IsOver, write_in}
+use Rattle.pcache_put_ctx.specs.State.{Stage, InBody, HasDeclined, IsOver, entry_in, write_in}
 use Rattle.pcache_predict.specs.declared.admission.Decision.{Decision}
 use Rattle.pcache_predict.specs.declared.admission.Decision.TheVariants as decision
 use Rattle.pcache_request.specs.Admissions.{is_deferral, kept_if, observes, with_decision}
@@ -40,7 +40,7 @@ use Rattle.pcache_history.specs.declared.entry.Answer.TheVariants as A
 use Rattle.pcache_history.specs.declared.entry.Entry.{Entry}
 use Rattle.pcache_history.specs.declared.entry.Event.{Event}
 use Rattle.pcache_history.specs.declared.entry.Event.TheVariants as E
-use Rattle.pcache_history.specs.Taking.{Taking, entry_in, filling, new_put}
+use Rattle.pcache_history.specs.Taking.{Taking, filling, new_put}
 use Rattle.pcache_history.specs.Watching.{waited_with}
 
 pub record Held : Type 0 where
@@ -102,7 +102,7 @@ opened options = record { request = with_options true options (enabled_request w
 -- the pair of a look-up's answer
 abbrev pub pair_of : Answer → Option (Meta × Reader)
 pair_of A.Nothing = None
-pair_of (A.Complete m body) = Some (m, Whole body 0 (length body) false)
+pair_of (A.Complete m body) = Some (m, Whole m.entry_id body 0 (length body) false)
 pair_of (A.Streaming m w) = Some (m, Part w 0)
 
 abbrev pub pair_reader : Option (Meta × Reader) → Option Reader
@@ -167,7 +167,7 @@ without_pair x = record { request = x.request; pair = None; carried = x.carried;
 -- a write that began is held, and the permit released; if the call was not refused, the reader follows it
 abbrev pub began : Bool → List Event → Request → Request
 began joined [] x = x
-began joined (E.Begin w k m ∷ es) x = record x { write = Some w; entry = None; held = None; reader = cond joined (Some (Part w 0)) x.reader }
+began joined (E.Begin w k m ∷ es) x = record x { write = Some w; entry = Some w; held = None; reader = cond joined (Some (Part w 0)) x.reader }
 began joined (_ ∷ es) x = x
 
 -- a write that ended is held no more
@@ -177,7 +177,7 @@ ended (e ∷ es) x = record x { write = None; entry = None; held = None }
 
 -- a reader that gave bytes is past them
 abbrev pub read_past : Poll (Option (List ℕ)) → Reader → Reader
-read_past a (Whole body start stop done) = Whole body start stop true
+read_past a (Whole id body start stop done) = Whole id body start stop true
 read_past (Ready (Some bs)) (Part w place) = Part w (place + length bs)
 read_past (Ready None) (Part w place) = Part w place
 read_past Pending (Part w place) = Part w place
@@ -211,7 +211,7 @@ IsHeldPut x = (p : Taking) × (x ≡ held_put p)
 
 -- where a put stands once its write began, if one did; and after a piece
 abbrev pub stage_noted : List Event → Stage → Stage
-stage_noted (E.Begin w k m ∷ es) stage = InBody w None m.fresh_until
+stage_noted (E.Begin w k m ∷ es) stage = InBody w (Some w) m.fresh_until
 stage_noted _ stage = stage
 
 abbrev pub stage_fed : Outcome → List Event → Stage → Stage

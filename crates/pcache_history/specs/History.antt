@@ -33,5 +33,5 @@ written_of w es = option_map (λ b. record { slot = b.0; meta = b.1; bytes = bod
 -- what a reader gives: a range of a body once, then the end; of a write all that is unread, nothing yet if more may
 -- come, else the end
 abbrev pub reads : List Event → Reader → Poll (Option (List ℕ))
-reads es (Whole body start stop done) = Ready (cond done None (Some (slice_range body start stop)))
+reads es (Whole id body start stop done) = Ready (cond done None (Some (slice_range body start stop)))
 reads es (Part w place) = read_part place (written_of w es)

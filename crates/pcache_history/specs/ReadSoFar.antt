@@ -33,5 +33,5 @@ read_by r (e ∷ h) = if e.call.request == r then read_on (change_of e.call.act)
 -- a reader of a complete body has given its range once it is done, and nothing before; a reader of a write has given the
 -- beginning of the write's body up to its place
 abbrev pub HasRead : List Event → Reader → List ℕ → Type 0
-HasRead es (Whole body start stop done) bytes = bytes ≡ cond done (slice_range body start stop) []
+HasRead es (Whole id body start stop done) bytes = bytes ≡ cond done (slice_range body start stop) []
 HasRead es (Part w place) bytes = (bytes ≡ take place (body_of w es)) × (place ≤ length (body_of w es))

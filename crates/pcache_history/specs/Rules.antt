@@ -15,7 +15,7 @@ use Rattle.pcache_evict.specs.declared.eviction.entry_key.CacheEntryKey.{CacheEn
 use Rattle.pcache_lock.specs.Permits.{Permit}
 use Rattle.pcache_lock.specs.declared.lock.permit.Locked.{Locked}
 use Rattle.pcache_lock.specs.declared.lock.permit.Locked.TheVariants.{Write, Read}
-use Rattle.pcache_store.specs.Store.{Reader, reader_weight}
+use Rattle.pcache_store.specs.Store.{Reader, gives_piece, reader_weight, write_read}
 use Rattle.pcache_request.specs.declared.phase.HitStatus.{HitStatus}
 use Rattle.pcache_lock.specs.declared.lock.outcome.LockWaitOutcome.{LockWaitOutcome}
 use Rattle.pcache_request.specs.LockUse.{MaySetLock, gone_for, permit_in, read_in}
@@ -147,9 +147,9 @@ abbrev pub AsksIf : Bool → ℕ → Option Locked → List Event → Option Loc
 AsksIf true k held events l = Asks k held events l
 AsksIf false k held events l = (events ≡ []) × (l ≡ None)
 
--- a hit that counts is noted with its weight
+-- a hit that counts is noted with the entry of its write and its weight
 abbrev pub accesses : HitStatus → Key → Reader → Request → List Event
-accesses s k h x = if counts_found s h x then E.Access (entry_of k None) (reader_weight h) ∷ [] else []
+accesses s k h x = if counts_found s h x then E.Access (entry_of k (write_read h)) (reader_weight h) ∷ [] else []
 
 -- a begin may be refused when memory runs out, or if all numbers are used
 abbrev pub IsBeginRefusal : ℕ → ErrorType → Type 0
@@ -187,10 +187,11 @@ abbrev pub LooksOn : Bool → Facts → ℕ → Answer → Request → Reply →
 LooksOn true f k a x reply events = (events ≡ E.Look k a ∷ (release_of x.held ++ drop_of x.write)) × (reply ≡ R.NotFound None)
 LooksOn false f k a x reply events = HandsOn (is_unseen x.valid_after (pair_of a)) f k a x reply events
 
--- a look-up tells what the store finds, and if that is nothing, the policy in use decides, if it is asked
+-- a look-up tells what the store finds, and if that is nothing, the policy in use decides, if it is asked; it is refused for
+-- memory before anything comes of it only if the store finds something
 abbrev pub Looks : Facts → Held → Reply → List Event → Type 0
 Looks f x reply events =
-    IsStarved reply events
+    (IsSome f.found × IsStarved reply events)
     ⊎ ((k : Key) × (a : Answer) × (x.request.key ≡ Some k) × (pair_of a ≡ f.found) × LooksOn (is_deferral (decides a x)) f (slot k) a x.request reply events)
 
 -- a wait is refused for memory only at the first poll of its read lock, and only if the key names fills that cannot be used
@@ -238,12 +239,12 @@ Begins f x reply events =
     ⊎ ((k : Key) × (m : Meta) × (x.key ≡ Some k) × (x.meta ≡ Some m) × (events ≡ E.Begin f.next (slot k) m ∷ release_of x.held)
     × ((reply ≡ R.Done) ⊎ (reply ≡ R.Refused OutOfMemory)))
 
--- the end of a write: an untouched one is stored and its entry admitted; if the manager refuses, the key is purged; one
+-- the end of a write: an untouched one is stored and its entry, which has its number, admitted; if the manager refuses, the key is purged; one
 -- that was removed is refused; if memory is refused, it is dropped
 abbrev pub EndsFilling : Facts → Request → Key → ℕ → Reply → List Event → Type 0
 EndsFilling f x k w reply events =
     ((out : List CacheEntryKey) × (f.untouched ≡ true)
-    × (events ≡ E.Finish w true ∷ release_of x.held ++ E.Admit (entry_of k None) f.size out ∷ []) × (reply ≡ R.Stored f.size (length out)))
+    × (events ≡ E.Finish w true ∷ release_of x.held ++ E.Admit (entry_of k (Some w)) f.size out ∷ []) × (reply ≡ R.Stored f.size (length out)))
     ⊎ (((f.untouched ≡ true) × (events ≡ E.Finish w true ∷ release_of x.held ++ E.Purge (slot k) ∷ []) × (reply ≡ R.Refused OutOfMemory))
     ⊎ (((f.untouched ≡ false) × (events ≡ E.Finish w false ∷ release_of x.held) × (reply ≡ R.Refused WriteRemoved))
     ⊎ ((events ≡ E.Dropped w ∷ release_of x.held) × (reply ≡ R.Refused OutOfMemory))))
@@ -252,21 +253,23 @@ abbrev pub Finishes : Facts → Request → Option ℕ → Reply → List Event 
 Finishes f x None reply events = IsIdle R.Nothing reply events
 Finishes f x (Some w) reply events = (k : Key) × (x.key ≡ Some k) × EndsFilling f x k w reply events
 
--- bytes that a reader gave went by also if their copy is refused
+-- only a piece is refused for memory, and never the end; bytes that a reader gave went by also if their copy is refused
 abbrev pub Reads : Facts → Reply → List Event → Type 0
-Reads f reply events = IsStarved reply events ⊎ ((events ≡ E.Read f.given ∷ []) × ((reply ≡ read_reply f.given) ⊎ (reply ≡ R.Refused OutOfMemory)))
+Reads f reply events =
+    ((gives_piece f.given ≡ true) × IsStarved reply events)
+    ⊎ ((events ≡ E.Read f.given ∷ []) × ((reply ≡ read_reply f.given) ⊎ ((gives_piece f.given ≡ true) × (reply ≡ R.Refused OutOfMemory))))
 
--- what a purge answers, and what is untracked with what was there
+-- what a purge answers, and what is untracked with what was there: the entry of the complete body, or of the key alone
 abbrev pub purge_reply : Bool → Reply
 purge_reply there = if there then R.Purged else R.Absent
 
-abbrev pub untrack_of : Bool → Key → List Event
-untrack_of goes k = if goes then E.Untrack (entry_of k None) ∷ [] else []
+abbrev pub untrack_of : Bool → Key → Option ℕ → List Event
+untrack_of goes k n = if goes then E.Untrack (entry_of k n) ∷ [] else []
 
 abbrev pub Purges : Facts → Request → Reply → List Event → Type 0
 Purges f x reply events =
     IsStarved reply events
-    ⊎ ((k : Key) × (x.key ≡ Some k) × (events ≡ E.Purge (slot k) ∷ untrack_of (f.there && x.uses.eviction) k) × (reply ≡ purge_reply f.there))
+    ⊎ ((k : Key) × (x.key ≡ Some k) × (events ≡ E.Purge (slot k) ∷ untrack_of (f.there && x.uses.eviction) k f.number) × (reply ≡ purge_reply f.there))
 
 -- the freshness of the complete body of the key ends, if there is one
 abbrev pub expire_reply : Bool → Reply
@@ -334,7 +337,7 @@ TakesPiece f k stage w m b reply events =
 
 -- a reason and a refusal are answered again; a write begins only if the head ends, with the next number
 abbrev pub FeedsAt : Facts → ℕ → Stage → Reply → List Event → Type 0
-FeedsAt f k InHead reply events = (m : Option Meta) × (b : Option Written) × TakesPiece f k InHead (write_in (stage_begun InHead m f.next None)) m b reply events
+FeedsAt f k InHead reply events = (m : Option Meta) × (b : Option Written) × TakesPiece f k InHead (write_in (stage_begun InHead m f.next (Some f.next))) m b reply events
 FeedsAt f k (InBody w id until) reply events = (b : Option Written) × TakesPiece f k (InBody w id until) (Some w) None b reply events
 FeedsAt f k (HasDeclined reason) reply events = IsIdle (R.NotCached reason) reply events
 FeedsAt f k (IsOver kind) reply events = IsIdle (R.Refused kind) reply events

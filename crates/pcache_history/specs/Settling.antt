@@ -1,7 +1,8 @@
--- What follows the finish of a body that was stored, in the same entry (own): its key's entry is admitted with the body's length,
+-- What follows the finish of a body that was stored, in the same entry (own): the write's entry is admitted with the body's length,
 -- or the manager had no memory and the key's slot is purged. So nothing that the manager does not track stays in the store.
-use Rattle.std.specs.Prelude.{◌≡◌, ℕ, true, Option, Some, List, [], ◌∷◌, ◌++◌, length, reverse}
+use Rattle.std.specs.Prelude.{◌≡◌, ℕ, true, Some, List, [], ◌∷◌, ◌++◌, length}
 use Rattle.pcache_base.specs.declared.error.ErrorType.TheVariants.{OutOfMemory}
+use Rattle.pcache_evict.specs.Entry.{id_of}
 use Rattle.pcache_evict.specs.Tracked.{Tracked, Limits}
 use Rattle.pcache_meta.specs.Meta.{Meta}
 use Rattle.pcache_history.specs.declared.call.Reply.{Reply}
@@ -15,18 +16,18 @@ use Rattle.pcache_history.specs.History.{events_of}
 use Rattle.pcache_history.specs.Legal.{IsLegal}
 use Rattle.pcache_history.specs.Log.{Log}
 
--- these events settle a body of this size that was stored under this slot: but for the release of a permit they are one, the
--- admission of an entry of the slot with the size, or the purge of the slot by a call that is refused for memory
-abbrev pub Settles : ℕ → ℕ → Reply → List Event → Type 0
-Settles k n reply [] = ⊥
-Settles k n reply (Release l ∷ events) = Settles k n reply events
-Settles k n reply (Admit e m out ∷ events) = (names_slot k e ≡ true) × (m ≡ n) × (events ≡ [])
-Settles k n reply (Purge q ∷ events) = (q ≡ k) × (reply ≡ Refused OutOfMemory) × (events ≡ [])
-Settles k n reply (_ ∷ events) = ⊥
+-- these events settle a body of this size that this write stored under this slot: but for the release of a permit they are one,
+-- the admission of the write's entry with the size, or the purge of the slot by a call that is refused for memory
+abbrev pub Settles : ℕ → ℕ → ℕ → Reply → List Event → Type 0
+Settles k w n reply [] = ⊥
+Settles k w n reply (Release l ∷ events) = Settles k w n reply events
+Settles k w n reply (Admit e m out ∷ events) = (names_slot k e ≡ true) × (id_of e ≡ Some w) × (m ≡ n) × (events ≡ [])
+Settles k w n reply (Purge q ∷ events) = (q ≡ k) × (reply ≡ Refused OutOfMemory) × (events ≡ [])
+Settles k w n reply (_ ∷ events) = ⊥
 
 -- a write was begun under a slot, and what follows its finish settles its body
 abbrev pub SettlesWrite : ℕ → List Event → Reply → List Event → Type 0
-SettlesWrite w es reply rest = (k : ℕ) × (m : Meta) × (begin_of w es ≡ Some (k, m)) × Settles k (length (body_of w es)) reply rest
+SettlesWrite w es reply rest = (k : ℕ) × (m : Meta) × (begin_of w es ≡ Some (k, m)) × Settles k w (length (body_of w es)) reply rest
 
 -- a finish that succeeds comes first in its entry, and the rest of the entry settles the body
 abbrev pub SettlesAtOnce : Type 0

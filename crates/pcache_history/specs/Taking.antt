@@ -1,11 +1,11 @@
 -- An open put, and the request that a world keeps for it (own). Of the bytes that came, its parser and its counter keep what
 -- the pieces of the history say.
-use Rattle.std.specs.Prelude.{ℕ, Option, Some, None, [], true, false}
+use Rattle.std.specs.Prelude.{ℕ, Option, Some, [], true, false}
 use Rattle.std.specs.Option.{option_map}
 use Rattle.pcache_base.specs.Key.{Key}
 use Rattle.pcache_put.specs.Progress.{Parsed, AtHead}
 use Rattle.pcache_put.specs.Counted.{Counted}
-use Rattle.pcache_put_ctx.specs.State.{Put, Stage, InHead, InBody, HasDeclined, IsOver}
+use Rattle.pcache_put_ctx.specs.State.{Put, Stage, InHead}
 use Rattle.pcache_request.specs.Requests.{Request, enabled_request}
 use Rattle.pcache_request.specs.declared.phase.CachePhase.TheVariants as phase
 use Rattle.pcache_request.specs.declared.phase.InUse.{InUse}
@@ -31,13 +31,6 @@ put_use = record { eviction = true; predictor = false; lock = false }
 -- a request that fills this key with this write, if it does, for the entry of a number, and does nothing else
 abbrev pub filling : Key → Option ℕ → Option ℕ → Request
 filling k w id = let made : Request = enabled_request put_use in record made { phase = phase.Miss; key = Some k; write = w; entry = id }
-
--- the number of the entry that the write fills
-abbrev pub entry_in : Stage → Option ℕ
-entry_in InHead = None
-entry_in (InBody w id until) = id
-entry_in (HasDeclined reason) = None
-entry_in (IsOver kind) = None
 
 -- a put as its context is seen, but for its policy
 abbrev pub taking : {C : Type 0} → Put C → Taking

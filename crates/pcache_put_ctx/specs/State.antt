@@ -37,6 +37,13 @@ write_in (InBody w id fresh_until) = Some w
 write_in (HasDeclined reason) = None
 write_in (IsOver kind) = None
 
+-- the number of the entry that this write fills, if entries have numbers
+abbrev pub entry_in : Stage → Option ℕ
+entry_in InHead = None
+entry_in (InBody w id fresh_until) = id
+entry_in (HasDeclined reason) = None
+entry_in (IsOver kind) = None
+
 abbrev pub limit_of : Option Counted → Option ℕ
 limit_of size = option_map (λ (c : Counted). c.limit) size
 

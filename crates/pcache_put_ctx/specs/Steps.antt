@@ -15,7 +15,7 @@ use Rattle.pcache_request.specs.Requests.{dropped_by}
 use Rattle.pcache_request.specs.WriteEnds.{EndsBody, HoldsNoLock, evicted_by}
 use Rattle.pcache_request.specs.declared.cache.finish.WriteEnd.{WriteEnd}
 use Rattle.pcache_request.specs.declared.cache.finish.WriteEnd.TheVariants as writes
-use Rattle.pcache_store.specs.Store.{Store, begun, wrote, dropped, is_told}
+use Rattle.pcache_store.specs.Store.{Store, Guarantees, begun, wrote, dropped, is_told}
 use Rattle.pcache_store.specs.declared.storage.MissFinishType.{MissFinishType}
 use Rattle.pcache_put_ctx.specs.Puts.{Piece, Says, Outcome, Stores, Declines, Refuses}
 use Rattle.pcache_put_ctx.specs.State.{Stage, InHead, InBody, HasDeclined, IsOver, Put, Filled, HasTaken, write_in, limit_of}
@@ -203,12 +203,12 @@ EndsEarly parser w how s s' m m' = (e : ErrorType) × ((e ≡ IncompleteHttpBody
 
 -- a put ends as it stands: refused if its head has not ended; for its reason, or as every call is refused; else its
 -- write ends, too early or as any write does, with a manager in use
-abbrev pub EndsPut : Bool → Key → Parsed → (ℕ → MissFinishType) → Limits → Stage → PutEnd → Store → Store → Entries → Entries → Type 0
-EndsPut sure k parser kinds limits InHead how s s' m m' = (how ≡ end.Refused IncompleteHttpBody) × IsStill s s' m m'
-EndsPut sure k parser kinds limits (HasDeclined reason) how s s' m m' = (how ≡ end.NotCached reason) × IsStill s s' m m'
-EndsPut sure k parser kinds limits (IsOver kind) how s s' m m' = (how ≡ end.Refused kind) × IsStill s s' m m'
-EndsPut sure k parser kinds limits (InBody w id fresh_until) how s s' m m' =
-    EndsEarly parser w how s s' m m' ⊎ EndsBody sure true id HoldsNoLock k w (kinds w) limits (write_end how) s s' m m'
+abbrev pub EndsPut : Guarantees → Key → Parsed → (ℕ → MissFinishType) → Limits → Stage → PutEnd → Store → Store → Entries → Entries → Type 0
+EndsPut g k parser kinds limits InHead how s s' m m' = (how ≡ end.Refused IncompleteHttpBody) × IsStill s s' m m'
+EndsPut g k parser kinds limits (HasDeclined reason) how s s' m m' = (how ≡ end.NotCached reason) × IsStill s s' m m'
+EndsPut g k parser kinds limits (IsOver kind) how s s' m m' = (how ≡ end.Refused kind) × IsStill s s' m m'
+EndsPut g k parser kinds limits (InBody w id fresh_until) how s s' m m' =
+    EndsEarly parser w how s s' m m' ⊎ EndsBody g true id HoldsNoLock k w (kinds w) limits (write_end how) s s' m m'
 
 -- how the put stands at its end: whoever goes on after a body was stored is mistaken
 abbrev pub stage_ended : PutEnd → Stage

@@ -83,10 +83,12 @@ impl<C: CachePut, S: Storage> CachePutCtx<C, S> {
     ghost use Rattle.pcache_base.specs.declared.error.ErrorType.TheVariants.{InternalError};
     ghost use Rattle.pcache_meta.specs.Meta.{Meta};
     ghost use Rattle.pcache_put.specs.Progress.{AtHead, HasFailed};
+    ghost use Rattle.pcache_store.specs.Purge.{entry_given};
     ghost use Rattle.pcache_request.specs.NoBody.{HasNoBody, LeavesNone};
     ghost use Rattle.pcache_request.specs.Requests.{dropped_by};
     ghost use Rattle.pcache_put_ctx.specs.Puts.{Piece, IsResult};
-    ghost use Rattle.pcache_put_ctx.specs.State.{InHead, Filled, HasTaken, limit_of, write_in};
+    ghost use Rattle.std.specs.Option.{option_and_then};
+    ghost use Rattle.pcache_put_ctx.specs.State.{InHead, Filled, HasTaken, entry_in, limit_of, write_in};
     ghost use Rattle.pcache_put_ctx.specs.Steps.{Done, store_after, store_left, stage_begun, filled_on, BeginsAtHead, EndsPiece, TakesPiece, StandsAnswered, RepeatsAnswer, AnswersAgain, IfRefused, MayRefusePiece, is_done, EndsPut, EndsAs, stage_ended, entry_told, evicted_ended, IfWithdrawn, TellsResult};
 
     /// A put of a key, with no limit on its body.
@@ -123,7 +125,8 @@ impl<C: CachePut, S: Storage> CachePutCtx<C, S> {
 
     /// The handler of the write, if one is in flight.
     pub fn writer(&self) -> Option<&S::Miss>
-        ensures { option_map (λ w. S.Miss.write w.now) result ≡ write_in self.now.stage }
+        ensures write { option_map (λ w. S.Miss.write w.now) result ≡ write_in self.now.stage }
+        ensures entry { option_and_then (λ w. S.Miss.entry_number w.now) result ≡ entry_in self.now.stage }
     {
         match &self.stage {
             Stage::Body(filling) => Some(&filling.writer),
@@ -142,7 +145,7 @@ impl<C: CachePut, S: Storage> CachePutCtx<C, S> {
         now: Moment,
     ) -> Result<Option<NoCacheReason>>
         ensures step { (d : Done) × TakesPiece (C.says self.old.policy) self.old self.new (record { bytes = piece.now; now = now }) d
-            × (S.state storage.new ≡ store_left result (stage_begun self.old.stage d.began (S.state storage.old).next (S.next_entry storage.old)) (store_after self.old.key self.old.stage d.began d.wrote (S.next_entry storage.old) (S.state storage.old))) }
+            × (S.state storage.new ≡ store_left result (stage_begun self.old.stage d.began (S.state storage.old).next (entry_given S.guarantees.numbers (S.state storage.old).next)) (store_after self.old.key self.old.stage d.began d.wrote (entry_given S.guarantees.numbers (S.state storage.old).next) (S.state storage.old))) }
         ensures stands { StandsAnswered result self.new.stage }
         ensures again { RepeatsAnswer self.old.stage result }
         ensures kind { IfErr result (λ e. MayRefusePiece self.old.stage (S.state storage.old) e ⊎ (self.old.parser ≡ HasFailed e)) }
@@ -169,9 +172,9 @@ impl<C: CachePut, S: Storage> CachePutCtx<C, S> {
         ensures limit { limit_of self.new.size ≡ limit_of self.old.size }
 
         // What the piece did: a write began, and bytes were written.
-        ensures store { S.state storage.new ≡ store_after self.old.key self.old.stage result.began result.wrote (S.next_entry storage.old) (S.state storage.old) }
+        ensures store { S.state storage.new ≡ store_after self.old.key self.old.stage result.began result.wrote (entry_given S.guarantees.numbers (S.state storage.old).next) (S.state storage.old) }
         ensures began { BeginsAtHead self.old.stage result.began }
-        ensures ends { EndsPiece S.Miss.write result.end (stage_begun self.old.stage result.began (S.state storage.old).next (S.next_entry storage.old)) self.new.stage }
+        ensures ends { EndsPiece S.Miss.write result.end (stage_begun self.old.stage result.began (S.state storage.old).next (entry_given S.guarantees.numbers (S.state storage.old).next)) self.new.stage }
 
         // What the put has taken in, with this piece; and the end is said of the bytes that complete a body.
         ensures taken { (pieces : List Piece) (f : Option Filled) → HasTaken (C.says self.old.policy) self.old pieces f
@@ -204,7 +207,7 @@ impl<C: CachePut, S: Storage> CachePutCtx<C, S> {
         storage: &mut S,
         eviction: &mut E,
     ) -> Result<PutOutcome>
-        ensures ends { EndsAs result (λ end. EndsPut S.always_purges self.old.key self.old.parser (S.finishes storage.old) (E.limits eviction.old) self.old.stage end (S.state storage.old) (S.state storage.new) (E.tracked eviction.old) (E.tracked eviction.new)) }
+        ensures ends { EndsAs result (λ end. EndsPut S.guarantees self.old.key self.old.parser (S.finishes storage.old) (E.limits eviction.old) self.old.stage end (S.state storage.old) (S.state storage.new) (E.tracked eviction.old) (E.tracked eviction.new)) }
         ensures evicted { EndsAs result (λ end. E.evicted eviction.new ≡ evicted_ended self.old.key (S.finishes storage.old) self.old.stage (E.tracked eviction.old) (E.evicted eviction.old) end) }
         ensures limits { E.limits eviction.new ≡ E.limits eviction.old }
         ensures stage { EndsAs result (λ end. self.new.stage ≡ stage_ended end) }
@@ -213,7 +216,7 @@ impl<C: CachePut, S: Storage> CachePutCtx<C, S> {
         ensures tells { (pieces : List Piece) (f : Option Filled) → HasTaken (C.says self.old.policy) self.old pieces f → EndsAs result (TellsResult (IsResult (C.says self.old.policy) (limit_of self.old.size) pieces) f) }
 
         // If the admission was refused, the key has no body in the store after the call.
-        ensures withdrawn { IsTrue S.always_purges → OnErr result (LeavesNone (Some self.old.key) (write_in self.old.stage) (S.state storage.old) (S.state storage.new)) }
+        ensures withdrawn { IsTrue S.guarantees.purges → OnErr result (LeavesNone (Some self.old.key) (write_in self.old.stage) (S.state storage.old) (S.state storage.new)) }
     {
         let PutReport { end, entry: _ } = self.end_put(storage, eviction);
         match end {
@@ -229,7 +232,7 @@ impl<C: CachePut, S: Storage> CachePutCtx<C, S> {
     pub fn end_put<E: EvictionManager>(&mut self, storage: &mut S, eviction: &mut E) -> PutReport
         ensures policy { self.new.policy ≡ self.old.policy }
         ensures key { self.new.key ≡ self.old.key }
-        ensures ends { EndsPut S.always_purges self.old.key self.old.parser (S.finishes storage.old) (E.limits eviction.old) self.old.stage result.end (S.state storage.old) (S.state storage.new) (E.tracked eviction.old) (E.tracked eviction.new) }
+        ensures ends { EndsPut S.guarantees self.old.key self.old.parser (S.finishes storage.old) (E.limits eviction.old) self.old.stage result.end (S.state storage.old) (S.state storage.new) (E.tracked eviction.old) (E.tracked eviction.new) }
         ensures entry { result.entry ≡ entry_told self.old.key self.old.stage result.end }
         ensures evicted { E.evicted eviction.new ≡ evicted_ended self.old.key (S.finishes storage.old) self.old.stage (E.tracked eviction.old) (E.evicted eviction.old) result.end }
         ensures limits { E.limits eviction.new ≡ E.limits eviction.old }
@@ -237,7 +240,7 @@ impl<C: CachePut, S: Storage> CachePutCtx<C, S> {
 
         // What comes of the put is what comes of its bytes, all pieces together.
         ensures tells { (pieces : List Piece) (f : Option Filled) → HasTaken (C.says self.old.policy) self.old pieces f → TellsResult (IsResult (C.says self.old.policy) (limit_of self.old.size) pieces) f result.end }
-        ensures withdrawn { IsTrue S.always_purges → IfWithdrawn result.end (HasNoBody (S.state storage.new) self.old.key) }
+        ensures withdrawn { IsTrue S.guarantees.purges → IfWithdrawn result.end (HasNoBody (S.state storage.new) self.old.key) }
     {
         match take_stage(&mut self.stage) {
             Stage::Head => leave(

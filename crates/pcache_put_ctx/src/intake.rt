@@ -6,6 +6,7 @@ ghost use Rattle.pcache_base.specs.declared.error.ErrorType.TheVariants.{OutOfMe
 ghost use Rattle.pcache_meta.specs.Meta.{Meta};
 ghost use Rattle.pcache_put.specs.Progress.{HasFailed};
 ghost use Rattle.pcache_put.specs.Response.{IsUnreadable};
+ghost use Rattle.pcache_store.specs.Purge.{entry_given};
 ghost use Rattle.pcache_store.specs.Refusals.{MayRefuseWrite};
 ghost use Rattle.pcache_store.specs.Store.{is_told};
 ghost use Rattle.pcache_put_ctx.specs.Openings.{IsVerdict, IsBegun, IsNext, store_opened, IsDue, HasOpened};
@@ -121,7 +122,7 @@ impl<C: CachePut> Intake<C> {
         now: Moment,
     ) -> Result<Opened<S::Miss>>
         ensures begun { IfOk result (IsBegun (IsVerdict (C.says self.now.policy) (limit_of self.now.size) header now) body) }
-        ensures next { IfOk result (IsNext S.Miss.write S.Miss.entry_number (S.state storage.old).next (S.next_entry storage.old)) }
+        ensures next { IfOk result (IsNext S.Miss.write S.Miss.entry_number (S.state storage.old).next (entry_given S.guarantees.numbers (S.state storage.old).next)) }
         ensures store { IfOk result (λ o. S.state storage.new ≡ store_opened (slot self.now.key) o (S.state storage.old)) }
         ensures err { OnErr result (S.state storage.new ≡ S.state storage.old) }
         ensures kind { IfErr result (λ e. (e ≡ OutOfMemory) ⊎ MayRefuseWrite (S.state storage.old) e) }
@@ -148,7 +149,7 @@ impl<C: CachePut> Intake<C> {
     ) -> Result<Opened<S::Miss>>
         ensures same { self.new ≡ record self.old { parser = self.new.parser } }
         ensures opened { IfOk result (λ o. (pieces : List Piece) → HeadTaken self.old.size self.old.parser pieces → HasOpened (C.says self.old.policy) self.old.size self.new.parser (pieces ++ record { bytes = piece.now; now = now } ∷ []) o) }
-        ensures next { IfOk result (IsNext S.Miss.write S.Miss.entry_number (S.state storage.old).next (S.next_entry storage.old)) }
+        ensures next { IfOk result (IsNext S.Miss.write S.Miss.entry_number (S.state storage.old).next (entry_given S.guarantees.numbers (S.state storage.old).next)) }
         ensures store { IfOk result (λ o. S.state storage.new ≡ store_opened (slot self.old.key) o (S.state storage.old)) }
         ensures invalid { IfErr result (λ e. e ≡ InvalidHttpHeader → (pieces : List Piece) → HeadTaken self.old.size self.old.parser pieces → IsUnreadable (joined (pieces ++ record { bytes = piece.now; now = now } ∷ []))) }
         ensures err { OnErr result (S.state storage.new ≡ S.state storage.old) }
@@ -217,8 +218,8 @@ impl<C: CachePut> Intake<C> {
     ) -> Taken<S::Miss>
         ensures same { self.new ≡ record self.old { size = self.new.size; parser = self.new.parser } }
         ensures limit { limit_of self.new.size ≡ limit_of self.old.size }
-        ensures store { S.state storage.new ≡ store_after self.old.key InHead result.report.began result.report.wrote (S.next_entry storage.old) (S.state storage.old) }
-        ensures ends { EndsPiece S.Miss.write result.report.end (stage_begun InHead result.report.began (S.state storage.old).next (S.next_entry storage.old)) (stage_of S.Miss.write S.Miss.entry_number result.stage) }
+        ensures store { S.state storage.new ≡ store_after self.old.key InHead result.report.began result.report.wrote (entry_given S.guarantees.numbers (S.state storage.old).next) (S.state storage.old) }
+        ensures ends { EndsPiece S.Miss.write result.report.end (stage_begun InHead result.report.began (S.state storage.old).next (entry_given S.guarantees.numbers (S.state storage.old).next)) (stage_of S.Miss.write S.Miss.entry_number result.stage) }
         ensures last { (pieces : List Piece) (f : Option Filled) → TakenBy (C.says self.old.policy) self.old.size self.old.parser InHead pieces f → IfSome result.report.wrote (λ w. w.eof ≡ is_done self.new.parser) }
         ensures taken { (pieces : List Piece) (f : Option Filled) → TakenBy (C.says self.old.policy) self.old.size self.old.parser InHead pieces f
             → TakenBy (C.says self.old.policy) self.new.size self.new.parser (stage_of S.Miss.write S.Miss.entry_number result.stage) (pieces ++ record { bytes = piece.now; now = now } ∷ []) (filled_on result.report.began result.report.wrote f) }
@@ -242,9 +243,9 @@ impl<C: CachePut> Intake<C> {
     ) -> Taken<S::Miss>
         ensures same { self.new ≡ record self.old { size = self.new.size; parser = self.new.parser } }
         ensures limit { limit_of self.new.size ≡ limit_of self.old.size }
-        ensures store { S.state storage.new ≡ store_after self.old.key (InBody (S.Miss.write filling.writer) (S.Miss.entry_number filling.writer) filling.fresh_until) result.report.began result.report.wrote (S.next_entry storage.old) (S.state storage.old) }
+        ensures store { S.state storage.new ≡ store_after self.old.key (InBody (S.Miss.write filling.writer) (S.Miss.entry_number filling.writer) filling.fresh_until) result.report.began result.report.wrote (entry_given S.guarantees.numbers (S.state storage.old).next) (S.state storage.old) }
         ensures began { result.report.began ≡ None }
-        ensures ends { EndsPiece S.Miss.write result.report.end (stage_begun (InBody (S.Miss.write filling.writer) (S.Miss.entry_number filling.writer) filling.fresh_until) result.report.began (S.state storage.old).next (S.next_entry storage.old)) (stage_of S.Miss.write S.Miss.entry_number result.stage) }
+        ensures ends { EndsPiece S.Miss.write result.report.end (stage_begun (InBody (S.Miss.write filling.writer) (S.Miss.entry_number filling.writer) filling.fresh_until) result.report.began (S.state storage.old).next (entry_given S.guarantees.numbers (S.state storage.old).next)) (stage_of S.Miss.write S.Miss.entry_number result.stage) }
         ensures last { (pieces : List Piece) (f : Option Filled) → TakenBy (C.says self.old.policy) self.old.size self.old.parser (InBody (S.Miss.write filling.writer) (S.Miss.entry_number filling.writer) filling.fresh_until) pieces f → IfSome result.report.wrote (λ w. w.eof ≡ is_done self.new.parser) }
         ensures taken { (pieces : List Piece) (f : Option Filled) → TakenBy (C.says self.old.policy) self.old.size self.old.parser (InBody (S.Miss.write filling.writer) (S.Miss.entry_number filling.writer) filling.fresh_until) pieces f
             → TakenBy (C.says self.old.policy) self.new.size self.new.parser (stage_of S.Miss.write S.Miss.entry_number result.stage) (pieces ++ record { bytes = piece.now; now = now } ∷ []) (filled_on result.report.began result.report.wrote f) }
@@ -271,7 +272,7 @@ impl<C: CachePut> Intake<C> {
         filling: Filling<S::Miss>,
     ) -> (PutEnd, Option<CacheEntryKey>)
         ensures same { self.new ≡ record self.old { parser = self.new.parser } }
-        ensures ends { EndsPut S.always_purges self.old.key self.old.parser (S.finishes storage.old) (E.limits eviction.old) (InBody (S.Miss.write filling.writer) (S.Miss.entry_number filling.writer) filling.fresh_until) result.0 (S.state storage.old) (S.state storage.new) (E.tracked eviction.old) (E.tracked eviction.new) }
+        ensures ends { EndsPut S.guarantees self.old.key self.old.parser (S.finishes storage.old) (E.limits eviction.old) (InBody (S.Miss.write filling.writer) (S.Miss.entry_number filling.writer) filling.fresh_until) result.0 (S.state storage.old) (S.state storage.new) (E.tracked eviction.old) (E.tracked eviction.new) }
         ensures entry { result.1 ≡ entry_told self.old.key (InBody (S.Miss.write filling.writer) (S.Miss.entry_number filling.writer) filling.fresh_until) result.0 }
         ensures evicted { E.evicted eviction.new ≡ evicted_ended self.old.key (S.finishes storage.old) (InBody (S.Miss.write filling.writer) (S.Miss.entry_number filling.writer) filling.fresh_until) (E.tracked eviction.old) (E.evicted eviction.old) result.0 }
         ensures limits { E.limits eviction.new ≡ E.limits eviction.old }

@@ -9,11 +9,11 @@ use Rattle.pcache_base.specs.declared.error.ErrorType.{ErrorType}
 use Rattle.pcache_evict.specs.Tracked.{Tracked, Limits}
 use Rattle.pcache_lock.specs.Locks.{Locks}
 use Rattle.pcache_lock.specs.declared.lock.status.LockStatus.{LockStatus}
-use Rattle.pcache_store.specs.Store.{Store, complete_body, dropped, finished, purged}
+use Rattle.pcache_store.specs.Store.{Store, Guarantees, complete_body, dropped, finished, purged}
 use Rattle.pcache_store.specs.declared.storage.MissFinishType.{MissFinishType}
 use Rattle.pcache_request.specs.Finishing.{Withdraws, Drops}
 use Rattle.pcache_request.specs.NoBody.{HasNoBody, HasNoBodyFor, IfWithdrawn, LeavesNone}
-use Rattle.pcache_request.specs.Requests.{Request}
+use Rattle.pcache_request.specs.Requests.{Request, settled}
 use Rattle.pcache_request.specs.WriteEnds.{Ends, EndsBody}
 use Rattle.pcache_request.specs.declared.cache.finish.FinishReport.{FinishReport}
 use Rattle.pcache_request.specs.declared.cache.finish.WriteEnd.{WriteEnd}
@@ -32,24 +32,24 @@ withdrawn_none Lets k w e s s' m m' h = elim h.purged [
 ]
 
 -- the same of how a write ended
-pub body_none : (Lets : LockStatus → Type 0) (k : Key) (w : ℕ) (id : Option ℕ) (kind : MissFinishType) (limits : Limits) (used : Bool) (s s' : Store) (m m' : Tracked) (sure : Bool) → sure ≡ true → (how : WriteEnd) → EndsBody sure used id Lets k w kind limits how s s' m m' → IfWithdrawn how (HasNoBody s' k)
-body_none Lets k w id kind limits used s s' m m' sure is (end.Withdrawn e) h = withdrawn_none Lets k w e s s' m m' (subst (λ b. Withdraws b Lets k w e s s' m m') is h)
-body_none Lets k w id kind limits used s s' m m' sure is how h = tt
+pub body_none : (Lets : LockStatus → Type 0) (k : Key) (w : ℕ) (id : Option ℕ) (kind : MissFinishType) (limits : Limits) (used : Bool) (s s' : Store) (m m' : Tracked) (g : Guarantees) → g.purges ≡ true → (how : WriteEnd) → EndsBody g used id Lets k w kind limits how s s' m m' → IfWithdrawn how (HasNoBody s' k)
+body_none Lets k w id kind limits used s s' m m' g is (end.Withdrawn e) h = withdrawn_none Lets k w e s s' m m' (subst (λ b. Withdraws b Lets k w e s s' m m') is h)
+body_none Lets k w id kind limits used s s' m m' g is how h = tt
 
 -- the same of what is told of the end, and of a refusal
 module _ (r : Request) (kind : MissFinishType) (limits : Limits) (s s' : Store) (m m' : Tracked) (t t' : Locks) where
-  pub ends_none : (sure : Bool) → sure ≡ true → (k : Option Key) (w : Option ℕ) (how : WriteEnd) → Ends sure r k w kind limits how s s' m m' t t' → IfWithdrawn how (HasNoBodyFor s' k)
-  ends_none sure is None w (end.Withdrawn e) h = tt
-  ends_none sure is (Some k) None (end.Withdrawn e) h = absurd h
-  ends_none sure is (Some k) (Some w) (end.Withdrawn e) h = withdrawn_none _ k w e s s' m m' (subst (λ b. Ends b r (Some k) (Some w) kind limits (end.Withdrawn e) s s' m m' t t') is h)
-  ends_none sure is k w how h = tt
+  pub ends_none : (g : Guarantees) → g.purges ≡ true → (k : Option Key) (w : Option ℕ) (how : WriteEnd) → Ends g r k w kind limits how s s' m m' t t' → IfWithdrawn how (HasNoBodyFor s' k)
+  ends_none g is None w (end.Withdrawn e) h = tt
+  ends_none g is (Some k) None (end.Withdrawn e) h = absurd h
+  ends_none g is (Some k) (Some w) (end.Withdrawn e) h = withdrawn_none _ k w e s s' m m' (subst (λ b. Withdraws b (λ status. t' ≡ settled status r.held t) k w e s s' m m') is h)
+  ends_none g is k w how h = tt
 
-  pub dropped_leaves : (sure : Bool) (k : Option Key) (w : Option ℕ) (e : ErrorType) → Ends sure r k w kind limits (end.Dropped e) s s' m m' t t' → LeavesNone k w s s'
-  dropped_leaves sure k None e h = absurd h
-  dropped_leaves sure None (Some w) e h = absurd h
-  dropped_leaves sure (Some k) (Some w) e h = inl h.dropped
+  pub dropped_leaves : (g : Guarantees) (k : Option Key) (w : Option ℕ) (e : ErrorType) → Ends g r k w kind limits (end.Dropped e) s s' m m' t t' → LeavesNone k w s s'
+  dropped_leaves g k None e h = absurd h
+  dropped_leaves g None (Some w) e h = absurd h
+  dropped_leaves g (Some k) (Some w) e h = inl h.dropped
 
-  pub withdrawn_leaves : (sure : Bool) → sure ≡ true → (k : Option Key) (w : Option ℕ) (e : ErrorType) → Ends sure r k w kind limits (end.Withdrawn e) s s' m m' t t' → LeavesNone k w s s'
-  withdrawn_leaves sure is k None e h = absurd h
-  withdrawn_leaves sure is None (Some w) e h = absurd h
-  withdrawn_leaves sure is (Some k) (Some w) e h = inr (ends_none sure is (Some k) (Some w) (end.Withdrawn e) h)
+  pub withdrawn_leaves : (g : Guarantees) → g.purges ≡ true → (k : Option Key) (w : Option ℕ) (e : ErrorType) → Ends g r k w kind limits (end.Withdrawn e) s s' m m' t t' → LeavesNone k w s s'
+  withdrawn_leaves g is k None e h = absurd h
+  withdrawn_leaves g is None (Some w) e h = absurd h
+  withdrawn_leaves g is (Some k) (Some w) e h = inr (ends_none g is (Some k) (Some w) (end.Withdrawn e) h)

@@ -3,28 +3,28 @@ use Rattle.std.proofs.Common.{◌≡◌, ℕ, ◌+◌, ◌≤◌, ◌<◌, List,
 use Rattle.std.proofs.Math.ListN.{drop_of_length-le}
 use Rattle.pcache_evict.specs.declared.eviction.entry_key.CacheEntryKey.{CacheEntryKey}
 use Rattle.pcache_store.specs.Store.{Store}
-use Rattle.pcache_store.specs.Purge.{purged_at}
-use Rattle.pcache_request.specs.Finishing.{PurgesAll, entry_slot}
+use Rattle.pcache_store.specs.Purge.{entry_purged}
+use Rattle.pcache_request.specs.Finishing.{PurgesAll}
 
 drop_item : (ks : List CacheEntryKey) (i : ℕ) (d : CacheEntryKey) → i < length ks → drop i ks ≡ get_or ks i d ∷ drop (i + 1) ks
 drop_item ks i d lt = rw add-one (drop-cons ks i d lt)
 
 -- what was told of the rest is told of one entry less, once that entry was purged or refused
-pub told_on : (whole s s' : Store) (ks : List CacheEntryKey) (i f g : ℕ) (d : CacheEntryKey) (b : Bool) → i < length ks
-    → (b ≡ true → s' ≡ s) → (b ≡ false → s' ≡ purged_at s (entry_slot (get_or ks i d))) → (b ≡ true → g ≡ f + 1) → (b ≡ false → g ≡ f)
-    → ((m : ℕ) (t : Store) → PurgesAll s (drop i ks) m t → PurgesAll whole ks (f + m) t)
-    → (m : ℕ) (t : Store) → PurgesAll s' (drop (i + 1) ks) m t → PurgesAll whole ks (g + m) t
-told_on whole s s' ks i f g d true lt r p u v told m t h =
-    let one : PurgesAll s (drop i ks) (m + 1) t = subst (λ (l : List CacheEntryKey). PurgesAll s l (m + 1) t) (sym (drop_item ks i d lt)) (inr (m, refl, subst (λ (x : Store). PurgesAll x (drop (i + 1) ks) m t) (r refl) h)) in
+pub told_on : (numbers : Bool) (whole s s' : Store) (ks : List CacheEntryKey) (i f g : ℕ) (d : CacheEntryKey) (b : Bool) → i < length ks
+    → (b ≡ true → s' ≡ s) → (b ≡ false → s' ≡ entry_purged numbers s (get_or ks i d)) → (b ≡ true → g ≡ f + 1) → (b ≡ false → g ≡ f)
+    → ((m : ℕ) (t : Store) → PurgesAll numbers s (drop i ks) m t → PurgesAll numbers whole ks (f + m) t)
+    → (m : ℕ) (t : Store) → PurgesAll numbers s' (drop (i + 1) ks) m t → PurgesAll numbers whole ks (g + m) t
+told_on numbers whole s s' ks i f g d true lt r p u v told m t h =
+    let one : PurgesAll numbers s (drop i ks) (m + 1) t = subst (λ (l : List CacheEntryKey). PurgesAll numbers s l (m + 1) t) (sym (drop_item ks i d lt)) (inr (m, refl, subst (λ (x : Store). PurgesAll numbers x (drop (i + 1) ks) m t) (r refl) h)) in
     let e : f + (m + 1) ≡ g + m = omega (arith, u refl) in
-    subst (λ n. PurgesAll whole ks n t) e (told (m + 1) t one)
-told_on whole s s' ks i f g d false lt r p u v told m t h =
-    let one : PurgesAll s (drop i ks) m t = subst (λ (l : List CacheEntryKey). PurgesAll s l m t) (sym (drop_item ks i d lt)) (inl (subst (λ (x : Store). PurgesAll x (drop (i + 1) ks) m t) (p refl) h)) in
+    subst (λ n. PurgesAll numbers whole ks n t) e (told (m + 1) t one)
+told_on numbers whole s s' ks i f g d false lt r p u v told m t h =
+    let one : PurgesAll numbers s (drop i ks) m t = subst (λ (l : List CacheEntryKey). PurgesAll numbers s l m t) (sym (drop_item ks i d lt)) (inl (subst (λ (x : Store). PurgesAll numbers x (drop (i + 1) ks) m t) (p refl) h)) in
     let e : f + m ≡ g + m = omega (arith, v refl) in
-    subst (λ n. PurgesAll whole ks n t) e (told m t one)
+    subst (λ n. PurgesAll numbers whole ks n t) e (told m t one)
 
 -- at the end nothing is left
-pub told_all : (whole s : Store) (ks : List CacheEntryKey) (i f : ℕ) → length ks ≤ i → ((m : ℕ) (t : Store) → PurgesAll s (drop i ks) m t → PurgesAll whole ks (f + m) t) → PurgesAll whole ks f s
-told_all whole s ks i f le told =
+pub told_all : (numbers : Bool) (whole s : Store) (ks : List CacheEntryKey) (i f : ℕ) → length ks ≤ i → ((m : ℕ) (t : Store) → PurgesAll numbers s (drop i ks) m t → PurgesAll numbers whole ks (f + m) t) → PurgesAll numbers whole ks f s
+told_all numbers whole s ks i f le told =
     let none = drop_of_length-le ks le in
-    rw (← add-zero f) (told 0 s (subst (λ (l : List CacheEntryKey). PurgesAll s l 0 s) (sym none) (refl, refl)))
+    rw (← add-zero f) (told 0 s (subst (λ (l : List CacheEntryKey). PurgesAll numbers s l 0 s) (sym none) (refl, refl)))

@@ -7,15 +7,15 @@ use Rattle.pcache_base.specs.CompactKey.{compact_slot}
 use Rattle.pcache_base.specs.declared.error.ErrorType.{ErrorType}
 use Rattle.pcache_base.specs.declared.error.ErrorType.TheVariants.{OutOfMemory}
 use Rattle.pcache_evict.specs.declared.eviction.entry_key.CacheEntryKey.{CacheEntryKey}
-use Rattle.pcache_evict.specs.Entry.{key_of, id_of}
+use Rattle.pcache_evict.specs.Entry.{key_of}
 use Rattle.pcache_evict.specs.Tracked.{Tracked, Limits, IsFair, without, raised}
 use Rattle.pcache_lock.specs.declared.lock.status.LockStatus.{LockStatus}
 use Rattle.pcache_lock.specs.declared.lock.status.LockStatus.TheVariants.{Done, TransientError}
-use Rattle.pcache_store.specs.Store.{Store, is_untouched, finished, dropped, purged}
+use Rattle.pcache_store.specs.Store.{Store, Guarantees, is_untouched, finished, dropped, purged}
 use Rattle.pcache_store.specs.Refusals.{MayRefuseFinish}
 use Rattle.pcache_store.specs.declared.storage.MissFinishType.{MissFinishType}
 use Rattle.pcache_store.specs.declared.storage.MissFinishType.TheVariants.{Created, Appended}
-use Rattle.pcache_store.specs.Purge.{unless_numbered, purged_at}
+use Rattle.pcache_store.specs.Purge.{entry_purged}
 use Rattle.pcache_request.specs.Requests.{Request, entry_of}
 
 -- the size that a report of the end tells
@@ -32,14 +32,14 @@ with_entry (Appended n most) e m = insert m e (raised n most (get m e))
 abbrev pub after_finish : Request → Request
 after_finish r = cond (is_some r.write) (record r { write = None; entry = None; held = None }) r
 
--- the slot that an evicted entry names: none if it has a number, since no entry of a store has one
-abbrev pub entry_slot : CacheEntryKey → Option ℕ
-entry_slot e = unless_numbered (compact_slot (key_of e)) (id_of e)
+-- the slot of an entry: that of its key
+abbrev pub entry_slot : CacheEntryKey → ℕ
+entry_slot e = compact_slot (key_of e)
 
 -- t is s once each entry was purged in order, or left if that was refused, which happened n times
-abbrev pub PurgesAll : Store → List CacheEntryKey → ℕ → Store → Type 0
-PurgesAll s [] n t = (n ≡ 0) × (t ≡ s)
-PurgesAll s (e ∷ es) n t = PurgesAll (purged_at s (entry_slot e)) es n t ⊎ ((m : ℕ) × (n ≡ m + 1) × PurgesAll s es m t)
+abbrev pub PurgesAll : Bool → Store → List CacheEntryKey → ℕ → Store → Type 0
+PurgesAll numbers s [] n t = (n ≡ 0) × (t ≡ s)
+PurgesAll numbers s (e ∷ es) n t = PurgesAll numbers (entry_purged numbers s e) es n t ⊎ ((m : ℕ) × (n ≡ m + 1) × PurgesAll numbers s es m t)
 
 -- with a manager in use the entry is admitted, and a fair eviction follows; else nothing is tracked or evicted
 abbrev pub Admits : Bool → Limits → MissFinishType → CacheEntryKey → Tracked → List CacheEntryKey → Tracked → Type 0
@@ -48,12 +48,12 @@ Admits false limits kind e m out m' = (out ≡ []) × (m' ≡ m)
 
 -- the write w of the key k, whose entry has the number id, is stored and admitted if a manager is used, and what is
 -- evicted is purged; `Lets` says what becomes of a lock that is held, by the status that a permit is released with
-pub record Stores (always_purges used : Bool) (id : Option ℕ) (Lets : LockStatus → Type 0) (k : Key) (w : ℕ) (kind : MissFinishType) (limits : Limits) (size failed : ℕ) (out : List CacheEntryKey) (s s' : Store) (m m' : Tracked) : Type 0 where
+pub record Stores (g : Guarantees) (used : Bool) (id : Option ℕ) (Lets : LockStatus → Type 0) (k : Key) (w : ℕ) (kind : MissFinishType) (limits : Limits) (size failed : ℕ) (out : List CacheEntryKey) (s s' : Store) (m m' : Tracked) : Type 0 where
   pub untouched : is_untouched s w ≡ true
   pub size_is : size ≡ size_told kind
   pub admitted : Admits used limits kind (entry_of k id) m out m'
-  pub purges : PurgesAll (finished s w) out failed s'
-  pub sure : always_purges ≡ true → failed ≡ 0
+  pub purges : PurgesAll g.numbers (finished s w) out failed s'
+  pub sure : g.purges ≡ true → failed ≡ 0
   pub released : Lets Done
 
 -- the write w is refused and dropped

@@ -4,7 +4,7 @@ use Rattle.pcache_base.specs.Key.{Key}
 use Rattle.pcache_base.specs.declared.error.ErrorType.{ErrorType}
 use Rattle.pcache_evict.specs.Tracked.{Tracked, Limits, Evicted, evicted_with}
 use Rattle.pcache_lock.specs.Locks.{Locks}
-use Rattle.pcache_store.specs.Store.{Store}
+use Rattle.pcache_store.specs.Store.{Store, Guarantees}
 use Rattle.pcache_store.specs.declared.storage.MissFinishType.{MissFinishType}
 use Rattle.pcache_store.specs.declared.storage.MissFinishType.TheVariants.{Created}
 use Rattle.pcache_lock.specs.declared.lock.status.LockStatus.{LockStatus}
@@ -26,11 +26,11 @@ EndsIdle end.Nothing s s' m m' t t' = (s' ≡ s) × (m' ≡ m) × (t' ≡ t)
 EndsIdle _ s s' m m' t t' = ⊥
 
 -- the write w of the key k, whose entry has the number id, is stored, dropped or withdrawn
-abbrev pub EndsBody : Bool → Bool → Option ℕ → (LockStatus → Type 0) → Key → ℕ → MissFinishType → Limits → WriteEnd → Store → Store → Tracked → Tracked → Type 0
-EndsBody sure used id Lets k w kind limits end.Nothing s s' m m' = ⊥
-EndsBody sure used id Lets k w kind limits (end.Stored f) s s' m m' = Stores sure used id Lets k w kind limits f.size f.failed_purges f.evicted.items s s' m m'
-EndsBody sure used id Lets k w kind limits (end.Dropped e) s s' m m' = Drops Lets w e s s' m m'
-EndsBody sure used id Lets k w kind limits (end.Withdrawn e) s s' m m' = Withdraws sure Lets k w e s s' m m'
+abbrev pub EndsBody : Guarantees → Bool → Option ℕ → (LockStatus → Type 0) → Key → ℕ → MissFinishType → Limits → WriteEnd → Store → Store → Tracked → Tracked → Type 0
+EndsBody g used id Lets k w kind limits end.Nothing s s' m m' = ⊥
+EndsBody g used id Lets k w kind limits (end.Stored f) s s' m m' = Stores g used id Lets k w kind limits f.size f.failed_purges f.evicted.items s s' m m'
+EndsBody g used id Lets k w kind limits (end.Dropped e) s s' m m' = Drops Lets w e s s' m m'
+EndsBody g used id Lets k w kind limits (end.Withdrawn e) s s' m m' = Withdraws g.purges Lets k w e s s' m m'
 
 -- no lock is held
 abbrev pub HoldsNoLock : LockStatus → Type 0
@@ -44,13 +44,13 @@ status_after (end.Dropped e) = TransientError
 status_after (end.Withdrawn e) = Done
 
 -- the write of a request ends so, and what it holds is released
-abbrev pub EndsWrite : Bool → Request → Key → ℕ → MissFinishType → Limits → WriteEnd → Store → Store → Tracked → Tracked → Locks → Locks → Type 0
-EndsWrite sure r k w kind limits end s s' m m' t t' = EndsBody sure r.uses.eviction r.entry (λ status. t' ≡ settled status r.held t) k w kind limits end s s' m m'
+abbrev pub EndsWrite : Guarantees → Request → Key → ℕ → MissFinishType → Limits → WriteEnd → Store → Store → Tracked → Tracked → Locks → Locks → Type 0
+EndsWrite g r k w kind limits end s s' m m' t t' = EndsBody g r.uses.eviction r.entry (λ status. t' ≡ settled status r.held t) k w kind limits end s s' m m'
 
-abbrev pub Ends : Bool → Request → Option Key → Option ℕ → MissFinishType → Limits → WriteEnd → Store → Store → Tracked → Tracked → Locks → Locks → Type 0
-Ends sure r k None kind limits end s s' m m' t t' = EndsIdle end s s' m m' t t'
-Ends sure r (Some k) (Some w) kind limits end s s' m m' t t' = EndsWrite sure r k w kind limits end s s' m m' t t'
-Ends sure r None (Some w) kind limits end s s' m m' t t' = ⊥
+abbrev pub Ends : Guarantees → Request → Option Key → Option ℕ → MissFinishType → Limits → WriteEnd → Store → Store → Tracked → Tracked → Locks → Locks → Type 0
+Ends g r k None kind limits end s s' m m' t t' = EndsIdle end s s' m m' t t'
+Ends g r (Some k) (Some w) kind limits end s s' m m' t t' = EndsWrite g r k w kind limits end s s' m m' t t'
+Ends g r None (Some w) kind limits end s s' m m' t t' = ⊥
 
 -- the same as it is answered: a refusal does not tell how far it came
 abbrev pub EndsAs : Result (Option FinishReport) ErrorType → (WriteEnd → Type 0) → Type 0

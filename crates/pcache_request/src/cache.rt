@@ -249,7 +249,8 @@ impl<S: Storage> HttpCache<S> {
     ghost use Rattle.pcache_base.specs.Key.{Key, slot};
     ghost use Rattle.pcache_base.specs.declared.error.ErrorType.TheVariants.{InternalError, OutOfMemory};
     ghost use Rattle.pcache_lock.specs.declared.lock.status.LockStatus.TheVariants.{Done};
-    ghost use Rattle.pcache_store.specs.Store.{read_of, reader_after, sought};
+    ghost use Rattle.pcache_store.specs.Purge.{entry_given};
+    ghost use Rattle.pcache_store.specs.Store.{gives_piece, read_of, reader_after, sought};
     ghost use Rattle.std.specs.Option.{option_copied, option_and_then};
     ghost use Rattle.pcache_store.specs.Refusals.{MayRefuseWrite};
     ghost use Rattle.pcache_request.specs.Phases.{IsDisabled, MayTakeKey, MayMiss, IsStale, IsFilling, IsReading, MayFinishHit, is_filling};
@@ -378,13 +379,14 @@ impl<S: Storage> HttpCache<S> {
         self.reader.is_some()
     }
 
-    /// Reads on. It is refused only when memory runs out, and changes nothing then.
+    /// Reads on. It fails only when memory runs out, and only if there is a piece to give; it changes nothing then.
     pub fn read_body(&mut self, storage: &mut S) -> Result<Poll<Option<Bytes>>>
         requires { IsSome self.old.reader }
         ensures read { IfOk result (λ p. IfSome self.old.reader (λ r. p ≡ read_of (S.state storage.old) r)) }
         ensures request { OnOk result (self.new ≡ record self.old { reader = option_map (reader_after (S.state storage.old)) self.old.reader }) }
         ensures same_request { OnErr result (self.new ≡ self.old) }
         ensures same_store { S.state storage.new ≡ S.state storage.old }
+        ensures something { OnErr result (IfSome self.old.reader (λ r. gives_piece (read_of (S.state storage.old) r) ≡ true)) }
         ensures kind { IfErr result (λ e. e ≡ OutOfMemory) }
     {
         let Some(reader) = &mut self.reader else {
@@ -498,11 +500,11 @@ impl<S: Storage> HttpCache<S> {
     /// begun and the permit is released.
     pub fn set_miss_handler<L: CacheKeyLock>(&mut self, storage: &mut S, lock: &mut L) -> Result<()>
         requires { MayWrite self.old }
-        ensures request { OnOk result (self.new ≡ writing (S.streams storage.old) (S.state storage.old).next (S.next_entry storage.old) (begun_for self.old.key self.old.meta (S.state storage.old)) self.old) }
+        ensures request { OnOk result (self.new ≡ writing (S.streams storage.old) (S.state storage.old).next (entry_given S.guarantees.numbers (S.state storage.old).next) (begun_for self.old.key self.old.meta (S.state storage.old)) self.old) }
         ensures store { OnOk result (S.state storage.new ≡ store_writing (S.streams storage.old) (S.state storage.old).next self.old (S.state storage.old)) }
         ensures table { OnOk result (L.table lock.new ≡ cond (S.streams storage.old) (settled Done self.old.held (L.table lock.old)) (L.table lock.old)) }
         ensures err { IfErr result (λ e. ((self.new ≡ self.old) × (S.state storage.new ≡ S.state storage.old) × (L.table lock.new ≡ L.table lock.old) × MayRefuseWrite (S.state storage.old) e)
-            ⊎ ((self.new ≡ record self.old { write = Some (S.state storage.old).next; entry = S.next_entry storage.old; held = None }) × (S.state storage.new ≡ begun_for self.old.key self.old.meta (S.state storage.old)) × (L.table lock.new ≡ settled Done self.old.held (L.table lock.old)) × (e ≡ OutOfMemory))) }
+            ⊎ ((self.new ≡ record self.old { write = Some (S.state storage.old).next; entry = entry_given S.guarantees.numbers (S.state storage.old).next; held = None }) × (S.state storage.new ≡ begun_for self.old.key self.old.meta (S.state storage.old)) × (L.table lock.new ≡ settled Done self.old.held (L.table lock.old)) × (e ≡ OutOfMemory))) }
         ensures kind { IfErr result (λ e. (e ≡ OutOfMemory) ⊎ MayRefuseWrite (S.state storage.old) e) }
         ensures something { OnErr result ((S.state storage.new ≡ S.state storage.old) ⊎ IsSome (joined_for self.old.key (S.state storage.old).next (begun_for self.old.key self.old.meta (S.state storage.old)))) }
     {
@@ -518,11 +520,11 @@ impl<S: Storage> HttpCache<S> {
     ) -> Result<WriteBegin>
         requires { MayWrite self.old }
         ensures released { IfOk result (λ b. b.released ≡ cond (S.streams storage.old) (option_map name_of self.old.held) None) }
-        ensures request { IfOk result (λ b. OnOk b.joined (self.new ≡ writing (S.streams storage.old) (S.state storage.old).next (S.next_entry storage.old) (begun_for self.old.key self.old.meta (S.state storage.old)) self.old)) }
+        ensures request { IfOk result (λ b. OnOk b.joined (self.new ≡ writing (S.streams storage.old) (S.state storage.old).next (entry_given S.guarantees.numbers (S.state storage.old).next) (begun_for self.old.key self.old.meta (S.state storage.old)) self.old)) }
         ensures store { IfOk result (λ b. OnOk b.joined (S.state storage.new ≡ store_writing (S.streams storage.old) (S.state storage.old).next self.old (S.state storage.old))) }
         ensures table { OnOk result (L.table lock.new ≡ cond (S.streams storage.old) (settled Done self.old.held (L.table lock.old)) (L.table lock.old)) }
         ensures unjoined_streams { IfOk result (λ b. OnErr b.joined (S.streams storage.old ≡ true)) }
-        ensures unjoined_request { IfOk result (λ b. OnErr b.joined (self.new ≡ record self.old { write = Some (S.state storage.old).next; entry = S.next_entry storage.old; held = None })) }
+        ensures unjoined_request { IfOk result (λ b. OnErr b.joined (self.new ≡ record self.old { write = Some (S.state storage.old).next; entry = entry_given S.guarantees.numbers (S.state storage.old).next; held = None })) }
         ensures unjoined_store { IfOk result (λ b. OnErr b.joined (S.state storage.new ≡ begun_for self.old.key self.old.meta (S.state storage.old))) }
         ensures unjoined_kind { IfOk result (λ b. IfErr b.joined (λ e. e ≡ OutOfMemory)) }
         ensures unjoined_something { IfOk result (λ b. OnErr b.joined (IsSome (joined_for self.old.key (S.state storage.old).next (begun_for self.old.key self.old.meta (S.state storage.old))))) }

@@ -7,7 +7,7 @@ use Rattle.std.specs.FinMap.{FinMap, empty, get, insert, remove, entries, len, f
 use Rattle.pcache_base.specs.Totals.{total, share}
 use Rattle.pcache_base.proofs.Totals.{total-insert, total-remove, total-empty}
 use Rattle.pcache_meta.specs.Meta.{Meta}
-use Rattle.pcache_store.specs.Store.{Slot, Stored, complete_body, is_idle, with_slot, slot_or_new, opened_in, opened, shut_on, stored_on, with_meta, meta_changed_in, meta_changed_on}
+use Rattle.pcache_store.specs.Store.{Slot, Stored, complete_body, is_idle, with_slot, slot_or_new, opened_in, opened, shut_on, has_body_of, body_with, body_without, slot_without, write_gone_on, stored_on, with_meta, meta_changed_in, meta_changed_on}
 use Rattle.pcache_store.specs.Totals.{body_len, one, body_size, body_count, IsCounted}
 
 -- ---- a sum is at most the bound of its terms, as often as there are entries
@@ -47,6 +47,10 @@ new_body (Some x) = refl
 no_body : (g : Stored → ℕ) (o : Option Stored) (b : Bool) → (is_none o && b) ≡ true → share g o ≡ 0
 no_body g None b e = refl
 no_body g (Some x) b e = cc
+
+-- a body goes, or stays
+parted : (g : Stored → ℕ) (n : ℕ) (o : Option Stored) → share g (body_with n o) + share g (body_without n o) ≡ share g o
+parted g n o = elim (has_body_of n o) as (λ b. share g (cond b o None) + share g (cond b None o) ≡ share g o) [ true ↦ omega arith | false ↦ omega arith ]
 
 at_most_one : (o : Option Slot) → share body_count o ≤ 1
 at_most_one None = omega arith
@@ -122,6 +126,42 @@ module _ (xs : FinMap nat_cmp Slot) (b s : ℕ) (h : IsCounted xs b s) where
 
     pub counted_shut : (n : ℕ) → IsCounted (shut_on xs k n (get xs k)) b s
     counted_shut n = elim (get xs k) as (λ o. get xs k ≡ o → IsCounted (shut_on xs k n o) b s) [ None ↦ λ e. h | Some x ↦ λ e. with_slot_counted (record x { untouched = remove x.untouched n }) (ap complete_body (sym e)) ] refl
+
+    with_slot_moved : (v : Slot) (b' s' : ℕ) → b' + share one (complete_body (get xs k)) ≡ b + share one v.body → s' + share body_len (complete_body (get xs k)) ≡ s + share body_len v.body → share body_len v.body < 2 ^ 63 → IsCounted (with_slot xs k v) b' s'
+    with_slot_moved v b' s' eb es lt =
+        elim (is_idle v) as (λ t. is_idle v ≡ t → IsCounted (cond t (remove xs k) (insert xs k v)) b' s') [
+          | true ↦ λ idle. let z = no_body one v.body _ idle in let y = no_body body_len v.body _ idle in counted_remove b' s' (omega arith) (omega arith)
+          | false ↦ λ busy. counted_insert v b' s' eb es lt
+        ] refl
+
+    pub counted_lost : (n fewer less : ℕ) → fewer ≡ share one (body_with n (complete_body (get xs k))) → less ≡ share body_len (body_with n (complete_body (get xs k))) → IsCounted (write_gone_on xs k n (get xs k)) (b - fewer) (s - less)
+    counted_lost n fewer less ef el =
+        let p = has_body in
+        let q = has_bytes in
+        let small = small_body in
+        elim (get xs k) as (λ o. get xs k ≡ o → IsCounted (write_gone_on xs k n o) (b - fewer) (s - less)) [
+          | None ↦ λ e.
+              let f : fewer ≡ 0 = ef ∙ ap (λ o. share one (body_with n (complete_body o))) e in
+              let l : less ≡ 0 = el ∙ ap (λ o. share body_len (body_with n (complete_body o))) e in
+              let bs : b ≡ b - fewer = omega arith in
+              let ss : s ≡ s - less = omega arith in
+              subst (λ t. IsCounted xs (b - fewer) t) ss (subst (λ t. IsCounted xs t s) bs h)
+          | Some x ↦ λ e.
+              let at : complete_body (get xs k) ≡ x.body = ap complete_body e in
+              let f : fewer ≡ share one (body_with n x.body) = ef ∙ ap (λ o. share one (body_with n o)) at in
+              let l : less ≡ share body_len (body_with n x.body) = el ∙ ap (λ o. share body_len (body_with n o)) at in
+              let ones : share one (complete_body (get xs k)) ≡ share one x.body = ap (share one) at in
+              let lens : share body_len (complete_body (get xs k)) ≡ share body_len x.body = ap (share body_len) at in
+              let parts_one = parted one n x.body in
+              let parts_len = parted body_len n x.body in
+              with_slot_moved (slot_without n x) (b - fewer) (s - less) (omega arith) (omega arith) (omega arith)
+        ] refl
+
+    pub less_bodies : (n : ℕ) → share one (body_with n (complete_body (get xs k))) ≤ b
+    less_bodies n = let p = has_body in let parts = parted one n (complete_body (get xs k)) in omega arith
+
+    pub less_bytes : (n : ℕ) → share body_len (body_with n (complete_body (get xs k))) ≤ s
+    less_bytes n = let p = has_bytes in let parts = parted body_len n (complete_body (get xs k)) in omega arith
 
     pub counted_changed : (f : Meta → Meta) → IsCounted (meta_changed_on f xs k (get xs k)) b s
     counted_changed f = elim (get xs k) as (λ o. get xs k ≡ o → IsCounted (meta_changed_on f xs k o) b s) [ None ↦ λ e. h | Some x ↦ λ e. inside x (x.body) (ap complete_body (sym e)) ] refl

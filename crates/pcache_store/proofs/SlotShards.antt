@@ -8,7 +8,7 @@ use Rattle.std.proofs.lemmas.Option.{get_or_from_slice_get}
 use Rattle.pcache_meta.specs.Meta.{Meta}
 use Rattle.pcache_table.specs.Sharding.{Part, Belongs, Placed, AllPlaced, joined, part_of}
 use Rattle.pcache_table.proofs.Sharded.{get-joined, insert-joined, remove-joined, all-set, part-joined, made-placed, made-empty, belongs-insert, belongs-remove, get-insert-at, get-remove-at}
-use Rattle.pcache_store.specs.Store.{Slot, Stored, is_idle, with_slot, slot_or_new, opened_in, opened, shut_on, stored_on, with_meta, meta_changed_in, meta_changed_on}
+use Rattle.pcache_store.specs.Store.{Slot, Stored, is_idle, with_slot, slot_or_new, opened_in, opened, shut_on, slot_without, write_gone_on, stored_on, with_meta, meta_changed_in, meta_changed_on}
 use Rattle.pcache_store.specs.Shards.{parts, AreShards}
 use Rattle.pcache_store.proofs.Maps.{insert_len, remove_len}
 use Rattle.pcache_store.specs.Shards.{held}
@@ -104,6 +104,11 @@ module _ (ms : List Map) (key : ℕ) (d : Map) (long : length ms ≡ 16) (placed
   changed-shut n =
       subst (λ o. Changed ms key (shut_on (slice_index_or ms (key % 16) d) key n (get (slice_index_or ms (key % 16) d) key)) (shut_on (joined (parts 0 ms)) key n o)) here
       (elim (get (slice_index_or ms (key % 16) d) key) as (λ o. Changed ms key (shut_on (slice_index_or ms (key % 16) d) key n o) (shut_on (joined (parts 0 ms)) key n o)) [ None ↦ changed-same | Some x ↦ changed-with (record x { untouched = remove x.untouched n }) ])
+
+  pub changed-lost : (n : ℕ) → Changed ms key (write_gone_on (slice_index_or ms (key % 16) d) key n (get (slice_index_or ms (key % 16) d) key)) (write_gone_on (joined (parts 0 ms)) key n (get (joined (parts 0 ms)) key))
+  changed-lost n =
+      subst (λ o. Changed ms key (write_gone_on (slice_index_or ms (key % 16) d) key n (get (slice_index_or ms (key % 16) d) key)) (write_gone_on (joined (parts 0 ms)) key n o)) here
+      (elim (get (slice_index_or ms (key % 16) d) key) as (λ o. Changed ms key (write_gone_on (slice_index_or ms (key % 16) d) key n o) (write_gone_on (joined (parts 0 ms)) key n o)) [ None ↦ changed-same | Some x ↦ changed-with (slot_without n x) ])
 
   pub changed-stored : (n : ℕ) (b : Stored) → Changed ms key (stored_on (slice_index_or ms (key % 16) d) key n b (get (slice_index_or ms (key % 16) d) key)) (stored_on (joined (parts 0 ms)) key n b (get (joined (parts 0 ms)) key))
   changed-stored n b =

@@ -1,5 +1,5 @@
 -- Writes that were changed in place, and numbers that no write has.
-use Rattle.std.proofs.Common.{◌≡◌, ℕ, ◌++◌, ◌+◌, ◌-◌, ◌<◌, List, Bool, true, false, None, Some, Result, Ok, Err, OnOk, OnErr, ◌∙◌, sym, ap, cond, refl, subst, arith, unwrap_or}
+use Rattle.std.proofs.Common.{◌≡◌, ℕ, ◌++◌, ◌+◌, ◌-◌, ◌<◌, ◌≤◌, ◌⊎◌, inl, inr, List, Bool, true, false, Option, None, Some, IfSome, option_map, nat_le, Result, Ok, Err, OnOk, OnErr, ◌∙◌, sym, ap, cond, refl, subst, arith, unwrap_or}
 use Rattle.std.specs.Ordering.{nat_cmp, is_eq}
 use Rattle.std.specs.Cmp.{nat_cmp_total, tied_itself}
 use Rattle.std.proofs.lemmas.Bool.Decides.{nat_tests}
@@ -57,9 +57,24 @@ module _ (ws : FinMap nat_cmp Written) (n : ℕ) (w v : Written) (m : FinMap nat
       let same : d ≡ record w { flying = false } = ap (λ o. unwrap_or o d) (out ∙ sym found) ∙ e in
       subst (λ o. IsBodyOf o b) is (made ∙ ap (λ (x : Written). let y : Stored = record { meta = x.meta; bytes = x.bytes } in y) same)
 
+-- what is read of a write is of one whose number was given
+pub given_before : {A : Type 0} (ws : FinMap nat_cmp Written) (n k most : ℕ) (f : Written → A) (o : Option A) → AreBefore ws n → n ≤ most → o ≡ option_map f (get ws k) → IfSome o (λ _. k < most)
+given_before ws n k most f o before few is = subst (λ x. IfSome x (λ _. k < most)) (sym is)
+    (elim (get ws k) as (λ x. get ws k ≡ x → IfSome (option_map f x) (λ _. k < most)) [
+      | None ↦ λ e. tt
+      | Some w ↦ λ e. inside w e (total n k)
+    ] refl)
+  where
+    total : (n k : ℕ) → (n ≤ k) ⊎ (k < n)
+    total n k = elim (nat_le n k) as (λ b. nat_le n k ≡ b → (n ≤ k) ⊎ (k < n)) [ true ↦ λ t. inl (grind (arith, nat_tests, t)) | false ↦ λ t. inr (grind (arith, nat_tests, t)) ] refl
+
+    inside : (w : Written) → get ws k ≡ Some w → (n ≤ k) ⊎ (k < n) → k < most
+    inside w e (inl h) = let none : None ≡ Some w = sym (before k h) ∙ e in cc
+    inside w e (inr h) = omega arith
+
 -- no write has the number of the next one or a later one
-pub before_empty : AreBefore empty 0
-before_empty q h = get-empty nat_cmp q
+pub before_empty : (n : ℕ) → AreBefore empty n
+before_empty n q h = get-empty nat_cmp q
 
 pub before_begun : (ws : FinMap nat_cmp Written) (n : ℕ) (v : Written) → AreBefore ws n → AreBefore (insert ws n v) (n + 1)
 before_begun ws n v f q h = grind (gets, arith, nat_tests, f q)

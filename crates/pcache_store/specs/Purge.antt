@@ -1,5 +1,5 @@
 -- What a removal names, and what it answers (own).
-use Rattle.std.specs.Prelude.{ℕ, ◌≡◌, ◌⊎◌, Option, Some, None, is_some, cond}
+use Rattle.std.specs.Prelude.{ℕ, ◌≡◌, ◌⊎◌, ◌&&◌, Bool, Option, Some, None, is_some, cond}
 use Rattle.std.specs.FinMap.{get}
 use Rattle.pcache_base.specs.CompactKey.{compact_slot}
 use Rattle.pcache_meta.specs.Meta as meta
@@ -10,7 +10,7 @@ use Rattle.pcache_store.specs.declared.storage.PurgeTarget.{PurgeTarget}
 use Rattle.pcache_store.specs.declared.storage.PurgeTarget.TheVariants.{Active, Exact}
 use Rattle.pcache_store.specs.declared.storage.PurgeOutcome.{PurgeOutcome}
 use Rattle.pcache_store.specs.declared.storage.PurgeOutcome.TheVariants.{NotFound, Purged, Expired}
-use Rattle.pcache_store.specs.Store.{Store, complete_body, purged, meta_changed}
+use Rattle.pcache_store.specs.Store.{Store, Slot, Stored, Reader, complete_body, has_body_of, has_write, number_of_body, write_read, purged, write_purged, meta_changed}
 
 -- the key that a target names
 abbrev pub target_key : PurgeTarget → CompactCacheKey
@@ -27,25 +27,56 @@ abbrev pub IsNumberOf : PurgeTarget → Option ℕ → Type 0
 IsNumberOf (Active k) n = Unit {0}
 IsNumberOf (Exact e) n = (n ≡ None) ⊎ (n ≡ id_of e.now)
 
--- the slot that a target names: none if it names one entry by its number, since no entry here has one
-abbrev pub unless_numbered : ℕ → Option ℕ → Option ℕ
-unless_numbered k None = Some k
-unless_numbered k (Some n) = None
+-- the number of the entry that a write with this number fills, if entries have numbers: that of the write
+abbrev pub entry_given : Bool → ℕ → Option ℕ
+entry_given numbers w = cond numbers (Some w) None
 
-abbrev pub target_slot : PurgeTarget → Option ℕ
-target_slot (Active k) = Some (compact_slot k.now)
-target_slot (Exact e) = unless_numbered (compact_slot (key_of e.now)) (id_of e.now)
+-- the number of the entry of what a reader reads, if entries have numbers
+abbrev pub entry_read : Bool → Reader → Option ℕ
+entry_read numbers h = cond numbers (write_read h) None
 
--- a removal takes all of the slot out
+-- the number of the entry of a complete body, if there is one and entries have numbers
+abbrev pub entry_of_body : Bool → Option Stored → Option ℕ
+entry_of_body numbers b = cond numbers (number_of_body b) None
+
+-- A removal of a key takes all of its slot out, and answers the number of the complete body.
 abbrev pub purged_at : Store → Option ℕ → Store
 purged_at s None = s
 purged_at s (Some k) = purged s k
 
-abbrev pub purge_answer : Store → Option ℕ → PurgeOutcome
-purge_answer s None = NotFound
-purge_answer s (Some k) = cond (is_some (get s.slots k)) (Purged None) NotFound
+abbrev pub slot_answer : Bool → Option Slot → PurgeOutcome
+slot_answer numbers None = NotFound
+slot_answer numbers (Some x) = Purged (entry_of_body numbers x.body)
 
--- an expiry ends the freshness of the complete body, and leaves writes alone
+abbrev pub purge_answer : Bool → Store → Option ℕ → PurgeOutcome
+purge_answer numbers s None = NotFound
+purge_answer numbers s (Some k) = slot_answer numbers (get s.slots k)
+
+-- A removal of an entry: of the key alone, all of its slot; with a number, the write that has it, if entries have numbers.
+abbrev pub entry_purged_in : Bool → Store → ℕ → Option ℕ → Store
+entry_purged_in numbers s k None = purged s k
+entry_purged_in numbers s k (Some n) = cond numbers (write_purged s k n) s
+
+abbrev pub entry_purged : Bool → Store → CacheEntryKey → Store
+entry_purged numbers s e = entry_purged_in numbers s (compact_slot (key_of e)) (id_of e)
+
+abbrev pub entry_answer_in : Bool → Option Slot → Option ℕ → PurgeOutcome
+entry_answer_in numbers x None = cond (is_some x) (Purged None) NotFound
+entry_answer_in numbers x (Some n) = cond (numbers && has_write n x) (Purged (Some n)) NotFound
+
+abbrev pub entry_answer : Bool → Store → CacheEntryKey → PurgeOutcome
+entry_answer numbers s e = entry_answer_in numbers (get s.slots (compact_slot (key_of e))) (id_of e)
+
+-- what a target's removal takes out, and answers
+abbrev pub target_purged : Bool → Store → PurgeTarget → Store
+target_purged numbers s (Active k) = purged_at s (Some (compact_slot k.now))
+target_purged numbers s (Exact e) = entry_purged numbers s e.now
+
+abbrev pub target_answer : Bool → Store → PurgeTarget → PurgeOutcome
+target_answer numbers s (Active k) = purge_answer numbers s (Some (compact_slot k.now))
+target_answer numbers s (Exact e) = entry_answer numbers s e.now
+
+-- An expiry ends the freshness of the complete body, and leaves writes alone.
 abbrev pub expired_at : ℕ → Store → Option ℕ → Store
 expired_at now s None = s
 expired_at now s (Some k) = meta_changed (meta.expired_at now) s k
@@ -53,3 +84,16 @@ expired_at now s (Some k) = meta_changed (meta.expired_at now) s k
 abbrev pub expire_answer : Store → Option ℕ → PurgeOutcome
 expire_answer s None = NotFound
 expire_answer s (Some k) = cond (is_some (complete_body (get s.slots k))) Expired NotFound
+
+-- the slot whose complete body an expiry of a target is for: that of its key, unless it names an entry by a number that the
+-- complete body has not
+abbrev pub slot_if : Bool → ℕ → Option ℕ
+slot_if is k = cond is (Some k) None
+
+abbrev pub entry_slot_expired : Bool → Store → ℕ → Option ℕ → Option ℕ
+entry_slot_expired numbers s k None = Some k
+entry_slot_expired numbers s k (Some n) = slot_if (numbers && has_body_of n (complete_body (get s.slots k))) k
+
+abbrev pub slot_expired : Bool → Store → PurgeTarget → Option ℕ
+slot_expired numbers s (Active k) = Some (compact_slot k.now)
+slot_expired numbers s (Exact e) = entry_slot_expired numbers s (compact_slot (key_of e.now)) (id_of e.now)

@@ -1,8 +1,13 @@
--- What the readers and handlers of the store in memory mean.
-use Rattle.pcache_store.specs.Store.{Reader, Whole, Part}
+-- What the readers and handlers of the store in memory mean, and what it promises of all its calls.
+use Rattle.std.specs.Prelude.{true}
+use Rattle.pcache_store.specs.Store.{Reader, Whole, Part, Guarantees}
 use Rattle.pcache_store.specs.declared.memory.hit.MemHitHandler.{MemHitHandler}
 use Rattle.pcache_store.specs.declared.memory.hit.MemHitHandler.TheVariants.{Complete, Partial}
 
 abbrev pub reader_of : MemHitHandler → Reader
-reader_of (Complete h) = Whole h.body h.start h.stop h.done
+reader_of (Complete h) = Whole h.id h.body h.start h.stop h.done
 reader_of (Partial p) = Part p.write p.place
+
+-- removals always succeed, and entries have the numbers of their writes
+abbrev pub in_memory : Guarantees
+in_memory = record { purges = true; numbers = true }

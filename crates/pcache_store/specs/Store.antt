@@ -1,5 +1,6 @@
 -- What a store holds, what its calls do to it, and what its readers read (own).
-use Rattle.std.specs.Prelude.{ℕ, ◌+◌, ◌-◌, ◌==◌, ◌&&◌, ◌||◌, nat_le, nat_lt, not, Bool, true, false, Option, Some, None, is_none, is_some, cond, List, [], ◌++◌, drop, length, slice_range, min}
+use Rattle.std.specs.Prelude.{ℕ, ◌+◌, ◌-◌, ◌==◌, ◌&&◌, ◌||◌, nat_eq, nat_le, nat_lt, not, Bool, true, false, Option, Some, None, is_none, is_some, cond, List, [], ◌++◌, drop, length, slice_range, min}
+use Rattle.std.specs.Option.{option_eq}
 use Rattle.std.specs.Ordering.{nat_cmp}
 use Rattle.std.specs.FinMap.{FinMap, empty, get, insert, remove, contains_key, len}
 use Rattle.pcache_meta.specs.Meta.{Meta, in_place_of, numbered}
@@ -32,15 +33,22 @@ pub record Store : Type 0 where
   pub writes : FinMap nat_cmp Written
   pub next : ℕ
 
--- what a reader goes over: a range of a complete body, which it gives once, or a write, of which it has read so much
+-- what a storage promises of all its calls: that a removal always succeeds, and that entries have numbers, each that of the
+-- write which fills it
+pub record Guarantees : Type 0 where
+  pub purges : Bool
+  pub numbers : Bool
+
+-- what a reader goes over: a range of a complete body, which it gives once, with the number of the write that stored the body;
+-- or a write, of which it has read so much
 pub data Reader : Type 0 where
-  Whole : (body : List ℕ) (start stop : ℕ) (done : Bool) → Reader
+  Whole : (id : Option ℕ) (body : List ℕ) (start stop : ℕ) (done : Bool) → Reader
   Part : (write place : ℕ) → Reader
 
 -- a look-up: the earliest begun write of the key that is in flight and met no removal, else the complete body
 abbrev pub found_body : Option Stored → Option (Meta × Reader)
 found_body None = None
-found_body (Some b) = Some (b.meta, Whole b.bytes 0 (length b.bytes) false)
+found_body (Some b) = Some (b.meta, Whole b.meta.entry_id b.bytes 0 (length b.bytes) false)
 
 abbrev pub found_part : ℕ → Option Written → Option (Meta × Reader)
 found_part n None = None
@@ -83,7 +91,7 @@ joined s n = record s { writes = joined_on s.writes n (get s.writes n) }
 
 -- the store once a reader was given
 abbrev pub followed_by : Store → Reader → Store
-followed_by s (Whole body start stop done) = s
+followed_by s (Whole id body start stop done) = s
 followed_by s (Part n place) = joined s n
 
 abbrev pub followed : Store → Option (Meta × Reader) → Store
@@ -96,7 +104,7 @@ left_on ws n None = ws
 left_on ws n (Some w) = kept ws n (record w { readers = w.readers - 1 })
 
 abbrev pub left : Store → Reader → Store
-left s (Whole body start stop done) = s
+left s (Whole id body start stop done) = s
 left s (Part n place) = record s { writes = left_on s.writes n (get s.writes n) }
 
 -- a slot that holds nothing is taken out
@@ -164,10 +172,10 @@ shut_on xs k n (Some x) = with_slot xs k (record x { untouched = remove x.untouc
 abbrev pub shut : FinMap nat_cmp Slot → ℕ → ℕ → FinMap nat_cmp Slot
 shut xs k n = shut_on xs k n (get xs k)
 
--- a write is of this key
-abbrev pub is_write_under : ℕ → Option Written → Bool
-is_write_under k None = false
-is_write_under k (Some w) = w.slot == k
+-- a write is of this key, and its meta names it by its number
+abbrev pub is_write_under : ℕ → ℕ → Option Written → Bool
+is_write_under k n None = false
+is_write_under k n (Some w) = (w.slot == k) && option_eq nat_eq w.meta.entry_id (Some n)
 
 -- a write given up
 abbrev pub dropped_on : Store → ℕ → Option Written → Store
@@ -197,6 +205,37 @@ written_size (Some w) = length w.bytes
 -- a removal of a key: its body and the numbers of its writes go
 abbrev pub purged : Store → ℕ → Store
 purged s k = record s { slots = remove s.slots k }
+
+-- the number of the write that stored a complete body, if there is one: its meta names it
+abbrev pub number_of_body : Option Stored → Option ℕ
+number_of_body None = None
+number_of_body (Some b) = b.meta.entry_id
+
+-- whether a complete body is there, and is that of the write with this number
+abbrev pub has_body_of : ℕ → Option Stored → Bool
+has_body_of n b = option_eq nat_eq (number_of_body b) (Some n)
+
+-- whether a slot has a write with this number: in flight and untouched, or with the complete body
+abbrev pub has_write : ℕ → Option Slot → Bool
+has_write n None = false
+has_write n (Some x) = contains_key x.untouched n || has_body_of n x.body
+
+-- a removal of one write of a key: its number goes, and the complete body goes if it is that of this write
+abbrev pub body_with : ℕ → Option Stored → Option Stored
+body_with n b = cond (has_body_of n b) b None
+
+abbrev pub body_without : ℕ → Option Stored → Option Stored
+body_without n b = cond (has_body_of n b) None b
+
+abbrev pub slot_without : ℕ → Slot → Slot
+slot_without n x = record { body = body_without n x.body; untouched = remove x.untouched n }
+
+abbrev pub write_gone_on : FinMap nat_cmp Slot → ℕ → ℕ → Option Slot → FinMap nat_cmp Slot
+write_gone_on xs k n None = xs
+write_gone_on xs k n (Some x) = with_slot xs k (slot_without n x)
+
+abbrev pub write_purged : Store → ℕ → ℕ → Store
+write_purged s k n = record s { slots = write_gone_on s.slots k n (get s.slots k) }
 
 -- a complete body's meta changed
 abbrev pub complete_body : Option Slot → Option Stored
@@ -228,7 +267,7 @@ read_part place None = Ready None
 read_part place (Some w) = cond (nat_lt place (length w.bytes)) (Ready (Some (drop place w.bytes))) (cond (w.flying && not w.told) Pending (Ready None))
 
 abbrev pub read_of : Store → Reader → Poll (Option (List ℕ))
-read_of s (Whole body start stop done) = Ready (cond done None (Some (slice_range body start stop)))
+read_of s (Whole id body start stop done) = Ready (cond done None (Some (slice_range body start stop)))
 read_of s (Part n place) = read_part place (get s.writes n)
 
 -- a read gives a piece
@@ -242,7 +281,7 @@ place_after place None = place
 place_after place (Some w) = cond (nat_lt place (length w.bytes)) (length w.bytes) place
 
 abbrev pub reader_after : Store → Reader → Reader
-reader_after s (Whole body start stop done) = Whole body start stop true
+reader_after s (Whole id body start stop done) = Whole id body start stop true
 reader_after s (Part n place) = Part n (place_after place (get s.writes n))
 
 -- another range of a complete body, from a place within it to an end that is not before; an end past the body's is the body's
@@ -255,19 +294,24 @@ is_forward start None = true
 is_forward start (Some e) = nat_le start e
 
 abbrev pub sought : Reader → ℕ → Option ℕ → Option Reader
-sought (Whole body a b done) start stop = cond (nat_lt start (length body) && is_forward start stop) (Some (Whole body start (end_or stop (length body)) false)) None
+sought (Whole id body a b done) start stop = cond (nat_lt start (length body) && is_forward start stop) (Some (Whole id body start (end_or stop (length body)) false)) None
 sought (Part n place) start stop = None
 
 -- whether a reader can be sent to another range
 abbrev pub can_seek : Reader → Bool
-can_seek (Whole body start stop done) = true
+can_seek (Whole id body start stop done) = true
 can_seek (Part n place) = false
+
+-- the number of the write that a reader reads, or whose body it reads
+abbrev pub write_read : Reader → Option ℕ
+write_read (Whole id body start stop done) = id
+write_read (Part n place) = Some n
 
 -- whether a hit counts as an access, and its weight: a complete body does, with its length
 abbrev pub counts_access : Reader → Bool
-counts_access (Whole body start stop done) = true
+counts_access (Whole id body start stop done) = true
 counts_access (Part n place) = false
 
 abbrev pub reader_weight : Reader → ℕ
-reader_weight (Whole body start stop done) = length body
+reader_weight (Whole id body start stop done) = length body
 reader_weight (Part n place) = 0

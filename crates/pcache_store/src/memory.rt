@@ -5,8 +5,8 @@ ghost use Rattle.pcache_base.specs.declared.error.ErrorType.TheVariants.{OutOfMe
 ghost use Rattle.pcache_base.specs.Key.{slot};
 ghost use Rattle.pcache_table.specs.Sharding.{part_of};
 ghost use Rattle.pcache_store.specs.Finishes.{created};
-ghost use Rattle.pcache_store.specs.Purge.{target_slot};
 ghost use Rattle.pcache_store.specs.Refusals.{MayRefuseFinish};
+ghost use Rattle.pcache_store.specs.Readers.{in_memory};
 ghost use Rattle.pcache_store.specs.Shards.{of_shard};
 ghost use Rattle.pcache_store.specs.Store.{joined, left, wrote, dropped, finished, is_untouched, is_write_under, left_on, found_part};
 ghost use Rattle.pcache_store.specs.Tag.{named_by};
@@ -76,6 +76,17 @@ impl MemCache {
         }
     }
 
+    /// A store with nothing in it, whose next write has this number, so that the last numbers can be tried.
+    pub fn starting_at(alloc: Global, seed: Seed, next: u64) -> MemCache
+        ensures { result ≡ record { slots = map.empty; writes = map.empty; next = next } }
+    {
+        MemCache {
+            alloc,
+            slots: Slots::new(alloc, seed),
+            drafts: Drafts::starting_at(alloc, seed, next),
+        }
+    }
+
     /// The lengths of the complete bodies, added up.
     pub fn stored_bytes(&self) -> u128
         ensures { result ≡ stored_bytes self.now }
@@ -115,13 +126,15 @@ impl MemCache {
         self.drafts.shard_len(shard)
     }
 
-    /// Whether a write with this number is kept, and is of this key.
+    /// Whether a write with this number is kept, is of this key, and has a meta that names it.
     pub fn has_write(&self, key: &CacheKey, number: u64) -> bool
-        ensures { result ≡ is_write_under (slot key.now) (map.get self.now.writes number) }
+        ensures { result ≡ is_write_under (slot key.now) number (map.get self.now.writes number) }
     {
         let slot = key.slot();
         match self.drafts.get(slot, number as u128) {
-            Some(draft) => draft.slot() == slot,
+            Some(draft) => {
+                draft.slot() == slot && draft.entry_id() == Some(CacheEntryId::new(number))
+            }
             None => false,
         }
     }
@@ -150,7 +163,7 @@ impl MemCache {
     {
         match self.drafts.join(alloc, slot, number) {
             Ok(Some(meta)) => {
-                let part = PartialHit::new(slot, number);
+                let part = PartialHit::new(slot, number as u64);
                 Ok(Some((meta, MemHitHandler::Partial(part))))
             }
             Ok(None) => Ok(None),
@@ -214,6 +227,48 @@ impl MemCache {
     }
 }
 
+impl MemCache {
+    ghost use Rattle.pcache_store.specs.Purge.{entry_answer, entry_purged, slot_expired};
+
+    // Removes what an entry names: all of its key, or the write that has its number.
+    fn purge_entry(&mut self, entry: &CacheEntryKey) -> PurgeOutcome
+        ensures answer { result ≡ entry_answer true self.old entry.now }
+        ensures purged { self.new ≡ entry_purged true self.old entry.now }
+    {
+        let slot = entry.key().slot();
+        let Some(id) = entry.entry_id() else {
+            return match self.slots.remove(slot) {
+                Some(_) => PurgeOutcome::Purged(None),
+                None => PurgeOutcome::NotFound,
+            };
+        };
+        if self.slots.remove_write(slot, id) {
+            PurgeOutcome::Purged(Some(id))
+        } else {
+            PurgeOutcome::NotFound
+        }
+    }
+
+    // The slot whose complete body an expiry is for, if the target names what stands there.
+    fn slot_to_expire(&self, target: PurgeTarget<'_>) -> Option<u128>
+        ensures { result ≡ slot_expired true self.now target.entry }
+    {
+        let entry = match target {
+            PurgeTarget::Active(key) => return Some(key.slot()),
+            PurgeTarget::Exact(entry) => entry,
+        };
+        let slot = entry.key().slot();
+        let Some(id) = entry.entry_id() else {
+            return Some(slot);
+        };
+        if self.slots.has_body_of(slot, id) {
+            Some(slot)
+        } else {
+            None
+        }
+    }
+}
+
 impl StoreMeaning for MemCache {
     ghost state = { λ s. s };
 
@@ -221,25 +276,10 @@ impl StoreMeaning for MemCache {
 
     ghost finishes = { created };
 
-    ghost next_entry = { λ _. None };
-
-    ghost always_purges = { true };
+    ghost guarantees = { in_memory };
 
     // The end of a reader is never refused.
     ghost ends_hit = { λ _ reader result. IsOk result };
-}
-
-// The slot that a target names, if the entry it names has no number.
-fn slot_of(target: PurgeTarget<'_>) -> Option<u128>
-    ensures { result ≡ target_slot target.entry }
-{
-    match target {
-        PurgeTarget::Active(key) => Some(key.slot()),
-        PurgeTarget::Exact(entry) => match entry {
-            CacheEntryKey::KeyOnly(key) => Some(key.slot()),
-            CacheEntryKey::Identified { .. } => None,
-        },
-    }
 }
 
 // The number of the write that a tag names.
@@ -276,7 +316,8 @@ impl Storage for MemCache {
             return Ok(None);
         };
         let (meta, bytes) = body.shared(alloc)?;
-        Ok(Some((meta, MemHitHandler::Complete(CompleteHit::new(bytes)))))
+        let hit = CompleteHit::new(meta.entry_id(), bytes);
+        Ok(Some((meta, MemHitHandler::Complete(hit))))
     }
 
     fn lookup_streaming_write(
@@ -320,14 +361,14 @@ impl Storage for MemCache {
 
     /// Takes no memory, so it is never refused.
     fn purge(&mut self, target: PurgeTarget<'_>, _purge_type: PurgeType) -> Result<PurgeOutcome> {
-        let Some(slot) = slot_of(target) else {
-            return Ok(PurgeOutcome::NotFound);
+        let outcome = match target {
+            PurgeTarget::Active(key) => match self.slots.remove(key.slot()) {
+                Some(id) => PurgeOutcome::Purged(id),
+                None => PurgeOutcome::NotFound,
+            },
+            PurgeTarget::Exact(entry) => self.purge_entry(entry),
         };
-        if self.slots.remove(slot) {
-            Ok(PurgeOutcome::Purged(None))
-        } else {
-            Ok(PurgeOutcome::NotFound)
-        }
+        Ok(outcome)
     }
 
     fn expire(
@@ -336,7 +377,7 @@ impl Storage for MemCache {
         target: PurgeTarget<'_>,
         now: Moment,
     ) -> Result<PurgeOutcome> {
-        let Some(slot) = slot_of(target) else {
+        let Some(slot) = self.slot_to_expire(target) else {
             return Ok(PurgeOutcome::NotFound);
         };
         if self.slots.expire(alloc, slot, now)? {

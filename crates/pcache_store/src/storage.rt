@@ -11,9 +11,9 @@ ghost use Rattle.pcache_base.specs.declared.error.ErrorType.TheVariants.{OutOfMe
 ghost use Rattle.pcache_evict.specs.EntryRef.{referred};
 ghost use Rattle.pcache_store.specs.declared.storage.MissFinishType.{MissFinishType};
 ghost use Rattle.pcache_store.specs.declared.storage.PurgeOutcome.TheVariants.{Expired};
-ghost use Rattle.pcache_store.specs.Purge.{target_key, removed_entry, IsNumberOf, target_slot, purged_at, purge_answer, expired_at, expire_answer};
+ghost use Rattle.pcache_store.specs.Purge.{target_key, removed_entry, IsNumberOf, entry_given, entry_read, target_purged, target_answer, slot_expired, expired_at, expire_answer};
 ghost use Rattle.pcache_store.specs.Refusals.{MayRefuseWrite, MayRefuseFinish};
-ghost use Rattle.pcache_store.specs.Store.{Store, Reader, find, find_write, followed, left, begun, wrote, dropped, finished, is_untouched, complete_body, meta_set, is_told, gives_piece, read_of, reader_after, sought, can_seek, counts_access, reader_weight};
+ghost use Rattle.pcache_store.specs.Store.{Store, Reader, Guarantees, find, find_write, followed, left, begun, wrote, dropped, finished, is_untouched, complete_body, meta_set, is_told, gives_piece, read_of, reader_after, sought, can_seek, counts_access, reader_weight};
 ghost use Rattle.pcache_store.specs.Tag.{named_by};
 
 use bytes::Bytes;
@@ -119,11 +119,8 @@ pub trait StoreMeaning {
     /// What the end of a write answers, if it succeeds.
     ghost finishes: { Self → ℕ → MissFinishType };
 
-    /// The number of the entry that the next write fills, if entries have numbers.
-    ghost next_entry: { Self → Option ℕ };
-
-    /// Whether a removal always succeeds.
-    ghost always_purges: { Bool };
+    /// Whether a removal always succeeds, and whether entries have the numbers of the writes that fill them.
+    ghost guarantees: { Guarantees };
 
     /// What the end of a reader answers: that it ended, or why that was refused.
     ghost ends_hit: { Self → Reader → Result (Unit {0}) ErrorType → Type 0 };
@@ -172,22 +169,25 @@ pub trait Storage: StoreMeaning + Sized {
         meta: &CacheMeta,
     ) -> Result<Self::Miss>
         ensures write { IfOk result (λ m. Self.Miss.write m ≡ (Self.state self.old).next) }
-        ensures entry { IfOk result (λ m. Self.Miss.entry_number m ≡ Self.next_entry self.old) }
+        ensures entry { IfOk result (λ m. Self.Miss.entry_number m ≡ entry_given Self.guarantees.numbers (Self.state self.old).next) }
         ensures ok { OnOk result (Self.state self.new ≡ begun (Self.state self.old) (slot key.now) meta.now) }
         ensures numbers { OnOk result ((Self.state self.old).next < 2 ^ 64) }
         ensures kind { IfErr result (λ e. MayRefuseWrite (Self.state self.old) e) }
         ensures err { OnErr result (Self.state self.new ≡ Self.state self.old) };
 
-    /// Removes what a target names: the complete body and every write in flight.
-    /// It is refused only when memory runs out.
+    /// Removes what a target names: the complete body and every write in flight of its key; of an entry with a
+    /// number only the write that has this number, in flight or complete, whatever the user tag of the entry's key. It answers
+    /// the number of the complete body or write that went, and for an entry of a key alone none. It is refused only when
+    /// memory runs out.
     fn purge(&mut self, target: PurgeTarget<'_>, purge_type: PurgeType) -> Result<PurgeOutcome>
-        ensures answer { IfOk result (λ o. o ≡ purge_answer (Self.state self.old) (target_slot target.entry)) }
-        ensures ok { OnOk result (Self.state self.new ≡ purged_at (Self.state self.old) (target_slot target.entry)) }
-        ensures sure { IsTrue Self.always_purges → IsOk result }
+        ensures answer { IfOk result (λ o. o ≡ target_answer Self.guarantees.numbers (Self.state self.old) target.entry) }
+        ensures ok { OnOk result (Self.state self.new ≡ target_purged Self.guarantees.numbers (Self.state self.old) target.entry) }
+        ensures sure { IsTrue Self.guarantees.purges → IsOk result }
         ensures kind { IfErr result (λ e. e ≡ OutOfMemory) }
         ensures err { OnErr result (Self.state self.new ≡ Self.state self.old) };
 
-    /// Ends the freshness of the complete body that a target names, if it ends later than now.
+    /// Ends the freshness of the complete body that a target names, if it ends later than now. An entry with a number
+    /// names the body of the write that has it.
     /// It is refused only when memory runs out, and only if there is one.
     fn expire(
         &mut self,
@@ -195,9 +195,9 @@ pub trait Storage: StoreMeaning + Sized {
         target: PurgeTarget<'_>,
         now: Moment,
     ) -> Result<PurgeOutcome>
-        ensures answer { IfOk result (λ o. o ≡ expire_answer (Self.state self.old) (target_slot target.entry)) }
-        ensures ok { OnOk result (Self.state self.new ≡ expired_at now (Self.state self.old) (target_slot target.entry)) }
-        ensures something { OnErr result (expire_answer (Self.state self.old) (target_slot target.entry) ≡ Expired) }
+        ensures answer { IfOk result (λ o. o ≡ expire_answer (Self.state self.old) (slot_expired Self.guarantees.numbers (Self.state self.old) target.entry)) }
+        ensures ok { OnOk result (Self.state self.new ≡ expired_at now (Self.state self.old) (slot_expired Self.guarantees.numbers (Self.state self.old) target.entry)) }
+        ensures something { OnErr result (expire_answer (Self.state self.old) (slot_expired Self.guarantees.numbers (Self.state self.old) target.entry) ≡ Expired) }
         ensures kind { IfErr result (λ e. e ≡ OutOfMemory) }
         ensures err { OnErr result (Self.state self.new ≡ Self.state self.old) };
 
@@ -220,9 +220,6 @@ pub trait HandleHit<S: StoreMeaning> {
     /// What it goes over, and how far it is.
     ghost reader: { Self → Reader };
 
-    /// The number of its entry, if entries have numbers.
-    ghost entry_number: { Self → Option ℕ };
-
     /// Reads on: a piece, the end (`None`), or `Pending` if more may come. It is refused only when
     /// memory runs out, and only if there is a piece; the reader is as before then.
     fn read_body(&mut self, alloc: Global, store: &mut S) -> Result<Poll<Option<Bytes>>>
@@ -231,7 +228,6 @@ pub trait HandleHit<S: StoreMeaning> {
         ensures something { OnErr result (gives_piece (read_of (S.state store.old) (reader self.old)) ≡ true) }
         ensures kind { IfErr result (λ e. e ≡ OutOfMemory) }
         ensures err { OnErr result (reader self.new ≡ reader self.old) }
-        ensures entry { entry_number self.new ≡ entry_number self.old }
         ensures same { S.state store.new ≡ S.state store.old };
 
     /// Ends the reader, also if that is refused, which it is only when memory runs out.
@@ -262,8 +258,7 @@ pub trait HandleHit<S: StoreMeaning> {
         ensures ok { OnOk result (Some (reader self.new) ≡ sought (reader self.old) start end) }
         ensures refused { OnErr result (sought (reader self.old) start end ≡ None) }
         ensures kind { IfErr result (λ e. e ≡ InternalError) }
-        ensures err { OnErr result (reader self.new ≡ reader self.old) }
-        ensures entry { entry_number self.new ≡ entry_number self.old };
+        ensures err { OnErr result (reader self.new ≡ reader self.old) };
 
     /// The same, for one of several ranges.
     fn seek_multipart(&mut self, start: usize, end: Option<usize>) -> Result<()>
@@ -271,7 +266,6 @@ pub trait HandleHit<S: StoreMeaning> {
         ensures refused { OnErr result (sought (reader self.old) start end ≡ None) }
         ensures kind { IfErr result (λ e. e ≡ InternalError) }
         ensures err { OnErr result (reader self.new ≡ reader self.old) }
-        ensures entry { entry_number self.new ≡ entry_number self.old }
     {
         self.seek(start, end)
     }
@@ -286,7 +280,7 @@ pub trait HandleHit<S: StoreMeaning> {
 
     /// The number of the entry, if entries have numbers.
     fn entry_id(&self) -> Option<CacheEntryId>
-        ensures { result ≡ entry_number self.now };
+        ensures { result ≡ entry_read S.guarantees.numbers (reader self.now) };
 }
 
 /// The handler of a write. It must be finished or dropped.

@@ -344,7 +344,7 @@ module _ (limits : Limits) (start m : Tracked) (s : Store) (t : Locks) (all : Fi
     answers = inl (ap (option_map untold_put) plain, inl (may-give, tt, (refl, sym (given-untold p y) ∙ sym ((λ i. given_up (permit-named i) (taker-named i))))));
     copy = inl refl;
     due = gone-due limits start es (Some (untold x)) x.request.write (permit_of g);
-    keeps = λ is. (record { eviction = is.eviction; unnumbered = is.unnumbered; fills = is.fills }, λ _. refl);
+    keeps = λ is. (record { eviction = is.eviction; fills = is.fills }, λ _. refl);
     given = gone-given (waiting_in es) (permit_of g);
   }
 

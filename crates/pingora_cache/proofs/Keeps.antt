@@ -47,7 +47,6 @@ keeps-like : (x y : Request) → y.uses ≡ x.uses → y.entry ≡ x.entry → y
 keeps-like x y uses entry write at key world = (
   record {
     eviction = λ on. ap (λ u. u.eviction) uses ∙ world.eviction (subst IsOn at on);
-    unnumbered = entry ∙ world.unnumbered;
     fills = λ some. subst IsFilling (sym at) (world.fills (subst (λ (o : Option ℕ). IsSome o) write some));
   },
   λ _. key,
@@ -89,9 +88,9 @@ keeps-decided (Some d) events x =
     keeps-then x y (asked false events y) (keeps-like x y refl refl refl refl refl) (keeps-asked false events y) (λ some. subst (λ (o : Option ℕ). IsSome o) (asked-write false events y) some)
 
 -- caching that is turned off
-pub keeps-off : (x y : Request) → IsDisabled y.phase → (y.write ≡ None) → (y.entry ≡ None) → KeepsIn x y
-keeps-off x y off none number world = (
-  record { eviction = λ on. absurd (not-on y.phase off on); unnumbered = number; fills = λ some. absurd (none-some y.write none some) },
+pub keeps-off : (x y : Request) → IsDisabled y.phase → (y.write ≡ None) → KeepsIn x y
+keeps-off x y off none world = (
+  record { eviction = λ on. absurd (not-on y.phase off on); fills = λ some. absurd (none-some y.write none some) },
   λ some. absurd (none-some y.write none some),
 )
 
@@ -100,7 +99,6 @@ pub keeps-unmade : (x y : Request) → y.uses ≡ x.uses → y.entry ≡ x.entry
 keeps-unmade x y uses entry write on none world = (
   record {
     eviction = λ o. ap (λ u. u.eviction) uses ∙ world.eviction (on o);
-    unnumbered = entry ∙ world.unnumbered;
     fills = λ some. absurd (none world (subst (λ (o : Option ℕ). IsSome o) write some));
   },
   λ some. absurd (none world (subst (λ (o : Option ℕ). IsSome o) write some)),
@@ -115,7 +113,6 @@ keeps-found x y s m h t may is world =
     subst (λ (z : Request). IsOfWorld z × (IsSome z.write → z.key ≡ x.key)) (sym is) (
       record {
         eviction = λ _. ap (λ u. u.eviction) (used (asks_for_hit s x) (asks_as_stale s x.phase) x.key) ∙ world.eviction (look-on x.phase may);
-        unnumbered = (keeps-lock x (asks_for_hit s x) (asks_as_stale s x.phase) t x.key world).0.unnumbered;
         fills = λ some. absurd (none some);
       },
       λ some. absurd (none some),
@@ -141,14 +138,14 @@ keeps-sought x y false start end is = keeps-same x y is
 
 pub keeps-finished : (x y : Request) → y ≡ after_finish x → KeepsIn x y
 keeps-finished x y is = subst (KeepsIn x) (sym is) (elim (is_some x.write) as (λ b. KeepsIn x (cond b (record x { write = None; entry = None; held = None }) x)) [
-  | true ↦ λ world. (record { eviction = world.eviction; unnumbered = refl; fills = λ some. absurd (cc) }, λ some. refl)
+  | true ↦ λ world. (record { eviction = world.eviction; fills = λ some. absurd (cc) }, λ some. refl)
   | false ↦ λ world. (world, λ _. refl)
 ])
 
-pub keeps-writing : (x y : Request) (n : ℕ) (s : Store) → MayWrite x → y ≡ writing true n None s x → KeepsIn x y
+pub keeps-writing : (x y : Request) (n : ℕ) (s : Store) → MayWrite x → y ≡ writing true n (Some n) s x → KeepsIn x y
 keeps-writing x y n s may is world =
-    subst (λ (z : Request). IsOfWorld z × (IsSome z.write → z.key ≡ x.key)) (sym is) (record { eviction = world.eviction; unnumbered = refl; fills = λ _. may.0 }, λ _. refl)
+    subst (λ (z : Request). IsOfWorld z × (IsSome z.write → z.key ≡ x.key)) (sym is) (record { eviction = world.eviction; fills = λ _. may.0 }, λ _. refl)
 
-pub keeps-begun : (x y : Request) (n : ℕ) → MayWrite x → y ≡ record x { write = Some n; entry = None; held = None } → KeepsIn x y
+pub keeps-begun : (x y : Request) (n : ℕ) → MayWrite x → y ≡ record x { write = Some n; entry = Some n; held = None } → KeepsIn x y
 keeps-begun x y n may is world =
-    subst (λ (z : Request). IsOfWorld z × (IsSome z.write → z.key ≡ x.key)) (sym is) (record { eviction = world.eviction; unnumbered = refl; fills = λ _. may.0 }, λ _. refl)
+    subst (λ (z : Request). IsOfWorld z × (IsSome z.write → z.key ≡ x.key)) (sym is) (record { eviction = world.eviction; fills = λ _. may.0 }, λ _. refl)

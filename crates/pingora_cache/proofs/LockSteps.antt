@@ -18,7 +18,7 @@ use Rattle.pcache_request.specs.Requests.{Request, asks_as_stale, asks_for_hit, 
 use Rattle.pcache_request.specs.Variants.{asked_for_key, table_key_locked, with_key_lock}
 use Rattle.pcache_request.specs.declared.cache.report.AskedLock.{AskedLock}
 use Rattle.pcache_request.specs.declared.phase.HitStatus.{HitStatus}
-use Rattle.pcache_store.specs.Store.{Reader, reader_weight}
+use Rattle.pcache_store.specs.Store.{Reader, reader_weight, write_read}
 use Rattle.pcache_history.specs.declared.entry.Answer.{Answer}
 use Rattle.pcache_history.specs.declared.entry.Event.{Event}
 use Rattle.pcache_history.specs.declared.entry.Event.TheVariants as E
@@ -74,7 +74,7 @@ quiet-refused w WriteRemoved = tt
 quiet-refused w kind = tt
 
 quiet-accesses : (s : HitStatus) (k : Key) (h : Reader) (x : Request) → AreOfNoLock (accesses s k h x)
-quiet-accesses s k h x = elim (counts_found s h x) as (λ b. AreOfNoLock (if b then E.Access (entry_of k None) (reader_weight h) ∷ [] else [])) [ true ↦ (tt, tt) | false ↦ tt ]
+quiet-accesses s k h x = elim (counts_found s h x) as (λ b. AreOfNoLock (if b then E.Access (entry_of k (write_read h)) (reader_weight h) ∷ [] else [])) [ true ↦ (tt, tt) | false ↦ tt ]
 
 quiet-renewing : (j : ℕ) (m : Meta) (r : Result Bool ErrorType) → AreOfNoLock (renewing j m r)
 quiet-renewing j m (Ok true) = (tt, tt)

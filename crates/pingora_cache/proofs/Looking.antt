@@ -1,5 +1,5 @@
 -- What a look-up tells is what its rule wants, and what it makes of its request is its row.
-use Rattle.std.proofs.Common.{◌≡◌, ℕ, ◌&&◌, Bool, true, false, cond, Option, None, Some, is_none, List, [], ◌∷◌, ◌++◌, refl, ap, sym, subst, ◌∙◌, inl, inr, ◌≤◌, ◌^◌, IsTrue, ◌⊎◌, option_map, Result, Ok, Err, IfOk, IfErr}
+use Rattle.std.proofs.Common.{◌≡◌, ℕ, ◌&&◌, Bool, true, false, cond, Option, None, Some, IsSome, is_none, List, [], ◌∷◌, ◌++◌, refl, ap, sym, subst, ◌∙◌, inl, inr, ◌≤◌, ◌^◌, IsTrue, ◌⊎◌, option_map, Result, Ok, Err, IfOk, IfErr}
 use Rattle.pcache_base.specs.Key.{Key, slot}
 use Rattle.pcache_base.specs.declared.error.ErrorType.{ErrorType}
 use Rattle.pcache_lock.specs.Locks.{Locks, MayRefuseLock}
@@ -30,7 +30,7 @@ use Rattle.pcache_history.specs.declared.entry.Answer.TheVariants.{Nothing, Comp
 use Rattle.pcache_history.specs.declared.entry.Event.{Event}
 use Rattle.pcache_history.specs.declared.entry.Event.TheVariants as E
 use Rattle.pcache_history.specs.Deeds.{deeds_by}
-use Rattle.pcache_history.specs.Due.{KeepsIn, KeepsKey}
+use Rattle.pcache_history.specs.Due.{KeepsIn, KeepsKey, Owed}
 use Rattle.pcache_history.specs.Facts.{Facts}
 use Rattle.pcache_history.specs.Held.{Held, after_look, asked, carrying, decides, is_wrong, looked_by, outcome, pair_of, pair_reader, policy_in}
 use Rattle.pcache_history.specs.Rules.{HandsOn, IsOther, Looks, LooksOn, Misses, drop_of, each, look_reply}
@@ -309,7 +309,7 @@ module _ (s : Store) (t : Locks) (x : Held) (k : Key) (a : Answer) (d : Option D
   keeps-by (look.NotFound b) y handed tells ok err = subst (KeepsIn x.request) (sym (request-missed y b handed tells ok err)) (keeps-decided d (asking_if (slot k) b) x.request)
   keeps-by (look.Deferred q) y handed tells ok err =
       let off = request-off y tells.0 ok in
-      keeps-off x.request y (subst (λ (r : Request). IsDisabled r.phase) (sym off) tt) (ap (λ (r : Request). r.write) off) (ap (λ (r : Request). r.entry) off)
+      keeps-off x.request y (subst (λ (r : Request). IsDisabled r.phase) (sym off) tt) (ap (λ (r : Request). r.write) off)
 
   request-after : (l : LookUp MemHitHandler) (z : Held) → (held_after_look l z).request ≡ z.request
   request-after (look.Found m h) z = refl
@@ -345,7 +345,7 @@ module _ (s : Store) (t : Locks) (x : Held) (k : Key) (a : Answer) (d : Option D
 
 -- ---- a decision that is carried plays no part in what moves
 
-next-carried : (limits : Limits) (d : Option Decision) (x : Held) (o : Option ℕ) (a : At) (e : Event) → IsNextAt limits o a (Some (carrying d x)) e → IsNextAt limits o a (Some x) e
+next-carried : (limits : Limits) (d : Option Decision) (x : Held) (o : Option Owed) (a : At) (e : Event) → IsNextAt limits o a (Some (carrying d x)) e → IsNextAt limits o a (Some x) e
 next-carried limits d x None a (E.Finish w true) due = due
 next-carried limits d x None a (E.Finish w false) due = due
 next-carried limits d x None a e due = due
@@ -375,5 +375,5 @@ looks-on-by false true f g k a x reply events unseen same h = subst (λ c. Hands
 looks-on-by false false f g k a x reply events unseen same h = subst (λ c. HandsOn c g k a x reply events) (sym unseen) (subst (λ c. HandsOn c f k a x reply events) unseen h)
 
 pub looks-by : (f g : Facts) (x : Held) (reply : Reply) (events : List Event) → f.found ≡ g.found → f.asked ≡ g.asked → Looks f x reply events → Looks g x reply events
-looks-by f g x reply events found same (inl starved) = inl starved
+looks-by f g x reply events found same (inl (some, starved)) = inl (subst IsSome found some, starved)
 looks-by f g x reply events found same (inr (k, a, key, is, on)) = inr (k, a, key, is ∙ found, looks-on-by (is_deferral (decides a x)) (is_unseen x.request.valid_after (pair_of a)) f g (slot k) a x.request reply events refl same on)

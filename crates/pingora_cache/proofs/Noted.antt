@@ -15,14 +15,12 @@ use Rattle.pcache_base.specs.declared.poll.Poll.{Poll}
 use Rattle.pcache_evict.specs.Tracked.{Tracked}
 use Rattle.pcache_predict.specs.declared.admission.Decision.{Decision}
 use Rattle.pcache_base.specs.declared.key.CompactCacheKey.{CompactCacheKey}
-use Rattle.pcache_evict.specs.Entry.{key_of}
 use Rattle.pcache_evict.specs.declared.eviction.entry_key.CacheEntryKey.{CacheEntryKey}
-use Rattle.pcache_evict.specs.declared.eviction.entry_key.CacheEntryKey.TheVariants.{KeyOnly}
 use Rattle.pcache_request.specs.declared.cache.finish.FinishReport.{FinishReport}
 use Rattle.pcache_request.specs.declared.cache.finish.WriteEnd.{WriteEnd}
 use Rattle.pcache_request.specs.declared.cache.finish.WriteEnd.TheVariants.{Stored}
-use Rattle.pcache_store.specs.Purge.{purge_answer, purged_at, expire_answer, expired_at}
-use Rattle.pcache_store.specs.Store.{Store, Reader, Part, find, complete_body, reader_weight, read_of, reader_after, purged, meta_changed}
+use Rattle.pcache_store.specs.Purge.{purge_answer, purged_at, expire_answer, expired_at, slot_answer}
+use Rattle.pcache_store.specs.Store.{Store, Reader, Part, find, complete_body, reader_weight, read_of, reader_after, purged, meta_changed, Slot, number_of_body, write_read}
 use Rattle.pcache_store.specs.declared.storage.PurgeOutcome.{PurgeOutcome}
 use Rattle.pcache_store.specs.declared.storage.PurgeOutcome.TheVariants.{NotFound, Purged, Expired}
 use Rattle.pcache_request.specs.declared.phase.HitStatus.{HitStatus}
@@ -38,7 +36,7 @@ use Rattle.pcache_request.specs.Variants.{asked_for_key, with_key_lock}
 use Rattle.pcache_request.specs.declared.cache.report.AskedLock.{AskedLock}
 use Rattle.pcache_request.specs.declared.cache.report.LockName.{LockName}
 use Rattle.pcache_request.specs.Requests.{Request, found_for, found_row, locked_found, phase_found, placed, with_lock, asks_for_hit, asks_as_stale, counts_found, entry_of, reader_in, writing, begun_for, joined_for, is_removed_by, tracked_gone, tracked_gone_for}
-use Rattle.pingora_cache.specs.PartFacts.{facts_in, there_for, complete_for}
+use Rattle.pingora_cache.specs.PartFacts.{facts_in, there_for, complete_for, number_for}
 use Rattle.pcache_request.specs.Renewals.{has_body, renewed_by}
 use Rattle.pcache_history.specs.Rules.{Misses, Renews, Takes, renew_of, update_reply, AsksIf, IsLockRefusal, each, accesses, permit_of, untrack_of}
 use Rattle.pcache_history.specs.Held.{Held, lock_of, asked, began, read_past}
@@ -132,16 +130,16 @@ found-answered s (Some k) p h = answered-at s (slot k) p h
 
 -- an access gives no lock
 asked-accesses : (stale : Bool) (s : HitStatus) (k : Key) (h : Reader) (x : Request) (more : List Event) → asked stale (accesses s k h x ++ more) x ≡ asked stale more x
-asked-accesses stale s k h x more = elim (counts_found s h x) as (λ b. asked stale ((if b then E.Access (entry_of k None) (reader_weight h) ∷ [] else []) ++ more) x ≡ asked stale more x) [ true ↦ refl | false ↦ refl ]
+asked-accesses stale s k h x more = elim (counts_found s h x) as (λ b. asked stale ((if b then E.Access (entry_of k (write_read h)) (reader_weight h) ∷ [] else []) ++ more) x ≡ asked stale more x) [ true ↦ refl | false ↦ refl ]
 
 pub found-asked : (s : HitStatus) (m : Meta) (h : Reader) (t : Locks) (x : Request) (k : Key) (j : ℕ) → found_row s m h t x ≡ placed s m h (asked (asks_as_stale s x.phase) (accesses s k h x ++ asking j (asked_by_found s t x)) x)
 found-asked s m h t x k j = ap (placed s m h) (asked-given (asks_for_hit s x) (asks_as_stale s x.phase) t x.key j x ∙ sym (asked-accesses (asks_as_stale s x.phase) s k h x (asking j (asked_by_found s t x))))
 
 -- what is noted of a use is what a hit that counts gives
-pub noted-access : (s : HitStatus) (k : Key) (h : Reader) (x : Request) → x.key ≡ Some k → noting (access_by_found s h None x) ≡ accesses s k h x
+pub noted-access : (s : HitStatus) (k : Key) (h : Reader) (x : Request) → x.key ≡ Some k → noting (access_by_found s h (write_read h) x) ≡ accesses s k h x
 noted-access s k h x key =
-    ap (λ o. noting (cond (counts_found s h x) (option_map (λ k. record { entry = entry_of k None; weight = reader_weight h }) o) None)) key
-    ∙ elim (counts_found s h x) as (λ b. noting (cond b (Some (record { entry = entry_of k None; weight = reader_weight h })) None) ≡ (if b then E.Access (entry_of k None) (reader_weight h) ∷ [] else [])) [ true ↦ refl | false ↦ refl ]
+    ap (λ o. noting (cond (counts_found s h x) (option_map (λ k. record { entry = entry_of k (write_read h); weight = reader_weight h }) o) None)) key
+    ∙ elim (counts_found s h x) as (λ b. noting (cond b (Some (record { entry = entry_of k (write_read h); weight = reader_weight h })) None) ≡ (if b then E.Access (entry_of k (write_read h)) (reader_weight h) ∷ [] else [])) [ true ↦ refl | false ↦ refl ]
 
 -- a reader that gave bytes is past them
 
@@ -158,14 +156,14 @@ held_with d p x = record { request = x; pair = p; carried = d; put = None }
 -- a write that began is held, the permit is released, and the reader follows it
 
 abbrev with_write : ℕ → Request → Request
-with_write n x = record x { write = Some n; entry = None; held = None; reader = Some (Part n 0) }
+with_write n x = record x { write = Some n; entry = Some n; held = None; reader = Some (Part n 0) }
 
 pub began-is : (s : Store) (x y : Request) (k : Key) (m n : Meta) (w j : ℕ) (events rest : List Event) → x.key ≡ Some k → x.meta ≡ Some m
-    → y ≡ writing true s.next None (begun_for x.key x.meta s) x → y.write ≡ Some w → events ≡ E.Begin w j n ∷ rest → y ≡ began true events x
+    → y ≡ writing true s.next (Some s.next) (begun_for x.key x.meta s) x → y.write ≡ Some w → events ≡ E.Begin w j n ∷ rest → y ≡ began true events x
 began-is s x y k m n w j events rest key meta is wrote done =
     let joins : reader_in (joined_for x.key s.next (begun_for x.key x.meta s)) ≡ Some (Part s.next 0) =
     (λ i. reader_in (joined_for (key i) s.next (begun_for (key i) (meta i) s))) ∙ ap reader_in (begun-joins s (slot k) m) in
-    let follows : y ≡ with_write s.next x = is ∙ ap (λ o. record x { write = Some s.next; entry = None; held = None; reader = o }) joins in
+    let follows : y ≡ with_write s.next x = is ∙ ap (λ o. record x { write = Some s.next; entry = Some s.next; held = None; reader = o }) joins in
     let number : ◌≡◌ {A = Option ℕ} (Some s.next) (Some w) = sym (ap (λ (z : Request). z.write) follows) ∙ wrote in
     let same : s.next ≡ w = cc in
     follows ∙ ap (λ q. with_write q x) same ∙ ap (λ es. began true es x) (sym done)
@@ -174,46 +172,48 @@ began-is s x y k m n w j events rest key meta is wrote done =
 pub released-permit : (x : Request) (w : ℕ) (released : Option LockName) (o : Option ℕ) → x.write ≡ Some w → released ≡ cond (is_some x.write) (option_map name_of x.held) None → o ≡ permit_in released → o ≡ permit_of x.held
 released-permit x w released o has is permit = permit ∙ ap permit_in (is ∙ ap (λ q. cond (is_some q) (option_map name_of x.held) None) has) ∙ permit-named x.held
 
--- the entry of a body that was stored, without the number that a store may give it
-pub stored-entry : (o : Option Key) (id : Option ℕ) (k : Key) (how : WriteEnd) (f : FinishReport) (gave : Option CacheEntryKey) (e : CacheEntryKey) (c : CompactCacheKey) → o ≡ Some k → how ≡ Stored f → gave ≡ entry_stored o id how → gave ≡ Some e → c ≡ key_of e → KeyOnly c ≡ entry_of k None
-stored-entry o id k how f gave e c key stored is some own =
+-- the entry of a body that was stored
+pub stored-entry : (o : Option Key) (id : Option ℕ) (k : Key) (how : WriteEnd) (f : FinishReport) (gave : Option CacheEntryKey) (e : CacheEntryKey) → o ≡ Some k → how ≡ Stored f → gave ≡ entry_stored o id how → gave ≡ Some e → e ≡ entry_of k id
+stored-entry o id k how f gave e key stored is some =
     let whole : ◌≡◌ {A = Option CacheEntryKey} (Some e) (Some (entry_of k id)) = sym some ∙ is ∙ (λ i. entry_stored (key i) id (stored i)) in
-    let same : e ≡ entry_of k id = cc in
-    ap KeyOnly (own ∙ ap key_of same ∙ elim id as (λ n. key_of (entry_of k n) ≡ compact_of k) [ None ↦ refl | Some n ↦ refl ])
+    cc
 
 -- ---- what is noted of a purge
 
 -- what stands under a request's key, and what a removal finds of it
-untracked-as : (there uses : Bool) (k : Key) → untracking (untracked uses (compact_of k) (cond there (Purged None) NotFound)) ≡ untrack_of (there && uses) k
-untracked-as false uses k = refl
-untracked-as true false k = refl
-untracked-as true true k = refl
+abbrev outcome_of : Option Slot → PurgeOutcome
+outcome_of x = slot_answer true x
 
-removed-as : (there : Bool) → is_removed_by (cond there (Purged None) NotFound) ≡ there
-removed-as true = refl
-removed-as false = refl
+untracked-as : (x : Option Slot) (uses : Bool) (k : Key) → untracking (untracked uses (compact_of k) (outcome_of x)) ≡ untrack_of (is_some x && uses) k (number_of_body (complete_body x))
+untracked-as None uses k = refl
+untracked-as (Some x) true k = refl
+untracked-as (Some x) false k = refl
 
-gone-as : (there uses : Bool) (k : Key) (m : Tracked) → tracked_gone uses (compact_of k) (cond there (Purged None) NotFound) m ≡ cond (there && uses) (map.remove m (entry_of k None)) m
-gone-as false uses k m = refl
-gone-as true false k m = refl
-gone-as true true k m = refl
+removed-as : (x : Option Slot) → is_removed_by (outcome_of x) ≡ is_some x
+removed-as None = refl
+removed-as (Some x) = refl
+
+gone-as : (x : Option Slot) (uses : Bool) (k : Key) (m : Tracked) → tracked_gone uses (compact_of k) (outcome_of x) m ≡ cond (is_some x && uses) (map.remove m (entry_of k (number_of_body (complete_body x)))) m
+gone-as None uses k m = refl
+gone-as (Some x) true k m = refl
+gone-as (Some x) false k m = refl
 
 module _ (s : Store) (uses : Bool) (o : Option Key) (k : Key) (key : o ≡ Some k) where
   abbrev pub goes : Bool
   goes = there_for s o && uses
 
-  pub purge-events : (j : ℕ) (outcome : PurgeOutcome) (gone : Option CacheEntryKey) (old events : List Event) → j ≡ slot k → outcome ≡ purge_answer s (option_map slot o) → gone ≡ untracked_for uses o outcome → old ≡ []
-      → events ≡ old ++ E.Purge j ∷ untracking gone → events ≡ E.Purge (slot k) ∷ untrack_of goes k
+  pub purge-events : (j : ℕ) (outcome : PurgeOutcome) (gone : Option CacheEntryKey) (old events : List Event) → j ≡ slot k → outcome ≡ purge_answer true s (option_map slot o) → gone ≡ untracked_for uses o outcome → old ≡ []
+      → events ≡ old ++ E.Purge j ∷ untracking gone → events ≡ E.Purge (slot k) ∷ untrack_of goes k (number_for s o)
   purge-events j outcome gone old events at found went none is =
       is ∙ (λ i. none i ++ E.Purge (at i) ∷ untracking (went i)) ∙ ap (λ q. E.Purge (slot k) ∷ untracking (untracked_for uses o q)) found
-      ∙ subst (λ q. ◌≡◌ {A = List Event} (E.Purge (slot k) ∷ untracking (untracked_for uses q (purge_answer s (option_map slot q)))) (E.Purge (slot k) ∷ untrack_of (there_for s q && uses) k)) (sym key)
-      (ap (λ es. E.Purge (slot k) ∷ es) (untracked-as (is_some (map.get s.slots (slot k))) uses k))
+      ∙ subst (λ q. ◌≡◌ {A = List Event} (E.Purge (slot k) ∷ untracking (untracked_for uses q (purge_answer true s (option_map slot q)))) (E.Purge (slot k) ∷ untrack_of (there_for s q && uses) k (number_for s q))) (sym key)
+      (ap (λ es. E.Purge (slot k) ∷ es) (untracked-as (map.get s.slots (slot k)) uses k))
 
-  pub purge-told : (outcome : PurgeOutcome) → outcome ≡ purge_answer s (option_map slot o) → is_removed_by outcome ≡ there_for s o
-  purge-told outcome found = ap is_removed_by found ∙ subst (λ q. is_removed_by (purge_answer s (option_map slot q)) ≡ there_for s q) (sym key) (removed-as (is_some (map.get s.slots (slot k))))
+  pub purge-told : (outcome : PurgeOutcome) → outcome ≡ purge_answer true s (option_map slot o) → is_removed_by outcome ≡ there_for s o
+  purge-told outcome found = ap is_removed_by found ∙ subst (λ q. is_removed_by (purge_answer true s (option_map slot q)) ≡ there_for s q) (sym key) (removed-as (map.get s.slots (slot k)))
 
-  pub purge-untracks : (m m' : Tracked) → m' ≡ tracked_gone_for uses o (purge_answer s (option_map slot o)) m → m' ≡ cond goes (map.remove m (entry_of k None)) m
-  purge-untracks m m' is = is ∙ subst (λ q. tracked_gone_for uses q (purge_answer s (option_map slot q)) m ≡ cond (there_for s q && uses) (map.remove m (entry_of k None)) m) (sym key) (gone-as (is_some (map.get s.slots (slot k))) uses k m)
+  pub purge-untracks : (m m' : Tracked) → m' ≡ tracked_gone_for uses o (purge_answer true s (option_map slot o)) m → m' ≡ cond goes (map.remove m (entry_of k (number_for s o))) m
+  purge-untracks m m' is = is ∙ subst (λ q. tracked_gone_for uses q (purge_answer true s (option_map slot q)) m ≡ cond (there_for s q && uses) (map.remove m (entry_of k (number_for s q))) m) (sym key) (gone-as (map.get s.slots (slot k)) uses k m)
 
   pub purge-store : (u : Store) → u ≡ purged_at s (option_map slot o) → u ≡ purged s (slot k)
   purge-store u is = is ∙ ap (λ q. purged_at s (option_map slot q)) key

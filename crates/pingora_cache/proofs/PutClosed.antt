@@ -1,4 +1,5 @@
 -- What the end of a put does, by what its context promises.
+use Rattle.pcache_store.specs.Readers.{in_memory}
 use Rattle.std.proofs.Common.{◌≡◌, ℕ, ◌⊎◌, length, true, false, is_some, Option, None, Some, List, [], ◌∷◌, ◌++◌, refl, ap, sym, subst, ◌∙◌, inl, inr}
 use Rattle.pcache_base.specs.CompactKey.{compact_of}
 use Rattle.pcache_base.specs.Key.{slot}
@@ -12,7 +13,7 @@ use Rattle.pcache_evict.specs.declared.eviction.entry_key.CacheEntryKey.TheVaria
 use Rattle.pcache_lock.specs.Locks.{Locks, no_locks}
 use Rattle.pcache_put.specs.Counted.{Counted}
 use Rattle.pcache_put_ctx.specs.Puts.{Piece, Says, Outcome as Comes, IsResult}
-use Rattle.pcache_put_ctx.specs.State.{Stage, InHead, InBody, HasDeclined, IsOver, Filled, TakenBy, limit_of, write_in}
+use Rattle.pcache_put_ctx.specs.State.{Stage, InHead, InBody, HasDeclined, IsOver, Filled, TakenBy, limit_of, entry_in, write_in}
 use Rattle.pcache_put_ctx.specs.Steps.{EndsEarly, EndsPut, TellsResult, entry_told, stage_ended, write_end}
 use Rattle.pcache_put_ctx.specs.declared.report.PutEnd.{PutEnd}
 use Rattle.pcache_put_ctx.specs.declared.report.PutEnd.TheVariants as end
@@ -29,7 +30,7 @@ use Rattle.pcache_history.specs.declared.call.Reply.{Reply}
 use Rattle.pcache_history.specs.declared.call.Reply.TheVariants as R
 use Rattle.pcache_history.specs.declared.entry.Event.{Event}
 use Rattle.pcache_history.specs.declared.entry.Event.TheVariants as E
-use Rattle.pcache_history.specs.Due.{IsOfWorld, reader_for, slot_of}
+use Rattle.pcache_history.specs.Due.{IsOfWorld, Owed, reader_for, slot_of}
 use Rattle.pcache_history.specs.Facts.{Facts}
 use Rattle.pingora_cache.specs.PartFacts.{facts_in}
 use Rattle.pcache_history.specs.Held.{Held, held_put}
@@ -38,7 +39,7 @@ use Rattle.pcache_history.specs.PutHistory.{Tells}
 use Rattle.pingora_cache.specs.PutSteps.{IsUnwritten, IsWritten, end_noted, end_reply}
 use Rattle.pcache_history.specs.Rules.{Closes, ClosesAt, EndsFilling}
 use Rattle.pingora_cache.specs.Step.{refused_end}
-use Rattle.pcache_history.specs.Taking.{Taking, entry_in, filling}
+use Rattle.pcache_history.specs.Taking.{Taking, filling}
 use Rattle.pcache_history.specs.Waiting.{AreOfNoLock}
 use Rattle.pingora_cache.proofs.LockSteps.{quiet-refused}
 use Rattle.pingora_cache.proofs.MovesOf.{does, finish-dropped, finish-stored, finish-withdrawn, stop, with_pair}
@@ -46,13 +47,13 @@ use Rattle.pingora_cache.proofs.PutFed.{none-some, not-failed}
 
 -- ---- the same moves of two that have the key and the reader in common
 
-next-like : (limits : Limits) (owed : Option ℕ) (a : At) (q r : Option Held) (e : Event) → slot_of r ≡ slot_of q → reader_for r ≡ reader_for q → IsNextAt limits owed a q e → IsNextAt limits owed a r e
+next-like : (limits : Limits) (owed : Option Owed) (a : At) (q r : Option Held) (e : Event) → slot_of r ≡ slot_of q → reader_for r ≡ reader_for q → IsNextAt limits owed a q e → IsNextAt limits owed a r e
 next-like limits None a q r (E.Begin w k m) slots readers d = (d.0, d.1, slots ∙ d.2)
 next-like limits None a q r (E.Finish w true) slots readers d = d
 next-like limits None a q r (E.Finish w false) slots readers d = d
 next-like limits None a q r (E.Read x) slots readers d = (d.0, readers ∙ d.1, d.2, d.3)
 next-like limits None a q r e slots readers d = d
-next-like limits (Some n) a q r (E.Admit e w out) slots readers d = let own = d.1 in (d.0, (own.0, slots ∙ own.1, own.2), d.2)
+next-like limits (Some n) a q r (E.Admit e w out) slots readers d = let own = d.1 in (d.0, (own.0, slots ∙ own.1, own.2), d.2, d.3)
 next-like limits (Some n) a q r (E.Purge k) slots readers d = slots ∙ d
 next-like limits (Some n) a q r (E.Release l) slots readers d = d
 next-like limits (Some n) a q r e slots readers d = absurd d
@@ -71,7 +72,7 @@ acts-like limits q r (Leaves o ∷ acts) a b c slots readers did on = (did.0, di
 
 -- ---- the end of a put's write, as that of a request
 
-module _ (p : Taking) (s u : Store) (limits : Limits) (m m' : Tracked) (w : ℕ) (id : Option ℕ) (until : ℕ) (stands-so : p.stage ≡ InBody w id until) where
+module _ (p : Taking) (s u : Store) (limits : Limits) (m m' : Tracked) (w : ℕ) (id : Option ℕ) (until : ℕ) (stands-so : p.stage ≡ InBody w id until) (own : id ≡ Some w) where
   abbrev pub x : Request
   x = filling p.key (Some w) id
 
@@ -81,7 +82,7 @@ module _ (p : Taking) (s u : Store) (limits : Limits) (m m' : Tracked) (w : ℕ)
   abbrev nowhere : Locks
   nowhere = no_locks 0
 
-  lets : (how : WriteEnd) → EndsBody true true id HoldsNoLock p.key w (created s w) limits how s u m m' → EndsIn true x p.key w (created s w) limits how s u m m' nowhere nowhere
+  lets : (how : WriteEnd) → EndsBody in_memory true id HoldsNoLock p.key w (created s w) limits how s u m m' → EndsIn in_memory x p.key w (created s w) limits how s u m m' nowhere nowhere
   lets writes.Nothing h = h
   lets (writes.Stored f) h = record { untouched = h.untouched; size_is = h.size_is; admitted = h.admitted; purges = h.purges; sure = h.sure; released = refl }
   lets (writes.Dropped e) h = record { why = h.why; dropped = h.dropped; tracked = h.tracked; released = refl }
@@ -99,19 +100,18 @@ module _ (p : Taking) (s u : Store) (limits : Limits) (m m' : Tracked) (w : ℕ)
       as-it-is : standing ≡ p
       as-it-is = λ i. record { key = p.key; size = p.size; parser = p.parser; stage = sym stands-so i }
 
-  -- the entry of a stored body is that of the key, with no number
-  noted-entry : (f : FinishReport) (entry : Option CacheEntryKey) → entry ≡ Some (entry_of p.key id) → end_noted w (slot p.key) (end.Stored f) entry ≡ E.Finish w true ∷ E.Admit (entry_of p.key None) f.size f.evicted.items ∷ []
+  -- the entry of a stored body has the number of its write
+  noted-entry : (f : FinishReport) (entry : Option CacheEntryKey) → entry ≡ Some (entry_of p.key id) → end_noted w (slot p.key) (end.Stored f) entry ≡ E.Finish w true ∷ E.Admit (entry_of p.key (Some w)) f.size f.evicted.items ∷ []
   noted-entry f entry is =
-      let own : key_of (entry_of p.key id) ≡ compact_of p.key = elim id as (λ n. key_of (entry_of p.key n) ≡ compact_of p.key) [ None ↦ refl | Some n ↦ refl ] in
-      ap (λ o. end_noted w (slot p.key) (end.Stored f) o) is ∙ ap (λ c. E.Finish w true ∷ E.Admit (KeyOnly c) f.size f.evicted.items ∷ []) own
+      ap (λ o. end_noted w (slot p.key) (end.Stored f) o) is ∙ ap (λ n. E.Finish w true ∷ E.Admit (entry_of p.key n) f.size f.evicted.items ∷ []) own
 
-  body-moves : (how : PutEnd) (entry : Option CacheEntryKey) (events : List Event) → IsOfWorld x → entry ≡ entry_told p.key (InBody w id until) how → EndsBody true true id HoldsNoLock p.key w (created s w) limits (write_end how) s u m m' → events ≡ end_noted w (slot p.key) how entry
+  body-moves : (how : PutEnd) (entry : Option CacheEntryKey) (events : List Event) → IsOfWorld x → entry ≡ entry_told p.key (InBody w id until) how → EndsBody in_memory true id HoldsNoLock p.key w (created s w) limits (write_end how) s u m m' → events ≡ end_noted w (slot p.key) how entry
       → Moves limits (Some (held_put p)) s m events None u m'
   body-moves (end.NotCached reason) entry events world told h is = absurd h
   body-moves (end.Refused e) entry events world told h is = absurd h
   body-moves (end.Stored f) entry events world told h is =
       of-put events (finish-stored None x y None s u p.key w limits m m' nowhere nowhere None [] refl refl refl refl
-      (writes.Stored f) f (entry_of p.key None) (E.Finish w true ∷ []) events refl world refl (lets (writes.Stored f) h) refl (is ∙ noted-entry f entry told))
+      (writes.Stored f) f (entry_of p.key id) (E.Finish w true ∷ []) events refl world own refl (lets (writes.Stored f) h) refl (is ∙ ap (λ o. end_noted w (slot p.key) (end.Stored f) o) told))
   body-moves (end.Withdrawn e) entry events world told h is =
       of-put events (finish-withdrawn None x y None s u p.key w limits m m' nowhere nowhere None [] refl refl refl refl
       (writes.Withdrawn e) e (slot p.key) (E.Finish w true ∷ []) events refl refl (lets (writes.Withdrawn e) h) refl is)
@@ -137,20 +137,20 @@ module _ (p : Taking) (s u : Store) (limits : Limits) (m m' : Tracked) (w : ℕ)
   dropped-answers t e events (inl same) is = inr (inr (inr (is, ap R.Refused same)))
   dropped-answers t e events (inr no-way) is = absurd no-way
 
-  body-answers : (t : Locks) (how : PutEnd) (entry : Option CacheEntryKey) (events : List Event) → entry ≡ entry_told p.key (InBody w id until) how → EndsBody true true id HoldsNoLock p.key w (created s w) limits (write_end how) s u m m' → events ≡ end_noted w (slot p.key) how entry
+  body-answers : (t : Locks) (how : PutEnd) (entry : Option CacheEntryKey) (events : List Event) → entry ≡ entry_told p.key (InBody w id until) how → EndsBody in_memory true id HoldsNoLock p.key w (created s w) limits (write_end how) s u m m' → events ≡ end_noted w (slot p.key) how entry
       → EndsFilling (facts t) x p.key w (end_reply how) events
   body-answers t (end.NotCached reason) entry events told h is = absurd h
   body-answers t (end.Refused e) entry events told h is = absurd h
   body-answers t (end.Stored f) entry events told h is =
-      inl (f.evicted.items, h.untouched, is ∙ noted-entry f entry told ∙ ap (λ n. E.Finish w true ∷ E.Admit (entry_of p.key None) n f.evicted.items ∷ []) h.size_is, ap (λ n. R.Stored n (length f.evicted.items)) h.size_is)
+      inl (f.evicted.items, h.untouched, is ∙ noted-entry f entry told ∙ ap (λ n. E.Finish w true ∷ E.Admit (entry_of p.key (Some w)) n f.evicted.items ∷ []) h.size_is, ap (λ n. R.Stored n (length f.evicted.items)) h.size_is)
   body-answers t (end.Withdrawn e) entry events told h is = inr (inl (h.untouched, is, ap R.Refused h.why))
   body-answers t (end.Dropped e) entry events told h is = dropped-answers t e events h.why is
 
 -- ---- by where the put stands
 
-module _ (p : Taking) (s u : Store) (limits : Limits) (m m' : Tracked) (how : PutEnd) (entry : Option CacheEntryKey) (told : entry ≡ entry_told p.key p.stage how) (ends : EndsPut true p.key p.parser (created s) limits p.stage how s u m m') where
+module _ (p : Taking) (s u : Store) (limits : Limits) (m m' : Tracked) (how : PutEnd) (entry : Option CacheEntryKey) (told : entry ≡ entry_told p.key p.stage how) (ends : EndsPut in_memory p.key p.parser (created s) limits p.stage how s u m m') where
   abbrev EndsAt : Stage → Type 0
-  EndsAt stage = EndsPut true p.key p.parser (created s) limits stage how s u m m'
+  EndsAt stage = EndsPut in_memory p.key p.parser (created s) limits stage how s u m m'
 
   -- a put that made no write
   unwritten-is : (stage : Stage) → EndsAt stage → write_in stage ≡ None → IsUnwritten how
@@ -188,7 +188,7 @@ module _ (p : Taking) (s u : Store) (limits : Limits) (m m' : Tracked) (how : Pu
   written-as w id until own (inl (e, why, is, to, same)) = subst (λ z. IsWritten z entry) (sym is) tt
   written-as w id until own (inr h) = by how own h
     where
-      by : (how : PutEnd) → entry ≡ entry_told p.key (InBody w id until) how → EndsBody true true id HoldsNoLock p.key w (created s w) limits (write_end how) s u m m' → IsWritten how entry
+      by : (how : PutEnd) → entry ≡ entry_told p.key (InBody w id until) how → EndsBody in_memory true id HoldsNoLock p.key w (created s w) limits (write_end how) s u m m' → IsWritten how entry
       by (end.NotCached reason) own h = absurd h
       by (end.Refused e) own h = absurd h
       by (end.Stored f) own h = ap is_some own
@@ -212,8 +212,8 @@ module _ (p : Taking) (s u : Store) (limits : Limits) (m m' : Tracked) (how : Pu
         let early : e ≡ IncompleteHttpBody = elim why [ inl h ↦ h | inr failed ↦ absurd (not-failed s (no_locks 0) says size p.parser (InBody w id until) pieces f e got (λ z h. absurd (cc)) (λ z h. absurd (cc)) failed) ] in
         (noted ∙ ap (λ z. end_noted w (slot p.key) z entry) (is ∙ ap end.Dropped early), ap end_reply (is ∙ ap end.Dropped early), to, same)
 
-    pub written-moves : (w : ℕ) (events : List Event) → IsOfWorld (held_put p).request → write_in p.stage ≡ Some w → events ≡ end_noted w (slot p.key) how entry → Moves limits (Some (held_put p)) s m events None u m'
-    written-moves w events world has noted = by p.stage refl
+    pub written-moves : (w : ℕ) (events : List Event) → IsOfWorld (held_put p).request → write_in p.stage ≡ Some w → entry_in p.stage ≡ Some w → events ≡ end_noted w (slot p.key) how entry → Moves limits (Some (held_put p)) s m events None u m'
+    written-moves w events world has mine noted = by p.stage refl
       where
         by : (stage : Stage) → p.stage ≡ stage → Moves limits (Some (held_put p)) s m events None u m'
         by InHead is = absurd (let no : ◌≡◌ {A = Option ℕ} None (Some w) = ap write_in (sym is) ∙ has in cc)
@@ -224,12 +224,12 @@ module _ (p : Taking) (s u : Store) (limits : Limits) (m m' : Tracked) (how : Pu
             let same : w ≡ v = cc in
             let events-are = noted ∙ ap (λ n. end_noted n (slot p.key) how entry) same in
             elim (subst EndsAt is ends) [
-              | inl h ↦ let e = early-is v id until entry events (subst (λ (z : Stage). TakenBy says size p.parser z pieces f) is taken) h events-are in early-moves p s u limits m m' v id until is events e.0 e.2 e.3
-              | inr h ↦ body-moves p s u limits m m' v id until is how entry events (subst (λ (z : Stage). IsOfWorld (filling p.key (write_in z) (entry_in z))) is world) (told ∙ ap (λ (z : Stage). entry_told p.key z how) is) h events-are
+              | inl h ↦ let e = early-is v id until entry events (subst (λ (z : Stage). TakenBy says size p.parser z pieces f) is taken) h events-are in early-moves p s u limits m m' v id until is (ap entry_in (sym is) ∙ mine ∙ ap Some same) events e.0 e.2 e.3
+              | inr h ↦ body-moves p s u limits m m' v id until is (ap entry_in (sym is) ∙ mine ∙ ap Some same) how entry events (subst (λ (z : Stage). IsOfWorld (filling p.key (write_in z) (entry_in z))) is world) (told ∙ ap (λ (z : Stage). entry_told p.key z how) is) h events-are
             ]
 
-    pub written-answers : (t : Locks) (w : ℕ) (events : List Event) → write_in p.stage ≡ Some w → events ≡ end_noted w (slot p.key) how entry → Closes (facts_in s t (held_put p).request) (Some p) (end_reply how) events
-    written-answers t w events has noted = by p.stage refl
+    pub written-answers : (t : Locks) (w : ℕ) (events : List Event) → write_in p.stage ≡ Some w → entry_in p.stage ≡ Some w → events ≡ end_noted w (slot p.key) how entry → Closes (facts_in s t (held_put p).request) (Some p) (end_reply how) events
+    written-answers t w events has mine noted = by p.stage refl
       where
         by : (stage : Stage) → p.stage ≡ stage → Closes (facts_in s t (held_put p).request) (Some p) (end_reply how) events
         by InHead is = absurd (let no : ◌≡◌ {A = Option ℕ} None (Some w) = ap write_in (sym is) ∙ has in cc)
@@ -241,7 +241,7 @@ module _ (p : Taking) (s u : Store) (limits : Limits) (m m' : Tracked) (how : Pu
             let events-are = noted ∙ ap (λ n. end_noted n (slot p.key) how entry) same in
             subst (λ (z : Stage). ClosesAt (facts_in s t (filling p.key (write_in z) (entry_in z))) p.key z (end_reply how) events) (sym is) (elim (subst EndsAt is ends) [
               | inl h ↦ let e = early-is v id until entry events (subst (λ (z : Stage). TakenBy says size p.parser z pieces f) is taken) h events-are in inl (e.0, e.1)
-              | inr h ↦ inr (body-answers p s u limits m m' v id until is t how entry events (told ∙ ap (λ (z : Stage). entry_told p.key z how) is) h events-are)
+              | inr h ↦ inr (body-answers p s u limits m m' v id until is (ap entry_in (sym is) ∙ mine ∙ ap Some same) t how entry events (told ∙ ap (λ (z : Stage). entry_told p.key z how) is) h events-are)
             ])
 
   -- only a lack of memory has a body withdrawn
@@ -250,7 +250,7 @@ module _ (p : Taking) (s u : Store) (limits : Limits) (m m' : Tracked) (how : Pu
   withdrawn-why (HasDeclined reason) h e is = let no : ◌≡◌ {A = PutEnd} (end.NotCached reason) (end.Withdrawn e) = sym h.0 ∙ is in absurd (cc)
   withdrawn-why (IsOver kind) h e is = let no : ◌≡◌ {A = PutEnd} (end.Refused kind) (end.Withdrawn e) = sym h.0 ∙ is in absurd (cc)
   withdrawn-why (InBody w id until) (inl (d, why, so, to, same)) e is = let no : ◌≡◌ {A = PutEnd} (end.Dropped d) (end.Withdrawn e) = sym so ∙ is in absurd (cc)
-  withdrawn-why (InBody w id until) (inr h) e is = (subst (λ z. EndsBody true true id HoldsNoLock p.key w (created s w) limits (write_end z) s u m m') is h).why
+  withdrawn-why (InBody w id until) (inr h) e is = (subst (λ z. EndsBody in_memory true id HoldsNoLock p.key w (created s w) limits (write_end z) s u m m') is h).why
 
   tells-as : (comes : Comes → Type 0) (f : Option Filled) (z : PutEnd) → ((e : ErrorType) → z ≡ end.Withdrawn e → e ≡ OutOfMemory) → TellsResult comes f z → Tells comes f (end_reply z)
   tells-as comes f (end.NotCached reason) why tells = tells
@@ -273,15 +273,15 @@ ended-still how stage s u is to = to ∙ ap (λ z. dropped_by (write_in z) s) is
     by (end.Stored f) = refl
     by (end.Withdrawn e) = refl
 
-module _ (p : Taking) (s u : Store) (limits : Limits) (m m' : Tracked) (how : PutEnd) (entry : Option CacheEntryKey) (told : entry ≡ entry_told p.key p.stage how) (ends : EndsPut true p.key p.parser (created s) limits p.stage how s u m m') where
-  pub written-answers-as : (says : Says) (pieces : List Piece) (f : Option Filled) (taken : TakenBy says p.size p.parser p.stage pieces f) (t : Locks) (w j : ℕ) (reply : Reply) (events : List Event) → write_in p.stage ≡ Some w → j ≡ slot p.key → reply ≡ end_reply how → events ≡ end_noted w j how entry → Closes (facts_in s t (held_put p).request) (Some p) reply events
-  written-answers-as says pieces f taken t w j reply events has at is noted =
-      subst (λ z. Closes (facts_in s t (held_put p).request) (Some p) z events) (sym is) (written-answers p s u limits m m' how entry told ends says p.size pieces f taken t w events has (noted ∙ ap (λ k. end_noted w k how entry) at))
+module _ (p : Taking) (s u : Store) (limits : Limits) (m m' : Tracked) (how : PutEnd) (entry : Option CacheEntryKey) (told : entry ≡ entry_told p.key p.stage how) (ends : EndsPut in_memory p.key p.parser (created s) limits p.stage how s u m m') where
+  pub written-answers-as : (says : Says) (pieces : List Piece) (f : Option Filled) (taken : TakenBy says p.size p.parser p.stage pieces f) (t : Locks) (w j : ℕ) (reply : Reply) (events : List Event) → write_in p.stage ≡ Some w → entry_in p.stage ≡ Some w → j ≡ slot p.key → reply ≡ end_reply how → events ≡ end_noted w j how entry → Closes (facts_in s t (held_put p).request) (Some p) reply events
+  written-answers-as says pieces f taken t w j reply events has mine at is noted =
+      subst (λ z. Closes (facts_in s t (held_put p).request) (Some p) z events) (sym is) (written-answers p s u limits m m' how entry told ends says p.size pieces f taken t w events has mine (noted ∙ ap (λ k. end_noted w k how entry) at))
 
-  pub written-moves-as : (says : Says) (pieces : List Piece) (f : Option Filled) (taken : TakenBy says p.size p.parser p.stage pieces f) (v : Store) (stage : Stage) (w j : ℕ) (events : List Event) → IsOfWorld (held_put p).request → write_in p.stage ≡ Some w → j ≡ slot p.key → events ≡ end_noted w j how entry → stage ≡ stage_ended how → v ≡ dropped_by (write_in stage) u
+  pub written-moves-as : (says : Says) (pieces : List Piece) (f : Option Filled) (taken : TakenBy says p.size p.parser p.stage pieces f) (v : Store) (stage : Stage) (w j : ℕ) (events : List Event) → IsOfWorld (held_put p).request → write_in p.stage ≡ Some w → entry_in p.stage ≡ Some w → j ≡ slot p.key → events ≡ end_noted w j how entry → stage ≡ stage_ended how → v ≡ dropped_by (write_in stage) u
       → Moves limits (Some (held_put p)) s m events None v m'
-  written-moves-as says pieces f taken v stage w j events world has at noted stands to =
-      subst (λ (z : Store). Moves limits (Some (held_put p)) s m events None z m') (sym (ended-still how stage u v stands to)) (written-moves p s u limits m m' how entry told ends says p.size pieces f taken w events world has (noted ∙ ap (λ k. end_noted w k how entry) at))
+  written-moves-as says pieces f taken v stage w j events world has mine at noted stands to =
+      subst (λ (z : Store). Moves limits (Some (held_put p)) s m events None z m') (sym (ended-still how stage u v stands to)) (written-moves p s u limits m m' how entry told ends says p.size pieces f taken w events world has mine (noted ∙ ap (λ k. end_noted w k how entry) at))
 
   pub unwritten-answers-as : (f : Facts) (reply : Reply) (events : List Event) → events ≡ [] → write_in p.stage ≡ None → reply ≡ end_reply how → Closes f (Some p) reply events
   unwritten-answers-as f reply events none at is = subst (λ z. Closes f (Some p) z events) (sym is) (unwritten-answers p s u limits m m' how entry told ends f events none at)

@@ -52,10 +52,10 @@ module _ (limits : Limits) (q : Option Held) (k : Key) (count : ℕ → ℕ) (s 
   before stage = record { count = count; write = write_in stage; owed = None; store = s; tracked = m }
 
   abbrev pub behind : Stage → Option Meta → Option Written → At
-  behind stage began b = record { count = count; write = write_in (stage_begun stage began s.next None); owed = None; store = store_after k stage began b None s; tracked = m }
+  behind stage began b = record { count = count; write = write_in (stage_begun stage began s.next (Some s.next)); owed = None; store = store_after k stage began b (Some s.next) s; tracked = m }
 
   pub noted : (stage : Stage) (began : Option Meta) (b : Option Written) (rest : List Event) (last : At) → BeginsAtHead stage began → MovesBy limits q rest (behind stage began b) last
-      → MovesBy limits q (piece_noted (slot k) (write_in (stage_begun stage began s.next None)) began b ++ rest) (before stage) last
+      → MovesBy limits q (piece_noted (slot k) (write_in (stage_begun stage began s.next (Some s.next))) began b ++ rest) (before stage) last
   noted InHead None b rest last begins moves = moves
   noted InHead (Some n) None rest last begins moves = does limits q (E.Begin s.next (slot k) n) rest (before InHead) last (refl, refl, own) moves
   noted InHead (Some n) (Some b) rest last begins moves =
@@ -75,7 +75,7 @@ none-noted k None began b is = refl
 none-noted k (Some w) began b is = none-some w is
 
 -- and the store stays
-none-stored : (k : Key) (stage : Stage) (began : Option Meta) (b : Option Written) (s : Store) → BeginsAtHead stage began → write_in (stage_begun stage began s.next None) ≡ None → store_after k stage began b None s ≡ s
+none-stored : (k : Key) (stage : Stage) (began : Option Meta) (b : Option Written) (s : Store) → BeginsAtHead stage began → write_in (stage_begun stage began s.next (Some s.next)) ≡ None → store_after k stage began b (Some s.next) s ≡ s
 none-stored k InHead None b s begins is = refl
 none-stored k InHead (Some n) b s begins is = none-some s.next is
 none-stored k (InBody w id until) None b s begins is = none-some w is
@@ -85,16 +85,16 @@ none-stored k (HasDeclined reason) (Some n) b s begins is = none-some n begins
 none-stored k (IsOver kind) None b s begins is = refl
 none-stored k (IsOver kind) (Some n) b s begins is = none-some n begins
 
-none-before : (stage : Stage) (began : Option Meta) (n : ℕ) → BeginsAtHead stage began → write_in (stage_begun stage began n None) ≡ None → write_in stage ≡ None
+none-before : (stage : Stage) (began : Option Meta) (n : ℕ) → BeginsAtHead stage began → write_in (stage_begun stage began n (Some n)) ≡ None → write_in stage ≡ None
 none-before InHead began n begins is = refl
 none-before (InBody w id until) None n begins is = is
 none-before (InBody w id until) (Some m) n begins is = none-some m begins
 none-before (HasDeclined reason) began n begins is = refl
 none-before (IsOver kind) began n begins is = refl
 
-module _ (p p' : Taking) (s s1 : Store) (began : Option Meta) (b : Option Written) (j : ℕ) (at : j ≡ slot p.key) (begins : BeginsAtHead p.stage began) (to : s1 ≡ store_after p.key p.stage began b None s) where
+module _ (p p' : Taking) (s s1 : Store) (began : Option Meta) (b : Option Written) (j : ℕ) (at : j ≡ slot p.key) (begins : BeginsAtHead p.stage began) (to : s1 ≡ store_after p.key p.stage began b (Some s.next) s) where
   abbrev pub now : Stage
-  now = stage_begun p.stage began s.next None
+  now = stage_begun p.stage began s.next (Some s.next)
 
   abbrev pub x : Held
   x = held_put p
@@ -137,7 +137,7 @@ alike p p' z key limit stands =
     let sizes = limit-sizes p'.size ∙ ap (option_map counted_none) limit ∙ sym (limit-sizes p.size) in
     λ i. held_put (record { key = key i; size = sizes i; parser = AtHead []; stage = stands i })
 
-begun-stage : (k n : ℕ) (stage : Stage) (began : Option Meta) (b : Option Written) → BeginsAtHead stage began → stage_noted (piece_noted k (write_in (stage_begun stage began n None)) began b) stage ≡ stage_begun stage began n None
+begun-stage : (k n : ℕ) (stage : Stage) (began : Option Meta) (b : Option Written) → BeginsAtHead stage began → stage_noted (piece_noted k (write_in (stage_begun stage began n (Some n))) began b) stage ≡ stage_begun stage began n (Some n)
 begun-stage k n InHead None b begins = refl
 begun-stage k n InHead (Some m) b begins = refl
 begun-stage k n (InBody w id until) None None begins = refl
@@ -148,10 +148,10 @@ begun-stage k n (HasDeclined reason) (Some m) b begins = none-some m begins
 begun-stage k n (IsOver kind) None b begins = refl
 begun-stage k n (IsOver kind) (Some m) b begins = none-some m begins
 
-pub goes-row : (p p' : Taking) (bytes : List ℕ) (t n j : ℕ) (began : Option Meta) (b : Option Written) (w : Option ℕ) (old events : List Event) → p'.key ≡ p.key → limit_of p'.size ≡ limit_of p.size → BeginsAtHead p.stage began → old ≡ [] → w ≡ write_in p'.stage → p'.stage ≡ stage_begun p.stage began n None → events ≡ old ++ piece_noted j w began b
+pub goes-row : (p p' : Taking) (bytes : List ℕ) (t n j : ℕ) (began : Option Meta) (b : Option Written) (w : Option ℕ) (old events : List Event) → p'.key ≡ p.key → limit_of p'.size ≡ limit_of p.size → BeginsAtHead p.stage began → old ≡ [] → w ≡ write_in p'.stage → p'.stage ≡ stage_begun p.stage began n (Some n) → events ≡ old ++ piece_noted j w began b
     → IsRow (C.Feed bytes t) R.Done events (Some (held_put p)) (Some (held_put p'))
 goes-row p p' bytes t n j began b w old events key limit begins none has stands is =
-    let noted-as : events ≡ piece_noted j (write_in (stage_begun p.stage began n None)) began b = is ∙ (λ i. none i ++ piece_noted j ((has ∙ ap write_in stands) i) began b) in
+    let noted-as : events ≡ piece_noted j (write_in (stage_begun p.stage began n (Some n))) began b = is ∙ (λ i. none i ++ piece_noted j ((has ∙ ap write_in stands) i) began b) in
     ap Some (alike p p' (stage_noted events p.stage) key limit (stands ∙ sym (ap (λ es. stage_noted es p.stage) noted-as ∙ begun-stage j n p.stage began b begins)))
 
 pub declined-row : (p p' : Taking) (bytes : List ℕ) (t : ℕ) (reason : NoCacheReason) (events : List Event) → p'.key ≡ p.key → limit_of p'.size ≡ limit_of p.size → p'.stage ≡ HasDeclined reason → IsRow (C.Feed bytes t) (R.NotCached reason) events (Some (held_put p)) (Some (held_put p'))
@@ -162,8 +162,8 @@ refused-row p p' bytes t e kind events same key limit stands = ap Some (alike p 
 
 -- ---- what was taken in
 
-begun-filled : (says : Says) (size : Option Counted) (parser : Parsed) (pieces : List Piece) (k n : ℕ) (stage : Stage) (began : Option Meta) (b : Option Written) (f : Option Filled) → BeginsAtHead stage began → TakenBy says size parser stage pieces f → (write_in (stage_begun stage began n None) ≡ None → f ≡ None)
-    → filled_by (piece_noted k (write_in (stage_begun stage began n None)) began b) f ≡ filled_on began b f
+begun-filled : (says : Says) (size : Option Counted) (parser : Parsed) (pieces : List Piece) (k n : ℕ) (stage : Stage) (began : Option Meta) (b : Option Written) (f : Option Filled) → BeginsAtHead stage began → TakenBy says size parser stage pieces f → (write_in (stage_begun stage began n (Some n)) ≡ None → f ≡ None)
+    → filled_by (piece_noted k (write_in (stage_begun stage began n (Some n))) began b) f ≡ filled_on began b f
 begun-filled says size parser pieces k n InHead None None f begins t none = refl
 begun-filled says size parser pieces k n InHead None (Some b) f begins t none = none refl ∙ ap (filled_wrote (Some b)) (sym (none refl))
 begun-filled says size parser pieces k n InHead (Some m) None f begins t none = refl
@@ -189,11 +189,11 @@ head-filled says size parser pieces (IsOver kind) f t on none = absurd (on kind 
 abbrev pub OnTaken : Says → Taking → Taking → Piece → Option Meta → Option Written → Type 0
 OnTaken says p p' q began b = (pieces : List Piece) (f : Option Filled) → TakenBy says p.size p.parser p.stage pieces f → TakenBy says p'.size p'.parser p'.stage (pieces ++ q ∷ []) (filled_on began b f)
 
-pub goes-puts : (says : Says) (p p' : Taking) (bytes : List ℕ) (t n j : ℕ) (began : Option Meta) (b : Option Written) (w : Option ℕ) (old events : List Event) → BeginsAtHead p.stage began → ((kind : ErrorType) → p.stage ≡ IsOver kind → ⊥) → OnTaken says p p' (record { bytes = bytes; now = t }) began b → old ≡ [] → w ≡ write_in p'.stage → p'.stage ≡ stage_begun p.stage began n None
+pub goes-puts : (says : Says) (p p' : Taking) (bytes : List ℕ) (t n j : ℕ) (began : Option Meta) (b : Option Written) (w : Option ℕ) (old events : List Event) → BeginsAtHead p.stage began → ((kind : ErrorType) → p.stage ≡ IsOver kind → ⊥) → OnTaken says p p' (record { bytes = bytes; now = t }) began b → old ≡ [] → w ≡ write_in p'.stage → p'.stage ≡ stage_begun p.stage began n (Some n)
     → events ≡ old ++ piece_noted j w began b → PutTurn says (C.Feed bytes t) R.Done events (Some (held_put p)) (Some (held_put p'))
 goes-puts says p p' bytes t n j began b w old events begins on taken none has stands is = record {
   taken = λ pieces f got.
-      let noted-as : events ≡ piece_noted j (write_in (stage_begun p.stage began n None)) began b = is ∙ (λ i. none i ++ piece_noted j ((has ∙ ap write_in stands) i) began b) in
+      let noted-as : events ≡ piece_noted j (write_in (stage_begun p.stage began n (Some n))) began b = is ∙ (λ i. none i ++ piece_noted j ((has ∙ ap write_in stands) i) began b) in
       let same : filled_by events f ≡ filled_on began b f = ap (λ es. filled_by es f) noted-as ∙ begun-filled says p.size p.parser pieces j n p.stage began b f begins got (λ z. head-filled says p.size p.parser pieces p.stage f got on (none-before p.stage began n begins z)) in
       subst (TakenBy says p'.size p'.parser p'.stage (pieces ++ record { bytes = bytes; now = t } ∷ [])) (sym same) (taken pieces f got);
   closes = λ pieces f got. tt;
@@ -257,14 +257,14 @@ module _ {M : Type 0} (s : Store) (t : Locks) where
   pub not-over : (stage : Stage) (end : PieceEnd M) → AnswersAgain stage end → end ≡ piece.GoesOn → (kind : ErrorType) → stage ≡ IsOver kind → ⊥
   not-over stage end again on kind is = let g : piece.GoesOn ≡ piece.Refused kind None = sym on ∙ subst (λ (z : Stage). AnswersAgain z end) is again in cc
 
-  pub goes-answers : (k : Key) (stage : Stage) (end : PieceEnd M) (began : Option Meta) (b : Option Written) (events : List Event) → AnswersAgain stage end → end ≡ piece.GoesOn → BeginsAtHead stage began → events ≡ piece_noted (slot k) (write_in (stage_begun stage began s.next None)) began b → AtStage s t k stage R.Done events
+  pub goes-answers : (k : Key) (stage : Stage) (end : PieceEnd M) (began : Option Meta) (b : Option Written) (events : List Event) → AnswersAgain stage end → end ≡ piece.GoesOn → BeginsAtHead stage began → events ≡ piece_noted (slot k) (write_in (stage_begun stage began s.next (Some s.next))) began b → AtStage s t k stage R.Done events
   goes-answers k InHead end began b events again on begins is = (began, b, inl (refl, is))
   goes-answers k (InBody w id until) end None b events again on begins is = (b, inl (refl, is))
   goes-answers k (InBody w id until) end (Some m) b events again on begins is = none-some m begins
   goes-answers k (HasDeclined reason) end began b events again on begins is = absurd (let g : piece.GoesOn ≡ piece.NotCached reason = sym on ∙ again in cc)
   goes-answers k (IsOver kind) end began b events again on begins is = absurd (let g : piece.GoesOn ≡ piece.Refused kind None = sym on ∙ again in cc)
 
-  pub declined-answers : (k : Key) (stage : Stage) (end : PieceEnd M) (began : Option Meta) (b : Option Written) (reason : NoCacheReason) (events : List Event) → AnswersAgain stage end → end ≡ piece.NotCached reason → BeginsAtHead stage began → write_in (stage_begun stage began s.next None) ≡ None → events ≡ []
+  pub declined-answers : (k : Key) (stage : Stage) (end : PieceEnd M) (began : Option Meta) (b : Option Written) (reason : NoCacheReason) (events : List Event) → AnswersAgain stage end → end ≡ piece.NotCached reason → BeginsAtHead stage began → write_in (stage_begun stage began s.next (Some s.next)) ≡ None → events ≡ []
       → AtStage s t k stage (R.NotCached reason) events
   declined-answers k InHead end began b reason events again on begins none is = (began, b, inr (inl (reason, none, (refl, is))))
   declined-answers k (InBody w id until) end None b reason events again on begins none is = none-some w none
@@ -273,7 +273,7 @@ module _ {M : Type 0} (s : Store) (t : Locks) where
   declined-answers k (IsOver kind) end began b reason events again on begins none is = absurd (let g : ◌≡◌ {A = PieceEnd M} (piece.NotCached reason) (piece.Refused kind None) = sym on ∙ again in cc)
 
   pub refused-answers : (says : Says) (size : Option Counted) (parser : Parsed) (pieces : List Piece) (f : Option Filled) (k : Key) (stage : Stage) (end : PieceEnd M) (began : Option Meta) (b : Option Written) (e kind : ErrorType) (writer : Option M) (w : Option ℕ) (events : List Event)
-      → TakenBy says size parser stage pieces f → AnswersAgain stage end → end ≡ piece.Refused e writer → kind ≡ e → BeginsAtHead stage began → MayRefusePiece stage s e ⊎ (parser ≡ HasFailed e) → w ≡ write_in (stage_begun stage began s.next None) → events ≡ piece_noted (slot k) w began b ++ drop_of w
+      → TakenBy says size parser stage pieces f → AnswersAgain stage end → end ≡ piece.Refused e writer → kind ≡ e → BeginsAtHead stage began → MayRefusePiece stage s e ⊎ (parser ≡ HasFailed e) → w ≡ write_in (stage_begun stage began s.next (Some s.next)) → events ≡ piece_noted (slot k) w began b ++ drop_of w
       → AtStage s t k stage (R.Refused kind) events
   refused-answers says size parser pieces f k InHead end began b e kind writer w events taken again on same begins why has is =
       let may : MayRefusePiece InHead s e = elim why [ inl may ↦ may | inr failed ↦ absurd (not-failed s t says size parser InHead pieces f e taken (λ z h. absurd (cc)) (λ z h. absurd (cc)) failed) ] in
@@ -333,7 +333,7 @@ pub left-drop : (w v : Option ℕ) (s u : Store) → w ≡ v → u ≡ dropped_b
 left-drop w v s u same is = is ∙ ap (λ o. dropped_by o s) (sym same)
 
 pub refused-answers-of : {M : Type 0} (s : Store) (t : Locks) (says : Says) (p : Taking) (pieces : List Piece) (f : Option Filled) (end : PieceEnd M) (began : Option Meta) (b : Option Written) (e kind : ErrorType) (writer : Option M) (w : Option ℕ) (j : ℕ) (old mid events : List Event)
-    → TakenBy says p.size p.parser p.stage pieces f → AnswersAgain p.stage end → end ≡ piece.Refused e writer → kind ≡ e → BeginsAtHead p.stage began → IfRefused end (λ z. MayRefusePiece p.stage s z ⊎ (p.parser ≡ HasFailed z)) → w ≡ write_in (stage_begun p.stage began s.next None) → j ≡ slot p.key
+    → TakenBy says p.size p.parser p.stage pieces f → AnswersAgain p.stage end → end ≡ piece.Refused e writer → kind ≡ e → BeginsAtHead p.stage began → IfRefused end (λ z. MayRefusePiece p.stage s z ⊎ (p.parser ≡ HasFailed z)) → w ≡ write_in (stage_begun p.stage began s.next (Some s.next)) → j ≡ slot p.key
     → old ≡ [] → mid ≡ old ++ piece_noted j w began b → events ≡ mid ++ drop_of w → Feeds (facts_in s t (held_put p).request) (Some p) (R.Refused kind) events
 refused-answers-of s t says p pieces f end began b e kind writer w j old mid events taken again on same begins why has at none one is =
     refused-answers s t says p.size p.parser pieces f p.key p.stage end began b e kind writer w events taken again on same begins

@@ -115,7 +115,7 @@ found-kept s k w h = kept-in s.writes (get s.slots k) w h
 
 -- the body that a pair reads
 abbrev body_in : Meta → Reader → Option Stored
-body_in m (Whole body start stop done) = Some (record { meta = m; bytes = body })
+body_in m (Whole id body start stop done) = Some (record { meta = m; bytes = body })
 body_in m (Part w place) = None
 
 abbrev body_read : Option (Meta × Reader) → Option Stored
@@ -192,7 +192,7 @@ same-part place fly_readers fly body told None = refl
 same-part place fly_readers fly body told (Some b) = refl
 
 pub reads-is : (es : List Event) (n : ℕ → ℕ) (s : Store) → IsState es n s → (rd : Reader) → ((w : ℕ) → follows w (Some rd) ≤ n w) → read_of s rd ≡ reads es rd
-reads-is es n s st (Whole body start stop done) h = refl
+reads-is es n s st (Whole id body start stop done) h = refl
 reads-is es n s st (Part w place) h =
     let most : 1 ≤ n w = subst (λ b. (if b then 1 else 0) ≤ n w) (same-number w) (h w) in
     ap (read_part place) (record-read es n s st w (omega arith)) ∙ same-part place (n w) (in_flight w es) (ev.body_of w es) (ev.is_told w es) (begin_of w es)
@@ -210,7 +210,7 @@ past-part w place (Some v) =
     ] refl
 
 pub read-past : (s : Store) (rd : Reader) → read_past (read_of s rd) rd ≡ reader_after s rd
-read-past s (Whole body start stop done) = refl
+read-past s (Whole id body start stop done) = refl
 read-past s (Part w place) = past-part w place (get s.writes w)
 
 -- ---- a write in flight

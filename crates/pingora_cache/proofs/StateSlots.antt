@@ -1,6 +1,7 @@
 -- The slots of a store: after a write began or ended, and after removals.
-use Rattle.std.proofs.Common.{◌≡◌, ℕ, ◌+◌, ◌≤◌, ◌==◌, Bool, true, false, not, cond, ◌&&◌, ◌||◌, if◌then◌else◌, Option, None, Some, is_some, is_none, List, [], ◌∷◌, refl, ap, sym, subst, ◌∙◌, arith, inl, inr}
+use Rattle.std.proofs.Common.{◌≡◌, ℕ, ◌+◌, ◌≤◌, ◌==◌, nat_eq, Bool, true, false, not, cond, ◌&&◌, ◌||◌, if◌then◌else◌, Option, None, Some, is_some, is_none, List, [], ◌∷◌, refl, ap, sym, subst, ◌∙◌, arith, inl, inr}
 use Rattle.std.specs.List.{list_any}
+use Rattle.std.specs.Option.{option_eq}
 use Rattle.std.specs.Ordering.{nat_cmp}
 use Rattle.std.specs.FinMap.{FinMap, get, insert, remove, contains_key, len, get-empty, empty_of_len}
 use Rattle.std.proofs.lemmas.Bool.{eqb-true, both_ways, and_parts, cases_lt, false_from_ne_true, and_right}
@@ -9,10 +10,10 @@ use Rattle.pcache_store.specs.Store.{Store, Slot, Stored, is_untouched_in, is_id
 use Rattle.pcache_history.specs.declared.entry.Event.{Event}
 use Rattle.pcache_history.specs.declared.entry.Event.TheVariants.{Begin, Finish, Dropped}
 use Rattle.pcache_history.specs.Events as ev
-use Rattle.pcache_history.specs.Events.{begin_of, since, removes, option_any, is_removed, has_ended, in_flight, is_told, is_of, is_open, complete}
+use Rattle.pcache_history.specs.Events.{begin_of, since, removes, option_any, is_replaced, is_removed, last_finished, has_ended, in_flight, is_told, is_of, is_open, complete}
 use Rattle.pingora_cache.specs.Sound.{record_of, IsState}
 use Rattle.pcache_history.specs.Kept.{IsTidy}
-use Rattle.pcache_history.proofs.Steps.{complete-begin, complete-finish}
+use Rattle.pcache_history.proofs.Steps.{complete-begin, complete-finish, not-stored, flies-removed}
 use Rattle.pcache_history.proofs.Sums.{same-number}
 use Rattle.pingora_cache.proofs.StateWrites.{get-set, get-unset, get-kept, changed-at, kept_as, recorded, begun-flying, record-flying}
 
@@ -32,23 +33,23 @@ busy-key x w h =
     ap (λ b. is_none x.body && b) apart ∙ and_right (is_none x.body) false refl
 
 -- a slot as it stays: taken out if it holds nothing
-abbrev tidied : Slot → Option Slot
+abbrev pub tidied : Slot → Option Slot
 tidied y = cond (is_idle y) None (Some y)
 
-tidied-body : (y : Slot) → complete_body (tidied y) ≡ y.body
+pub tidied-body : (y : Slot) → complete_body (tidied y) ≡ y.body
 tidied-body y = elim (is_idle y) as (λ t. is_idle y ≡ t → complete_body (cond t None (Some y)) ≡ y.body) [ true ↦ λ e. sym (no-body y.body (and_parts _ _ e).0) | false ↦ λ _. refl ] refl
 
-tidied-untouched : (y : Slot) (q : ℕ) → is_untouched_in q (tidied y) ≡ contains_key y.untouched q
+pub tidied-untouched : (y : Slot) (q : ℕ) → is_untouched_in q (tidied y) ≡ contains_key y.untouched q
 tidied-untouched y q = elim (is_idle y) as (λ t. is_idle y ≡ t → is_untouched_in q (cond t None (Some y)) ≡ contains_key y.untouched q) [ true ↦ λ e. sym (no-keys y.untouched (and_parts _ _ e).1 q) | false ↦ λ _. refl ] refl
 
-tidied-filled : (y z : Slot) → tidied y ≡ Some z → is_idle z ≡ false
+pub tidied-filled : (y z : Slot) → tidied y ≡ Some z → is_idle z ≡ false
 tidied-filled y z h =
     elim (is_idle y) as (λ t. is_idle y ≡ t → cond t None (Some y) ≡ Some z → is_idle z ≡ false) [
       | true ↦ λ _ e. cc
       | false ↦ λ busy e. let same : y ≡ z = cc in ap is_idle (sym same) ∙ busy
     ] refl h
 
-get-with_slot : (xs : FinMap nat_cmp Slot) (k : ℕ) (y : Slot) (q : ℕ) → get (with_slot xs k y) q ≡ cond (k == q) (tidied y) (get xs q)
+pub get-with_slot : (xs : FinMap nat_cmp Slot) (k : ℕ) (y : Slot) (q : ℕ) → get (with_slot xs k y) q ≡ cond (k == q) (tidied y) (get xs q)
 get-with_slot xs k y q = elim (is_idle y) as (λ b. get (cond b (remove xs k) (insert xs k y)) q ≡ cond (k == q) (cond b None (Some y)) (get xs q)) [ true ↦ get-unset xs k q | false ↦ get-set xs k y q ]
 
 -- a slot without the number of a write
@@ -66,7 +67,7 @@ get-shut xs k w q =
       | Some x ↦ λ _. get-with_slot xs k (cut w x) q
     ] refl
 
-gone-key : {X : Type 0} (m : FinMap nat_cmp X) (w q : ℕ) → contains_key (remove m w) q ≡ cond (w == q) false (contains_key m q)
+pub gone-key : {X : Type 0} (m : FinMap nat_cmp X) (w q : ℕ) → contains_key (remove m w) q ≡ cond (w == q) false (contains_key m q)
 gone-key m w q = ap is_some (get-unset m w q) ∙ elim (w == q) as (λ b. is_some (cond b None (get m q)) ≡ cond b false (contains_key m q)) [ true ↦ refl | false ↦ refl ]
 
 new-key : {X : Type 0} (m : FinMap nat_cmp X) (w : ℕ) (v : X) (q : ℕ) → contains_key (insert m w v) q ≡ cond (w == q) true (contains_key m q)
@@ -109,6 +110,18 @@ ended-open es w k q = inner (is_of k q es) (is_some (begin_of q es)) (has_ended 
     inner true false e r true = refl
     inner false c e r true = refl
     inner a c e r false = refl
+
+-- a finish that stores and a drop leave the same writes open
+finish-open : (es : List Event) (w k q : ℕ) → is_open k q (Dropped w ∷ es) ≡ is_open k q (Finish w true ∷ es)
+finish-open es w k q =
+    elim (has_ended q (Dropped w ∷ es)) as (λ b. has_ended q (Dropped w ∷ es) ≡ b → (is_of k q es && ((is_some (begin_of q es) && not b) && not (is_removed q (Dropped w ∷ es)))) ≡ (is_of k q es && ((is_some (begin_of q es) && not b) && not (is_removed q (Finish w true ∷ es))))) [
+      | true ↦ λ _. ap (λ b. is_of k q es && b) (never (is_some (begin_of q es)) _ _)
+      | false ↦ λ live. ap (λ r. is_of k q es && ((is_some (begin_of q es) && true) && not r)) (flies-removed q (Dropped w ∷ es) live ∙ sym (flies-removed q (Finish w true ∷ es) live))
+    ] refl
+  where
+    never : (c x y : Bool) → ((c && false) && x) ≡ ((c && false) && y)
+    never true x y = refl
+    never false x y = refl
 
 -- a write is open under its own key alone
 apart-open : (es : List Event) (w k : ℕ) (b : ℕ × Meta) → begin_of w es ≡ Some b → (b.0 == k) ≡ false → is_open k w es ≡ false
@@ -177,7 +190,7 @@ state-finished es n s w tidy fly kept st =
     (subst (λ o. IsState (Finish w true ∷ es) n (record { slots = stored_on s.slots b.0 w c o; writes = grounded s.writes w (kept_as true (n w) (ev.body_of w es) (is_told w es) b); next = s.next })) (sym g.1) (record {
       next = st.next;
       writes = ended-writes es n s st w b f.1;
-      untouched = ended-untouched es n s st w b f.1 ys (Some y) set (λ q. gone-key x.untouched w q ∙ ap (λ o. cond (w == q) false (is_untouched_in q o)) (sym g.1));
+      untouched = λ k q. ended-untouched es n s st w b f.1 ys (Some y) set (λ q. gone-key x.untouched w q ∙ ap (λ o. cond (w == q) false (is_untouched_in q o)) (sym g.1)) k q ∙ finish-open es w k q;
       bodies = λ k. ap complete_body (set k)
           ∙ elim (b.0 == k) as (λ t. complete_body (cond t (Some y) (get s.slots k)) ≡ (if t then Some c else complete_body (get s.slots k))) [ true ↦ refl | false ↦ refl ]
           ∙ ap (λ o. if b.0 == k then Some c else o) (st.bodies k) ∙ sym (complete-finish es w b.0 b.1 tidy fly f.1 kept k);
@@ -223,12 +236,12 @@ module _ (es : List Event) (n : ℕ → ℕ) (s : Store) (k : ℕ) (m : Meta) (t
       elim (s.next == q) as (λ b. (s.next == q) ≡ b
       → (option_any (λ (c : ℕ × Meta). c.0 == j) (if b then Some (k, numbered s.next m) else begin_of q es)
       && ((is_some (if b then Some (k, numbered s.next m) else begin_of q es) && not (has_ended q es))
-      && not (option_any (λ (c : ℕ × Meta). list_any (removes c.0) (if b then [] else Begin s.next k m ∷ since q es)) (if b then Some (k, numbered s.next m) else begin_of q es))))
+      && not (option_any (λ (c : ℕ × Meta). list_any (removes c.0 q) (if b then [] else Begin s.next k m ∷ since q es) || is_replaced c.0 q es) (if b then Some (k, numbered s.next m) else begin_of q es))))
       ≡ (if b then k == j else is_open j q es)) [
         | true ↦ λ t.
             let same : s.next ≡ q = eqb-true s.next q t in
             let live : has_ended q es ≡ false = tidy.not_ended q (let h = first-number in omega arith) in
-            ap (λ e. (k == j) && (not e && true)) live ∙ last_true (k == j)
+            (λ i. (k == j) && (not (live i) && not (not-stored q es live i && not (option_eq nat_eq (last_finished k es) (Some q))))) ∙ last_true (k == j)
         | false ↦ λ _. refl
       ] refl
     where

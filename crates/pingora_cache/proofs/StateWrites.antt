@@ -166,14 +166,14 @@ module _ (es : List Event) (n m : ℕ → ℕ) (s : Store) (w place : ℕ) (coun
 
 pub state-left_by : (es : List Event) (n m : ℕ → ℕ) (s : Store) (reader : Option Reader) → ((q : ℕ) → n q ≡ m q + follows q reader) → IsState es n s → IsState es m (left_by reader s)
 state-left_by es n m s None count st = state-same es n m s (λ q. let e = count q in omega arith) st
-state-left_by es n m s (Some (Whole body start stop done)) count st = state-same es n m s (λ q. let e = count q in omega arith) st
+state-left_by es n m s (Some (Whole id body start stop done)) count st = state-same es n m s (λ q. let e = count q in omega arith) st
 state-left_by es n m s (Some (Part w place)) count st = state-left es n m s w place count st
 
 -- ---- pairs that are given
 
 -- the write that a pair's reader follows
 abbrev pub read_in : Reader → Option ℕ
-read_in (Whole body start stop done) = None
+read_in (Whole id body start stop done) = None
 read_in (Part w place) = Some w
 
 abbrev pub part_of : Option (Meta × Reader) → Option ℕ
@@ -185,5 +185,5 @@ state-followed es n m s None there count st = state-same es n m s (λ q. let e =
 state-followed es n m s (Some p) there count st = inner p.1 there count
   where
     inner : (r : Reader) → ((w : ℕ) → read_in r ≡ Some w → is_some (get s.writes w) ≡ true) → ((q : ℕ) → m q ≡ n q + follows q (Some r)) → IsState es m (followed_by s r)
-    inner (Whole body start stop done) there count = state-same es n m s (λ q. let e = count q in omega arith) st
+    inner (Whole id body start stop done) there count = state-same es n m s (λ q. let e = count q in omega arith) st
     inner (Part w place) there count = state-joined es n m s w (there w refl) count st

@@ -364,7 +364,7 @@ looks_on-alike false f k a rd x reply events = hands-alike (is_unseen x.valid_af
 
 looks-alike : (f : Facts) (rd : permits.Reader) (x : Held) (reply : Reply) (events : List Event) → Looks f (unlocked (open_with (Some (Read rd)) x)) reply events ≡ Looks f (open_with (Some (Read rd)) x) reply events
 looks-alike f rd x reply events = λ i.
-    IsStarved reply events
+    (IsSome f.found × IsStarved reply events)
     ⊎ ((k : Key) × (a : Answer) × (x.request.key ≡ Some k) × (pair_of a ≡ f.found) × looks_on-alike (is_deferral (decides a x)) f (slot k) a rd x.request reply events i)
 
 takes-alike : (f : Facts) (s : HitStatus) (rd : permits.Reader) (x : Request) (p : Option (Meta × Reader)) (reply : Reply) (events : List Event) → Takes f s (untold_request (holding (Some (Read rd)) x)) p reply events ≡ Takes f s (holding (Some (Read rd)) x) p reply events
@@ -437,10 +437,10 @@ facts-untold s t (Some x) = record { next = refl; found = refl; there = refl; co
 -- ---- what is made, named, read and said
 
 pub world-untold : (x : Request) → IsOfWorld x → IsOfWorld (untold_request x)
-world-untold x is = record { eviction = is.eviction; unnumbered = is.unnumbered; fills = is.fills }
+world-untold x is = record { eviction = is.eviction; fills = is.fills }
 
 pub world-told : (x : Request) → IsOfWorld (untold_request x) → IsOfWorld x
-world-told x is = record { eviction = is.eviction; unnumbered = is.unnumbered; fills = is.fills }
+world-told x is = record { eviction = is.eviction; fills = is.fills }
 
 pub keeps-untold : (q q' : Option Held) → KeepsKey q q' → KeepsKey (option_map untold q) (option_map untold q')
 keeps-untold None None keeps = keeps

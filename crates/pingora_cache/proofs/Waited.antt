@@ -70,7 +70,7 @@ aged-quiet b n old events none is = subst AreQuiet (sym (is ∙ ap (λ es. es ++
 pub wait-keeps : (t : Locks) (now : ℕ) (held : Option Locked) (x : Request) → KeepsIn x (waited t now held x)
 wait-keeps t now None x world = (world, λ some. refl)
 wait-keeps t now (Some (Write p)) x world = (world, λ some. refl)
-wait-keeps t now (Some (Read rd)) x world = (record { eviction = world.eviction; unnumbered = world.unnumbered; fills = world.fills }, λ some. refl)
+wait-keeps t now (Some (Read rd)) x world = (record { eviction = world.eviction; fills = world.fills }, λ some. refl)
 
 pub wait-reader : (t : Locks) (now : ℕ) (held : Option Locked) (x : Request) → (waited t now held x).reader ≡ x.reader
 wait-reader t now None x = refl

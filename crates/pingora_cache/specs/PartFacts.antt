@@ -20,6 +20,10 @@ abbrev pub complete_for : Store → Option Key → Bool
 complete_for s None = false
 complete_for s (Some k) = is_some (store.complete_body (map.get s.slots (slot k)))
 
+abbrev pub number_for : Store → Option Key → Option ℕ
+number_for s None = None
+number_for s (Some k) = store.number_of_body (store.complete_body (map.get s.slots (slot k)))
+
 abbrev pub given_by : Store → Option Reader → Poll (Option (List ℕ))
 given_by s None = Ready None
 given_by s (Some rd) = read_of s rd
@@ -42,6 +46,7 @@ facts_for s t x taker = record {
   found = found_for s x.key;
   there = there_for s x.key;
   complete = complete_for s x.key;
+  number = number_for s x.key;
   given = given_by s x.reader;
   told = told_of s x.write;
   untouched = untouched_for s x.write;

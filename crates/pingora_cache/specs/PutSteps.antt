@@ -1,8 +1,6 @@
 -- How the end of a put is noted and answered, as the code makes it (own).
 use Rattle.std.specs.Prelude.{ℕ, true, Option, None, Some, IsSome, List, [], ◌∷◌, length}
 use Rattle.pcache_evict.specs.declared.eviction.entry_key.CacheEntryKey.{CacheEntryKey}
-use Rattle.pcache_evict.specs.declared.eviction.entry_key.CacheEntryKey.TheVariants.{KeyOnly}
-use Rattle.pcache_evict.specs.Entry.{key_of}
 use Rattle.pcache_put_ctx.specs.declared.report.PutEnd.{PutEnd}
 use Rattle.pcache_put_ctx.specs.declared.report.PutEnd.TheVariants as end
 use Rattle.pcache_history.specs.declared.call.Reply.{Reply}
@@ -33,7 +31,7 @@ end_reply (end.Withdrawn e) = R.Refused e
 
 abbrev pub admit_noted : ℕ → List CacheEntryKey → Option CacheEntryKey → List Event
 admit_noted n out None = []
-admit_noted n out (Some e) = E.Admit (KeyOnly (key_of e)) n out ∷ []
+admit_noted n out (Some e) = E.Admit e n out ∷ []
 
 abbrev pub end_noted : ℕ → ℕ → PutEnd → Option CacheEntryKey → List Event
 end_noted w k (end.Stored f) entry = E.Finish w true ∷ admit_noted f.size f.evicted.items entry

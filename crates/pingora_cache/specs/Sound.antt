@@ -23,7 +23,7 @@ use Rattle.pcache_history.specs.Legal.{IsLegal}
 -- how many readers of a write there are: in one request, and in all
 abbrev pub follows : ℕ → Option Reader → ℕ
 follows w None = 0
-follows w (Some (Whole body start stop done)) = 0
+follows w (Some (Whole id body start stop done)) = 0
 follows w (Some (Part x place)) = if x == w then 1 else 0
 
 abbrev pub readers_in : ℕ → Held → ℕ

@@ -1,6 +1,7 @@
 #![tactic(auto)]
 //! Tests of a cache as one value, which a proxy's request goes through.
 
+mod managers;
 mod requests;
 
 use bytes::Bytes;

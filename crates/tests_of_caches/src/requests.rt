@@ -1,4 +1,4 @@
-//! Requests of a cache over one recency list, in few words.
+//! Requests of a cache over any manager, in few words.
 ghost use Rattle.std.specs.Prelude.{◌≡◌, IfOk, OnOk, true};
 ghost use Rattle.pcache_request.specs.Phases.{MayLookUp};
 ghost use Rattle.pcache_request.specs.declared.phase.CachePhase.TheVariants.{CacheKey};
@@ -10,6 +10,7 @@ use pcache_base::moment::Moment;
 use pcache_base::poll::Poll;
 use pcache_base::seed::Seed;
 use pcache_cache::{Cache, CacheRequest};
+use pcache_evict::eviction::EvictionManager;
 use pcache_evict::eviction::simple_lru::Manager;
 use pcache_meta::header::ResponseHeader;
 use pcache_meta::meta::CacheMeta;
@@ -51,14 +52,22 @@ pub fn request_for(alloc: Global, name: &str) -> Result<Request>
 }
 
 /// Looks a key up and fills it with this body if nothing is there. Returns whether it did.
-pub fn fill(cache: &mut List, name: &str, body: &'static [u8]) -> Result<bool> {
+pub fn fill<M: EvictionManager>(
+    cache: &mut Cache<M, OfTest>,
+    name: &str,
+    body: &'static [u8],
+) -> Result<bool> {
     let mut request = request_for(cache.alloc(), name)?;
     let filled = fill_in(cache, &mut request, body);
     cache.end(request);
     filled
 }
 
-fn fill_in(cache: &mut List, request: &mut Request, body: &'static [u8]) -> Result<bool>
+fn fill_in<M: EvictionManager>(
+    cache: &mut Cache<M, OfTest>,
+    request: &mut Request,
+    body: &'static [u8],
+) -> Result<bool>
     requires phase { request.old.cache.phase ≡ CacheKey }
     requires uses { request.old.cache.uses.eviction ≡ true }
 {
@@ -79,14 +88,22 @@ fn meta_of(alloc: Global) -> CacheMeta {
 }
 
 /// Whether a key is found with this body, which is a use of it.
-pub fn finds(cache: &mut List, name: &str, body: &[u8]) -> Result<bool> {
+pub fn finds<M: EvictionManager>(
+    cache: &mut Cache<M, OfTest>,
+    name: &str,
+    body: &[u8],
+) -> Result<bool> {
     let mut request = request_for(cache.alloc(), name)?;
     let found = find_in(cache, &mut request, body);
     cache.end(request);
     found
 }
 
-fn find_in(cache: &mut List, request: &mut Request, body: &[u8]) -> Result<bool>
+fn find_in<M: EvictionManager>(
+    cache: &mut Cache<M, OfTest>,
+    request: &mut Request,
+    body: &[u8],
+) -> Result<bool>
     requires { request.old.cache.phase ≡ CacheKey }
 {
     let Some((meta, hit)) = cache.cache_lookup(request, NOW)? else {
@@ -101,7 +118,7 @@ fn find_in(cache: &mut List, request: &mut Request, body: &[u8]) -> Result<bool>
 }
 
 /// Purges a key, and returns whether anything was there.
-pub fn purges(cache: &mut List, name: &str) -> Result<bool> {
+pub fn purges<M: EvictionManager>(cache: &mut Cache<M, OfTest>, name: &str) -> Result<bool> {
     let mut request = request_for(cache.alloc(), name)?;
     let was_there = cache.purge(&mut request);
     cache.end(request);

@@ -5,6 +5,8 @@ use pcache_base::error::{Error, ErrorType, Result};
 use pcache_files::device::{Counted, CountedRead, CountedWrite};
 use pcache_files::simple_lru::{load_from, save_to};
 use std::alloc::Global;
+use std::io;
+use std::io::{ErrorKind, Read, Write};
 use std::test::*;
 
 // The most bytes of one call.
@@ -171,6 +173,72 @@ fn goes_round(alloc: Global) -> Result<bool> {
 #[test]
 fn readers_and_writers_of_std_are_counted(rt: HostRuntime) -> std::result::Result<(), Fail> {
     let does = goes_round(rt.alloc())?;
+    assert!(rt; does);
+    Ok(())
+}
+
+// Interrupts every other call, and takes and gives one byte at a time.
+#[derive(Drop)]
+struct Interrupted<T> {
+    device: T,
+    calls: u64,
+}
+
+impl<T> Interrupted<T> {
+    // Counts a call, and interrupts it if its number is even.
+    fn count(&mut self) -> io::Result<()> {
+        let is_even = self.calls & 1 == 0;
+        self.calls = self.calls.wrapping_add(1);
+        if is_even {
+            return Err(io::Error::from(ErrorKind::Interrupted));
+        }
+        Ok(())
+    }
+}
+
+impl<T: Read> Read for Interrupted<T> {
+    fn read(&mut self, buf: &mut [u8]) -> io::Result<usize> {
+        self.count()?;
+        let room = buf.len().min(1);
+        self.device.read(&mut buf[..room])
+    }
+}
+
+impl<T: Write> Write for Interrupted<T> {
+    fn write(&mut self, buf: &[u8]) -> io::Result<usize> {
+        self.count()?;
+        self.device.write(&buf[..buf.len().min(1)])
+    }
+
+    fn flush(&mut self) -> io::Result<()> {
+        self.count()?;
+        self.device.flush()
+    }
+}
+
+// Whether interrupted calls are made again, and none of them counts.
+fn goes_round_interrupted(alloc: Global) -> Result<bool> {
+    let mut writer = Counted::new(Interrupted {
+        device: Vec::new(alloc),
+        calls: 0,
+    });
+    save_to(alloc, &with_aa(alloc)?, &mut writer)?;
+    let mut manager = with_z(alloc)?;
+    let mut reader = Counted::new(Interrupted {
+        device: AA.as_slice(),
+        calls: 0,
+    });
+    load_from(alloc, &mut manager, &mut reader)?;
+    Ok(
+        CountedWrite::failures(&writer) == 0
+            && CountedRead::failures(&reader) == 0
+            && holds(alloc, &manager, " z1 \u{ac}9")?,
+    )
+}
+
+#[test]
+fn interrupted_calls_are_made_again(rt: HostRuntime) -> std::result::Result<(), Fail> {
+    let does = goes_round_interrupted(rt.alloc())?;
     assert!(rt; does);
     Ok(())
 }

@@ -84,17 +84,48 @@ fn a_list_in_a_folder(rt: HostRuntime) -> std::result::Result<(), Fail> {
     Ok(())
 }
 
+// What stands under a temporary name is never written to: the next suffix is taken.
 #[test]
-fn a_failed_save_leaves_the_older_file(rt: HostRuntime) -> std::result::Result<(), Fail> {
+fn a_temporary_name_that_is_taken(rt: HostRuntime) -> std::result::Result<(), Fail> {
     let alloc = rt.alloc();
-    let _ = fs::remove_dir_all(&rt, "failing");
-    save_aa(alloc, &rt, "failing", 1)?;
-    // a folder stands where the temporary file would
-    fs::create_dir_all(&rt, "failing/simple_lru.data.000000ff.tmp")?;
-    let is_refused = z_is_not_saved(alloc, &rt, "failing", 255)?;
+    let _ = fs::remove_dir_all(&rt, "taken");
+    fs::create_dir_all(&rt, "taken/simple_lru.data.ffffffff.tmp")?;
+    fs::write(&rt, "taken/simple_lru.data.00000000.tmp", b"another's")?;
+    save_aa(alloc, &rt, "taken", u32::MAX)?;
+    assert!(rt; has(&rt, "taken/simple_lru.data", &AA));
+    assert!(rt; has(&rt, "taken/simple_lru.data.00000000.tmp", b"another's"));
+    let is_there = fs::exists(&rt, "taken/simple_lru.data.00000001.tmp")?;
+    assert!(rt; !is_there);
+    fs::remove_dir_all(&rt, "taken")?;
+    Ok(())
+}
+
+// Makes the file of each suffix from the first to the last.
+fn take_suffixes<R: Files>(alloc: Global, files: &R, last: u32) -> Result<bool> {
+    for suffix in 1..last {
+        let path = format!(in alloc; "all_taken/simple_lru.data.{suffix:08x}.tmp")?;
+        if fs::write(files, path.as_str(), b"x").is_err() {
+            return Ok(false);
+        }
+    }
+    Ok(true)
+}
+
+// After 64 suffixes a save is refused, and the older file stays.
+#[test]
+fn all_temporary_names_are_taken(rt: HostRuntime) -> std::result::Result<(), Fail> {
+    let alloc = rt.alloc();
+    let _ = fs::remove_dir_all(&rt, "all_taken");
+    save_aa(alloc, &rt, "all_taken", 1)?;
+    let are_taken = take_suffixes(alloc, &rt, 65)?;
+    assert!(rt; are_taken);
+    let is_refused = z_is_not_saved(alloc, &rt, "all_taken", 1)?;
     assert!(rt; is_refused);
-    assert!(rt; has(&rt, "failing/simple_lru.data", &AA));
-    fs::remove_dir_all(&rt, "failing")?;
+    assert!(rt; has(&rt, "all_taken/simple_lru.data", &AA));
+    let is_refused = z_is_not_saved(alloc, &rt, "all_taken", 2)?;
+    assert!(rt; !is_refused);
+    assert!(rt; !has(&rt, "all_taken/simple_lru.data", &AA));
+    fs::remove_dir_all(&rt, "all_taken")?;
     Ok(())
 }
 
@@ -149,6 +180,8 @@ fn each_call_on_files_fails_in_turn(rt: HostRuntime) -> std::result::Result<(), 
         let is_told = save_fails(alloc, &rt, "turns", good_calls)?;
         assert!(rt; is_told, "{good_calls}");
         assert!(rt; has(&rt, "turns/simple_lru.data", &AA));
+        let is_left = fs::exists(&rt, "turns/simple_lru.data.00000001.tmp")?;
+        assert!(rt; !is_left);
     }
     for good_calls in 0..3 {
         let is_told = load_fails(alloc, &rt, "turns", good_calls)?;
@@ -226,17 +259,87 @@ fn shards_are_not_saved<R: Files>(
     Ok(refuses_to_save(alloc, files, &shards, dir, suffix))
 }
 
+// The same of a save of shards if the call on files after so many good ones fails.
+fn shards_fail<R: Files>(alloc: Global, files: &R, dir: &str, good_calls: u64) -> Result<bool> {
+    let left = AtomicU64::new(good_calls);
+    shards_are_not_saved(alloc, &Failing::new(files, &left), dir, 1)
+}
+
+// Whether new shards that load a folder answer this and hold these, if the call on files after so many good ones fails.
+fn shards_skip<R: Files>(
+    alloc: Global,
+    files: &R,
+    good_calls: u64,
+    answer: &str,
+    wanted: &str,
+) -> Result<bool> {
+    let left = AtomicU64::new(good_calls);
+    shards_load(
+        alloc,
+        &Failing::new(files, &left),
+        "shard_reads",
+        answer,
+        wanted,
+    )
+}
+
+// Whether no temporary file of a shard is left.
+fn are_taken_away<R: Files>(files: &R) -> bool {
+    is_absent(files, "shard_turns/lru.data.0.00000001.tmp")
+        && is_absent(files, "shard_turns/lru.data.1.00000001.tmp")
+}
+
+fn is_absent<R: Files>(files: &R, path: &str) -> bool {
+    match fs::exists(files, path) {
+        Ok(is_there) => !is_there,
+        Err(_) => false,
+    }
+}
+
+// A save opens, writes, flushes and renames for each shard. A shard that was refused keeps its older file, those before
+// it are saved.
 #[test]
-fn a_failed_shard_fails_the_save(rt: HostRuntime) -> std::result::Result<(), Fail> {
+fn each_call_on_files_of_shards_fails_in_turn(rt: HostRuntime) -> std::result::Result<(), Fail> {
     let alloc = rt.alloc();
-    let _ = fs::remove_dir_all(&rt, "failing_shards");
-    // a folder stands where the temporary file of the second shard would
-    fs::create_dir_all(&rt, "failing_shards/lru.data.1.000000ff.tmp")?;
-    fs::write(&rt, "failing_shards/lru.data.1", &AA)?;
-    let is_refused = shards_are_not_saved(alloc, &rt, "failing_shards", 255)?;
-    assert!(rt; is_refused);
-    assert!(rt; has(&rt, "failing_shards/lru.data.1", &AA));
-    fs::remove_dir_all(&rt, "failing_shards")?;
+    let _ = fs::remove_dir_all(&rt, "shard_turns");
+    fs::create_dir_all(&rt, "shard_turns")?;
+    fs::write(&rt, "shard_turns/lru.data.1", &AA)?;
+    for good_calls in 0..8 {
+        let is_told = shards_fail(alloc, &rt, "shard_turns", good_calls)?;
+        assert!(rt; is_told, "{good_calls}");
+        assert!(rt; has(&rt, "shard_turns/lru.data.1", &AA));
+        assert!(rt; are_taken_away(&rt), "{good_calls}");
+        let is_new = fs::exists(&rt, "shard_turns/lru.data.0")?;
+        assert!(rt; is_new == (good_calls > 3), "{good_calls}");
+    }
+    let is_refused = shards_fail(alloc, &rt, "shard_turns", 8)?;
+    assert!(rt; !is_refused);
+    assert!(rt; !has(&rt, "shard_turns/lru.data.1", &AA));
+    fs::remove_dir_all(&rt, "shard_turns")?;
+    Ok(())
+}
+
+// A load opens and reads each file, the last time nothing; one of which a call fails is skipped, and the other is loaded.
+fn shards_are_skipped_in_turn<R: Files>(alloc: Global, files: &R) -> Result<bool> {
+    two_shards(alloc)?.save(alloc, files, "shard_reads", 7)?;
+    Ok(
+        shards_skip(alloc, files, 0, "1", " a1")?
+            && shards_skip(alloc, files, 1, "1", " a1")?
+            && shards_skip(alloc, files, 2, "1", " a1")?
+            && shards_skip(alloc, files, 3, "1", " b2")?
+            && shards_skip(alloc, files, 4, "1", " b2")?
+            && shards_skip(alloc, files, 5, "1", " b2")?
+            && shards_skip(alloc, files, 6, "0", " b2 a1")?,
+    )
+}
+
+#[test]
+fn each_read_of_shards_fails_in_turn(rt: HostRuntime) -> std::result::Result<(), Fail> {
+    let alloc = rt.alloc();
+    let _ = fs::remove_dir_all(&rt, "shard_reads");
+    let are_told = shards_are_skipped_in_turn(alloc, &rt)?;
+    assert!(rt; are_told);
+    fs::remove_dir_all(&rt, "shard_reads")?;
     Ok(())
 }
 

@@ -8,8 +8,14 @@ mod bytes;
 #[cfg(test)]
 mod devices;
 #[cfg(test)]
+mod endless;
+#[cfg(test)]
 mod failing;
 #[cfg(test)]
 mod folders;
 #[cfg(test)]
+mod large;
+#[cfg(test)]
 mod parts;
+#[cfg(test)]
+mod slow;

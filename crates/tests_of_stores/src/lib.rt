@@ -14,6 +14,8 @@ mod managers;
 #[cfg(test)]
 mod memory;
 #[cfg(test)]
+mod noted;
+#[cfg(test)]
 mod puts;
 #[cfg(test)]
 mod random_locks;
@@ -29,3 +31,5 @@ mod sharded_lru;
 mod simple_lru;
 #[cfg(test)]
 mod storage;
+#[cfg(test)]
+mod whole_store;

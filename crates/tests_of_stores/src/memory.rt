@@ -20,12 +20,12 @@ use std::process::Abort;
 mod handlers;
 mod pieces;
 
-fn key_of(alloc: Global, name: &str) -> Result<CacheKey> {
+pub fn key_of(alloc: Global, name: &str) -> Result<CacheKey> {
     let primary = name.as_bytes().to_vec(alloc)?;
     Ok(CacheKey::new(primary, String::from_str(alloc, "1")?))
 }
 
-fn meta_until(alloc: Global, fresh_until: u64) -> CacheMeta {
+pub fn meta_until(alloc: Global, fresh_until: u64) -> CacheMeta {
     let header = ResponseHeader::build(alloc, StatusCode::OK);
     let until = Moment::from_secs(fresh_until);
     CacheMeta::new(until, Moment::EPOCH, 30, 30, header)
@@ -663,10 +663,24 @@ const REMOVALS_NAME_WHAT_THEY_REMOVE: &str = "
     1 begins a
     1 writes x
     1 finishes -> Created(1)
-    purge-exact a 1 -> NotFound
+    purge-exact a 0 -> NotFound
+    purge-exact b 1 -> NotFound
     1 looks a -> hit 1 until 300
+    2 begins a
+    purge-exact a 1 -> Purged(Some(CacheEntryId { number: 1 }))
+    purge-exact a 1 -> NotFound
+    2 looks a -> part until 300
+    purge-exact a 2 -> Purged(Some(CacheEntryId { number: 2 }))
+    2 gives-up
+    2 ends
+    1 looks a -> none
+    1 begins a
+    2 begins a
+    2 writes xy
+    2 finishes -> Created(2)
     purge-exact a -> Purged(None)
     1 looks a -> none
+    1 finishes -> WriteRemoved
     writes -> 0
     close
     total -> 0 bytes in 0, 0 writes";

@@ -471,6 +471,28 @@ const ANSWERS: &str = r#"
     finish -> InvalidHttpHeader
     total -> 0 bytes, weight 0, 0 writes
 
+    # no head, since a value has a zero byte, which is seen once the head has ended
+    feed HTTP/1.1 200 OK\r\nA: a\0b\r\n\r\nrust -> InvalidHttpHeader
+    feed rust -> InvalidHttpHeader
+    finish -> InvalidHttpHeader
+    total -> 0 bytes, weight 0, 0 writes
+
+    feed HTTP/1.1 200 OK\r\nA: a -> goes on
+    feed \0 -> goes on
+    feed b\r\n -> goes on
+    feed \r\n -> InvalidHttpHeader
+    finish -> InvalidHttpHeader
+    total -> 0 bytes, weight 0, 0 writes
+
+    # a head that never ends
+    feed HTTP/1.1 200 OK\r\n -> goes on
+    feed A: a\r\n -> goes on
+    feed A: a\r\n -> goes on
+    feed A: a\r\n -> goes on
+    feed A: a -> goes on
+    finish -> IncompleteHttpBody
+    total -> 0 bytes, weight 0, 0 writes
+
     # a length that is private
     feed HTTP/1.1 200 OK\r\nCache-Control: private="content-length"\r\nContent-Length: 4\r\n\r\n -> goes on
     feed rust -> goes on

@@ -69,7 +69,8 @@ fn written(bytes: Result<Vec<u8>>, told: &mut Told) {
     }
 }
 
-fn tell_read(read: Result<InternalMetaV3>, told: &mut Told) {
+/// What was read of a meta, or why it was refused.
+pub fn tell_read(read: Result<InternalMetaV3>, told: &mut Told) {
     match read {
         Ok(meta) => tell_meta(&meta, told),
         Err(refused) => told.refused(&refused),

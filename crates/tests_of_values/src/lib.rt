@@ -10,6 +10,8 @@ mod blake2b;
 #[cfg(test)]
 mod cache_control;
 #[cfg(test)]
+mod changed_metas;
+#[cfg(test)]
 mod freshness;
 #[cfg(test)]
 mod full_maps;

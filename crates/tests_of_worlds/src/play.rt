@@ -5,6 +5,7 @@ use crate::script::{Clock, Line, asked_of, call_of, line_of};
 use pcache_base::error::Result;
 use pcache_base::seed::Seed;
 use pcache_evict::eviction::{EvictionManager, sharded_lru, simple_lru};
+use pcache_policies::{s3_fifo, sieve};
 use pingora_cache::world::call::{Call, Reply};
 use pingora_cache::world::entry::Entry;
 use pingora_cache::world::policy::BySelf;
@@ -108,6 +109,25 @@ pub fn play_on_both(
 ) -> std::result::Result<(), Fail> {
     play(rt, alloc, limits, first, text)?;
     play_sharded::<1>(rt, alloc, limits, first, text)
+}
+
+/// Plays two texts over a manager whose list has a hand, and over one with two queues. The texts may not depend on which
+/// entries go first.
+pub fn play_on_policies(
+    rt: &impl Abort,
+    alloc: Global,
+    limits: Limits,
+    first: &'static str,
+    text: &'static str,
+) -> std::result::Result<(), Fail> {
+    let Limits { weight, watermark } = limits;
+    let seed = Seed::fixed();
+    let hand = sieve::Manager::new_with_watermark(alloc, seed, weight, watermark)?;
+    let mut world = World::new(alloc, seed, hand, Duration::from_secs(10));
+    play_together(rt, alloc, &mut world, first, text)?;
+    let queues = s3_fifo::Manager::new_with_watermark(alloc, seed, weight, watermark)?;
+    let mut world = World::new(alloc, seed, queues, Duration::from_secs(10));
+    play_together(rt, alloc, &mut world, first, text)
 }
 
 /// Makes the calls of each text in one run. What is told of the replies is the text, and each call

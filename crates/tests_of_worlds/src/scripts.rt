@@ -160,8 +160,8 @@ fn one_slot_under_two_tags(rt: HostRuntime) -> Result<(), Fail> {
         end 2 -> ok\n\
         open 3 -> ok\n\
         key 3 aa 1 -> ok\n\
-        look 3 -> none write\n\
-        stat -> stored 0 slots 0 weight 2 items 1 evicted 1 size 3\n";
+        look 3 -> hit 2\n\
+        stat -> stored 2 slots 1 weight 2 items 1 evicted 1 size 3\n";
     check(&rt, rt.alloc(), &["4"], row, 0, "")
 }
 

@@ -278,7 +278,7 @@ fn a_hit_that_is_passed_over(rt: HostRuntime) -> Result<(), Fail> {
         begin 2 -> Done\n\
         write 2 abc -> Done\n\
         finish 2 -> Stored { size: 3, evicted: 0 }\n\
-        stat -> 3 in 1, Totals { weight: 3, items: 1, evicted_weight: 0, evicted_items: 0 }, 0 before\n";
+        stat -> 3 in 1, Totals { weight: 5, items: 2, evicted_weight: 0, evicted_items: 0 }, 0 before\n";
     play(&rt, rt.alloc(), Limits::weight(9), FILLED, rows)
 }
 

@@ -4,10 +4,10 @@ ghost use Rattle.std.specs.Prelude.{◌≡◌, true, false, IfOk, IfErr, ◌⊎�
 ghost use Rattle.pcache_base.specs.declared.error.ErrorType.TheVariants.{OutOfMemory};
 ghost use Rattle.pcache_base.specs.CompactKey.{compact_of};
 ghost use Rattle.pcache_evict.specs.Tracked.{evicted_with};
-ghost use Rattle.pcache_store.specs.Purge.{purged_at};
+ghost use Rattle.pcache_store.specs.Purge.{entry_purged};
 ghost use Rattle.pcache_store.specs.Refusals.{MayRefuseFinish};
 ghost use Rattle.pcache_store.specs.Store.{dropped, finished, is_untouched};
-ghost use Rattle.pcache_request.specs.Finishing.{PurgesAll, Admits, entry_slot, size_told, with_entry};
+ghost use Rattle.pcache_request.specs.Finishing.{PurgesAll, Admits, size_told, with_entry};
 ghost use Rattle.pcache_request.specs.Reports.{entry_stored};
 ghost use Rattle.pcache_request.specs.Requests.{entry_of};
 ghost use Rattle.pcache_request.specs.WriteEnds.{EndsBody, HoldsNoLock, evicted_by};
@@ -33,8 +33,8 @@ pub struct EndedWrite {
 // Purges an entry, and tells whether that was refused.
 fn is_purge_refused<S: Storage>(storage: &mut S, entry: &CacheEntryKey) -> bool
     ensures refused { result ≡ true → S.state storage.new ≡ S.state storage.old }
-    ensures purged { result ≡ false → S.state storage.new ≡ purged_at (S.state storage.old) (entry_slot entry.now) }
-    ensures sure { S.always_purges ≡ true → result ≡ false }
+    ensures purged { result ≡ false → S.state storage.new ≡ entry_purged S.guarantees.numbers (S.state storage.old) entry.now }
+    ensures sure { S.guarantees.purges ≡ true → result ≡ false }
 {
     storage
         .purge(PurgeTarget::Exact(entry), PurgeType::Eviction)
@@ -43,8 +43,8 @@ fn is_purge_refused<S: Storage>(storage: &mut S, entry: &CacheEntryKey) -> bool
 
 // Purges each entry in order, and counts those that were refused.
 fn purge_all<S: Storage>(storage: &mut S, entries: &[CacheEntryKey]) -> usize
-    ensures purges { PurgesAll (S.state storage.old) entries.now result (S.state storage.new) }
-    ensures sure { S.always_purges ≡ true → result ≡ 0 }
+    ensures purges { PurgesAll S.guarantees.numbers (S.state storage.old) entries.now result (S.state storage.new) }
+    ensures sure { S.guarantees.purges ≡ true → result ≡ 0 }
 {
     let mut failed = 0usize;
     for entry in entries {
@@ -92,8 +92,8 @@ fn admit_and_purge<S: Storage, E: EvictionManager>(
 ) -> Result<FinishReport>
     ensures size { IfOk result (λ f. f.size ≡ size_told kind) }
     ensures admits { IfOk result (λ f. Admits is_used (E.limits eviction.old) kind entry (E.tracked eviction.old) f.evicted.items (E.tracked eviction.new)) }
-    ensures purges { IfOk result (λ f. PurgesAll (S.state storage.old) f.evicted.items f.failed_purges (S.state storage.new)) }
-    ensures sure { IfOk result (λ f. S.always_purges ≡ true → f.failed_purges ≡ 0) }
+    ensures purges { IfOk result (λ f. PurgesAll S.guarantees.numbers (S.state storage.old) f.evicted.items f.failed_purges (S.state storage.new)) }
+    ensures sure { IfOk result (λ f. S.guarantees.purges ≡ true → f.failed_purges ≡ 0) }
     ensures evicted { IfOk result (λ f. E.evicted eviction.new ≡ cond is_used (evicted_with (E.evicted eviction.old) (with_entry kind entry (E.tracked eviction.old)) f.evicted.items) (E.evicted eviction.old)) }
     ensures same_store { OnErr result (S.state storage.new ≡ S.state storage.old) }
     ensures same_tracked { OnErr result (E.tracked eviction.new ≡ E.tracked eviction.old) }
@@ -169,7 +169,7 @@ pub fn end_writer<S: Storage, E: EvictionManager>(
     writer: S::Miss,
     fresh_until: Moment,
 ) -> EndedWrite
-    ensures end { EndsBody S.always_purges is_used (S.Miss.entry_number writer) HoldsNoLock key.now (S.Miss.write writer) (S.finishes storage.old (S.Miss.write writer)) (E.limits eviction.old) result.end (S.state storage.old) (S.state storage.new) (E.tracked eviction.old) (E.tracked eviction.new) }
+    ensures end { EndsBody S.guarantees is_used (S.Miss.entry_number writer) HoldsNoLock key.now (S.Miss.write writer) (S.finishes storage.old (S.Miss.write writer)) (E.limits eviction.old) result.end (S.state storage.old) (S.state storage.new) (E.tracked eviction.old) (E.tracked eviction.new) }
     ensures entry { result.entry ≡ entry_stored (Some key.now) (S.Miss.entry_number writer) result.end }
     ensures evicted { E.evicted eviction.new ≡ evicted_by is_used (S.Miss.entry_number writer) key.now (S.finishes storage.old (S.Miss.write writer)) (E.tracked eviction.old) (E.evicted eviction.old) result.end }
     ensures limits { E.limits eviction.new ≡ E.limits eviction.old }

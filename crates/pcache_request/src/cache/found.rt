@@ -1,6 +1,7 @@
 //! Taking what a look-up found.
 ghost use Rattle.std.specs.Prelude.{◌≡◌, IfOk, IfErr, OnOk, OnErr, Some, None, cond, not, ◌&&◌};
 ghost use Rattle.pcache_base.specs.declared.error.ErrorType.TheVariants.{OutOfMemory};
+ghost use Rattle.pcache_store.specs.Purge.{entry_read};
 ghost use Rattle.pcache_store.specs.Store.{counts_access, reader_weight};
 ghost use Rattle.pcache_evict.specs.Tracked.{added};
 ghost use Rattle.pcache_request.specs.Phases as phases;
@@ -24,8 +25,8 @@ fn note_access<S: Storage, E: EvictionManager>(
     hit: &S::Hit,
     status: HitStatus,
 ) -> Result<Option<Access>>
-    ensures access { IfOk result (λ a. a ≡ cond (counts_access (S.Hit.reader hit.now) && not (phases.is_treated_as_miss status)) (Some (record { entry = entry_of key.now (S.Hit.entry_number hit.now); weight = reader_weight (S.Hit.reader hit.now) })) None) }
-    ensures tracked { OnOk result (E.tracked eviction.new ≡ cond (counts_access (S.Hit.reader hit.now) && not (phases.is_treated_as_miss status)) (added (E.tracked eviction.old) (entry_of key.now (S.Hit.entry_number hit.now)) (reader_weight (S.Hit.reader hit.now))) (E.tracked eviction.old)) }
+    ensures access { IfOk result (λ a. a ≡ cond (counts_access (S.Hit.reader hit.now) && not (phases.is_treated_as_miss status)) (Some (record { entry = entry_of key.now (entry_read S.guarantees.numbers (S.Hit.reader hit.now)); weight = reader_weight (S.Hit.reader hit.now) })) None) }
+    ensures tracked { OnOk result (E.tracked eviction.new ≡ cond (counts_access (S.Hit.reader hit.now) && not (phases.is_treated_as_miss status)) (added (E.tracked eviction.old) (entry_of key.now (entry_read S.guarantees.numbers (S.Hit.reader hit.now))) (reader_weight (S.Hit.reader hit.now))) (E.tracked eviction.old)) }
     ensures err { OnErr result (E.tracked eviction.new ≡ E.tracked eviction.old) }
     ensures limits { E.limits eviction.new ≡ E.limits eviction.old }
     ensures evicted { E.evicted eviction.new ≡ E.evicted eviction.old }
@@ -57,6 +58,7 @@ impl<S: Storage> HttpCache<S> {
     ghost use Rattle.std.specs.Prelude.{◌≡◌, ◌⊎◌, IfOk, IfErr, OnOk, OnErr, IsTrue};
     ghost use Rattle.pcache_base.specs.declared.error.ErrorType.TheVariants.{OutOfMemory, NumbersExhausted};
     ghost use Rattle.pcache_lock.specs.Locks.{MayRefuseLock};
+    ghost use Rattle.pcache_store.specs.Purge.{entry_read};
     ghost use Rattle.pcache_store.specs.Store.{left};
     ghost use Rattle.pcache_request.specs.Phases.{MayLookUp};
     ghost use Rattle.pcache_request.specs.Requests.{found_row, asks_for_hit, store_found, table_found, tracked_found};
@@ -72,8 +74,8 @@ impl<S: Storage> HttpCache<S> {
         status: HitStatus,
     ) -> Result<Option<Access>>
         requires { MayLookUp self.now.phase }
-        ensures access { IfOk result (λ a. a ≡ access_by_found status (S.Hit.reader hit.now) (S.Hit.entry_number hit.now) self.now) }
-        ensures tracked { OnOk result (E.tracked eviction.new ≡ tracked_found status (S.Hit.reader hit.now) (S.Hit.entry_number hit.now) self.now (E.tracked eviction.old)) }
+        ensures access { IfOk result (λ a. a ≡ access_by_found status (S.Hit.reader hit.now) (entry_read S.guarantees.numbers (S.Hit.reader hit.now)) self.now) }
+        ensures tracked { OnOk result (E.tracked eviction.new ≡ tracked_found status (S.Hit.reader hit.now) (entry_read S.guarantees.numbers (S.Hit.reader hit.now)) self.now (E.tracked eviction.old)) }
         ensures err { OnErr result (E.tracked eviction.new ≡ E.tracked eviction.old) }
         ensures limits { E.limits eviction.new ≡ E.limits eviction.old }
         ensures evicted { E.evicted eviction.new ≡ E.evicted eviction.old }
@@ -157,11 +159,11 @@ impl<S: Storage> HttpCache<S> {
         ensures request { OnOk result (self.new ≡ found_row status meta (S.Hit.reader hit) (L.table lock.old) self.old) }
         ensures store { OnOk result (S.state storage.new ≡ store_found status (S.Hit.reader hit) self.old (S.state storage.old)) }
         ensures table { OnOk result (L.table lock.new ≡ table_found status now self.old (L.table lock.old)) }
-        ensures tracked { OnOk result (E.tracked eviction.new ≡ tracked_found status (S.Hit.reader hit) (S.Hit.entry_number hit) self.old (E.tracked eviction.old)) }
+        ensures tracked { OnOk result (E.tracked eviction.new ≡ tracked_found status (S.Hit.reader hit) (entry_read S.guarantees.numbers (S.Hit.reader hit)) self.old (E.tracked eviction.old)) }
         ensures same_request { OnErr result (self.new ≡ self.old) }
         ensures left_store { OnErr result (S.state storage.new ≡ left (S.state storage.old) (S.Hit.reader hit)) }
         ensures same_table { OnErr result (L.table lock.new ≡ L.table lock.old) }
-        ensures noted { OnErr result ((E.tracked eviction.new ≡ E.tracked eviction.old) ⊎ (E.tracked eviction.new ≡ tracked_found status (S.Hit.reader hit) (S.Hit.entry_number hit) self.old (E.tracked eviction.old))) }
+        ensures noted { OnErr result ((E.tracked eviction.new ≡ E.tracked eviction.old) ⊎ (E.tracked eviction.new ≡ tracked_found status (S.Hit.reader hit) (entry_read S.guarantees.numbers (S.Hit.reader hit)) self.old (E.tracked eviction.old))) }
         ensures limits { E.limits eviction.new ≡ E.limits eviction.old }
         ensures evicted { E.evicted eviction.new ≡ E.evicted eviction.old }
         ensures kind { IfErr result (λ e. MayRefuseLock (L.table lock.old) e) }
@@ -189,8 +191,8 @@ impl<S: Storage> HttpCache<S> {
         now: Moment,
     ) -> Result<FoundReport>
         requires { MayLookUp self.old.phase }
-        ensures access { IfOk result (λ f. f.access ≡ access_by_found status (S.Hit.reader hit) (S.Hit.entry_number hit) self.old) }
-        ensures tracked { OnOk result (E.tracked eviction.new ≡ tracked_found status (S.Hit.reader hit) (S.Hit.entry_number hit) self.old (E.tracked eviction.old)) }
+        ensures access { IfOk result (λ f. f.access ≡ access_by_found status (S.Hit.reader hit) (entry_read S.guarantees.numbers (S.Hit.reader hit)) self.old) }
+        ensures tracked { OnOk result (E.tracked eviction.new ≡ tracked_found status (S.Hit.reader hit) (entry_read S.guarantees.numbers (S.Hit.reader hit)) self.old (E.tracked eviction.old)) }
         ensures asked { IfOk result (λ f. IfOk f.asked (λ a. a ≡ asked_by_found status (L.table lock.old) self.old)) }
         ensures request { IfOk result (λ f. OnOk f.asked (self.new ≡ found_row status meta (S.Hit.reader hit) (L.table lock.old) self.old)) }
         ensures store { IfOk result (λ f. OnOk f.asked (S.state storage.new ≡ store_found status (S.Hit.reader hit) self.old (S.state storage.old))) }

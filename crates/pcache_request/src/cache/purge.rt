@@ -46,10 +46,10 @@ fn remove_key<S: Storage, E: EvictionManager>(
     is_used: bool,
     key: &CacheKey,
 ) -> Result<Removal>
-    ensures outcome { IfOk result (λ r. r.outcome ≡ purge_answer (S.state storage.old) (Some (slot key.now))) }
+    ensures outcome { IfOk result (λ r. r.outcome ≡ purge_answer S.guarantees.numbers (S.state storage.old) (Some (slot key.now))) }
     ensures untracked { IfOk result (λ r. r.untracked ≡ untracked is_used (compact_of key.now) r.outcome) }
     ensures store { OnOk result (S.state storage.new ≡ purged_at (S.state storage.old) (Some (slot key.now))) }
-    ensures tracked { OnOk result (E.tracked eviction.new ≡ tracked_gone is_used (compact_of key.now) (purge_answer (S.state storage.old) (Some (slot key.now))) (E.tracked eviction.old)) }
+    ensures tracked { OnOk result (E.tracked eviction.new ≡ tracked_gone is_used (compact_of key.now) (purge_answer S.guarantees.numbers (S.state storage.old) (Some (slot key.now))) (E.tracked eviction.old)) }
     ensures same_store { OnErr result (S.state storage.new ≡ S.state storage.old) }
     ensures same_tracked { OnErr result (E.tracked eviction.new ≡ E.tracked eviction.old) }
     ensures limits { E.limits eviction.new ≡ E.limits eviction.old }
@@ -76,9 +76,9 @@ impl<S: Storage> HttpCache<S> {
     pub fn purge<E: EvictionManager>(&mut self, storage: &mut S, eviction: &mut E) -> Result<bool>
         requires { MayPurge self.old.phase }
         ensures same { self.new ≡ self.old }
-        ensures there { IfOk result (λ there. there ≡ is_removed_by (purge_answer (S.state storage.old) (option_map slot self.old.key))) }
+        ensures there { IfOk result (λ there. there ≡ is_removed_by (purge_answer S.guarantees.numbers (S.state storage.old) (option_map slot self.old.key))) }
         ensures store { OnOk result (S.state storage.new ≡ purged_at (S.state storage.old) (option_map slot self.old.key)) }
-        ensures tracked { OnOk result (E.tracked eviction.new ≡ tracked_gone_for self.old.uses.eviction self.old.key (purge_answer (S.state storage.old) (option_map slot self.old.key)) (E.tracked eviction.old)) }
+        ensures tracked { OnOk result (E.tracked eviction.new ≡ tracked_gone_for self.old.uses.eviction self.old.key (purge_answer S.guarantees.numbers (S.state storage.old) (option_map slot self.old.key)) (E.tracked eviction.old)) }
         ensures same_store { OnErr result (S.state storage.new ≡ S.state storage.old) }
         ensures same_tracked { OnErr result (E.tracked eviction.new ≡ E.tracked eviction.old) }
         ensures limits { E.limits eviction.new ≡ E.limits eviction.old }
@@ -96,10 +96,10 @@ impl<S: Storage> HttpCache<S> {
     ) -> Result<Removal>
         requires { MayPurge self.old.phase }
         ensures same { self.new ≡ self.old }
-        ensures outcome { IfOk result (λ r. r.outcome ≡ purge_answer (S.state storage.old) (option_map slot self.old.key)) }
+        ensures outcome { IfOk result (λ r. r.outcome ≡ purge_answer S.guarantees.numbers (S.state storage.old) (option_map slot self.old.key)) }
         ensures untracked { IfOk result (λ r. r.untracked ≡ untracked_for self.old.uses.eviction self.old.key r.outcome) }
         ensures store { OnOk result (S.state storage.new ≡ purged_at (S.state storage.old) (option_map slot self.old.key)) }
-        ensures tracked { OnOk result (E.tracked eviction.new ≡ tracked_gone_for self.old.uses.eviction self.old.key (purge_answer (S.state storage.old) (option_map slot self.old.key)) (E.tracked eviction.old)) }
+        ensures tracked { OnOk result (E.tracked eviction.new ≡ tracked_gone_for self.old.uses.eviction self.old.key (purge_answer S.guarantees.numbers (S.state storage.old) (option_map slot self.old.key)) (E.tracked eviction.old)) }
         ensures same_store { OnErr result (S.state storage.new ≡ S.state storage.old) }
         ensures same_tracked { OnErr result (E.tracked eviction.new ≡ E.tracked eviction.old) }
         ensures limits { E.limits eviction.new ≡ E.limits eviction.old }
@@ -120,9 +120,9 @@ impl<S: Storage> HttpCache<S> {
     ) -> Result<bool>
         requires { MaySpawnPurge self.old.phase }
         ensures same { self.new ≡ self.old }
-        ensures there { IfOk result (λ there. there ≡ is_removed_by (purge_answer (S.state storage.old) (option_map slot self.old.key))) }
+        ensures there { IfOk result (λ there. there ≡ is_removed_by (purge_answer S.guarantees.numbers (S.state storage.old) (option_map slot self.old.key))) }
         ensures store { OnOk result (S.state storage.new ≡ purged_at (S.state storage.old) (option_map slot self.old.key)) }
-        ensures tracked { OnOk result (E.tracked eviction.new ≡ tracked_gone_for self.old.uses.eviction self.old.key (purge_answer (S.state storage.old) (option_map slot self.old.key)) (E.tracked eviction.old)) }
+        ensures tracked { OnOk result (E.tracked eviction.new ≡ tracked_gone_for self.old.uses.eviction self.old.key (purge_answer S.guarantees.numbers (S.state storage.old) (option_map slot self.old.key)) (E.tracked eviction.old)) }
         ensures same_store { OnErr result (S.state storage.new ≡ S.state storage.old) }
         ensures same_tracked { OnErr result (E.tracked eviction.new ≡ E.tracked eviction.old) }
         ensures limits { E.limits eviction.new ≡ E.limits eviction.old }
@@ -140,10 +140,10 @@ impl<S: Storage> HttpCache<S> {
     ) -> Result<Removal>
         requires { MaySpawnPurge self.old.phase }
         ensures same { self.new ≡ self.old }
-        ensures outcome { IfOk result (λ r. r.outcome ≡ purge_answer (S.state storage.old) (option_map slot self.old.key)) }
+        ensures outcome { IfOk result (λ r. r.outcome ≡ purge_answer S.guarantees.numbers (S.state storage.old) (option_map slot self.old.key)) }
         ensures untracked { IfOk result (λ r. r.untracked ≡ untracked_for self.old.uses.eviction self.old.key r.outcome) }
         ensures store { OnOk result (S.state storage.new ≡ purged_at (S.state storage.old) (option_map slot self.old.key)) }
-        ensures tracked { OnOk result (E.tracked eviction.new ≡ tracked_gone_for self.old.uses.eviction self.old.key (purge_answer (S.state storage.old) (option_map slot self.old.key)) (E.tracked eviction.old)) }
+        ensures tracked { OnOk result (E.tracked eviction.new ≡ tracked_gone_for self.old.uses.eviction self.old.key (purge_answer S.guarantees.numbers (S.state storage.old) (option_map slot self.old.key)) (E.tracked eviction.old)) }
         ensures same_store { OnErr result (S.state storage.new ≡ S.state storage.old) }
         ensures same_tracked { OnErr result (E.tracked eviction.new ≡ E.tracked eviction.old) }
         ensures limits { E.limits eviction.new ≡ E.limits eviction.old }

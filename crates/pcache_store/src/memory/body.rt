@@ -4,7 +4,7 @@ ghost use Rattle.std.specs.FinMap as map;
 ghost use Rattle.pcache_base.specs.declared.error.ErrorType.TheVariants.{OutOfMemory};
 ghost use Rattle.pcache_meta.specs.Meta as meta_of;
 ghost use Rattle.pcache_table.specs.Numbers.{least};
-ghost use Rattle.pcache_store.specs.Store.{opened_in, is_idle, with_meta};
+ghost use Rattle.pcache_store.specs.Store.{opened_in, is_idle, with_meta, has_write, number_of_body, body_with, slot_without};
 
 use bytes::Bytes;
 use pcache_base::entry_id::CacheEntryId;
@@ -186,6 +186,33 @@ impl KeySlot {
         };
         body.expire_at(alloc, now)?;
         Ok(true)
+    }
+
+    // The number of the write that stored the complete body, if there is one.
+    pub(crate) fn entry_id(&self) -> Option<CacheEntryId>
+        ensures { result ≡ number_of_body self.now.body }
+    {
+        self.body.as_ref()?.entry_id()
+    }
+
+    // Whether this write is in flight and met no removal, or stored the complete body.
+    pub(crate) fn has_write(&self, id: CacheEntryId) -> bool
+        ensures { result ≡ has_write id (Some self.now) }
+    {
+        self.untouched.contains(id.get() as u128) || self.entry_id() == Some(id)
+    }
+
+    // Takes a write out, and answers its body if it is complete.
+    pub(crate) fn remove_write(&mut self, id: CacheEntryId) -> Option<Body>
+        ensures body { result ≡ body_with id self.old.body }
+        ensures after { self.new ≡ slot_without id self.old }
+    {
+        self.untouched.remove(id.get() as u128);
+        if self.entry_id() == Some(id) {
+            self.body.take()
+        } else {
+            None
+        }
     }
 
     pub(crate) fn into_body(self) -> Option<Body>

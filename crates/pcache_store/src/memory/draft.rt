@@ -6,6 +6,7 @@ ghost use Rattle.pcache_store.specs.Store.{new_write, is_named};
 use crate::memory::body::Body;
 use crate::memory::draft_text::DraftText;
 use bytes::Bytes;
+use pcache_base::entry_id::CacheEntryId;
 use pcache_base::error::{Error, ErrorType, Result};
 use pcache_meta::meta::CacheMeta;
 use pcache_meta::meta::spelled::SpelledMeta;
@@ -52,6 +53,13 @@ impl Draft {
         ensures { result ≡ self.now.slot }
     {
         self.slot
+    }
+
+    // The number that the meta has.
+    pub(crate) fn entry_id(&self) -> Option<CacheEntryId>
+        ensures { result ≡ self.now.meta.entry_id }
+    {
+        self.meta.entry_id()
     }
 
     pub(crate) fn len(&self) -> usize

@@ -21,6 +21,7 @@ use std::marker::Model;
 pub(crate) struct Drafts {
     writes: DraftTable,
     next: u128,
+    ghost numbers: { next ≤ 2 ^ 64 },
 }
 
 impl Model for Drafts {
@@ -39,9 +40,16 @@ impl Drafts {
     pub(crate) fn new(alloc: Global, seed: Seed) -> Drafts
         ensures { result ≡ record { writes = map.empty; next = 0 } }
     {
+        Drafts::starting_at(alloc, seed, 0)
+    }
+
+    // No write yet, and the next one has this number.
+    pub(crate) fn starting_at(alloc: Global, seed: Seed, next: u64) -> Drafts
+        ensures { result ≡ record { writes = map.empty; next = next } }
+    {
         Drafts {
             writes: DraftTable::new(alloc, seed),
-            next: 0,
+            next: u128::from(next),
         }
     }
 
@@ -117,6 +125,7 @@ impl Drafts {
         number: u128,
     ) -> Result<Option<CacheMeta>>
         ensures meta { IfOk result (λ m. m ≡ option_map (λ w. w.meta) (map.get self.old.writes number)) }
+        ensures small { IfOk result (λ m. IfSome m (λ _. number < 2 ^ 64)) }
         ensures ok { OnOk result (self.new ≡ record self.old { writes = joined_on self.old.writes number (map.get self.old.writes number) }) }
         ensures something { OnErr result (IsSome (map.get self.old.writes number)) }
         ensures kind { IfErr result (λ e. e ≡ OutOfMemory) }

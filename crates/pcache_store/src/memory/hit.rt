@@ -13,6 +13,7 @@ use std::alloc::Global;
 
 /// A reader of a complete body: it gives a range of it in one piece, and then the end.
 pub struct CompleteHit {
+    id: Option<CacheEntryId>,
     body: Bytes,
     start: usize,
     stop: usize,
@@ -21,8 +22,9 @@ pub struct CompleteHit {
 }
 
 impl CompleteHit {
-    // A reader of the whole body.
-    pub(crate) fn new(body: Bytes) -> CompleteHit
+    // A reader of the whole body, which the write with this number stored.
+    pub(crate) fn new(id: Option<CacheEntryId>, body: Bytes) -> CompleteHit
+        ensures id { result.id ≡ id }
         ensures body { result.body ≡ body }
         ensures start { result.start ≡ 0 }
         ensures stop { result.stop ≡ length body }
@@ -30,6 +32,7 @@ impl CompleteHit {
     {
         let stop = body.len();
         CompleteHit {
+            id,
             body,
             start: 0,
             stop,
@@ -46,6 +49,7 @@ impl CompleteHit {
 
     fn read(&mut self) -> Result<Option<Bytes>>
         ensures read { IfOk result (λ r. r ≡ cond self.old.done None (Some (slice_range self.old.body self.old.start self.old.stop))) }
+        ensures id { self.new.id ≡ self.old.id }
         ensures body { self.new.body ≡ self.old.body }
         ensures start { self.new.start ≡ self.old.start }
         ensures stop { self.new.stop ≡ self.old.stop }
@@ -63,9 +67,10 @@ impl CompleteHit {
     }
 
     fn seek(&mut self, start: usize, end: Option<usize>) -> Result<()>
-        ensures ok { OnOk result (Some (Whole self.new.body self.new.start self.new.stop self.new.done) ≡ sought (Whole self.old.body self.old.start self.old.stop self.old.done) start end) }
-        ensures refused { OnErr result (sought (Whole self.old.body self.old.start self.old.stop self.old.done) start end ≡ None) }
+        ensures ok { OnOk result (Some (Whole self.new.id self.new.body self.new.start self.new.stop self.new.done) ≡ sought (Whole self.old.id self.old.body self.old.start self.old.stop self.old.done) start end) }
+        ensures refused { OnErr result (sought (Whole self.old.id self.old.body self.old.start self.old.stop self.old.done) start end ≡ None) }
         ensures kind { IfErr result (λ e. e ≡ InternalError) }
+        ensures id { self.new.id ≡ self.old.id }
         ensures body { self.new.body ≡ self.old.body }
         ensures err { OnErr result (self.new ≡ self.old) }
     {
@@ -88,14 +93,14 @@ impl CompleteHit {
 /// A reader of a write, also of one whose handler is gone: it gives all that is unread, and the end
 /// once nothing more can come.
 pub struct PartialHit {
-    write: u128,
+    write: u64,
     slot: u128,
     place: usize,
 }
 
 impl PartialHit {
     // A reader of a write of this slot, which has read nothing yet.
-    pub(crate) fn new(slot: u128, write: u128) -> PartialHit
+    pub(crate) fn new(slot: u128, write: u64) -> PartialHit
         ensures write { result.write ≡ write }
         ensures place { result.place ≡ 0 }
     {
@@ -107,7 +112,7 @@ impl PartialHit {
     }
 
     /// The number of the write.
-    pub fn write(&self) -> u128
+    pub fn write(&self) -> u64
         ensures { result ≡ self.now.write }
     {
         self.write
@@ -132,6 +137,7 @@ impl MemHitHandler {
         match self {
             MemHitHandler::Complete(hit) => {
                 let CompleteHit {
+                    id: _,
                     body,
                     start: _,
                     stop: _,
@@ -145,7 +151,7 @@ impl MemHitHandler {
                     slot,
                     place: _,
                 } = part;
-                store.leave(slot, write);
+                store.leave(slot, write as u128);
             }
         }
     }
@@ -157,8 +163,6 @@ impl HandleHit<MemCache> for MemHitHandler {
 
     ghost reader = { reader_of };
 
-    ghost entry_number = { λ _. None };
-
     fn read_body(&mut self, alloc: Global, store: &mut MemCache) -> Result<Poll<Option<Bytes>>> {
         match self {
             MemHitHandler::Complete(hit) => match hit.read() {
@@ -166,7 +170,7 @@ impl HandleHit<MemCache> for MemHitHandler {
                 Err(refused) => Err(refused),
             },
             MemHitHandler::Partial(part) => {
-                let Some(draft) = store.draft(part.slot, part.write) else {
+                let Some(draft) = store.draft(part.slot, part.write as u128) else {
                     return Ok(Poll::Ready(None));
                 };
                 let written = draft.len();
@@ -222,6 +226,9 @@ impl HandleHit<MemCache> for MemHitHandler {
     }
 
     fn entry_id(&self) -> Option<CacheEntryId> {
-        None
+        match self {
+            MemHitHandler::Complete(hit) => hit.id,
+            MemHitHandler::Partial(part) => Some(CacheEntryId::new(part.write)),
+        }
     }
 }

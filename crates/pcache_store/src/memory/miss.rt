@@ -40,7 +40,7 @@ impl MemMissHandler {
 impl HandleMiss<MemCache> for MemMissHandler {
     ghost write = { λ h. h.number };
 
-    ghost entry_number = { λ _. None };
+    ghost entry_number = { λ h. Some h.number };
 
     fn write_body(&mut self, store: &mut MemCache, bytes: Bytes, eof: bool) -> Result<()> {
         store.write(self.slot, self.number as u128, bytes, eof)
@@ -76,6 +76,6 @@ impl HandleMiss<MemCache> for MemMissHandler {
     }
 
     fn entry_id(&self) -> Option<CacheEntryId> {
-        None
+        Some(CacheEntryId::new(self.number))
     }
 }

@@ -5,9 +5,10 @@ ghost use Rattle.pcache_meta.specs.Meta as meta_of;
 ghost use Rattle.pcache_base.specs.declared.error.ErrorType.TheVariants.{OutOfMemory};
 ghost use Rattle.pcache_table.specs.Sharding.{part_of};
 ghost use Rattle.pcache_store.specs.Shards.{held};
-ghost use Rattle.pcache_store.specs.Store.{opened, shut_on, stored_on, complete_body, meta_changed_on};
+ghost use Rattle.pcache_store.specs.Store.{opened, shut_on, stored_on, complete_body, meta_changed_on, has_write, body_with, write_gone_on};
 
 use crate::memory::body::{Body, KeySlot};
+use pcache_base::entry_id::CacheEntryId;
 use pcache_base::error::{Error, ErrorType, Result};
 use pcache_base::moment::Moment;
 use pcache_base::seed::Seed;
@@ -139,6 +140,20 @@ impl SlotTable {
         slot
     }
 
+    // Takes a write out, in flight or complete, and answers whether it was there, and its body if it is complete.
+    pub(crate) fn remove_write(&mut self, key: u128, id: CacheEntryId) -> (bool, Option<Body>)
+        ensures there { result.0 ≡ has_write id (map.get self.old key) }
+        ensures body { result.1 ≡ body_with id (complete_body (map.get self.old key)) }
+        ensures removed { self.new ≡ write_gone_on self.old key id (map.get self.old key) }
+    {
+        let _ = &self.shards; // for the prover: once a field is used, the invariant is known
+        let place = (key % SHARDS) as usize;
+        let table = &mut self.shards[place];
+        let (there, body, gone) = remove_write_in(table, key, id);
+        self.count -= gone;
+        (there, body)
+    }
+
     // Sets the meta of the complete body, and answers whether there is one.
     pub(crate) fn set_meta(&mut self, key: u128, meta: SpelledMeta) -> bool
         ensures there { result ≡ is_some (complete_body (map.get self.old key)) }
@@ -223,6 +238,29 @@ fn store_in(slots: &mut HashedTable<KeySlot>, key: u128, number: u128, body: Bod
         unreachable!()
     };
     slot.store(number, body)
+}
+
+// Answers whether the write was there, its body if it is complete, and how many keys went.
+fn remove_write_in(
+    slots: &mut HashedTable<KeySlot>,
+    key: u128,
+    id: CacheEntryId,
+) -> (bool, Option<Body>, usize)
+    ensures there { result.0 ≡ has_write id (map.get slots.old key) }
+    ensures body { result.1 ≡ body_with id (complete_body (map.get slots.old key)) }
+    ensures after { slots.new ≡ write_gone_on slots.old key id (map.get slots.old key) }
+    ensures gone { held (map.get slots.new key) + result.2 ≡ held (map.get slots.old key) }
+{
+    let Some(slot) = slots.get_mut(key) else {
+        return (false, None, 0);
+    };
+    let there = slot.has_write(id);
+    let body = slot.remove_write(id);
+    if slot.is_idle() {
+        slots.remove(key);
+        return (there, body, 1);
+    }
+    (there, body, 0)
 }
 
 fn set_meta_in(slots: &mut HashedTable<KeySlot>, key: u128, meta: SpelledMeta) -> bool

@@ -1,15 +1,16 @@
 //! The slots by key.
-ghost use Rattle.std.specs.Prelude.{◌≡◌, ◌<◌, ◌^◌, ℕ, Option, Some, None, IsSome, IfOk, IfErr, OnOk, OnErr, option_copied, is_some, true};
+ghost use Rattle.std.specs.Prelude.{◌≡◌, ◌<◌, ◌^◌, ℕ, Option, Some, None, IsSome, IfOk, IfErr, OnOk, OnErr, option_map, option_copied, is_some, true};
 ghost use Rattle.std.specs.FinMap as map;
 ghost use Rattle.pcache_meta.specs.Meta as meta_of;
 ghost use Rattle.pcache_base.specs.Totals.{total, share};
 ghost use Rattle.pcache_base.specs.declared.error.ErrorType.TheVariants.{OutOfMemory};
 ghost use Rattle.pcache_table.specs.Sharding.{part_of};
-ghost use Rattle.pcache_store.specs.Store.{Stored, opened, shut_on, stored_on, complete_body, meta_changed_on, is_untouched_in};
+ghost use Rattle.pcache_store.specs.Store.{Stored, opened, shut_on, stored_on, complete_body, meta_changed_on, is_untouched_in, has_write, has_body_of, write_gone_on, number_of_body};
 ghost use Rattle.pcache_store.specs.Totals.{body_count, body_size, body_len, one};
 
 use crate::memory::body::{Body, KeySlot};
 use crate::memory::slot_table::SlotTable;
+use pcache_base::entry_id::CacheEntryId;
 use pcache_base::error::Result;
 use pcache_base::moment::Moment;
 use pcache_base::seed::Seed;
@@ -127,18 +128,43 @@ impl Slots {
         self.stored = self.stored - less + size;
     }
 
-    // Takes a slot out, and answers whether it was there.
-    pub(crate) fn remove(&mut self, key: u128) -> bool
-        ensures there { result ≡ is_some (map.get self.old key) }
+    // Takes a slot out, and answers the number of its complete body, if there was one, if the slot was there.
+    pub(crate) fn remove(&mut self, key: u128) -> Option<Option<CacheEntryId>>
+        ensures there { result ≡ option_map (λ x. number_of_body x.body) (map.get self.old key) }
         ensures removed { self.new ≡ map.remove self.old key }
     {
         let Some(slot) = self.slots.remove(key) else {
-            return false;
+            return None;
         };
+        let id = slot.entry_id();
         let (fewer, less) = count(slot.into_body());
         self.bodies -= fewer;
         self.stored -= less;
-        true
+        Some(id)
+    }
+
+    // Takes a write out, in flight or complete, and answers whether it was there.
+    pub(crate) fn remove_write(&mut self, key: u128, id: CacheEntryId) -> bool
+        ensures there { result ≡ has_write id (map.get self.old key) }
+        ensures removed { self.new ≡ write_gone_on self.old key id (map.get self.old key) }
+    {
+        // For the prover: once a field is used, the invariant is known.
+        let _ = &self.slots;
+        let (there, body) = self.slots.remove_write(key, id);
+        let (fewer, less) = count(body);
+        self.bodies -= fewer;
+        self.stored -= less;
+        there
+    }
+
+    // Whether the complete body is that of this write.
+    pub(crate) fn has_body_of(&self, key: u128, id: CacheEntryId) -> bool
+        ensures { result ≡ has_body_of id (complete_body (map.get self.now key)) }
+    {
+        match self.body(key) {
+            Some(body) => body.entry_id() == Some(id),
+            None => false,
+        }
     }
 
     // Sets the meta of the complete body, and answers whether there is one.

@@ -3,7 +3,7 @@ ghost use Rattle.std.specs.Prelude.{◌≡◌, ◌+◌, ◌≤◌, ◌++◌, [],
 ghost use Rattle.std.specs.Vec.{vec_capacity};
 ghost use Rattle.pcache_lock.specs.Locks.{Locks};
 ghost use Rattle.pcache_put_ctx.specs.Puts.{Piece};
-ghost use Rattle.pcache_put_ctx.specs.State.{Filled, write_in};
+ghost use Rattle.pcache_put_ctx.specs.State.{Filled, entry_in, write_in};
 ghost use Rattle.pcache_request.specs.Requests.{dropped_by};
 ghost use Rattle.pcache_history.specs.Due.{IsOfWorld, KeepsKey};
 ghost use Rattle.pingora_cache.specs.PartFacts.{facts_in};
@@ -80,9 +80,10 @@ impl<P: PutPolicy> OpenPut<P> {
     }
 }
 
-// The number of the write of a put, if one is in flight.
+// The number of the write of a put, if one is in flight; it is that of the write's entry too.
 fn write_of<P: PutPolicy>(ctx: &CachePutCtx<ByType<P>, MemCache>) -> Option<u128>
-    ensures { result ≡ write_in ctx.now.stage }
+    ensures write { result ≡ write_in ctx.now.stage }
+    ensures entry { result ≡ entry_in ctx.now.stage }
 {
     match ctx.writer() {
         Some(writer) => Some(u128::from(writer.number())),
@@ -287,7 +288,7 @@ fn end_written(
         PutEnd::NotCached(_) | PutEnd::Refused(_) => unreachable!(),
         PutEnd::Stored(report) => {
             let Some(entry) = entry else { unreachable!() };
-            note_stored(write, entry.into_key(), report, None, events)
+            note_stored(write, entry, report, None, events)
         }
         PutEnd::Dropped(refused) => {
             let kind = refused.etype();

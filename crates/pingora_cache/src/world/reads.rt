@@ -1,5 +1,6 @@
 //! Calls of a request's reader.
-ghost use Rattle.std.specs.Prelude.{◌≡◌, ◌≤◌, ◌⊎◌, IsSome, Some, cond, is_some, []};
+ghost use Rattle.std.specs.Prelude.{◌≡◌, ◌≤◌, ◌⊎◌, IsSome, Some, cond, is_some, [], true};
+ghost use Rattle.pcache_store.specs.Store.{gives_piece};
 ghost use Rattle.std.specs.Vec.{vec_capacity};
 ghost use Rattle.pcache_base.specs.declared.error.ErrorType.TheVariants.{OutOfMemory};
 ghost use Rattle.pcache_lock.specs.Locks.{no_locks};
@@ -52,7 +53,7 @@ pub(crate) fn read(
 
 // What a read answers. The bytes went by also if their copy is refused.
 fn reply_of(answer: &Poll<Option<Bytes>>) -> Reply
-    ensures reply { (result ≡ read_reply answer.now) ⊎ (result ≡ replies.Refused OutOfMemory) }
+    ensures reply { (result ≡ read_reply answer.now) ⊎ ((gives_piece answer.now ≡ true) × (result ≡ replies.Refused OutOfMemory)) }
     ensures other { IsOther result }
 {
     match answer {

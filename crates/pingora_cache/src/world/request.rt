@@ -108,9 +108,10 @@ pub(crate) fn world_use() -> InUse
     }
 }
 
-/// The number of the write that a request holds, if one is.
+/// The number of the write that a request holds, if one is; it is that of the write's entry too.
 pub(crate) fn write_number(cache: &HttpCache<MemCache>) -> Option<u128>
-    ensures { result ≡ cache.now.write }
+    ensures write { result ≡ cache.now.write }
+    ensures entry { result ≡ cache.now.entry }
 {
     match cache.writer() {
         Some(writer) => Some(u128::from(writer.number())),

@@ -1,6 +1,7 @@
 //! Metas that come back, shards, and handlers by their traits.
 use super::*;
 use http_header::{HeaderMap, HeaderName, HeaderValue};
+use pcache_base::error::ErrorType;
 use pcache_base::key::CacheHashKey;
 use pcache_base::seed::Seed;
 
@@ -305,4 +306,32 @@ fn are_named_by_number(alloc: Global) -> Result<bool> {
 #[test]
 fn a_handler_names_its_write_by_the_number(rt: HostRuntime) {
     assert!(rt; matches!(are_named_by_number(rt.alloc()), Ok(true)));
+}
+
+fn number_of(alloc: Global, store: &mut MemCache, key: &CacheKey) -> Result<u64> {
+    let writer = store.get_miss_handler(alloc, key, &meta_until(alloc, 300))?;
+    let number = writer.number();
+    writer.finish(store)?;
+    Ok(number)
+}
+
+fn is_exhausted(alloc: Global, store: &mut MemCache, key: &CacheKey) -> bool {
+    match number_of(alloc, store, key) {
+        Ok(_) => false,
+        Err(refused) => refused.etype() == ErrorType::NumbersExhausted,
+    }
+}
+
+// The last number is that of a body, and a write more is refused, each time, with nothing changed.
+fn last_is_given_once(alloc: Global) -> Result<bool> {
+    let key = key_of(alloc, "aa")?;
+    let mut store = MemCache::starting_at(alloc, Seed::fixed(), u64::MAX);
+    let last = number_of(alloc, &mut store, &key)? == u64::MAX;
+    let none = is_exhausted(alloc, &mut store, &key) && is_exhausted(alloc, &mut store, &key);
+    Ok(last && none && store.slots() == 1 && store.write_records() == 0)
+}
+
+#[test]
+fn the_last_number_is_given_to_one_write(rt: HostRuntime) {
+    assert!(rt; matches!(last_is_given_once(rt.alloc()), Ok(true)));
 }

@@ -11,6 +11,13 @@ const AA: [u8; 34] = [
     0x31, 0x09,
 ];
 
+// The same of what a world saves: the entry has the number 0, which is that of the first write.
+const AA_NUMBERED: [u8; 36] = [
+    0x91, 0x92, 0x92, 0x93, 0xdc, 0x00, 0x10, 0xcc, 0xac, 0x10, 0xcc, 0xf2, 0xcc, 0xae, 0xcc, 0xf1,
+    0x17, 0x72, 0xcc, 0x9f, 0xcc, 0x8d, 0xcc, 0xad, 0x05, 0x6b, 0x30, 0x59, 0xcc, 0xeb, 0x7e, 0xc0,
+    0xa1, 0x31, 0x00, 0x09,
+];
+
 fn has(rt: &HostRuntime, path: &str, wanted: &[u8]) -> bool {
     match fs::read(rt, path) {
         Ok(bytes) => bytes.as_slice() == wanted,
@@ -32,7 +39,7 @@ fn a_manager_is_saved_in_a_new_folder(rt: HostRuntime) -> Result<(), Fail> {
         save saved_by_script -> ok\n\
         load saved_by_script -> wrong call\n";
     check(&rt, rt.alloc(), &["9"], row, 0, "")?;
-    assert!(rt; has(&rt, "saved_by_script/simple_lru.data", &AA));
+    assert!(rt; has(&rt, "saved_by_script/simple_lru.data", &AA_NUMBERED));
     fs::remove_dir_all(&rt, "saved_by_script")?;
     Ok(())
 }
@@ -62,6 +69,31 @@ fn a_manager_is_loaded_before_the_first_call(rt: HostRuntime) -> Result<(), Fail
         look 2 -> hit 1\n";
     check(&rt, rt.alloc(), &["4"], row, 0, "")?;
     fs::remove_dir_all(&rt, "loaded_by_script")?;
+    Ok(())
+}
+
+// An entry that was saved without a number names no write, so all of its key goes with it.
+#[test]
+fn a_loaded_entry_of_a_key_alone_removes_all_of_the_key(rt: HostRuntime) -> Result<(), Fail> {
+    let _ = fs::remove_dir_all(&rt, "loaded_key_alone");
+    fs::create_dir_all(&rt, "loaded_key_alone")?;
+    fs::write(&rt, "loaded_key_alone/simple_lru.data", &AA)?;
+    let row = "load loaded_key_alone -> ok\n\
+        open 1 -> ok\n\
+        key 1 aa 1 -> ok\n\
+        look 1 -> none write\n\
+        miss 1 -> ok\n\
+        meta 1 60 -> ok\n\
+        begin 1 -> ok\n\
+        write 1 x -> ok\n\
+        finish 1 -> stored 1 evicted 1\n\
+        end 1 -> ok\n\
+        open 2 -> ok\n\
+        key 2 aa 1 -> ok\n\
+        look 2 -> none write\n\
+        stat -> stored 0 slots 0 weight 1 items 1 evicted 1 size 9\n";
+    check(&rt, rt.alloc(), &["9"], row, 0, "")?;
+    fs::remove_dir_all(&rt, "loaded_key_alone")?;
     Ok(())
 }
 

@@ -1,6 +1,6 @@
 //! Responses that are pushed in, between the calls of requests. None is fresh but for what it says of
 //! itself.
-use crate::play::{Limits, play_on_both};
+use crate::play::{Limits, play_on_both, play_on_policies};
 use std::alloc::Global;
 use std::test::Fail;
 
@@ -29,6 +29,7 @@ fn found_while_it_comes(rt: HostRuntime) -> Result<(), Fail> {
         read 1 -> Data(b\"rust\")\n\
         read 1 -> Finished\n\
         stat -> 4 in 1, Totals { weight: 4, items: 1, evicted_weight: 0, evicted_items: 0 }, 0 before\n";
+    play_on_policies(&rt, rt.alloc(), Limits::weight(9), NONE, rows)?;
     play_on_both(&rt, rt.alloc(), Limits::weight(9), NONE, rows)
 }
 

@@ -15,8 +15,6 @@ const LIMIT: usize = 5;
 
 const KEYS: &str = "a b c d";
 
-const KEY_COUNT: usize = 4;
-
 // the last one is empty
 const TEXTS: &str = "x yy zzz ";
 
@@ -33,6 +31,7 @@ enum Fact {
     Finished(usize),
     GivenUp(usize),
     Removed(&'static str),
+    Evicted(usize),
     Permitted(&'static str),
     Freed(&'static str),
 }
@@ -96,12 +95,12 @@ const NOT_OPEN: Asked = Asked {
     permit: None,
 };
 
-// All that was done, and the keys that the manager knows with their weights, the oldest first.
+// All that was done, and the writes whose entries the manager tracks with their weights, the oldest first.
 #[derive(Drop)]
 struct Past {
     alloc: Global,
     facts: Vec<Fact>,
-    used: Vec<(&'static str, usize)>,
+    used: Vec<(usize, usize)>,
 }
 
 impl Past {
@@ -128,13 +127,14 @@ impl Past {
         began
     }
 
-    // Whether the write is of the key, and met no removal of it since it began.
+    // Whether the write is of the key, and met no removal of it or of itself since it began.
     fn is_untouched(&self, write: usize, key: &str) -> bool {
         let mut found = false;
         for fact in &self.facts {
             match fact {
                 Fact::Began(begun, of) if *begun == write => found = *of == key,
                 Fact::Removed(gone) if *gone == key => found = false,
+                Fact::Evicted(gone) if *gone == write => found = false,
                 _ => {}
             }
         }
@@ -271,37 +271,37 @@ impl Past {
 
     fn weight(&self) -> usize {
         let mut weight = 0usize;
-        for (_key, size) in &self.used {
+        for (_write, size) in &self.used {
             weight = weight.saturating_add(*size);
         }
         weight
     }
 
-    fn weight_of(&self, key: &str) -> Option<usize> {
+    fn weight_of(&self, write: usize) -> Option<usize> {
         for (of, size) in &self.used {
-            if *of == key {
+            if *of == write {
                 return Some(*size);
             }
         }
         None
     }
 
-    fn forget(&mut self, key: &str) {
-        self.used.retain(|entry| entry.0 != key);
+    fn forget(&mut self, write: usize) {
+        self.used.retain(|entry| entry.0 != write);
     }
 
-    // The key was used last, and has this weight.
-    fn use_now(&mut self, key: &'static str, weight: usize) -> Result<()> {
-        self.forget(key);
-        self.used.push((key, weight))?;
+    // The write's entry was used last, and has this weight.
+    fn use_now(&mut self, write: usize, weight: usize) -> Result<()> {
+        self.forget(write);
+        self.used.push((write, weight))?;
         Ok(())
     }
 
     fn evict_oldest(&mut self) -> Result<()> {
         match self.used.first().copied() {
-            Some((key, _weight)) => {
-                self.forget(key);
-                self.note(Fact::Removed(key))
+            Some((write, _weight)) => {
+                self.forget(write);
+                self.note(Fact::Evicted(write))
             }
             None => Ok(()),
         }
@@ -310,7 +310,7 @@ impl Past {
     // The oldest go until the rest is within the limit.
     fn evict(&mut self) -> Result<usize> {
         let mut evicted = 0usize;
-        for _ in 0..KEY_COUNT {
+        for _ in 0..self.used.len() {
             if self.weight() > LIMIT {
                 self.evict_oldest()?;
                 evicted = evicted.saturating_add(1);
@@ -334,11 +334,11 @@ impl Past {
     }
 
     // A complete body is used.
-    fn access(&mut self, key: &'static str, pair: Option<Reader>) -> Result<()> {
+    fn access(&mut self, pair: Option<Reader>) -> Result<()> {
         match pair {
             Some(Reader::Body(write, _)) => {
-                let weight = self.weight_of(key).unwrap_or(self.body_len(write));
-                self.use_now(key, weight)
+                let weight = self.weight_of(write).unwrap_or(self.body_len(write));
+                self.use_now(write, weight)
             }
             _ => Ok(()),
         }
@@ -348,7 +348,7 @@ impl Past {
         let pair = one.pair.take();
         let is_kept = status != "force_miss";
         if is_kept {
-            self.access(one.key, pair)?;
+            self.access(pair)?;
         }
         let lock = if status == "fresh" {
             "None"
@@ -388,7 +388,7 @@ impl Past {
         }
         let size = self.body_len(write);
         self.note(Fact::Finished(write))?;
-        self.use_now(one.key, size)?;
+        self.use_now(write, size)?;
         let evicted = self.evict()?;
         tell_number(self.alloc, "Stored { size: ", size, "", told)?;
         tell_number(self.alloc, ", evicted: ", evicted, " }", told)
@@ -427,8 +427,10 @@ impl Past {
         if self.find(key).is_none() {
             return tell(&["Absent"], told);
         }
+        if let Some(write) = self.standing(key) {
+            self.forget(write);
+        }
         self.note(Fact::Removed(key))?;
-        self.forget(key);
         tell(&["Purged"], told)
     }
 

@@ -1,6 +1,8 @@
 //! Worlds over the manager in shards. One shard leaves no choice of what goes, so its world answers
 //! as that over the simple manager does.
-use crate::play::{Limits, calls_of, play, play_on_both, play_sharded, sharded_world_of};
+use crate::play::{
+    Limits, calls_of, play, play_on_both, play_on_policies, play_sharded, sharded_world_of,
+};
 use pcache_base::error;
 use pcache_base::key::CacheHashKey;
 use pcache_base::seed::Seed;
@@ -80,6 +82,7 @@ fn larger_than_the_cache(rt: HostRuntime) -> Result<(), Fail> {
         key 2 a -> Done\n\
         look 2 -> NotFound(Some(Write))\n\
         stat -> 0 in 0, Totals { weight: 0, items: 0, evicted_weight: 4, evicted_items: 1 }, 0 before\n";
+    play_on_policies(&rt, rt.alloc(), Limits::weight(3), "", rows)?;
     play_on_both(&rt, rt.alloc(), Limits::weight(3), "", rows)
 }
 
@@ -105,8 +108,8 @@ fn one_slot_under_two_tags(rt: HostRuntime) -> Result<(), Fail> {
         end 2 -> Done\n\
         open 3 -> Done\n\
         key 3 aa -> Done\n\
-        look 3 -> NotFound(Some(Write))\n\
-        stat -> 0 in 0, Totals { weight: 2, items: 1, evicted_weight: 3, evicted_items: 1 }, 0 before\n";
+        look 3 -> Hit(2)\n\
+        stat -> 2 in 1, Totals { weight: 2, items: 1, evicted_weight: 3, evicted_items: 1 }, 0 before\n";
     play_on_both(&rt, rt.alloc(), Limits::weight(4), "", rows)
 }
 
@@ -167,6 +170,7 @@ fn the_watermark(rt: HostRuntime) -> Result<(), Fail> {
         finish 6 -> Stored { size: 1, evicted: 1 }\n\
         end 6 -> Done\n\
         stat -> 4 in 4, Totals { weight: 4, items: 4, evicted_weight: 2, evicted_items: 2 }, 0 before\n";
+    play_on_policies(&rt, rt.alloc(), Limits::with_watermark(1000, 4), "", rows)?;
     play_on_both(&rt, rt.alloc(), Limits::with_watermark(1000, 4), "", rows)
 }
 

@@ -1,11 +1,8 @@
-use Rattle.std.proofs.Common.{List, ℕ, subst}
-use Rattle.pcache_evict.specs.Recency.{Recency}
-use Rattle.pcache_files.specs.FileSpelling.{SpellsFile}
+use Rattle.std.proofs.lemmas.Result.{err_from_is_err_and}
+use Rattle.pcache_files.proofs.Written.{passed_on}
 use Rattle.pcache_files.proofs.simple_lru.load_from.Goals as goal
 
-pub returns-clause-refused : goal.returns-clause-refused
-returns-clause-refused g c = λ refused. (
-  c.in_ok-bytes.bytes.items,
-  c.in_ok-bytes.ensures.whole,
-  subst (λ (bytes : List ℕ). (l : Recency) → SpellsFile bytes l → ⊥) c.deref.ensures.value (c.deserialize.ensures.refused refused),
-)
+pub returns-in_err-entries-clause-refused : goal.returns-in_err-entries-clause-refused
+returns-in_err-entries-clause-refused g c = λ refused bytes known l s.
+    let p = err_from_is_err_and c.from_residual.result c.from_residual.ensures.1 in
+    c.in_err-entries.ensures.refused (passed_on c.from_residual.result c.in_err-entries.field-0.0 p.0 p.1 p.2 refused) bytes known l s

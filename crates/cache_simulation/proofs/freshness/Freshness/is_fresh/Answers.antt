@@ -9,7 +9,7 @@ use Rattle.cache_simulation.proofs.freshness.Freshness.is_fresh.Goals as goal
 pub returns-in-Some : goal.returns-in-Some
 returns-in-Some c =
     let found : Some c.in-Some.came.now ≡ weight_of c.args.item.now c.self.inside.came.entries = c.in-Some.ensures.value in
-    c.is_within.ensures
+    c.is_meta_fresh.ensures
     ∙ ap (λ o. is_fresh_since o (as_nanos c.self.inside.time) c.args.now) (found ∙ sym (get-map_of c.self.inside.came.entries c.args.item.now))
     ∙ ap (λ (f : Fresh). is_fresh_since (map.get f.came c.args.item.now) f.time c.args.now) c.self.view_is
 

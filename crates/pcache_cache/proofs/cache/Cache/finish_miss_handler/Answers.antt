@@ -1,6 +1,6 @@
 use Rattle.std.proofs.Common.{subst, sym, ◌∙◌}
 use Rattle.pcache_cache.specs.Parts.{IsKept, MayEnd, Parts}
-use Rattle.pcache_cache.proofs.Ended.{kept_finished, unnumbered}
+use Rattle.pcache_cache.proofs.Ended.{kept_finished, same-number}
 use Rattle.pcache_cache.proofs.cache.Cache.finish_miss_handler.Goals as goal
 
 pub invariant_of-self : goal.invariant_of-self
@@ -8,4 +8,4 @@ invariant_of-self g c =
     let tracked = g.M.EvictionManager.tracked in
     subst (λ l. IsKept l (tracked c.finish_miss_handler.new.eviction) c.finish_miss_handler.new.storage) (sym c.finish_miss_handler.ensures.limits)
     (kept_finished (g.M.EvictionManager.limits c.self.inside.manager) c.args.request.now.cache c.self.inside.store c.finish_miss_handler.new.storage (tracked c.self.inside.manager) (tracked c.finish_miss_handler.new.eviction) c.self.inside.lock c.finish_miss_handler.new.lock c.finish_miss_handler.result
-    (subst (λ (p : Parts). MayEnd p.store c.args.request.now.cache) (sym c.self.view_is) c.requires.own) (sym c.writer-writer.ensures.entry ∙ unnumbered c.writer-writer.result) c.finish_miss_handler.ensures.end c.self.invariant)
+    (subst (λ (p : Parts). MayEnd p.store c.args.request.now.cache) (sym c.self.view_is) c.requires.own) (sym c.writer-writer.ensures.entry ∙ same-number _ c.writer-writer.result ∙ c.writer-writer.ensures.write) c.finish_miss_handler.ensures.end c.self.invariant)

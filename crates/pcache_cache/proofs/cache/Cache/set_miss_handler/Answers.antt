@@ -1,4 +1,3 @@
-use Rattle.std.proofs.Common.{◌≡◌, true}
 use Rattle.pcache_cache.proofs.Kept.{kept_beginning}
 use Rattle.pcache_cache.proofs.Own.{beginning_own}
 use Rattle.pcache_cache.proofs.cache.Cache.set_miss_handler.Goals as goal

@@ -29,6 +29,6 @@ returns-in-Body-clause-withdrawn g c = λ sure.
     let left = g.S.StoreMeaning.state c.end_body-end.new.storage in
     let writer = c.in-Body.filling.writer in
     let stage = InBody (g.S.Miss.HandleMiss.write writer) (g.S.Miss.HandleMiss.entry_number writer) c.in-Body.filling.fresh_until in
-    let none = put_none c.self.inside.intake.key c.self.inside.intake.parser (g.S.StoreMeaning.finishes c.args.storage.now) (g.E.EvictionManager.limits c.args.eviction.now) (g.S.StoreMeaning.state c.args.storage.now) left (g.E.EvictionManager.tracked c.args.eviction.now) (g.E.EvictionManager.tracked c.end_body-end.new.eviction) g.S.StoreMeaning.always_purges sure stage c.end_body-end.result.0 c.end_body-end.ensures.ends in
+    let none = put_none c.self.inside.intake.key c.self.inside.intake.parser (g.S.StoreMeaning.finishes c.args.storage.now) (g.E.EvictionManager.limits c.args.eviction.now) (g.S.StoreMeaning.state c.args.storage.now) left (g.E.EvictionManager.tracked c.args.eviction.now) (g.E.EvictionManager.tracked c.end_body-end.new.eviction) g.S.StoreMeaning.guarantees sure stage c.end_body-end.result.0 c.end_body-end.ensures.ends in
     subst (λ (told : PutReport). IfWithdrawn told.end (HasNoBody left c.args.self.now.key)) (sym c.leave-in-Body.ensures.report)
     (subst (λ (k : Key). IfWithdrawn c.end_body-end.result.0 (HasNoBody left k)) (ap (λ (p : Put g.row.C.Denot). p.key) c.self.view_is) none)

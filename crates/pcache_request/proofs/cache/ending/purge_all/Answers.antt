@@ -6,7 +6,7 @@ use Rattle.pcache_request.proofs.cache.ending.purge_all.Goals.{then-is_purge_ref
 pub loop-entry-preserved : goal.loop-entry-preserved
 loop-entry-preserved g c = record {
   few = elim c.if-is_purge_refused.branch [ then-is_purge_refused w ↦ omega arith | else-is_purge_refused w ↦ omega arith ];
-  told = told_on _ _ _ c.args.entries.now c.loop-entry.entry-index c.loop-entry.failed c.if-is_purge_refused.failed c.entry-item.result c.is_purge_refused.result (omega arith) c.is_purge_refused.ensures.refused
+  told = told_on _ _ _ _ c.args.entries.now c.loop-entry.entry-index c.loop-entry.failed c.if-is_purge_refused.failed c.entry-item.result c.is_purge_refused.result (omega arith) c.is_purge_refused.ensures.refused
       (λ h. rw (← c.entry-item.is) (c.is_purge_refused.ensures.purged h))
       (elim c.if-is_purge_refused.branch [ then-is_purge_refused w ↦ λ _. w.failed-is | else-is_purge_refused w ↦ λ h. cc ])
       (elim c.if-is_purge_refused.branch [ then-is_purge_refused w ↦ λ h. cc | else-is_purge_refused w ↦ λ _. w.failed-is ])
@@ -15,4 +15,4 @@ loop-entry-preserved g c = record {
 }
 
 pub returns-clause-purges : goal.returns-clause-purges
-returns-clause-purges g c = told_all _ _ c.args.entries.now c.loop-entry.entry-index c.loop-entry.failed (omega arith) c.loop-entry.invariant.told
+returns-clause-purges g c = told_all _ _ _ c.args.entries.now c.loop-entry.entry-index c.loop-entry.failed (omega arith) c.loop-entry.invariant.told

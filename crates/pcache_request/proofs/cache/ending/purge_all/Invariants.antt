@@ -7,6 +7,6 @@ abbrev pub invariant-loop-entry : goal.invariant-loop-entry
 invariant-loop-entry g l =
     record {
       few : l.failed ≤ l.entry-index;
-      told : (m : ℕ) (t : Store) → PurgesAll (g.S.StoreMeaning.state l.storage) (drop l.entry-index l.entries) m t → PurgesAll (g.S.StoreMeaning.state l.fn.storage) l.entries (l.failed + m) t;
-      sure : g.S.StoreMeaning.always_purges ≡ true → l.failed ≡ 0;
+      told : (m : ℕ) (t : Store) → PurgesAll g.S.StoreMeaning.guarantees.numbers (g.S.StoreMeaning.state l.storage) (drop l.entry-index l.entries) m t → PurgesAll g.S.StoreMeaning.guarantees.numbers (g.S.StoreMeaning.state l.fn.storage) l.entries (l.failed + m) t;
+      sure : g.S.StoreMeaning.guarantees.purges ≡ true → l.failed ≡ 0;
     }

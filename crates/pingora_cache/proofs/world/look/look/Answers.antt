@@ -19,7 +19,7 @@ returns-clause-answers c =
 pub returns-clause-keeps : goal.returns-clause-keeps
 returns-clause-keeps c w =
     let h : KeepsKey (Some (carrying c.args.decision c.args.request.now)) (Some c.look_up.new.request) = subst (λ (z : Held). KeepsKey (Some z) (Some c.look_up.new.request)) c.carry.ensures c.look_up.ensures.keeps in
-    h (record { eviction = w.eviction; unnumbered = w.unnumbered; fills = w.fills })
+    h (record { eviction = w.eviction; fills = w.fills })
 
 pub returns-clause-moves : goal.returns-clause-moves
 returns-clause-moves c = carried-moves c.args.decision c.args.request.now c.carry.new.request (Some c.look_up.new.request) c.args.store.now c.look_up.new.store c.look_up.new.events.items c.carry.ensures c.look_up.ensures.moves

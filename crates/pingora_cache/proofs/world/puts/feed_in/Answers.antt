@@ -8,7 +8,7 @@ use Rattle.pingora_cache.proofs.world.puts.feed_in.Goals as goal
 pub returns-in-GoesOn-clause-moves : goal.returns-in-GoesOn-clause-moves
 returns-in-GoesOn-clause-moves g c =
     goes-moves (taking c.args.ctx.now) (taking c.take_piece-began.new.self) c.args.store.now c.take_piece-began.new.storage c.take_piece-began.result.began c.take_piece-began.result.wrote c.slot-slot.result (c.slot-slot.ensures ∙ ap slot c.key.ensures) c.take_piece-began.ensures.began c.take_piece-began.ensures.store
-    c.write_of.result c.args.events.now.items c.note_piece.new.events.items c.requires.none c.write_of.ensures (ends-on _ _ _ _ c.in-GoesOn.is c.take_piece-began.ensures.ends) c.note_piece.ensures.events
+    c.write_of.result c.args.events.now.items c.note_piece.new.events.items c.requires.none c.write_of.ensures.write (ends-on _ _ _ _ c.in-GoesOn.is c.take_piece-began.ensures.ends) c.note_piece.ensures.events
 
 pub returns-in-NotCached-clause-moves : goal.returns-in-NotCached-clause-moves
 returns-in-NotCached-clause-moves g c =

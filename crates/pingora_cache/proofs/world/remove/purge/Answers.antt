@@ -5,6 +5,7 @@ use Rattle.pcache_store.specs.Readers.{reader_of}
 use Rattle.pcache_store.specs.Store.{Reader}
 use Rattle.pcache_history.specs.Held.{Held}
 use Rattle.pingora_cache.specs.Moved.{Moves}
+use Rattle.pingora_cache.specs.PartFacts.{number_for}
 use Rattle.pingora_cache.proofs.MovesOf.{purges, idle}
 use Rattle.pingora_cache.proofs.Noted.{held_with, goes, purge-events, purge-untracks, purge-store}
 use Rattle.pingora_cache.proofs.world.remove.purge.Goals as goal
@@ -33,7 +34,7 @@ returns-clause-moves g c world =
       | in-Ok w ↦
           let is = purge-events s r.uses.eviction r.key k key c.slot-slot.result w.in-Ok.removal.outcome w.in-Ok.removal.untracked c.args.events.now.items events c.slot-slot.ensures w.in-Ok.ensures.outcome w.in-Ok.ensures.untracked c.requires.none
           (ap (λ v. v.items) w.events-is ∙ w.note_removal.ensures.events) in
-          purges (held_with c.request.inside.carried pair r) s u m n limits k (goes s r.uses.eviction r.key k key) events is (purge-store s r.uses.eviction r.key k key u w.in-Ok.ensures.store) (purge-untracks s r.uses.eviction r.key k key m n w.in-Ok.ensures.tracked)
+          purges (held_with c.request.inside.carried pair r) s u m n limits k (number_for s r.key) (goes s r.uses.eviction r.key k key) events is (purge-store s r.uses.eviction r.key k key u w.in-Ok.ensures.store) (purge-untracks s r.uses.eviction r.key k key m n w.in-Ok.ensures.tracked)
       | in-Err w ↦
           subst (λ t. Moves limits (Some (held_with c.request.inside.carried pair r)) s m events (Some (held_with c.request.inside.carried pair r)) u t) (sym w.in-Err.ensures.same_tracked)
           (idle (Some (held_with c.request.inside.carried pair r)) (Some (held_with c.request.inside.carried pair r)) s u events (ap (λ v. v.items) w.events-is ∙ c.requires.none) refl w.in-Err.ensures.same_store limits m)

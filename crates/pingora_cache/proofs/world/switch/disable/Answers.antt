@@ -31,7 +31,7 @@ returns-clause-moves c =
     let events = c.note_shut.new.events.items in
     subst (λ (x : Held). MovesStore (Some x) c.args.store.now events (Some (held_with None now new)) c.disable-released.new.storage) c.request.view_is
     (switches-off (held_with c.request.inside.carried pair r) (held_with None now new) c.args.store.now c.disable-released.new.storage c.write_number-dropped.result c.permit_in.result c.args.events.now.items events
-    c.write_number-dropped.ensures c.requires.none c.note_shut.ensures (ap (option_map (λ p. (p.0, reader_of p.1))) c.hold.ensures.place)
+    c.write_number-dropped.ensures.write c.requires.none c.note_shut.ensures (ap (option_map (λ p. (p.0, reader_of p.1))) c.hold.ensures.place)
     c.disable-released.ensures.held.1 c.disable-released.ensures.held.2 (c.disable-released.ensures.store ∙ ap (λ s. left_by r.reader (dropped_by r.write s)) c.hold.ensures.store))
 
 pub returns-clause-answers : goal.returns-clause-answers
@@ -40,7 +40,7 @@ returns-clause-answers c =
     let events = c.note_shut.new.events.items in
     let may : MayDisable c.args.reason r = search rules in
     let permit : c.permit_in.result ≡ permit_of r.held = c.permit_in.ensures ∙ ap permit_in c.disable-released.ensures.released ∙ permit-named r.held in
-    let is : events ≡ release_of r.held ++ drop_of r.write = c.note_shut.ensures ∙ (λ i. c.requires.none i ++ each E.Release (permit i) ++ drop_of (c.write_number-dropped.ensures i)) in
+    let is : events ≡ release_of r.held ++ drop_of r.write = c.note_shut.ensures ∙ (λ i. c.requires.none i ++ each E.Release (permit i) ++ drop_of (c.write_number-dropped.ensures.write i)) in
     subst (λ (x : Held). Answers no_facts (C.Request (Q.Disable c.args.reason)) (Some x) replies.Done events) c.request.view_is (inl (may, tt, (refl, is)))
 
 pub returns-clause-locks : goal.returns-clause-locks

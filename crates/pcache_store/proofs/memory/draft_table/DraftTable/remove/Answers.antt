@@ -1,4 +1,4 @@
-use Rattle.std.proofs.Common.{◌≡◌, ◌∙◌, ◌+◌, ap, arith, is_some, cond}
+use Rattle.std.proofs.Common.{◌≡◌, ◌∙◌, ap, arith, is_some, cond}
 use Rattle.std.specs.Prelude.{slice_set, slice_index_or}
 use Rattle.std.specs.FinMap as map
 use Rattle.pcache_table.specs.Sharding.{joined}

@@ -1,0 +1,4 @@
+pub mod Adding
+pub mod InPart
+pub mod Together
+pub mod Waiting

@@ -1,0 +1,6 @@
+use Rattle.std.proofs.Common.{◌≡◌, IsSome}
+use Rattle.pcache_shared_cache.proofs.shared.SharedCache.read_in_turns.Given as goal
+
+-- a reader is there, and the request is where it was
+abbrev pub invariant-loop : goal.invariant-loop
+invariant-loop g l = IsSome l.request.cache.reader × (l.request.cache.phase ≡ l.initial.request.cache.phase) × (l.request.place ≡ l.initial.request.place)

@@ -1,0 +1,33 @@
+use Rattle.std.proofs.Common.{◌≡◌, take, arith, ap, ◌∙◌}
+use Rattle.std.proofs.lemmas.List.{take_all}
+use Rattle.pcache_shared_cache.specs.Portions.{whole_weight}
+use Rattle.pcache_store.specs.Totals.{stored_bytes}
+use Rattle.pcache_shared_cache.proofs.Together.{told-more, told-none, within}
+use Rattle.pcache_shared_cache.proofs.shared.SharedCache.stored_bytes.Goals as goal
+
+pub loop-part-init : goal.loop-part-init
+loop-part-init g c = told-none c.deref-part-items.result.now (λ p. stored_bytes p.store)
+
+pub overflow_add-total : goal.overflow_add-total
+overflow_add-total g c =
+    let bound = c.loop-part.invariant.1 in
+    let small = c.stored_bytes.type_inv in
+    let long = c.self.inside.parts.small in
+    omega (arith, bound, small, long, c.loop-part-test.true, c.deref-part-items.ensures.len)
+
+pub loop-part-preserved : goal.loop-part-preserved
+loop-part-preserved g c = told-more c.deref-part-items.result.now c.loop-part.part-index (λ p. stored_bytes p.store) c.loop-part.total c.stored_bytes.result c.part-item.result c.loop-part-test.true c.part-item.is c.stored_bytes.type_inv c.loop-part.invariant c.stored_bytes.ensures
+
+pub returns-clause-value : goal.returns-clause-value
+returns-clause-value g c =
+    let t = c.loop-part.invariant.0 in
+    let all : take c.loop-part.part-index c.deref-part-items.result.now ≡ c.args.self.now = take_all c.loop-part.part-index c.deref-part-items.result.now (omega arith) ∙ c.deref-part-items.ensures.value ∙ c.self.view_is in
+    (t.0, t.1 ∙ all, t.2, t.3)
+
+pub returns-clause-within : goal.returns-clause-within
+returns-clause-within g c =
+    let t = c.loop-part.invariant.0 in
+    let all : take c.loop-part.part-index c.deref-part-items.result.now ≡ c.args.self.now = take_all c.loop-part.part-index c.deref-part-items.result.now (omega arith) ∙ c.deref-part-items.ensures.value ∙ c.self.view_is in
+    let w = within t.0 t.2 in
+    let is = ap whole_weight (t.1 ∙ all) in
+    omega (arith, w, is, t.3)

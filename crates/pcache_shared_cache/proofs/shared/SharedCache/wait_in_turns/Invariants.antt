@@ -1,0 +1,7 @@
+use Rattle.std.proofs.Common.{◌≡◌, IsSome}
+use Rattle.pcache_request.specs.LockUse.{read_in}
+use Rattle.pcache_shared_cache.proofs.shared.SharedCache.wait_in_turns.Given as goal
+
+-- the read lock is held, and the request is where it was
+abbrev pub invariant-loop : goal.invariant-loop
+invariant-loop g l = IsSome (read_in l.request.cache.held) × (l.request.place ≡ l.initial.request.place)

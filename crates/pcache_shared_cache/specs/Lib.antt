@@ -1,0 +1,4 @@
+pub mod Managed
+pub mod ManagedCode
+pub mod Portions
+pub mod Shared

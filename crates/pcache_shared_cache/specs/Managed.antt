@@ -1,0 +1,7 @@
+-- What a contract sees of a manager with its limits (own).
+use Rattle.pcache_evict.specs.Tracked.{Tracked, Limits, Evicted}
+
+pub record Managed : Type 0 where
+  pub tracked : Tracked
+  pub limits : Limits
+  pub evicted : Evicted

@@ -1,0 +1,22 @@
+-- A cache in parts, and what is known of a part when a thread has it (own).
+use Rattle.std.specs.Prelude.{◌≡◌, ℕ, List, All, Some, map, slice_get}
+use Rattle.pcache_cache.specs.Parts.{Parts, IsKept}
+use Rattle.pcache_evict.specs.Tracked.{Limits}
+use Rattle.pcache_request.specs.Requests.{Request}
+
+-- a request of a cache in parts: itself, and the place of its part
+pub record Seated : Type 0 where
+  pub place : ℕ
+  pub cache : Request
+
+-- this is so of what a part with these limits is while a call has it: a cache that keeps what caches always keep
+abbrev pub Held : Limits → (Parts → Type 0) → Type 0
+Held limits P = (p : Parts) × (p.limits ≡ limits) × IsKept p.limits p.tracked p.store × P p
+
+-- the same of the part at a place
+abbrev pub InPart : List Limits → ℕ → (Parts → Type 0) → Type 0
+InPart limits place P = (l : Limits) × (slice_get limits place ≡ Some l) × Held l P
+
+-- the same of all parts, each while the call had it
+abbrev pub InParts : List Limits → (List Parts → Type 0) → Type 0
+InParts limits P = (ps : List Parts) × (map (λ (p : Parts). p.limits) ps ≡ limits) × All (λ (p : Parts). IsKept p.limits p.tracked p.store) ps × P ps

@@ -1,0 +1,30 @@
+#![tactic(auto)]
+//! A cache in parts, each behind a lock of its own, which threads call side by side. Each part keeps its own limits at all
+//! times, so that all of them together keep the whole.
+//!
+//! - `split`: how a limit is split among parts
+//! - `portion`: an eviction manager with its limits as numbers
+//! - `part`: one part behind its lock
+//! - `request`: a request, which has its part from its key
+//! - `shared`: the cache, and what it tells of itself
+//! - `lists`: parts over recency lists
+//! - `look`, `fill`, `remove`, `locks`, `renew`: what a request does, each the call of `Cache` under the lock of its part
+//! - `laws`: what follows for all parts together
+
+mod fill;
+pub mod laws;
+mod lists;
+mod locks;
+mod look;
+mod part;
+mod portion;
+mod remove;
+mod renew;
+mod request;
+mod shared;
+mod split;
+
+pub use portion::Portion;
+pub use request::SharedRequest;
+pub use shared::SharedCache;
+pub use split::{portion_of, portion_of_watermark};

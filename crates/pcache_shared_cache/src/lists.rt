@@ -1,0 +1,60 @@
+//! Parts over recency lists.
+ghost use Rattle.std.specs.Prelude.{◌≡◌, ◌<◌, IfErr, IfOk};
+ghost use Rattle.pcache_base.specs.declared.error.ErrorType.TheVariants.{OutOfMemory};
+ghost use Rattle.pcache_shared_cache.specs.Portions.{portion_at};
+
+use crate::portion::Portion;
+use crate::shared::SharedCache;
+use crate::split::{portion_of, portion_of_watermark};
+use pcache_base::error::Result;
+use pcache_base::seed::Seed;
+use pcache_evict::eviction::simple_lru::Manager;
+use std::alloc::Global;
+use std::time::Duration;
+
+impl<K, const N: usize> SharedCache<Manager, K, N> {
+    ghost use Rattle.std.specs.Prelude.{◌≡◌, ◌<◌, IfErr, IfOk};
+    ghost use Rattle.pcache_base.specs.declared.error.ErrorType.TheVariants.{OutOfMemory};
+    ghost use Rattle.pcache_shared_cache.specs.Portions.{portions, whole_weight};
+
+    /// A cache with nothing stored whose parts let the least recently used bodies go. The limit on the bytes of all bodies, and on
+    /// their number if one is given, is split evenly, and the first parts have one of the rest each. Permits age out after
+    /// `age_timeout`. It fails when memory runs out.
+    pub fn with_lists(
+        alloc: Global,
+        seed: Seed,
+        limit: usize,
+        watermark: Option<usize>,
+        age_timeout: Duration,
+    ) -> Result<SharedCache<Manager, K, N>>
+        requires { 0 < N }
+        ensures limits { IfOk result (λ c. c ≡ portions N limit watermark) }
+        ensures whole { IfOk result (λ c. whole_weight c ≡ limit) }
+        ensures kind { IfErr result (λ e. e ≡ OutOfMemory) }
+    {
+        let mut lists = Vec::with_capacity(alloc, N)?;
+        for place in 0..N {
+            lists.push_reserved(list_at(alloc, seed, limit, watermark, N, place)?);
+        }
+        SharedCache::new(alloc, seed, lists, age_timeout)
+    }
+}
+
+// The list of the part at a place, of so many.
+fn list_at(
+    alloc: Global,
+    seed: Seed,
+    limit: usize,
+    watermark: Option<usize>,
+    parts: usize,
+    place: usize,
+) -> Result<Portion<Manager>>
+    requires { 0 < parts }
+    ensures limits { IfOk result (λ p. p.limits ≡ portion_at parts limit watermark place) }
+    ensures kind { IfErr result (λ e. e ≡ OutOfMemory) }
+{
+    let limit = portion_of(limit, parts, place);
+    let watermark = portion_of_watermark(watermark, parts, place);
+    let list = Manager::new_with_watermark(alloc, seed, limit, watermark)?;
+    Ok(Portion::new(list, limit, watermark))
+}

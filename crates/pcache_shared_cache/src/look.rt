@@ -1,0 +1,168 @@
+//! Look-ups, hits, and the end of a request.
+use crate::request::SharedRequest;
+use crate::shared::SharedCache;
+use bytes::Bytes;
+use pcache_base::error::Result;
+use pcache_base::moment::Moment;
+use pcache_base::poll::Poll;
+use pcache_base::reason::NoCacheReason;
+use pcache_evict::eviction::EvictionManager;
+use pcache_meta::meta::CacheMeta;
+use pcache_request::cache::LockName;
+use pcache_request::phase::HitStatus;
+use pcache_store::memory::MemHitHandler;
+use std::sync::Wait;
+use std::thread::yield_now;
+
+impl<M: EvictionManager, K, const N: usize> SharedCache<M, K, N> {
+    ghost use Rattle.std.specs.Prelude.{◌≡◌, ◌⊎◌, false, IfOk, IfErr, IfSome, OnOk, OnErr, IsOk, IsSome, IsTrue, None, option_map};
+    ghost use Rattle.pcache_base.specs.declared.error.ErrorType.TheVariants.{NumbersExhausted, OutOfMemory};
+    ghost use Rattle.pcache_lock.specs.Locks.{MayRefuseLock};
+    ghost use Rattle.pcache_request.specs.Phases.{IsDisabled, MayFinishHit, MayLookUp};
+    ghost use Rattle.pcache_request.specs.Releasing.{MayDisable, disabled_for};
+    ghost use Rattle.pcache_request.specs.Reports.{name_of};
+    ghost use Rattle.pcache_request.specs.Requests.{HoldsNothing, asks_for_hit, found_row, without_reader};
+    ghost use Rattle.pcache_request.specs.Variants.{looked_for, seen_for};
+    ghost use Rattle.pcache_store.specs.Readers.{reader_of};
+    ghost use Rattle.pcache_store.specs.Store.{read_of, reader_after};
+    ghost use Rattle.pcache_shared_cache.specs.Shared.{InPart};
+
+    /// `Cache::cache_lookup` in the request's part: what its store has of the key; if nothing is handed on, the key's lock is asked
+    /// for. A pair that is handed on has to be taken by `cache_found` or let go.
+    pub fn cache_lookup<R: Wait>(
+        &self,
+        rt: &R,
+        request: &mut SharedRequest<K, N>,
+        now: Moment,
+    ) -> Result<Option<(CacheMeta, MemHitHandler)>>
+        requires { MayLookUp request.old.cache.phase }
+        ensures looks { InPart self.now request.old.place (λ p.
+            IfOk result (λ r. option_map (λ f. (f.0, reader_of f.1)) r ≡ seen_for p.store request.old.cache)
+            × OnOk result (request.new.cache ≡ looked_for p.store p.locks request.old.cache)
+            × IfErr result (λ e. MayRefuseLock p.locks e)) }
+        ensures same { OnErr result (request.new ≡ request.old) }
+        ensures phase { request.new.cache.phase ≡ request.old.cache.phase }
+        ensures uses { request.new.cache.uses ≡ request.old.cache.uses }
+        ensures place { request.new.place ≡ request.old.place }
+    {
+        self.part(request.place())
+            .lock(rt)
+            .cache_lookup(&mut request.request, now)
+    }
+
+    /// `Cache::cache_found`: takes what a look-up found.
+    pub fn cache_found<R: Wait>(
+        &self,
+        rt: &R,
+        request: &mut SharedRequest<K, N>,
+        meta: CacheMeta,
+        hit: MemHitHandler,
+        status: HitStatus,
+        now: Moment,
+    ) -> Result<()>
+        requires { MayLookUp request.old.cache.phase }
+        ensures takes { InPart self.now request.old.place (λ p.
+            OnOk result (request.new.cache ≡ found_row status meta (reader_of hit) p.locks request.old.cache)
+            × IfErr result (λ e. MayRefuseLock p.locks e)) }
+        ensures numbers { IfErr result (λ e. e ≡ NumbersExhausted → IsTrue (asks_for_hit status request.old.cache)) }
+        ensures same { OnErr result (request.new ≡ request.old) }
+        ensures place { request.new.place ≡ request.old.place }
+    {
+        self.part(request.place())
+            .lock(rt)
+            .cache_found(&mut request.request, meta, hit, status, now)
+    }
+
+    /// `Cache::let_go`: lets go what a look-up of the request found.
+    pub fn let_go<R: Wait>(&self, rt: &R, request: &SharedRequest<K, N>, hit: MemHitHandler) {
+        self.part(request.place()).lock(rt).let_go(hit);
+    }
+
+    /// `Cache::read_body`: reads on. Requires a reader. A request that follows a write is told that there is nothing yet, and may ask
+    /// again, or `read_in_turns`.
+    pub fn read_body<R: Wait>(
+        &self,
+        rt: &R,
+        request: &mut SharedRequest<K, N>,
+    ) -> Result<Poll<Option<Bytes>>>
+        requires { IsSome request.old.cache.reader }
+        ensures reads { InPart self.now request.old.place (λ p.
+            IfOk result (λ b. IfSome request.old.cache.reader (λ r. b ≡ read_of p.store r))
+            × OnOk result (request.new.cache ≡ record request.old.cache { reader = option_map (reader_after p.store) request.old.cache.reader })) }
+        ensures same { OnErr result (request.new ≡ request.old) }
+        ensures kind { IfErr result (λ e. e ≡ OutOfMemory) }
+        ensures reader { IsSome request.new.cache.reader }
+        ensures phase { request.new.cache.phase ≡ request.old.cache.phase }
+        ensures place { request.new.place ≡ request.old.place }
+    {
+        self.part(request.place())
+            .lock(rt)
+            .read_body(&mut request.request)
+    }
+
+    /// Reads on, and asks up to so many times as long as there is nothing yet. In between other threads have the processor, and
+    /// nothing is locked.
+    pub fn read_in_turns<R: Wait>(
+        &self,
+        rt: &R,
+        request: &mut SharedRequest<K, N>,
+        turns: u32,
+    ) -> Result<Poll<Option<Bytes>>>
+        requires { IsSome request.old.cache.reader }
+        ensures kind { IfErr result (λ e. e ≡ OutOfMemory) }
+        ensures reader { IsSome request.new.cache.reader }
+        ensures phase { request.new.cache.phase ≡ request.old.cache.phase }
+        ensures place { request.new.place ≡ request.old.place }
+    {
+        for _ in 0..turns {
+            match self.read_body(rt, request)? {
+                Poll::Pending => yield_now(),
+                read => return Ok(read),
+            }
+        }
+        Ok(Poll::Pending)
+    }
+
+    /// `Cache::finish_hit_handler`: ends the reader.
+    pub fn finish_hit_handler<R: Wait>(
+        &self,
+        rt: &R,
+        request: &mut SharedRequest<K, N>,
+    ) -> Result<()>
+        requires { MayFinishHit request.old.cache.phase }
+        ensures request { request.new ≡ record request.old { cache = without_reader request.old.cache } }
+        ensures kind { IfErr result (λ e. e ≡ OutOfMemory) }
+        ensures none { request.old.cache.reader ≡ None → IsOk result }
+    {
+        self.part(request.place())
+            .lock(rt)
+            .finish_hit_handler(&mut request.request)
+    }
+
+    /// `Cache::disable`: turns caching off, and gives back all that is held.
+    pub fn disable<R: Wait>(
+        &self,
+        rt: &R,
+        request: &mut SharedRequest<K, N>,
+        reason: NoCacheReason,
+    ) -> Option<LockName>
+        requires { MayDisable reason request.old.cache }
+        ensures request { request.new ≡ record request.old { cache = disabled_for reason request.old.cache } }
+        ensures off { IsDisabled request.new.cache.phase }
+        ensures held { HoldsNothing request.new.cache }
+        ensures released { result ≡ option_map name_of request.old.cache.held }
+    {
+        self.part(request.place())
+            .lock(rt)
+            .disable(&mut request.request, reason)
+    }
+
+    /// `Cache::end`: gives back all that a request holds.
+    pub fn end<R: Wait>(&self, rt: &R, request: SharedRequest<K, N>) -> Option<LockName>
+        ensures { result ≡ option_map name_of request.cache.held }
+    {
+        let part = self.part(request.place());
+        let request = request.into_request();
+        part.lock(rt).end(request)
+    }
+}

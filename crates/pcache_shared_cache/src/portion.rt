@@ -1,0 +1,127 @@
+//! An eviction manager with its limits as numbers.
+ghost use Rattle.std.specs.Prelude.{◌≡◌};
+ghost use Rattle.pcache_evict.specs.Tracked.{limits_of};
+
+use pcache_base::error::Result;
+use pcache_base::moment::Moment;
+use pcache_evict::eviction::{CacheEntryKey, EvictionManager};
+use std::marker::Model;
+
+/// An eviction manager, and beside it its limits as numbers, which a manager itself does not tell.
+#[derive(Drop)]
+pub struct Portion<M: EvictionManager> {
+    manager: M,
+    limit: usize,
+    watermark: Option<usize>,
+}
+
+impl<M: EvictionManager> Model for Portion<M> {
+    ghost use Rattle.std.specs.Prelude.{◌≡◌};
+    ghost use Rattle.pcache_evict.specs.Tracked.{limits_of};
+    ghost use Rattle.pcache_shared_cache.specs.Managed.{Managed};
+    ghost use Rattle.pcache_shared_cache.specs.ManagedCode.{managed_code};
+
+    ghost Value = { Managed };
+
+    ghost coded = { managed_code };
+
+    ghost view = { λ p. record { tracked = M.tracked p.manager; limits = limits_of p.limit p.watermark; evicted = M.evicted p.manager } };
+
+    ghost invariant = { λ p. M.limits p.manager ≡ limits_of p.limit p.watermark };
+}
+
+impl<M: EvictionManager> Portion<M> {
+    /// A manager whose limits are these.
+    pub fn new(manager: M, limit: usize, watermark: Option<usize>) -> Portion<M>
+        requires { M.limits manager ≡ limits_of limit watermark }
+        ensures { result ≡ record { tracked = M.tracked manager; limits = limits_of limit watermark; evicted = M.evicted manager } }
+    {
+        Portion {
+            manager,
+            limit,
+            watermark,
+        }
+    }
+
+    /// The limit on the weight of what it tracks.
+    pub fn limit(&self) -> usize
+        ensures { result ≡ self.now.limits.weight }
+    {
+        self.limit
+    }
+
+    /// The limit on the number of entries, if there is one.
+    pub fn watermark(&self) -> Option<usize>
+        ensures { result ≡ self.now.limits.watermark }
+    {
+        self.watermark
+    }
+
+    /// The manager itself, to be asked or saved.
+    pub fn manager(&self) -> &M
+        ensures tracked { M.tracked result.now ≡ self.now.tracked }
+        ensures limits { M.limits result.now ≡ self.now.limits }
+        ensures evicted { M.evicted result.now ≡ self.now.evicted }
+    {
+        &self.manager
+    }
+}
+
+/// A call goes to the manager.
+impl<M: EvictionManager> EvictionManager for Portion<M> {
+    ghost tracked = { λ p. p.tracked };
+
+    ghost limits = { λ p. p.limits };
+
+    ghost evicted = { λ p. p.evicted };
+
+    fn total_size(&self) -> usize {
+        self.manager.total_size()
+    }
+
+    fn total_items(&self) -> usize {
+        self.manager.total_items()
+    }
+
+    fn evicted_size(&self) -> usize {
+        self.manager.evicted_size()
+    }
+
+    fn evicted_items(&self) -> usize {
+        self.manager.evicted_items()
+    }
+
+    fn entries(&self) -> Result<Vec<(CacheEntryKey, usize)>> {
+        self.manager.entries()
+    }
+
+    fn admit(
+        &mut self,
+        item: CacheEntryKey,
+        size: usize,
+        fresh_until: Moment,
+    ) -> Result<Vec<CacheEntryKey>> {
+        self.manager.admit(item, size, fresh_until)
+    }
+
+    fn increment_weight(
+        &mut self,
+        item: &CacheEntryKey,
+        delta: usize,
+        max_weight: Option<usize>,
+    ) -> Result<Vec<CacheEntryKey>> {
+        self.manager.increment_weight(item, delta, max_weight)
+    }
+
+    fn remove(&mut self, item: &CacheEntryKey) {
+        self.manager.remove(item);
+    }
+
+    fn access(&mut self, item: &CacheEntryKey, size: usize, fresh_until: Moment) -> Result<bool> {
+        self.manager.access(item, size, fresh_until)
+    }
+
+    fn peek(&self, item: &CacheEntryKey) -> bool {
+        self.manager.peek(item)
+    }
+}

@@ -1,0 +1,78 @@
+//! Stale bodies that are good, and what responses vary on.
+use crate::request::SharedRequest;
+use crate::shared::SharedCache;
+use pcache_base::error::Result;
+use pcache_base::key::HashBinary;
+use pcache_base::reason::NoCacheReason;
+use pcache_evict::eviction::EvictionManager;
+use pcache_meta::header::ResponseHeader;
+use pcache_meta::meta::CacheMeta;
+use pcache_request::cache::LockName;
+use std::sync::Wait;
+
+impl<M: EvictionManager, K, const N: usize> SharedCache<M, K, N> {
+    ghost use Rattle.std.specs.Prelude.{◌≡◌, IfOk, IfErr, OnErr, IsTrue, option_map};
+    ghost use Rattle.pcache_base.specs.declared.error.ErrorType.TheVariants.{OutOfMemory};
+    ghost use Rattle.pcache_meta.specs.Header.{shown};
+    ghost use Rattle.pcache_request.specs.Releasing.{MayRelease};
+    ghost use Rattle.pcache_request.specs.Renewals.{has_body, renewed};
+    ghost use Rattle.pcache_request.specs.Reports.{name_of};
+    ghost use Rattle.pcache_request.specs.Requests.{MayWrite};
+    ghost use Rattle.pcache_request.specs.Stale.{MayRevalidate, uncacheable};
+    ghost use Rattle.pcache_request.specs.Variants.{released_by_variance, varied};
+    ghost use Rattle.pcache_shared_cache.specs.Shared.{InPart};
+
+    /// `Cache::revalidate_cache_meta`: takes the meta of an answer that says that the stale body is good. Ask `may_revalidate` of the
+    /// request.
+    pub fn revalidate_cache_meta<R: Wait>(
+        &self,
+        rt: &R,
+        request: &mut SharedRequest<K, N>,
+        meta: CacheMeta,
+    ) -> Result<bool>
+        requires { MayRevalidate request.old.cache }
+        ensures request { request.new ≡ record request.old { cache = renewed meta request.old.cache } }
+        ensures there { InPart self.now request.old.place (λ p.
+            IfOk result (λ b. b ≡ has_body p.store request.old.cache.key)
+            × OnErr result (IsTrue (has_body p.store request.old.cache.key))) }
+        ensures kind { IfErr result (λ e. e ≡ OutOfMemory) }
+    {
+        self.part(request.place())
+            .lock(rt)
+            .revalidate_cache_meta(&mut request.request, meta)
+    }
+
+    /// `Cache::revalidate_uncacheable`: serves the stale body with this header, and does not store the new answer.
+    pub fn revalidate_uncacheable<R: Wait>(
+        &self,
+        rt: &R,
+        request: &mut SharedRequest<K, N>,
+        header: ResponseHeader,
+        reason: NoCacheReason,
+    ) -> Option<LockName>
+        requires stale { MayRevalidate request.old.cache }
+        requires reason { MayRelease reason request.old.cache.held }
+        ensures request { request.new ≡ record request.old { cache = uncacheable (shown header) reason request.old.cache } }
+        ensures released { result ≡ option_map name_of request.old.cache.held }
+    {
+        self.part(request.place())
+            .lock(rt)
+            .revalidate_uncacheable(&mut request.request, header, reason)
+    }
+
+    /// `Cache::update_variance`: sets what the response varies on, before its write begins. Ask `may_write` of the request.
+    pub fn update_variance<R: Wait>(
+        &self,
+        rt: &R,
+        request: &mut SharedRequest<K, N>,
+        variance: Option<HashBinary>,
+    ) -> Option<LockName>
+        requires { MayWrite request.old.cache }
+        ensures request { request.new ≡ record request.old { cache = varied variance request.old.cache } }
+        ensures released { result ≡ released_by_variance variance request.old.cache }
+    {
+        self.part(request.place())
+            .lock(rt)
+            .update_variance(&mut request.request, variance)
+    }
+}

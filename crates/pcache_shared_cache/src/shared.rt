@@ -1,0 +1,111 @@
+//! The cache, and what it tells of itself.
+ghost use Rattle.std.specs.Prelude.{◌≡◌, ◌<◌};
+
+use crate::part::PartLock;
+use crate::portion::Portion;
+use crate::request::SharedRequest;
+use pcache_base::error::Result;
+use pcache_base::key::CacheKey;
+use pcache_base::seed::Seed;
+use pcache_evict::eviction::EvictionManager;
+use std::alloc::Global;
+use std::marker::Model;
+use std::sync::Wait;
+use std::time::Duration;
+
+/// A cache in `N` parts, each a `Cache` behind a lock of its own. A key is in the part of its primary hash. Of each part holds at
+/// all times what holds of a `Cache`, with the part's own limits. A contract sees the limits of the parts.
+///
+/// `K` is a mark, a type of the caller's that nothing else uses: a request of one cache cannot be lent another's parts.
+#[derive(Drop)]
+pub struct SharedCache<M: EvictionManager, K, const N: usize> {
+    alloc: Global,
+    parts: Vec<PartLock<M, K>>,
+}
+
+impl<M: EvictionManager, K, const N: usize> Model for SharedCache<M, K, N> {
+    ghost use Rattle.std.specs.Prelude.{◌≡◌, ◌<◌, List, length};
+    ghost use Rattle.pcache_evict.specs.Tracked.{Limits};
+
+    ghost Value = { List Limits };
+
+    ghost view = { λ c. c.parts.items };
+
+    ghost invariant = { λ c. (0 < N) × (length c.parts.items ≡ N) };
+}
+
+impl<M: EvictionManager, K, const N: usize> SharedCache<M, K, N> {
+    ghost use Rattle.std.specs.Prelude.{◌≡◌, ◌<◌, ◌≤◌, true, false, Some, IfErr, IfOk, IfSome, length, map, slice_get, sum_by};
+    ghost use Rattle.pcache_base.specs.declared.error.ErrorType.TheVariants.{OutOfMemory};
+    ghost use Rattle.pcache_request.specs.Requests.{enabled_with, new_request, with_key};
+    ghost use Rattle.pcache_store.specs.Totals.{slots, stored_bytes};
+    ghost use Rattle.pcache_shared_cache.specs.Portions.{place_of, whole_watermark, whole_weight};
+    ghost use Rattle.pcache_shared_cache.specs.Shared.{InParts};
+
+    /// A cache with nothing stored, with a part for each of `N` managers. Permits age out after `age_timeout`. The tables hash under
+    /// the seed, which no answer shows. It fails when memory runs out.
+    pub fn new(
+        alloc: Global,
+        seed: Seed,
+        portions: Vec<Portion<M>>,
+        age_timeout: Duration,
+    ) -> Result<SharedCache<M, K, N>>
+        requires some { 0 < N }
+        requires count { length portions.items ≡ N }
+        ensures limits { IfOk result (λ c. c ≡ map (λ p. p.limits) portions.items) }
+        ensures kind { IfErr result (λ e. e ≡ OutOfMemory) }
+    {
+        let mut parts = Vec::with_capacity(alloc, portions.len())?;
+        for portion in portions {
+            parts.push_reserved(PartLock::new(alloc, seed, portion, age_timeout));
+        }
+        Ok(SharedCache { alloc, parts })
+    }
+
+    /// The allocator that the cache was made with, for the keys of its callers.
+    pub fn alloc(&self) -> Global {
+        self.alloc
+    }
+
+    /// A request for a key, with caching turned on, which uses the eviction manager and the lock table. It takes no lock.
+    pub fn request(&self, key: CacheKey) -> SharedRequest<K, N>
+        ensures place { result.place ≡ place_of N key }
+        ensures request { result.cache ≡ with_key key (enabled_with (record { eviction = true; predictor = false; lock = true }) new_request) }
+    {
+        let _parts = &self.parts; // for the prover: once a field is used, the invariant is known
+        SharedRequest::new(self.alloc, key)
+    }
+
+    /// The lengths of the complete bodies, added up, each part asked in its turn: at most the whole limit.
+    pub fn stored_bytes<R: Wait>(&self, rt: &R) -> u128
+        ensures value { InParts self.now (λ ps. result ≡ sum_by (λ p. stored_bytes p.store) ps) }
+        ensures within { result ≤ whole_weight self.now }
+    {
+        let mut total = 0u128;
+        for part in &self.parts {
+            total += part.stored_bytes(rt) as u128;
+        }
+        total
+    }
+
+    /// The number of complete bodies, each part asked in its turn: at most the whole watermark, if each part has one.
+    pub fn slots<R: Wait>(&self, rt: &R) -> u128
+        ensures value { InParts self.now (λ ps. result ≡ sum_by (λ p. slots p.store) ps) }
+        ensures within { IfSome (whole_watermark self.now) (λ most. result ≤ most) }
+    {
+        let mut total = 0u128;
+        for part in &self.parts {
+            total += part.slots(rt) as u128;
+        }
+        total
+    }
+
+    // The part of a request.
+    pub(crate) fn part(&self, place: usize) -> &PartLock<M, K>
+        requires { place < N }
+        ensures { slice_get self.now place ≡ Some result.now }
+    {
+        let parts = &self.parts;
+        &parts[place]
+    }
+}

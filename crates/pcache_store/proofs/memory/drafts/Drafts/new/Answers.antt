@@ -1,7 +1,0 @@
-use Rattle.std.proofs.Common.{sym, subst}
-use Rattle.pcache_store.specs.Drafts.{AreBefore}
-use Rattle.pcache_store.proofs.Writes.{before_empty}
-use Rattle.pcache_store.proofs.memory.drafts.Drafts.new.Goals as goal
-
-pub invariant_of-result : goal.invariant_of-result
-invariant_of-result c = subst (λ m. AreBefore m 0) (sym c.new.ensures) before_empty

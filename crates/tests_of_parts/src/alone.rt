@@ -1,0 +1,60 @@
+//! What one thread sees of a cache in parts.
+use crate::requests::{Lists, fill, finds, lists_of, place_of, purges};
+use pcache_base::error::Result;
+use std::sync::Wait;
+
+#[test]
+fn a_body_is_stored_found_and_purged(rt: HostRuntime) -> Result<()> {
+    let cache = lists_of(rt.alloc(), 16)?;
+    let is_stored = stored_and_found(&rt, &cache);
+    assert!(rt; is_stored);
+    Ok(())
+}
+
+fn stored_and_found<R: Wait>(rt: &R, cache: &Lists) -> bool {
+    matches!(fill(rt, cache, "a", b"hi"), Ok(true))
+        && matches!(finds(rt, cache, "a", b"hi"), Ok(true))
+        && matches!(finds(rt, cache, "b", b"hi"), Ok(false))
+        && cache.stored_bytes(rt) == 2
+        && cache.slots(rt) == 1
+        && matches!(purges(rt, cache, "a"), Ok(true))
+        && matches!(purges(rt, cache, "a"), Ok(false))
+        && cache.stored_bytes(rt) == 0
+}
+
+// The numbers were told by another program: the first eight bytes of BLAKE2b with 16 bytes out, modulo four.
+#[test]
+fn a_key_has_its_part_from_its_hash(rt: HostRuntime) -> Result<()> {
+    let cache = lists_of(rt.alloc(), 16)?;
+    let are_there = have_their_places(&rt, &cache);
+    assert!(rt; are_there);
+    Ok(())
+}
+
+fn have_their_places<R: Wait>(rt: &R, cache: &Lists) -> bool {
+    matches!(place_of(rt, cache, "a"), Ok(3))
+        && matches!(place_of(rt, cache, "b"), Ok(1))
+        && matches!(place_of(rt, cache, "c"), Ok(0))
+        && matches!(place_of(rt, cache, "one"), Ok(2))
+}
+
+// Each part keeps its own limit: of nine bytes the first part has three and the others two each.
+#[test]
+fn each_part_keeps_its_portion(rt: HostRuntime) -> Result<()> {
+    let cache = lists_of(rt.alloc(), 9)?;
+    let is_kept = keeps_portions(&rt, &cache);
+    assert!(rt; is_kept);
+    Ok(())
+}
+
+fn keeps_portions<R: Wait>(rt: &R, cache: &Lists) -> bool {
+    matches!(fill(rt, cache, "c", b"abc"), Ok(true))
+        && matches!(finds(rt, cache, "c", b"abc"), Ok(true))
+        && matches!(fill(rt, cache, "one", b"abc"), Ok(true))
+        && matches!(finds(rt, cache, "one", b"abc"), Ok(false))
+        && matches!(fill(rt, cache, "one", b"ab"), Ok(true))
+        && matches!(finds(rt, cache, "one", b"ab"), Ok(true))
+        && matches!(fill(rt, cache, "two", b"ab"), Ok(true))
+        && matches!(finds(rt, cache, "c", b"abc"), Ok(false))
+        && cache.stored_bytes(rt) == 4
+}

@@ -1,0 +1,10 @@
+#![tactic(auto)]
+//! Tests of a cache in parts, which threads call side by side. What a test waits for is counted, so that each ends by itself.
+#[cfg(test)]
+mod alone;
+#[cfg(test)]
+mod gates;
+#[cfg(test)]
+mod many;
+#[cfg(test)]
+mod requests;

@@ -1,0 +1,177 @@
+//! Runs of each policy by rows: the policy, the limit, what becomes of larger bodies and for how many seconds a body is
+//! fresh, and then requests, each with a key, a size and a second.
+//!
+//! What is told is `+` for a hit and `-` for a miss, then the counts, what went and what is tracked.
+use crate::rows::{Desk, Told, number, other_seed, play, size, some_number, word};
+use cache_simulation::run::{Request, Run};
+use pcache_base::error::Result;
+use pcache_base::key::{CompactCacheKey, hash_key};
+use pcache_base::moment::Moment;
+use pcache_base::seed::Seed;
+use pcache_base::text::Text;
+use pcache_evict::eviction::{CacheEntryKey, EvictionManager, sharded_lru, simple_lru};
+use pcache_policies::{s3_fifo, sieve};
+use std::alloc::Global;
+use std::process::Abort;
+use std::time::Duration;
+
+#[derive(Drop)]
+struct Made {
+    alloc: Global,
+    seed: Seed,
+}
+
+impl Desk for Made {
+    fn tell(&mut self, call: &'static str, told: &mut Told) {
+        let Made { alloc, seed } = *self;
+        let (cache, requests) = call.split_once(": ").unwrap_or((call, ""));
+        let limit = size(cache, 1);
+        match word(cache, 0) {
+            "lru" => {
+                let manager = simple_lru::Manager::new(alloc, seed, limit);
+                tell_run(alloc, manager, cache, requests, told);
+            }
+            "sharded" => {
+                let manager = sharded_lru::Manager::<1>::with_capacity(alloc, seed, limit, 0);
+                tell_run(alloc, manager, cache, requests, told);
+            }
+            "sieve" => {
+                let manager = sieve::Manager::new(alloc, seed, limit);
+                tell_run(alloc, manager, cache, requests, told);
+            }
+            _ => {
+                let manager = s3_fifo::Manager::new(alloc, seed, limit);
+                tell_run(alloc, manager, cache, requests, told);
+            }
+        }
+    }
+}
+
+fn tell_run<M: EvictionManager>(
+    alloc: Global,
+    manager: Result<M>,
+    cache: &'static str,
+    requests: &'static str,
+    told: &mut Told,
+) {
+    let most = match word(cache, 2) {
+        "pass" => size(cache, 1),
+        _ => usize::MAX,
+    };
+    let time = some_number(cache, 3).map(Duration::from_secs);
+    match manager {
+        Ok(manager) => {
+            let mut run = Run::new(alloc, manager, most, time);
+            tell_requests(alloc, &mut run, requests, told);
+            tell_counts(&run, told);
+        }
+        Err(refused) => told.refused(&refused),
+    }
+}
+
+fn tell_requests<M: EvictionManager>(
+    alloc: Global,
+    run: &mut Run<M>,
+    requests: &'static str,
+    told: &mut Told,
+) {
+    for asked in requests.split(", ") {
+        let hits = run.counts.hits;
+        if make(alloc, run, asked).is_err() {
+            told.say("refused");
+        }
+        told.say(if run.counts.hits > hits { "+" } else { "-" });
+    }
+}
+
+// The first request of a run is made alone, and each other one is played.
+fn make<M: EvictionManager>(alloc: Global, run: &mut Run<M>, asked: &'static str) -> Result<()> {
+    let request = request_of(alloc, asked)?;
+    if run.counts.requests == 0 {
+        return run.request(&request);
+    }
+    let mut requests = Vec::new(alloc);
+    requests.push(request)?;
+    run.play(requests.as_slice())
+}
+
+fn request_of(alloc: Global, asked: &'static str) -> Result<Request> {
+    let primary = hash_key(word(asked, 0).as_bytes());
+    let item = CacheEntryKey::key_only(CompactCacheKey {
+        primary,
+        variance: None,
+        user_tag: Text::new(String::new(alloc)),
+    });
+    Ok(Request {
+        item,
+        size: size(asked, 1),
+        time: Moment::from_secs(number(asked, 2)),
+    })
+}
+
+fn tell_counts<M: EvictionManager>(run: &Run<M>, told: &mut Told) {
+    told.say(" | ");
+    told.number(run.counts.requests);
+    told.say(" of ");
+    told.shown(&run.counts.bytes);
+    told.say(", ");
+    told.number(run.counts.misses());
+    told.say(" of ");
+    told.shown(&run.counts.miss_bytes());
+    told.say(" missed, ");
+    told.shown(&run.manager.evicted_items());
+    told.say(" went, ");
+    told.shown(&run.manager.total_size());
+    told.say(" tracked");
+}
+
+fn run(rt: &impl Abort, alloc: Global, rows: &'static str) {
+    for seed in [Seed::fixed(), other_seed()] {
+        let mut made = Made { alloc, seed };
+        play(rt, alloc, &mut made, rows);
+    }
+}
+
+const USED: &str = "
+    lru 3 pass: a 1, b 1, c 1, a 1, a 1, d 1, b 1, e 1, a 1, c 1, f 1, b 1, a 1, g 1, d 1, a 1, a 1, b 1 -> ---++----------++- | 18 of 18, 14 of 14 missed, 11 went, 3 tracked
+    sharded 3 pass: a 1, b 1, c 1, a 1, a 1, d 1, b 1, e 1, a 1, c 1, f 1, b 1, a 1, g 1, d 1, a 1, a 1, b 1 -> ---++----------++- | 18 of 18, 14 of 14 missed, 11 went, 3 tracked
+    sieve 3 pass: a 1, b 1, c 1, a 1, a 1, d 1, b 1, e 1, a 1, c 1, f 1, b 1, a 1, g 1, d 1, a 1, a 1, b 1 -> ---++---+---+--++- | 18 of 18, 12 of 12 missed, 9 went, 3 tracked
+    s3-fifo 3 pass: a 1, b 1, c 1, a 1, a 1, d 1, b 1, e 1, a 1, c 1, f 1, b 1, a 1, g 1, d 1, a 1, a 1, b 1 -> ---++---+---+--++- | 18 of 18, 12 of 12 missed, 9 went, 3 tracked";
+
+#[test]
+fn each_policy_keeps_its_own(rt: HostRuntime) {
+    run(&rt, rt.alloc(), USED);
+}
+
+const WEIGHED: &str = "
+    lru 8 pass: a 5, b 3, a 5, c 4, a 5, b 3, a 5, d 2, b 3, c 4, b 3, d 2, c 4, a 5, e 9, d 2 -> --+---+---+----- | 16 of 64, 13 of 51 missed, 10 went, 7 tracked
+    sieve 8 pass: a 5, b 3, a 5, c 4, a 5, b 3, a 5, d 2, b 3, c 4, b 3, d 2, c 4, a 5, e 9, d 2 -> --+---+---+----- | 16 of 64, 13 of 51 missed, 10 went, 7 tracked
+    s3-fifo 8 pass: a 5, b 3, a 5, c 4, a 5, b 3, a 5, d 2, b 3, c 4, b 3, d 2, c 4, a 5, e 9, d 2 -> --+---+-+------- | 16 of 64, 13 of 51 missed, 10 went, 7 tracked
+    # bodies above the limit
+    lru 8 pass: a 2, b 3, z 50, a 2, b 3, z 50, c 4, a 2 -> ---++--- | 8 of 116, 6 of 111 missed, 2 went, 6 tracked
+    lru 8 evict: a 2, b 3, z 50, a 2, b 3, z 50, c 4, a 2 -> -------- | 8 of 116, 8 of 116 missed, 6 went, 6 tracked
+    sieve 8 pass: a 2, b 3, z 50, a 2, b 3, z 50, c 4, a 2 -> ---++--- | 8 of 116, 6 of 111 missed, 2 went, 6 tracked
+    sieve 8 evict: a 2, b 3, z 50, a 2, b 3, z 50, c 4, a 2 -> -------- | 8 of 116, 8 of 116 missed, 6 went, 6 tracked
+    s3-fifo 8 pass: a 2, b 3, z 50, a 2, b 3, z 50, c 4, a 2 -> ---++--- | 8 of 116, 6 of 111 missed, 2 went, 6 tracked
+    s3-fifo 8 evict: a 2, b 3, z 50, a 2, b 3, z 50, c 4, a 2 -> -------- | 8 of 116, 8 of 116 missed, 6 went, 6 tracked";
+
+#[test]
+fn bodies_have_weights(rt: HostRuntime) {
+    run(&rt, rt.alloc(), WEIGHED);
+}
+
+const FRESH: &str = "
+    lru 8 pass 10: a 2 100, a 2 110, a 2 111, a 2 121, b 3 121 -> -+-+- | 5 of 11, 3 of 7 missed, 0 went, 5 tracked
+    sieve 8 pass 10: a 2 100, a 2 110, a 2 111, a 2 121, b 3 121 -> -+-+- | 5 of 11, 3 of 7 missed, 0 went, 5 tracked
+    s3-fifo 8 pass 10: a 2 100, a 2 110, a 2 111, a 2 121, b 3 121 -> -+-+- | 5 of 11, 3 of 7 missed, 0 went, 5 tracked
+    # what went comes in anew
+    lru 2 pass 10: a 2 0, b 2 1, a 2 2, a 2 12, a 2 13 -> ---+- | 5 of 10, 4 of 8 missed, 2 went, 2 tracked
+    # a time that ends at no moment does not end
+    lru 2 pass 10: a 2 18446744073709551615, a 2 18446744073709551615 -> -+ | 2 of 4, 1 of 2 missed, 0 went, 2 tracked
+    # no time is over at once
+    lru 2 pass 0: a 2 7, a 2 7, a 2 8 -> -+- | 3 of 6, 2 of 4 missed, 0 went, 2 tracked";
+
+#[test]
+fn a_body_past_its_time_comes_in_anew(rt: HostRuntime) {
+    run(&rt, rt.alloc(), FRESH);
+}
