@@ -127,9 +127,12 @@ def proved(name, folder, jobs):
     """Whether the crate was proved and built, and what was printed."""
     is_library = os.path.exists(f"{folder}/src/lib.rt")
     is_of_tests = name.startswith("tests_of_")
-    said = rt(folder, "check", "--jobs", str(jobs), *(["--test"] if is_of_tests else []))
-    if said.returncode or is_of_tests:
-        return not said.returncode, said.stdout
+    said = rt(folder, "check", "--jobs", str(jobs))
+    if said.returncode:
+        return False, said.stdout
+    if is_of_tests:  # the gate checks both: what is no test must not end the program
+        tested = rt(folder, "check", "--test", "--jobs", str(jobs))
+        return not tested.returncode, tested.stdout
     if is_library:
         built = rt(folder, "lib")
         return not built.returncode, built.stdout
