@@ -45,9 +45,9 @@ tell() {
 }
 
 # build 'NAME: LIBRARY ..' proves and builds a program, whose files `sources` finds if crates/NAME has none, as
-# crates/NAME/out/NAME. The gate
-# does it, over the crates below the program alone: what a gate on this machine proved of them is taken as it is. The gate also
-# compares what the program writes with a file that is not there, so only whether the program was built is looked at.
+# crates/NAME/out/NAME. Libraries that stand proved in the repository, as `bench/prove.py` or a daily `rt lib` leaves them, are
+# taken as they are; the others are proved first, one after the other. The program is run once to build it, and what it prints
+# then is not looked at.
 build() {
     program=${1%%:*}
     [ -d "crates/$program/src" ] || sources "$program"
@@ -66,8 +66,12 @@ build() {
     for crate in crates/*; do
         grep -q "^$(basename "$crate")[ :]" crates.txt || rm -r "$crate"
     done
-    (cd "crates/$program" && rt fmt) >&2
-    rt ci >"$copy/log" 2>&1 || true
+    for crate in crates/*; do
+        [ -d "$top/$crate/out/rlib" ] || continue
+        mkdir -p "$crate/out"
+        cp -al "$top/$crate/out/rlib" "$crate/out" 2>/dev/null || cp -a "$top/$crate/out/rlib" "$crate/out"
+    done
+    (cd "crates/$program" && rt fmt && rt run </dev/null) >"$copy/log" 2>&1 || true
     [ -x "crates/$program/out/$program" ] || {
         cat "$copy/log" >&2
         exit 1

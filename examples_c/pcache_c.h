@@ -168,6 +168,121 @@ uint32_t pcache_manager_save(pcache_handle *manager, size_t shard, uint8_t *out,
                              size_t *len);
 uint32_t pcache_manager_load(pcache_handle *manager, const uint8_t *bytes, size_t bytes_len);
 
+/* ---- a cache with its requests ---- */
+
+/* A request is a number that is good for its cache until it is ended; one that is not good is
+ * refused as PCACHE_BAD_HANDLE. A call that may not be made where the request stands is
+ * PCACHE_WRONG_CALL and changes nothing. */
+
+typedef struct pcache_cache_counts {
+    uint64_t stored_bytes; /* of complete bodies: at most the limit */
+    size_t bodies;         /* at most the watermark, if there is one */
+    size_t weight;
+    size_t entries;
+    size_t evicted_weight;
+    size_t evicted_entries;
+} pcache_cache_counts;
+
+/* Where a request stands. */
+enum {
+    PCACHE_DISABLED = 0,
+    PCACHE_UNINIT = 1,
+    PCACHE_BYPASS = 2,
+    PCACHE_KEY = 3,
+    PCACHE_HIT = 4,
+    PCACHE_MISS = 5,
+    PCACHE_STALE = 6,
+    PCACHE_STALE_UPDATING = 7,
+    PCACHE_EXPIRED = 8,
+    PCACHE_REVALIDATED = 9,
+    PCACHE_REVALIDATED_NO_CACHE = 10
+};
+
+/* What a hit is worth. */
+enum {
+    PCACHE_IS_EXPIRED = 0,
+    PCACHE_FORCE_EXPIRED = 1,
+    PCACHE_FORCE_EXPIRED_SERVE_STALE = 2,
+    PCACHE_FORCE_MISS = 3,
+    PCACHE_FAILED_HIT_FILTER = 4,
+    PCACHE_IS_FRESH = 5,
+    PCACHE_FORCE_FRESH = 6
+};
+
+/* Why nothing is stored. */
+enum {
+    PCACHE_NEVER_ENABLED = 0,
+    PCACHE_ORIGIN_NOT_CACHE = 1,
+    PCACHE_RESPONSE_TOO_LARGE = 2,
+    PCACHE_PREDICTED_TOO_LARGE = 3,
+    PCACHE_STORAGE_ERROR = 4,
+    PCACHE_INTERNAL_ERROR = 5,
+    PCACHE_DEFERRED = 6,
+    PCACHE_DECLINED_TO_UPSTREAM = 7,
+    PCACHE_UPSTREAM_ERROR = 8,
+    PCACHE_LOCK_GIVE_UP = 9,
+    PCACHE_LOCK_TIMEOUT = 10,
+    PCACHE_LOCK_RETRY_LIMIT = 11,
+    PCACHE_CUSTOM_REASON = 12
+};
+
+/* How a wait ended, if it is over. */
+enum {
+    PCACHE_WAITS = 0,
+    PCACHE_WAS_DONE = 1,
+    PCACHE_WAS_TRANSIENT_ERROR = 2,
+    PCACHE_WAS_DANGLING = 3,
+    PCACHE_WAS_WAIT_TIMEOUT = 4,
+    PCACHE_WAS_AGE_TIMEOUT = 5,
+    PCACHE_WAS_GIVE_UP = 6,
+    PCACHE_WAS_ABANDONED = 7
+};
+
+/* The seed is 16 bytes that the caller drew at random. A watermark of 0 is none. */
+uint32_t pcache_cache_new(pcache_handle *cache, const uint8_t *seed, size_t seed_len, size_t limit,
+                          size_t watermark, uint64_t age_timeout_millis);
+uint32_t pcache_cache_totals(pcache_handle *cache, pcache_cache_counts *out);
+/* The tag is UTF-8. */
+uint32_t pcache_request_new(pcache_handle *cache, const uint8_t *key, size_t key_len,
+                            const uint8_t *tag, size_t tag_len, uint64_t *request);
+uint32_t pcache_request_end(pcache_handle *cache, uint64_t request);
+uint32_t pcache_request_phase(pcache_handle *cache, uint64_t request, uint32_t *phase);
+/* What was found stays with the request until it is taken or passed. */
+uint32_t pcache_request_look(pcache_handle *cache, uint64_t request, uint64_t now_secs,
+                             uint32_t now_nanos, uint32_t *found);
+uint32_t pcache_request_take(pcache_handle *cache, uint64_t request, uint32_t status,
+                             uint64_t now_secs, uint32_t now_nanos);
+uint32_t pcache_request_pass(pcache_handle *cache, uint64_t request);
+uint32_t pcache_request_miss(pcache_handle *cache, uint64_t request);
+/* A copy of the meta of what was found, else of what the request serves or fills. */
+uint32_t pcache_request_meta(pcache_handle *cache, uint64_t request, pcache_handle *meta);
+/* These two copy the meta; its handle keeps it. */
+uint32_t pcache_request_set_meta(pcache_handle *cache, uint64_t request, pcache_handle *meta);
+uint32_t pcache_request_renew(pcache_handle *cache, uint64_t request, pcache_handle *meta);
+/* No variance is one of no bytes. */
+uint32_t pcache_request_vary(pcache_handle *cache, uint64_t request, const uint8_t *variance,
+                             size_t variance_len);
+uint32_t pcache_request_begin(pcache_handle *cache, uint64_t request);
+uint32_t pcache_request_write(pcache_handle *cache, uint64_t request, const uint8_t *bytes,
+                              size_t bytes_len, uint32_t eof);
+/* PCACHE_NONE if there is no write. PCACHE_REMOVED if its key was purged since it began. */
+uint32_t pcache_request_finish(pcache_handle *cache, uint64_t request, size_t *stored,
+                               size_t *evicted);
+/* `more` is 1 if bytes were written to the buffer, 0 at the end, 2 if nothing is there yet. */
+uint32_t pcache_request_read(pcache_handle *cache, uint64_t request, uint8_t *out, size_t out_room,
+                             size_t *len, uint32_t *more);
+uint32_t pcache_request_finish_hit(pcache_handle *cache, uint64_t request);
+/* 0 for nothing, 1 for the permit, 2 for a read lock. */
+uint32_t pcache_request_held(pcache_handle *cache, uint64_t request, uint32_t *held);
+uint32_t pcache_request_wait(pcache_handle *cache, uint64_t request, uint64_t now_secs,
+                             uint32_t now_nanos, uint32_t *outcome);
+/* PCACHE_NONE if the request holds nothing. */
+uint32_t pcache_request_release(pcache_handle *cache, uint64_t request, uint32_t reason);
+uint32_t pcache_request_disable(pcache_handle *cache, uint64_t request, uint32_t reason);
+uint32_t pcache_request_purge(pcache_handle *cache, uint64_t request, uint32_t *was);
+uint32_t pcache_request_expire(pcache_handle *cache, uint64_t request, uint64_t now_secs,
+                               uint32_t now_nanos, uint32_t *was);
+
 #ifdef __cplusplus
 }
 #endif

@@ -4,6 +4,7 @@
 //! C compiler that reads `examples_c/pcache_c.h`. A handle is not `Send` and not `Sync`, since it holds
 //! a raw pointer: it stays on its thread.
 
+use std::cell::RefCell;
 use std::time::{Duration, SystemTime, UNIX_EPOCH};
 
 #[repr(C)]
@@ -69,6 +70,17 @@ struct RawEntry {
 
 #[repr(C)]
 #[derive(Clone, Copy, Debug, Default)]
+pub struct CacheTotals {
+    pub stored_bytes: u64,
+    pub bodies: usize,
+    pub weight: usize,
+    pub entries: usize,
+    pub evicted_weight: usize,
+    pub evicted_entries: usize,
+}
+
+#[repr(C)]
+#[derive(Clone, Copy, Debug, Default)]
 pub struct Totals {
     pub weight: usize,
     pub entries: usize,
@@ -105,6 +117,25 @@ extern "C" {
     fn pcache_manager_tag(manager: *mut Raw, out: *mut u8, out_len: usize) -> u32;
     fn pcache_manager_save(manager: *mut Raw, shard: usize, out: *mut u8, out_room: usize, len: *mut usize) -> u32;
     fn pcache_manager_load(manager: *mut Raw, bytes: *const u8, len: usize) -> u32;
+    fn pcache_meta_new(meta: *mut Raw, head: *mut Raw, said: *const Said) -> u32;
+    fn pcache_cache_new(cache: *mut Raw, seed: *const u8, seed_len: usize, limit: usize, watermark: usize, age_timeout_millis: u64) -> u32;
+    fn pcache_cache_totals(cache: *mut Raw, out: *mut CacheTotals) -> u32;
+    fn pcache_request_new(cache: *mut Raw, key: *const u8, key_len: usize, tag: *const u8, tag_len: usize, request: *mut u64) -> u32;
+    fn pcache_request_end(cache: *mut Raw, request: u64) -> u32;
+    fn pcache_request_phase(cache: *mut Raw, request: u64, phase: *mut u32) -> u32;
+    fn pcache_request_look(cache: *mut Raw, request: u64, now_secs: u64, now_nanos: u32, found: *mut u32) -> u32;
+    fn pcache_request_take(cache: *mut Raw, request: u64, status: u32, now_secs: u64, now_nanos: u32) -> u32;
+    fn pcache_request_miss(cache: *mut Raw, request: u64) -> u32;
+    fn pcache_request_meta(cache: *mut Raw, request: u64, meta: *mut Raw) -> u32;
+    fn pcache_request_set_meta(cache: *mut Raw, request: u64, meta: *mut Raw) -> u32;
+    fn pcache_request_begin(cache: *mut Raw, request: u64) -> u32;
+    fn pcache_request_write(cache: *mut Raw, request: u64, bytes: *const u8, len: usize, eof: u32) -> u32;
+    fn pcache_request_finish(cache: *mut Raw, request: u64, stored: *mut usize, evicted: *mut usize) -> u32;
+    fn pcache_request_read(cache: *mut Raw, request: u64, out: *mut u8, room: usize, len: *mut usize, more: *mut u32) -> u32;
+    fn pcache_request_finish_hit(cache: *mut Raw, request: u64) -> u32;
+    fn pcache_request_held(cache: *mut Raw, request: u64, held: *mut u32) -> u32;
+    fn pcache_request_wait(cache: *mut Raw, request: u64, now_secs: u64, now_nanos: u32, outcome: *mut u32) -> u32;
+    fn pcache_request_purge(cache: *mut Raw, request: u64, was: *mut u32) -> u32;
 }
 
 /// Why a call was refused.
@@ -114,6 +145,7 @@ pub struct Refused(pub u32);
 pub const BAD_VALUE: Refused = Refused(4);
 pub const UNREADABLE: Refused = Refused(5);
 pub const NONE: Refused = Refused(6);
+pub const WRONG_CALL: Refused = Refused(7);
 
 fn done(code: u32) -> Result<(), Refused> {
     if code == 0 { Ok(()) } else { Err(Refused(code)) }
@@ -219,6 +251,13 @@ impl Head {
 pub struct Meta(Handle);
 
 impl Meta {
+    pub fn new(head: &mut Head, said: &Said) -> Result<Meta, Refused> {
+        let mut meta = Handle::new();
+        // SAFETY: the handle of the meta has nothing, the head is another, and the struct has the library's layout.
+        done(unsafe { pcache_meta_new(&mut meta.0, &mut head.0.0, said) })?;
+        Ok(Meta(meta))
+    }
+
     pub fn read(internal: &[u8], header: &[u8]) -> Result<Meta, Refused> {
         let mut meta = Handle::new();
         // SAFETY: the slices hold what they say for the call.
@@ -372,5 +411,156 @@ impl Manager {
             key.id = (entry.has_id != 0).then_some(entry.id);
             all.push(key);
         }
+    }
+}
+
+/// A cache: a store in memory, an eviction manager and a lock table. Its requests borrow it, so they are ended before it.
+pub struct Cache(RefCell<Handle>);
+
+impl Cache {
+    pub fn new(seed: &[u8; 16], limit: usize, watermark: usize, age_timeout: Duration) -> Result<Cache, Refused> {
+        let mut handle = Handle::new();
+        let millis = u64::try_from(age_timeout.as_millis()).unwrap_or(u64::MAX);
+        // SAFETY: the handle has nothing.
+        done(unsafe { pcache_cache_new(&mut handle.0, seed.as_ptr(), 16, limit, watermark, millis) })?;
+        Ok(Cache(RefCell::new(handle)))
+    }
+
+    pub fn totals(&self) -> CacheTotals {
+        let mut out = CacheTotals::default();
+        // SAFETY: a struct of the library's layout.
+        assert_eq!(unsafe { pcache_cache_totals(&mut self.0.borrow_mut().0, &mut out) }, 0);
+        out
+    }
+
+    pub fn request(&self, key: &[u8], tag: &str) -> Result<Request<'_>, Refused> {
+        let mut number = 0;
+        // SAFETY: the slices hold what they say for the call.
+        done(unsafe { pcache_request_new(&mut self.0.borrow_mut().0, key.as_ptr(), key.len(), tag.as_ptr(), tag.len(), &mut number) })?;
+        Ok(Request { cache: self, number })
+    }
+}
+
+/// What a request holds of its key's lock.
+#[derive(Clone, Copy, Debug, PartialEq, Eq)]
+pub enum Held {
+    Nothing,
+    Permit,
+    ReadLock,
+}
+
+/// What a read gave.
+#[derive(Clone, Copy, Debug, PartialEq, Eq)]
+pub enum Read {
+    Bytes(usize),
+    End,
+    NotYet,
+}
+
+/// A request, ended once by `Drop`.
+pub struct Request<'c> {
+    cache: &'c Cache,
+    number: u64,
+}
+
+impl Request<'_> {
+    // SAFETY of each call below: the handle is the cache's alone while it is borrowed, slices hold what they say for the
+    // call, and what is written to is this call's.
+    fn call(&mut self, call: impl FnOnce(*mut Raw, u64) -> u32) -> Result<(), Refused> {
+        done(call(&mut self.cache.0.borrow_mut().0, self.number))
+    }
+
+    pub fn phase(&mut self) -> Result<u32, Refused> {
+        let mut phase = 0;
+        self.call(|cache, request| unsafe { pcache_request_phase(cache, request, &mut phase) })?;
+        Ok(phase)
+    }
+
+    /// Whether something was found, which stays with the request until it is taken.
+    pub fn look(&mut self, now: Moment) -> Result<bool, Refused> {
+        let mut found = 0;
+        self.call(|cache, request| unsafe { pcache_request_look(cache, request, now.secs, now.nanos, &mut found) })?;
+        Ok(found != 0)
+    }
+
+    /// Takes what was found: fresh, or expired.
+    pub fn take(&mut self, is_fresh: bool, now: Moment) -> Result<(), Refused> {
+        let status = if is_fresh { 5 } else { 0 };
+        self.call(|cache, request| unsafe { pcache_request_take(cache, request, status, now.secs, now.nanos) })
+    }
+
+    pub fn miss(&mut self) -> Result<(), Refused> {
+        self.call(|cache, request| unsafe { pcache_request_miss(cache, request) })
+    }
+
+    /// A copy of the meta of what was found, else of what the request serves or fills.
+    pub fn meta(&mut self) -> Result<Meta, Refused> {
+        let mut meta = Handle::new();
+        self.call(|cache, request| unsafe { pcache_request_meta(cache, request, &mut meta.0) })?;
+        Ok(Meta(meta))
+    }
+
+    pub fn set_meta(&mut self, meta: &mut Meta) -> Result<(), Refused> {
+        self.call(|cache, request| unsafe { pcache_request_set_meta(cache, request, &mut meta.0.0) })
+    }
+
+    pub fn begin(&mut self) -> Result<(), Refused> {
+        self.call(|cache, request| unsafe { pcache_request_begin(cache, request) })
+    }
+
+    pub fn write(&mut self, bytes: &[u8], eof: bool) -> Result<(), Refused> {
+        self.call(|cache, request| unsafe { pcache_request_write(cache, request, bytes.as_ptr(), bytes.len(), u32::from(eof)) })
+    }
+
+    /// How many bytes were stored, and how many entries were evicted for them.
+    pub fn finish(&mut self) -> Result<(usize, usize), Refused> {
+        let (mut stored, mut evicted) = (0, 0);
+        self.call(|cache, request| unsafe { pcache_request_finish(cache, request, &mut stored, &mut evicted) })?;
+        Ok((stored, evicted))
+    }
+
+    pub fn read(&mut self, out: &mut [u8]) -> Result<Read, Refused> {
+        let (mut len, mut more) = (0, 0);
+        self.call(|cache, request| unsafe { pcache_request_read(cache, request, out.as_mut_ptr(), out.len(), &mut len, &mut more) })?;
+        Ok(match more {
+            1 => Read::Bytes(len),
+            0 => Read::End,
+            _ => Read::NotYet,
+        })
+    }
+
+    pub fn finish_hit(&mut self) -> Result<(), Refused> {
+        self.call(|cache, request| unsafe { pcache_request_finish_hit(cache, request) })
+    }
+
+    pub fn held(&mut self) -> Result<Held, Refused> {
+        let mut held = 0;
+        self.call(|cache, request| unsafe { pcache_request_held(cache, request, &mut held) })?;
+        Ok(match held {
+            1 => Held::Permit,
+            2 => Held::ReadLock,
+            _ => Held::Nothing,
+        })
+    }
+
+    /// 0 while the wait is not over, else how it ended, by the header's number.
+    pub fn wait(&mut self, now: Moment) -> Result<u32, Refused> {
+        let mut outcome = 0;
+        self.call(|cache, request| unsafe { pcache_request_wait(cache, request, now.secs, now.nanos, &mut outcome) })?;
+        Ok(outcome)
+    }
+
+    /// Removes what stands under the key, and says whether anything was there.
+    pub fn purge(&mut self) -> Result<bool, Refused> {
+        let mut was = 0;
+        self.call(|cache, request| unsafe { pcache_request_purge(cache, request, &mut was) })?;
+        Ok(was != 0)
+    }
+}
+
+impl Drop for Request<'_> {
+    fn drop(&mut self) {
+        // SAFETY: the number is good until here.
+        unsafe { pcache_request_end(&mut self.cache.0.borrow_mut().0, self.number) };
     }
 }

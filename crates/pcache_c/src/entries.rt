@@ -2,8 +2,8 @@
 ghost use Rattle.std.specs.Prelude.{◌≡◌, IfOk, None, Some, if◌then◌else◌};
 
 use crate::codes::{BAD_VALUE, NO_MEMORY};
-use crate::hashes::hash_from;
-use pcache_base::key::{CompactCacheKey, HashBinary};
+use crate::hashes::{hash_from, variance_from};
+use pcache_base::key::CompactCacheKey;
 use pcache_base::text::Text;
 use pcache_evict::eviction::{CacheEntryId, CacheEntryKey};
 use std::alloc::Global;
@@ -23,16 +23,6 @@ pub struct PcacheEntry {
     pub tag_len: usize,
 }
 
-fn variance_of(bytes: &[u8]) -> Result<Option<HashBinary>, u32> {
-    if bytes.is_empty() {
-        return Ok(None);
-    }
-    match hash_from(bytes) {
-        Some(hash) => Ok(Some(hash)),
-        None => Err(BAD_VALUE),
-    }
-}
-
 /// The key of an entry from a primary hash, a variance (of no bytes for none), a tag, which is
 /// text, and a number if there is one.
 pub(crate) fn entry_from(
@@ -45,7 +35,7 @@ pub(crate) fn entry_from(
     let Some(primary) = hash_from(primary) else {
         return Err(BAD_VALUE);
     };
-    let variance = variance_of(variance)?;
+    let variance = variance_from(variance)?;
     let Ok(tag) = std::str::from_utf8(tag) else {
         return Err(BAD_VALUE);
     };

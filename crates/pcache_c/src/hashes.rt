@@ -21,6 +21,17 @@ pub(crate) fn hash_from(bytes: &[u8]) -> Option<HashBinary> {
     }
 }
 
+/// A variance from exactly 16 bytes, or none from no bytes.
+pub(crate) fn variance_from(bytes: &[u8]) -> Result<Option<HashBinary>, u32> {
+    if bytes.is_empty() {
+        return Ok(None);
+    }
+    match hash_from(bytes) {
+        Some(hash) => Ok(Some(hash)),
+        None => Err(BAD_VALUE),
+    }
+}
+
 /// Writes bytes to the start of a buffer that is long enough.
 pub(crate) fn copy_out(bytes: &[u8], out: &mut [u8]) -> u32 {
     let len = bytes.len();

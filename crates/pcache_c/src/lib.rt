@@ -11,7 +11,9 @@
 //! - `metas`: metas of stored responses, and their bytes
 //! - `entries`: the keys of entries of eviction managers
 //! - `managers`: the eviction managers
+//! - `caches`: a cache with its requests; `served`: the two as one object; `requests`: what requests do
 
+mod caches;
 mod codes;
 mod entries;
 mod handle;
@@ -21,3 +23,5 @@ mod loose;
 mod managers;
 mod metas;
 mod object;
+mod requests;
+mod served;

@@ -172,7 +172,7 @@ pub struct PcacheTotals {
 }
 
 // The seed of 16 bytes that the caller drew.
-fn seed_of(seed: &[u8]) -> Option<Seed> {
+pub(crate) fn seed_of(seed: &[u8]) -> Option<Seed> {
     Some(Seed::new(hash_from(seed)?))
 }
 

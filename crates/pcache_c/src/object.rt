@@ -1,6 +1,7 @@
 //! What handles lead to.
 
 use crate::managers::Managed;
+use crate::served::Served;
 use pcache_base::variance::VarianceBuilder;
 use pcache_control::cache_control::CacheControl;
 use pcache_evict::eviction::{sharded_lru, simple_lru};
@@ -22,4 +23,6 @@ pub enum Object {
     Simple(Managed<simple_lru::Manager>),
     /// An eviction manager in 16 shards.
     Sharded(Managed<sharded_lru::Manager<16>>),
+    /// A cache with its open requests.
+    Cache(Served),
 }

@@ -16,6 +16,8 @@ mod memory;
 #[cfg(test)]
 mod noted;
 #[cfg(test)]
+mod plain_store;
+#[cfg(test)]
 mod puts;
 #[cfg(test)]
 mod random_locks;

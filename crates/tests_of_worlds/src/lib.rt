@@ -6,7 +6,6 @@
 //! - `script`: a line of a text as a call
 //! - `play`: a text on a world
 //! - `world`, `behind_a_lock`: the tests of these
-//! - `scripts`: whole scripts, as `cache_replay` runs them
 //! - `surface`: every public item named once
 
 #[cfg(test)]
@@ -15,8 +14,6 @@ mod behind_a_lock;
 mod play;
 #[cfg(test)]
 mod script;
-#[cfg(test)]
-mod scripts;
 #[cfg(test)]
 pub mod surface;
 #[cfg(test)]

@@ -1,0 +1,184 @@
+/* A cache from C: a fill, a hit, a wait with a body that is read while it comes, a purge and an eviction.
+ * It prints what examples_rust/cache.rs prints. */
+#include "pcache_c.h"
+
+#include <stdio.h>
+#include <stdlib.h>
+#include <string.h>
+
+static pcache_handle cache = {0, 0};
+
+static void check(const char *what, uint32_t code, uint32_t wanted) {
+    if (code != wanted) {
+        fprintf(stderr, "%s: code %u, and not %u\n", what, (unsigned)code, (unsigned)wanted);
+        exit(1);
+    }
+}
+
+static const uint8_t *bytes(const char *text) { return (const uint8_t *)text; }
+
+static uint64_t request_for(const char *key) {
+    uint64_t request;
+    check("open", pcache_request_new(&cache, bytes(key), strlen(key), bytes("1"), 1, &request), PCACHE_OK);
+    return request;
+}
+
+/* Looks up at second 1, and says whether something was found. */
+static uint32_t look(uint64_t request) {
+    uint32_t found;
+    check("look", pcache_request_look(&cache, request, 1, 0, &found), PCACHE_OK);
+    return found;
+}
+
+static uint32_t held(uint64_t request) {
+    uint32_t held;
+    check("held", pcache_request_held(&cache, request, &held), PCACHE_OK);
+    return held;
+}
+
+/* Begins a write of a response that is fresh until second 60. */
+static void begin(uint64_t request) {
+    pcache_handle head = {0, 0}, meta = {0, 0};
+    pcache_meta said = {{0, 0}, {0, 0}, {60, 0}, 0, 0};
+    check("head", pcache_head_new(&head, 200), PCACHE_OK);
+    check("meta", pcache_meta_new(&meta, &head, &said), PCACHE_OK);
+    check("miss", pcache_request_miss(&cache, request), PCACHE_OK);
+    check("set meta", pcache_request_set_meta(&cache, request, &meta), PCACHE_OK);
+    check("begin", pcache_request_begin(&cache, request), PCACHE_OK);
+    check("end head", pcache_end(&head), PCACHE_OK);
+    check("end meta", pcache_end(&meta), PCACHE_OK);
+}
+
+static void finish(uint64_t request) {
+    size_t stored, evicted;
+    check("finish", pcache_request_finish(&cache, request, &stored, &evicted), PCACHE_OK);
+    printf("stored %zu evicted %zu\n", stored, evicted);
+}
+
+static void fill(const char *key, const char *body) {
+    uint64_t request = request_for(key);
+    uint32_t found = look(request);
+    printf("%s: found %u held %u, ", key, (unsigned)found, (unsigned)held(request));
+    begin(request);
+    check("write", pcache_request_write(&cache, request, bytes(body), strlen(body), 1), PCACHE_OK);
+    finish(request);
+    check("end", pcache_request_end(&cache, request), PCACHE_OK);
+}
+
+/* Reads into a buffer of two bytes, and prints what came: `-` for nothing yet, `.` at the end. */
+static void read_once(uint64_t request) {
+    uint8_t buffer[2];
+    size_t len;
+    uint32_t more;
+    check("read", pcache_request_read(&cache, request, buffer, sizeof buffer, &len, &more), PCACHE_OK);
+    if (more == 1)
+        printf("%.*s", (int)len, (const char *)buffer);
+    else
+        printf("%s", more == 0 ? "." : "-");
+}
+
+static void hit(const char *key) {
+    uint64_t request = request_for(key);
+    uint32_t phase;
+    if (look(request) == 0) {
+        printf("%s: nothing\n", key);
+        check("end", pcache_request_end(&cache, request), PCACHE_OK);
+        return;
+    }
+    pcache_handle meta = {0, 0};
+    pcache_servable servable;
+    check("meta", pcache_request_meta(&cache, request, &meta), PCACHE_OK);
+    check("servable", pcache_meta_servable(&meta, 1, 0, &servable), PCACHE_OK);
+    check("end meta", pcache_end(&meta), PCACHE_OK);
+    check("take", pcache_request_take(&cache, request, servable.fresh ? PCACHE_IS_FRESH : PCACHE_IS_EXPIRED, 1, 0), PCACHE_OK);
+    check("phase", pcache_request_phase(&cache, request, &phase), PCACHE_OK);
+    printf("%s: fresh %u phase %u ", key, (unsigned)servable.fresh, (unsigned)phase);
+    for (int i = 0; i < 3; i++) read_once(request);
+    printf("\n");
+    check("finish hit", pcache_request_finish_hit(&cache, request), PCACHE_OK);
+    check("end", pcache_request_end(&cache, request), PCACHE_OK);
+}
+
+/* Two requests for one key: one writes, the other waits, and reads along. */
+static void wait_and_read(void) {
+    uint64_t writer = request_for("bb"), waiter = request_for("bb");
+    uint32_t outcome;
+    look(writer);
+    look(waiter);
+    printf("held %u and %u, ", (unsigned)held(writer), (unsigned)held(waiter));
+    check("wait", pcache_request_wait(&cache, waiter, 1, 0, &outcome), PCACHE_OK);
+    printf("wait %u ", (unsigned)outcome);
+    begin(writer);
+    check("wait", pcache_request_wait(&cache, waiter, 1, 0, &outcome), PCACHE_OK);
+    printf("then %u\n", (unsigned)outcome);
+    printf("found %u, ", (unsigned)look(waiter));
+    check("take", pcache_request_take(&cache, waiter, PCACHE_IS_FRESH, 1, 0), PCACHE_OK);
+    read_once(waiter);
+    check("write", pcache_request_write(&cache, writer, bytes("he"), 2, 0), PCACHE_OK);
+    read_once(waiter);
+    read_once(waiter);
+    check("write", pcache_request_write(&cache, writer, bytes("y"), 1, 1), PCACHE_OK);
+    read_once(waiter);
+    read_once(waiter);
+    printf(" ");
+    finish(writer);
+    check("end", pcache_request_end(&cache, writer), PCACHE_OK);
+    check("end", pcache_request_end(&cache, waiter), PCACHE_OK);
+}
+
+static void purge(const char *key) {
+    uint64_t request = request_for(key);
+    uint32_t was;
+    check("purge", pcache_request_purge(&cache, request, &was), PCACHE_OK);
+    printf("purge %s: %u\n", key, (unsigned)was);
+    check("end", pcache_request_end(&cache, request), PCACHE_OK);
+}
+
+static void print_totals(void) {
+    pcache_cache_counts totals;
+    check("totals", pcache_cache_totals(&cache, &totals), PCACHE_OK);
+    printf("%llu bytes of %zu bodies, %zu of %zu tracked, %zu of %zu evicted\n", (unsigned long long)totals.stored_bytes,
+           totals.bodies, totals.weight, totals.entries, totals.evicted_weight, totals.evicted_entries);
+}
+
+/* What may not be called is refused. */
+static void refused(void) {
+    uint64_t request = request_for("aa");
+    size_t stored, evicted, len;
+    uint32_t more;
+    uint8_t buffer[1];
+    pcache_cache_counts totals;
+    pcache_handle none = {0, 0};
+    check("finish first", pcache_request_finish(&cache, request, &stored, &evicted), PCACHE_WRONG_CALL);
+    check("read first", pcache_request_read(&cache, request, buffer, 1, &len, &more), PCACHE_WRONG_CALL);
+    check("take first", pcache_request_take(&cache, request, PCACHE_IS_FRESH, 1, 0), PCACHE_NONE);
+    check("status", pcache_request_take(&cache, request, 7, 1, 0), PCACHE_BAD_VALUE);
+    check("end", pcache_request_end(&cache, request), PCACHE_OK);
+    check("end again", pcache_request_end(&cache, request), PCACHE_BAD_HANDLE);
+    check("miss after the end", pcache_request_miss(&cache, request), PCACHE_BAD_HANDLE);
+    check("no cache", pcache_cache_totals(&none, &totals), PCACHE_BAD_HANDLE);
+    printf("refused what may not be called\n");
+}
+
+int main(void) {
+    const uint8_t seed[16] = {7, 7, 7, 7, 7, 7, 7, 7, 7, 7, 7, 7, 7, 7, 7, 7};
+    check("cache", pcache_cache_new(&cache, seed, 16, 6, 0, 10000), PCACHE_OK);
+    fill("aa", "hi");
+    hit("aa");
+    wait_and_read();
+    hit("bb");
+    print_totals();
+    fill("cc", "no");
+    print_totals();
+    hit("aa");
+    purge("bb");
+    purge("bb");
+    hit("bb");
+    print_totals();
+    refused();
+    /* A request that is open goes with its cache. */
+    look(request_for("dd"));
+    check("end", pcache_end(&cache), PCACHE_OK);
+    check("end again", pcache_end(&cache), PCACHE_BAD_HANDLE);
+    return 0;
+}

@@ -1,0 +1,133 @@
+//! A cache from Rust: a fill, a hit, a wait with a body that is read while it comes, a purge and an eviction. It prints what
+//! examples_c/cache.c prints.
+mod pcache;
+
+use pcache::{Cache, Head, Held, Meta, Moment, NONE, Read, Refused, Request, Said, WRONG_CALL};
+use std::time::Duration;
+
+const NOW: Moment = Moment { secs: 1, nanos: 0 };
+
+fn number_of(held: Held) -> u32 {
+    match held {
+        Held::Nothing => 0,
+        Held::Permit => 1,
+        Held::ReadLock => 2,
+    }
+}
+
+/// Begins a write of a response that is fresh until second 60.
+fn begin(request: &mut Request) -> Result<(), Refused> {
+    let said = Said { fresh_until: Moment { secs: 60, nanos: 0 }, ..Said::default() };
+    let mut meta = Meta::new(&mut Head::new(200)?, &said)?;
+    request.miss()?;
+    request.set_meta(&mut meta)?;
+    request.begin()
+}
+
+fn finish(request: &mut Request) -> Result<(), Refused> {
+    let (stored, evicted) = request.finish()?;
+    println!("stored {stored} evicted {evicted}");
+    Ok(())
+}
+
+fn fill(cache: &Cache, key: &str, body: &[u8]) -> Result<(), Refused> {
+    let mut request = cache.request(key.as_bytes(), "1")?;
+    let found = u32::from(request.look(NOW)?);
+    print!("{key}: found {found} held {}, ", number_of(request.held()?));
+    begin(&mut request)?;
+    request.write(body, true)?;
+    finish(&mut request)
+}
+
+/// Reads into a buffer of two bytes, and prints what came: `-` for nothing yet, `.` at the end.
+fn read_once(request: &mut Request) -> Result<(), Refused> {
+    let mut buffer = [0; 2];
+    match request.read(&mut buffer)? {
+        Read::Bytes(len) => print!("{}", String::from_utf8_lossy(&buffer[..len])),
+        Read::End => print!("."),
+        Read::NotYet => print!("-"),
+    }
+    Ok(())
+}
+
+fn hit(cache: &Cache, key: &str) -> Result<(), Refused> {
+    let mut request = cache.request(key.as_bytes(), "1")?;
+    if !request.look(NOW)? {
+        println!("{key}: nothing");
+        return Ok(());
+    }
+    let servable = request.meta()?.servable(NOW)?;
+    request.take(servable.fresh != 0, NOW)?;
+    print!("{key}: fresh {} phase {} ", servable.fresh, request.phase()?);
+    for _ in 0..3 {
+        read_once(&mut request)?;
+    }
+    println!();
+    request.finish_hit()
+}
+
+/// Two requests for one key: one writes, the other waits, and reads along.
+fn wait_and_read(cache: &Cache) -> Result<(), Refused> {
+    let mut writer = cache.request(b"bb", "1")?;
+    let mut waiter = cache.request(b"bb", "1")?;
+    writer.look(NOW)?;
+    waiter.look(NOW)?;
+    print!("held {} and {}, ", number_of(writer.held()?), number_of(waiter.held()?));
+    print!("wait {} ", waiter.wait(NOW)?);
+    begin(&mut writer)?;
+    println!("then {}", waiter.wait(NOW)?);
+    print!("found {}, ", u32::from(waiter.look(NOW)?));
+    waiter.take(true, NOW)?;
+    read_once(&mut waiter)?;
+    writer.write(b"he", false)?;
+    read_once(&mut waiter)?;
+    read_once(&mut waiter)?;
+    writer.write(b"y", true)?;
+    read_once(&mut waiter)?;
+    read_once(&mut waiter)?;
+    print!(" ");
+    finish(&mut writer)
+}
+
+fn purge(cache: &Cache, key: &str) -> Result<(), Refused> {
+    let was = cache.request(key.as_bytes(), "1")?.purge()?;
+    println!("purge {key}: {}", u32::from(was));
+    Ok(())
+}
+
+fn print_totals(cache: &Cache) {
+    let totals = cache.totals();
+    println!(
+        "{} bytes of {} bodies, {} of {} tracked, {} of {} evicted",
+        totals.stored_bytes, totals.bodies, totals.weight, totals.entries, totals.evicted_weight, totals.evicted_entries
+    );
+}
+
+/// What may not be called is refused.
+fn refused(cache: &Cache) -> Result<(), Refused> {
+    let mut request = cache.request(b"aa", "1")?;
+    assert_eq!(request.finish(), Err(WRONG_CALL));
+    assert_eq!(request.read(&mut [0]), Err(WRONG_CALL));
+    assert_eq!(request.take(true, NOW), Err(NONE));
+    println!("refused what may not be called");
+    Ok(())
+}
+
+fn main() -> Result<(), Refused> {
+    let cache = Cache::new(&[7; 16], 6, 0, Duration::from_secs(10))?;
+    fill(&cache, "aa", b"hi")?;
+    hit(&cache, "aa")?;
+    wait_and_read(&cache)?;
+    hit(&cache, "bb")?;
+    print_totals(&cache);
+    fill(&cache, "cc", b"no")?;
+    print_totals(&cache);
+    hit(&cache, "aa")?;
+    purge(&cache, "bb")?;
+    purge(&cache, "bb")?;
+    hit(&cache, "bb")?;
+    print_totals(&cache);
+    refused(&cache)?;
+    cache.request(b"dd", "1")?.look(NOW)?;
+    Ok(())
+}
