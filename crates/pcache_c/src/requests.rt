@@ -142,7 +142,10 @@ pub(crate) fn take(cache: &mut ListCache, open: &mut Open, status: HitStatus, no
 }
 
 /// Lets go what a look-up found.
-pub(crate) fn pass(cache: &mut ListCache, open: &mut Open) -> u32 {
+pub(crate) fn pass(cache: &mut ListCache, open: &mut Open) -> u32
+    ensures request { open.new.request.cache ≡ open.old.request.cache }
+    ensures none { open.new.found ≡ None }
+{
     match open.found.take() {
         Some((_meta, hit)) => {
             cache.let_go(hit);

@@ -161,7 +161,7 @@ impl Drop for Served {
             mut seats,
             first_free: _,
         } = self;
-        while let Some(seat) = seats.pop() {
+        'seats: while let Some(seat) = seats.pop() {
             let Seat {
                 round: _,
                 next_free: _,
