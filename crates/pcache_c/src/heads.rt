@@ -1,5 +1,6 @@
 //! Heads of responses, what Cache-Control says of them, and whether they are to be stored.
-ghost use Rattle.std.specs.Prelude.{◌≡◌};
+ghost use Rattle.std.specs.Prelude.{◌≡◌, ◌↔◌, IsTrue};
+ghost use Rattle.pcache_control.specs.Control.{allows_authorized};
 
 use crate::codes::{BAD_HANDLE, BAD_VALUE, NO_MEMORY, NONE, OK, WRONG_KIND, code_of};
 use crate::handle::PcacheHandle;
@@ -113,7 +114,10 @@ fn seconds_of(duration: Option<Duration>) -> (u32, u64) {
     }
 }
 
-fn answer(control: &CacheControl, out: &mut PcacheAnswers) {
+fn answer(control: &CacheControl, out: &mut PcacheAnswers) -> u32
+    ensures done { result ≡ 0 }
+    ensures authorized { (out.new.authorized ≡ 1) ↔ IsTrue (allows_authorized control.now) }
+{
     let (has_fresh, fresh_secs) = seconds_of(control.fresh_duration());
     let (has_while, while_secs) = seconds_of(control.serve_stale_while_revalidate_duration());
     let (has_error, error_secs) = seconds_of(control.serve_stale_if_error_duration());
@@ -129,6 +133,7 @@ fn answer(control: &CacheControl, out: &mut PcacheAnswers) {
     out.stale_while_revalidate_secs = while_secs;
     out.has_stale_if_error = has_error;
     out.stale_if_error_secs = error_secs;
+    OK
 }
 
 /// What Cache-Control says.
@@ -142,10 +147,7 @@ pub extern "C" fn pcache_control_answers(
         return BAD_HANDLE;
     };
     let code = match &*object {
-        Object::Control(read) => {
-            answer(read, out);
-            OK
-        }
+        Object::Control(read) => answer(read, out),
         _ => WRONG_KIND,
     };
     control.put(object);

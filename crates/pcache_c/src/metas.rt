@@ -1,5 +1,6 @@
 //! Metas of stored responses, and their bytes.
-ghost use Rattle.std.specs.Prelude.{◌≡◌, ◌+◌, ◌*◌, IfSome};
+ghost use Rattle.std.specs.Prelude.{◌≡◌, ◌≤◌, ◌+◌, ◌*◌, ◌↔◌, IfSome};
+ghost use Rattle.pcache_meta.specs.Meta.{MayServeStale};
 
 use crate::codes::{BAD_HANDLE, BAD_VALUE, OK, WRONG_KIND, code_of};
 use crate::handle::PcacheHandle;
@@ -28,7 +29,9 @@ pub struct PcacheMoment {
 }
 
 impl PcacheMoment {
-    fn of(moment: Moment) -> PcacheMoment {
+    fn of(moment: Moment) -> PcacheMoment
+        ensures { result.secs * 1000000000 + result.nanos ≡ moment }
+    {
         PcacheMoment {
             secs: moment.secs(),
             nanos: moment.nanos(),
@@ -111,6 +114,22 @@ pub extern "C" fn pcache_meta_read(
     }
 }
 
+fn says(meta: &CacheMeta, out: &mut PcacheMeta) -> u32
+    ensures done { result ≡ 0 }
+    ensures created { out.new.created.secs * 1000000000 + out.new.created.nanos ≡ meta.now.created }
+    ensures updated { out.new.updated.secs * 1000000000 + out.new.updated.nanos ≡ meta.now.updated }
+    ensures fresh { out.new.fresh_until.secs * 1000000000 + out.new.fresh_until.nanos ≡ meta.now.fresh_until }
+    ensures revalidating { out.new.stale_while_revalidate_secs ≡ meta.now.stale_while_revalidate_sec }
+    ensures failing { out.new.stale_if_error_secs ≡ meta.now.stale_if_error_sec }
+{
+    out.created = PcacheMoment::of(meta.created());
+    out.updated = PcacheMoment::of(meta.updated());
+    out.fresh_until = PcacheMoment::of(meta.fresh_until());
+    out.stale_while_revalidate_secs = meta.stale_while_revalidate_sec();
+    out.stale_if_error_secs = meta.stale_if_error_sec();
+    OK
+}
+
 /// What a meta says, beside its head.
 #[unsafe(no_mangle)]
 pub extern "C" fn pcache_meta_says(
@@ -122,14 +141,7 @@ pub extern "C" fn pcache_meta_says(
         return BAD_HANDLE;
     };
     let code = match &*object {
-        Object::Meta(read) => {
-            out.created = PcacheMoment::of(read.created());
-            out.updated = PcacheMoment::of(read.updated());
-            out.fresh_until = PcacheMoment::of(read.fresh_until());
-            out.stale_while_revalidate_secs = read.stale_while_revalidate_sec();
-            out.stale_if_error_secs = read.stale_if_error_sec();
-            OK
-        }
+        Object::Meta(read) => says(read, out),
         _ => WRONG_KIND,
     };
     meta.put(object);
@@ -148,6 +160,20 @@ pub struct PcacheServable {
     pub after_error: u32,
 }
 
+fn servable(meta: &CacheMeta, now: Moment, out: &mut PcacheServable) -> u32
+    ensures done { result ≡ 0 }
+    ensures fresh { (out.new.fresh ≡ 1) ↔ (now ≤ meta.now.fresh_until) }
+    ensures revalidating { (out.new.while_revalidating ≡ 1)
+        ↔ MayServeStale meta.now.fresh_until meta.now.stale_while_revalidate_sec now }
+    ensures failing { (out.new.after_error ≡ 1)
+        ↔ MayServeStale meta.now.fresh_until meta.now.stale_if_error_sec now }
+{
+    out.fresh = u32::from(meta.is_fresh(now));
+    out.while_revalidating = u32::from(meta.serve_stale_while_revalidate(now));
+    out.after_error = u32::from(meta.serve_stale_if_error(now));
+    OK
+}
+
 /// Whether the response of a meta may be served at a moment.
 #[unsafe(no_mangle)]
 pub extern "C" fn pcache_meta_servable(
@@ -164,12 +190,7 @@ pub extern "C" fn pcache_meta_servable(
         return BAD_HANDLE;
     };
     let code = match &*object {
-        Object::Meta(read) => {
-            out.fresh = u32::from(read.is_fresh(now));
-            out.while_revalidating = u32::from(read.serve_stale_while_revalidate(now));
-            out.after_error = u32::from(read.serve_stale_if_error(now));
-            OK
-        }
+        Object::Meta(read) => servable(read, now, out),
         _ => WRONG_KIND,
     };
     meta.put(object);
