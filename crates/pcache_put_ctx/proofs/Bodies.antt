@@ -9,7 +9,7 @@ use Rattle.pcache_meta.specs.declared.header.ResponseHeader.{ResponseHeader}
 use Rattle.pcache_put.proofs.PartLemmas.{body_joined, body_more, left_more, response_more}
 use Rattle.pcache_put.proofs.Unique.{one_outcome, unreadable_is_none}
 use Rattle.pcache_put.specs.Parts.{Given, given_in_all, add_all, left_behind, body_parts}
-use Rattle.pcache_put.specs.Progress.{Parsed, AtBody, TakenIn, GivesParts}
+use Rattle.pcache_put.specs.Progress.{Parsed, AtHead, AtBody, AtEnd, HasFailed, TakenIn, GivesParts}
 use Rattle.pcache_put.specs.Response.{IsUnreadable, declared_body, is_whole}
 use Rattle.pcache_put.specs.Counted.{Counted}
 use Rattle.pcache_put.specs.declared.response_parse.ParsePart.{ParsePart}
@@ -163,3 +163,22 @@ overruns says size size' parser meta pieces body o is past due counts =
 pub last_written : (wrote : Option Written) (o : Option BodyPart) (t : Bool) → IfSome wrote (λ (w : Written). (b : BodyPart) × (o ≡ Some b) × (w.eof ≡ b.is_last)) → IfSome o (λ (b : BodyPart). b.is_last ≡ t) → IfSome wrote (λ (w : Written). w.eof ≡ t)
 last_written None o t h g = tt
 last_written (Some w) o t h g = h.2 ∙ subst (λ (x : Option BodyPart). IfSome x (λ (b : BodyPart). b.is_last ≡ t)) h.1 g
+
+-- ---- after the whole body
+
+pub whole_at : (p : Parsed) → is_done p ≡ true → p ≡ AtBody (Some 0)
+whole_at (AtHead kept) e = absurd cc
+whole_at (AtBody None) e = absurd cc
+whole_at (AtBody (Some n)) e = ap (λ (m : ℕ). AtBody (Some m)) (eqb-true n 0 e)
+whole_at AtEnd e = absurd cc
+whole_at (HasFailed kind) e = absurd cc
+
+no_part : (bytes : List ℕ) → (brought (body_parts (Some 0) bytes)).body ≡ None
+no_part [] = refl
+no_part (b ∷ bytes) = refl
+
+-- a piece brings nothing of it
+pub nothing_after : (p : Parsed) (piece : List ℕ) (parts : List ParsePart) → is_done p ≡ true → GivesParts p piece parts → (brought parts).body ≡ None
+nothing_after p piece parts e gives =
+    let at : GivesParts (AtBody (Some 0)) piece parts = subst (λ (q : Parsed). GivesParts q piece parts) (whole_at p e) gives in
+    ap (λ (all : List ParsePart). (brought all).body) at ∙ no_part piece

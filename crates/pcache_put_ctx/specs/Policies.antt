@@ -1,5 +1,6 @@
 -- Which pushed responses are stored (RFC 9111 section 3; the limit on the length is own).
-use Rattle.std.specs.Prelude.{◌≡◌, ℕ, Bool, false, nat_lt, if◌then◌else◌, List, Option, Some, None, codes}
+use Rattle.std.specs.Prelude.{◌≡◌, ℕ, Bool, false, nat_lt, if◌then◌else◌, List, Option, Some, None, codes, option_map}
+use Rattle.std.specs.Duration.{as_nanos}
 use Rattle.std.specs.declared.time.Duration.{Duration}
 use Rattle.http_header.specs.HeaderMap.{get}
 use Rattle.pcache_base.specs.declared.reason.NoCacheReason.TheVariants.{ResponseTooLarge}
@@ -19,6 +20,14 @@ abbrev pub SaysByDefault : ℕ × ℕ → (ℕ → Option Duration → Type 0) �
 SaysByDefault windows lifetimes header now answer =
     (cc : Option CacheControl) × ReadsField header.headers (codes "cache-control") cc × ReadsOneMap header.headers (codes "cache-control") cc
     × IsOutcome now cc windows header false (lifetimes (asked_status header.status)) answer
+
+-- one answer to a head at a moment
+abbrev pub HasOneAnswer : (ResponseHeader → ℕ → RespCacheable → Type 0) → Type 0
+HasOneAnswer says = (header : ResponseHeader) (now : ℕ) (a b : RespCacheable) → says header now a → says header now b → a ≡ b
+
+-- one default lifetime of a status
+abbrev pub HaveOneLifetime : (ℕ → Option Duration → Type 0) → Type 0
+HaveOneLifetime lifetimes = (status : ℕ) (a b : Option Duration) → lifetimes status a → lifetimes status b → option_map as_nanos a ≡ option_map as_nanos b
 
 -- the length that the first value of a field declares, if there is one and it can be read
 abbrev pub DeclaresBy : Option (List ℕ) → Option ℕ → Type 0

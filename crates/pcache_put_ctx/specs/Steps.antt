@@ -121,6 +121,13 @@ IfRefused piece.GoesOn P = Unit {0}
 IfRefused (piece.NotCached reason) P = Unit {0}
 IfRefused (piece.Refused e w) P = P e
 
+-- the body that is written is whole: what comes then is no part of it
+abbrev pub HasWholeBody : Stage → Parsed → Type 0
+HasWholeBody InHead parser = ⊥
+HasWholeBody (InBody w id fresh_until) parser = is_done parser ≡ true
+HasWholeBody (HasDeclined reason) parser = ⊥
+HasWholeBody (IsOver kind) parser = ⊥
+
 -- why bytes of a write may be refused
 abbrev pub MayRefuseFill : Store → ℕ → ErrorType → Type 0
 MayRefuseFill s w OutOfMemory = Unit {0}

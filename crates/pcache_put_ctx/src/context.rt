@@ -79,7 +79,7 @@ fn leave<M>(place: &mut Stage<M>, end: PutEnd, entry: Option<CacheEntryKey>) -> 
 }
 
 impl<C: CachePut, S: Storage> CachePutCtx<C, S> {
-    ghost use Rattle.std.specs.Prelude.{◌≡◌, ◌⊎◌, ◌++◌, ◌∷◌, [], List, true, IfSome, IsTrue, OnOk, OnErr, IfErr, Option, Some, None, option_map};
+    ghost use Rattle.std.specs.Prelude.{◌≡◌, ◌⊎◌, ◌++◌, ◌∷◌, [], List, Ok, true, IfSome, IsTrue, OnOk, OnErr, IfErr, Option, Some, None, option_map};
     ghost use Rattle.pcache_base.specs.declared.error.ErrorType.TheVariants.{InternalError};
     ghost use Rattle.pcache_meta.specs.Meta.{Meta};
     ghost use Rattle.pcache_put.specs.Progress.{AtHead, HasFailed};
@@ -89,7 +89,7 @@ impl<C: CachePut, S: Storage> CachePutCtx<C, S> {
     ghost use Rattle.pcache_put_ctx.specs.Puts.{Piece, IsResult};
     ghost use Rattle.std.specs.Option.{option_and_then};
     ghost use Rattle.pcache_put_ctx.specs.State.{InHead, Filled, HasTaken, entry_in, limit_of, write_in};
-    ghost use Rattle.pcache_put_ctx.specs.Steps.{Done, store_after, store_left, stage_begun, filled_on, BeginsAtHead, EndsPiece, TakesPiece, StandsAnswered, RepeatsAnswer, AnswersAgain, IfRefused, MayRefusePiece, is_done, EndsPut, EndsAs, stage_ended, entry_told, evicted_ended, IfWithdrawn, TellsResult};
+    ghost use Rattle.pcache_put_ctx.specs.Steps.{Done, HasWholeBody, store_after, store_left, stage_begun, filled_on, BeginsAtHead, EndsPiece, TakesPiece, StandsAnswered, RepeatsAnswer, AnswersAgain, IfRefused, MayRefusePiece, is_done, EndsPut, EndsAs, stage_ended, entry_told, evicted_ended, IfWithdrawn, TellsResult};
 
     /// A put of a key, with no limit on its body.
     pub fn new(alloc: Global, policy: C, key: CacheKey) -> CachePutCtx<C, S>
@@ -137,7 +137,7 @@ impl<C: CachePut, S: Storage> CachePutCtx<C, S> {
     /// Takes in the next piece of the response, at a moment. Answers why nothing is stored, once that is so.
     ///
     /// It is refused when memory runs out, if all numbers of writes are used, if the head can't be read, and if the
-    /// body is longer than it may be. The write is dropped then.
+    /// body is longer than it may be. The write is dropped then. What comes after a whole body is ignored, and not refused.
     pub fn cache_put(
         &mut self,
         piece: &[u8],
@@ -148,6 +148,7 @@ impl<C: CachePut, S: Storage> CachePutCtx<C, S> {
             × (S.state storage.new ≡ store_left result (stage_begun self.old.stage d.began (S.state storage.old).next (entry_given S.guarantees.numbers (S.state storage.old).next)) (store_after self.old.key self.old.stage d.began d.wrote (entry_given S.guarantees.numbers (S.state storage.old).next) (S.state storage.old))) }
         ensures stands { StandsAnswered result self.new.stage }
         ensures again { RepeatsAnswer self.old.stage result }
+        ensures ignored { HasWholeBody self.old.stage self.old.parser → (result ≡ Ok None) × (self.new.stage ≡ self.old.stage) × (S.state storage.new ≡ S.state storage.old) }
         ensures kind { IfErr result (λ e. MayRefusePiece self.old.stage (S.state storage.old) e ⊎ (self.old.parser ≡ HasFailed e)) }
     {
         let PieceReport {
@@ -181,8 +182,9 @@ impl<C: CachePut, S: Storage> CachePutCtx<C, S> {
             → HasTaken (C.says self.old.policy) self.new (pieces ++ record { bytes = piece.now; now = now } ∷ []) (filled_on result.began result.wrote f) }
         ensures last { (pieces : List Piece) (f : Option Filled) → HasTaken (C.says self.old.policy) self.old pieces f → IfSome result.wrote (λ w. w.eof ≡ is_done self.new.parser) }
 
-        // A reason is answered again, and so is a refusal.
+        // A reason is answered again, and so is a refusal. What comes after a whole body is ignored.
         ensures again { AnswersAgain self.old.stage result.end }
+        ensures ignored { HasWholeBody self.old.stage self.old.parser → result ≡ record { began = None; wrote = None; end = PieceEnd.GoesOn } }
         ensures kind { IfRefused result.end (λ e. MayRefusePiece self.old.stage (S.state storage.old) e ⊎ (self.old.parser ≡ HasFailed e)) }
     {
         match take_stage(&mut self.stage) {

@@ -1,5 +1,5 @@
 //! How a put takes in its pieces.
-ghost use Rattle.std.specs.Prelude.{◌≡◌, ◌⊎◌, ◌↔◌, ◌++◌, ◌∷◌, [], List, ℕ, true, false, IsTrue, IfOk, IfErr, IfSome, OnOk, OnErr, Option, Some, None, option_map};
+ghost use Rattle.std.specs.Prelude.{◌≡◌, ◌≢◌, ◌⊎◌, Ok, ◌↔◌, ◌++◌, ◌∷◌, [], List, ℕ, true, false, IsTrue, IfOk, IfErr, IfSome, OnOk, OnErr, Option, Some, None, option_map};
 ghost use Rattle.std.specs.FinMap as map;
 ghost use Rattle.pcache_base.specs.Key.{slot};
 ghost use Rattle.pcache_base.specs.declared.error.ErrorType.TheVariants.{OutOfMemory, InternalError, InvalidHttpHeader, ResponseTooLarge};
@@ -14,6 +14,7 @@ ghost use Rattle.pcache_put_ctx.specs.Puts.{Piece, IsResult, joined};
 ghost use Rattle.pcache_put_ctx.specs.Stages.{stage_of};
 ghost use Rattle.pcache_put_ctx.specs.State.{InHead, InBody, Filled, HeadTaken, BodyRead, BodyTaken, Counts, limit_of, TakenBy};
 ghost use Rattle.pcache_put_ctx.specs.Steps.{counted_part, IsAllowed, IfRefused, MayRefuseFill, written, store_wrote, store_after, stage_begun, filled_on, filled_wrote, EndsPiece, EndsPut, TellsResult, entry_told, evicted_ended, MayRefusePiece, is_done};
+ghost use Rattle.pcache_put_ctx.specs.declared.report.PieceEnd.TheVariants.{GoesOn};
 
 use crate::boxed::Boxed;
 use crate::brought::{BodyPart, Brought};
@@ -78,6 +79,8 @@ fn write_part<S: Storage>(
     ensures size { size.new ≡ counted_part size.old part }
     ensures allowed { OnOk result (IfSome part (λ _. IsAllowed size.new)) }
     ensures over { IfErr result (λ e. e ≡ ResponseTooLarge → ¬ (IsAllowed size.new)) }
+    ensures fits { IfErr result (λ e. e ≢ ResponseTooLarge → IsAllowed size.new) }
+    ensures nothing { part ≡ None → result ≡ Ok None }
     ensures kind { IfErr result (λ e. MayRefuseFill (S.state storage.old) (S.Miss.write writer.old) e) }
     ensures err { OnErr result (S.state storage.new ≡ S.state storage.old) }
     ensures same { S.Miss.write writer.new ≡ S.Miss.write writer.old }
@@ -168,6 +171,7 @@ impl<C: CachePut> Intake<C> {
         ensures same { self.new ≡ record self.old { parser = self.new.parser } }
         ensures due { IfOk result (λ part. (pieces : List Piece) (now : ℕ) (meta : Meta) (body : List ℕ) → BodyRead (C.says self.old.policy) (limit_of self.old.size) self.old.parser meta pieces body → IsDue (C.says self.old.policy) (limit_of self.old.size) self.new.parser meta (pieces ++ record { bytes = piece.now; now = now } ∷ []) body part) }
         ensures invalid { IfErr result (λ e. e ≡ InvalidHttpHeader → (pieces : List Piece) (meta : Meta) (body : List ℕ) → ¬ (BodyRead (C.says self.old.policy) (limit_of self.old.size) self.old.parser meta pieces body)) }
+        ensures whole { is_done self.old.parser ≡ true → result ≡ Ok None }
         ensures kind { IfErr result (λ e. (e ≡ InvalidHttpHeader) ⊎ (e ≡ OutOfMemory) ⊎ (self.old.parser ≡ HasFailed e)) }
     {
         let parts = self.parser.inject_data(piece)?;
@@ -191,6 +195,7 @@ impl<C: CachePut> Intake<C> {
         ensures last { IfSome result.report.wrote (λ w. (b : BodyPart) × (part ≡ Some b) × (w.eof ≡ b.is_last)) }
         ensures taken { (pieces : List Piece) (meta : Meta) (body : List ℕ) → filling.fresh_until ≡ meta.fresh_until → IsDue (C.says self.old.policy) (limit_of self.old.size) self.old.parser meta pieces body part → Counts self.old.size body
             → TakenBy (C.says self.old.policy) self.new.size self.new.parser (stage_of S.Miss.write S.Miss.entry_number result.stage) pieces (filled_wrote result.report.wrote (Some (record { meta = meta; body = body }))) }
+        ensures nothing { part ≡ None → result.report ≡ record { began = began; wrote = None; end = GoesOn } }
         ensures kind { IfRefused result.report.end (MayRefuseFill (S.state storage.old) (S.Miss.write filling.writer)) }
     {
         let Filling {
@@ -249,6 +254,7 @@ impl<C: CachePut> Intake<C> {
         ensures last { (pieces : List Piece) (f : Option Filled) → TakenBy (C.says self.old.policy) self.old.size self.old.parser (InBody (S.Miss.write filling.writer) (S.Miss.entry_number filling.writer) filling.fresh_until) pieces f → IfSome result.report.wrote (λ w. w.eof ≡ is_done self.new.parser) }
         ensures taken { (pieces : List Piece) (f : Option Filled) → TakenBy (C.says self.old.policy) self.old.size self.old.parser (InBody (S.Miss.write filling.writer) (S.Miss.entry_number filling.writer) filling.fresh_until) pieces f
             → TakenBy (C.says self.old.policy) self.new.size self.new.parser (stage_of S.Miss.write S.Miss.entry_number result.stage) (pieces ++ record { bytes = piece.now; now = now } ∷ []) (filled_on result.report.began result.report.wrote f) }
+        ensures ignored { is_done self.old.parser ≡ true → result.report ≡ record { began = None; wrote = None; end = GoesOn } }
         ensures kind { IfRefused result.report.end (λ e. MayRefusePiece (InBody (S.Miss.write filling.writer) (S.Miss.entry_number filling.writer) filling.fresh_until) (S.state storage.old) e ⊎ (self.old.parser ≡ HasFailed e)) }
     {
         let _ = now;

@@ -1,10 +1,13 @@
-//! What comes of a put, however its bytes were cut.
-ghost use Rattle.std.specs.Prelude.{◌≡◌, ℕ, List, Option};
+//! What comes of a put, however its bytes were cut, and which policies answer a head at a moment in one way.
+ghost use Rattle.std.specs.Prelude.{◌≡◌, ℕ, List, None, Option, option_map};
+ghost use Rattle.std.specs.Duration.{as_nanos};
 ghost use Rattle.pcache_control.specs.declared.response.RespCacheable.{RespCacheable};
 ghost use Rattle.pcache_meta.specs.declared.header.ResponseHeader.{ResponseHeader};
+ghost use Rattle.pcache_put_ctx.specs.Policies.{HasOneAnswer, HaveOneLifetime, SaysByDefault};
 ghost use Rattle.pcache_put_ctx.specs.Puts.{Piece, Outcome, ComesTo, IsResult, joined};
 
-use crate::policy::CachePut;
+use crate::policy::{ByDefaults, CachePut};
+use pcache_control::FreshDurationByStatusFn;
 
 /// Of two puts of the same bytes, whose heads ended at one moment and whose policy answers a head at a moment in one way,
 /// the same comes, however the bytes were cut into pieces. A law; the call does nothing.
@@ -14,3 +17,19 @@ pub fn same_put_however_cut<C: CachePut>(policy: &C)
 {
     let _ = policy;
 }
+
+/// The policy that goes by a response and by defaults answers a head at a moment in one way, if its defaults give a status
+/// one lifetime. So `same_put_however_cut` holds of its puts. A law; the call does nothing.
+pub fn one_answer_by_defaults(policy: &ByDefaults)
+    ensures { HaveOneLifetime (FreshDurationByStatusFn.post policy.now.defaults.fresh_sec_fn)
+        → HasOneAnswer (SaysByDefault (policy.now.defaults.stale_while_revalidate_sec, policy.now.defaults.stale_if_error_sec) (FreshDurationByStatusFn.post policy.now.defaults.fresh_sec_fn)) }
+{
+    let _ = policy;
+}
+
+/// So does every policy whose default lifetimes are a function of the status, or that has none. A law; the call does
+/// nothing.
+pub fn one_answer_by_lifetimes()
+    ensures timed { (windows : ℕ × ℕ) (lifetimes : ℕ → Option ℕ) → HasOneAnswer (SaysByDefault windows (λ status lifetime. option_map as_nanos lifetime ≡ lifetimes status)) }
+    ensures none { (windows : ℕ × ℕ) → HasOneAnswer (SaysByDefault windows (λ status lifetime. lifetime ≡ None)) }
+{}

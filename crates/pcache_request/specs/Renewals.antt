@@ -1,8 +1,8 @@
 -- A stale response of which the origin said that it is good (the phase table; RFC 9111 section 4.3.4).
-use Rattle.std.specs.Prelude.{ℕ, Bool, List, [], ◌∷◌, Option, Some, None, codes, false, fold, is_some, map}
+use Rattle.std.specs.Prelude.{ℕ, ◌⊎◌, Bool, List, [], ◌∷◌, Option, Some, None, codes, false, fold, is_some, map}
 use Rattle.std.specs.FinMap.{get}
 use Rattle.http_header.specs.FieldValue.{FieldValue}
-use Rattle.http_header.specs.HeaderMap.{append, get_all, update}
+use Rattle.http_header.specs.HeaderMap.{RefusesAppend, RefusesInsert, append, get_all, update}
 use Rattle.pcache_base.specs.Key.{Key, slot}
 use Rattle.pcache_meta.specs.Header.{Fields, Header}
 use Rattle.pcache_meta.specs.Meta.{Meta, internal_changed, provenance_of}
@@ -51,6 +51,21 @@ added_all fields name (v ∷ vs) = added_all (append fields name v) name vs
 
 abbrev pub fields_renewed : Fields → Fields → Fields
 fields_renewed answer fields = fold (field_renewed answer) fields renewed_names
+
+-- of further values under a name, added one by one, one finds no room
+abbrev pub LacksRoomAfter : Fields → List ℕ → List (List ℕ) → Type 0
+LacksRoomAfter fields name [] = ⊥
+LacksRoomAfter fields name (v ∷ vs) = RefusesAppend fields name ⊎ LacksRoomAfter (append fields name v) name vs
+
+-- of values in place of those under a name, the first finds no room, or one after it
+abbrev pub LacksRoomFor : Fields → List ℕ → List (List ℕ) → Type 0
+LacksRoomFor fields name [] = ⊥
+LacksRoomFor fields name (v ∷ vs) = RefusesInsert fields name ⊎ LacksRoomAfter (update fields name (λ _. v ∷ [])) name vs
+
+-- of the fields that an answer renews, in turn, one finds no room for its values
+abbrev pub LacksRoom : Fields → Fields → List (List ℕ) → Type 0
+LacksRoom answer fields [] = ⊥
+LacksRoom answer fields (name ∷ names) = LacksRoomFor fields name (get_all answer name) ⊎ LacksRoom answer (field_renewed answer fields name) names
 
 abbrev pub header_renewed : Fields → Header → Header
 header_renewed answer h = record h { fields = fields_renewed answer h.fields }

@@ -497,7 +497,7 @@ impl<S: Storage> HttpCache<S> {
 
     /// Begins the write. In a storage whose writes can be read while they are made, the permit is
     /// released and the request's reader follows the write; if that is refused, the write has
-    /// begun and the permit is released.
+    /// begun and the permit is released. Over any other storage a refusal changes nothing.
     pub fn set_miss_handler<L: CacheKeyLock>(&mut self, storage: &mut S, lock: &mut L) -> Result<()>
         requires { MayWrite self.old }
         ensures request { OnOk result (self.new ≡ writing (S.streams storage.old) (S.state storage.old).next (entry_given S.guarantees.numbers (S.state storage.old).next) (begun_for self.old.key self.old.meta (S.state storage.old)) self.old) }
@@ -507,6 +507,7 @@ impl<S: Storage> HttpCache<S> {
             ⊎ ((self.new ≡ record self.old { write = Some (S.state storage.old).next; entry = entry_given S.guarantees.numbers (S.state storage.old).next; held = None }) × (S.state storage.new ≡ begun_for self.old.key self.old.meta (S.state storage.old)) × (L.table lock.new ≡ settled Done self.old.held (L.table lock.old)) × (e ≡ OutOfMemory))) }
         ensures kind { IfErr result (λ e. (e ≡ OutOfMemory) ⊎ MayRefuseWrite (S.state storage.old) e) }
         ensures something { OnErr result ((S.state storage.new ≡ S.state storage.old) ⊎ IsSome (joined_for self.old.key (S.state storage.old).next (begun_for self.old.key self.old.meta (S.state storage.old)))) }
+        ensures unjoined { OnErr result ((self.new ≡ self.old) ⊎ (S.streams storage.old ≡ true)) }
     {
         self.begin_write(storage, lock)?.joined
     }

@@ -42,6 +42,15 @@ impl Model for HttpCacheDigest {
     ghost view = { λ d. record { look_ups = option_map as_nanos d.lookup_duration; waits = option_map as_nanos d.lock_duration; abandoned = d.lock_abandon; admission = d.admission } };
 }
 
+/// Nothing took any time, and nothing was decided.
+impl Default for HttpCacheDigest {
+    fn default() -> HttpCacheDigest
+        ensures { result ≡ empty_digest }
+    {
+        HttpCacheDigest::new()
+    }
+}
+
 impl HttpCacheDigest {
     pub(crate) fn new() -> HttpCacheDigest
         ensures { result ≡ empty_digest }

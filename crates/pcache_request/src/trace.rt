@@ -4,6 +4,7 @@
 
 use crate::phase::{CachePhase, HitStatus};
 use pcache_base::moment::Moment;
+use pcache_lock::lock::{CacheKeyLock, LockWaitOutcome, ReadLock};
 use pcache_meta::meta::CacheMeta;
 use pcache_meta::trace::{Span, SpanHandle, Tag, tag_span_with_meta};
 
@@ -65,6 +66,17 @@ impl CacheTraceCTX {
     /// The request has no clock of its own; the closure stands for a back end's, and is not called.
     pub(crate) fn finish_hit_span(&mut self) {
         self.hit_span.set_finish_time(|| Moment::EPOCH);
+    }
+
+    /// Has a lock table tag a span of its own with how a wait for a read lock ended.
+    pub(crate) fn trace_lock_wait<L: CacheKeyLock>(
+        &self,
+        lock: &L,
+        read: &ReadLock,
+        outcome: LockWaitOutcome,
+    ) {
+        let mut span = self.child("cache_lock");
+        lock.trace_lock_wait(&mut span, read, outcome.lock_status());
     }
 
     pub(crate) fn log_meta_in_hit_span(&mut self, meta: &CacheMeta) {

@@ -12,6 +12,8 @@ mod lock;
 #[cfg(test)]
 mod managers;
 #[cfg(test)]
+mod many;
+#[cfg(test)]
 mod memory;
 #[cfg(test)]
 mod noted;

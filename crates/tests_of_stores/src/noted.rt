@@ -1,23 +1,24 @@
-//! What requests and puts hand on to a manager and a storage, which no contract sees: both note what they were handed last.
-use crate::memory::key_of;
+//! What requests and puts hand on to their parts, which no contract sees: a manager, a storage, a lock table and a policy
+//! of a put note what they were handed, or what was called.
+use crate::memory::{key_of, meta_until};
 use crate::whole_store::WholeStore;
-use http::StatusCode;
-use pcache_base::error::{Error, ErrorType, Result};
+use bytes::Bytes;
+use pcache_base::error::Result;
 use pcache_base::key::CacheKey;
 use pcache_base::moment::Moment;
 use pcache_base::seed::Seed;
-use pcache_control::{CacheMetaDefaults, RespCacheable};
-use pcache_evict::eviction::simple_lru::Manager;
 use pcache_evict::eviction::{CacheEntryKey, EvictionManager};
 use pcache_lock::lock::CacheLock;
-use pcache_meta::header::ResponseHeader;
-use pcache_put_ctx::context::CachePutCtx;
-use pcache_put_ctx::policy::{CachePut, default_cacheable};
 use pcache_request::cache::*;
 use pcache_request::phase::*;
-use pcache_store::storage::{HandleHit, PurgeType};
+use pcache_store::storage::{HandleHit, HandleMiss};
 use std::alloc::Global;
 use std::time::Duration;
+
+mod handed;
+mod readers;
+mod uses;
+mod waits;
 
 // A manager that notes until when the entries that it was handed last are fresh.
 #[derive(Drop)]
@@ -87,44 +88,17 @@ impl<M: EvictionManager> EvictionManager for Noting<M> {
     }
 }
 
-// Every status is fresh for twenty seconds, by a policy that promises nothing.
+// What requests and puts are lent.
 #[derive(Drop)]
-struct Twenty;
-
-fn twenty_seconds(_status: StatusCode) -> Option<Duration> {
-    Some(Duration::from_secs(20))
-}
-
-impl CachePut for Twenty {
-    ghost says = { λ p header now answer. Unit {0} };
-
-    fn cacheable(
-        &self,
-        alloc: Global,
-        header: ResponseHeader,
-        now: Moment,
-    ) -> Result<RespCacheable> {
-        default_cacheable(
-            alloc,
-            header,
-            &CacheMetaDefaults::new(twenty_seconds, 0, 0),
-            now,
-        )
-    }
-}
-
-// What requests and puts are lent: of two bodies of five bytes one is kept.
-#[derive(Drop)]
-struct Parts {
+struct Parts<M: EvictionManager> {
     alloc: Global,
     store: WholeStore,
-    manager: Noting<Manager>,
+    manager: Noting<M>,
     lock: CacheLock,
 }
 
-fn parts_of(alloc: Global) -> Result<Parts> {
-    let list = Manager::new(alloc, Seed::fixed(), 9)?;
-    Ok(Parts {
+fn parts_of<M: EvictionManager>(alloc: Global, list: M) -> Parts<M> {
+    Parts {
         alloc,
         store: WholeStore::new(alloc, Seed::fixed()),
         manager: Noting {
@@ -133,39 +107,38 @@ fn parts_of(alloc: Global) -> Result<Parts> {
             accessed: None,
         },
         lock: CacheLock::new(alloc, Duration::from_secs(10)),
-    })
-}
-
-const RESPONSE: &[u8] = b"HTTP/1.1 200 OK\r\n\r\nfresh";
-
-// Pushes a response at this second.
-fn pushes(parts: &mut Parts, name: &str, second: u64) -> Result<()> {
-    let mut put = CachePutCtx::new(parts.alloc, Twenty, key_of(parts.alloc, name)?);
-    let fed = put.cache_put(RESPONSE, &mut parts.store, Moment::from_secs(second));
-    let finished = put.finish(&mut parts.store, &mut parts.manager).is_ok();
-    put.end(&mut parts.store);
-    fed?;
-    if finished {
-        Ok(())
-    } else {
-        Err(Error::new(ErrorType::InternalError))
     }
-}
-
-// Whether the manager is handed the end of freshness with each admission, and the storage that it is an eviction.
-fn are_told_of_puts(parts: &mut Parts) -> Result<bool> {
-    pushes(parts, "a", 100)?;
-    let first = parts.manager.admitted == Some(Moment::from_secs(120))
-        && parts.store.purged().is_none();
-    pushes(parts, "b", 101)?;
-    let second = parts.manager.admitted == Some(Moment::from_secs(121));
-    let is_eviction = matches!(parts.store.purged(), Some(PurgeType::Eviction));
-    Ok(first && second && is_eviction)
 }
 
 type Request = HttpCache<WholeStore>;
 
-fn takes(parts: &mut Parts, request: &mut Request) -> Result<()> {
+fn asks(request: &mut Request, key: CacheKey, lock: bool) {
+    if request.phase().is_disabled() {
+        request.enable(InUse {
+            eviction: true,
+            predictor: false,
+            lock,
+        });
+    }
+    if request.phase().may_take_key() {
+        request.set_cache_key(key);
+    }
+}
+
+// A request of a key that uses the manager.
+fn request_of(alloc: Global, name: &str) -> Result<Request> {
+    let key = key_of(alloc, name)?;
+    let mut request = HttpCache::new(alloc);
+    asks(&mut request, key, false);
+    Ok(request)
+}
+
+// Looks the key up, and takes what is found as this.
+fn takes<M: EvictionManager>(
+    parts: &mut Parts<M>,
+    request: &mut Request,
+    status: HitStatus,
+) -> Result<()> {
     if !request.phase().may_look_up() {
         return Ok(());
     }
@@ -184,59 +157,68 @@ fn takes(parts: &mut Parts, request: &mut Request) -> Result<()> {
         &mut parts.lock,
         meta,
         hit,
-        HitStatus::Fresh,
+        status,
         now,
     )
 }
 
-fn purges(parts: &mut Parts, request: &mut Request) -> Result<()> {
-    if request.phase().may_purge() {
-        let _was_there = request.purge(&mut parts.store, &mut parts.manager)?;
+// Goes on as a miss, and begins the write of a response that is fresh until this second.
+fn begins<M: EvictionManager>(
+    parts: &mut Parts<M>,
+    request: &mut Request,
+    second: u64,
+) -> Result<()> {
+    if request.phase().may_miss() {
+        request.cache_miss();
+    }
+    if request.may_take_meta() {
+        request.set_cache_meta(meta_until(parts.alloc, second));
+    }
+    if request.may_write() {
+        request.set_miss_handler(&mut parts.store, &mut parts.lock)?;
     }
     Ok(())
 }
 
-fn asks(request: &mut Request, key: CacheKey) {
-    if request.phase().is_disabled() {
-        request.enable(InUse {
-            eviction: true,
-            predictor: false,
-            lock: false,
-        });
+// Writes five bytes, and ends the write.
+fn fills<M: EvictionManager>(parts: &mut Parts<M>, request: &mut Request) -> Result<()> {
+    if !request.phase().is_filling() {
+        return Ok(());
     }
-    if request.phase().may_take_key() {
-        request.set_cache_key(key);
+    if let Some(writer) = request.miss_handler()
+        && !writer.at_eof(&parts.store)
+    {
+        writer.write_body(&mut parts.store, Bytes::from_static(b"fresh"), true)?;
     }
+    let _report = request.finish_miss_handler(
+        &mut parts.store,
+        &mut parts.manager,
+        &mut parts.lock,
+    )?;
+    Ok(())
 }
 
-// Makes a request of the key `b` that takes what is found, or purges it.
-fn calls(parts: &mut Parts, is_purge: bool) -> Result<()> {
-    let key = key_of(parts.alloc, "b")?;
-    let mut request = HttpCache::new(parts.alloc);
-    asks(&mut request, key);
-    let made = if is_purge {
-        purges(parts, &mut request)
-    } else {
-        takes(parts, &mut request)
-    };
+fn begins_and_fills<M: EvictionManager>(
+    parts: &mut Parts<M>,
+    request: &mut Request,
+    second: u64,
+) -> Result<()> {
+    begins(parts, request, second)?;
+    fills(parts, request)
+}
+
+// Stores five bytes under a key, fresh until this second.
+fn stores<M: EvictionManager>(parts: &mut Parts<M>, name: &str, second: u64) -> Result<()> {
+    let mut request = request_of(parts.alloc, name)?;
+    let stored = begins_and_fills(parts, &mut request, second);
     let _let_go = request.end(&mut parts.store, &mut parts.lock);
-    made
+    stored
 }
 
-// Whether the manager is handed the end of freshness with a use, and the storage that a purge is an invalidation.
-fn are_told_of_requests(parts: &mut Parts) -> Result<bool> {
-    calls(parts, false)?;
-    let is_used = parts.manager.accessed == Some(Moment::from_secs(121));
-    calls(parts, true)?;
-    Ok(is_used && matches!(parts.store.purged(), Some(PurgeType::Invalidation)))
-}
-
-fn are_told(alloc: Global) -> Result<bool> {
-    let mut parts = parts_of(alloc)?;
-    Ok(are_told_of_puts(&mut parts)? && are_told_of_requests(&mut parts)?)
-}
-
-#[test]
-fn managers_and_storages_are_told_what_belongs_to_a_call(rt: HostRuntime) {
-    assert!(rt; matches!(are_told(rt.alloc()), Ok(true)));
+// Finds what stands under a key, as this, and ends the request.
+fn finds<M: EvictionManager>(parts: &mut Parts<M>, name: &str, status: HitStatus) -> Result<()> {
+    let mut request = request_of(parts.alloc, name)?;
+    let found = takes(parts, &mut request, status);
+    let _let_go = request.end(&mut parts.store, &mut parts.lock);
+    found
 }

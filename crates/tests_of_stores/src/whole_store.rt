@@ -21,11 +21,14 @@ use pcache_store::storage::{
 };
 use std::alloc::Global;
 
-/// A store in memory that keeps the numbers of its writes to itself, and notes what the last purge was for.
+/// A store in memory that keeps the numbers of its writes to itself, and notes what the last purge was for and how
+/// readers end.
 #[derive(Drop)]
 pub struct WholeStore {
     bodies: MemCache,
     purged: Option<PurgeType>,
+    finished: u32,
+    let_go: u32,
 }
 
 /// A reader of it.
@@ -44,7 +47,14 @@ impl WholeStore {
         WholeStore {
             bodies: MemCache::new(alloc, seed),
             purged: None,
+            finished: 0,
+            let_go: 0,
         }
+    }
+
+    /// How many readers were finished, and how many let go.
+    pub fn ended(&self) -> (u32, u32) {
+        (self.finished, self.let_go)
     }
 
     /// What the last purge was for.
@@ -161,11 +171,13 @@ impl HandleHit<WholeStore> for WholeHit {
 
     fn finish(self, store: &mut WholeStore) -> Result<()> {
         let WholeHit { hit } = self;
+        store.finished = store.finished.saturating_add(1);
         hit.finish(&mut store.bodies)
     }
 
     fn let_go(self, store: &mut WholeStore) {
         let WholeHit { hit } = self;
+        store.let_go = store.let_go.saturating_add(1);
         hit.let_go(&mut store.bodies);
     }
 

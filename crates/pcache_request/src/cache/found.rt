@@ -1,5 +1,5 @@
 //! Taking what a look-up found.
-ghost use Rattle.std.specs.Prelude.{◌≡◌, IfOk, IfErr, OnOk, OnErr, Some, None, cond, not, ◌&&◌};
+ghost use Rattle.std.specs.Prelude.{◌≡◌, IfOk, IfErr, OnOk, OnErr, Some, None, cond, not, ◌&&◌, true, false};
 ghost use Rattle.pcache_base.specs.declared.error.ErrorType.TheVariants.{OutOfMemory};
 ghost use Rattle.pcache_store.specs.Purge.{entry_read};
 ghost use Rattle.pcache_store.specs.Store.{counts_access, reader_weight};
@@ -27,9 +27,11 @@ fn note_access<S: Storage, E: EvictionManager>(
 ) -> Result<Option<Access>>
     ensures access { IfOk result (λ a. a ≡ cond (counts_access (S.Hit.reader hit.now) && not (phases.is_treated_as_miss status)) (Some (record { entry = entry_of key.now (entry_read S.guarantees.numbers (S.Hit.reader hit.now)); weight = reader_weight (S.Hit.reader hit.now) })) None) }
     ensures tracked { OnOk result (E.tracked eviction.new ≡ cond (counts_access (S.Hit.reader hit.now) && not (phases.is_treated_as_miss status)) (added (E.tracked eviction.old) (entry_of key.now (entry_read S.guarantees.numbers (S.Hit.reader hit.now))) (reader_weight (S.Hit.reader hit.now))) (E.tracked eviction.old)) }
+    ensures unused { (counts_access (S.Hit.reader hit.now) && not (phases.is_treated_as_miss status)) ≡ false → eviction.new ≡ eviction.old }
     ensures err { OnErr result (E.tracked eviction.new ≡ E.tracked eviction.old) }
     ensures limits { E.limits eviction.new ≡ E.limits eviction.old }
     ensures evicted { E.evicted eviction.new ≡ E.evicted eviction.old }
+    ensures counts { OnErr result ((counts_access (S.Hit.reader hit.now) && not (phases.is_treated_as_miss status)) ≡ true) }
     ensures kind { IfErr result (λ e. e ≡ OutOfMemory) }
 {
     if !hit.should_count_access() || status.is_treated_as_miss() {
@@ -55,13 +57,13 @@ fn phase_found(status: HitStatus, phase: CachePhase) -> CachePhase
 }
 
 impl<S: Storage> HttpCache<S> {
-    ghost use Rattle.std.specs.Prelude.{◌≡◌, ◌⊎◌, IfOk, IfErr, OnOk, OnErr, IsTrue};
+    ghost use Rattle.std.specs.Prelude.{◌≡◌, ◌⊎◌, IfOk, IfErr, OnOk, OnErr, IsTrue, false};
     ghost use Rattle.pcache_base.specs.declared.error.ErrorType.TheVariants.{OutOfMemory, NumbersExhausted};
     ghost use Rattle.pcache_lock.specs.Locks.{MayRefuseLock};
     ghost use Rattle.pcache_store.specs.Purge.{entry_read};
     ghost use Rattle.pcache_store.specs.Store.{left};
     ghost use Rattle.pcache_request.specs.Phases.{MayLookUp};
-    ghost use Rattle.pcache_request.specs.Requests.{found_row, asks_for_hit, store_found, table_found, tracked_found};
+    ghost use Rattle.pcache_request.specs.Requests.{found_row, asks_for_hit, counts_found, store_found, table_found, tracked_found};
     ghost use Rattle.pcache_request.specs.Reports.{asked_by_found, access_by_found};
 
     // Notes the use of what a look-up found, if a manager is in use and the hit counts and is not
@@ -76,9 +78,11 @@ impl<S: Storage> HttpCache<S> {
         requires { MayLookUp self.now.phase }
         ensures access { IfOk result (λ a. a ≡ access_by_found status (S.Hit.reader hit.now) (entry_read S.guarantees.numbers (S.Hit.reader hit.now)) self.now) }
         ensures tracked { OnOk result (E.tracked eviction.new ≡ tracked_found status (S.Hit.reader hit.now) (entry_read S.guarantees.numbers (S.Hit.reader hit.now)) self.now (E.tracked eviction.old)) }
+        ensures unused { counts_found status (S.Hit.reader hit.now) self.now ≡ false → eviction.new ≡ eviction.old }
         ensures err { OnErr result (E.tracked eviction.new ≡ E.tracked eviction.old) }
         ensures limits { E.limits eviction.new ≡ E.limits eviction.old }
         ensures evicted { E.evicted eviction.new ≡ E.evicted eviction.old }
+        ensures counts { OnErr result (IsTrue (counts_found status (S.Hit.reader hit.now) self.now)) }
         ensures kind { IfErr result (λ e. e ≡ OutOfMemory) }
     {
         let Some(key) = &self.key else { unreachable!() };
@@ -107,6 +111,7 @@ impl<S: Storage> HttpCache<S> {
         ensures same_request { OnErr result (self.new ≡ self.old) }
         ensures left_store { OnErr result (S.state storage.new ≡ left (S.state storage.old) (S.Hit.reader hit)) }
         ensures same_table { OnErr result (L.table lock.new ≡ L.table lock.old) }
+        ensures asks { OnErr result (IsTrue (asks_for_hit status self.old)) }
         ensures kind { IfErr result (λ e. MayRefuseLock (L.table lock.old) e) }
         ensures numbers { IfErr result (λ e. e ≡ NumbersExhausted → IsTrue (asks_for_hit status self.old)) }
     {
@@ -143,8 +148,9 @@ impl<S: Storage> HttpCache<S> {
 
     /// Takes what a look-up found. Its use is noted, if a manager is in use and the hit counts and is
     /// not passed over. A fresh hit is served; a stale one may be renewed, and one that is treated as
-    /// a miss is let go: both ask for the lock if one is in use. Refused, it lets the hit go; an
-    /// access noted before stays.
+    /// a miss is let go: both ask for the lock if one is in use. A manager is left wholly as it was
+    /// where no use is noted. Refused, it lets the hit go; an access noted before stays, if the lock
+    /// was refused. It is refused only if a use is noted or the lock asked for.
     pub fn cache_found<L: CacheKeyLock, E: EvictionManager>(
         &mut self,
         storage: &mut S,
@@ -164,6 +170,9 @@ impl<S: Storage> HttpCache<S> {
         ensures left_store { OnErr result (S.state storage.new ≡ left (S.state storage.old) (S.Hit.reader hit)) }
         ensures same_table { OnErr result (L.table lock.new ≡ L.table lock.old) }
         ensures noted { OnErr result ((E.tracked eviction.new ≡ E.tracked eviction.old) ⊎ (E.tracked eviction.new ≡ tracked_found status (S.Hit.reader hit) (entry_read S.guarantees.numbers (S.Hit.reader hit)) self.old (E.tracked eviction.old))) }
+        ensures stays { OnErr result ((E.tracked eviction.new ≡ E.tracked eviction.old) ⊎ IsTrue (asks_for_hit status self.old)) }
+        ensures unused { counts_found status (S.Hit.reader hit) self.old ≡ false → eviction.new ≡ eviction.old }
+        ensures something { OnErr result (IsTrue (counts_found status (S.Hit.reader hit) self.old) ⊎ IsTrue (asks_for_hit status self.old)) }
         ensures limits { E.limits eviction.new ≡ E.limits eviction.old }
         ensures evicted { E.evicted eviction.new ≡ E.evicted eviction.old }
         ensures kind { IfErr result (λ e. MayRefuseLock (L.table lock.old) e) }
@@ -202,6 +211,7 @@ impl<S: Storage> HttpCache<S> {
         ensures unlocked_request { IfOk result (λ f. OnErr f.asked (self.new ≡ self.old)) }
         ensures unlocked_store { IfOk result (λ f. OnErr f.asked (S.state storage.new ≡ left (S.state storage.old) (S.Hit.reader hit))) }
         ensures unlocked_table { IfOk result (λ f. OnErr f.asked (L.table lock.new ≡ L.table lock.old)) }
+        ensures unlocked_asks { IfOk result (λ f. OnErr f.asked (IsTrue (asks_for_hit status self.old))) }
         ensures unlocked_kind { IfOk result (λ f. IfErr f.asked (λ e. MayRefuseLock (L.table lock.old) e)) }
         ensures unlocked_numbers { IfOk result (λ f. IfErr f.asked (λ e. e ≡ NumbersExhausted → IsTrue (asks_for_hit status self.old))) }
 
@@ -209,6 +219,8 @@ impl<S: Storage> HttpCache<S> {
         ensures left_store { OnErr result (S.state storage.new ≡ left (S.state storage.old) (S.Hit.reader hit)) }
         ensures same_table { OnErr result (L.table lock.new ≡ L.table lock.old) }
         ensures same_tracked { OnErr result (E.tracked eviction.new ≡ E.tracked eviction.old) }
+        ensures unused { counts_found status (S.Hit.reader hit) self.old ≡ false → eviction.new ≡ eviction.old }
+        ensures counts { OnErr result (IsTrue (counts_found status (S.Hit.reader hit) self.old)) }
         ensures limits { E.limits eviction.new ≡ E.limits eviction.old }
         ensures evicted { E.evicted eviction.new ≡ E.evicted eviction.old }
         ensures kind { IfErr result (λ e. e ≡ OutOfMemory) }

@@ -10,6 +10,7 @@ ghost use Rattle.pcache_request.specs.Reports.{name_of};
 
 use super::{HttpCache, LockName, WaitReport, put};
 use crate::digest::{HttpCacheDigest, LockAbandon};
+use crate::trace::CacheTraceCTX;
 use pcache_base::error::Result;
 use pcache_base::fills::UnusableFills;
 use pcache_base::key::CacheKey;
@@ -125,9 +126,10 @@ fn first_poll(read: &ReadLock, waits_since: Option<Moment>, now: Moment) -> Mome
     }
 }
 
-// Holds a read lock again, if the wait goes on, and else lets it go.
+// Holds a read lock again, if the wait goes on, and else has the table trace the wait and lets it go.
 fn end_poll<L: CacheKeyLock>(
     lock: &mut L,
+    traces: &CacheTraceCTX,
     read: ReadLock,
     answer: Poll<LockWaitOutcome>,
     held: &mut Option<Locked>,
@@ -139,7 +141,8 @@ fn end_poll<L: CacheKeyLock>(
     ensures since { waits_since.new ≡ since_after answer since waits_since.old }
     ensures table { L.table lock.new ≡ let_go_after answer read.number (L.table lock.old) }
 {
-    if matches!(answer, Poll::Ready(_)) {
+    if let Poll::Ready(outcome) = answer {
+        traces.trace_lock_wait(lock, &read, outcome);
         lock.drop_lock(Locked::Read(read));
         return;
     }
@@ -164,6 +167,7 @@ fn end_wait(digest: &mut HttpCacheDigest, answer: Poll<LockWaitOutcome>, waited:
 fn wait_on<L: CacheKeyLock>(
     alloc: Global,
     lock: &mut L,
+    traces: &CacheTraceCTX,
     read: ReadLock,
     fills: Option<&UnusableFills>,
     timeout: Option<Duration>,
@@ -194,7 +198,7 @@ fn wait_on<L: CacheKeyLock>(
     let is_late = has_waited(timeout, digest.lock_duration, waited);
     match poll_read(alloc, lock, &mut read, fills, is_late, now) {
         Ok(report) => {
-            end_poll(lock, read, report.answer, held, waits_since, since);
+            end_poll(lock, traces, read, report.answer, held, waits_since, since);
             end_wait(digest, report.answer, waited);
             Ok(report)
         }
@@ -224,7 +228,8 @@ impl<S: Storage> HttpCache<S> {
     /// Whether the wait for the lock is over, and how it ended: the permit was released or let go;
     /// or else it has been held for too long, which the table keeps; or else a fill was published
     /// that the request cannot use; or else it waited for as long as it may, over all its waits. A
-    /// wait that is over lets the read lock go, and its time is in the digest.
+    /// wait that is over is traced by the table and lets the read lock go, and its time is in the
+    /// digest.
     ///
     /// It is refused only when memory runs out, only at the first poll of a read lock, and only if
     /// the key names fills that the request cannot use; nothing has changed then.
@@ -271,6 +276,7 @@ impl<S: Storage> HttpCache<S> {
         wait_on(
             self.alloc,
             lock,
+            &self.traces,
             read,
             fills,
             self.lock_ctx.wait_timeout,

@@ -1,11 +1,12 @@
 //! A stale response of which the origin said that it is good.
 ghost use Rattle.std.specs.Prelude.{◌≡◌, ◌⊎◌, IsTrue, IfErr, OnOk, Some};
 ghost use Rattle.http_header.specs.FieldName.{is_field_name};
-ghost use Rattle.http_header.specs.HeaderMap.{append, insert};
+ghost use Rattle.http_header.specs.HeaderMap.{RefusesAppend, RefusesInsert, append, get_all, insert};
+ghost use Rattle.http_header.specs.declared.map.HeaderMapError.TheVariants.{MaxSizeReached};
 ghost use Rattle.http_header.specs.Token.{lowercase};
 ghost use Rattle.pcache_base.specs.declared.error.ErrorType.TheVariants.{OutOfMemory, InternalError};
 ghost use Rattle.pcache_meta.specs.Header.{shown_fields};
-ghost use Rattle.pcache_request.specs.Renewals.{added_all, field_renewed, fields_renewed, renewed_by, shown_values};
+ghost use Rattle.pcache_request.specs.Renewals.{LacksRoom, LacksRoomAfter, LacksRoomFor, added_all, field_renewed, fields_renewed, renewed_by, renewed_names, shown_values};
 
 use super::{HttpCache, Renewal, settle};
 use crate::phase::CachePhase;
@@ -25,7 +26,8 @@ fn renew(meta: &mut CacheMeta, old: &CacheMeta)
 }
 
 fn refusal(error: HeaderMapError) -> Error
-    ensures { (result ≡ OutOfMemory) ⊎ (result ≡ InternalError) }
+    ensures kind { (result ≡ OutOfMemory) ⊎ (result ≡ InternalError) }
+    ensures full { result ≡ InternalError → error ≡ MaxSizeReached }
 {
     match error {
         HeaderMapError::MaxSizeReached => Error::new(ErrorType::InternalError),
@@ -37,6 +39,7 @@ fn refusal(error: HeaderMapError) -> Error
 fn set_field(headers: &mut HeaderMap, name: &'static str, value: &HeaderValue) -> Result<()>
     requires { IsTrue (is_field_name name.now) }
     ensures ok { OnOk result (headers.new ≡ insert headers.old (lowercase name.now) value.now) }
+    ensures full { IfErr result (λ e. e ≡ InternalError → RefusesInsert headers.old (lowercase name.now)) }
     ensures kind { IfErr result (λ e. (e ≡ OutOfMemory) ⊎ (e ≡ InternalError)) }
 {
     match headers.insert(name, value.clone()?) {
@@ -49,6 +52,7 @@ fn set_field(headers: &mut HeaderMap, name: &'static str, value: &HeaderValue) -
 fn add_field(headers: &mut HeaderMap, name: &'static str, value: &HeaderValue) -> Result<()>
     requires { IsTrue (is_field_name name.now) }
     ensures ok { OnOk result (headers.new ≡ append headers.old (lowercase name.now) value.now) }
+    ensures full { IfErr result (λ e. e ≡ InternalError → RefusesAppend headers.old (lowercase name.now)) }
     ensures kind { IfErr result (λ e. (e ≡ OutOfMemory) ⊎ (e ≡ InternalError)) }
 {
     match headers.append(name, value.clone()?) {
@@ -58,7 +62,7 @@ fn add_field(headers: &mut HeaderMap, name: &'static str, value: &HeaderValue) -
 }
 
 // Adds all values after those under a name, in order.
-#[tactic(auto, using(crate::proofs::Fields::shown_append))]
+#[tactic(auto, using(crate::proofs::Fields::shown_append, crate::proofs::Fields::lacks_now, crate::proofs::Fields::lacks_later))]
 fn add_fields(
     headers: &mut HeaderMap,
     name: &'static str,
@@ -66,6 +70,7 @@ fn add_fields(
 ) -> Result<()>
     requires { IsTrue (is_field_name name.now) }
     ensures ok { OnOk result (shown_fields headers.new ≡ added_all (shown_fields headers.old) (lowercase name.now) (shown_values values.entry)) }
+    ensures full { IfErr result (λ e. e ≡ InternalError → LacksRoomAfter (shown_fields headers.old) (lowercase name.now) (shown_values values.entry)) }
     ensures kind { IfErr result (λ e. (e ≡ OutOfMemory) ⊎ (e ≡ InternalError)) }
 {
     'values: for value in values {
@@ -75,10 +80,11 @@ fn add_fields(
 }
 
 // Puts the values that an answer has under a name in place of those that were there.
-#[tactic(auto, using(crate::proofs::Fields::renewed_none, crate::proofs::Fields::renewed_some))]
+#[tactic(auto, using(crate::proofs::Fields::renewed_none, crate::proofs::Fields::renewed_some, crate::proofs::Fields::lacks_first, crate::proofs::Fields::lacks_rest))]
 fn renew_field(headers: &mut HeaderMap, answer: &HeaderMap, name: &'static str) -> Result<()>
     requires { IsTrue (is_field_name name.now) }
     ensures ok { OnOk result (shown_fields headers.new ≡ field_renewed (shown_fields answer.now) (shown_fields headers.old) (lowercase name.now)) }
+    ensures full { IfErr result (λ e. e ≡ InternalError → LacksRoomFor (shown_fields headers.old) (lowercase name.now) (get_all (shown_fields answer.now) (lowercase name.now))) }
     ensures kind { IfErr result (λ e. (e ≡ OutOfMemory) ⊎ (e ≡ InternalError)) }
 {
     let mut values = answer.get_all(name).iter();
@@ -92,6 +98,7 @@ fn renew_field(headers: &mut HeaderMap, answer: &HeaderMap, name: &'static str) 
 // The same for each field that an answer renews.
 fn renew_fields(headers: &mut HeaderMap, answer: &HeaderMap) -> Result<()>
     ensures ok { OnOk result (shown_fields headers.new ≡ fields_renewed (shown_fields answer.now) (shown_fields headers.old)) }
+    ensures full { IfErr result (λ e. e ≡ InternalError → LacksRoom (shown_fields answer.now) (shown_fields headers.old) renewed_names) }
     ensures kind { IfErr result (λ e. (e ≡ OutOfMemory) ⊎ (e ≡ InternalError)) }
 {
     renew_field(headers, answer, "cache-control")?;
@@ -106,7 +113,7 @@ impl<S: Storage> HttpCache<S> {
     ghost use Rattle.pcache_base.specs.declared.error.ErrorType.TheVariants.{OutOfMemory, InternalError};
     ghost use Rattle.pcache_lock.specs.declared.lock.status.LockStatus.TheVariants.{Done};
     ghost use Rattle.pcache_meta.specs.Header.{shown, shown_fields};
-    ghost use Rattle.pcache_request.specs.Renewals.{renewed, renewed_by, has_body, with_meta_of, header_renewed};
+    ghost use Rattle.pcache_request.specs.Renewals.{LacksRoom, renewed, renewed_by, renewed_names, has_body, with_meta_of, header_renewed};
     ghost use Rattle.pcache_request.specs.Reports.{name_of};
     ghost use Rattle.pcache_request.specs.Requests.{settled};
     ghost use Rattle.pcache_request.specs.Stale.{MayRevalidate};
@@ -174,10 +181,12 @@ impl<S: Storage> HttpCache<S> {
     }
     /// The head of the stale response with the fields that an answer renews: Cache-Control, Expires,
     /// Cache-Tag, CDN-Cache-Control and ETag, each with the answer's values if it has any. It is
-    /// refused when memory runs out, or as `InternalError` if the head has no room for another field.
+    /// refused when memory runs out, and as `InternalError` only if the head has no room for one of the
+    /// answer's values.
     pub fn revalidate_merge_header(&self, resp: &RespHeader) -> Result<ResponseHeader>
         requires { MayRevalidate self.now }
         ensures ok { IfOk result (λ h. IfSome self.now.meta (λ m. shown h ≡ header_renewed (shown_fields resp.now.headers) m.header)) }
+        ensures full { IfErr result (λ e. e ≡ InternalError → IfSome self.now.meta (λ m. LacksRoom (shown_fields resp.now.headers) m.header.fields renewed_names)) }
         ensures kind { IfErr result (λ e. (e ≡ OutOfMemory) ⊎ (e ≡ InternalError)) }
     {
         let Some(meta) = &self.meta else {
