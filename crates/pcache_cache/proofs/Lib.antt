@@ -3,3 +3,4 @@ pub mod Sums
 pub mod Kept
 pub mod Ended
 pub mod Own
+pub mod Fed

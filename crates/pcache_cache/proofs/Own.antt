@@ -111,7 +111,7 @@ flies-left_by : (s : Store) (n k : ℕ) (o : Option Reader) → Flies s.writes n
 flies-left_by s n k None own = own
 flies-left_by s n k (Some r) own = flies-left s n k r own
 
-flies-under : (s : Store) (n k : ℕ) → Flies s.writes n k → is_write_under k n (get s.writes n) ≡ true
+pub flies-under : (s : Store) (n k : ℕ) → Flies s.writes n k → is_write_under k n (get s.writes n) ≡ true
 flies-under s n k own = ap (is_write_under k n) own.1 ∙ and_from _ _ (eq-eqb own.0.slot k own.3) (ap (λ o. option_eq nat_eq o (Some n)) own.4 ∙ eq-eqb n n refl)
 
 -- the write that a request begins is its own
@@ -132,7 +132,7 @@ wrote-under k w s bytes eof own =
       | Some x ↦ λ is yes. ap (is_write_under k w) (here s.writes w (record x { bytes = x.bytes ++ bytes; told = eof })) ∙ yes
     ] refl own
 
-wrote-own : (s : Store) (key : Option Key) (w : ℕ) (bytes : List ℕ) (eof : Bool) → is_own_write s key (Some w) ≡ true → is_own_write (wrote s w bytes eof) key (Some w) ≡ true
+pub wrote-own : (s : Store) (key : Option Key) (w : ℕ) (bytes : List ℕ) (eof : Bool) → is_own_write s key (Some w) ≡ true → is_own_write (wrote s w bytes eof) key (Some w) ≡ true
 wrote-own s None w bytes eof own = own
 wrote-own s (Some k) w bytes eof own = wrote-under (slot k) w s bytes eof own
 

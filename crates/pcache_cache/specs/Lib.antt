@@ -1,2 +1,3 @@
+pub mod OwnPut
 pub mod Parts
 pub mod PartsCode

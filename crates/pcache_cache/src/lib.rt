@@ -4,17 +4,21 @@
 //!
 //! - `cache`: the value, and what it tells of itself
 //! - `inspect`: its manager, and what always holds of it
-//! - `request`: a request of it
+//! - `request`, `put`: a request of it, and a put
 //! - `look`, `fill`, `remove`, `locks`, `renew`: what a request does, each the call of `HttpCache` with the parts lent
+//! - `feed`: what a put does, each the call of `CachePutCtx`
 
 mod cache;
+mod feed;
 mod fill;
 mod inspect;
 mod locks;
 mod look;
+mod put;
 mod remove;
 mod renew;
 mod request;
 
 pub use cache::{Cache, Totals};
+pub use put::PendingPut;
 pub use request::CacheRequest;

@@ -2,3 +2,4 @@ pub mod Managed
 pub mod ManagedCode
 pub mod Portions
 pub mod Shared
+pub mod SharedPuts

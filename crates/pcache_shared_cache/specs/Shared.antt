@@ -2,12 +2,18 @@
 use Rattle.std.specs.Prelude.{◌≡◌, ℕ, List, All, Some, map, slice_get}
 use Rattle.pcache_cache.specs.Parts.{Parts, IsKept}
 use Rattle.pcache_evict.specs.Tracked.{Limits}
+use Rattle.pcache_lock.specs.declared.lock.permit.WritePermit.{WritePermit}
 use Rattle.pcache_request.specs.Requests.{Request}
 
 -- a request of a cache in parts: itself, and the place of its part
 pub record Seated : Type 0 where
   pub place : ℕ
   pub cache : Request
+
+-- a permit of a cache in parts: itself, and the place of its part
+pub record SeatedPermit : Type 0 where
+  pub place : ℕ
+  pub permit : WritePermit
 
 -- this is so of what a part with these limits is while a call has it: a cache that keeps what caches always keep
 abbrev pub Held : Limits → (Parts → Type 0) → Type 0
@@ -16,6 +22,10 @@ Held limits P = (p : Parts) × (p.limits ≡ limits) × IsKept p.limits p.tracke
 -- the same of the part at a place
 abbrev pub InPart : List Limits → ℕ → (Parts → Type 0) → Type 0
 InPart limits place P = (l : Limits) × (slice_get limits place ≡ Some l) × Held l P
+
+-- this is so of what the part at a place is before a call, and after it
+abbrev pub MovesPart : List Limits → ℕ → (Parts → Parts → Type 0) → Type 0
+MovesPart limits place P = InPart limits place (λ p. (q : Parts) × (q.limits ≡ p.limits) × IsKept q.limits q.tracked q.store × P p q)
 
 -- the same of all parts, each while the call had it
 abbrev pub InParts : List Limits → (List Parts → Type 0) → Type 0

@@ -13,8 +13,12 @@ impl<M: EvictionManager, K, const N: usize> SharedCache<M, K, N> {
     ghost use Rattle.pcache_request.specs.Finishing.{after_finish};
     ghost use Rattle.pcache_request.specs.Phases.{IsFilling};
     ghost use Rattle.pcache_request.specs.Requests.{MayWrite, begun_for, writing};
-    ghost use Rattle.pcache_cache.specs.Parts.{takes_bytes};
-    ghost use Rattle.pcache_shared_cache.specs.Shared.{InPart};
+    ghost use Rattle.pcache_request.specs.WriteEnds.{Ends, EndsAs, finishes_of};
+    ghost use Rattle.pcache_store.specs.Finishes.{created};
+    ghost use Rattle.pcache_store.specs.Readers.{in_memory};
+    ghost use Rattle.pcache_store.specs.Refusals.{MayRefuseWrite};
+    ghost use Rattle.pcache_cache.specs.Parts.{MayEnd, takes_bytes};
+    ghost use Rattle.pcache_shared_cache.specs.Shared.{InPart, MovesPart};
 
     /// `Cache::set_miss_handler`: begins the write. Requires a phase in which a write may be made, a meta, and no write; ask
     /// `may_write` of the request.
@@ -22,6 +26,7 @@ impl<M: EvictionManager, K, const N: usize> SharedCache<M, K, N> {
         requires { MayWrite request.old.cache }
         ensures begins { InPart self.now request.old.place (λ p.
             OnOk result (request.new.cache ≡ writing true p.store.next (Some p.store.next) (begun_for request.old.cache.key request.old.cache.meta p.store) request.old.cache)) }
+        ensures kind { InPart self.now request.old.place (λ p. IfErr result (λ e. (e ≡ OutOfMemory) ⊎ MayRefuseWrite p.store e)) }
         ensures phase { request.new.cache.phase ≡ request.old.cache.phase }
         ensures place { request.new.place ≡ request.old.place }
     {
@@ -58,6 +63,8 @@ impl<M: EvictionManager, K, const N: usize> SharedCache<M, K, N> {
         request: &mut SharedRequest<K, N>,
     ) -> Result<Option<FinishReport>>
         requires { IsFilling request.old.cache.phase }
+        ensures ends { MovesPart self.now request.old.place (λ p q. MayEnd p.store request.old.cache
+            → EndsAs result (λ end. Ends in_memory request.old.cache request.old.cache.key request.old.cache.write (finishes_of (created p.store) request.old.cache.write) p.limits end p.store q.store p.tracked q.tracked p.locks q.locks)) }
         ensures request { OnOk result (request.new ≡ record request.old { cache = after_finish request.old.cache }) }
         ensures refused { OnErr result ((request.new ≡ request.old) ⊎ (request.new ≡ record request.old { cache = after_finish request.old.cache })) }
         ensures place { request.new.place ≡ request.old.place }
@@ -66,6 +73,8 @@ impl<M: EvictionManager, K, const N: usize> SharedCache<M, K, N> {
         if !part.may_end(&request.request) {
             return Err(Error::new(ErrorType::InternalError));
         }
-        part.finish_miss_handler(&mut request.request)
+        let report = part.finish_miss_handler(&mut request.request);
+        part.is_kept(); // for the prover
+        report
     }
 }

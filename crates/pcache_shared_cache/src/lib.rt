@@ -2,29 +2,36 @@
 //! A cache in parts, each behind a lock of its own, which threads call side by side. Each part keeps its own limits at all
 //! times, so that all of them together keep the whole.
 //!
-//! - `split`: how a limit is split among parts
+//! - `split`: how a limit is split among parts, and which part a key belongs to
 //! - `portion`: an eviction manager with its limits as numbers
 //! - `part`: one part behind its lock
-//! - `request`: a request, which has its part from its key
+//! - `request`, `put`: a request, which has its part from its key, and a put
+//! - `permit`: a permit that goes from one request to another
 //! - `shared`: the cache, and what it tells of itself
 //! - `lists`: parts over recency lists
 //! - `look`, `fill`, `remove`, `locks`, `renew`: what a request does, each the call of `Cache` under the lock of its part
+//! - `feed`: what a put does, likewise
 //! - `laws`: what follows for all parts together
 
+mod feed;
 mod fill;
 pub mod laws;
 mod lists;
 mod locks;
 mod look;
 mod part;
+mod permit;
 mod portion;
+mod put;
 mod remove;
 mod renew;
 mod request;
 mod shared;
 mod split;
 
+pub use permit::SharedPermit;
 pub use portion::Portion;
+pub use put::SharedPut;
 pub use request::SharedRequest;
 pub use shared::SharedCache;
-pub use split::{portion_of, portion_of_watermark};
+pub use split::{place_of, portion_of, portion_of_watermark};

@@ -1,4 +1,5 @@
 //! Waiting for others, and what they wait for.
+use crate::permit::SharedPermit;
 use crate::request::SharedRequest;
 use crate::shared::SharedCache;
 use pcache_base::error::Result;
@@ -17,7 +18,8 @@ impl<M: EvictionManager, K, const N: usize> SharedCache<M, K, N> {
     ghost use Rattle.pcache_base.specs.declared.error.ErrorType.TheVariants.{OutOfMemory};
     ghost use Rattle.pcache_lock.specs.declared.lock.permit.Locked.TheVariants.{Write};
     ghost use Rattle.pcache_lock.specs.declared.lock.status.LockStatus.TheVariants.{GiveUp};
-    ghost use Rattle.pcache_request.specs.LockUse.{permit_in, read_in, unheld};
+    ghost use Rattle.pcache_request.specs.LockUse.{gone_for, handed, permit_in, read_in, unheld};
+    ghost use Rattle.pcache_request.specs.Phases.{IsOn};
     ghost use Rattle.pcache_request.specs.LockWaits.{wait_answer, waited};
     ghost use Rattle.pcache_request.specs.Releasing.{MayRelease, status_for};
     ghost use Rattle.pcache_request.specs.Reports.{name_of, released_as};
@@ -82,6 +84,24 @@ impl<M: EvictionManager, K, const N: usize> SharedCache<M, K, N> {
         self.part(request.place())
             .lock(rt)
             .release_write_lock(&mut request.request, reason)
+    }
+
+    /// `Cache::set_write_lock`: holds a permit that another request of the same part had; a lock that was held before is let go.
+    /// Answers the lock that was let go.
+    pub fn set_write_lock<R: Wait>(
+        &self,
+        rt: &R,
+        request: &mut SharedRequest<K, N>,
+        permit: SharedPermit<K, N>,
+    ) -> Option<LockName>
+        requires phase { IsOn request.old.cache.phase }
+        requires place { permit.place ≡ request.old.place }
+        ensures request { request.new ≡ record request.old { cache = handed permit.permit request.old.cache } }
+        ensures let_go { result ≡ option_map name_of (gone_for permit.permit request.old.cache) }
+    {
+        let part = self.part(request.place());
+        let permit = permit.into_permit();
+        part.lock(rt).set_write_lock(&mut request.request, permit)
     }
 
     /// `Cache::lock_publish_fill_tokens`: publishes what was found out about the fill, if the permit is held.

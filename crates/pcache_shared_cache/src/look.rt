@@ -24,8 +24,8 @@ impl<M: EvictionManager, K, const N: usize> SharedCache<M, K, N> {
     ghost use Rattle.pcache_request.specs.Requests.{HoldsNothing, asks_for_hit, found_row, without_reader};
     ghost use Rattle.pcache_request.specs.Variants.{looked_for, seen_for};
     ghost use Rattle.pcache_store.specs.Readers.{reader_of};
-    ghost use Rattle.pcache_store.specs.Store.{read_of, reader_after};
-    ghost use Rattle.pcache_shared_cache.specs.Shared.{InPart};
+    ghost use Rattle.pcache_store.specs.Store.{left, read_of, reader_after};
+    ghost use Rattle.pcache_shared_cache.specs.Shared.{InPart, MovesPart};
 
     /// `Cache::cache_lookup` in the request's part: what its store has of the key; if nothing is handed on, the key's lock is asked
     /// for. A pair that is handed on has to be taken by `cache_found` or let go.
@@ -74,8 +74,12 @@ impl<M: EvictionManager, K, const N: usize> SharedCache<M, K, N> {
     }
 
     /// `Cache::let_go`: lets go what a look-up of the request found.
-    pub fn let_go<R: Wait>(&self, rt: &R, request: &SharedRequest<K, N>, hit: MemHitHandler) {
-        self.part(request.place()).lock(rt).let_go(hit);
+    pub fn let_go<R: Wait>(&self, rt: &R, request: &SharedRequest<K, N>, hit: MemHitHandler)
+        ensures { MovesPart self.now request.now.place (λ p q. q ≡ record p { store = left p.store (reader_of hit) }) }
+    {
+        let mut part = self.part(request.place()).lock(rt);
+        part.let_go(hit);
+        part.is_kept(); // for the prover
     }
 
     /// `Cache::read_body`: reads on. Requires a reader. A request that follows a write is told that there is nothing yet, and may ask

@@ -1,8 +1,8 @@
 //! A request of a cache in parts.
-ghost use Rattle.std.specs.Prelude.{◌≡◌, ◌<◌};
-ghost use Rattle.pcache_shared_cache.specs.Portions.{place_of};
-
-use pcache_base::key::{CacheHashKey, CacheKey, HashBinary};
+use crate::permit::SharedPermit;
+use crate::split::place_of;
+use pcache_base::error::Result;
+use pcache_base::key::{CacheKey, HashBinary};
 use pcache_cache::CacheRequest;
 use pcache_meta::meta::CacheMeta;
 use pcache_request::cache::HttpCache;
@@ -29,8 +29,13 @@ impl<K, const N: usize> Model for SharedRequest<K, N> {
 }
 
 impl<K, const N: usize> SharedRequest<K, N> {
-    ghost use Rattle.std.specs.Prelude.{◌≡◌, ◌<◌, None, Some, true, false};
-    ghost use Rattle.pcache_request.specs.Phases.{IsStale, MayBypass, MayLookUp, MayMiss};
+    ghost use Rattle.std.specs.Prelude.{◌≡◌, ◌<◌, None, Some, IsSome, IfErr, OnErr, OnOk, not, option_map, true, false};
+    ghost use Rattle.std.specs.Option.{option_and_then};
+    ghost use Rattle.pcache_base.specs.declared.error.ErrorType.TheVariants.{InternalError};
+    ghost use Rattle.pcache_request.specs.LockUse.{permit_in, unheld};
+    ghost use Rattle.pcache_request.specs.Phases.{IsOn, IsStale, MayBypass, MayLookUp, MayMiss, WasEnabled};
+    ghost use Rattle.pcache_request.specs.Sizes.{is_within, limit_of, with_bytes, with_limit};
+    ghost use Rattle.pcache_store.specs.Store.{sought};
     ghost use Rattle.pcache_request.specs.Releasing.{bypassed};
     ghost use Rattle.pcache_request.specs.Requests.{MayTakeMeta, enabled_with, missed, new_request, with_key, with_meta};
     ghost use Rattle.pcache_request.specs.Stale.{updating};
@@ -106,6 +111,67 @@ impl<K, const N: usize> SharedRequest<K, N> {
         self.request.cache.cache_vary_lookup(variance, meta)
     }
 
+    /// `HttpCache::seek`: has the reader give the body from `start` on, and before `end` if one is given, anew. It is refused as an
+    /// internal error if the reader follows a write, the body has no byte at `start` or `end` lies before it, and changes nothing then.
+    pub fn seek(&mut self, start: usize, end: Option<usize>) -> Result<()>
+        requires { IsSome self.old.cache.reader }
+        ensures ok { OnOk result (self.new ≡ record self.old { cache = record self.old.cache { reader = option_and_then (λ r. sought r start end) self.old.cache.reader } }) }
+        ensures there { IsSome self.new.cache.reader }
+        ensures refused { OnErr result (option_and_then (λ r. sought r start end) self.old.cache.reader ≡ None) }
+        ensures same { OnErr result (self.new ≡ self.old) }
+        ensures kind { IfErr result (λ e. e ≡ InternalError) }
+    {
+        self.request.cache.seek(start, end)
+    }
+
+    /// `HttpCache::set_max_file_size_bytes`: limits the number of the body's bytes, none of which was counted yet.
+    pub fn set_max_file_size_bytes(&mut self, max_file_size_bytes: usize)
+        requires { IsOn self.old.cache.phase }
+        ensures { self.new ≡ record self.old { cache = with_limit max_file_size_bytes self.old.cache } }
+    {
+        self.request
+            .cache
+            .set_max_file_size_bytes(max_file_size_bytes);
+    }
+
+    /// `HttpCache::max_file_size_bytes`: the limit, if there is one.
+    pub fn max_file_size_bytes(&self) -> Option<usize>
+        requires { WasEnabled self.now.cache.phase }
+        ensures { result ≡ option_map limit_of self.now.cache.size }
+    {
+        self.request.cache.max_file_size_bytes()
+    }
+
+    /// `HttpCache::track_body_bytes_for_max_file_size`: counts so many bytes of the body, and answers whether all that were counted
+    /// are within the limit. Without a limit it counts nothing, and they are.
+    pub fn track_body_bytes_for_max_file_size(&mut self, bytes_len: usize) -> bool
+        requires { WasEnabled self.old.cache.phase }
+        ensures request { self.new ≡ record self.old { cache = with_bytes bytes_len self.old.cache } }
+        ensures within { result ≡ is_within self.new.cache.size }
+    {
+        self.request
+            .cache
+            .track_body_bytes_for_max_file_size(bytes_len)
+    }
+
+    /// `HttpCache::exceeded_max_file_size`: whether the bytes that were counted are more than the limit.
+    pub fn exceeded_max_file_size(&self) -> bool
+        requires { WasEnabled self.now.cache.phase }
+        ensures { result ≡ not (is_within self.now.cache.size) }
+    {
+        self.request.cache.exceeded_max_file_size()
+    }
+
+    /// `HttpCache::take_write_lock`: takes the permit out, for another request of the same part to hold.
+    pub fn take_write_lock(&mut self) -> SharedPermit<K, N>
+        requires { IsSome (permit_in self.old.cache.held) }
+        ensures permit { Some result.permit ≡ permit_in self.old.cache.held }
+        ensures place { result.place ≡ self.old.place }
+        ensures request { self.new ≡ record self.old { cache = unheld self.old.cache } }
+    {
+        SharedPermit::new(self.place, self.request.cache.take_write_lock())
+    }
+
     // The request of the part.
     pub(crate) fn into_request(self) -> CacheRequest<K>
         ensures { result.cache ≡ self.cache }
@@ -113,15 +179,4 @@ impl<K, const N: usize> SharedRequest<K, N> {
         let SharedRequest { place: _, request } = self;
         request
     }
-}
-
-// The place of a key's part: its variants are in the same.
-#[tactic(auto, unfolding(pcache_base::specs::Key::number_of))]
-fn place_of<const N: usize>(key: &CacheKey) -> usize
-    requires { 0 < N }
-    ensures value { result ≡ place_of N key.now }
-    ensures in_range { result < N }
-{
-    let number = u128::from_be_bytes(key.primary_bin());
-    ((number >> 64) % N as u128) as usize
 }

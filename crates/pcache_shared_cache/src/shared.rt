@@ -3,11 +3,13 @@ ghost use Rattle.std.specs.Prelude.{◌≡◌, ◌<◌};
 
 use crate::part::PartLock;
 use crate::portion::Portion;
+use crate::put::SharedPut;
 use crate::request::SharedRequest;
 use pcache_base::error::Result;
 use pcache_base::key::CacheKey;
 use pcache_base::seed::Seed;
 use pcache_evict::eviction::EvictionManager;
+use pcache_put_ctx::policy::CachePut;
 use std::alloc::Global;
 use std::marker::Model;
 use std::sync::Wait;
@@ -35,8 +37,10 @@ impl<M: EvictionManager, K, const N: usize> Model for SharedCache<M, K, N> {
 }
 
 impl<M: EvictionManager, K, const N: usize> SharedCache<M, K, N> {
-    ghost use Rattle.std.specs.Prelude.{◌≡◌, ◌<◌, ◌≤◌, true, false, Some, IfErr, IfOk, IfSome, length, map, slice_get, sum_by};
+    ghost use Rattle.std.specs.Prelude.{◌≡◌, ◌<◌, ◌≤◌, [], true, false, None, Some, IfErr, IfOk, IfSome, length, map, slice_get, sum_by};
     ghost use Rattle.pcache_base.specs.declared.error.ErrorType.TheVariants.{OutOfMemory};
+    ghost use Rattle.pcache_put.specs.Progress.{AtHead};
+    ghost use Rattle.pcache_put_ctx.specs.State.{HasTaken, InHead};
     ghost use Rattle.pcache_request.specs.Requests.{enabled_with, new_request, with_key};
     ghost use Rattle.pcache_store.specs.Totals.{slots, stored_bytes};
     ghost use Rattle.pcache_shared_cache.specs.Portions.{place_of, whole_watermark, whole_weight};
@@ -74,6 +78,16 @@ impl<M: EvictionManager, K, const N: usize> SharedCache<M, K, N> {
     {
         let _parts = &self.parts; // for the prover: once a field is used, the invariant is known
         SharedRequest::new(self.alloc, key)
+    }
+
+    /// A put of a key, with no limit on its body. It takes no lock.
+    pub fn put<C: CachePut>(&self, policy: C, key: CacheKey) -> SharedPut<C, K, N>
+        ensures place { result.place ≡ place_of N key }
+        ensures put { result.put ≡ record { policy = policy; key = key; size = None; parser = AtHead []; stage = InHead } }
+        ensures taken { HasTaken (C.says policy) result.put [] None }
+    {
+        let _parts = &self.parts; // for the prover, as above
+        SharedPut::new(self.alloc, policy, key)
     }
 
     /// The lengths of the complete bodies, added up, each part asked in its turn: at most the whole limit.

@@ -1,6 +1,8 @@
-//! How a limit is split among parts.
+//! How a limit is split among parts, and which part a key belongs to.
 ghost use Rattle.std.specs.Prelude.{◌≡◌, ◌<◌, Option, option_map};
-ghost use Rattle.pcache_shared_cache.specs.Portions.{portion};
+ghost use Rattle.pcache_shared_cache.specs.Portions.{place_of, portion};
+
+use pcache_base::key::{CacheHashKey, CacheKey};
 
 /// The part of a whole that the part at this place has, of so many: all have the same, and the first ones have one of the rest
 /// each. All of them together have the whole (`laws::portions_add_up`).
@@ -25,4 +27,16 @@ pub fn portion_of_watermark(whole: Option<usize>, parts: usize, place: usize) ->
         Some(whole) => Some(portion_of(whole, parts, place)),
         None => None,
     }
+}
+
+/// The place of the part that a key belongs to, of `N`. The variants of a key are in the same. Caches, and worlds that several
+/// locks guard, are parted by it.
+#[tactic(auto, unfolding(pcache_base::specs::Key::number_of))]
+pub fn place_of<const N: usize>(key: &CacheKey) -> usize
+    requires { 0 < N }
+    ensures value { result ≡ place_of N key.now }
+    ensures in_range { result < N }
+{
+    let number = u128::from_be_bytes(key.primary_bin());
+    ((number >> 64) % N as u128) as usize
 }

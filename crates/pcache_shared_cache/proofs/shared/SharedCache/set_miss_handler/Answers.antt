@@ -5,3 +5,6 @@ use Rattle.pcache_shared_cache.proofs.shared.SharedCache.set_miss_handler.Goals 
 
 pub returns-clause-begins : goal.returns-clause-begins
 returns-clause-begins g c = rw (← c.request.view_is) (in_part c.args.self.now c.request.inside.place c.place.result c.part.result.now c.lock.result.value c.deref_mut.result.now (c.place.ensures.place ∙ ap (λ (s : Seated). s.place) (sym c.request.view_is)) c.part.ensures c.lock.ensures.limits c.lock.ensures.kept c.deref_mut.ensures.value c.set_miss_handler.ensures.request)
+
+pub returns-clause-kind : goal.returns-clause-kind
+returns-clause-kind g c = rw (← c.request.view_is) (in_part c.args.self.now c.request.inside.place c.place.result c.part.result.now c.lock.result.value c.deref_mut.result.now (c.place.ensures.place ∙ ap (λ (s : Seated). s.place) (sym c.request.view_is)) c.part.ensures c.lock.ensures.limits c.lock.ensures.kept c.deref_mut.ensures.value c.set_miss_handler.ensures.kind)

@@ -1,0 +1,15 @@
+use Rattle.std.proofs.Common.{◌≡◌, true, Some, subst, sym, ◌∙◌}
+use Rattle.pcache_put_ctx.specs.State.{write_in}
+use Rattle.pcache_cache.specs.Parts.{IsKept, Parts, is_own_write}
+use Rattle.pcache_cache.proofs.Ended.{same-number}
+use Rattle.pcache_cache.proofs.Fed.{kept_put_ended}
+use Rattle.pcache_cache.proofs.cache.Cache.finish_put.Goals as goal
+
+pub invariant_of-self : goal.invariant_of-self
+invariant_of-self g c =
+    let tracked = g.M.EvictionManager.tracked in
+    let put = c.args.put.now.put in
+    subst (λ l. IsKept l (tracked c.finish.new.eviction) c.finish.new.storage) (sym c.finish.ensures.limits)
+    (kept_put_ended (g.M.EvictionManager.limits c.self.inside.manager) put.key put.parser put.stage c.self.inside.store c.finish.new.storage (tracked c.self.inside.manager) (tracked c.finish.new.eviction) c.finish.result
+    (sym c.writer-writer.ensures.entry ∙ same-number _ c.writer-writer.result ∙ c.writer-writer.ensures.write)
+    (subst (λ (p : Parts). is_own_write p.store (Some put.key) (write_in put.stage) ≡ true) (sym c.self.view_is) c.requires.own) c.finish.ensures.ends c.self.invariant)

@@ -1,0 +1,73 @@
+//! Puts: their pieces and their end.
+use crate::put::SharedPut;
+use crate::shared::SharedCache;
+use pcache_base::error::{Error, ErrorType, Result};
+use pcache_base::moment::Moment;
+use pcache_base::reason::NoCacheReason;
+use pcache_evict::eviction::EvictionManager;
+use pcache_put_ctx::policy::CachePut;
+use pcache_put_ctx::report::PutOutcome;
+use std::sync::Wait;
+
+impl<M: EvictionManager, K, const N: usize> SharedCache<M, K, N> {
+    ghost use Rattle.std.specs.Prelude.{◌≡◌, ◌⊎◌, IfErr, List, Option};
+    ghost use Rattle.pcache_put.specs.Progress.{HasFailed};
+    ghost use Rattle.pcache_put_ctx.specs.Puts.{IsResult, Piece};
+    ghost use Rattle.pcache_put_ctx.specs.State.{Filled, HasTaken, limit_of, write_in};
+    ghost use Rattle.pcache_put_ctx.specs.Steps.{Done, EndsAs, EndsPut, MayRefusePiece, RepeatsAnswer, StandsAnswered, TakesPiece, TellsResult};
+    ghost use Rattle.pcache_request.specs.Requests.{dropped_by};
+    ghost use Rattle.pcache_store.specs.Finishes.{created};
+    ghost use Rattle.pcache_store.specs.Readers.{in_memory};
+    ghost use Rattle.pcache_cache.specs.OwnPut.{MayEndPut};
+    ghost use Rattle.pcache_shared_cache.specs.Shared.{InPart, MovesPart};
+
+    /// `Cache::cache_put` in the put's part: takes in the next piece of the response. Answers why nothing is stored, once that is so.
+    /// The policy is asked, once the head has come, while the part is locked: it may call no cache.
+    pub fn cache_put<C: CachePut, R: Wait>(
+        &self,
+        rt: &R,
+        put: &mut SharedPut<C, K, N>,
+        piece: &[u8],
+        now: Moment,
+    ) -> Result<Option<NoCacheReason>>
+        ensures step { (d : Done) × TakesPiece (C.says put.old.put.policy) put.old.put put.new.put (record { bytes = piece.now; now = now }) d }
+        ensures stands { StandsAnswered result put.new.put.stage }
+        ensures again { RepeatsAnswer put.old.put.stage result }
+        ensures kind { InPart self.now put.old.place (λ p. IfErr result (λ e. MayRefusePiece put.old.put.stage p.store e ⊎ (put.old.put.parser ≡ HasFailed e))) }
+        ensures place { put.new.place ≡ put.old.place }
+    {
+        self.part(put.place())
+            .lock(rt)
+            .cache_put(&mut put.pending, piece, now)
+    }
+
+    /// `Cache::finish_put`: ends the put once all pieces have come. It fails as an internal error, and changes nothing, if the put's
+    /// write is none of its part: of a put whose pieces came here it is.
+    pub fn finish_put<C: CachePut, R: Wait>(
+        &self,
+        rt: &R,
+        put: &mut SharedPut<C, K, N>,
+    ) -> Result<PutOutcome>
+        ensures ends { MovesPart self.now put.old.place (λ p q. MayEndPut p.store put.old.put
+            → EndsAs result (λ end. EndsPut in_memory put.old.put.key put.old.put.parser (created p.store) p.limits put.old.put.stage end p.store q.store p.tracked q.tracked)) }
+        ensures tells { (pieces : List Piece) (f : Option Filled) → HasTaken (C.says put.old.put.policy) put.old.put pieces f → EndsAs result (TellsResult (IsResult (C.says put.old.put.policy) (limit_of put.old.put.size) pieces) f) }
+        ensures place { put.new.place ≡ put.old.place }
+    {
+        let mut part = self.part(put.place()).lock(rt);
+        if !part.may_end_put(&put.pending) {
+            return Err(Error::new(ErrorType::InternalError));
+        }
+        let outcome = part.finish_put(&mut put.pending);
+        part.is_kept(); // for the prover
+        outcome
+    }
+
+    /// `Cache::end_put`: ends the put, and drops a write that is still in flight.
+    pub fn end_put<C: CachePut, R: Wait>(&self, rt: &R, put: SharedPut<C, K, N>)
+        ensures { MovesPart self.now put.place (λ p q. q ≡ record p { store = dropped_by (write_in put.put.stage) p.store }) }
+    {
+        let mut part = self.part(put.place()).lock(rt);
+        part.end_put(put.into_pending());
+        part.is_kept(); // for the prover
+    }
+}

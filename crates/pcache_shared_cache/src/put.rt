@@ -1,0 +1,83 @@
+//! A put of a cache in parts.
+use crate::split::place_of;
+use pcache_base::key::CacheKey;
+use pcache_cache::PendingPut;
+use pcache_put_ctx::context::CachePutCtx;
+use pcache_put_ctx::policy::CachePut;
+use pcache_store::memory::MemCache;
+use std::alloc::Global;
+use std::marker::Model;
+
+/// A put of the cache in `N` parts with the mark `K`: a response that is pushed in, in pieces. It is made with its key, has its
+/// part from it as requests have, and keeps both. It must be spent by `SharedCache::end_put`.
+pub struct SharedPut<C: CachePut, K, const N: usize> {
+    place: usize,
+    pub(crate) pending: PendingPut<C, K>,
+}
+
+impl<C: CachePut, K, const N: usize> Model for SharedPut<C, K, N> {
+    ghost use Rattle.std.specs.Prelude.{◌<◌};
+    ghost use Rattle.pcache_shared_cache.specs.SharedPuts.{SeatedPut};
+
+    ghost Value = { SeatedPut C };
+
+    ghost view = { λ p. record { place = p.place; put = p.pending.put } };
+
+    ghost invariant = { λ p. p.place < N };
+}
+
+impl<C: CachePut, K, const N: usize> SharedPut<C, K, N> {
+    ghost use Rattle.std.specs.Prelude.{◌≡◌, ◌<◌, [], List, None, Some};
+    ghost use Rattle.pcache_put.specs.Progress.{AtHead};
+    ghost use Rattle.pcache_put_ctx.specs.Puts.{Piece};
+    ghost use Rattle.pcache_put_ctx.specs.State.{InHead, HasTaken};
+    ghost use Rattle.pcache_shared_cache.specs.Portions.{place_of};
+
+    // A put of a key, in the key's part.
+    pub(crate) fn new(alloc: Global, policy: C, key: CacheKey) -> SharedPut<C, K, N>
+        requires { 0 < N }
+        ensures place { result.place ≡ place_of N key }
+        ensures put { result.put ≡ record { policy = policy; key = key; size = None; parser = AtHead []; stage = InHead } }
+        ensures taken { HasTaken (C.says policy) result.put [] None }
+    {
+        let place = place_of::<N>(&key);
+        SharedPut {
+            place,
+            pending: PendingPut::new(alloc, policy, key),
+        }
+    }
+
+    /// The place of its part.
+    pub fn place(&self) -> usize
+        ensures place { result ≡ self.now.place }
+        ensures in_range { self.now.place < N }
+    {
+        self.place
+    }
+
+    /// The put itself, to be asked.
+    pub fn put(&self) -> &CachePutCtx<C, MemCache>
+        ensures { result.now ≡ self.now.put }
+    {
+        &self.pending.put
+    }
+
+    /// `CachePutCtx::set_max_file_size_bytes`: the body may have at most so many bytes, none of which was counted yet: to be set
+    /// before the body begins.
+    pub fn set_max_file_size_bytes(&mut self, max_file_size_bytes: usize)
+        ensures put { self.new ≡ record self.old { put = record self.old.put { size = Some (record { bytes = 0; limit = max_file_size_bytes }) } } }
+        ensures taken { (pieces : List Piece) → self.old.put.stage ≡ InHead → HasTaken (C.says self.old.put.policy) self.old.put pieces None → HasTaken (C.says self.old.put.policy) self.new.put pieces None }
+    {
+        self.pending
+            .put
+            .set_max_file_size_bytes(max_file_size_bytes);
+    }
+
+    // The put of the part.
+    pub(crate) fn into_pending(self) -> PendingPut<C, K>
+        ensures { result.put ≡ self.put }
+    {
+        let SharedPut { place: _, pending } = self;
+        pending
+    }
+}
