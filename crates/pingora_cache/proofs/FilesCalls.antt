@@ -1,10 +1,13 @@
 -- A call on files in a sound world: no request and no put moves, and no event tells of it.
-use Rattle.std.proofs.Common.{◌≡◌, ℕ, ◌==◌, Bool, true, false, ◌&&◌, if◌then◌else◌, Option, None, Some, IsSome, is_none, option_map, List, [], ◌∷◌, ◌++◌, reverse, refl, ap, sym, subst, ◌∙◌, inl, inr}
+use Rattle.std.proofs.Common.{◌≡◌, ℕ, ◌==◌, Bool, true, false, ◌&&◌, cond, if◌then◌else◌, Option, None, Some, IsSome, is_none, option_map, List, [], ◌∷◌, ◌++◌, reverse, refl, ap, sym, subst, ◌∙◌, inl, inr}
 use Rattle.std.proofs.lemmas.Bool.{both_ways}
 use Rattle.std.proofs.lemmas.List.{reverse-append}
 use Rattle.std.specs.Ordering.{nat_cmp}
 use Rattle.std.specs.FinMap.{FinMap, get}
+use Rattle.pcache_base.specs.declared.error.ErrorType.TheVariants.{Io}
+use Rattle.pcache_evict.specs.Recency.{Recency}
 use Rattle.pcache_evict.specs.Tracked.{Tracked, Limits}
+use Rattle.pcache_evict.specs.declared.eviction.entry_key.CacheEntryKey.{CacheEntryKey}
 use Rattle.pcache_lock.specs.Locks.{Locks}
 use Rattle.pcache_put_ctx.specs.Puts.{Says as PutSays}
 use Rattle.pcache_request.specs.Requests.{Request}
@@ -15,6 +18,7 @@ use Rattle.pcache_history.specs.declared.call.Call.{Call}
 use Rattle.pcache_history.specs.declared.call.FilesAct.{FilesAct}
 use Rattle.pcache_history.specs.declared.call.FilesAct.TheVariants as F
 use Rattle.pcache_history.specs.declared.call.Reply.{Reply}
+use Rattle.pcache_history.specs.declared.call.Reply.TheVariants as R
 use Rattle.pcache_history.specs.declared.entry.Entry.{Entry}
 use Rattle.pcache_history.specs.declared.entry.Event.{Event}
 use Rattle.pcache_history.specs.Deeds.{Deed, deeds_of}
@@ -25,9 +29,10 @@ use Rattle.pcache_history.specs.Files.{IsEarly, files_in, is_load, only_loads}
 use Rattle.pcache_history.specs.Held.{Held, request_of}
 use Rattle.pcache_history.specs.History.{events_of}
 use Rattle.pcache_history.specs.Legal.{IsLegal}
+use Rattle.pcache_history.specs.Log.{started}
 use Rattle.pcache_history.specs.PutHistory.{StoodBy, filled_of, pieces_of}
 use Rattle.pcache_history.specs.Rules.{IsCopy, IsFilesReply, Replies}
-use Rattle.pingora_cache.specs.FilesCalls.{AnswersFiles}
+use Rattle.pingora_cache.specs.FilesCalls.{AnswersFiles, HasNoFiles, IsLoaded}
 use Rattle.pingora_cache.specs.PartFacts.{facts_in}
 use Rattle.pingora_cache.specs.PutsSound.{PutsSound, TakenIn}
 use Rattle.pingora_cache.specs.Sound.{AreOpen, IsSound}
@@ -175,6 +180,46 @@ is-load-of act is = ap is_load (files-act act F.Load is)
 pub is-save-of : (act : Act) → files_in act ≡ Some F.Save → is_load act ≡ false
 is-save-of act is = ap is_load (files-act act F.Save is)
 
--- a load that answers what it may, if it comes early or not
-pub load-answers : (b e : Bool) (reply : Reply) → AnswersFiles b F.Load reply → b ≡ e → AnswersFiles e F.Load reply
-load-answers b e reply answers same = subst (λ c. AnswersFiles c F.Load reply) same answers
+-- What a load leaves: what was taken down is told of no manager.
+
+pub load-sound : {V : Type 0} (f : V → List (CacheEntryKey × ℕ)) (o : Option V) (limits limits' : Limits) (m m' : Tracked) (s : Store) (t : Locks) (all : FinMap nat_cmp Held) (h h' : List Entry) (call : Call) (reply told : Reply) (events : List Event)
+    → IsSound limits (started (option_map f o) m) m s t all (reverse h) → is_none o ≡ only_loads (reverse h) → AnswersFiles (is_none o) F.Load reply → (is_none o ≡ false → m' ≡ m) → limits' ≡ limits → IsCopy reply told → files_in call.act ≡ Some F.Load → events ≡ []
+    → h' ≡ h ++ record { call = call; reply = told; events = events } ∷ [] → IsSound limits' (started (option_map f o) m') m' s t all (reverse h')
+load-sound f None limits limits' m m' s t all h h' call reply told events k was answers late same copy is none grown =
+    loaded-step limits limits' m m' m m' s t all h h' call reply told events k copy is (sym was) answers none same refl grown
+load-sound f (Some v) limits limits' m m' s t all h h' call reply told events k was answers late same copy is none grown =
+    subst (λ (l : Limits). IsSound l (started (Some (f v)) m') m' s t all (reverse h')) (sym same)
+    (subst (λ (x : Tracked). IsSound limits (started (Some (f v)) m) x s t all (reverse h')) (sym (late refl))
+    (files-step limits (started (Some (f v)) m) (started (Some (f v)) m) m s t all h h' call F.Load reply told events k copy is (subst (λ b. AnswersFiles b F.Load reply) was answers) none refl grown))
+
+pub load-start : {V G : Type 0} (f : V → List (CacheEntryKey × ℕ)) (o : Option V) (left : G → Option (List ℕ)) (files : ℕ) (put_in : Recency → Tracked → Tracked) (m m' : Tracked) (reply : Reply) → AnswersFiles (is_none o) F.Load reply → IsLoaded left files put_in m m' reply
+    → IsLoaded left files put_in (started (option_map f o) m) (started (option_map f o) m') reply
+load-start f None left files put_in m m' reply answers loaded = loaded
+load-start f (Some v) left files put_in m m' reply answers loaded = subst (IsLoaded left files put_in (started (Some (f v)) m) (started (Some (f v)) m')) (sym answers) refl
+
+-- a reply to such a call has no bytes, so it is told as it is
+pub told-files : (b : Bool) (a : FilesAct) (reply told : Reply) → AnswersFiles b a reply → IsCopy reply told → told ≡ reply
+told-files b a reply told answers (inl same) = same
+told-files b F.Save reply told answers (inr (refused, given)) = absurd (subst (AnswersFiles b F.Save) given.1 answers)
+told-files true F.Load reply told answers (inr (refused, given)) = absurd (subst (AnswersFiles true F.Load) given.1 answers)
+told-files false F.Load reply told answers (inr (refused, given)) = let never : R.Data given.0 ≡ R.WrongCall = sym given.1 ∙ answers in absurd (cc)
+
+-- so is what it leaves
+pub load-leaves : {V G : Type 0} (f : V → List (CacheEntryKey × ℕ)) (o : Option V) (left : G → Option (List ℕ)) (files : ℕ) (put_in : Recency → Tracked → Tracked) (m m' first : Tracked) (reply told answered : Reply) → AnswersFiles (is_none o) F.Load reply → IsLoaded left files put_in m m' reply
+    → IsCopy reply told → told ≡ answered → started (option_map f o) m ≡ first → IsLoaded left files put_in first (started (option_map f o) m') answered
+load-leaves f o left files put_in m m' first reply told answered answers loaded copy same is =
+    subst (λ (x : Tracked). IsLoaded left files put_in x (started (option_map f o) m') answered) is
+    (subst (IsLoaded left files put_in (started (option_map f o) m) (started (option_map f o) m')) (sym (told-files (is_none o) F.Load reply told answers copy) ∙ same) (load-start f o left files put_in m m' reply answers loaded))
+
+-- what a load answers that has no files
+pub unloaded-answers : (b : Bool) (reply : Reply) → reply ≡ cond b (R.Refused Io) R.WrongCall → AnswersFiles b F.Load reply
+unloaded-answers true reply is = subst (AnswersFiles true F.Load) (sym is) tt
+unloaded-answers false reply is = is
+
+pub unloaded-nowhere : (b : Bool) (reply : Reply) → reply ≡ cond b (R.Refused Io) R.WrongCall → HasNoFiles (Some F.Load) reply
+unloaded-nowhere true reply is = inl is
+unloaded-nowhere false reply is = inr is
+
+-- a call of the parts is none on files
+pub not-files : (act : Act) (a : FilesAct) → files_in act ≡ None → act ≡ C.Files a → ⊥
+not-files act a none is = let never : ◌≡◌ {A = Option FilesAct} None (Some a) = sym none ∙ ap files_in is in absurd (cc)

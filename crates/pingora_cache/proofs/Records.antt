@@ -2,11 +2,11 @@
 use Rattle.std.proofs.Common.{◌≡◌, ℕ, Bool, false, true, ◌||◌, nat_lt, if◌then◌else◌, Option, None, Some, List, refl, ap, sym, ◌∙◌, option_map, arith}
 use Rattle.std.specs.Ordering.{nat_cmp}
 use Rattle.std.specs.Cmp.{nat_cmp_total}
-use Rattle.std.specs.FinMap.{FinMap, empty, get, get-empty, len, same_map, nat_cmp-IsAntisymmetric}
+use Rattle.std.specs.FinMap.{FinMap, empty, get, get-empty, len, len-empty, same_map, nat_cmp-IsAntisymmetric}
 use Rattle.pcache_base.proofs.Totals.{total-empty}
 use Rattle.pcache_evict.specs.Tracked.{Tracked, Limits}
 use Rattle.pcache_lock.specs.Locks.{Locks}
-use Rattle.pcache_store.specs.Store.{Store}
+use Rattle.pcache_store.specs.Store.{Store, Written}
 use Rattle.pcache_history.specs.declared.entry.Entry.{Entry}
 use Rattle.pcache_history.specs.declared.entry.Event.{Event}
 use Rattle.pcache_history.specs.Events.{in_flight}
@@ -39,4 +39,4 @@ records-none limits start now s t all h k none =
     let unwritten : (w : ℕ) → writers all w ≡ 0 = λ w. ap (λ (m : FinMap nat_cmp Held). writers m w) gone ∙ total-empty nat_cmp_total (writers_in w) in
     let kept : s.writes ≡ empty = same_map nat_cmp_total nat_cmp-IsAntisymmetric s.writes empty (λ w.
     k.state.writes w ∙ no-record w (readers all w) (events_of h) (grounded (writers all w) (in_flight w (events_of h)) (k.writes w) (unwritten w)) (unread w) ∙ sym (get-empty nat_cmp w)) in
-    ap len kept
+    ap len kept ∙ len-empty nat_cmp Written

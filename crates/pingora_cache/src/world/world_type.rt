@@ -1,13 +1,13 @@
 //! The world itself.
-ghost use Rattle.std.specs.Prelude.{◌≡◌, ◌≢◌, ◌+◌, ◌<◌, ◌≤◌, ◌⊎◌, ◌++◌, ◌∷◌, [], Some, None, IsSome, IfSome, option_map, IfOk, IfErr, OnOk, OnErr, min, ◌^◌, ◌-◌, vec_len};
+ghost use Rattle.std.specs.Prelude.{◌≡◌, ◌≢◌, ◌+◌, ◌<◌, ◌≤◌, ◌⊎◌, ◌++◌, ◌∷◌, [], Some, None, IsSome, IfSome, option_map, IfOk, IfErr, OnOk, OnErr, min, ◌^◌, ◌-◌, vec_len, cond, false};
 ghost use Rattle.pcache_base.specs.declared.error.ErrorType.TheVariants.{InternalError, Io, OutOfMemory};
 ghost use Rattle.std.specs.Vec.{vec_capacity};
 ghost use Rattle.pcache_history.specs.Files.{files_in};
 ghost use Rattle.pcache_history.specs.Log.{started};
 ghost use Rattle.pcache_history.specs.Rules.{IsCopy, IsFilesReply};
 ghost use Rattle.pcache_history.specs.declared.call.FilesAct.TheVariants.{Save, Load};
-ghost use Rattle.pcache_history.specs.declared.call.Reply.TheVariants.{Loaded, Refused};
-ghost use Rattle.pingora_cache.specs.FilesCalls.{AnswersFiles};
+ghost use Rattle.pcache_history.specs.declared.call.Reply.TheVariants.{Refused, WrongCall};
+ghost use Rattle.pingora_cache.specs.FilesCalls.{AnswersFiles, IsLoaded};
 
 use crate::world::open::Open;
 use crate::world::parts::Parts;
@@ -81,8 +81,10 @@ impl<M: EvictionManager, P: PutPolicy> World<M, P> {
     ghost use Rattle.pcache_history.specs.Log.{Log, Adds, AddsAll, AddsSome, HasLegal, events_in};
     ghost use Rattle.pcache_history.specs.PutHistory.{AreTold};
     ghost use Rattle.pcache_history.specs.declared.call.FilesAct.TheVariants.{Save, Load};
+    ghost use Rattle.pcache_history.specs.declared.call.Reply.TheVariants.{Refused};
+    ghost use Rattle.pingora_cache.specs.FilesCalls.{HasNoFiles};
     ghost use Rattle.std.specs.Prelude.{reverse, true, ℕ};
-    ghost use Rattle.pcache_base.specs.declared.error.ErrorType.TheVariants.{OutOfMemory};
+    ghost use Rattle.pcache_base.specs.declared.error.ErrorType.TheVariants.{Io, OutOfMemory};
     ghost use Rattle.pcache_evict.specs.Tracked.{weight};
     ghost use Rattle.pcache_history.specs.Headline.{EvictsNothingWithin, FindsUntouched, FinishesUntouched, GivesWhereNoneWaits, HandsOnUnhidden, HitsTheLast, IsWithinAlways};
     ghost use Rattle.pcache_history.specs.Settling.{SettlesAlways};
@@ -189,6 +191,7 @@ impl<M: EvictionManager, P: PutPolicy> World<M, P> {
     /// any other call, is refused as by a device that is not there. `save` and `load` make these calls.
     pub fn step(&mut self, call: Call) -> Result<Reply>
         ensures ok { IfOk result (λ reply. Adds self.old call reply self.new) }
+        ensures files { IfOk result (λ reply. HasNoFiles (files_in call.act) reply) }
         ensures legal { HasLegal self.new }
         ensures puts { AreTold P.says (reverse self.new.history) }
         ensures err { OnErr result (self.new ≡ self.old) }
@@ -231,6 +234,7 @@ impl<M: EvictionManager, P: PutPolicy> World<M, P> {
     // A save with no files.
     fn save_nowhere(&mut self, call: Call) -> Result<Reply>
         requires save { files_in call.act ≡ Some Save }
+        ensures files { IfOk result (λ reply. reply ≡ Refused Io) }
         ensures ok { IfOk result (λ reply. Adds self.old call reply self.new) }
         ensures legal { HasLegal self.new }
         ensures puts { AreTold P.says (reverse self.new.history) }
@@ -238,14 +242,15 @@ impl<M: EvictionManager, P: PutPolicy> World<M, P> {
         ensures kind { IfErr result (λ e. e ≡ OutOfMemory) }
     {
         make_ready(&mut self.history, &mut self.start, &self.parts.manager)?;
-        let (noted, answered) = doubled(Reply::Refused(ErrorType::Io));
+        let noted = Reply::Refused(ErrorType::Io);
         note(self.alloc, &mut self.history, call, noted, Vec::new(self.alloc));
-        Ok(answered)
+        Ok(Reply::Refused(ErrorType::Io))
     }
 
     // A load with no files.
     fn load_nowhere(&mut self, call: Call) -> Result<Reply>
         requires load { files_in call.act ≡ Some Load }
+        ensures files { IfOk result (λ reply. HasNoFiles (Some Load) reply) }
         ensures ok { IfOk result (λ reply. Adds self.old call reply self.new) }
         ensures legal { HasLegal self.new }
         ensures puts { AreTold P.says (reverse self.new.history) }
@@ -253,9 +258,10 @@ impl<M: EvictionManager, P: PutPolicy> World<M, P> {
         ensures kind { IfErr result (λ e. e ≡ OutOfMemory) }
     {
         self.history.reserve(1)?;
-        let (noted, answered) = doubled(unloaded(self.start.is_none()));
+        let is_early = self.start.is_none();
+        let noted = unloaded(is_early);
         note(self.alloc, &mut self.history, call, noted, Vec::new(self.alloc));
-        Ok(answered)
+        Ok(unloaded(is_early))
     }
 
     /// Makes one call as `step` does, and says what holds whichever requests for memory are refused: the
@@ -342,11 +348,8 @@ impl<M: SavedManager, P: PutPolicy> World<M, P> {
         ensures kind { IfErr result (λ e. e ≡ OutOfMemory) }
     {
         self.history.reserve(1)?;
-        let reply = if self.start.is_none() {
-            loaded_reply(self.parts.manager.load(self.alloc, files, dir))
-        } else {
-            Reply::WrongCall
-        };
+        let is_early = self.start.is_none();
+        let reply = load_if(self.alloc, &mut self.parts.manager, files, dir, is_early);
         let (noted, answered) = doubled(reply);
         note(
             self.alloc,
@@ -402,9 +405,9 @@ fn make_ready<M: EvictionManager>(
     Ok(())
 }
 
-// What a load with no files answers, if it is the first call but for loads, or not.
+// What a load with no files answers, if only loads came before it or not.
 fn unloaded(is_early: bool) -> Reply
-    ensures { AnswersFiles is_early Load result }
+    ensures { result ≡ cond is_early (Refused Io) WrongCall }
 {
     if is_early {
         Reply::Refused(ErrorType::Io)
@@ -424,14 +427,24 @@ fn saved_reply(saved: Result<()>) -> Reply
     }
 }
 
-// What a load answers.
-fn loaded_reply(loaded: Result<usize>) -> Reply
-    requires { IfErr loaded (λ e. (e ≡ OutOfMemory) ⊎ (e ≡ InternalError) ⊎ (e ≡ Io)) }
-    ensures reply { IsFilesReply Load result }
-    ensures ok { IfOk loaded (λ skipped. result ≡ Loaded skipped) }
-    ensures err { IfErr loaded (λ e. result ≡ Refused e) }
+// Puts in what was saved, if only loads came before.
+fn load_if<M: SavedManager, R: Files>(
+    alloc: Global,
+    manager: &mut M,
+    files: &R,
+    dir: &str,
+    is_early: bool,
+) -> Reply
+    ensures reply { AnswersFiles is_early Load result }
+    ensures loaded { IsLoaded R.File.remaining M.file_count M.put_in (M.tracked manager.old) (M.tracked manager.new) result }
+    ensures late { is_early ≡ false → M.tracked manager.new ≡ M.tracked manager.old }
+    ensures limits { M.limits manager.new ≡ M.limits manager.old }
+    ensures evicted { M.evicted manager.new ≡ M.evicted manager.old }
 {
-    match loaded {
+    if !is_early {
+        return Reply::WrongCall;
+    }
+    match manager.load(alloc, files, dir) {
         Ok(skipped) => Reply::Loaded(skipped),
         Err(refused) => Reply::Refused(refused.etype()),
     }
