@@ -243,7 +243,13 @@ impl<M: EvictionManager, P: PutPolicy> World<M, P> {
     {
         make_ready(&mut self.history, &mut self.start, &self.parts.manager)?;
         let noted = Reply::Refused(ErrorType::Io);
-        note(self.alloc, &mut self.history, call, noted, Vec::new(self.alloc));
+        note(
+            self.alloc,
+            &mut self.history,
+            call,
+            noted,
+            Vec::new(self.alloc),
+        );
         Ok(Reply::Refused(ErrorType::Io))
     }
 
@@ -260,7 +266,13 @@ impl<M: EvictionManager, P: PutPolicy> World<M, P> {
         self.history.reserve(1)?;
         let is_early = self.start.is_none();
         let noted = unloaded(is_early);
-        note(self.alloc, &mut self.history, call, noted, Vec::new(self.alloc));
+        note(
+            self.alloc,
+            &mut self.history,
+            call,
+            noted,
+            Vec::new(self.alloc),
+        );
         Ok(unloaded(is_early))
     }
 
