@@ -167,6 +167,7 @@ class World:
         self.standing, self.metas = {}, {}  # by slot: the last finished write, and the meta of its body
         self.tracked, self.evicted = {}, [0, 0]  # entries with their weights, those used last at the end
         self.refusals = 0
+        self.only_loads = True
 
     # ---- what the events before say
 
@@ -289,7 +290,17 @@ class World:
         stored, slots = self.stored()
         require(stored <= self.limit and (self.watermark is None or slots <= self.watermark), "more is stored than the limits")
 
+    def call_on_files(self, name, reply, events):
+        """There are no files, so the device fails; a load may come only after loads."""
+        may = name == "save" or self.only_loads
+        require(reply == ("refused E8" if may else "wrong call") and not events, f"a {name}, which may come: {may}")
+        self.only_loads = self.only_loads and name == "load"
+
     def call(self, words, reply, events):
+        if words[0] in ("save", "load"):
+            self.call_on_files(words[0], reply, events)
+            return
+        self.only_loads = False
         name, number = words[0], int(words[1])
         one = self.open.get(number)
         is_put = isinstance(one, Put)

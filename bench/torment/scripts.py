@@ -12,8 +12,9 @@ ONE = "0" * 31 + "1"
 class Script:
     """The lines of a script, the limits of its manager, and the replies that are wanted if nothing is refused, if known."""
 
-    def __init__(self, name, limits, lines, replies=None):
+    def __init__(self, name, limits, lines, replies=None, is_plain=False):
         self.name, self.limits, self.lines, self.replies = name, limits, lines, replies
+        self.is_plain = is_plain  # it runs once, with no refusal
 
 
 def rows():
@@ -29,6 +30,24 @@ def rows():
                 call, reply = line.split(" -> ")
                 made[-1].lines.append(call)
                 made[-1].replies.append(reply)
+    return made
+
+
+# rows in which what one request lets go is told of another
+BETWEEN = ["a purge while a write is in flight", "a reader follows a purged write", "age timeout, and a late release leaves the new permit",
+           "told by a publication", "released before told", "aged before told"]
+
+
+def insertions():
+    """The end, the disabling and a release of each request between every two lines of some rows."""
+    made = []
+    for row in rows():
+        numbers = sorted({line.split(" ")[1] for line in row.lines if line.split(" ")[0] not in ("at", "stat")})
+        for place in range(len(row.lines) + 1) if row.name in BETWEEN else []:
+            for number in numbers:
+                for call in (f"end {number}", f"disable {number} InternalError", f"release {number} InternalError"):
+                    lines = row.lines[:place] + [call] + row.lines[place:]
+                    made.append(Script(f"{row.name}, with {call} before line {place + 1}", row.limits, lines, [None] * len(lines), True))
     return made
 
 
@@ -130,6 +149,9 @@ def random_script(seed, count=250):
             continue
         if chance.random() < 0.02:
             lines.append("stat")
+            continue
+        if chance.random() < (0.01 if lines else 0.5):
+            lines.append(chance.choice(["load d", "load d", "save d"]))
             continue
         number = chance.choice([1, 1, 1, 2, 2, 2, 3, 3, 3, 4, 9])
         if number == 9:

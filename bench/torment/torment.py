@@ -157,13 +157,19 @@ def at_random(harness, manager, shards, script):
     return 1 + len(plans), answers
 
 
+def once(harness, manager, shards, script):
+    """The run in which nothing is refused, and no other."""
+    plainly(harness, manager, shards, script)
+    return 1, 0
+
+
 def torment(task):
     """One script with one manager: how many runs and answered refusals, or what was wrong."""
     harness, (manager, shards), script, until = task
     if time.time() > until:
         return script.name, manager, 0, 0, None
     try:
-        how = at_random if script.replies is None else in_turn
+        how = once if script.is_plain else at_random if script.replies is None else in_turn
         runs, answers = how(harness, manager, shards, script)
         return script.name, manager, runs, answers, None
     except plain.Wrong as wrong:
@@ -196,7 +202,7 @@ def main():
                 print(f"torment: no library, or no program {said.program}")
                 return 2
         harness = Harness(os.path.realpath(said.program), library)
-        chosen = scripts.rows() + scripts.puts()
+        chosen = scripts.rows() + scripts.puts() + scripts.insertions()
         chosen += [scripts.random_script(f"{said.seed} {number}") for number in range(said.random)]
         chosen = [script for script in chosen if said.only in script.name]
         until = time.time() + said.minutes * 60 if said.minutes else float("inf")

@@ -1,18 +1,20 @@
 #![tactic(auto)]
 //! `cache_replay LIMIT [WATERMARK]`: runs a script of cache calls from standard input.
 
-use cache_script::replay::replay;
+use cache_script::replay::{refuse_arguments, replay};
+use std::io::ErrorKind;
 use std::process::ExitCode;
 use std::{env, io};
 
 fn main(rt: HostRuntime) -> ExitCode {
-    let Ok(words) = env::args(&rt) else {
-        return ExitCode::FAILURE;
+    let mut errors = rt.stderr();
+    let words = match env::args(&rt) {
+        Ok(words) => words,
+        Err(failed) => return ExitCode::from(refuse_arguments(failed.kind(), &mut errors)),
     };
     let Ok(args) = words.skip(1).collect::<Vec<String>>(rt.alloc()) else {
-        return ExitCode::FAILURE;
+        return ExitCode::from(refuse_arguments(ErrorKind::OutOfMemory, &mut errors));
     };
-    let mut errors = rt.stderr();
     let status = replay(
         rt.alloc(),
         args.as_slice(),

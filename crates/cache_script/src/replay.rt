@@ -1,5 +1,5 @@
 //! Running a script.
-ghost use Rattle.std.specs.Prelude.{◌≤◌};
+ghost use Rattle.std.specs.Prelude.{◌≡◌, ◌≤◌};
 
 use crate::policy::OneSecond;
 use crate::reply::{write_reply, write_stat};
@@ -12,6 +12,7 @@ use pingora_cache::world::World;
 use pingora_cache::world::call::Reply;
 use std::alloc::Global;
 use std::fs::Files;
+use std::io;
 use std::io::{BufRead, BufReader, BufWriter, Read, Write};
 use std::time::Duration;
 
@@ -64,6 +65,20 @@ pub fn replay<F: Files, R: Read + Drop, W: Write + Drop, E: Write>(
     let stop = match run(alloc, args, files, input, output) {
         Ok(()) => return 0,
         Err(stop) => stop,
+    };
+    stop.tell(errors);
+    1
+}
+
+/// Says on `errors` why the arguments could not be read at all, by the kind of the failure: `out of memory`, or
+/// `bad arguments` if one is no text. Answers the status, 1.
+pub fn refuse_arguments<E: Write>(kind: io::ErrorKind, errors: &mut E) -> u8
+    ensures { result ≡ 1 }
+{
+    let stop = if kind == io::ErrorKind::OutOfMemory {
+        Stop::OutOfMemory
+    } else {
+        Stop::BadArguments
     };
     stop.tell(errors);
     1
@@ -142,37 +157,27 @@ fn run_line<F: Files, W: Write>(
             write_reply(writer, &Reply::Done)
         }
         Line::Stat => write_stat(writer, world.stored_bytes(), world.slots(), world.totals()),
-        Line::Save(dir) => {
-            let saved = world.save(files, dir.as_str(), suffix_of(number));
-            write_reply(writer, &file_reply(saved.map(Some)))
-        }
-        Line::Load(dir) => {
-            let loaded = world.load(files, dir.as_str());
-            write_reply(
-                writer,
-                &file_reply(loaded.map(|skipped| skipped.map(|_| ()))),
-            )
-        }
-        Line::Call(call) => match world.step(call) {
-            Ok(reply) => write_reply(writer, &reply),
-            Err(_) => return Err(Stop::OutOfMemory),
-        },
+        Line::Save(dir) => answer(writer, world.save(files, dir.as_str(), suffix_of(number)))?,
+        Line::Load(dir) => answer(writer, world.load(files, dir.as_str()))?,
+        Line::Call(call) => answer(writer, world.step(call))?,
     };
     written.map_err(|_| Stop::OutputFailed)
+}
+
+// Writes what a call answers. With no memory for its entry the run ends.
+fn answer<W: Write>(
+    writer: &mut W,
+    made: pingora_cache::error::Result<Reply>,
+) -> Result<io::Result<()>, Stop> {
+    match made {
+        Ok(reply) => Ok(write_reply(writer, &reply)),
+        Err(_) => Err(Stop::OutOfMemory),
+    }
 }
 
 // The suffix of a saved file's temporary name: its line's number modulo 2^32.
 fn suffix_of(number: u64) -> u32 {
     (number % (1 << 32)) as u32
-}
-
-// What saving or loading answers. Nothing stands for a load that comes too late.
-fn file_reply(done: pingora_cache::error::Result<Option<()>>) -> Reply {
-    match done {
-        Ok(Some(())) => Reply::Done,
-        Ok(None) => Reply::WrongCall,
-        Err(refused) => Reply::Refused(refused.etype()),
-    }
 }
 
 /// Reads a line without its end, and answers whether there was one.

@@ -15,7 +15,7 @@ pub fn write_reply<W: Write>(output: &mut W, reply: &Reply) -> io::Result<()> {
             let number = error_number(*kind);
             writeln!(output, "refused E{number}")
         }
-        Reply::Done => writeln!(output, "ok"),
+        Reply::Done | Reply::Loaded(_) => writeln!(output, "ok"),
         Reply::Hit(weight) => writeln!(output, "hit {weight}"),
         Reply::Part => writeln!(output, "part"),
         Reply::NotFound(lock) => write_with_lock(output, "none", *lock),

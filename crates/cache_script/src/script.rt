@@ -25,7 +25,7 @@ pub enum Line {
     Stat,
     /// The moment of the lines that follow.
     At(Moment),
-    /// Save what the manager holds in this folder, or load it: no calls.
+    /// Save what the manager holds in this folder, or load it: calls of a world that is lent files.
     Save(String),
     Load(String),
     /// A call of the world.

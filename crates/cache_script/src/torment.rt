@@ -13,7 +13,7 @@ use pingora_cache::eviction::{EvictionManager, sharded_lru, simple_lru};
 use pingora_cache::moment::Moment;
 use pingora_cache::seed::Seed;
 use pingora_cache::world::World;
-use pingora_cache::world::call::{Call, Reply};
+use pingora_cache::world::call::{Call, FilesAct, Reply};
 use std::alloc::Global;
 use std::io;
 use std::io::{BufRead, BufReader, BufWriter, Read, Write};
@@ -132,7 +132,7 @@ fn run_lines<M: EvictionManager, R: BufRead, W: Write>(
             return Ok(());
         }
         let written = match read(alloc, line.as_slice(), now) {
-            Ok(read) => run_line(world, read, number, &mut now, writer)?,
+            Ok(read) => run_line(world, read, &mut now, writer),
             Err(Unread::BadCall) => return Err(Stop::BadCall(number)),
             Err(Unread::OutOfMemory) => writeln!(writer, "not read"),
         };
@@ -141,23 +141,24 @@ fn run_lines<M: EvictionManager, R: BufRead, W: Write>(
     Ok(())
 }
 
-// Does what a line with this number asks for, and tells of it. Files are not touched.
+// Does what a line asks for, and tells of it. There are no files: a save or a load is refused as by a device that is not
+// there.
 fn run_line<M: EvictionManager, W: Write>(
     world: &mut World<M, OneSecond>,
     line: Line,
-    number: u64,
     now: &mut Moment,
     writer: &mut W,
-) -> Result<io::Result<()>, Stop> {
+) -> io::Result<()> {
     match line {
-        Line::Skip => Ok(Ok(())),
+        Line::Skip => Ok(()),
         Line::At(moment) => {
             *now = moment;
-            Ok(write_reply(writer, &Reply::Done))
+            write_reply(writer, &Reply::Done)
         }
-        Line::Stat => Ok(write_numbers(world, writer)),
-        Line::Save(_) | Line::Load(_) => Err(Stop::BadCall(number)),
-        Line::Call(call) => Ok(run_call(world, call, writer)),
+        Line::Stat => write_numbers(world, writer),
+        Line::Save(_) => run_call(world, FilesAct::Save.call(), writer),
+        Line::Load(_) => run_call(world, FilesAct::Load.call(), writer),
+        Line::Call(call) => run_call(world, call, writer),
     }
 }
 

@@ -18,7 +18,7 @@ use std::fs::Files;
 /// say what becomes of the manager by what the files gave that were opened.
 pub trait SavedManager: EvictionManager {
     /// How many files the manager has.
-    ghost file_count: { Self → ℕ };
+    ghost file_count: { ℕ };
 
     /// What entries of its files make of what is tracked.
     ghost put_in: { Recency → Tracked → Tracked };
@@ -36,7 +36,7 @@ pub trait SavedManager: EvictionManager {
     /// a refusal changes nothing.
     fn load<R: Files>(&mut self, alloc: Global, files: &R, dir: &str) -> Result<usize>
         ensures ok { IfOk result (λ skipped. (entries : Recency)
-            × Loads R.File.remaining (file_count self.old) skipped entries
+            × Loads R.File.remaining file_count skipped entries
             × (Self.tracked self.new ≡ put_in entries (Self.tracked self.old))) }
         ensures limits { Self.limits self.new ≡ Self.limits self.old }
         ensures evicted { Self.evicted self.new ≡ Self.evicted self.old }
@@ -47,7 +47,7 @@ pub trait SavedManager: EvictionManager {
 impl SavedManager for eviction::simple_lru::Manager {
     ghost use Rattle.pcache_files.specs.Folder.{set_all};
 
-    ghost file_count = { λ _. 1 };
+    ghost file_count = { 1 };
 
     ghost put_in = { set_all };
 
@@ -64,7 +64,7 @@ impl SavedManager for eviction::simple_lru::Manager {
 impl<const N: usize> SavedManager for eviction::sharded_lru::Manager<N> {
     ghost use Rattle.pcache_files.specs.Folder.{added_all};
 
-    ghost file_count = { λ _. N };
+    ghost file_count = { N };
 
     ghost put_in = { added_all };
 

@@ -4,6 +4,7 @@ pub mod Copied
 pub mod Due
 pub mod Exact
 pub mod Found
+pub mod LoadsLaw
 pub mod NumbersLaw
 pub mod WriteLaws
 pub mod Promised

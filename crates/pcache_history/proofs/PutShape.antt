@@ -145,6 +145,7 @@ no-push a = tt
 
 -- a call of the right kind leaves a shaped one
 shaped-change : (act : Act) (o : Outcome) (events : List Event) (q : Option Held) → FindsKind act q → IsShaped q → IsShaped (changed (change_of act) o events q)
+shaped-change (C.Files a) o events q finds h = h
 shaped-change (C.Put k limit) o events q finds h = one-of IsShaped (is_done o) (Some (held_put (new_put k limit))) q refl h
 shaped-change (C.Feed bytes t) o events None finds h = tt
 shaped-change (C.Feed bytes t) o events (Some x) finds h = elim (is_wrong o) as (λ b. IsShaped (Some (cond b x (fed_in o events x x.put)))) [ true ↦ h | false ↦ fed-shaped o events x x.put refl h ]

@@ -162,6 +162,7 @@ own-call : (limits : Limits) (start : Tracked) (f : Facts) (act : Act) (q : Opti
     → GaveIn (filled_after act (outcome reply) events g) (row act reply events q) (reverse events ++ es)
 own-call limits start f act q reply events es g (inr (other, idle)) due unwritten low h = wrong-call act q reply events es g idle h
 own-call limits start f act q reply events es g (inl (kind, inr (fails, idle))) due unwritten low h = wrong-call act q reply events es g idle h
+own-call limits start f (C.Files a) q reply events es g (inl (kind, inl (may, other, does))) due unwritten low h = subst (λ (xs : List Event). GaveIn g q (reverse xs ++ es)) (sym does.1) h
 own-call limits start f (C.Put k limit) None reply events es g (inl (kind, inl (may, other, does))) due unwritten low h = begun-put (is_done (outcome reply)) k limit g (reverse events ++ es)
 own-call limits start f (C.Put k limit) (Some x) reply events es g (inl (kind, inl (may, other, does))) due unwritten low h = absurd may
 own-call limits start f (C.Feed bytes t) None reply events es g (inl (kind, inl (may, other, does))) due unwritten low h = tt

@@ -134,6 +134,7 @@ IsNoEnd C.Close = ⊥
 IsNoEnd act = Unit {0}
 
 none-does : (f : Facts) (act : Act) (q : Option Held) (reply : Reply) (events : List Event) → IsNoEnd act → Does f act q reply events → StoresNone events
+none-does f (C.Files a) q reply events plain d = subst StoresNone (sym d.1) refl
 none-does f (C.Open options) q reply events plain d = none-done reply events d
 none-does f (C.Put k limit) q reply events plain d = none-done reply events d
 none-does f act None reply events plain d = absurd d
@@ -269,6 +270,7 @@ module _ (age : ℕ) (limits : Limits) (start : Tracked) (before : List Entry) (
   by-close x has (Some p) shaped d = by-stage x p has shaped p.stage refl d
 
   by-does : (act : Act) (q : Option Held) → request_of entry.call.request before ≡ q → Does legal.0.facts act q legal.0.told entry.events → Settled
+  by-does (C.Files a) q has d = by-none (none-does legal.0.facts (C.Files a) q legal.0.told entry.events tt d)
   by-does (C.Open options) q has d = by-none (none-done legal.0.told entry.events d)
   by-does (C.Put k limit) q has d = by-none (none-done legal.0.told entry.events d)
   by-does (C.Request Q.Finish) (Some x) has d = by-finish x has x.request.write refl d

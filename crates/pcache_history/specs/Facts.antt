@@ -40,6 +40,8 @@ pub record Facts : Type 0 where
   pub too_old : ℕ → Bool
   -- the request to which the call hands a permit, once that is out of its giver's hands
   pub taker : Option Held
+  -- of a load: whether only loads came before it
+  pub early : Bool
 
 abbrev pub request_in : Option Held → Request
 request_in None = new_request

@@ -16,6 +16,8 @@ use Rattle.pcache_request.specs.LockWaits.{unusable_in}
 use Rattle.pcache_request.specs.Variants.{hides_pair}
 use Rattle.pcache_store.specs.Store.{Reader, Whole, Part, Stored}
 use Rattle.pcache_history.specs.declared.call.Act.TheVariants as C
+use Rattle.pcache_history.specs.declared.call.FilesAct.{FilesAct}
+use Rattle.pcache_history.specs.declared.call.FilesAct.TheVariants as F
 use Rattle.pcache_history.specs.declared.call.RequestAct.TheVariants as Q
 use Rattle.pcache_history.specs.declared.call.Reply.{Reply}
 use Rattle.pcache_history.specs.declared.call.Reply.TheVariants as R
@@ -29,6 +31,7 @@ use Rattle.pcache_history.specs.Deeds.{deeds_of}
 use Rattle.pcache_history.specs.Events.{is_of, begin_of, in_flight, was_stored, is_removed, last_finished, body_of, complete, names_slot, stored_size, tracked, stored, slots}
 use Rattle.pcache_history.specs.Held.{Held, pair_of, request_of, taker_in}
 use Rattle.pcache_history.specs.Facts.{Facts, Says, request_in}
+use Rattle.pcache_history.specs.Files.{IsEarly, only_loads}
 use Rattle.pcache_history.specs.History.{events_of, Finds, reads}
 use Rattle.pcache_history.specs.Legal.{IsLegal}
 use Rattle.pcache_history.specs.Log.{Log, events_in}
@@ -43,7 +46,13 @@ use Rattle.pcache_history.specs.Taking.{Taking}
 -- a call is answered as a wrong one exactly when what stands under its number is of another kind, or its condition fails, by the facts that the events before it say
 abbrev pub IsWrongExactly : Type 0
 IsWrongExactly = (age : ℕ) (limits : Limits) (start : Tracked) (before : List Entry) (entry : Entry) (f : Facts) → IsLegal age limits start (entry ∷ before) → Says age (events_of before) (deeds_of before) entry.call.request (request_in (request_of entry.call.request before)) f
-    → f.taker ≡ taker_in entry.call.request entry.call.act before → (entry.reply ≡ WrongCall) ↔ (FindsKind entry.call.act (request_of entry.call.request before) × MayBe f entry.call.act (request_of entry.call.request before) → ⊥)
+    → f.taker ≡ taker_in entry.call.request entry.call.act before → IsEarly entry.call.act f before → (entry.reply ≡ WrongCall) ↔ (FindsKind entry.call.act (request_of entry.call.request before) × MayBe f entry.call.act (request_of entry.call.request before) → ⊥)
+
+-- a load is answered as a wrong call exactly when another call than a load came before it; a save is never one, and neither makes
+-- an event
+abbrev pub LoadsComeFirst : Type 0
+LoadsComeFirst = (age : ℕ) (limits : Limits) (start : Tracked) (before : List Entry) (entry : Entry) (a : FilesAct) → IsLegal age limits start (entry ∷ before) → entry.call.act ≡ C.Files a
+    → ((entry.reply ≡ WrongCall) ↔ ((a ≡ F.Load) × (only_loads before ≡ false))) × (entry.events ≡ [])
 
 -- a look-up answers what the events before it say of its key: the earliest begun write that is in flight and untouched, else
 -- the complete body, else nothing; with the meta that the write began with, which of a complete body is altered by each expiry

@@ -54,6 +54,7 @@ pub record Held : Type 0 where
 -- a call that names one request alone
 abbrev pub IsOfOne : Act → Type 0
 IsOfOne (C.Give to) = ⊥
+IsOfOne (C.Files a) = ⊥
 IsOfOne _ = Unit {0}
 
 -- what a request or a put moves by of a reply
@@ -295,6 +296,7 @@ change_of (C.Put k limit) = pushes k limit
 change_of (C.Feed bs t) = feeds
 change_of C.Drop = closes
 change_of C.Close = goes
+change_of (C.Files a) = stays
 
 -- all but its reader
 abbrev pub turned_by : (Request → Request) → Bool → Held → Held

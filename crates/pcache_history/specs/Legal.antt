@@ -8,6 +8,7 @@ use Rattle.pcache_history.specs.declared.entry.Event.{Event}
 use Rattle.pcache_history.specs.Deeds.{Deed, deeds_of}
 use Rattle.pcache_history.specs.Due.{makes_of, AreDue, KeepsKey}
 use Rattle.pcache_history.specs.Facts.{Facts, Says, request_in}
+use Rattle.pcache_history.specs.Files.{IsEarly}
 use Rattle.pcache_history.specs.Held.{Held, row, request_of, taker_in}
 use Rattle.pcache_history.specs.History.{events_of}
 use Rattle.pcache_history.specs.Rules.{Replies, IsCopy}
@@ -26,7 +27,8 @@ pub record Gives (age : ℕ) (limits : Limits) (start : Tracked) (es : List Even
   pub keeps : KeepsKey q (row act reply events q)
   pub given : AreGiven (waiting_in es) events
 
--- a legal history: each entry is one that what stands before it gives; so is the request to which it hands a permit
+-- a legal history: each entry is one that what stands before it gives; so is the request to which it hands a permit, and whether
+-- a load comes early enough
 abbrev pub IsLegal : ℕ → Limits → Tracked → List Entry → Type 0
 IsLegal age limits start [] = Unit {0}
-IsLegal age limits start (e ∷ h) = (g : Gives age limits start (events_of h) (deeds_of h) e.call.request (request_of e.call.request h) e.call.act e.reply e.events) × IsLegal age limits start h × (g.facts.taker ≡ taker_in e.call.request e.call.act h)
+IsLegal age limits start (e ∷ h) = (g : Gives age limits start (events_of h) (deeds_of h) e.call.request (request_of e.call.request h) e.call.act e.reply e.events) × IsLegal age limits start h × (g.facts.taker ≡ taker_in e.call.request e.call.act h) × IsEarly e.call.act g.facts h

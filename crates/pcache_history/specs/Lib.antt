@@ -2,6 +2,7 @@ pub mod Deeds
 pub mod Due
 pub mod Events
 pub mod Facts
+pub mod Files
 pub mod Headline
 pub mod Held
 pub mod History

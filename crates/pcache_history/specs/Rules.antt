@@ -4,7 +4,7 @@ use Rattle.std.specs.Prelude.{◌≡◌, ℕ, ◌^◌, ◌≤◌, ◌⊎◌, ◌
 use Rattle.pcache_base.specs.Key.{Key, slot}
 use Rattle.pcache_meta.specs.Meta.{Meta}
 use Rattle.pcache_base.specs.declared.error.ErrorType.{ErrorType}
-use Rattle.pcache_base.specs.declared.error.ErrorType.TheVariants.{IncompleteHttpBody, InternalError, InvalidHttpHeader, OutOfMemory, ResponseTooLarge, WriteRemoved, NumbersExhausted}
+use Rattle.pcache_base.specs.declared.error.ErrorType.TheVariants.{IncompleteHttpBody, InternalError, InvalidHttpHeader, Io, OutOfMemory, ResponseTooLarge, WriteRemoved, NumbersExhausted}
 use Rattle.pcache_base.specs.declared.reason.NoCacheReason.{NoCacheReason}
 use Rattle.pcache_put_ctx.specs.State.{Stage, InHead, InBody, HasDeclined, IsOver, write_in}
 use Rattle.pcache_put_ctx.specs.Steps.{stage_begun}
@@ -30,6 +30,8 @@ use Rattle.pcache_request.specs.Requests.{Request, MayTakeMeta, MayWrite, entry_
 use Rattle.pcache_history.specs.declared.call.Act.{Act}
 use Rattle.pcache_history.specs.declared.call.Act.TheVariants as C
 use Rattle.pcache_history.specs.declared.call.RequestAct.TheVariants as Q
+use Rattle.pcache_history.specs.declared.call.FilesAct.{FilesAct}
+use Rattle.pcache_history.specs.declared.call.FilesAct.TheVariants as F
 use Rattle.pcache_history.specs.declared.call.LockKind.{LockKind}
 use Rattle.pcache_history.specs.declared.call.LockKind.TheVariants as kind
 use Rattle.pcache_history.specs.declared.call.Reply.{Reply}
@@ -47,8 +49,14 @@ abbrev pub MayTake : Option Held → Type 0
 MayTake None = ⊥
 MayTake (Some y) = IsOn y.request.phase × (y.put ≡ None)
 
+-- files are loaded as long as only loads came before
+abbrev pub MayFile : Facts → FilesAct → Type 0
+MayFile f F.Save = Unit {0}
+MayFile f F.Load = f.early ≡ true
+
 -- The condition of a call.
 abbrev pub MayBe : Facts → Act → Option Held → Type 0
+MayBe f (C.Files a) q = MayFile f a
 MayBe f (C.Open options) None = Unit {0}
 MayBe f (C.Open options) (Some x) = ⊥
 MayBe f (C.Put k limit) None = Unit {0}
@@ -86,11 +94,13 @@ MayBe f (C.Feed bytes t) (Some x) = Unit {0}
 MayBe f C.Drop (Some x) = Unit {0}
 MayBe f C.Close (Some x) = Unit {0}
 
--- what stands under the number that it names is of its kind: a put if it is a call of puts, else a request
+-- what stands under the number that it names is of its kind: a put if it is a call of puts, else a request; a call on files names
+-- none
 abbrev pub IsOfKind : Act → Held → Type 0
 IsOfKind (C.Feed bytes t) x = IsSome x.put
 IsOfKind C.Drop x = IsSome x.put
 IsOfKind C.Close x = IsSome x.put
+IsOfKind (C.Files a) x = Unit {0}
 IsOfKind act x = x.put ≡ None
 
 abbrev pub FindsKind : Act → Option Held → Type 0
@@ -357,7 +367,22 @@ abbrev pub Closes : Facts → Option Taking → Reply → List Event → Type 0
 Closes f None reply events = ⊥
 Closes f (Some p) reply events = ClosesAt f p.key p.stage reply events
 
+-- what a save and a load answer is their manager's: it is done, and a load says how many files were skipped, or it is refused
+-- when memory runs out, if a file is no file of a manager, or if the device failed
+abbrev pub IsFilesRefusal : ErrorType → Type 0
+IsFilesRefusal OutOfMemory = Unit {0}
+IsFilesRefusal InternalError = Unit {0}
+IsFilesRefusal Io = Unit {0}
+IsFilesRefusal e = ⊥
+
+abbrev pub IsFilesReply : FilesAct → Reply → Type 0
+IsFilesReply F.Save R.Done = Unit {0}
+IsFilesReply F.Load (R.Loaded skipped) = Unit {0}
+IsFilesReply a (R.Refused e) = IsFilesRefusal e
+IsFilesReply a reply = ⊥
+
 abbrev pub Does : Facts → Act → Option Held → Reply → List Event → Type 0
+Does f (C.Files a) q reply events = IsFilesReply a reply × (events ≡ [])
 Does f (C.Open options) q reply events = IsDone reply events
 Does f (C.Put k limit) q reply events = IsDone reply events
 Does f act None reply events = ⊥

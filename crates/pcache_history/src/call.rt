@@ -1,6 +1,7 @@
 //! What a world is asked, and what it answers.
 ghost use Rattle.std.specs.Prelude.{◌≡◌, ℕ, List, IfOk, IfErr, OnErr};
 ghost use Rattle.pcache_base.specs.declared.error.ErrorType.TheVariants.{OutOfMemory};
+ghost use Rattle.pcache_history.specs.Files.{files_in};
 ghost use Rattle.pcache_history.specs.declared.call.Act.TheVariants as acts;
 ghost use Rattle.pcache_history.specs.declared.call.Reply.TheVariants.{Data};
 
@@ -62,6 +63,19 @@ pub enum Act {
     /// Ends the put if its response has come, and stores the body. Its number is free then, also if
     /// it is refused.
     Close,
+    /// Saves what the eviction manager holds, or loads what was saved. It names no request and no put,
+    /// whatever its number.
+    Files(FilesAct),
+}
+
+/// What is to be done with the files of an eviction manager. Which folder they are in is no part of
+/// the call: no contract can tell files by their names.
+#[derive(Clone, Copy, Debug, PartialEq, Eq)]
+pub enum FilesAct {
+    /// Saves what the manager holds.
+    Save,
+    /// Puts in what was saved, as long as only loads came before.
+    Load,
 }
 
 /// What an open request is to do.
@@ -159,11 +173,30 @@ pub enum RequestAct {
 }
 
 impl Act {
+    /// What it is to do with files, if it is such an act.
+    pub fn files(&self) -> Option<FilesAct>
+        ensures { result ≡ files_in self.now }
+    {
+        match self {
+            Act::Files(act) => Some(*act),
+            _ => None,
+        }
+    }
+
     /// The call of this act, by the request or the put of a number.
     pub fn of(self, request: u64) -> Call
         ensures { result ≡ record { request = request; act = self } }
     {
         Call { request, act: self }
+    }
+}
+
+impl FilesAct {
+    /// The call of this act. Its number is 0, which says nothing.
+    pub fn call(self) -> Call
+        ensures { result ≡ record { request = 0; act = acts.Files self } }
+    {
+        Act::Files(self).of(0)
     }
 }
 
@@ -234,6 +267,8 @@ pub enum Reply {
     Waited(LockWaitOutcome),
     /// The phase of the request.
     Phase(CachePhase),
+    /// What was saved is put in, but for so many of several files, which were skipped.
+    Loaded(usize),
 }
 
 impl Reply {
@@ -271,6 +306,7 @@ impl Reply {
             Reply::Waiting => Reply::Waiting,
             Reply::Waited(outcome) => Reply::Waited(*outcome),
             Reply::Phase(phase) => Reply::Phase(*phase),
+            Reply::Loaded(skipped) => Reply::Loaded(*skipped),
         })
     }
 }

@@ -40,6 +40,7 @@ impl Act {
             },
             Act::Drop => Act::Drop,
             Act::Close => Act::Close,
+            Act::Files(act) => Act::Files(*act),
         })
     }
 }

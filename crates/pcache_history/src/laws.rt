@@ -1,10 +1,16 @@
 //! What is promised of every legal history, whatever calls it has.
-ghost use Rattle.pcache_history.specs.Headline.{EvictsFairly, FindsExactly, FinishesExactly, FoundIsNumbered, GivesThePermitExactly, HandsOnExactly, IsWithinLimits, IsWrongExactly, LooksAreTrue, OnePermitWaits, PutsAreWritten, ReadsABeginning, ReadsAreTrue, ReadsTheLast, ReadsTheWhole, ReadsWhatWasFound, TellsExactly, TracksExactly, WaitsAreTrue};
+ghost use Rattle.pcache_history.specs.Headline.{EvictsFairly, FindsExactly, FinishesExactly, FoundIsNumbered, GivesThePermitExactly, HandsOnExactly, IsWithinLimits, IsWrongExactly, LoadsComeFirst, LooksAreTrue, OnePermitWaits, PutsAreWritten, ReadsABeginning, ReadsAreTrue, ReadsTheLast, ReadsTheWhole, ReadsWhatWasFound, TellsExactly, TracksExactly, WaitsAreTrue};
 ghost use Rattle.pcache_history.specs.Settling.{SettlesAtOnce};
 
 /// A call is answered as a wrong one exactly when its condition fails.
 pub fn is_wrong_exactly()
     ensures { IsWrongExactly }
+{}
+
+/// A load is answered as a wrong call exactly when another call than a load came before it, also a save;
+/// and what manager files are saved or loaded makes no event.
+pub fn loads_come_first()
+    ensures { LoadsComeFirst }
 {}
 
 /// A look-up answers what the events before it say of its key.

@@ -363,7 +363,7 @@ module _ (limits : Limits) (start m : Tracked) (s : Store) (t : Locks) (all : Fi
   handed-sound =
       let done = parts-move limits start m s t all h k from (Some x) (Some x1) s m events giver (gone-moves limits x x1 s m (permit_of g) refl refl refl) in
       sound-of limits start m s t' after (entry ∷ h)
-      (subst (λ a. IsLegal a limits start (entry ∷ h)) (sym second.age) (legal-with t.age_timeout limits start h (record { request = from; act = C.Give to }) R.Done events (Some (untold x)) gives k.legal refl (sym named)))
+      (subst (λ a. IsLegal a limits start (entry ∷ h)) (sym second.age) (legal-with t.age_timeout limits start h (record { request = from; act = C.Give to }) R.Done events (Some (untold x)) gives k.legal refl tt (sym named)))
       done.kept.tracks
       (state-same (reverse events ++ es) (λ w. readers (remove all from) w + reads_of (Some x1) w) (readers after) s same-readers done.kept.state)
       open-after
@@ -431,7 +431,7 @@ module _ (limits : Limits) (start m : Tracked) (s : Store) (t t' : Locks) (befor
   wrong-ends told copy fails w =
       let same : new ≡ set_to all from (get all from) = same_map nat_cmp_total nat_cmp-IsAntisymmetric _ _ (λ q. w.requests q ∙ sym (set-at all from (get all from) q)) in
       let kept = each-turn-keeps limits start m m s s t t all h (record { request = from; act = C.Give to }) R.WrongCall told [] (get all from) k few as-wrong copy
-      (wrong-given (facts_for s t (request_in (get all from)) (taker_in from (C.Give to) h)) to (get all from) R.WrongCall [] (λ kind may. fails kind (still (get all from) may)) (refl, refl)) (λ r giver q. refl) in (
+      (wrong-given (facts_for s t (request_in (get all from)) (taker_in from (C.Give to) h)) to (get all from) R.WrongCall [] (λ kind may. fails kind (still (get all from) may)) (refl, refl)) tt (λ r giver q. refl) in (
         subst (λ (u : Locks). IsSound limits start m s u new (record { call = record { request = from; act = C.Give to }; reply = told; events = [] } ∷ h)) (sym w.table)
             (subst (λ (x : FinMap nat_cmp Held). IsSound limits start m s t x (record { call = record { request = from; act = C.Give to }; reply = told; events = [] } ∷ h)) (sym same) kept),
         ap (λ (u : Locks). u.age_timeout) w.table,

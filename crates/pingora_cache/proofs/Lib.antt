@@ -1,5 +1,6 @@
 pub mod BySelf
 pub mod Counts
+pub mod FilesCalls
 pub mod Handing
 pub mod History
 pub mod Keeps
@@ -17,6 +18,7 @@ pub mod PutFed
 pub mod PutSound
 pub mod PutTurns
 pub mod ReadLocks
+pub mod Records
 pub mod SoundOf
 pub mod StateAnswers
 pub mod StateCalls

@@ -53,7 +53,7 @@ stood says x pieces f taken = by x.put taken
     by None t = tt
     by (Some p) t = (p.size, p.parser, sym (limits-alike p.size), t)
 
-stood-in : (says : Says) (q : Option Held) (pieces : List Piece) (f : Option Filled) → TakenIn says q pieces f → StoodBy says (option_map untold q) pieces f
+pub stood-in : (says : Says) (q : Option Held) (pieces : List Piece) (f : Option Filled) → TakenIn says q pieces f → StoodBy says (option_map untold q) pieces f
 stood-in says None pieces f t = tt
 stood-in says (Some x) pieces f t = stood says x pieces f t
 

@@ -69,7 +69,7 @@ wrong-said r (C.Wait t) held = refl
 wrong-said r (C.Give to) held = refl
 wrong-said r act held = refl
 
-kept-key : (q : Option Held) → KeepsKey q q
+pub kept-key : (q : Option Held) → KeepsKey q q
 kept-key None = tt
 kept-key (Some x) = λ world. (world, λ some. refl)
 

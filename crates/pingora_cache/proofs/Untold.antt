@@ -246,6 +246,7 @@ row_by-untold (C.Put k limit) o events q = either (is_done o) (Some (held_put (n
 row_by-untold (C.Feed bs t) o events q = over (fed o events) (fed-untold o events) q
 row_by-untold C.Drop o events q = either (is_done o) None q _ _ refl refl
 row_by-untold C.Close o events q = either (is_wrong o) q None _ _ refl refl
+row_by-untold (C.Files a) o events q = refl
 
 pub row-untold : (act : Act) (reply : Reply) (events : List Event) (q : Option Held) → option_map untold (row act reply events q) ≡ row act reply events (option_map untold q)
 row-untold act reply events q = row_by-untold act (outcome reply) events q
@@ -306,12 +307,14 @@ kind-put : (act : Act) (x : Held) → IsOfKind act x → IsOfKind act (untold x)
 kind-put (C.Feed bs t) x is = some-put x.put is
 kind-put C.Drop x is = some-put x.put is
 kind-put C.Close x is = some-put x.put is
+kind-put (C.Files a) x is = tt
 kind-put act x is = ap (option_map untold_put) is
 
 kind-told : (act : Act) (x : Held) → IsOfKind act (untold x) → IsOfKind act x
 kind-told (C.Feed bs t) x is = some-told x.put is
 kind-told C.Drop x is = some-told x.put is
 kind-told C.Close x is = some-told x.put is
+kind-told (C.Files a) x is = tt
 kind-told act x is = no-put x.put is
 
 pub finds-untold : (act : Act) (q : Option Held) → FindsKind act q → FindsKind act (option_map untold q)

@@ -55,6 +55,7 @@ facts_for s t x taker = record {
   wait = λ now. wait_answer t now x.held x;
   too_old = λ now. too_old_for t now x.held (unusable_in x.key);
   taker = taker;
+  early = false;
 }
 
 -- of a call that hands nothing over

@@ -7,9 +7,10 @@ mod puts;
 mod variants;
 mod waits;
 
-use cache_script::replay::replay;
+use cache_script::replay::{refuse_arguments, replay};
 use std::alloc::Global;
 use std::fs::Files;
+use std::io::ErrorKind;
 use std::process::Abort;
 use std::test::Fail;
 
@@ -319,6 +320,21 @@ fn bad_arguments(rt: HostRuntime) -> Result<(), Fail> {
         check(&rt, alloc, args, "open 1\n", 1, "bad arguments\n")?;
     }
     Ok(())
+}
+
+// What is said of arguments that could not be read at all, by how that failed.
+fn refused(alloc: Global, kind: ErrorKind, said: &str) -> bool {
+    let mut errors = Vec::new(alloc);
+    let status = refuse_arguments(kind, &mut errors);
+    status == 1 && errors.as_slice() == said.as_bytes()
+}
+
+// One is no text, or there is no memory for them.
+#[test]
+fn arguments_that_are_not_read(rt: HostRuntime) {
+    let alloc = rt.alloc();
+    assert!(rt; refused(alloc, ErrorKind::InvalidData, "bad arguments\n"));
+    assert!(rt; refused(alloc, ErrorKind::OutOfMemory, "out of memory\n"));
 }
 
 // Words, numbers and escapes that a line may have, and those that it may not.

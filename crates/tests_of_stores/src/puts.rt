@@ -132,7 +132,9 @@ impl Desk for Putting {
                     tell_of_piece(parts, put, verb, told);
                 }
             }
-            "purge" | "drop" | "read" | "total" => tell_of_parts(parts, put, verb, told),
+            "purge" | "drop" | "read" | "total" | "last-number" => {
+                tell_of_parts(parts, put, verb, told);
+            }
             _ => tell_of_end(parts, put, verb, told),
         }
     }
@@ -181,6 +183,10 @@ fn tell_of_parts(parts: &mut Parts, put: &mut Put, verb: &str, told: &mut Told) 
         "purge" => told.done(purge(parts)),
         "drop" => told.done(drop_put(parts, put)),
         "read" => read(parts, told),
+        "last-number" => {
+            parts.store = MemCache::starting_at(parts.alloc, Seed::fixed(), u64::MAX);
+            told.say("ok");
+        }
         _ => totals(parts, told),
     }
 }
@@ -556,6 +562,23 @@ const REMOVED: &str = r"
 #[test]
 fn a_write_that_was_removed_stores_nothing(rt: HostRuntime) {
     run(&rt, rt.alloc(), REMOVED);
+}
+
+const NUMBERS: &str = r"
+    # the store has one number left: the first put takes it, and the second finds none
+    last-number
+    feed HTTP/1.1 200 OK\r\nContent-Length: 4\r\n\r\nru -> goes on
+    feed st -> goes on
+    finish -> stored 4
+    drop
+    feed HTTP/1.1 200 OK\r\nContent-Length: 4\r\n\r\nrust -> NumbersExhausted
+    feed -> NumbersExhausted
+    finish -> NumbersExhausted
+    total -> 4 bytes, weight 4, 0 writes";
+
+#[test]
+fn the_last_number_of_a_store_is_given_once(rt: HostRuntime) {
+    run(&rt, rt.alloc(), NUMBERS);
 }
 
 const EMPTY: &str = r"

@@ -393,6 +393,32 @@ const TOLD: &str = "
     4 witnessed -> deferred without permit 3
     4 phase -> Disabled(Deferred)";
 
+const NUMBERS: &str = "
+    # The store has one number left: the first write takes it, and no other begins.
+    1 last-number
+    1 enable
+    1 key
+    1 look -> none
+    1 miss
+    1 meta 60
+    1 begin
+    1 write ab
+    2 enable
+    2 key 1
+    2 look -> none
+    2 miss
+    2 meta 60
+    2 begin -> NumbersExhausted
+    2 has writer -> no
+    1 finish -> stored 2
+    2 begin -> NumbersExhausted
+    2 total -> 2 in 1, weight 2 in 1, 0 writes";
+
+#[test]
+fn the_last_number_of_a_store_is_given_once(rt: HostRuntime) {
+    run(&rt, rt.alloc(), NUMBERS);
+}
+
 #[test]
 fn calls_tell_what_they_did(rt: HostRuntime) {
     run(&rt, rt.alloc(), TOLD);

@@ -3,6 +3,7 @@ mod bounded;
 mod phases;
 mod puts;
 mod random_script;
+mod records;
 mod shards;
 
 use crate::play::{Limits, play, play_on_both, play_together};

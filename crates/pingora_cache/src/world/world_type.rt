@@ -1,9 +1,13 @@
 //! The world itself.
-ghost use Rattle.std.specs.Prelude.{◌≡◌, ◌≢◌, ◌+◌, ◌<◌, ◌≤◌, ◌⊎◌, ◌++◌, ◌∷◌, [], Some, None, IsSome, IfSome, option_map, IfOk, IfErr, OnOk, OnErr, min, ◌^◌, ◌-◌, vec_len};
-ghost use Rattle.pcache_base.specs.declared.error.ErrorType.TheVariants.{OutOfMemory};
+ghost use Rattle.std.specs.Prelude.{◌≡◌, ◌≢◌, ◌+◌, ◌<◌, ◌≤◌, ◌⊎◌, ◌++◌, ◌∷◌, [], Some, None, IsSome, IfSome, option_map, IfOk, IfErr, OnOk, OnErr, min, ◌^◌, ◌-◌, vec_len, cond, false};
+ghost use Rattle.pcache_base.specs.declared.error.ErrorType.TheVariants.{InternalError, Io, OutOfMemory};
 ghost use Rattle.std.specs.Vec.{vec_capacity};
+ghost use Rattle.pcache_history.specs.Files.{files_in};
 ghost use Rattle.pcache_history.specs.Log.{started};
-ghost use Rattle.pcache_history.specs.Rules.{IsCopy};
+ghost use Rattle.pcache_history.specs.Rules.{IsCopy, IsFilesReply};
+ghost use Rattle.pcache_history.specs.declared.call.FilesAct.TheVariants.{Save, Load};
+ghost use Rattle.pcache_history.specs.declared.call.Reply.TheVariants.{Refused, WrongCall};
+ghost use Rattle.pingora_cache.specs.FilesCalls.{AnswersFiles, IsLoaded};
 
 use crate::world::open::Open;
 use crate::world::parts::Parts;
@@ -14,7 +18,7 @@ use pcache_base::error::{ErrorType, Result};
 use pcache_base::seed::Seed;
 use pcache_evict::eviction::{CacheEntryKey, EvictionManager};
 use pcache_files::saved::SavedManager;
-use pcache_history::call::{Call, Reply};
+use pcache_history::call::{Call, FilesAct, Reply};
 use pcache_history::entry::{Entry, Event, Events};
 use pcache_lock::lock::CacheLock;
 use pcache_store::memory::MemCache;
@@ -50,9 +54,10 @@ pub struct World<M: EvictionManager, P: PutPolicy> {
 }
 
 impl<M: EvictionManager, P: PutPolicy> Model for World<M, P> {
-    ghost use Rattle.std.specs.Prelude.{◌≡◌, None, [], reverse};
+    ghost use Rattle.std.specs.Prelude.{◌≡◌, is_none, reverse};
     ghost use Rattle.std.specs.Option.{option_map};
     ghost use Rattle.std.specs.FinMap as map;
+    ghost use Rattle.pcache_history.specs.Files.{only_loads};
     ghost use Rattle.pcache_history.specs.Log.{Log, started};
     ghost use Rattle.pcache_history.specs.LogCode.{log_code};
     ghost use Rattle.pingora_cache.specs.PutsSound.{PutsSound};
@@ -64,17 +69,22 @@ impl<M: EvictionManager, P: PutPolicy> Model for World<M, P> {
 
     ghost view = { λ w. record { history = w.history.items; start = started (option_map (λ v. v.items) w.start) (M.tracked w.parts.manager); limits = M.limits w.parts.manager; evicted = M.evicted w.parts.manager; age = w.parts.lock.age_timeout } };
 
-    ghost invariant = { λ w. IsSound (M.limits w.parts.manager) (started (option_map (λ v. v.items) w.start) (M.tracked w.parts.manager)) (M.tracked w.parts.manager) w.parts.store w.parts.lock (map.from_entries w.requests.entries) (reverse w.history.items) × (w.start ≡ None → w.history.items ≡ []) × PutsSound P.says (map.from_entries w.requests.entries) (reverse w.history.items) };
+    ghost invariant = { λ w. IsSound (M.limits w.parts.manager) (started (option_map (λ v. v.items) w.start) (M.tracked w.parts.manager)) (M.tracked w.parts.manager) w.parts.store w.parts.lock (map.from_entries w.requests.entries) (reverse w.history.items) × (is_none w.start ≡ only_loads (reverse w.history.items)) × PutsSound P.says (map.from_entries w.requests.entries) (reverse w.history.items) };
 }
 
 impl<M: EvictionManager, P: PutPolicy> World<M, P> {
     ghost use Rattle.std.specs.Duration.{as_nanos};
     ghost use Rattle.std.specs.FinMap as map;
     ghost use Rattle.pcache_history.specs.Events.{stored, slots, tracked};
+    ghost use Rattle.pcache_history.specs.Files.{files_in, only_loads};
+    ghost use Rattle.pcache_history.specs.Held.{request_of};
     ghost use Rattle.pcache_history.specs.Log.{Log, Adds, AddsAll, AddsSome, HasLegal, events_in};
     ghost use Rattle.pcache_history.specs.PutHistory.{AreTold};
-    ghost use Rattle.std.specs.Prelude.{reverse};
-    ghost use Rattle.pcache_base.specs.declared.error.ErrorType.TheVariants.{OutOfMemory};
+    ghost use Rattle.pcache_history.specs.declared.call.FilesAct.TheVariants.{Save, Load};
+    ghost use Rattle.pcache_history.specs.declared.call.Reply.TheVariants.{Refused};
+    ghost use Rattle.pingora_cache.specs.FilesCalls.{HasNoFiles};
+    ghost use Rattle.std.specs.Prelude.{reverse, true, ℕ};
+    ghost use Rattle.pcache_base.specs.declared.error.ErrorType.TheVariants.{Io, OutOfMemory};
     ghost use Rattle.pcache_evict.specs.Tracked.{weight};
     ghost use Rattle.pcache_history.specs.Headline.{EvictsNothingWithin, FindsUntouched, FinishesUntouched, GivesWhereNoneWaits, HandsOnUnhidden, HitsTheLast, IsWithinAlways};
     ghost use Rattle.pcache_history.specs.Settling.{SettlesAlways};
@@ -127,9 +137,9 @@ impl<M: EvictionManager, P: PutPolicy> World<M, P> {
         let _history = self.history();
     }
 
-    /// What the manager held before the first call, in no order; nothing before that call.
+    /// What the manager held before the first call that is no load, in no order; nothing before that call.
     pub fn start(&self) -> &[(CacheEntryKey, usize)]
-        ensures { (map.from_entries result.now ≡ self.now.start) ⊎ ((result.now ≡ []) × (self.now.history ≡ [])) }
+        ensures { (map.from_entries result.now ≡ self.now.start) ⊎ ((result.now ≡ []) × (only_loads (reverse self.now.history) ≡ true)) }
     {
         match &self.start {
             Some(start) => start.as_slice(),
@@ -153,6 +163,14 @@ impl<M: EvictionManager, P: PutPolicy> World<M, P> {
         self.parts.store.slots()
     }
 
+    /// The number of writes of which the store keeps a record, since they are in flight or are read: none if
+    /// no request and no put is open.
+    pub fn write_records(&self) -> usize
+        ensures { ((r : ℕ) → request_of r (reverse self.now.history) ≡ None) → result ≡ 0 }
+    {
+        self.parts.store.write_records()
+    }
+
     /// The manager's totals.
     pub fn totals(&self) -> Totals
         ensures weight { result.weight ≡ min (weight (tracked self.now.start (events_in self.now))) (2 ^ 64 - 1) }
@@ -169,8 +187,26 @@ impl<M: EvictionManager, P: PutPolicy> World<M, P> {
     }
 
     /// Makes one call and notes it. Refused when memory runs out, it changes nothing and notes
-    /// nothing; a refusal inside the call is its reply.
+    /// nothing; a refusal inside the call is its reply. It is lent no files: a save, or a load before
+    /// any other call, is refused as by a device that is not there. `save` and `load` make these calls.
     pub fn step(&mut self, call: Call) -> Result<Reply>
+        ensures ok { IfOk result (λ reply. Adds self.old call reply self.new) }
+        ensures files { IfOk result (λ reply. HasNoFiles (files_in call.act) reply) }
+        ensures legal { HasLegal self.new }
+        ensures puts { AreTold P.says (reverse self.new.history) }
+        ensures err { OnErr result (self.new ≡ self.old) }
+        ensures kind { IfErr result (λ e. e ≡ OutOfMemory) }
+    {
+        match call.act.files() {
+            None => self.step_over_parts(call),
+            Some(FilesAct::Save) => self.save_nowhere(call),
+            Some(FilesAct::Load) => self.load_nowhere(call),
+        }
+    }
+
+    // A call of a request or a put.
+    fn step_over_parts(&mut self, call: Call) -> Result<Reply>
+        requires parts { files_in call.act ≡ None }
         ensures ok { IfOk result (λ reply. Adds self.old call reply self.new) }
         ensures legal { HasLegal self.new }
         ensures puts { AreTold P.says (reverse self.new.history) }
@@ -193,6 +229,51 @@ impl<M: EvictionManager, P: PutPolicy> World<M, P> {
         let (noted, answered) = doubled(reply);
         note(self.alloc, &mut self.history, call, noted, events);
         Ok(answered)
+    }
+
+    // A save with no files.
+    fn save_nowhere(&mut self, call: Call) -> Result<Reply>
+        requires save { files_in call.act ≡ Some Save }
+        ensures files { IfOk result (λ reply. reply ≡ Refused Io) }
+        ensures ok { IfOk result (λ reply. Adds self.old call reply self.new) }
+        ensures legal { HasLegal self.new }
+        ensures puts { AreTold P.says (reverse self.new.history) }
+        ensures err { OnErr result (self.new ≡ self.old) }
+        ensures kind { IfErr result (λ e. e ≡ OutOfMemory) }
+    {
+        make_ready(&mut self.history, &mut self.start, &self.parts.manager)?;
+        let noted = Reply::Refused(ErrorType::Io);
+        note(
+            self.alloc,
+            &mut self.history,
+            call,
+            noted,
+            Vec::new(self.alloc),
+        );
+        Ok(Reply::Refused(ErrorType::Io))
+    }
+
+    // A load with no files.
+    fn load_nowhere(&mut self, call: Call) -> Result<Reply>
+        requires load { files_in call.act ≡ Some Load }
+        ensures files { IfOk result (λ reply. HasNoFiles (Some Load) reply) }
+        ensures ok { IfOk result (λ reply. Adds self.old call reply self.new) }
+        ensures legal { HasLegal self.new }
+        ensures puts { AreTold P.says (reverse self.new.history) }
+        ensures err { OnErr result (self.new ≡ self.old) }
+        ensures kind { IfErr result (λ e. e ≡ OutOfMemory) }
+    {
+        self.history.reserve(1)?;
+        let is_early = self.start.is_none();
+        let noted = unloaded(is_early);
+        note(
+            self.alloc,
+            &mut self.history,
+            call,
+            noted,
+            Vec::new(self.alloc),
+        );
+        Ok(unloaded(is_early))
     }
 
     /// Makes one call as `step` does, and says what holds whichever requests for memory are refused: the
@@ -229,39 +310,67 @@ impl<M: EvictionManager, P: PutPolicy> World<M, P> {
 }
 
 impl<M: SavedManager, P: PutPolicy> World<M, P> {
-    ghost use Rattle.pcache_history.specs.Log.{Log, HasLegal};
-    ghost use Rattle.pcache_base.specs.declared.error.ErrorType.TheVariants.{InternalError, Io, OutOfMemory};
+    ghost use Rattle.std.specs.Prelude.{List, reverse};
+    ghost use Rattle.pcache_history.specs.Log.{Log, Adds, HasLegal};
+    ghost use Rattle.pcache_history.specs.PutHistory.{AreTold};
+    ghost use Rattle.pcache_history.specs.declared.call.Act.TheVariants as acts;
+    ghost use Rattle.pcache_history.specs.declared.call.FilesAct.TheVariants.{Save, Load};
+    ghost use Rattle.pcache_history.specs.declared.entry.Event.{Event};
+    ghost use Rattle.pingora_cache.specs.FilesCalls.{IsLoaded};
 
-    /// Saves what the manager holds in a folder, which is made with its parents if it is missing.
-    /// Each file is written under a temporary name, which ends in the suffix, and then renamed. It is
-    /// no call, and stands in no history.
-    pub fn save<R: Files>(&self, files: &R, dir: &str, suffix: u32) -> Result<()>
-        ensures kinds { IfErr result (λ e. (e ≡ OutOfMemory) ⊎ (e ≡ InternalError) ⊎ (e ≡ Io)) }
+    /// Saves what the manager holds in a folder, which is made with its parents if it is missing, as a
+    /// call with an entry of its own: what it answers is the manager's. Each file is written under a
+    /// temporary name, which ends in the suffix, and then renamed. Refused when memory for the entry
+    /// runs out, it saves nothing and notes nothing.
+    pub fn save<R: Files>(&mut self, files: &R, dir: &str, suffix: u32) -> Result<Reply>
+        ensures ok { IfOk result (λ reply. Adds self.old (record { request = 0; act = acts.Files Save }) reply self.new) }
+        ensures replies { IfOk result (λ reply. IsFilesReply Save reply) }
+        ensures legal { HasLegal self.new }
+        ensures puts { AreTold P.says (reverse self.new.history) }
+        ensures err { OnErr result (self.new ≡ self.old) }
+        ensures kind { IfErr result (λ e. e ≡ OutOfMemory) }
     {
-        self.parts.manager.save(self.alloc, files, dir, suffix)
+        make_ready(&mut self.history, &mut self.start, &self.parts.manager)?;
+        let saved = self.parts.manager.save(self.alloc, files, dir, suffix);
+        let (noted, answered) = doubled(saved_reply(saved));
+        note(
+            self.alloc,
+            &mut self.history,
+            FilesAct::Save.call(),
+            noted,
+            Vec::new(self.alloc),
+        );
+        Ok(answered)
     }
 
-    /// Puts in what was saved in a folder, before the first call: the history then starts from what the
-    /// manager holds. Answers how many of several files were skipped, or nothing if a call was
-    /// made, and then changes nothing. Nothing is evicted. It is no call itself, and stands in no
-    /// history.
-    pub fn load<R: Files>(&mut self, files: &R, dir: &str) -> Result<Option<usize>>
-        ensures late { self.old.history ≢ [] → (IfOk result (λ skipped. skipped ≡ None) × IfErr result (λ e. ⊥) × (self.new ≡ self.old)) }
-        ensures first { self.old.history ≡ [] → IfOk result (λ skipped. IsSome skipped) }
-        ensures history { self.new.history ≡ self.old.history }
+    /// Puts in what was saved in a folder, as a call with an entry of its own: a wrong call once another
+    /// call than a load was made. The history starts from what the manager holds after the loads. Done, it
+    /// answers how many of several files were skipped, and what the manager holds is what it held with the
+    /// lists of the others put in; refused, the manager is as it was. Nothing is evicted. Refused when
+    /// memory for the entry runs out, it loads nothing and notes nothing.
+    pub fn load<R: Files>(&mut self, files: &R, dir: &str) -> Result<Reply>
+        ensures history { IfOk result (λ reply. self.new.history ≡ self.old.history ++ record { call = record { request = 0; act = acts.Files Load }; reply = reply; events = [] } ∷ []) }
+        ensures loaded { IfOk result (λ reply. IsLoaded R.File.remaining M.file_count M.put_in self.old.start self.new.start reply) }
         ensures limits { self.new.limits ≡ self.old.limits }
         ensures evicted { self.new.evicted ≡ self.old.evicted }
         ensures age { self.new.age ≡ self.old.age }
         ensures legal { HasLegal self.new }
+        ensures puts { AreTold P.says (reverse self.new.history) }
         ensures err { OnErr result (self.new ≡ self.old) }
-        ensures kinds { IfErr result (λ e. (e ≡ OutOfMemory) ⊎ (e ≡ InternalError) ⊎ (e ≡ Io)) }
+        ensures kind { IfErr result (λ e. e ≡ OutOfMemory) }
     {
-        if !self.history.is_empty() {
-            return Ok(None);
-        }
-        let skipped = self.parts.manager.load(self.alloc, files, dir)?;
-        self.start = None;
-        Ok(Some(skipped))
+        self.history.reserve(1)?;
+        let is_early = self.start.is_none();
+        let reply = load_if(self.alloc, &mut self.parts.manager, files, dir, is_early);
+        let (noted, answered) = doubled(reply);
+        note(
+            self.alloc,
+            &mut self.history,
+            FilesAct::Load.call(),
+            noted,
+            Vec::new(self.alloc),
+        );
+        Ok(answered)
     }
 }
 
@@ -296,7 +405,7 @@ fn make_ready<M: EvictionManager>(
 ) -> Result<()>
     ensures same_history { history.new.items ≡ history.old.items }
     ensures same_start { started (option_map (λ v. v.items) start.new) (M.tracked manager.now) ≡ started (option_map (λ v. v.items) start.old) (M.tracked manager.now) }
-    ensures kept { start.new ≡ None → start.old ≡ None }
+    ensures err { OnErr result (start.new ≡ start.old) }
     ensures known { OnOk result (IsSome start.new) }
     ensures room { OnOk result (vec_len history.new < vec_capacity history.new) }
     ensures kind { IfErr result (λ e. e ≡ OutOfMemory) }
@@ -306,6 +415,51 @@ fn make_ready<M: EvictionManager>(
         *start = Some(manager.entries()?);
     }
     Ok(())
+}
+
+// What a load with no files answers, if only loads came before it or not.
+fn unloaded(is_early: bool) -> Reply
+    ensures { result ≡ cond is_early (Refused Io) WrongCall }
+{
+    if is_early {
+        Reply::Refused(ErrorType::Io)
+    } else {
+        Reply::WrongCall
+    }
+}
+
+// What a save answers.
+fn saved_reply(saved: Result<()>) -> Reply
+    requires { IfErr saved (λ e. (e ≡ OutOfMemory) ⊎ (e ≡ InternalError) ⊎ (e ≡ Io)) }
+    ensures { IsFilesReply Save result }
+{
+    match saved {
+        Ok(()) => Reply::Done,
+        Err(refused) => Reply::Refused(refused.etype()),
+    }
+}
+
+// Puts in what was saved, if only loads came before.
+fn load_if<M: SavedManager, R: Files>(
+    alloc: Global,
+    manager: &mut M,
+    files: &R,
+    dir: &str,
+    is_early: bool,
+) -> Reply
+    ensures reply { AnswersFiles is_early Load result }
+    ensures loaded { IsLoaded R.File.remaining M.file_count M.put_in (M.tracked manager.old) (M.tracked manager.new) result }
+    ensures late { is_early ≡ false → M.tracked manager.new ≡ M.tracked manager.old }
+    ensures limits { M.limits manager.new ≡ M.limits manager.old }
+    ensures evicted { M.evicted manager.new ≡ M.evicted manager.old }
+{
+    if !is_early {
+        return Reply::WrongCall;
+    }
+    match manager.load(alloc, files, dir) {
+        Ok(skipped) => Reply::Loaded(skipped),
+        Err(refused) => Reply::Refused(refused.etype()),
+    }
 }
 
 // A reply for the history and one to be answered. If the copy is refused, that is the reply.

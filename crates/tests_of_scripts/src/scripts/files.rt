@@ -72,6 +72,28 @@ fn a_manager_is_loaded_before_the_first_call(rt: HostRuntime) -> Result<(), Fail
     Ok(())
 }
 
+// A save is a call, and so is a load: only loads may come before one, also refused ones, and a late load is a wrong call
+// and no bad line.
+#[test]
+fn a_load_after_a_save_is_a_wrong_call(rt: HostRuntime) -> Result<(), Fail> {
+    let _ = fs::remove_dir_all(&rt, "saved_first");
+    let row = "load saved_first -> refused E8\n\
+        save saved_first -> ok\n\
+        load saved_first -> wrong call\n\
+        save saved_first -> ok\n\
+        open 1 -> ok\n\
+        load saved_first -> wrong call\n";
+    check(&rt, rt.alloc(), &["9"], row, 0, "")?;
+    let row = "load saved_first -> ok\n\
+        load no_such_folder -> refused E8\n\
+        load saved_first -> ok\n\
+        end 1 -> wrong call\n\
+        load saved_first -> wrong call\n";
+    check(&rt, rt.alloc(), &["9"], row, 0, "")?;
+    fs::remove_dir_all(&rt, "saved_first")?;
+    Ok(())
+}
+
 // An entry that was saved without a number names no write, so all of its key goes with it.
 #[test]
 fn a_loaded_entry_of_a_key_alone_removes_all_of_the_key(rt: HostRuntime) -> Result<(), Fail> {

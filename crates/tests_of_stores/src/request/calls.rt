@@ -26,6 +26,7 @@ fn made_of_writes(parts: &mut Parts, cache: &mut Request, call: &'static str) ->
         "write" => write(parts, cache, word(call, 2)),
         "finish" => finish(parts, cache),
         "end-write" => Ok(end_write(parts, cache)),
+        "last-number" => Ok(last_number(parts)),
         _ => made_of_removals(parts, cache, call),
     }
 }
@@ -170,6 +171,12 @@ fn released(name: Option<LockName>) -> Said {
         Some(name) => counted("read", name.number),
         None => word_of("ok"),
     }
+}
+
+// From then on the store has one number left.
+fn last_number(parts: &mut Parts) -> Said {
+    parts.store = MemCache::starting_at(parts.alloc, Seed::fixed(), u64::MAX);
+    word_of("ok")
 }
 
 fn begin(parts: &mut Parts, cache: &mut Request) -> Result<Said> {

@@ -1,13 +1,16 @@
-use Rattle.std.proofs.Common.{rules, ◌++◌, ◌∷◌, [], ◌∙◌, ap}
+use Rattle.std.proofs.Common.{rules, ◌++◌, ◌∷◌, [], ◌∙◌, ap, sym, reverse, is_none}
+use Rattle.pcache_history.specs.Files.{only_loads}
 use Rattle.pcache_history.specs.Log.{Log}
+use Rattle.pcache_history.proofs.LoadsLaw.{no-load}
+use Rattle.pingora_cache.proofs.FilesCalls.{other-late}
 use Rattle.pingora_cache.proofs.PutSound.{puts-same}
-use Rattle.pingora_cache.proofs.Worlds.{not-both, puts-step, same-age, sound-same, sound-step, started-once}
-use Rattle.pingora_cache.proofs.world.world_type.World.step.Goals as goal
+use Rattle.pingora_cache.proofs.Worlds.{puts-step, same-age, sound-same, sound-step, started-once}
+use Rattle.pingora_cache.proofs.world.world_type.World.step_over_parts.Goals as goal
 
 pub invariant_of-self : goal.invariant_of-self
 invariant_of-self g c = (
   sound-same _ _ _ _ _ _ _ c.self.inside.history.items _ c.self.invariant.0 c.make_ready.ensures.same_start c.make_ready.ensures.same_history,
-  λ none. c.make_ready.ensures.same_history ∙ c.self.invariant.1 (c.make_ready.ensures.kept none),
+  ap is_none c.in_err-make_ready.ensures.err ∙ c.self.invariant.1 ∙ ap (λ xs. only_loads (reverse xs)) (sym c.make_ready.ensures.same_history),
   puts-same _ _ c.self.inside.history.items _ c.self.invariant.2 c.make_ready.ensures.same_history,
 )
 
@@ -16,7 +19,8 @@ invariant_of-self-2 g c = (
   sound-step _ _ _ _ _ _ _ _ _ _ _ _ _ c.self.inside.history.items _ c.args.call _ _ _ c.self.invariant.0 c.self.invariant.2 (search rules) c.act-reply.ensures.acts c.doubled-noted.ensures.copy c.act-reply.ensures.limits
       (started-once (λ v. v.items) _ _ _ c.in_ok-make_ready.ensures.known ∙ c.make_ready.ensures.same_start)
       (c.note.ensures ∙ ap (λ xs. xs ++ record { call = c.args.call; reply = c.doubled-noted.result.0; events = c.act-reply.new.events.items } ∷ []) c.make_ready.ensures.same_history),
-  λ none. not-both _ none c.in_ok-make_ready.ensures.known,
+  other-late _ c.self.inside.history.items _ c.args.call _ _ (no-load c.args.call.act c.requires.parts) c.in_ok-make_ready.ensures.known
+      (c.note.ensures ∙ ap (λ xs. xs ++ record { call = c.args.call; reply = c.doubled-noted.result.0; events = c.act-reply.new.events.items } ∷ []) c.make_ready.ensures.same_history),
   puts-step _ _ _ _ _ _ _ _ _ _ _ c.self.inside.history.items _ c.args.call _ _ _ c.self.invariant.0 c.self.invariant.2 (search rules) c.act-reply.ensures.acts c.doubled-noted.ensures.copy
       (c.note.ensures ∙ ap (λ xs. xs ++ record { call = c.args.call; reply = c.doubled-noted.result.0; events = c.act-reply.new.events.items } ∷ []) c.make_ready.ensures.same_history),
 )
