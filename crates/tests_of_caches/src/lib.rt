@@ -5,6 +5,12 @@
 #[cfg(test)]
 mod bodies;
 #[cfg(test)]
+mod loaded;
+#[cfg(test)]
 mod managers;
 #[cfg(test)]
+mod puts;
+#[cfg(test)]
 mod requests;
+#[cfg(test)]
+mod waits;

@@ -82,7 +82,8 @@ fn fill_in<M: EvictionManager>(
     Ok(cache.finish_miss_handler(request)?.is_some())
 }
 
-fn meta_of(alloc: Global) -> CacheMeta {
+/// A meta of a response that is fresh for a minute.
+pub fn meta_of(alloc: Global) -> CacheMeta {
     let header = ResponseHeader::build(alloc, StatusCode::OK);
     CacheMeta::new(Moment::from_secs(60), NOW, 0, 0, header)
 }
