@@ -412,7 +412,8 @@ const NUMBERS: &str = "
     2 has writer -> no
     1 finish -> stored 2
     2 begin -> NumbersExhausted
-    2 total -> 2 in 1, weight 2 in 1, 0 writes";
+    # the first request still follows its own write
+    2 total -> 2 in 1, weight 2 in 1, 1 writes";
 
 #[test]
 fn the_last_number_of_a_store_is_given_once(rt: HostRuntime) {
