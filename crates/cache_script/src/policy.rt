@@ -1,7 +1,15 @@
 //! The policy of the puts of a script.
+ghost use Rattle.std.specs.Prelude.{◌≡◌, ℕ, IfErr, IfOk, Option, Some, option_map};
+ghost use Rattle.std.specs.Duration.{as_nanos};
+ghost use Rattle.std.specs.declared.time.Duration.{Duration};
+ghost use Rattle.pcache_base.specs.declared.error.ErrorType.TheVariants.{OutOfMemory};
+ghost use Rattle.pcache_put_ctx.specs.Policies.{SaysByDefault};
+ghost use Rattle.cache_script.specs.Lifetimes.{IsOneSecond};
+
 use http::StatusCode;
 use pingora_cache::error::Result;
 use pingora_cache::header::ResponseHeader;
+use pingora_cache::meta::FreshDurationByStatusFn;
 use pingora_cache::moment::Moment;
 use pingora_cache::put::default_cacheable;
 use pingora_cache::world::policy::PutPolicy;
@@ -13,15 +21,33 @@ use std::time::Duration;
 /// stale.
 pub struct OneSecond;
 
-fn one_second(_status: StatusCode) -> Option<Duration> {
+fn one_second(_status: StatusCode) -> Option<Duration>
+    ensures { option_map as_nanos result ≡ Some 1_000_000_000 }
+{
     Some(Duration::from_secs(1))
 }
 
+// What is said of a response by defaults that give each status a second, and no window.
+fn by_one_second(
+    alloc: Global,
+    header: ResponseHeader,
+    defaults: &CacheMetaDefaults,
+    now: Moment,
+) -> Result<RespCacheable>
+    requires one { (status : ℕ) (lifetime : Option Duration) → FreshDurationByStatusFn.post defaults.now.fresh_sec_fn status lifetime → IsOneSecond status lifetime }
+    requires revalidating { defaults.now.stale_while_revalidate_sec ≡ 0 }
+    requires erring { defaults.now.stale_if_error_sec ≡ 0 }
+    ensures says { IfOk result (SaysByDefault (0, 0) IsOneSecond header now) }
+    ensures kind { IfErr result (λ e. e ≡ OutOfMemory) }
+{
+    default_cacheable(alloc, header, defaults, now)
+}
+
 impl PutPolicy for OneSecond {
-    ghost says = { λ header now answer. Unit {0} };
+    ghost says = { SaysByDefault (0, 0) IsOneSecond };
 
     fn cacheable(alloc: Global, header: ResponseHeader, now: Moment) -> Result<RespCacheable> {
         let defaults = CacheMetaDefaults::new(one_second, 0, 0);
-        default_cacheable(alloc, header, &defaults, now)
+        by_one_second(alloc, header, &defaults, now)
     }
 }
