@@ -1,13 +1,21 @@
 #![tactic(auto)]
-//! `examples LIMIT < TRACE`: four ways to use the cache. A proxy and a purge service show what they
-//! answer; a simulator reads a trace, and tells what a cache of LIMIT bytes would have served of it.
+//! `examples LIMIT < TRACE`: ways to use the cache. Short examples of a cache as one value come first; then a proxy and a purge
+//! service show what they answer; a simulator reads a trace, and tells what a cache of LIMIT bytes would have served of it.
 
+mod along;
+mod first;
+mod front;
+mod many;
 mod origin;
 mod parts;
 mod proxy;
 mod purge;
+mod short;
 mod simulate;
+mod stale;
 mod threads;
+mod variants;
+mod waiting;
 
 use anyhow::{Context, Result, anyhow};
 use parts::Parts;
@@ -25,6 +33,7 @@ use std::thread::Threads;
 fn main(rt: HostRuntime) -> Result<()> {
     let limit = limit_of(&rt)?;
     let seed = drawn(&rt)?;
+    run_short(&rt, rt.alloc(), seed)?;
     run_services(&rt, rt.alloc(), seed)?;
     run_threads(&rt, rt.alloc(), seed)?;
     run_simulator(&rt, rt.alloc(), seed, limit)
@@ -42,6 +51,12 @@ fn limit_of(rt: &HostRuntime) -> Result<usize> {
     word.as_str()
         .parse::<usize>()
         .context("the limit is no number")
+}
+
+// One cache for the short examples.
+fn run_short(rt: &impl Print, alloc: Global, seed: Seed) -> Result<()> {
+    let mut cache = front::new_cache(alloc, seed, 1000)?;
+    short::show_all(rt, &mut cache)
 }
 
 // One set of parts for the proxy and the purge service.

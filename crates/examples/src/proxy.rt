@@ -1,8 +1,8 @@
 //! A proxy's request, from the look-up through a miss to a hit. The clock is the caller's.
-ghost use Rattle.std.specs.Prelude.{◌≡◌, OnOk};
+ghost use Rattle.std.specs.Prelude.{◌≡◌, OnOk, None};
 ghost use Rattle.pcache_request.specs.Phases.{MayLookUp, MayMiss};
-ghost use Rattle.pcache_request.specs.Requests.{MayTakeMeta};
-ghost use Rattle.pcache_request.specs.declared.phase.CachePhase.TheVariants.{CacheKey};
+ghost use Rattle.pcache_request.specs.Requests.{MayWrite, phase_found};
+ghost use Rattle.pcache_request.specs.declared.phase.CachePhase.TheVariants.{CacheKey, Miss};
 
 use crate::origin;
 use crate::parts::{Parts, Request, request_for};
@@ -12,7 +12,7 @@ use pingora_cache::memory::MemHitHandler;
 use pingora_cache::moment::Moment;
 use pingora_cache::poll::Poll;
 use pingora_cache::storage::HandleMiss;
-use pingora_cache::{CacheMeta, CachePhase, HitStatus, NoCacheReason, RespCacheable};
+use pingora_cache::{CacheMeta, HitStatus, NoCacheReason, RespCacheable};
 
 /// How a request was answered.
 #[derive(Clone, Copy, Debug)]
@@ -39,24 +39,15 @@ pub fn serve(parts: &mut Parts, path: &str, now: Moment) -> Result<Served> {
 fn answer(parts: &mut Parts, request: &mut Request, path: &str, now: Moment) -> Result<Served>
     requires { request.old.phase ≡ CacheKey }
 {
-    look_up(parts, request, now)?;
-    if matches!(request.phase(), CachePhase::Hit) {
+    let Some((meta, hit)) = found(parts, request, now)? else {
+        return fill_or_wait(parts, request, path, now);
+    };
+    if meta.is_fresh(now) {
+        take(parts, request, meta, hit, HitStatus::Fresh, now)?;
         return read_all(parts, request);
     }
-    if request.phase().may_miss() && holds_permit(request) {
-        return fill(parts, request, path, now);
-    }
-    Ok(Served::Waits)
-}
-
-// Looks the key up and takes what is there: what is fresh makes a hit.
-fn look_up(parts: &mut Parts, request: &mut Request, now: Moment) -> Result<()>
-    requires { request.old.phase ≡ CacheKey }
-{
-    match found(parts, request, now)? {
-        Some((meta, hit)) => take(parts, request, meta, hit, now),
-        None => Ok(()),
-    }
+    take(parts, request, meta, hit, HitStatus::Expired, now)?;
+    fill_or_wait(parts, request, path, now)
 }
 
 // What the store has of the key. If it has nothing, the request holds the key's lock.
@@ -71,20 +62,18 @@ fn found(
     request.cache_lookup(&mut parts.store, &mut parts.lock, now)
 }
 
+// Takes what was found: a fresh body is read, and a stale one asks for the key's lock.
 fn take(
     parts: &mut Parts,
     request: &mut Request,
     meta: CacheMeta,
     hit: MemHitHandler,
+    status: HitStatus,
     now: Moment,
 ) -> Result<()>
     requires { MayLookUp request.old.phase }
+    ensures { OnOk result (request.new.phase ≡ phase_found status request.old.phase) }
 {
-    let status = if meta.is_fresh(now) {
-        HitStatus::Fresh
-    } else {
-        HitStatus::Expired
-    };
     let Parts {
         alloc: _,
         store,
@@ -92,11 +81,6 @@ fn take(
         lock,
     } = parts;
     request.cache_found(store, manager, lock, meta, hit, status, now)
-}
-
-// Whether the request may fill its key, and the others have to wait.
-fn holds_permit(request: &Request) -> bool {
-    matches!(request.held(), Some(held) if held.is_write())
 }
 
 // Reads what was found to its end. A complete body comes in one piece, and then its end.
@@ -114,48 +98,36 @@ fn read_all(parts: &mut Parts, request: &mut Request) -> Result<Served> {
     Ok(Served::Hit(len))
 }
 
-// Goes on as a miss: asks the origin, and stores its response if it may be stored.
-fn fill(parts: &mut Parts, request: &mut Request, path: &str, now: Moment) -> Result<Served>
+// Who holds the permit fills the key, and the others have to wait.
+fn fill_or_wait(parts: &mut Parts, request: &mut Request, path: &str, now: Moment) -> Result<Served>
     requires { MayMiss request.old.phase }
 {
+    if !matches!(request.held(), Some(held) if held.is_write()) {
+        return Ok(Served::Waits);
+    }
     request.cache_miss();
     match origin::outcome(parts.alloc, path, now)? {
         RespCacheable::Cacheable(meta) => store(parts, request, meta, origin::body(path)),
-        RespCacheable::Uncacheable(reason) => Ok(Served::Passed(reason)),
+        RespCacheable::Uncacheable(reason) => Ok(pass(parts, request, reason)),
     }
 }
 
-// Stores the response, whose body comes in one piece.
+// Stores nothing, and tells those who wait why.
+fn pass(parts: &mut Parts, request: &mut Request, reason: NoCacheReason) -> Served {
+    if request.may_release(reason) {
+        request.release_write_lock(&mut parts.lock, reason);
+    }
+    Served::Passed(reason)
+}
+
+// Stores the response, whose body comes in one piece. A request that just went on as a miss has no write.
 fn store(parts: &mut Parts, request: &mut Request, meta: CacheMeta, body: Bytes) -> Result<Served>
-    requires { MayTakeMeta request.old }
+    requires phase { request.old.phase ≡ Miss }
+    requires unwritten { request.old.write ≡ None }
 {
     request.set_cache_meta(meta);
     begin(parts, request)?;
     write(parts, request, body)?;
-    end(parts, request)
-}
-
-fn begin(parts: &mut Parts, request: &mut Request) -> Result<()> {
-    if request.may_write() {
-        request.set_miss_handler(&mut parts.store, &mut parts.lock)?;
-    }
-    Ok(())
-}
-
-fn write(parts: &mut Parts, request: &mut Request, body: Bytes) -> Result<()> {
-    if request.phase().is_filling()
-        && let Some(handler) = request.miss_handler()
-        && !handler.at_eof(&parts.store)
-    {
-        handler.write_body(&mut parts.store, body, true)?;
-    }
-    Ok(())
-}
-
-fn end(parts: &mut Parts, request: &mut Request) -> Result<Served> {
-    if !request.phase().is_filling() {
-        return Ok(Served::Waits);
-    }
     let Parts {
         alloc: _,
         store,
@@ -164,4 +136,25 @@ fn end(parts: &mut Parts, request: &mut Request) -> Result<Served> {
     } = parts;
     let report = request.finish_miss_handler(store, manager, lock)?;
     Ok(Served::Filled(report.map_or(0, |report| report.size)))
+}
+
+fn begin(parts: &mut Parts, request: &mut Request) -> Result<()>
+    requires phase { request.old.phase ≡ Miss }
+    requires may { MayWrite request.old }
+    ensures { OnOk result (request.new.phase ≡ Miss) }
+{
+    request.set_miss_handler(&mut parts.store, &mut parts.lock)
+}
+
+fn write(parts: &mut Parts, request: &mut Request, body: Bytes) -> Result<()>
+    requires { request.old.phase ≡ Miss }
+    ensures { OnOk result (request.new.phase ≡ Miss) }
+{
+    let Some(handler) = request.miss_handler() else {
+        return Ok(());
+    };
+    if !handler.at_eof(&parts.store) {
+        handler.write_body(&mut parts.store, body, true)?;
+    }
+    Ok(())
 }

@@ -1,9 +1,8 @@
 //! The proxy over four threads, which share one cache in parts. A request that has to wait asks again, and holds nothing while
 //! other threads have the processor.
-ghost use Rattle.std.specs.Prelude.{◌≡◌, IfOk};
+ghost use Rattle.std.specs.Prelude.{◌≡◌, IfOk, None};
 ghost use Rattle.pcache_request.specs.Phases.{MayLookUp, MayMiss};
-ghost use Rattle.pcache_request.specs.Requests.{MayTakeMeta};
-ghost use Rattle.pcache_request.specs.declared.phase.CachePhase.TheVariants.{CacheKey};
+ghost use Rattle.pcache_request.specs.declared.phase.CachePhase.TheVariants.{CacheKey, Miss};
 
 use crate::origin;
 use bytes::Bytes;
@@ -179,12 +178,10 @@ fn store<R: Wait>(
     meta: CacheMeta,
     body: Bytes,
 ) -> Result<bool>
-    requires { MayTakeMeta request.old.cache }
+    requires phase { request.old.cache.phase ≡ Miss }
+    requires unwritten { request.old.cache.write ≡ None }
 {
     request.set_cache_meta(meta);
-    if !request.cache().may_write() {
-        return Ok(false);
-    }
     cache.set_miss_handler(rt, request)?;
     cache.write_body(rt, request, body, true)?;
     Ok(cache.finish_miss_handler(rt, request)?.is_some())
