@@ -57,6 +57,7 @@ impl<M: EvictionManager, K> Cache<M, K> {
     }
 
     /// `HttpCache::set_write_lock`: holds a permit that another request had.
+    /// Requires that caching is on; ask `phase().is_on()` of the request.
     pub fn set_write_lock(
         &mut self,
         request: &mut CacheRequest<K>,

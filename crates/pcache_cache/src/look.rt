@@ -58,6 +58,7 @@ impl<M: EvictionManager, K> Cache<M, K> {
     }
 
     /// `HttpCache::cache_lookup_with`: as `cache_lookup`, and if the store has nothing, a policy in use is asked first.
+    /// Requires the phase CacheKey or Stale; ask `phase().may_look_up()` of the request.
     pub fn cache_lookup_with<A: AdmissionPolicy>(
         &mut self,
         request: &mut CacheRequest<K>,
@@ -85,6 +86,7 @@ impl<M: EvictionManager, K> Cache<M, K> {
     }
 
     /// `HttpCache::cache_found`: takes what a look-up found.
+    /// Requires the phase CacheKey or Stale; ask `phase().may_look_up()` of the request.
     pub fn cache_found(
         &mut self,
         request: &mut CacheRequest<K>,
@@ -140,6 +142,8 @@ impl<M: EvictionManager, K> Cache<M, K> {
     }
 
     /// `HttpCache::finish_hit_handler`: ends the reader.
+    /// Requires a phase after a look-up (not Disabled, Uninit, CacheKey or Bypass); ask
+    /// `phase().may_finish_hit()` of the request.
     pub fn finish_hit_handler(&mut self, request: &mut CacheRequest<K>) -> Result<()>
         requires { MayFinishHit request.old.cache.phase }
         ensures request { request.new.cache ≡ without_reader request.old.cache }
@@ -152,6 +156,8 @@ impl<M: EvictionManager, K> Cache<M, K> {
     }
 
     /// `HttpCache::disable`: turns caching off, and gives back all that is held.
+    /// Requires a reason other than NeverEnabled, and with a permit held one that its holder can
+    /// have; ask `may_disable(reason)` of the request.
     pub fn disable(
         &mut self,
         request: &mut CacheRequest<K>,

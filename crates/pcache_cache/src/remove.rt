@@ -14,6 +14,7 @@ impl<M: EvictionManager, K> Cache<M, K> {
     ghost use Rattle.pcache_store.specs.Purge.{expire_answer, expired_at, purge_answer, purged_at};
 
     /// `HttpCache::purge`: removes what stands under the key, and takes its entry out of the manager. Returns whether anything was there.
+    /// Requires the phase CacheKey; ask `phase().may_purge()` of the request.
     pub fn purge(&mut self, request: &mut CacheRequest<K>) -> Result<bool>
         requires { MayPurge request.old.cache.phase }
         ensures same { request.new.cache ≡ request.old.cache }
@@ -31,6 +32,8 @@ impl<M: EvictionManager, K> Cache<M, K> {
     }
 
     /// `HttpCache::spawn_async_purge`: the same in any phase in which there is a key. It is done at once, and the context is not read.
+    /// Requires a phase that is neither Disabled nor Uninit; ask `phase().may_spawn_purge()` of the
+    /// request.
     pub fn spawn_async_purge(
         &mut self,
         request: &mut CacheRequest<K>,
@@ -54,6 +57,7 @@ impl<M: EvictionManager, K> Cache<M, K> {
     }
 
     /// `HttpCache::expire`: ends the freshness of what stands under the key. Returns whether a body was there.
+    /// Requires the phase CacheKey; ask `phase().may_purge()` of the request.
     pub fn expire(&mut self, request: &mut CacheRequest<K>, now: Moment) -> Result<bool>
         requires { MayPurge request.old.cache.phase }
         ensures same { request.new.cache ≡ request.old.cache }

@@ -44,6 +44,8 @@ impl<M: EvictionManager, K> Cache<M, K> {
     }
 
     /// `HttpCache::revalidate_uncacheable`: serves the stale body with this header, and does not store the new answer.
+    /// Requires the phase Stale with a meta, and with a permit held a reason that its holder can
+    /// have; ask `may_revalidate()` and `may_release(reason)` of the request.
     pub fn revalidate_uncacheable(
         &mut self,
         request: &mut CacheRequest<K>,

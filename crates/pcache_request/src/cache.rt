@@ -289,6 +289,7 @@ impl<S: Storage> HttpCache<S> {
 
     /// Turns caching on, with these parts in use and all else but the digest as in a new request. A
     /// disabled request holds nothing, so that nothing is lost.
+    /// Requires the phase Disabled; ask `phase().is_disabled()`.
     pub fn enable(&mut self, uses: InUse)
         requires { IsDisabled self.old.phase }
         ensures request { self.new ≡ enabled_with uses self.old }
@@ -352,6 +353,7 @@ impl<S: Storage> HttpCache<S> {
     }
 
     /// Sets the key.
+    /// Requires the phase Uninit or CacheKey; ask `phase().may_take_key()`.
     pub fn set_cache_key(&mut self, key: CacheKey)
         requires { MayTakeKey self.old.phase }
         ensures { self.new ≡ with_key key self.old }
@@ -361,6 +363,7 @@ impl<S: Storage> HttpCache<S> {
     }
 
     /// Goes on as a miss, of which nothing was written yet.
+    /// Requires the phase CacheKey, Bypass or Stale; ask `phase().may_miss()`.
     pub fn cache_miss(&mut self)
         requires { MayMiss self.old.phase }
         ensures request { self.new ≡ missed self.old }
@@ -380,6 +383,7 @@ impl<S: Storage> HttpCache<S> {
     }
 
     /// Reads on. It fails only when memory runs out, and only if there is a piece to give; it changes nothing then.
+    /// Requires a reader; ask `has_body_reader()`.
     pub fn read_body(&mut self, storage: &mut S) -> Result<Poll<Option<Bytes>>>
         requires { IsSome self.old.reader }
         ensures read { IfOk result (λ p. IfSome self.old.reader (λ r. p ≡ read_of (S.state storage.old) r)) }
@@ -398,6 +402,7 @@ impl<S: Storage> HttpCache<S> {
     /// Has the reader give the body from `start` on, and before `end` if one is given, anew. It is
     /// refused as an internal error if the reader follows a write, the body has no byte at `start`
     /// or `end` lies before it, and changes nothing then.
+    /// Requires a reader; ask `has_body_reader()`.
     pub fn seek(&mut self, start: usize, end: Option<usize>) -> Result<()>
         requires { IsSome self.old.reader }
         ensures ok { OnOk result (self.new ≡ record self.old { reader = option_and_then (λ r. sought r start end) self.old.reader }) }
@@ -413,6 +418,8 @@ impl<S: Storage> HttpCache<S> {
     }
 
     /// The reader of what was found.
+    /// Requires a phase in which a body that was found may be read, and a reader; ask
+    /// `phase().is_reading()` and `has_body_reader()`.
     pub fn hit_handler(&mut self) -> &mut S::Hit
         requires phase { IsReading self.old.phase }
         requires reader { IsSome self.old.reader }
@@ -424,6 +431,8 @@ impl<S: Storage> HttpCache<S> {
 
     /// Ends the reader, if there is one, also if that is refused, which it is only when memory runs
     /// out.
+    /// Requires a phase after a look-up (not Disabled, Uninit, CacheKey or Bypass); ask
+    /// `phase().may_finish_hit()`.
     pub fn finish_hit_handler(&mut self, storage: &mut S) -> Result<()>
         requires { MayFinishHit self.old.phase }
         ensures request { self.new ≡ without_reader self.old }
@@ -466,6 +475,7 @@ impl<S: Storage> HttpCache<S> {
     /// Sets the meta of the response that is to be stored. In place of a stale one it keeps the
     /// moment from which that one's body came, and the request goes on as expired, of which nothing
     /// was written yet.
+    /// Requires the phase Miss, or Stale with a meta; ask `may_take_meta()`.
     pub fn set_cache_meta(&mut self, meta: CacheMeta)
         requires { MayTakeMeta self.old }
         ensures request { self.new ≡ with_meta meta self.old }
@@ -498,6 +508,7 @@ impl<S: Storage> HttpCache<S> {
     /// Begins the write. In a storage whose writes can be read while they are made, the permit is
     /// released and the request's reader follows the write; if that is refused, the write has
     /// begun and the permit is released. Over any other storage a refusal changes nothing.
+    /// Requires a phase that fills, a meta, and no write; ask `may_write()`.
     pub fn set_miss_handler<L: CacheKeyLock>(&mut self, storage: &mut S, lock: &mut L) -> Result<()>
         requires { MayWrite self.old }
         ensures request { OnOk result (self.new ≡ writing (S.streams storage.old) (S.state storage.old).next (entry_given S.guarantees.numbers (S.state storage.old).next) (begun_for self.old.key self.old.meta (S.state storage.old)) self.old) }
@@ -514,6 +525,7 @@ impl<S: Storage> HttpCache<S> {
 
     /// What `set_miss_handler` does, told apart by how far it came: refused, it changes nothing; else
     /// the write has begun, also if the reader could not join it.
+    /// Requires a phase that fills, a meta, and no write; ask `may_write()`.
     pub fn begin_write<L: CacheKeyLock>(
         &mut self,
         storage: &mut S,
@@ -568,6 +580,7 @@ impl<S: Storage> HttpCache<S> {
     }
 
     /// The handler of the write, if there is one.
+    /// Requires the phase Miss or Expired; ask `phase().is_filling()`.
     pub fn miss_handler(&mut self) -> Option<&mut S::Miss>
         requires { IsFilling self.old.phase }
         ensures* writes_back { sem 𝓛 (LendsIf (the_row S.row S.Hit.row S.Miss.row S.StoreMeaning S.Hit.HandleHit S.Miss.HandleMiss) S.Miss.row self.entry result (λ w. record self.old { write = Some (S.Miss.write w); entry = S.Miss.entry_number w }) self.old) }

@@ -37,6 +37,7 @@ impl<M: EvictionManager, K, const N: usize> SharedCache<M, K, N> {
 
     /// `Cache::write_body`: adds bytes to the request's write, and with `eof` says that they are the last. Without a write, or after
     /// the last bytes, it returns `false` and changes nothing. It fails when memory runs out, and changes nothing then.
+    /// Requires the phase Miss or Expired; ask `phase().is_filling()` of `cache()`.
     pub fn write_body<R: Wait>(
         &self,
         rt: &R,

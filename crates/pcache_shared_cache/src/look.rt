@@ -29,6 +29,7 @@ impl<M: EvictionManager, K, const N: usize> SharedCache<M, K, N> {
 
     /// `Cache::cache_lookup` in the request's part: what its store has of the key; if nothing is handed on, the key's lock is asked
     /// for. A pair that is handed on has to be taken by `cache_found` or let go.
+    /// Requires the phase CacheKey or Stale; ask `phase().may_look_up()` of `cache()`.
     pub fn cache_lookup<R: Wait>(
         &self,
         rt: &R,
@@ -51,6 +52,7 @@ impl<M: EvictionManager, K, const N: usize> SharedCache<M, K, N> {
     }
 
     /// `Cache::cache_found`: takes what a look-up found.
+    /// Requires the phase CacheKey or Stale; ask `phase().may_look_up()` of `cache()`.
     pub fn cache_found<R: Wait>(
         &self,
         rt: &R,
@@ -106,6 +108,7 @@ impl<M: EvictionManager, K, const N: usize> SharedCache<M, K, N> {
 
     /// Reads on, and asks up to so many times as long as there is nothing yet. In between other threads have the processor, and
     /// nothing is locked.
+    /// Requires a reader; ask `has_body_reader()` of `cache()`.
     pub fn read_in_turns<R: Wait>(
         &self,
         rt: &R,
@@ -128,6 +131,8 @@ impl<M: EvictionManager, K, const N: usize> SharedCache<M, K, N> {
     }
 
     /// `Cache::finish_hit_handler`: ends the reader.
+    /// Requires a phase after a look-up (not Disabled, Uninit, CacheKey or Bypass); ask
+    /// `phase().may_finish_hit()` of `cache()`.
     pub fn finish_hit_handler<R: Wait>(
         &self,
         rt: &R,
@@ -144,6 +149,8 @@ impl<M: EvictionManager, K, const N: usize> SharedCache<M, K, N> {
     }
 
     /// `Cache::disable`: turns caching off, and gives back all that is held.
+    /// Requires a reason other than NeverEnabled, and with a permit held one that its holder can
+    /// have; ask `may_disable(reason)` of `cache()`.
     pub fn disable<R: Wait>(
         &self,
         rt: &R,

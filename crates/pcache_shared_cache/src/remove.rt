@@ -16,6 +16,7 @@ impl<M: EvictionManager, K, const N: usize> SharedCache<M, K, N> {
     ghost use Rattle.pcache_shared_cache.specs.Shared.{InPart};
 
     /// `Cache::purge`: removes what stands under the key, and takes its entry out of the manager. Returns whether anything was there.
+    /// Requires the phase CacheKey; ask `phase().may_purge()` of `cache()`.
     pub fn purge<R: Wait>(&self, rt: &R, request: &mut SharedRequest<K, N>) -> Result<bool>
         requires { MayPurge request.old.cache.phase }
         ensures same { request.new ≡ request.old }
@@ -28,6 +29,8 @@ impl<M: EvictionManager, K, const N: usize> SharedCache<M, K, N> {
     }
 
     /// `Cache::spawn_async_purge`: the same in any phase in which there is a key. It is done at once, and the context is not read.
+    /// Requires a phase that is neither Disabled nor Uninit; ask `phase().may_spawn_purge()` of
+    /// `cache()`.
     pub fn spawn_async_purge<R: Wait>(
         &self,
         rt: &R,
@@ -45,6 +48,7 @@ impl<M: EvictionManager, K, const N: usize> SharedCache<M, K, N> {
     }
 
     /// `Cache::expire`: ends the freshness of what stands under the key. Returns whether a body was there.
+    /// Requires the phase CacheKey; ask `phase().may_purge()` of `cache()`.
     pub fn expire<R: Wait>(
         &self,
         rt: &R,

@@ -43,6 +43,8 @@ impl<M: EvictionManager, K, const N: usize> SharedCache<M, K, N> {
     }
 
     /// `Cache::revalidate_uncacheable`: serves the stale body with this header, and does not store the new answer.
+    /// Requires the phase Stale with a meta, and with a permit held a reason that its holder can
+    /// have; ask `may_revalidate()` and `may_release(reason)` of `cache()`.
     pub fn revalidate_uncacheable<R: Wait>(
         &self,
         rt: &R,

@@ -70,6 +70,7 @@ impl<K, const N: usize> SharedRequest<K, N> {
     }
 
     /// `HttpCache::cache_miss`: goes on as a miss.
+    /// Requires the phase CacheKey, Bypass or Stale; ask `phase().may_miss()` of `cache()`.
     pub fn cache_miss(&mut self)
         requires { MayMiss self.old.cache.phase }
         ensures request { self.new ≡ record self.old { cache = missed self.old.cache } }
@@ -79,6 +80,7 @@ impl<K, const N: usize> SharedRequest<K, N> {
     }
 
     /// `HttpCache::set_cache_meta`: sets the meta of the response that is to be stored.
+    /// Requires the phase Miss, or Stale with a meta; ask `may_take_meta()` of `cache()`.
     pub fn set_cache_meta(&mut self, meta: CacheMeta)
         requires { MayTakeMeta self.old.cache }
         ensures { self.new ≡ record self.old { cache = with_meta meta self.old.cache } }
@@ -87,6 +89,7 @@ impl<K, const N: usize> SharedRequest<K, N> {
     }
 
     /// `HttpCache::bypass`: passes the cache by.
+    /// Requires the phase CacheKey; ask `phase().may_bypass()` of `cache()`.
     pub fn bypass(&mut self)
         requires { MayBypass self.old.cache.phase }
         ensures { self.new ≡ record self.old { cache = bypassed self.old.cache } }
@@ -95,6 +98,7 @@ impl<K, const N: usize> SharedRequest<K, N> {
     }
 
     /// `HttpCache::set_stale_updating`: serves the stale body while another request renews it.
+    /// Requires the phase Stale; ask `phase().is_stale()` of `cache()`.
     pub fn set_stale_updating(&mut self)
         requires { IsStale self.old.cache.phase }
         ensures { self.new ≡ record self.old { cache = updating self.old.cache } }
@@ -103,6 +107,7 @@ impl<K, const N: usize> SharedRequest<K, N> {
     }
 
     /// `HttpCache::cache_vary_lookup`: sets the variance that the next look-up looks for.
+    /// Requires the phase CacheKey or Stale; ask `phase().may_look_up()` of `cache()`.
     pub fn cache_vary_lookup(&mut self, variance: HashBinary, meta: &CacheMeta) -> bool
         requires { MayLookUp self.old.cache.phase }
         ensures matches { result ≡ same_variance meta.now.variance (Some variance) }

@@ -18,6 +18,7 @@ impl<S: Storage> HttpCache<S> {
     ghost use Rattle.pcache_request.specs.Reports.{name_of};
 
     /// Takes an admission policy into use, which look-ups with one are lent.
+    /// Requires the phase Uninit or CacheKey; ask `phase().may_take_key()`.
     pub fn set_admission_policy(&mut self)
         requires { MayTakeKey self.old.phase }
         ensures { self.new ≡ with_policy self.old }

@@ -59,6 +59,7 @@ impl<S: Storage> HttpCache<S> {
     ghost use Rattle.pcache_request.specs.Requests.{HoldsNothing, settled, left_by, dropped_by};
 
     /// Passes the cache by. The key is kept, and what is held.
+    /// Requires the phase CacheKey; ask `phase().may_bypass()`.
     pub fn bypass(&mut self)
         requires { MayBypass self.old.phase }
         ensures { self.new ≡ bypassed self.old }
@@ -87,6 +88,8 @@ impl<S: Storage> HttpCache<S> {
     /// Turns caching off. The write is dropped, a permit is released with what the reason tells the
     /// others, and the rest is let go; the key stays. If caching was never turned on, nothing
     /// changes. Answers the lock that was released.
+    /// Requires a reason other than NeverEnabled, and with a permit held one that its holder can
+    /// have; ask `may_disable(reason)`.
     pub fn disable<L: CacheKeyLock>(
         &mut self,
         storage: &mut S,

@@ -69,6 +69,7 @@ impl<S: Storage> HttpCache<S> {
     /// Ends the write and stores the body. Its entry is admitted, and what is evicted for it is
     /// purged, in order. A write that is refused is dropped, and the permit is released with
     /// that; a body whose admission is refused is purged again. Without a write, `None`.
+    /// Requires the phase Miss or Expired; ask `phase().is_filling()`.
     pub fn finish_miss_handler<L: CacheKeyLock, E: EvictionManager>(
         &mut self,
         storage: &mut S,
@@ -98,6 +99,7 @@ impl<S: Storage> HttpCache<S> {
     }
 
     /// What `finish_miss_handler` does, told apart by how far it came.
+    /// Requires the phase Miss or Expired; ask `phase().is_filling()`.
     pub fn end_write<L: CacheKeyLock, E: EvictionManager>(
         &mut self,
         storage: &mut S,

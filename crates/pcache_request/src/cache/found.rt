@@ -151,6 +151,7 @@ impl<S: Storage> HttpCache<S> {
     /// a miss is let go: both ask for the lock if one is in use. A manager is left wholly as it was
     /// where no use is noted. Refused, it lets the hit go; an access noted before stays, if the lock
     /// was refused. It is refused only if a use is noted or the lock asked for.
+    /// Requires the phase CacheKey or Stale; ask `phase().may_look_up()`.
     pub fn cache_found<L: CacheKeyLock, E: EvictionManager>(
         &mut self,
         storage: &mut S,
@@ -189,6 +190,7 @@ impl<S: Storage> HttpCache<S> {
 
     /// What `cache_found` does, told apart by how far it came: refused, it only let the hit go; else
     /// its use was noted, also if the lock was refused, and the hit was let go then.
+    /// Requires the phase CacheKey or Stale; ask `phase().may_look_up()`.
     pub fn take_found<L: CacheKeyLock, E: EvictionManager>(
         &mut self,
         storage: &mut S,

@@ -71,6 +71,7 @@ impl<S: Storage> HttpCache<S> {
 
     /// Turns caching on, with these parts in use and these options of its lock, and all else but the
     /// digest as in a new request. A disabled request holds nothing, so that nothing is lost.
+    /// Requires the phase Disabled; ask `phase().is_disabled()`.
     pub fn enable_with(&mut self, uses: InUse, overrides: Option<CacheOptionOverrides>)
         requires { IsDisabled self.old.phase }
         ensures request { self.new ≡ enabled_waiting uses overrides self.old }
@@ -91,6 +92,7 @@ impl<S: Storage> HttpCache<S> {
     }
 
     /// Takes the lock into use with these options, or out of it.
+    /// Requires the phase CacheKey, Stale or Hit, and no lock held; ask `may_set_cache_lock()`.
     pub fn set_cache_lock(&mut self, is_used: bool, overrides: Option<CacheOptionOverrides>)
         requires { MaySetLock self.old }
         ensures { self.new ≡ with_cache_lock is_used overrides self.old }
@@ -108,6 +110,7 @@ impl<S: Storage> HttpCache<S> {
     }
 
     /// Whether a read lock is held, so that the request may wait.
+    /// Requires that caching is on; ask `phase().is_on()`.
     pub fn is_cache_locked(&self) -> bool
         requires { IsOn self.now.phase }
         ensures { IsTrue result ↔ IsSome (read_in self.now.held) }
@@ -116,6 +119,7 @@ impl<S: Storage> HttpCache<S> {
     }
 
     /// Whether the permit is held.
+    /// Requires that caching is on; ask `phase().is_on()`.
     pub fn is_cache_lock_writer(&self) -> bool
         requires { IsOn self.now.phase }
         ensures { IsTrue result ↔ IsSome (permit_in self.now.held) }
@@ -124,6 +128,7 @@ impl<S: Storage> HttpCache<S> {
     }
 
     /// How often the request is to look again after a wait, if that is limited.
+    /// Requires that caching is on; ask `phase().is_on()`.
     pub fn cache_lock_max_retries(&self) -> Option<usize>
         requires { IsOn self.now.phase }
         ensures { result ≡ self.now.max_retries }
@@ -132,6 +137,7 @@ impl<S: Storage> HttpCache<S> {
     }
 
     /// Takes the permit out, for another request to hold.
+    /// Requires that the permit is held; ask `is_cache_lock_writer()`.
     pub fn take_write_lock(&mut self) -> WritePermit
         requires { IsSome (permit_in self.old.held) }
         ensures permit { Some result ≡ permit_in self.old.held }
@@ -148,6 +154,7 @@ impl<S: Storage> HttpCache<S> {
 
     /// Holds a permit that another request had; a lock that was held before is let go. Without a
     /// lock in use the permit itself is let go. Answers the lock that was let go.
+    /// Requires that caching is on; ask `phase().is_on()`.
     pub fn set_write_lock<L: CacheKeyLock>(
         &mut self,
         lock: &mut L,
@@ -173,6 +180,7 @@ impl<S: Storage> HttpCache<S> {
 
     /// Releases the permit with what the reason tells the others; a read lock is let go, whatever
     /// the reason. Answers what was released.
+    /// Requires with a permit held a reason that its holder can have; ask `may_release(reason)`.
     pub fn release_write_lock<L: CacheKeyLock>(
         &mut self,
         lock: &mut L,
@@ -214,6 +222,7 @@ impl<S: Storage> HttpCache<S> {
     }
 
     /// Tags the request as one of another. As all tags it has no effect.
+    /// Requires that caching is on; ask `phase().is_on()`.
     pub fn tag_as_subrequest(&mut self)
         requires { IsOn self.old.phase }
         ensures { self.new ≡ self.old }

@@ -233,6 +233,7 @@ impl<S: Storage> HttpCache<S> {
     ///
     /// It is refused only when memory runs out, only at the first poll of a read lock, and only if
     /// the key names fills that the request cannot use; nothing has changed then.
+    /// Requires a read lock; ask `is_cache_locked()`.
     pub fn cache_lock_wait<L: CacheKeyLock>(
         &mut self,
         lock: &mut L,
@@ -253,6 +254,7 @@ impl<S: Storage> HttpCache<S> {
 
     /// What `cache_lock_wait` does, with the lock that was waited on, and whether its permit was
     /// found too old.
+    /// Requires a read lock; ask `is_cache_locked()`.
     pub fn wait<L: CacheKeyLock>(&mut self, lock: &mut L, now: Moment) -> Result<WaitReport>
         requires { IsSome (read_in self.old.held) }
         ensures answer { IfOk result (λ w. w.answer ≡ wait_answer (L.table lock.old) now self.old.held self.old) }

@@ -16,6 +16,7 @@ impl<S: Storage> HttpCache<S> {
 
     /// Passes the cache by, and keeps the reason for which a predictor in use expects that the response
     /// cannot be cached. The key is kept, and what is held.
+    /// Requires the phase CacheKey; ask `phase().may_bypass()`.
     pub fn bypass_with<P: CacheablePredictor>(&mut self, predictor: &P)
         requires { MayBypass self.old.phase }
         ensures { self.new ≡ bypassed_for (foretold self.old.uses.predictor (P.reason predictor.now) self.old.key) self.old }
@@ -38,6 +39,7 @@ impl<S: Storage> HttpCache<S> {
     }
 
     /// Whether the response is expected to be cacheable: so it is without a predictor in use.
+    /// Requires a key, and that caching was enabled; ask `maybe_cache_key()`.
     pub fn cacheable_prediction<P: CacheablePredictor>(&self, predictor: &P) -> bool
         requires { IsSome (shown_key self.now) }
         ensures { result ≡ expects_cacheable self.now.uses.predictor (P.uncacheable predictor.now) (shown_key self.now) }
@@ -50,6 +52,7 @@ impl<S: Storage> HttpCache<S> {
 
     /// Tells a predictor in use that the response was cacheable. Answers what the predictor answers,
     /// whether that was expected, and `None` without one in use, which is not touched then.
+    /// Requires a key, and that caching was enabled; ask `maybe_cache_key()`.
     pub fn response_became_cacheable<P: CacheablePredictor>(
         &self,
         predictor: &mut P,
@@ -69,6 +72,7 @@ impl<S: Storage> HttpCache<S> {
     /// predictor answers: whether the contrary was expected, or `None` for a reason that does not
     /// count; `None` also without one in use, which is not touched then. It is refused only when
     /// memory runs out, for a reason that may count, and changes nothing then.
+    /// Requires a key, and that caching was enabled; ask `maybe_cache_key()`.
     pub fn response_became_uncacheable<P: CacheablePredictor>(
         &self,
         predictor: &mut P,

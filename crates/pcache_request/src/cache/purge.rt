@@ -73,6 +73,7 @@ impl<S: Storage> HttpCache<S> {
 
     /// Removes what stands under the key, and takes the entry that went out of the manager. Answers
     /// whether anything was there.
+    /// Requires the phase CacheKey; ask `phase().may_purge()`.
     pub fn purge<E: EvictionManager>(&mut self, storage: &mut S, eviction: &mut E) -> Result<bool>
         requires { MayPurge self.old.phase }
         ensures same { self.new ≡ self.old }
@@ -89,6 +90,7 @@ impl<S: Storage> HttpCache<S> {
     }
 
     /// What `purge` does, with what the storage found and the entry that was taken out.
+    /// Requires the phase CacheKey; ask `phase().may_purge()`.
     pub fn purge_key<E: EvictionManager>(
         &mut self,
         storage: &mut S,
@@ -112,6 +114,7 @@ impl<S: Storage> HttpCache<S> {
 
     /// Removes what stands under the key, as `purge` does, in any phase in which there is one. It is
     /// done at once, and the context, which the Rust notes if that fails, is not read.
+    /// Requires a phase that is neither Disabled nor Uninit; ask `phase().may_spawn_purge()`.
     pub fn spawn_async_purge<E: EvictionManager>(
         &mut self,
         storage: &mut S,
@@ -133,6 +136,7 @@ impl<S: Storage> HttpCache<S> {
     }
 
     /// What `spawn_async_purge` does, with what the storage found and the entry that was taken out.
+    /// Requires a phase that is neither Disabled nor Uninit; ask `phase().may_spawn_purge()`.
     pub fn spawn_purge<E: EvictionManager>(
         &mut self,
         storage: &mut S,
@@ -155,6 +159,7 @@ impl<S: Storage> HttpCache<S> {
     }
 
     /// Ends the freshness of what stands under the key. Answers whether a body was there.
+    /// Requires the phase CacheKey; ask `phase().may_purge()`.
     pub fn expire<E: EvictionManager>(
         &mut self,
         storage: &mut S,
@@ -176,6 +181,7 @@ impl<S: Storage> HttpCache<S> {
     }
 
     /// What `expire` does, with what the storage found and an entry that went all the same.
+    /// Requires the phase CacheKey; ask `phase().may_purge()`.
     pub fn expire_key<E: EvictionManager>(
         &mut self,
         storage: &mut S,

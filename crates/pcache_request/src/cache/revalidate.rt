@@ -122,6 +122,7 @@ impl<S: Storage> HttpCache<S> {
     /// came, when that of the old meta was. The store sets it for the complete body under the key, and
     /// the permit is released as done. Answers whether there was such a body. The request goes on as
     /// revalidated, with the new meta, also if the store refuses to set it, since memory ran out.
+    /// Requires the phase Stale, and a meta; ask `may_revalidate()`.
     pub fn revalidate_cache_meta<L: CacheKeyLock>(
         &mut self,
         storage: &mut S,
@@ -145,6 +146,7 @@ impl<S: Storage> HttpCache<S> {
     }
 
     /// What `revalidate_cache_meta` does, with the lock that was released.
+    /// Requires the phase Stale, and a meta; ask `may_revalidate()`.
     pub fn renew_meta<L: CacheKeyLock>(
         &mut self,
         storage: &mut S,
@@ -183,6 +185,7 @@ impl<S: Storage> HttpCache<S> {
     /// Cache-Tag, CDN-Cache-Control and ETag, each with the answer's values if it has any. It is
     /// refused when memory runs out, and as `InternalError` only if the head has no room for one of the
     /// answer's values.
+    /// Requires the phase Stale, and a meta; ask `may_revalidate()`.
     pub fn revalidate_merge_header(&self, resp: &RespHeader) -> Result<ResponseHeader>
         requires { MayRevalidate self.now }
         ensures ok { IfOk result (λ h. IfSome self.now.meta (λ m. shown h ≡ header_renewed (shown_fields resp.now.headers) m.header)) }

@@ -25,6 +25,7 @@ impl<S: Storage> HttpCache<S> {
 
     /// What the store has for the key, also if that is hidden: the meta, and a reader that has to be
     /// taken or let go. It is refused only when memory runs out, and changes nothing then.
+    /// Requires the phase CacheKey or Stale; ask `phase().may_look_up()`.
     pub fn find(&self, storage: &mut S) -> Result<Option<(CacheMeta, S::Hit)>>
         requires { MayLookUp self.now.phase }
         ensures found { IfOk result (λ r. option_map (λ p. (p.0, S.Hit.reader p.1)) r ≡ found_for (S.state storage.old) self.now.key) }
@@ -149,6 +150,7 @@ impl<S: Storage> HttpCache<S> {
     /// count, and asks for the key's lock if it hands nothing on and a lock is in use. It asks no
     /// policy (`cache_lookup_with` does). Refused, the request and the lock table are as before; if
     /// the lock was refused, a hidden pair was let go.
+    /// Requires the phase CacheKey or Stale; ask `phase().may_look_up()`.
     pub fn cache_lookup<L: CacheKeyLock>(
         &mut self,
         storage: &mut S,
@@ -181,6 +183,7 @@ impl<S: Storage> HttpCache<S> {
     /// not decided yet, asks the policy first. If it defers, caching is turned off as deferred, and no
     /// lock is asked for. Its decision is kept. Refused, the request is as before but for a decision, and
     /// the lock table is as before; if the lock was refused, a hidden pair was let go.
+    /// Requires the phase CacheKey or Stale; ask `phase().may_look_up()`.
     pub fn cache_lookup_with<L: CacheKeyLock, A: AdmissionPolicy>(
         &mut self,
         storage: &mut S,
@@ -215,6 +218,7 @@ impl<S: Storage> HttpCache<S> {
     /// has, also if that is hidden, before anything comes of it. Refused, the store refused to look, or
     /// the witness did; the request, the lock table and the policy are as before then, and what was
     /// found was let go.
+    /// Requires the phase CacheKey or Stale; ask `phase().may_look_up()`.
     pub fn look_up<L: CacheKeyLock, A: AdmissionPolicy, W: Witness<S>>(
         &mut self,
         storage: &mut S,

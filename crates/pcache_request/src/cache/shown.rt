@@ -56,6 +56,7 @@ impl<S: Storage> HttpCache<S> {
     }
 
     /// The key.
+    /// Requires a key, and that caching was enabled; ask `maybe_cache_key()`.
     pub fn cache_key(&self) -> &CacheKey
         requires { IsSome (shown_key self.now) }
         ensures { Some result.now ≡ shown_key self.now }
@@ -100,6 +101,7 @@ impl<S: Storage> HttpCache<S> {
     }
 
     /// The meta of the body that is read.
+    /// Requires a meta, and in Miss a reader; ask `has_cache_meta()`.
     pub fn cache_meta(&self) -> &CacheMeta
         requires { IsSome (read_meta self.now) }
         ensures { Some result.now ≡ read_meta self.now }

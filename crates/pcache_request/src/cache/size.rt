@@ -9,6 +9,7 @@ impl<S: Storage> HttpCache<S> {
     ghost use Rattle.pcache_request.specs.Sizes.{with_limit, limit_of, with_bytes, is_within};
 
     /// Limits the number of the body's bytes, none of which was counted yet.
+    /// Requires that caching is on; ask `phase().is_on()`.
     pub fn set_max_file_size_bytes(&mut self, max_file_size_bytes: usize)
         requires { IsOn self.old.phase }
         ensures { self.new ≡ with_limit max_file_size_bytes self.old }
@@ -17,6 +18,7 @@ impl<S: Storage> HttpCache<S> {
     }
 
     /// The limit, if there is one.
+    /// Requires that caching was enabled once; ask `phase().was_enabled()`.
     pub fn max_file_size_bytes(&self) -> Option<usize>
         requires { WasEnabled self.now.phase }
         ensures { result ≡ option_map limit_of self.now.size }
@@ -28,6 +30,7 @@ impl<S: Storage> HttpCache<S> {
     /// Counts so many bytes of the body, up to the largest number there is, and answers whether all
     /// that were counted are within the limit. Without a limit it counts nothing, and they are. It may
     /// also be called once caching was turned off.
+    /// Requires that caching was enabled once; ask `phase().was_enabled()`.
     pub fn track_body_bytes_for_max_file_size(&mut self, bytes_len: usize) -> bool
         requires { WasEnabled self.old.phase }
         ensures request { self.new ≡ with_bytes bytes_len self.old }
@@ -40,6 +43,7 @@ impl<S: Storage> HttpCache<S> {
     }
 
     /// Whether the bytes that were counted are more than the limit.
+    /// Requires that caching was enabled once; ask `phase().was_enabled()`.
     pub fn exceeded_max_file_size(&self) -> bool
         requires { WasEnabled self.now.phase }
         ensures { result ≡ not (is_within self.now.size) }

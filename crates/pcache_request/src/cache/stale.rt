@@ -17,6 +17,7 @@ impl<S: Storage> HttpCache<S> {
     ghost use Rattle.pcache_request.specs.Stale.{MayRevalidate, updating, uncacheable};
 
     /// Serves the stale body while another request renews it.
+    /// Requires the phase Stale; ask `phase().is_stale()`.
     pub fn set_stale_updating(&mut self)
         requires { IsStale self.old.phase }
         ensures { self.new ≡ updating self.old }
@@ -34,6 +35,8 @@ impl<S: Storage> HttpCache<S> {
     /// Serves the stale body, of which the origin said that it is good, with this header. The new
     /// answer is not stored, for this reason, and a permit is released with what that tells the
     /// others. Answers the lock that was released.
+    /// Requires the phase Stale with a meta, and with a permit held a reason that its holder can
+    /// have; ask `may_revalidate()` and `may_release(reason)`.
     pub fn revalidate_uncacheable<L: CacheKeyLock>(
         &mut self,
         lock: &mut L,

@@ -62,6 +62,7 @@ impl<S: Storage> HttpCache<S> {
     /// That look-up hides what was created before the meta's body came. Answers whether the meta is of
     /// this variance: then, if the key named none, the body is the key's own, and the key names none
     /// on.
+    /// Requires the phase CacheKey or Stale; ask `phase().may_look_up()`.
     pub fn cache_vary_lookup(&mut self, variance: HashBinary, meta: &CacheMeta) -> bool
         requires { MayLookUp self.old.phase }
         ensures matches { result ≡ same_variance meta.now.variance (Some variance) }
@@ -81,6 +82,7 @@ impl<S: Storage> HttpCache<S> {
     /// created. A key that names another variance gives it up: the permit is released as done, since it
     /// was asked for under that variance, and the response will stand under the key itself. Answers the
     /// lock that was released.
+    /// Requires a phase that fills, a meta, and no write; ask `may_write()`.
     pub fn update_variance<L: CacheKeyLock>(
         &mut self,
         lock: &mut L,
