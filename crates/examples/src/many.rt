@@ -55,7 +55,7 @@ fn poll_at(
 /// Ends all that are left. A vector of values that must be spent is spent by `destroy_empty`, once it is empty.
 pub fn end_all(cache: &mut FrontCache, requests: Vec<Request>) {
     let mut requests = requests;
-    while let Some(request) = requests.pop() {
+    'requests: while let Some(request) = requests.pop() {
         cache.end(request);
     }
     requests.destroy_empty();
