@@ -1,5 +1,6 @@
 //! Heads of responses, what Cache-Control says of them, and whether they are to be stored.
 ghost use Rattle.std.specs.Prelude.{◌≡◌, ◌↔◌, IsTrue};
+ghost use Rattle.pcache_c.specs.Objects.{IsReadControl};
 ghost use Rattle.pcache_control.specs.Control.{allows_authorized};
 
 use crate::codes::{BAD_HANDLE, BAD_VALUE, NO_MEMORY, NONE, OK, WRONG_KIND, code_of};
@@ -59,7 +60,9 @@ pub extern "C" fn pcache_head_add(
     code
 }
 
-fn read_control(alloc: Global, head: &ResponseHeader, control: &mut PcacheHandle) -> u32 {
+fn read_control(alloc: Global, head: &ResponseHeader, control: &mut PcacheHandle) -> u32
+    ensures read { result ≡ 0 → IsReadControl head.now control.new.held.value }
+{
     match CacheControl::from_resp_headers(alloc, head) {
         Ok(Some(read)) => control.fill(alloc, Object::Control(read)),
         Ok(None) => NONE,

@@ -1,5 +1,9 @@
 //! Metas of stored responses, and their bytes.
-ghost use Rattle.std.specs.Prelude.{◌≡◌, ◌≤◌, ◌+◌, ◌*◌, ◌↔◌, IfSome};
+ghost use Rattle.std.specs.Prelude.{◌≡◌, ◌≤◌, ◌+◌, ◌*◌, ◌↔◌, IfSome, Some};
+ghost use Rattle.pcache_c.specs.Objects.{IsReadMeta};
+ghost use Rattle.pcache_c.specs.declared.object.Object.TheVariants.{Meta};
+ghost use Rattle.pcache_meta.specs.Header.{shown};
+ghost use Rattle.pcache_meta.specs.Internal.{first_said};
 ghost use Rattle.pcache_meta.specs.Meta.{MayServeStale};
 
 use crate::codes::{BAD_HANDLE, BAD_VALUE, OK, WRONG_KIND, code_of};
@@ -55,12 +59,14 @@ pub struct PcacheMeta {
     pub stale_if_error_secs: u32,
 }
 
-fn new_meta(
-    alloc: Global,
-    head: &ResponseHeader,
-    said: &PcacheMeta,
-    meta: &mut PcacheHandle,
-) -> u32 {
+fn new_meta(alloc: Global, head: &ResponseHeader, said: &PcacheMeta, meta: &mut PcacheHandle) -> u32
+    ensures made { result ≡ 0 → meta.new.held.value ≡ Some (Meta (record {
+      internal = first_said (said.now.fresh_until.secs * 1000000000 + said.now.fresh_until.nanos)
+          (said.now.created.secs * 1000000000 + said.now.created.nanos)
+          said.now.stale_while_revalidate_secs said.now.stale_if_error_secs;
+      header = shown head.now;
+    })) }
+{
     let Some(created) = moment_of(said.created.secs, said.created.nanos) else {
         return BAD_VALUE;
     };
@@ -107,7 +113,9 @@ pub extern "C" fn pcache_meta_read(
     meta: &mut PcacheHandle,
     internal: &[u8],
     header: &[u8],
-) -> u32 {
+) -> u32
+    ensures read { result ≡ 0 → IsReadMeta internal.now header.now meta.new.held.value }
+{
     match CacheMeta::deserialize(alloc, internal, header) {
         Ok(read) => meta.fill(alloc, Object::Meta(read)),
         Err(e) => code_of(e),
