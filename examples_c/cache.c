@@ -126,6 +126,29 @@ static void wait_and_read(void) {
     check("end", pcache_request_end(&cache, waiter), PCACHE_OK);
 }
 
+/* A request that reads a stale body while another renews it, and then the new one: nothing of the older body is left. */
+static void stale_then_fresh(void) {
+    uint64_t writer = request_for("ee"), reader = request_for("ee");
+    uint32_t outcome;
+    look(writer);
+    check("take", pcache_request_take(&cache, writer, PCACHE_IS_EXPIRED, 1, 0), PCACHE_OK);
+    look(reader);
+    check("take", pcache_request_take(&cache, reader, PCACHE_IS_EXPIRED, 1, 0), PCACHE_OK);
+    printf("held %u and %u, ", (unsigned)held(writer), (unsigned)held(reader));
+    read_once(reader);
+    printf(" ");
+    begin(writer);
+    check("write", pcache_request_write(&cache, writer, bytes("xyz"), 3, 1), PCACHE_OK);
+    finish(writer);
+    check("wait", pcache_request_wait(&cache, reader, 1, 0, &outcome), PCACHE_OK);
+    printf("wait %u found %u, ", (unsigned)outcome, (unsigned)look(reader));
+    check("take", pcache_request_take(&cache, reader, PCACHE_IS_FRESH, 1, 0), PCACHE_OK);
+    for (int i = 0; i < 3; i++) read_once(reader);
+    printf("\n");
+    check("end", pcache_request_end(&cache, writer), PCACHE_OK);
+    check("end", pcache_request_end(&cache, reader), PCACHE_OK);
+}
+
 static void purge(const char *key) {
     uint64_t request = request_for(key);
     uint32_t was;
@@ -175,6 +198,8 @@ int main(void) {
     purge("bb");
     hit("bb");
     print_totals();
+    fill("ee", "abc");
+    stale_then_fresh();
     refused();
     /* A request that is open goes with its cache. */
     look(request_for("dd"));

@@ -170,8 +170,8 @@ uint32_t pcache_manager_load(pcache_handle *manager, const uint8_t *bytes, size_
 
 /* ---- a cache with its requests ---- */
 
-/* A request is a number that is good for its cache until it is ended; one that is not good is
- * refused as PCACHE_BAD_HANDLE. A call that may not be made where the request stands is
+/* A request is a number that is good for the cache that gave it, until it is ended; one that was
+ * ended is refused as PCACHE_BAD_HANDLE, and one that another cache gave may name another request. A call that may not be made where the request stands is
  * PCACHE_WRONG_CALL and changes nothing. */
 
 typedef struct pcache_cache_counts {

@@ -89,6 +89,30 @@ fn wait_and_read(cache: &Cache) -> Result<(), Refused> {
     finish(&mut writer)
 }
 
+/// A request that reads a stale body while another renews it, and then the new one: nothing of the older body is left.
+fn stale_then_fresh(cache: &Cache) -> Result<(), Refused> {
+    let mut writer = cache.request(b"ee", "1")?;
+    let mut reader = cache.request(b"ee", "1")?;
+    writer.look(NOW)?;
+    writer.take(false, NOW)?;
+    reader.look(NOW)?;
+    reader.take(false, NOW)?;
+    print!("held {} and {}, ", number_of(writer.held()?), number_of(reader.held()?));
+    read_once(&mut reader)?;
+    print!(" ");
+    begin(&mut writer)?;
+    writer.write(b"xyz", true)?;
+    finish(&mut writer)?;
+    let outcome = reader.wait(NOW)?;
+    print!("wait {outcome} found {}, ", u32::from(reader.look(NOW)?));
+    reader.take(true, NOW)?;
+    for _ in 0..3 {
+        read_once(&mut reader)?;
+    }
+    println!();
+    Ok(())
+}
+
 fn purge(cache: &Cache, key: &str) -> Result<(), Refused> {
     let was = cache.request(key.as_bytes(), "1")?.purge()?;
     println!("purge {key}: {}", u32::from(was));
@@ -127,6 +151,8 @@ fn main() -> Result<(), Refused> {
     purge(&cache, "bb")?;
     hit(&cache, "bb")?;
     print_totals(&cache);
+    fill(&cache, "ee", b"abc")?;
+    stale_then_fresh(&cache)?;
     refused(&cache)?;
     cache.request(b"dd", "1")?.look(NOW)?;
     Ok(())

@@ -1,6 +1,6 @@
 //! What the requests of a cache do. Each call tests what the call that it makes requires.
 
-ghost use Rattle.std.specs.Prelude.{◌≡◌, IfOk, IfSome, OnOk, is_some, None, Some, true, option_map};
+ghost use Rattle.std.specs.Prelude.{◌≡◌, IfOk, IfSome, OnOk, is_some, [], None, Some, true, option_map};
 ghost use Rattle.pcache_base.specs.Key.{slot};
 ghost use Rattle.pcache_lock.specs.declared.lock.status.LockStatus.TheVariants.{Done, GiveUp};
 ghost use Rattle.pcache_request.specs.Phases.{IsDisabled};
@@ -122,12 +122,23 @@ pub(crate) fn look(cache: &mut ListCache, open: &mut Open, now: Moment) -> Resul
     }
 }
 
-/// Takes what a look-up found.
+// Forgets what was read and not handed over: it is of another body than what is read from here on.
+fn forget_piece(open: &mut Open)
+    ensures piece { open.new.piece ≡ [] }
+    ensures request { open.new.request ≡ open.old.request }
+    ensures found { open.new.found ≡ open.old.found }
+{
+    open.piece = Bytes::new();
+    open.place = 0;
+}
+
+/// Takes what a look-up found. Of what was read before, nothing is handed over any more.
 pub(crate) fn take(cache: &mut ListCache, open: &mut Open, status: HitStatus, now: Moment) -> u32
     ensures request { result ≡ 0 → IfSome open.old.found (λ p. open.new.request.cache
         ≡ found_row status p.0 (reader_of p.1) cache.old.locks open.old.request.cache) }
     ensures tracked { result ≡ 0 → IfSome open.old.found (λ p. cache.new.tracked ≡ tracked_found status
         (reader_of p.1) (write_read (reader_of p.1)) open.old.request.cache cache.old.tracked) }
+    ensures piece { result ≡ 0 → open.new.piece ≡ [] }
 {
     if !open.request.cache.phase().may_look_up() {
         return WRONG_CALL;
@@ -136,7 +147,10 @@ pub(crate) fn take(cache: &mut ListCache, open: &mut Open, status: HitStatus, no
         return NONE;
     };
     match cache.cache_found(&mut open.request, meta, hit, status, now) {
-        Ok(()) => OK,
+        Ok(()) => {
+            forget_piece(open);
+            OK
+        }
         Err(e) => code_of(e),
     }
 }
@@ -219,19 +233,23 @@ pub(crate) fn vary(cache: &mut ListCache, open: &mut Open, variance: Option<Hash
     OK
 }
 
-/// Begins the write.
+/// Begins the write, which the request reads from here on.
 pub(crate) fn begin(cache: &mut ListCache, open: &mut Open) -> u32
     ensures request { result ≡ 0 → open.new.request.cache ≡ writing true cache.old.store.next (Some cache.old.store.next)
         (begun_for open.old.request.cache.key open.old.request.cache.meta cache.old.store) open.old.request.cache }
     ensures store { result ≡ 0 → cache.new.store
         ≡ store_writing true cache.old.store.next open.old.request.cache cache.old.store }
     ensures table { result ≡ 0 → cache.new.locks ≡ settled Done open.old.request.cache.held cache.old.locks }
+    ensures piece { result ≡ 0 → open.new.piece ≡ [] }
 {
     if !open.request.cache.may_write() {
         return WRONG_CALL;
     }
     match cache.set_miss_handler(&mut open.request) {
-        Ok(()) => OK,
+        Ok(()) => {
+            forget_piece(open);
+            OK
+        }
         Err(e) => code_of(e),
     }
 }
@@ -318,8 +336,7 @@ pub(crate) fn finish_hit(cache: &mut ListCache, open: &mut Open) -> u32 {
     if !open.request.cache.phase().may_finish_hit() {
         return WRONG_CALL;
     }
-    open.piece = Bytes::new();
-    open.place = 0;
+    forget_piece(open);
     match cache.finish_hit_handler(&mut open.request) {
         Ok(()) => OK,
         Err(e) => code_of(e),
@@ -371,8 +388,7 @@ pub(crate) fn disable(cache: &mut ListCache, open: &mut Open, reason: NoCacheRea
         return WRONG_CALL;
     }
     pass(cache, open);
-    open.piece = Bytes::new();
-    open.place = 0;
+    forget_piece(open);
     cache.disable(&mut open.request, reason);
     OK
 }
