@@ -166,21 +166,22 @@ def used(text):
 
 def head_of(lines, at, kind):
     """The signature that begins at a line, on one line, and the conditions of the contract behind it."""
-    head, conditions = [], []
+    head, conditions, in_contract = [], [], False
     while True:
         line = lines[at]
         text = line.strip()
         if CLAUSE.match(line):
+            in_contract = True
             clause = re.match(r"requires\*? ?(\w+)? ?\{ ?(.*?) ?\}?$", text)
             if clause:
                 conditions.append(clause[2])
-        elif text == "{" or (conditions and text.startswith("{")):
+        elif text == "{" or (in_contract and text.startswith("{")):
             break
-        elif not conditions and not head_done(head):
+        elif not in_contract and not head_done(head):
             head.append(text)
-        if text.endswith("{") or text.endswith(";") or text.endswith("}"):
-            if not CLAUSE.match(line) or text.endswith("};"):
-                break
+        # a clause may go on over several lines, so only the end of the item is one there
+        if text.endswith("};") or (not in_contract and text.endswith(("{", ";", "}"))):
+            break
         at += 1
     text = " ".join(head)
     if kind in ("struct", "enum", "trait"):

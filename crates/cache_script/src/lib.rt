@@ -2,7 +2,7 @@
 //! Scripts of cache calls: each line is a call of a world, and has a reply of one line.
 //!
 //! - `replay`: runs a script
-//! - `torment`: runs one whose calls may be refused, and tells all of each call
+//! - `torment`: runs one whose calls may fail, and writes all that each call did
 //! - `script`: a line as a call
 //! - `reply`: a reply as a line
 //! - `told`: an entry of a history as lines

@@ -27,7 +27,7 @@ fn one_second(_status: StatusCode) -> Option<Duration>
     Some(Duration::from_secs(1))
 }
 
-// What is said of a response by defaults that give each status a second, and no window.
+// The decision on a response by defaults that give each status a second, and no window.
 fn by_one_second(
     alloc: Global,
     header: ResponseHeader,

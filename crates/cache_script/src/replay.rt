@@ -16,7 +16,7 @@ use std::io;
 use std::io::{BufRead, BufReader, BufWriter, Read, Write};
 use std::time::Duration;
 
-/// After how many seconds a permit ages out.
+/// The age in seconds at which a permit is too old.
 pub(crate) const AGE_TIMEOUT_SECS: u64 = 10;
 
 /// Why a run ended early.
@@ -30,7 +30,7 @@ pub(crate) enum Stop {
 }
 
 impl Stop {
-    /// Writes what was wrong, as a line.
+    /// Writes what was wrong, as one line.
     pub(crate) fn tell<E: Write>(&self, errors: &mut E) {
         let _ = match self {
             Stop::BadArguments => writeln!(errors, "bad arguments"),
@@ -45,13 +45,15 @@ impl Stop {
 /// A manager's limits, as the arguments give them.
 #[derive(Clone, Copy)]
 pub(crate) struct Limits {
+    /// The limit on weight.
     pub weight: usize,
+    /// The limit on the number of entries, if there is one.
     pub watermark: Option<usize>,
 }
 
-/// Runs the script that `input` has, with `LIMIT [WATERMARK]` as arguments, and writes one reply a
-/// line. Managers are saved in `files` and loaded from there. Answers the status: 0, or 1 after a line
-/// to `errors` that says what was wrong.
+/// Runs the script that `input` has, with `LIMIT [WATERMARK]` as arguments, and writes one reply for
+/// each line. Managers are saved in `files` and loaded from there. Returns the status: 0, or 1 after a
+/// line to `errors` that says what was wrong.
 pub fn replay<F: Files, R: Read + Drop, W: Write + Drop, E: Write>(
     alloc: Global,
     args: &[String],
@@ -70,8 +72,8 @@ pub fn replay<F: Files, R: Read + Drop, W: Write + Drop, E: Write>(
     1
 }
 
-/// Says on `errors` why the arguments could not be read at all, by the kind of the failure: `out of memory`, or
-/// `bad arguments` if one is no text. Answers the status, 1.
+/// Writes to `errors` why the arguments could not be read at all, by the kind of the failure: `out of memory`,
+/// or `bad arguments` if one is not UTF-8. Returns the status, 1.
 pub fn refuse_arguments<E: Write>(kind: io::ErrorKind, errors: &mut E) -> u8
     ensures { result ≡ 1 }
 {
@@ -92,7 +94,7 @@ fn run<F: Files, R: Read + Drop, W: Write + Drop>(
     output: W,
 ) -> Result<(), Stop> {
     let limits = read_limits(args).ok_or(Stop::BadArguments)?;
-    // A replay is to be the same again, so nothing is drawn.
+    // A replay has to repeat exactly, so the seed is not drawn.
     let seed = Seed::fixed();
     let Ok(manager) = Manager::new_with_watermark(alloc, seed, limits.weight, limits.watermark)
     else {
@@ -141,7 +143,7 @@ fn run_lines<F: Files, R: BufRead, W: Write>(
     Ok(())
 }
 
-// Does what a line with this number asks for, and writes the reply.
+// Executes the line with this number, and writes the reply.
 fn run_line<F: Files, W: Write>(
     files: &F,
     world: &mut World<Manager, OneSecond>,
@@ -164,7 +166,7 @@ fn run_line<F: Files, W: Write>(
     written.map_err(|_| Stop::OutputFailed)
 }
 
-// Writes what a call answers. With no memory for its entry the run ends.
+// Writes the reply of a call. If there is no memory for its entry, the run ends.
 fn answer<W: Write>(
     writer: &mut W,
     made: pingora_cache::error::Result<Reply>,
@@ -180,7 +182,7 @@ fn suffix_of(number: u64) -> u32 {
     (number % (1 << 32)) as u32
 }
 
-/// Reads a line without its end, and answers whether there was one.
+/// Reads a line without its end, and returns whether there was one.
 pub(crate) fn read_line<R: BufRead>(reader: &mut R, line: &mut Vec<u8>) -> Result<bool, Stop> {
     let mut is_there = false;
     for _ in 0..u64::MAX {
@@ -224,7 +226,7 @@ pub(crate) fn read_limits(args: &[String]) -> Option<Limits> {
     }
 }
 
-// A decimal number, as those of scripts are.
+// A decimal number, in the form of scripts.
 fn number(word: &String) -> Option<usize> {
     match script::number(word.as_bytes()) {
         Ok(number) => usize::try_from(number).ok(),

@@ -43,7 +43,7 @@ pub fn write_reply<W: Write>(output: &mut W, reply: &Reply) -> io::Result<()> {
     }
 }
 
-/// Writes the numbers of the store and the manager as a line.
+/// Writes the counts of the store and the manager as a line.
 pub fn write_stat<W: Write>(
     output: &mut W,
     stored: u128,
@@ -81,7 +81,7 @@ fn write_outcome<W: Write>(output: &mut W, outcome: LockWaitOutcome) -> io::Resu
     }
 }
 
-// The number by which scripts name a refusal.
+// The number by which scripts name an error.
 fn error_number(kind: ErrorType) -> u8 {
     match kind {
         ErrorType::OutOfMemory => 1,

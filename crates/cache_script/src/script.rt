@@ -16,17 +16,18 @@ use pingora_cache::{CacheOptionOverrides, NoCacheReason};
 use std::alloc::{AllocError, AllocFailed, Global};
 use std::time::Duration;
 
-/// What a line asks for.
+/// What a line is.
 #[derive(Drop)]
 pub enum Line {
-    /// Nothing: it is empty, or a comment.
+    /// It is empty, or a comment.
     Skip,
-    /// The numbers of the store and the manager.
+    /// A request for the counts of the store and the manager.
     Stat,
     /// The moment of the lines that follow.
     At(Moment),
-    /// Save what the manager holds in this folder, or load it: calls of a world that is lent files.
+    /// Saves the manager in this folder, or loads it: calls of a world with files.
     Save(String),
+    /// Loads the manager from this folder.
     Load(String),
     /// A call of the world.
     Call(Call),
@@ -35,7 +36,9 @@ pub enum Line {
 /// Why a line was not read.
 #[derive(Debug, Drop)]
 pub enum Unread {
+    /// It is not of the form of a line.
     BadCall,
+    /// Memory ran out.
     OutOfMemory,
 }
 
@@ -51,7 +54,7 @@ impl<T: Drop> From<AllocFailed<T>> for Unread {
     }
 }
 
-// The words of a line that are still to be read. Words stand between spaces.
+// The words of a line that are not read yet. Spaces separate words.
 #[derive(Drop)]
 struct Words<'a>(&'a [u8]);
 
@@ -72,7 +75,7 @@ impl<'a> Words<'a> {
         self.next().ok_or(Unread::BadCall)
     }
 
-    // The next word, where it is one that scripts have: they are texts.
+    // The next word, where a word of the script language is expected: these are UTF-8.
     fn name(&mut self) -> Result<&'a str, Unread> {
         name(self.word()?)
     }
@@ -81,7 +84,7 @@ impl<'a> Words<'a> {
         number(self.word()?)
     }
 
-    // What stands after this prefix, if the next word begins with it.
+    // The rest of the next word after this prefix, if the word begins with it.
     fn option(&mut self, prefix: &[u8]) -> Option<&'a [u8]> {
         let before = self.0;
         let word = self.next()?;
@@ -92,7 +95,7 @@ impl<'a> Words<'a> {
         value
     }
 
-    // The line ends here.
+    // Succeeds if the line ends here.
     fn end(mut self) -> Result<(), Unread> {
         match self.next() {
             Some(_) => Err(Unread::BadCall),
@@ -230,7 +233,7 @@ fn read_put_call(
     }
 }
 
-// A line about the variants of a key, or the meta of a stale body that is good.
+// A line about the variants of a key, or the meta of a stale body that is still valid.
 fn read_variant_call(
     alloc: Global,
     word: &str,
@@ -268,7 +271,7 @@ fn fresh_until(alloc: Global, seconds: u64, now: Moment) -> CacheMeta {
     CacheMeta::new(Moment::from_secs(seconds), now, 0, 0, header)
 }
 
-// A place in a body. Every number of 64 bits is one.
+// An index into a body. Every number of 64 bits is allowed.
 fn place(word: &[u8]) -> Result<usize, Unread> {
     usize::try_from(number(word)?).map_err(|_| Unread::BadCall)
 }
@@ -321,7 +324,7 @@ fn tokens(alloc: Global, words: &mut Words<'_>) -> Result<Vec<u64>, Unread> {
     Ok(tokens)
 }
 
-// For how many seconds a request waits for locks, if that is limited.
+// The options of a request's lock: for how many seconds it waits, if that is limited.
 fn options(words: &mut Words<'_>) -> Result<Option<CacheOptionOverrides>, Unread> {
     let Some(word) = words.option(b"w=") else {
         return Ok(None);
@@ -340,7 +343,7 @@ fn is_on(word: &str) -> Result<bool, Unread> {
     }
 }
 
-// A reason by its word. A caller's own has none.
+// A reason by its word. A caller's own reason has no word.
 fn reason(word: &str) -> Result<NoCacheReason, Unread> {
     match word {
         "NeverEnabled" => Ok(NoCacheReason::NeverEnabled),
@@ -359,13 +362,13 @@ fn reason(word: &str) -> Result<NoCacheReason, Unread> {
     }
 }
 
-// A key by its primary and its tag.
+// A key, of its primary text and its tag.
 fn plain_key(alloc: Global, words: &mut Words<'_>) -> Result<CacheKey, Unread> {
     let primary = text(alloc, words.word()?)?;
     Ok(CacheKey::new(primary, text_of(alloc, words.word()?)?))
 }
 
-// A key, and after it if they are given its variance and the fills that it cannot use.
+// A key, perhaps followed by its variance and the fills that it cannot use.
 fn key(alloc: Global, words: &mut Words<'_>) -> Result<CacheKey, Unread> {
     let mut key = plain_key(alloc, words)?;
     if let Some(word) = words.option(b"v=") {
@@ -416,9 +419,9 @@ fn status(word: &str) -> Result<HitStatus, Unread> {
     }
 }
 
-// A response of status 200 that was made now and is fresh until the second that stands first. Two
-// windows may follow: for how many seconds it may be served stale while it is renewed, and if
-// that fails; without them it is not served stale.
+// A response of status 200 that was made now and is fresh until the second that comes first. Two
+// windows may follow: for how many seconds it may be served stale while it is renewed, and if that
+// fails; without them it is not served stale.
 fn meta(alloc: Global, words: &mut Words<'_>, now: Moment) -> Result<CacheMeta, Unread> {
     let fresh_until = Moment::from_secs(words.number()?);
     let (while_revalidate, if_error) = match words.next() {
@@ -442,7 +445,7 @@ fn ends_with_eof(words: &mut Words<'_>) -> Result<bool, Unread> {
     }
 }
 
-// A word that is to be one of those that scripts have: they are texts.
+// A word of the script language: these are UTF-8.
 fn name(word: &[u8]) -> Result<&str, Unread> {
     std::str::from_utf8(word).map_err(|_| Unread::BadCall)
 }
@@ -466,7 +469,7 @@ pub(crate) fn number(word: &[u8]) -> Result<u64, Unread> {
     Ok(value)
 }
 
-// The bytes that a word spells: a backslash begins an escape, all else stands for itself.
+// The bytes that a word spells: a backslash begins an escape; every other byte means itself.
 fn text(alloc: Global, word: &[u8]) -> Result<Vec<u8>, Unread> {
     let mut bytes = Vec::new(alloc);
     if word == b"\\e".as_slice() {

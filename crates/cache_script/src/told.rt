@@ -137,7 +137,7 @@ fn write_meta<W: Write>(output: &mut W, meta: &Boxed<CacheMeta>) -> io::Result<(
     }
 }
 
-// The number of a hash, big end first.
+// The number of a hash, high byte first.
 fn write_hash<W: Write>(output: &mut W, hash: HashBinary) -> io::Result<()> {
     let number = u128::from_be_bytes(hash);
     write!(output, "{number:x}")

@@ -1,7 +1,8 @@
 //! Running a script whose requests for memory may be refused.
 //!
-//! A refused call ends nothing: the next line follows. After each call the reply is told, what the history has of
-//! it, the world's numbers and the length of the history, so that all of it can be compared with the definitions.
+//! A failed call does not end the run: the next line follows. After each call the program writes the reply, the
+//! entry of the history, the world's counts and the length of the history, so that all of it can be compared with
+//! the definitions.
 ghost use Rattle.std.specs.Prelude.{◌≤◌};
 
 use crate::policy::OneSecond;
@@ -19,12 +20,12 @@ use std::io;
 use std::io::{BufRead, BufReader, BufWriter, Read, Write};
 use std::time::Duration;
 
-// How many bytes a line may have before reading it asks for more memory.
+// How many bytes a line may have before reading it takes more memory.
 const LINE: usize = 4096;
 
 /// Runs the script that `input` has, with `MANAGER LIMIT [WATERMARK]` as arguments, where MANAGER is `simple`, or
-/// `shards` for the manager in two shards, and tells of each line. Answers the status: 0, or 1 after a line to
-/// `errors` that says what was wrong.
+/// `shards` for the manager in two shards, and writes what each line did. Returns the status: 0, or 1 after a
+/// line to `errors` that says what was wrong.
 pub fn torment<R: Read + Drop, W: Write + Drop, E: Write>(
     alloc: Global,
     args: &[String],
@@ -141,8 +142,7 @@ fn run_lines<M: EvictionManager, R: BufRead, W: Write>(
     Ok(())
 }
 
-// Does what a line asks for, and tells of it. There are no files: a save or a load is refused as by a device that is not
-// there.
+// Executes a line, and writes what it did. There are no files: a save or a load fails as if the device failed.
 fn run_line<M: EvictionManager, W: Write>(
     world: &mut World<M, OneSecond>,
     line: Line,
@@ -162,7 +162,7 @@ fn run_line<M: EvictionManager, W: Write>(
     }
 }
 
-// Makes a call, and tells what it added to the history.
+// Makes a call, and writes what it added to the history.
 fn run_call<M: EvictionManager, W: Write>(
     world: &mut World<M, OneSecond>,
     call: Call,

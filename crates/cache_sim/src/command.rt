@@ -4,7 +4,7 @@ use cache_simulation::options::Words;
 use clap::{Arg, ArgMatches, Command};
 use std::alloc::{AllocError, Global};
 
-/// The options, with what stands for those that are not given.
+/// The options, with their defaults.
 pub fn command<'a>(alloc: Global) -> Result<Command<'a>, AllocError> {
     let command = Command::new(alloc, "cache_sim").about(
         "Tells what caches of some sizes and policies would have served of a trace of requests.",

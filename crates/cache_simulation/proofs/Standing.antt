@@ -72,7 +72,7 @@ runs-of rules s t [] (e ∷ es) p = absurd p
 runs-of rules s t (a ∷ requests) [] p = absurd p
 runs-of rules s t (a ∷ requests) (e ∷ es) (between, becomes, rest) = (between.tracked, becomes.leads, runs-of rules between t requests es rest)
 
--- one request more at the end
+-- one more request at the end
 pub plays-more : (rules : Rules) (s t u : State) (requests : List Request) (es : List Event) (a : Request) (e : Event) → Plays rules s requests es t → Becomes rules t a e u → Plays rules s (requests ++ a ∷ []) (es ++ e ∷ []) u
 plays-more rules s t u [] [] a e p b = (u, subst (λ s. Becomes rules s a e u) p b, refl)
 plays-more rules s t u [] (f ∷ es) a e p b = absurd p

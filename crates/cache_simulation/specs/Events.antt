@@ -1,4 +1,4 @@
--- What becomes of the requests of a trace, and what that does to what a manager tracks (own).
+-- The events of a trace's requests, and how they change what a manager tracks (own).
 use Rattle.std.specs.Prelude.{◌≡◌, ℕ, ◌+◌, Bool, true, false, ◌&&◌, ◌||◌, not, List, [], ◌∷◌, length, sum_by, if◌then◌else◌}
 use Rattle.std.specs.List.{list_any}
 use Rattle.std.specs.Ordering.{eq_by_cmp}
@@ -7,28 +7,32 @@ use Rattle.pcache_evict.specs.declared.eviction.entry_key.CacheEntryKey.{CacheEn
 use Rattle.pcache_evict.specs.Entry.{entry_cmp}
 use Rattle.pcache_evict.specs.Tracked.{Tracked, Limits, IsFair, without}
 
--- a request for a body of some size: a stored one answers it; or it comes in, and these go; or it is passed by
+-- a request for a body of some size: a stored one serves it; or it is added, and these are evicted; or it is not
+-- stored
 pub data Event : Type 0 where
   Hit : CacheEntryKey → ℕ → Event
   Came : CacheEntryKey → ℕ → List CacheEntryKey → Event
   Passed : CacheEntryKey → ℕ → Event
 
+-- the entry of an event
 abbrev pub key_in : Event → CacheEntryKey
 key_in (Hit k n) = k
 key_in (Came k n out) = k
 key_in (Passed k n) = k
 
+-- the size of an event's entry, in bytes
 abbrev pub size_in : Event → ℕ
 size_in (Hit k n) = n
 size_in (Came k n out) = n
 size_in (Passed k n) = n
 
+-- the entry was found
 abbrev pub is_hit : Event → Bool
 is_hit (Hit k n) = true
 is_hit (Came k n out) = false
 is_hit (Passed k n) = false
 
--- what is tracked after an event: a hit is of what is tracked, and what goes is a fair eviction
+-- what is tracked after an event: a hit is of a tracked entry, and what is evicted is a fair eviction
 abbrev pub Leads : Limits → Tracked → Event → Tracked → Type 0
 Leads limits m (Hit k n) m' = (contains_key m k ≡ true) × (m' ≡ m)
 Leads limits m (Came k n out) m' = IsFair limits (insert m k n) out × (m' ≡ without out (insert m k n))
@@ -39,7 +43,7 @@ abbrev pub RunsTo : Limits → Tracked → List Event → Tracked → Type 0
 RunsTo limits m [] after = after ≡ m
 RunsTo limits m (e ∷ es) after = (m' : Tracked) × Leads limits m e m' × RunsTo limits m' es after
 
--- an entry stands after a past (the last event first) if it came in and did not go since
+-- an entry stands after a past (the last event first) if it was added and has not left since
 abbrev pub stands : CacheEntryKey → List Event → Bool
 stands k [] = false
 stands k (Hit j n ∷ past) = stands k past
@@ -53,12 +57,14 @@ HitsStand past (Hit k n ∷ es) = (stands k past ≡ true) × HitsStand (Hit k n
 HitsStand past (Came k n out ∷ es) = HitsStand (Came k n out ∷ past) es
 HitsStand past (Passed k n ∷ es) = HitsStand (Passed k n ∷ past) es
 
--- the hits of these events, what their bodies weigh, and what all bodies weigh
+-- the number of hits of these events
 abbrev pub hits_of : List Event → ℕ
 hits_of es = sum_by (λ e. if is_hit e then 1 else 0) es
 
+-- the number of bytes of the bodies that were found
 abbrev pub hit_bytes_of : List Event → ℕ
 hit_bytes_of es = sum_by (λ e. if is_hit e then size_in e else 0) es
 
+-- the number of bytes of all bodies that were asked for
 abbrev pub bytes_of : List Event → ℕ
 bytes_of es = sum_by size_in es

@@ -1,4 +1,4 @@
--- The code of what is noted of freshness (own).
+-- An encoding of what is recorded of freshness, which the value of a model needs (own).
 use Rattle.std.specs.Prelude.{ℕ, refl}
 use Rattle.std.specs.Coded.{Coded, code_by, coded×, coded_ℕ}
 use Rattle.std.specs.FinMap.{code}

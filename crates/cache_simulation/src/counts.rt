@@ -1,16 +1,16 @@
-//! What is counted of a trace.
+//! The counts over a trace.
 ghost use Rattle.std.specs.Prelude.{◌≡◌, ◌+◌, ◌*◌, ◌-◌, ◌^◌, ◌<◌, ◌≤◌, true, false, if◌then◌else◌};
 
-/// What was counted over a trace.
+/// The counts over a trace.
 #[derive(Clone, Copy, Debug)]
 pub struct Counts {
-    /// The requests.
+    /// The number of requests.
     pub requests: u64,
-    /// Those that a stored body answered.
+    /// How many of these stored bodies served.
     pub hits: u64,
-    /// The bytes of the bodies that were asked for.
+    /// The number of bytes of the requested bodies.
     pub bytes: u128,
-    /// Those that a stored body answered.
+    /// How many of these stored bodies served.
     pub hit_bytes: u128,
     pub ghost few: { hits ≤ requests },
     pub ghost light: { bytes ≤ requests * (2 ^ 64 - 1) },
@@ -18,7 +18,7 @@ pub struct Counts {
 }
 
 impl Counts {
-    /// Nothing yet.
+    /// Counts of zero.
     pub fn none() -> Counts
         ensures { (result.requests ≡ 0) × (result.hits ≡ 0) × (result.bytes ≡ 0) × (result.hit_bytes ≡ 0) }
     {
@@ -30,21 +30,21 @@ impl Counts {
         }
     }
 
-    /// The requests that no stored body answered.
+    /// The number of requests that no stored body served.
     pub fn misses(&self) -> u64
         ensures { self.now.hits + result ≡ self.now.requests }
     {
         self.requests - self.hits
     }
 
-    /// The bytes that no stored body answered.
+    /// The number of bytes that no stored body served.
     pub fn miss_bytes(&self) -> u128
         ensures { self.now.hit_bytes + result ≡ self.now.bytes }
     {
         self.bytes - self.hit_bytes
     }
 
-    /// Whether no request can be counted any more.
+    /// Whether no more requests can be counted.
     pub fn is_full(&self) -> bool
         ensures full { result ≡ true → self.now.requests ≡ 2 ^ 64 - 1 }
         ensures room { result ≡ false → self.now.requests < 2 ^ 64 - 1 }

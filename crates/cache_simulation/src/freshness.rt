@@ -1,4 +1,4 @@
-//! Until when bodies are fresh, if they do not stay fresh for ever.
+//! Until when bodies are fresh, if that is limited.
 ghost use Rattle.std.specs.Prelude.{◌≡◌, ◌+◌, OnOk, IfErr};
 ghost use Rattle.std.specs.Duration.{as_nanos};
 ghost use Rattle.std.specs.FinMap as map;
@@ -17,7 +17,7 @@ use std::collections::HashMap;
 use std::marker::Model;
 use std::time::Duration;
 
-/// How long bodies are fresh, and when each stored one came in.
+/// How long bodies are fresh, and when each stored body was added.
 #[derive(Drop)]
 pub struct Freshness {
     alloc: Global,
@@ -39,7 +39,7 @@ impl Model for Freshness {
 }
 
 impl Freshness {
-    /// Bodies are fresh for so long once they came in.
+    /// Bodies are fresh for this time after they were added.
     pub fn new(alloc: Global, time: Duration) -> Freshness
         ensures { result ≡ none_fresh (as_nanos time) }
     {
@@ -50,7 +50,8 @@ impl Freshness {
         }
     }
 
-    /// Whether a stored body is fresh at a moment, as its meta says: its time ends then or later.
+    /// Whether a stored body is fresh at a moment, as its meta says: its freshness ends at that
+    /// moment or later.
     pub fn is_fresh(&self, item: &CacheEntryKey, now: Moment) -> bool
         ensures { result ≡ is_fresh_since (map.get self.now.came item.now) self.now.time now }
     {
@@ -60,7 +61,7 @@ impl Freshness {
         }
     }
 
-    /// Notes when a body came in.
+    /// Records when a body was added.
     pub fn set(&mut self, item: CacheEntryKey, now: Moment) -> Result<()>
         ensures ok { OnOk result (self.new ≡ record self.old { came = map.insert self.old.came item now }) }
         ensures kind { IfErr result (λ e. e ≡ OutOfMemory) }
@@ -69,7 +70,7 @@ impl Freshness {
         Ok(())
     }
 
-    /// Forgets bodies that went.
+    /// Forgets bodies that were evicted.
     pub fn forget(&mut self, gone: &[CacheEntryKey])
         ensures { self.new ≡ record self.old { came = without gone.now self.old.came } }
     {
@@ -86,8 +87,8 @@ impl Freshness {
     }
 }
 
-// Whether the meta that a body was given when it came in is fresh now. It says until when the body is fresh alone, so it is
-// made when it is asked; a time that ends at no moment does not end.
+// Whether the meta of a body that was added at `came` is fresh now. The meta says only until when the body is fresh, so it
+// is made when it is needed; if its end is out of range, it stays fresh.
 fn is_meta_fresh(alloc: Global, came: Moment, time: Duration, now: Moment) -> bool
     ensures { result ≡ is_fresh_at (came + as_nanos time) now }
 {

@@ -1,4 +1,4 @@
-//! What holds of every run of a manager over a trace.
+//! Laws of all runs of a manager over a trace.
 ghost use Rattle.std.specs.Prelude.{◌≡◌, List, []};
 ghost use Rattle.std.specs.FinMap as map;
 ghost use Rattle.pcache_evict.specs.Tracked.{Tracked, Limits, IsWithin};
@@ -7,18 +7,18 @@ ghost use Rattle.cache_simulation.specs.declared.run.Request.{Request};
 ghost use Rattle.cache_simulation.specs.Events.{Event, RunsTo, HitsStand};
 ghost use Rattle.cache_simulation.specs.Plays.{Rules, State, Plays};
 
-/// A hit is of an entry that came in before and did not go since, in every run that begins with
-/// nothing.
+/// In every run that begins empty, a hit is of an entry that was added before and has not left
+/// since.
 pub fn hits_stand()
     ensures { (limits : Limits) (es : List Event) (after : Tracked) → RunsTo limits map.empty es after → HitsStand [] es }
 {}
 
-/// What is tracked is within the limits after every event, if it was before.
+/// The tracked entries are within the limits after every event, if they were before.
 pub fn stays_within()
     ensures { (limits : Limits) (m : Tracked) (es : List Event) (after : Tracked) → IsWithin limits m → RunsTo limits m es after → IsWithin limits after }
 {}
 
-/// The events that requests are, are a run.
+/// The events of requests are a run.
 pub fn plays_are_runs()
     ensures { (rules : Rules) (s t : State) (requests : List Request) (es : List Event) → Plays rules s requests es t → RunsTo rules.limits s.tracked es t.tracked }
 {}

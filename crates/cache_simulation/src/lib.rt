@@ -1,16 +1,16 @@
 #![tactic(auto)]
 //! What caches of some sizes and policies would have served of a trace of requests.
 //!
-//! - `counts`: what is counted of a trace
+//! - `counts`: the counts over a trace
 //! - `freshness`: until when bodies are fresh
-//! - `laws`: what holds of every run
+//! - `laws`: laws of all runs
 //! - `lines`: the lines of a reader, one after the other
 //! - `options`: the words of the command line
-//! - `progress`: how far a simulation is
+//! - `progress`: the progress of a simulation
 //! - `report`: tables, rows for plots, and a drawing
 //! - `run`: one manager over a trace
 //! - `runs`: the managers of a simulation
-//! - `sample`: which keys stand for all
+//! - `sample`: a sample of the keys, which represents all
 //! - `simulation`: a trace from its first line to the report
 //! - `trace`: the lines of a trace
 

@@ -5,7 +5,7 @@ use std::alloc::Global;
 use std::io;
 use std::io::{BufRead, BufReader, Read};
 
-/// Lines that are read one after the other, in the memory of one of them.
+/// Lines that are read one after the other, into one buffer.
 #[derive(Drop)]
 pub(crate) struct Lines<R: Read + Drop> {
     reader: BufReader<R>,
@@ -28,12 +28,12 @@ impl<R: Read + Drop> Lines<R> {
         self.line.as_slice()
     }
 
-    /// How many bytes were read; the largest number if they are more.
+    /// How many bytes were read; the largest number if there are more.
     pub(crate) fn bytes_read(&self) -> u64 {
         self.read
     }
 
-    /// Reads the next line, and answers whether there was one.
+    /// Reads the next line, and returns whether there was one.
     pub(crate) fn advance(&mut self) -> Result<bool, Stop> {
         self.line.clear();
         let mut is_there = false;
@@ -52,7 +52,8 @@ impl<R: Read + Drop> Lines<R> {
     }
 }
 
-// Adds what is at hand of a line: how many bytes that were, and whether the line ended. `None` at the end.
+// Adds the part of a line that the reader has: how many bytes that were, and whether the line ended.
+// `None` at the end.
 fn take<R: BufRead>(reader: &mut R, line: &mut Vec<u8>) -> Result<Option<(usize, bool)>, Stop> {
     for _ in 0..u64::MAX {
         let buffer = match reader.fill_buf() {

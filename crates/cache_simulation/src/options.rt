@@ -4,7 +4,7 @@ use crate::sample::{Sample, WHOLE};
 use crate::trace::Columns;
 use std::alloc::{AllocError, Global};
 
-/// Which entries go.
+/// Which entries are evicted.
 #[derive(Clone, Copy, Debug, PartialEq, Eq)]
 pub enum Policy {
     /// The least recently used ones.
@@ -13,7 +13,7 @@ pub enum Policy {
     Sharded,
     /// Those that were not used since the hand passed them.
     Sieve,
-    /// New ones that were not used soon, and then others that were not used.
+    /// New ones that were not used soon, then others that were not used.
     S3Fifo,
 }
 
@@ -33,9 +33,9 @@ impl Policy {
 /// What is written at the end.
 #[derive(Clone, Copy, Debug, PartialEq, Eq)]
 pub enum Output {
-    /// Lines to be read.
+    /// A table for reading.
     Table,
-    /// Values with commas, under a header.
+    /// Values separated by commas, under a header.
     Csv,
 }
 
@@ -44,12 +44,13 @@ pub enum Output {
 pub enum Size {
     /// So many bytes.
     Bytes(usize),
-    /// So many millionths of a percent of the bytes of all bodies of the trace, each once.
+    /// So many millionths of a percent of the total bytes of all bodies of the trace, each counted
+    /// once.
     Share(u64),
 }
 
 impl Size {
-    /// The size in bytes, if all bodies together have so many.
+    /// The size in bytes, if all bodies together have `distinct` bytes.
     pub fn in_bytes(self, distinct: u64) -> usize {
         match self {
             Size::Bytes(bytes) => bytes,
@@ -64,25 +65,25 @@ impl Size {
 /// The words of the command line, by option.
 #[derive(Clone, Copy)]
 pub struct Words<'a> {
-    /// The names of policies, with commas.
+    /// The names of policies, separated by commas.
     pub policy: &'a str,
-    /// Sizes, with commas.
+    /// Sizes, separated by commas.
     pub size: &'a str,
     /// The file of the trace.
     pub trace: Option<&'a str>,
-    /// The bytes of all bodies of the trace, each once.
+    /// The total bytes of all bodies of the trace, each counted once.
     pub distinct: Option<&'a str>,
     /// For how many seconds a body is fresh.
     pub ttl: Option<&'a str>,
-    /// What becomes of a body above the size of a cache.
+    /// What to do with a body larger than a cache.
     pub large: &'a str,
-    /// The names of columns, with commas.
+    /// The names of columns, separated by commas.
     pub columns: &'a str,
-    /// Which part of the keys stands for all.
+    /// Which share of the keys represents all.
     pub sample: &'a str,
     /// The number of that part.
     pub part: &'a str,
-    /// What is written.
+    /// The form of the output.
     pub format: &'a str,
     /// The file of the drawing.
     pub plot: Option<&'a str>,
@@ -90,7 +91,7 @@ pub struct Words<'a> {
     pub bad_lines: &'a str,
 }
 
-/// What the command line asks for.
+/// The options of the command line.
 #[derive(Debug, Drop)]
 pub struct Options {
     /// The policies.
@@ -99,17 +100,17 @@ pub struct Options {
     pub sizes: Vec<Size>,
     /// The file of the trace; standard input if there is none.
     pub trace: Option<String>,
-    /// The bytes of all bodies of the trace, each once, if they are given.
+    /// The total bytes of all bodies of the trace, each counted once, if they are given.
     pub distinct: Option<u64>,
-    /// For how many seconds a body is fresh; for ever if there is no number.
+    /// For how many seconds a body is fresh; without end if it is `None`.
     pub ttl: Option<u64>,
-    /// What is written.
+    /// The form of the output.
     pub output: Output,
-    /// Where the drawing goes.
+    /// The file of the drawing, if there is one.
     pub plot: Option<String>,
-    /// Which keys are asked for.
+    /// The keys whose requests are played.
     pub sample: Sample,
-    /// Whether a body above the size of a cache is passed by. If not, it lets all others go.
+    /// Whether a body larger than a cache is not stored. Otherwise it evicts all others.
     pub passes_by: bool,
     /// How many lines may be bad.
     pub bad_lines: u64,
@@ -118,7 +119,7 @@ pub struct Options {
 }
 
 impl Options {
-    /// Whether a size is a share of the bytes of all bodies.
+    /// Whether a size is a share of the total bytes of all bodies.
     pub fn have_share(&self) -> bool {
         self.sizes.iter().any(|size| matches!(size, Size::Share(_)))
     }
@@ -127,11 +128,11 @@ impl Options {
 /// Why the words cannot be used.
 #[derive(Clone, Copy, Debug, PartialEq, Eq)]
 pub enum Unusable {
-    /// The value of the option of this name is none.
+    /// The option with this name has a value that is not allowed.
     Value(&'static str),
-    /// A size in percent needs the bytes of all bodies, or a trace that can be read twice.
+    /// A size in percent needs the total bytes of all bodies, or a trace that can be read twice.
     NoDistinct,
-    /// There is no memory.
+    /// Memory ran out.
     Memory,
 }
 
@@ -220,7 +221,7 @@ fn sizes(alloc: Global, texts: &str) -> Result<Vec<Size>, Unusable> {
     Ok(sizes)
 }
 
-// A size in bytes, or in percent of the bytes of all bodies.
+// A size in bytes, or in percent of the total bytes of all bodies.
 fn read_size(text: &str) -> Option<Size> {
     match text.strip_suffix("%") {
         Some(percent) => Some(Size::Share(millionths(percent)?)),

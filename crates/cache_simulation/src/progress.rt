@@ -1,11 +1,11 @@
-//! How far a simulation is.
+//! The progress of a simulation.
 
 use crate::simulation::Stop;
 use std::io::Write;
 use std::rt::Clock;
 use std::time::Instant;
 
-// So many bad lines are named.
+// How many bad lines are named.
 const NAMED: u64 = 10;
 
 /// What was read so far.
@@ -19,7 +19,7 @@ pub(crate) struct Progress {
 }
 
 impl Progress {
-    /// Nothing was read yet, of a trace of so many bytes if that is known.
+    /// The state before the first line, of a trace of so many bytes if that is known.
     pub(crate) fn start<C: Clock>(rt: &C, length: Option<u64>) -> Result<Progress, Stop> {
         Ok(Progress {
             start: Instant::now(rt).map_err(Stop::Io)?,
@@ -29,7 +29,8 @@ impl Progress {
         })
     }
 
-    /// A first line that is no request is a header; further ones are counted, and the first are named.
+    /// Takes a line that is no request: the first line is then a header; others are counted, and the
+    /// first of them named.
     pub(crate) fn bad_line<E: Write>(&mut self, most: u64, errors: &mut E) -> Result<(), Stop> {
         if self.lines == 1 {
             return Ok(());
@@ -44,7 +45,7 @@ impl Progress {
         Ok(())
     }
 
-    /// Says how far it is, once so many bytes were read.
+    /// Writes the progress after so many bytes were read.
     pub(crate) fn say<C: Clock, E: Write>(
         &self,
         rt: &C,
@@ -67,13 +68,13 @@ impl Progress {
         written.map_err(Stop::Io)
     }
 
-    // How many seconds it takes still, if it goes on as it went.
+    // How many seconds it will still take, at the same speed.
     fn left(&self, bytes: u64, millis: u128) -> Option<u128> {
         let rest = self.length?.saturating_sub(bytes) as u128;
         Some(rest.saturating_mul(millis).checked_div(bytes as u128)? / 1000)
     }
 
-    /// Says at the end how many lines were bad, if there were any.
+    /// Writes at the end how many lines were bad, if there were any.
     pub(crate) fn say_bad<E: Write>(&self, errors: &mut E) -> Result<(), Stop> {
         if self.bad == 0 {
             return Ok(());

@@ -6,22 +6,22 @@ use crate::options::Output;
 use std::io;
 use std::io::Write;
 
-/// What one cache did of a trace.
+/// The results of one cache over a trace.
 #[derive(Clone, Copy, Debug)]
 pub struct Row {
     /// The name of its policy.
     pub policy: &'static str,
     /// Its size, in bytes.
     pub size: usize,
-    /// What was counted.
+    /// The counts.
     pub counts: Counts,
     /// How many entries were evicted.
     pub evicted: usize,
-    /// How many bytes are tracked at the end.
+    /// The sum of the weights of the tracked entries at the end, in bytes.
     pub tracked: usize,
 }
 
-// The hundredths of a percent that a part is of a whole.
+// The share of a part in a whole, in hundredths of a percent.
 fn ratio(part: u128, whole: u128) -> u128 {
     part.saturating_mul(10_000).checked_div(whole).unwrap_or(0)
 }
@@ -74,7 +74,7 @@ fn write_line<W: Write>(out: &mut W, row: &Row) -> io::Result<()> {
     )
 }
 
-/// Draws the ratio of hits by size, a line for each policy, as SVG. The sizes stand side by side in the order in
+/// Draws the ratio of hits by size, a line for each policy, as SVG. The sizes are side by side in the order in
 /// which they were given.
 pub fn draw<W: Write>(out: &mut W, rows: &[Row], sizes: usize) -> io::Result<()> {
     writeln!(

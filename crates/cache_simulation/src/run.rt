@@ -23,27 +23,26 @@ pub struct Request {
     pub item: CacheEntryKey,
     /// The size of the body, in bytes.
     pub size: usize,
-    /// When it was asked for.
+    /// When it was requested.
     pub time: Moment,
 }
 
-/// A manager, and what was counted of the requests that it was given. It keeps weights and no
-/// bodies.
+/// A manager, and the counts of the requests that it got. It keeps weights and no bodies.
 #[derive(Drop)]
 pub struct Run<M: EvictionManager> {
-    /// Which entries are tracked.
+    /// The manager, which tracks the stored bodies.
     pub manager: M,
-    /// What was counted.
+    /// The counts.
     pub counts: Counts,
-    /// The size of the largest body that is not passed by, in bytes.
+    /// The size of the largest body that is stored, in bytes.
     pub most: usize,
     /// Which bodies are fresh; all that are tracked if it is `None`.
     pub freshness: Option<Freshness>,
 }
 
 impl<M: EvictionManager> Run<M> {
-    /// A run of this manager. A body of more than `most` bytes is passed by; bodies are fresh for
-    /// `time`, or for ever if that is `None`.
+    /// A run of this manager. A body of more than `most` bytes is not stored; bodies are fresh for
+    /// `time`, or without end if that is `None`.
     pub fn new(alloc: Global, manager: M, most: usize, time: Option<Duration>) -> Run<M>
         ensures manager { result.manager ≡ manager }
         ensures counts { (result.counts.requests ≡ 0) × (result.counts.hits ≡ 0) × (result.counts.bytes ≡ 0) × (result.counts.hit_bytes ≡ 0) }
@@ -62,9 +61,8 @@ impl<M: EvictionManager> Run<M> {
         }
     }
 
-    /// Makes one request: what is there and fresh is used; what is not comes in, or is passed by if
-    /// it is too large. A request that memory is refused for is not counted; its body may have come
-    /// in then.
+    /// Makes one request: a stored body that is fresh is used; any other is added, unless it is too
+    /// large. A request that fails for memory is not counted; its body may have been added then.
     pub fn request(&mut self, asked: &Request) -> Result<()>
         requires { self.old.counts.requests < 2 ^ 64 - 1 }
         ensures ok { OnOk result ((e : Event) × IsCounted self.old.counts (e ∷ []) self.new.counts
@@ -89,7 +87,7 @@ impl<M: EvictionManager> Run<M> {
         Ok(())
     }
 
-    /// Makes these requests, one after the other. It is refused when memory runs out, or once 2^64 - 1
+    /// Makes these requests, one after the other. Fails when memory runs out, or once 2^64 - 1
     /// requests are counted.
     pub fn play(&mut self, requests: &[Request]) -> Result<()>
         ensures ok { OnOk result ((es : List Event) × IsCounted self.old.counts es self.new.counts
@@ -108,7 +106,7 @@ impl<M: EvictionManager> Run<M> {
         Ok(())
     }
 
-    // A body comes in.
+    // Adds a body.
     fn fill(&mut self, asked: &Request) -> Result<()>
         ensures leads { OnOk result ((out : List CacheEntryKey)
             × Leads (M.limits self.old.manager) (M.tracked self.old.manager) (Came asked.now.item asked.now.size out) (M.tracked self.new.manager)
@@ -123,7 +121,7 @@ impl<M: EvictionManager> Run<M> {
         self.remember(asked, out)
     }
 
-    // Notes when a body came in, and forgets those that went.
+    // Records when a body was added, and forgets those that were evicted.
     fn remember(&mut self, asked: &Request, gone: Vec<CacheEntryKey>) -> Result<()>
         ensures fresh { OnOk result (self.new.freshness ≡ noted asked.now.item asked.now.time gone.items self.old.freshness) }
         ensures manager { self.new.manager ≡ self.old.manager }
@@ -139,14 +137,14 @@ impl<M: EvictionManager> Run<M> {
         Ok(())
     }
 
-    // Whether a body is there and fresh when it is asked for.
+    // Whether a body is stored and fresh at the moment of a request.
     fn has_fresh(&self, asked: &Request) -> bool
         ensures { result ≡ (map.contains_key (M.tracked self.now.manager) asked.now.item && is_fresh self.now.freshness asked.now.item asked.now.time) }
     {
         self.manager.peek(&asked.item) && self.is_fresh(asked)
     }
 
-    // Whether a stored body is fresh when it is asked for.
+    // Whether a stored body is fresh at the moment of a request.
     fn is_fresh(&self, asked: &Request) -> bool
         ensures { result ≡ is_fresh self.now.freshness asked.now.item asked.now.time }
     {

@@ -11,7 +11,7 @@ use pcache_policies::{s3_fifo, sieve};
 use std::alloc::Global;
 use std::time::Duration;
 
-// A run of a cache of this size, in bytes, for all keys.
+// A run of a cache, with the size in bytes that it represents over all keys.
 #[derive(Drop)]
 struct Sized<M: EvictionManager> {
     size: usize,
@@ -30,7 +30,8 @@ pub struct Runs {
 }
 
 impl Runs {
-    /// The runs that the options ask for, over a trace whose bodies have so many bytes, each once.
+    /// The runs that the options ask for, over a trace whose bodies have `distinct` bytes
+    /// altogether, each counted once.
     pub fn new(alloc: Global, options: &Options, distinct: u64) -> Result<Runs> {
         let mut runs = Runs {
             alloc,
@@ -51,7 +52,8 @@ impl Runs {
 
     fn add(&mut self, options: &Options, policy: Policy, size: usize) -> Result<()> {
         let limit = options.sample.scaled(size);
-        // A run of the same trace is to take the same time again, and its keys are the reader's own.
+        // A run over the same trace should take the same time again, and no outsider chooses its
+        // keys.
         let seed = Seed::fixed();
         match policy {
             Policy::Lru => {
@@ -73,7 +75,7 @@ impl Runs {
         }
     }
 
-    /// Makes these requests of each cache.
+    /// Makes these requests to each cache.
     pub fn play(&mut self, requests: &[Request]) -> Result<()> {
         play_each(&mut self.lru, requests)?;
         play_each(&mut self.sharded, requests)?;
@@ -81,7 +83,7 @@ impl Runs {
         play_each(&mut self.s3_fifo, requests)
     }
 
-    /// What each cache did, by policy and size in the order in which they were given.
+    /// The results of each cache, by policy and size in the order in which they were given.
     pub fn rows(&self) -> Result<Vec<Row>> {
         let mut rows = Vec::new(self.alloc);
         for policy in self.policies.as_slice() {

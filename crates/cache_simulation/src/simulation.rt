@@ -17,10 +17,10 @@ use std::io::{BufWriter, Read, Write};
 use std::rt::{Clock, Files};
 use std::{fs, io, str};
 
-// So many requests are read before they are made of each cache in turn.
+// How many requests are read before they are made to each cache in turn.
 const BATCH: usize = 1024;
 
-// After so many lines it is said how far the simulation is.
+// After how many lines the progress is written.
 const LINES_BETWEEN: u64 = 1_000_000;
 
 /// Why a simulation ended early.
@@ -28,16 +28,16 @@ const LINES_BETWEEN: u64 = 1_000_000;
 pub enum Stop {
     /// The words of the command line cannot be used.
     Words(Unusable),
-    /// More lines are no requests than may be; this many were read.
+    /// More lines are bad than allowed; this many were read.
     BadLines(u64),
-    /// There is no memory.
+    /// Memory ran out.
     Memory,
     /// The trace cannot be read, or the report cannot be written.
     Io(io::Error),
 }
 
-/// Reads a trace, plays it to each cache that the options ask for, and writes what they did. How far it is goes to
-/// `errors`, and so do the numbers of bad lines. The trace is `input` if the options name no file.
+/// Reads a trace, plays it to each cache that the options ask for, and writes the results. The progress is written
+/// to `errors`, and so are the numbers of bad lines. The trace is `input` if the options name no file.
 pub fn simulate<C: Clock + Files, R: Read + Drop, W: Write + Drop, E: Write>(
     rt: &C,
     alloc: Global,
@@ -65,7 +65,7 @@ pub fn simulate<C: Clock + Files, R: Read + Drop, W: Write + Drop, E: Write>(
     report(rt, alloc, options, &runs, output)
 }
 
-// The length of a file, if it is one that tells it.
+// The length of a file, if it has one.
 fn length<C: Files>(rt: &C, path: &str) -> Option<u64> {
     let metadata = fs::metadata(rt, path).ok()?;
     if metadata.is_file() {
@@ -113,12 +113,12 @@ fn play(runs: &mut Runs, batch: &mut Vec<Request>) -> Result<(), Stop> {
     Ok(())
 }
 
-// What a line asks for, if it is a request.
+// The request of a line, if it is one.
 fn asked<'a>(options: &Options, line: &'a [u8]) -> Option<Asked<'a>> {
     read_line(str::from_utf8(line).ok()?, options.columns)
 }
 
-// Whether the key of this hash is among those that are asked for.
+// Whether the key of this hash is in the sample.
 fn is_sampled(options: &Options, primary: HashBinary) -> bool {
     let [a, b, c, d, e, f, g, h, ..] = primary;
     options
@@ -126,7 +126,7 @@ fn is_sampled(options: &Options, primary: HashBinary) -> bool {
         .has(u64::from_be_bytes([a, b, c, d, e, f, g, h]))
 }
 
-// Adds a request to those that wait, if its key is among those that are asked for.
+// Adds a request to the batch, if its key is in the sample.
 fn add(
     alloc: Global,
     options: &Options,
@@ -150,8 +150,8 @@ fn add(
     batch.push(request).map_err(|_| Stop::Memory)
 }
 
-// The bytes of all bodies of the trace, each once, if a size is a share of them. They are given, or the trace is read
-// for them.
+// The total bytes of all bodies of the trace, each counted once, if a size is a share of them. They are given, or the
+// trace is read to count them.
 fn distinct<C: Files>(rt: &C, alloc: Global, options: &Options) -> Result<u64, Stop> {
     if !options.have_share() {
         return Ok(0);
@@ -167,7 +167,7 @@ fn distinct<C: Files>(rt: &C, alloc: Global, options: &Options) -> Result<u64, S
     Ok(options.sample.whole(sampled))
 }
 
-// The bytes of the bodies under the keys that are asked for, each once with its first size.
+// The total bytes of the bodies of the sample's keys, each counted once with its first size.
 fn distinct_of<R: Read + Drop>(
     alloc: Global,
     options: &Options,

@@ -1,24 +1,24 @@
 //! The lines of a trace.
 
-/// What a line asks for: a body of some size under a key, at some second.
+/// The request of a line: a body of some size for a key, at some second.
 #[derive(Clone, Copy)]
 pub struct Asked<'a> {
     /// The key of the body.
     pub key: &'a str,
     /// Its size, in bytes.
     pub size: usize,
-    /// The second in which it is asked for.
+    /// The second of the request.
     pub second: u64,
 }
 
-/// In which column of a line with commas each thing stands, counted from 0.
+/// In which column of a line with commas each value is, counted from 0.
 #[derive(Clone, Copy, Debug, PartialEq, Eq)]
 pub struct Columns {
-    /// The second.
+    /// The column of the second.
     pub time: usize,
-    /// The key.
+    /// The column of the key.
     pub key: usize,
-    /// The size.
+    /// The column of the size.
     pub size: usize,
 }
 

@@ -1,6 +1,6 @@
 #![tactic(auto)]
 //! `cache_torment MANAGER LIMIT [WATERMARK]`: runs a script of cache calls from standard input, and goes on after
-//! calls that were refused. It is for tests that refuse requests for memory.
+//! calls that failed. It is for tests that refuse requests for memory.
 
 use cache_script::replay::refuse_arguments;
 use cache_script::torment::torment;

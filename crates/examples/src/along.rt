@@ -1,4 +1,4 @@
-//! Reading along: a request serves a body that another one is still writing.
+//! Reading along: a request serves a body while another one is still writing it.
 ghost use Rattle.std.specs.Prelude.{◌≡◌, OnOk, true};
 ghost use Rattle.pcache_request.specs.declared.phase.CachePhase.TheVariants.{CacheKey, Miss};
 
@@ -9,12 +9,12 @@ use pingora_cache::error::Result;
 use pingora_cache::moment::Moment;
 use pingora_cache::poll::Poll;
 
-/// What one read gives.
+/// The result of one read.
 #[derive(Clone, Copy, Debug)]
 pub enum Piece {
     /// So many bytes.
     Bytes(usize),
-    /// Nothing yet: read again later.
+    /// There is nothing yet: read again later.
     NotYet,
     /// The body was read to its end.
     End,
@@ -32,7 +32,8 @@ pub fn read(cache: &mut FrontCache, request: &mut Request) -> Result<Piece> {
     })
 }
 
-/// One request writes a body in two parts, and another one reads along. Returns what each of its reads gave.
+/// One request writes a body in two parts, and another one reads along. Returns the result of each of its
+/// reads.
 pub fn write_and_read(cache: &mut FrontCache, path: &str, now: Moment) -> Result<[Piece; 4]> {
     let mut writer = request_for(cache.alloc(), path)?;
     let read = write_along(cache, &mut writer, path, now);
@@ -85,7 +86,8 @@ fn join_writing(
     pieces
 }
 
-// Stores the body. Other requests came in between, so it is asked whether the write is one of this cache.
+// Stores the body. Other requests were served in between, so `may_end` is asked whether the write is one
+// of this cache.
 fn finish(cache: &mut FrontCache, writer: &mut Request) -> Result<()>
     requires { writer.old.cache.phase ≡ Miss }
 {

@@ -22,10 +22,10 @@ const FRESH_SECS: u64 = 60;
 
 const STALE_SECS: u32 = 30;
 
-// There is no largest moment by name: the last whole second is as good as never.
+// No constant names the largest moment; the last whole second serves as never.
 const FOREVER_SECS: u64 = u64::MAX;
 
-/// Names the cache: a request of it cannot be lent another's parts.
+/// Names the cache: its requests cannot be used with the parts of another.
 pub struct Front;
 
 /// A store in memory, an eviction manager with one recency list, and a lock table.
@@ -34,7 +34,7 @@ pub type FrontCache = Cache<Manager, Front>;
 /// A request of it.
 pub type Request = CacheRequest<Front>;
 
-/// A cache with nothing stored. Bodies will have at most `limit` bytes together.
+/// An empty cache, whose bodies have at most `limit` bytes together.
 pub fn new_cache(alloc: Global, seed: Seed, limit: usize) -> Result<FrontCache> {
     let manager = Manager::new(alloc, seed, limit)?;
     let age_timeout = Duration::from_secs(AGE_TIMEOUT_SECS);
@@ -54,8 +54,8 @@ pub fn request_for(alloc: Global, path: &str) -> Result<Request>
     Ok(request)
 }
 
-/// The meta of a response that was received now: fresh for a minute, and to be served stale for half a minute more while it is
-/// renewed.
+/// The meta of a response that was received now: fresh for a minute, and may be served stale for another half minute while it
+/// is renewed.
 pub fn meta_of(alloc: Global, now: Moment) -> CacheMeta {
     let fresh_until = now
         .checked_add(Duration::from_secs(FRESH_SECS))

@@ -1,6 +1,6 @@
 #![tactic(auto)]
 //! `examples LIMIT < TRACE`: ways to use the cache. Short examples of a cache as one value come first; then a proxy and a purge
-//! service show what they answer; a simulator reads a trace, and tells what a cache of LIMIT bytes would have served of it.
+//! service print their results; a simulator reads a trace, and prints what a cache of LIMIT bytes would have served of it.
 
 mod along;
 mod first;
@@ -39,7 +39,7 @@ fn main(rt: HostRuntime) -> Result<()> {
     run_simulator(&rt, rt.alloc(), seed, limit)
 }
 
-// One seed for all tables of the process, which nobody outside can know.
+// One seed for all tables of the process, which no outsider can know.
 fn drawn(rt: &impl RandomSource) -> Result<Seed> {
     let mut bytes = [0; 16];
     rt.fill_bytes(&mut bytes)?;

@@ -7,7 +7,7 @@ use crate::waiting::{self, Next};
 use pingora_cache::error::{Error, ErrorType, Result};
 use pingora_cache::moment::Moment;
 
-/// Adds a request. If there is no memory for it, `push` gives it back, and it is ended here.
+/// Adds a request. If there is no memory for it, `push` returns it, and it is ended here.
 pub fn add(cache: &mut FrontCache, requests: &mut Vec<Request>, request: Request) -> Result<()> {
     match requests.push(request) {
         Ok(()) => Ok(()),
@@ -35,7 +35,8 @@ pub fn poll_all(cache: &mut FrontCache, requests: &mut Vec<Request>, now: Moment
     Ok(over)
 }
 
-// Polls the request at a place. If its wait is over, it is taken out and ended; the others close up.
+// Polls the request at a place. If its wait is over, it is removed and ended; the later ones move
+// up.
 fn poll_at(
     cache: &mut FrontCache,
     requests: &mut Vec<Request>,
@@ -52,7 +53,8 @@ fn poll_at(
     Ok(true)
 }
 
-/// Ends all that are left. A vector of values that must be spent is spent by `destroy_empty`, once it is empty.
+/// Ends all remaining requests. A vector of values that must be spent is itself spent by `destroy_empty`, once
+/// it is empty.
 pub fn end_all(cache: &mut FrontCache, requests: Vec<Request>) {
     let mut requests = requests;
     'requests: while let Some(request) = requests.pop() {
@@ -61,8 +63,8 @@ pub fn end_all(cache: &mut FrontCache, requests: Vec<Request>) {
     requests.destroy_empty();
 }
 
-/// One request holds the permit of a path, and `count` others wait for it. Returns how many waits were over before the permit was
-/// given back, and after it.
+/// One request holds the permit of a path, and `count` others wait for it. Returns how many waits were over before and after the
+/// permit was given back.
 pub fn wait_together(
     cache: &mut FrontCache,
     path: &str,

@@ -1,4 +1,4 @@
-//! What the origin answers, in place of a connection to one.
+//! The responses of the origin, in place of a connection to one.
 use bytes::Bytes;
 use http::StatusCode;
 use http_header::{CACHE_CONTROL, HeaderMapError, HeaderValue};
@@ -24,7 +24,7 @@ pub fn body(path: &str) -> Bytes {
     })
 }
 
-/// What becomes of a path's response, received at a moment: its meta, or why it is not stored.
+/// Whether a path's response, received at a moment, is stored: its meta, or the reason why not.
 pub fn outcome(alloc: Global, path: &str, now: Moment) -> Result<RespCacheable> {
     let header = header(alloc, path)?;
     let control = CacheControl::from_resp_headers(alloc, &header)?;
@@ -32,7 +32,7 @@ pub fn outcome(alloc: Global, path: &str, now: Moment) -> Result<RespCacheable> 
     Ok(resp_cacheable(control.as_ref(), header, false, &defaults, now))
 }
 
-// The head of a path's response: news are fresh for a minute, an account belongs to its user alone.
+// The head of a path's response: news are fresh for a minute, an account is private to its user.
 fn header(alloc: Global, path: &str) -> Result<ResponseHeader> {
     let control = match path {
         "/account" => HeaderValue::from_static("private"),

@@ -1,4 +1,4 @@
-//! What requests are lent.
+//! The parts that requests borrow.
 ghost use Rattle.std.specs.Prelude.{◌≡◌, IfOk};
 ghost use Rattle.pcache_request.specs.declared.phase.CachePhase.TheVariants.{CacheKey};
 
@@ -16,18 +16,22 @@ const AGE_TIMEOUT_SECS: u64 = 10;
 /// A request over a store in memory.
 pub type Request = HttpCache<MemCache>;
 
-/// One store, one eviction manager and one lock table, which any number of requests are lent.
+/// One store, one eviction manager and one lock table, which any number of requests borrow.
 #[derive(Drop)]
 pub struct Parts {
+    /// The allocator of keys and requests.
     pub alloc: Global,
+    /// The store.
     pub store: MemCache,
+    /// The eviction manager.
     pub manager: Manager,
+    /// The lock table.
     pub lock: CacheLock,
 }
 
 impl Parts {
-    /// Nothing is stored. Bodies will have at most `limit` bytes together. The clients choose the keys,
-    /// so the seed is to be drawn.
+    /// Empty parts, whose bodies have at most `limit` bytes together. The clients choose the keys, so
+    /// the seed has to be drawn at random.
     pub fn new(alloc: Global, seed: Seed, limit: usize) -> Result<Parts> {
         Ok(Parts {
             alloc,

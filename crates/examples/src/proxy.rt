@@ -14,7 +14,7 @@ use pingora_cache::poll::Poll;
 use pingora_cache::storage::HandleMiss;
 use pingora_cache::{CacheMeta, HitStatus, NoCacheReason, RespCacheable};
 
-/// How a request was answered.
+/// How a request was served.
 #[derive(Clone, Copy, Debug)]
 pub enum Served {
     /// From the cache: this many bytes.
@@ -23,12 +23,12 @@ pub enum Served {
     Filled(usize),
     /// From the origin, and for this reason not stored.
     Passed(NoCacheReason),
-    /// Not yet: another request fills the key, and this one has to ask again.
+    /// Not yet: another request fills the key, and this one has to look again.
     Waits,
 }
 
-/// Answers a request for a path at a moment. What the request holds is given back, also if a call
-/// was refused.
+/// Serves a request for a path at a moment. What the request holds is given back, even if a call
+/// failed.
 pub fn serve(parts: &mut Parts, path: &str, now: Moment) -> Result<Served> {
     let mut request = request_for(parts.alloc, path)?;
     let served = answer(parts, &mut request, path, now);
@@ -50,7 +50,7 @@ fn answer(parts: &mut Parts, request: &mut Request, path: &str, now: Moment) -> 
     fill_or_wait(parts, request, path, now)
 }
 
-// What the store has of the key. If it has nothing, the request holds the key's lock.
+// What the store has for the key. If it has nothing, the request holds the key's lock.
 fn found(
     parts: &mut Parts,
     request: &mut Request,
@@ -62,7 +62,7 @@ fn found(
     request.cache_lookup(&mut parts.store, &mut parts.lock, now)
 }
 
-// Takes what was found: a fresh body is read, and a stale one asks for the key's lock.
+// Takes the found pair: a fresh body is read, and a stale one asks for the key's lock.
 fn take(
     parts: &mut Parts,
     request: &mut Request,
@@ -83,7 +83,7 @@ fn take(
     request.cache_found(store, manager, lock, meta, hit, status, now)
 }
 
-// Reads what was found to its end. A complete body comes in one piece, and then its end.
+// Reads the found body to its end. A complete body comes in one piece, and then its end.
 fn read_all(parts: &mut Parts, request: &mut Request) -> Result<Served> {
     let mut len = 0usize;
     for _ in 0..u64::MAX {
@@ -98,7 +98,7 @@ fn read_all(parts: &mut Parts, request: &mut Request) -> Result<Served> {
     Ok(Served::Hit(len))
 }
 
-// Who holds the permit fills the key, and the others have to wait.
+// The holder of the permit fills the key, and the others have to wait.
 fn fill_or_wait(parts: &mut Parts, request: &mut Request, path: &str, now: Moment) -> Result<Served>
     requires { MayMiss request.old.phase }
 {
@@ -112,7 +112,7 @@ fn fill_or_wait(parts: &mut Parts, request: &mut Request, path: &str, now: Momen
     }
 }
 
-// Stores nothing, and tells those who wait why.
+// Stores nothing; those who wait get the status of the reason.
 fn pass(parts: &mut Parts, request: &mut Request, reason: NoCacheReason) -> Served {
     if request.may_release(reason) {
         request.release_write_lock(&mut parts.lock, reason);

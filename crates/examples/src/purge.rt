@@ -1,12 +1,12 @@
-//! A purge service: takes what stands under a path out of the store and out of the manager.
+//! A purge service: removes what is stored for a path from the store and from the manager.
 ghost use Rattle.std.specs.Prelude.{◌≡◌};
 ghost use Rattle.pcache_request.specs.declared.phase.CachePhase.TheVariants.{CacheKey};
 
 use crate::parts::{Parts, Request, request_for};
 use pingora_cache::error::Result;
 
-/// Purges a path, and answers whether anything was there: a body, or writes in flight, which are then
-/// refused at their end.
+/// Purges a path, and returns whether anything was stored: a body, or writes in flight, whose end
+/// then fails.
 pub fn purge(parts: &mut Parts, path: &str) -> Result<bool> {
     let mut request = request_for(parts.alloc, path)?;
     let was_there = purge_key(parts, &mut request);

@@ -1,4 +1,4 @@
-//! What the short examples print, over one cache that they are lent. Each has a path of its own.
+//! What the short examples print, over one cache that they borrow. Each has a path of its own.
 use crate::front::FrontCache;
 use crate::{along, first, many, stale, variants, waiting};
 use anyhow::Result;

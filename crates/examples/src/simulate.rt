@@ -5,16 +5,21 @@ use pingora_cache::moment::Moment;
 use pingora_cache::{CacheEntryKey, CacheKey};
 use std::alloc::Global;
 
-/// What was counted over a trace.
+/// The counts over a trace.
 #[derive(Clone, Copy, Debug)]
 pub struct Counts {
+    /// The number of requests.
     pub requests: u64,
+    /// How many of them a stored body served.
     pub hits: u64,
+    /// The number of bytes of the requested bodies.
     pub bytes: u64,
+    /// How many of them a stored body served.
     pub hit_bytes: u64,
 }
 
 impl Counts {
+    /// Counts of zero.
     pub const NONE: Counts = Counts {
         requests: 0,
         hits: 0,
@@ -36,12 +41,14 @@ impl Counts {
 /// One request of a trace: a key and the size of its body.
 #[derive(Clone, Copy)]
 pub struct Asked<'a> {
+    /// The key.
     pub key: &'a str,
+    /// The size of the body, in bytes.
     pub size: usize,
 }
 
-/// Reads a line of a trace: a key, spaces, and a size in decimal digits. `None` if it is no such
-/// line.
+/// Reads a line of a trace: a key, spaces, and a size in decimal digits. `None` if the line has
+/// another form.
 pub fn read_line(line: &str) -> Option<Asked<'_>> {
     let mut words = line.split_ascii_whitespace();
     let key = words.next()?;
@@ -52,7 +59,7 @@ pub fn read_line(line: &str) -> Option<Asked<'_>> {
     }
 }
 
-/// Makes one request: what is there is used, what is missing comes in, and what no longer fits goes.
+/// Makes one request: a stored body is used, any other is added, and what no longer fits is evicted.
 pub fn request(
     alloc: Global,
     manager: &mut Manager,

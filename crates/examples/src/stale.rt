@@ -10,17 +10,19 @@ use pingora_cache::moment::Moment;
 use pingora_cache::poll::Poll;
 use pingora_cache::{CachePhase, HitStatus};
 
-/// How a request was answered, with the length of the body.
+/// How a request was served, with the length of the body.
 #[derive(Clone, Copy, Debug)]
 pub enum Answer {
+    /// A fresh body.
     Fresh(usize),
+    /// A stale body.
     Stale(usize),
     /// The origin has to be asked.
     Nothing,
 }
 
-/// Looks a path up and serves what is there, also if it is stale for a short time. Returns the answer, and with a stale one
-/// perhaps a request that is to renew it: the caller runs that one later, and ends it.
+/// Looks a path up and serves the body that is stored, even if it is stale for a short time. Returns how, and with a stale
+/// body perhaps a request that has to renew it: the caller runs that one later, and ends it.
 pub fn serve(cache: &mut FrontCache, path: &str, now: Moment) -> Result<(Answer, Option<Request>)>
     ensures renewal { IfOk result (λ p. IfSome p.1 (λ r. r.cache.phase ≡ CacheKey)) }
     ensures uses { IfOk result (λ p. IfSome p.1 (λ r. r.cache.uses.eviction ≡ true)) }
@@ -101,7 +103,8 @@ fn hand_over(cache: &mut FrontCache, request: &mut Request, path: &str) -> Resul
     Ok(renewal)
 }
 
-// Who holds the permit of a stale body hands it to a request of its own. That one needs no look-up: it fills the key anew.
+// The holder of the permit of a stale body hands it to another request of its own. That one needs no look-up: it fills the
+// key again.
 fn renewal_of(cache: &mut FrontCache, request: &mut Request, path: &str) -> Result<Option<Request>>
     ensures renewal { IfOk result (λ p. IfSome p (λ r. r.cache.phase ≡ CacheKey)) }
     ensures uses { IfOk result (λ p. IfSome p (λ r. r.cache.uses.eviction ≡ true)) }
@@ -118,7 +121,8 @@ fn renewal_of(cache: &mut FrontCache, request: &mut Request, path: &str) -> Resu
     Ok(Some(renewal))
 }
 
-/// Renews what a request was handed the permit for, and ends it. Returns whether the body is stored.
+/// Fills the key with a request that was handed the permit, and ends the request. Returns whether
+/// the body is stored.
 pub fn renew(cache: &mut FrontCache, renewal: Request, body: Bytes, now: Moment) -> Result<bool>
     requires phase { renewal.cache.phase ≡ CacheKey }
     requires uses { renewal.cache.uses.eviction ≡ true }
@@ -129,8 +133,8 @@ pub fn renew(cache: &mut FrontCache, renewal: Request, body: Bytes, now: Moment)
     stored
 }
 
-/// Stores a body, which is fresh for a minute, and asks for it after 61, 62 and 63 seconds. The first asker renews it before the
-/// third one comes.
+/// Stores a body, which is fresh for a minute, and requests it after 61, 62 and 63 seconds. The first request renews it before
+/// the third one comes.
 pub fn play(cache: &mut FrontCache, path: &str) -> Result<[Answer; 3]> {
     store_old(cache, path)?;
     let (first, renewal) = serve(cache, path, Moment::from_secs(61))?;

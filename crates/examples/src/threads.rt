@@ -1,5 +1,5 @@
-//! The proxy over four threads, which share one cache in parts. A request that has to wait asks again, and holds nothing while
-//! other threads have the processor.
+//! The proxy over four threads, which share one cache in parts. A request that has to wait asks again, and holds no lock while
+//! other threads run.
 ghost use Rattle.std.specs.Prelude.{◌≡◌, IfOk, None};
 ghost use Rattle.pcache_request.specs.Phases.{MayLookUp, MayMiss};
 ghost use Rattle.pcache_request.specs.declared.phase.CachePhase.TheVariants.{CacheKey, Miss};
@@ -30,7 +30,7 @@ const PATHS: [&str; 3] = ["/news", "/weather", "/sports"];
 // How often a request asks whether its wait is over, before it looks again.
 const TURNS: u32 = 1_000;
 
-// How often a request looks before it gives up.
+// How often a request looks up before it gives up.
 const LOOKS: u32 = 1_000;
 
 const NOW: Moment = Moment::EPOCH;
@@ -130,7 +130,8 @@ fn answer<R: Wait>(
     wait(rt, cache, request)
 }
 
-// Takes what was found, and reads it to its end. If a fetch is still storing it, this reads along.
+// Takes the found pair, and reads the body to its end. If another request is still writing it, this
+// reads along.
 fn take<R: Wait>(
     rt: &R,
     cache: &Parts,

@@ -14,7 +14,9 @@ use std::alloc::Global;
 /// Whether a visit found its variant, or filled it.
 #[derive(Clone, Copy, Debug)]
 pub enum Visited {
+    /// The variant was found.
     Found,
+    /// The variant was fetched and stored.
     Filled,
     /// Another request fills the key.
     Waits,
@@ -55,7 +57,7 @@ fn visit_by(
     fill(cache, request, variance, now)
 }
 
-// What stands under the key says whether the variant that it has is the one that is asked for. If not, the key takes the
+// The response that is stored for the key itself says whether it is the requested variant. If not, the key takes the
 // variance, and is looked up again.
 fn find(
     cache: &mut FrontCache,
@@ -99,8 +101,8 @@ fn fill(
     Ok(Visited::Filled)
 }
 
-/// Purges a path. What stands under the path itself goes, and hides all its variants from then on: a look-up that finds nothing
-/// under the key fills it anew, and variants that were created before that are hidden.
+/// Purges a path. The response stored for the path itself is removed, and from then on all its variants are hidden: a request
+/// that finds nothing for the key fills it again, and variants that were created before that are hidden.
 pub fn purge_all(cache: &mut FrontCache, path: &str) -> Result<bool> {
     let mut request = request_for(cache.alloc(), path)?;
     let was_there = cache.purge(&mut request);

@@ -1,4 +1,4 @@
-//! What a request does that has to wait, since another one fills its key.
+//! A request that has to wait, since another one fills its key.
 ghost use Rattle.std.specs.Prelude.{◌≡◌};
 ghost use Rattle.pcache_request.specs.declared.phase.CachePhase.TheVariants.{CacheKey};
 
@@ -14,7 +14,7 @@ use pingora_cache::poll::Poll;
 pub enum Next {
     /// Another request still fills the key: poll again later.
     Wait,
-    /// The key was filled, or may be filled by somebody else: look it up again.
+    /// The key was filled, or another request may fill it: look it up again.
     LookAgain,
     /// Nobody will fill the key for this request: ask the origin, and store nothing.
     Pass(NoCacheReason),
@@ -33,7 +33,8 @@ pub fn next_after(outcome: LockWaitOutcome) -> Next {
     }
 }
 
-/// Asks once whether the wait of a request is over. A request that is to pass is disabled: it stores nothing from then on.
+/// Asks once whether the wait of a request is over. A request that should pass is disabled: it stores nothing from then
+/// on.
 pub fn poll(cache: &mut FrontCache, request: &mut Request, now: Moment) -> Result<Next> {
     if !matches!(request.cache.held(), Some(held) if !held.is_write()) {
         return Ok(Next::LookAgain);
@@ -51,7 +52,7 @@ pub fn poll(cache: &mut FrontCache, request: &mut Request, now: Moment) -> Resul
 }
 
 /// One request gets the permit of a path and another waits for it. The first stores nothing, for this reason. Returns what the
-/// other one is to do before and after that.
+/// other one has to do before and after that.
 pub fn wait_for(
     cache: &mut FrontCache,
     path: &str,
@@ -99,7 +100,7 @@ fn play_both(
     Ok((before, after))
 }
 
-// Looks the key up. What is there is let go; if nothing is there, the request holds the permit or a read lock.
+/// Looks the key up. A found pair is let go; if nothing is found, the request holds the permit or a read lock.
 pub fn look(cache: &mut FrontCache, request: &mut Request, now: Moment) -> Result<()>
     requires { request.old.cache.phase ≡ CacheKey }
 {

@@ -78,7 +78,7 @@ IsAbsorbed_grown h b c d used n m held e = record {
   rest = e ∙ rw held.rest (sym (drop-append-le (128 * n) m d (omega (arith, held.size))));
 }
 
--- a block that is taken in from where it stands, while the buffer has nothing
+-- a block that is taken in directly, while the buffer is empty
 pub HasRoom_block : (s r : Hasher) (m d : List ℕ) → HasRoomAfter s m → s.used ≡ 0 → length d ≡ 128
     → r.count ≡ (s.count + 128) % 2 ^ 128 → r.state ≡ compress s.state d r.count false → r.used ≡ 0 → HasRoomAfter r (m ++ d)
 unfolding HasRoomAfter
@@ -131,7 +131,7 @@ pub two_words : (h x y : List ℕ) → x ≡ to_le_bytes w64 (slice_index h 0) �
 unfolding state_bytes
 two_words h x y ex ey = rw (ex, ey) refl
 
--- the bytes from one place to a later one, after those before
+-- the bytes from one index to a later one, after those before
 pub take_piece : (xs : List ℕ) (a b : ℕ) → a ≤ b → take b xs ≡ take a xs ++ take (b - a) (drop a xs)
 take_piece xs a b le =
     let e : a + (b - a) ≡ b = omega arith in
@@ -139,7 +139,7 @@ take_piece xs a b le =
     let back : drop a (take (a + (b - a)) xs) ≡ take (b - a) (drop a xs) = drop-take a (b - a) xs in
     sym whole ∙ rw (take-take a b xs le) (ap (λ (z : List ℕ). take a xs ++ z) (rw e at back))
 
--- the bytes up to a place, as those before, a number of bytes of the rest, and what follows
+-- the bytes up to an index, as those before, a number of bytes of the rest, and what follows
 pub take_pieces : (m xs : List ℕ) (a n e : ℕ) → a + n ≤ e
     → m ++ take e xs ≡ (m ++ take a xs ++ take n (take (length xs - a) (drop a xs))) ++ take (e - (a + n)) (drop (a + n) xs)
 take_pieces m xs a n e le =

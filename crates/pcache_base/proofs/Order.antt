@@ -5,7 +5,7 @@ use Rattle.std.proofs.lemmas.List.Folds.{list_all_at}
 use Rattle.std.proofs.lemmas.Bool.{cases_lt}
 use Rattle.pcache_base.specs.Blake2b.{message_order}
 
--- a test of each number of a list, at one place of it
+-- a test of each number of a list, at one index of it
 all_below_at : (xs : List ℕ) (bound k : ℕ) → list_all (λ x. nat_lt x bound) xs ≡ true → k < length xs → slice_index xs k < bound
 all_below_at xs bound k all lt = elim (cases_lt (slice_index xs k) bound) [
   | inl below ↦ below

@@ -1,4 +1,4 @@
--- What a hasher holds: a message taken in piece by piece.
+-- The state of a hasher that takes in a message piece by piece (own).
 use Rattle.std.specs.Prelude.{◌≡◌, ℕ, ◌+◌, ◌*◌, ◌%◌, ◌^◌, List, length, take, drop}
 use Rattle.pcache_base.specs.Blake2b.{blocks_before_last, state_after}
 use Rattle.pcache_base.specs.declared.blake2b.Hasher.{Hasher}

@@ -1,4 +1,4 @@
--- Cache keys: the hashes of their bytes (BLAKE2b with 16 bytes out, RFC 7693), and the slot that they name (own).
+-- Cache keys: the hashes of their bytes (BLAKE2b with 16 bytes out, RFC 7693), and the slot that they give (own).
 use Rattle.std.specs.Prelude.{◌≡◌, ℕ, List, ◌++◌, length, Ok, Option, None, Some, unwrap_or}
 use Rattle.std.specs.Int.{w128, from_be_bytes}
 use Rattle.hex.specs.Hex.{decode_of}
@@ -8,7 +8,7 @@ use Rattle.pcache_base.specs.declared.fills.UnusableFill.{UnusableFill}
 -- what a contract sees of a `CacheKey`
 pub record Key : Type 0 where
   pub primary : List ℕ
-  -- a hash that stands in place of that of the primary bytes
+  -- a hash that replaces the one of the primary bytes
   pub primary_override : Option (List ℕ)
   pub variance : Option (List ℕ)
   pub user_tag : List ℕ
@@ -19,7 +19,7 @@ pub record Key : Type 0 where
 abbrev pub primary_of : Key → List ℕ
 primary_of k = unwrap_or k.primary_override (blake2b_128 k.primary)
 
--- the primary hash, or if there is a variance the hash of both
+-- the primary hash; if there is a variance, the hash of both
 abbrev pub combined_of : List ℕ → Option (List ℕ) → List ℕ
 combined_of primary None = primary
 combined_of primary (Some variance) = blake2b_128 (primary ++ variance)
@@ -28,7 +28,7 @@ combined_of primary (Some variance) = blake2b_128 (primary ++ variance)
 abbrev pub SpellsHash : List ℕ → List ℕ → Type 0
 SpellsHash text hash = (length text ≡ 32) × (decode_of text ≡ Ok hash)
 
--- a hash as a number, big end first
+-- a hash as a number, high byte first
 unfoldable pub number_of : List ℕ → ℕ
 number_of hash = from_be_bytes w128 hash
 

@@ -1,4 +1,4 @@
--- A moment's seconds and nanoseconds come back from its number.
+-- A moment's seconds and nanoseconds, read back from its number (own).
 use Rattle.std.specs.Prelude.{◌≡◌, ℕ, ◌/◌, ◌%◌, ◌<◌}
 use Rattle.std.proofs.lemmas.Nat.{div-mul-add, mod-mul-add}
 use Rattle.pcache_base.specs.Moments.{nanos_of}

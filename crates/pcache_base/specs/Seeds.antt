@@ -1,16 +1,16 @@
--- How tables under a seed hash: by sums of products (pair-multiply-shift: Thorup, "High Speed Hashing for Integers and
--- Strings", 2015), whose keys are made of the seed's bytes by BLAKE2b (own).
+-- How hash tables with a seed hash: by sums of products (pair-multiply-shift: Thorup, "High Speed Hashing for Integers
+-- and Strings", 2015), with keys that BLAKE2b makes from the seed's bytes (own).
 --
 -- For any two different inputs of one step (the state before, a piece of at most 16 bytes, its length) all pairs of results
--- are equally likely over the draw of the keys. So of any numbers of 128 bits that were chosen without the seed as many
--- pairs meet in a table, on average over the seeds, as of numbers drawn at random. That is not proved here.
+-- are equally likely over the draw of the keys. So of any numbers of 128 bits that were chosen without knowledge of the
+-- seed, on average over the seeds as many pairs collide in a table as of numbers drawn at random. That is not proved here.
 use Rattle.std.specs.Prelude.{ℕ, zero, suc, ◌+◌, ◌-◌, ◌*◌, ◌/◌, ◌%◌, ◌^◌, List, [], ◌∷◌, ◌++◌, length, min, nat_le, nat_lt, bit_or, if◌then◌else◌, slice_index, slice_range}
 use Rattle.std.specs.Int.{w32, div_ceil, from_le_bytes}
 use Rattle.pcache_base.specs.Blake2b.{blake2b_128, word_at}
 use Rattle.pcache_base.specs.Key.{number_of}
 use Rattle.pcache_base.specs.declared.seed.SeededHasher.{SeededHasher}
 
--- what is made of the bytes and a number after them
+-- the hash of the seed's bytes and one byte after them, as a number
 abbrev pub expanded : List ℕ → ℕ → ℕ
 expanded drawn number = number_of (blake2b_128 (drawn ++ number ∷ []))
 
@@ -29,7 +29,7 @@ added a b = (a + b) % 2 ^ 64
 abbrev pub multiplied : ℕ → ℕ → ℕ
 multiplied a b = (a * b) % 2 ^ 64
 
--- both halves of a number of 64 bits, each with a key added, and multiplied
+-- the product of both halves of a number of 64 bits, each with a key added
 unfoldable pub pair_of : ℕ → ℕ → ℕ → ℕ
 pair_of key other n = multiplied (added key (n / 2 ^ 32)) (added other (n % 2 ^ 32))
 
@@ -40,12 +40,12 @@ mixed keys state low high =
     let pairs = added (pair_of (key 0) (key 1) low) (pair_of (key 2) (key 3) high) in
     added (added pairs (multiplied (key 4) state)) (key 5) / 2 ^ 32
 
--- four bytes as a number, the first lowest
+-- four bytes as a number, the lowest first
 abbrev pub half_at : List ℕ → ℕ → ℕ
 half_at b i = from_le_bytes w32 (slice_index b i ∷ slice_index b (i + 1) ∷ slice_index b (i + 2) ∷ slice_index b (i + 3) ∷ [])
 
--- two numbers that have all bytes of a piece in them, if its length is known: its first and its last eight bytes, or four,
--- or its first byte, and the one in the middle with the last
+-- two numbers that contain all bytes of a piece, if its length is known: of eight bytes or more its first and its last
+-- eight; of four to seven its first and its last four; of fewer its first byte, and the middle one with the last
 unfoldable pub parts_of : List ℕ → ℕ × ℕ
 parts_of piece =
     let n = length piece in
@@ -60,7 +60,7 @@ after_piece keys state piece =
     let parts = parts_of piece in
     mixed keys (added state (length piece)) parts.0 parts.1
 
--- the piece of 16 bytes at a place, of which the last may be shorter
+-- the piece of 16 bytes with this index; the last one may be shorter
 abbrev pub piece_at : List ℕ → ℕ → List ℕ
 piece_at bytes place = slice_range bytes (16 * place) (min (length bytes) (16 * place + 16))
 
@@ -73,7 +73,7 @@ after_pieces keys state bytes (suc n) = after_piece keys (after_pieces keys stat
 unfoldable pub written : List ℕ → ℕ → List ℕ → ℕ
 written keys state bytes = after_pieces keys state bytes (div_ceil (length bytes) 16)
 
--- a hasher that begins, and one that takes in a write
+-- a hasher at its beginning, and after one more write
 abbrev pub begun : List ℕ → SeededHasher
 begun keys = record { keys = keys; state = 0 }
 

@@ -5,10 +5,10 @@ use std::alloc::{AllocError, AllocFailed};
 use std::fmt;
 use std::marker::Model;
 
-/// Why a call was refused.
+/// Why a call failed.
 #[derive(Clone, Copy, Debug, PartialEq, Eq)]
 pub enum ErrorType {
-    /// Memory that was asked for was not given.
+    /// A request for memory was refused.
     OutOfMemory,
     /// A value or bytes that can't be read, a seek that can't be made, a header map that is full.
     InternalError,
@@ -42,13 +42,13 @@ impl ErrorType {
     }
 }
 
-/// A refusal. A contract sees its kind.
+/// An error. A contract sees its kind.
 #[derive(Debug, Drop)]
 pub struct Error {
     kind: ErrorType,
 }
 
-/// What a call that can be refused answers.
+/// What a call that can fail returns.
 pub type Result<T> = std::result::Result<T, Error>;
 
 impl Model for Error {
@@ -60,7 +60,7 @@ impl Model for Error {
 }
 
 impl Error {
-    /// A refusal of this kind.
+    /// An error of this kind.
     pub fn new(kind: ErrorType) -> Error
         ensures { result ≡ kind }
     {

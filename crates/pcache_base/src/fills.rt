@@ -15,8 +15,8 @@ pub struct UnusableFill {
     pub reason: &'static str,
 }
 
-/// The fills that a request cannot use, in the order in which they are looked for.
-/// A contract sees them as a list.
+/// The fills that a request cannot use, in the order in which they are sought. A contract sees them
+/// as a list.
 #[derive(Debug, Drop)]
 pub struct UnusableFills {
     fills: Vec<UnusableFill>,
@@ -53,7 +53,7 @@ impl UnusableFills {
         self.fills.is_empty()
     }
 
-    /// The first fill whose token was published.
+    /// The first fill whose token is among those that were published.
     pub fn first_match(&self, published: &[u64]) -> Option<UnusableFill>
         ensures { result ≡ first_match published.now self.now }
     {
@@ -65,7 +65,7 @@ impl UnusableFills {
         None
     }
 
-    /// A second list of the same fills. It is refused only when memory runs out.
+    /// A second list of the same fills. Fails only when memory runs out.
     pub fn copied(&self) -> Result<UnusableFills>
         ensures ok { IfOk result (λ copy. copy ≡ self.now) }
         ensures kind { IfErr result (λ e. e ≡ OutOfMemory) }

@@ -34,7 +34,8 @@ pub fn hash_u8(key: &str) -> u8
     hash_key(key.as_bytes())[0]
 }
 
-/// The hash that a text of exactly 32 hexadecimal digits, of either case, spells.
+/// The hash that a text spells: exactly 32 hexadecimal digits, of either case. `None` for any other
+/// text.
 pub fn str2hex(text: &str) -> Option<HashBinary>
     ensures value { IfSome result (λ hash. decode_of text.now ≡ Ok hash) }
     ensures found { IsSome result ↔ ((length text.now ≡ 32) × AllPass is_hex_digit text.now) }
@@ -43,7 +44,7 @@ pub fn str2hex(text: &str) -> Option<HashBinary>
     <HashBinary as FromHex>::from_hex(text).ok()
 }
 
-// The primary hash, or if there is a variance the hash of both.
+// The primary hash; if there is a variance, the hash of both.
 fn combined_hash(primary: HashBinary, variance: Option<HashBinary>) -> HashBinary
     ensures { result ≡ combined_of primary variance }
 {
@@ -66,7 +67,7 @@ fn hex_text(alloc: Global, hash: &[u8]) -> Result<String>
     Ok(hex::encode(alloc, hash)?)
 }
 
-/// What has the hashes of a cache key.
+/// A value with the hashes of a cache key.
 pub trait CacheHashKey {
     /// The primary hash.
     ghost primary_hash: { Self → List ℕ };
@@ -85,14 +86,14 @@ pub trait CacheHashKey {
     fn variance_bin(&self) -> Option<HashBinary>
         ensures { result ≡ variance_hash self.now };
 
-    /// The primary hash, or if there is a variance the hash of both.
+    /// The primary hash; if there is a variance, the hash of both.
     fn combined_bin(&self) -> HashBinary
         ensures { result ≡ combined_of (primary_hash self.now) (variance_hash self.now) }
     {
         combined_hash(self.primary_bin(), self.variance_bin())
     }
 
-    /// The combined hash as a number, big end first.
+    /// The combined hash as a number, high byte first.
     fn slot(&self) -> u128
         ensures { result ≡ slot_of (primary_hash self.now) (variance_hash self.now) }
     {
@@ -103,7 +104,7 @@ pub trait CacheHashKey {
     fn user_tag(&self) -> &str
         ensures { result.now ≡ tag self.now };
 
-    /// The primary hash in lower-case hexadecimal digits. It is refused only when memory runs out.
+    /// The primary hash in lower-case hexadecimal digits. Fails only when memory runs out.
     fn primary(&self, alloc: Global) -> Result<String>
         ensures text { IfOk result (λ text. string_bytes text ≡ encode_lower (primary_hash self.now)) }
         ensures spelled { IfOk result (λ text. SpellsHash (string_bytes text) (primary_hash self.now)) }
@@ -112,7 +113,7 @@ pub trait CacheHashKey {
         hex_text(alloc, &self.primary_bin())
     }
 
-    /// The variance in lower-case hexadecimal digits. It is refused only when memory runs out.
+    /// The variance in lower-case hexadecimal digits. Fails only when memory runs out.
     fn variance(&self, alloc: Global) -> Result<Option<String>>
         ensures text { IfOk result (λ text. option_map string_bytes text ≡ option_map encode_lower (variance_hash self.now)) }
         ensures kind { IfErr result (λ e. e ≡ OutOfMemory) }
@@ -123,7 +124,7 @@ pub trait CacheHashKey {
         }
     }
 
-    /// The combined hash in lower-case hexadecimal digits. It is refused only when memory runs out.
+    /// The combined hash in lower-case hexadecimal digits. Fails only when memory runs out.
     fn combined(&self, alloc: Global) -> Result<String>
         ensures text { IfOk result (λ text. string_bytes text ≡ encode_lower (combined_of (primary_hash self.now) (variance_hash self.now))) }
         ensures spelled { IfOk result (λ text. SpellsHash (string_bytes text) (combined_of (primary_hash self.now) (variance_hash self.now))) }
@@ -144,16 +145,15 @@ fn slot_number(hash: HashBinary) -> u128
 #[derive(Drop)]
 pub struct CacheKey {
     primary: Vec<u8>,
-    // The hash of the primary bytes, and the combined hash: both are asked for at each use of a
-    // store, a lock or a manager, so they are made when the key is made or changed, and not again.
+    // The hash of the primary bytes, and the combined hash: each use of a store, a lock or a
+    // manager needs them, so they are computed once, when the key is made or changed.
     own_hash: HashBinary,
     combined: HashBinary,
     primary_override: Option<HashBinary>,
     variance: Option<HashBinary>,
     /// The tag of the user whom the entry is counted for.
     pub user_tag: Text,
-    /// The fills that the request cannot use, for which it does not wait. They are no part of the
-    /// hashes.
+    /// The fills that the request cannot use, for which it does not wait. They are not hashed.
     pub unusable: Option<UnusableFills>,
 }
 
@@ -228,7 +228,7 @@ impl CacheKey {
         self.variance.as_ref()
     }
 
-    /// Takes the variance out.
+    /// Removes the variance.
     pub fn remove_variance_key(&mut self)
         ensures { self.new ≡ record self.old { variance = None } }
     {
@@ -236,7 +236,7 @@ impl CacheKey {
         self.variance = None;
     }
 
-    /// Sets a primary hash in place of that of the primary bytes.
+    /// Sets a primary hash that replaces the one of the primary bytes.
     pub fn set_primary_bin_override(&mut self, hash: HashBinary)
         ensures { self.new ≡ record self.old { primary_override = Some hash } }
     {
@@ -244,7 +244,7 @@ impl CacheKey {
         self.primary_override = Some(hash);
     }
 
-    /// What eviction managers keep of the key. It is refused only when memory runs out.
+    /// The compact form of the key, which eviction managers keep. Fails only when memory runs out.
     pub fn to_compact(&self) -> Result<CompactCacheKey>
         ensures ok { IfOk result (λ compact. compact ≡ compact_of self.now) }
         ensures kind { IfErr result (λ e. e ≡ OutOfMemory) }
@@ -256,7 +256,7 @@ impl CacheKey {
         })
     }
 
-    /// A second key, equal to this one. It is refused only when memory runs out.
+    /// A second key, equal to this one. Fails only when memory runs out.
     pub fn copied(&self) -> Result<CacheKey>
         ensures ok { IfOk result (λ copy. copy ≡ self.now) }
         ensures kind { IfErr result (λ e. e ≡ OutOfMemory) }
@@ -317,7 +317,7 @@ pub struct CompactCacheKey {
 }
 
 impl CompactCacheKey {
-    /// A second key, equal to this one. It is refused only when memory runs out.
+    /// A second key, equal to this one. Fails only when memory runs out.
     pub fn copied(&self) -> Result<CompactCacheKey>
         ensures ok { IfOk result (λ copy. copy ≡ self.now) }
         ensures kind { IfErr result (λ e. e ≡ OutOfMemory) }

@@ -1,4 +1,4 @@
-//! Points in time. Nothing here reads a clock: each call is handed its moment.
+//! Points in time. Nothing here reads a clock: each call gets its moment as an argument.
 ghost use Rattle.std.specs.Prelude.{◌≡◌, ◌+◌, ◌-◌, ◌*◌, ◌/◌, ◌%◌, ◌<◌, ◌≤◌, ◌^◌, ◌↔◌, IfSome, IsSome, nat_eq};
 ghost use Rattle.std.specs.Ordering.{nat_cmp, as_partial_cmp};
 ghost use Rattle.std.specs.Cmp.{nat_eq_equiv, partial_equiv_from_equiv, partial_order_from_own_ties};
@@ -42,7 +42,7 @@ impl Moment {
     /// The epoch itself.
     pub const EPOCH: Moment = Moment { secs: 0, nanos: 0 };
 
-    /// The moment of these seconds and nanoseconds, if the nanoseconds are below a second.
+    /// The moment of these seconds and nanoseconds; `None` if the nanoseconds are a second or more.
     pub fn new(secs: u64, nanos: u32) -> Option<Moment>
         ensures made { IfSome result (λ m. m ≡ secs * 1000000000 + nanos) }
         ensures when { IsSome result ↔ (nanos < 1000000000) }
@@ -84,7 +84,7 @@ impl Moment {
         u128::from(self.secs) * 1_000_000_000 + u128::from(self.nanos)
     }
 
-    /// The moment of so many nanoseconds, if its seconds fit 64 bits.
+    /// The moment of so many nanoseconds; `None` if its seconds do not fit 64 bits.
     fn from_nanos(nanos: u128) -> Option<Moment>
         ensures made { IfSome result (λ m. m ≡ nanos) }
         ensures when { IsSome result ↔ IsMoment nanos }
@@ -96,7 +96,7 @@ impl Moment {
         })
     }
 
-    /// This much later, if that is a moment.
+    /// The moment this much later; `None` if its seconds do not fit 64 bits.
     pub fn checked_add(&self, time: Duration) -> Option<Moment>
         ensures made { IfSome result (λ m. m ≡ self.now + as_nanos time) }
         ensures when { IsSome result ↔ IsMoment (self.now + as_nanos time) }
@@ -104,7 +104,7 @@ impl Moment {
         Moment::from_nanos(self.as_nanos() + time.as_nanos())
     }
 
-    /// This much earlier, if that is not before the epoch.
+    /// The moment this much earlier; `None` if that is before the epoch.
     pub fn checked_sub(&self, time: Duration) -> Option<Moment>
         ensures made { IfSome result (λ m. m ≡ self.now - as_nanos time) }
         ensures when { IsSome result ↔ (as_nanos time ≤ self.now) }
@@ -113,7 +113,7 @@ impl Moment {
         Moment::from_nanos(nanos)
     }
 
-    /// The time since another moment, zero if that is later.
+    /// The time since another moment; zero if that moment is later.
     pub fn since(&self, earlier: Moment) -> Duration
         ensures { as_nanos result ≡ self.now - earlier }
     {

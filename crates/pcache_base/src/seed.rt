@@ -10,20 +10,21 @@ use crate::key::HashBinary;
 use std::hash::{BuildHasher, Hasher};
 use std::marker::Model;
 
-// 32 bits: of so many are the parts that are multiplied.
+// The numbers that are multiplied have 32 bits.
 const HALF: u64 = 1 << 32;
 
 // 64 bits.
 const WORD: u128 = 1 << 64;
 
-// A slot is one piece.
+// How many bytes a piece has at most, so that a slot (16 bytes) is one piece.
 const PIECE_LEN: usize = 16;
 
-/// What a hash table mixes into the hashes of its keys, so that nobody who does not know it can tell
-/// which keys meet. A contract sees the six numbers of 64 bits that are made of its bytes.
+/// What a hash table mixes into the hashes of its keys, so that nobody who does not know the seed
+/// can tell which keys collide. A contract sees the six numbers of 64 bits that are made of its
+/// bytes.
 ///
-/// There is none by default: whoever makes a table draws 16 bytes at random, once a process is
-/// enough, and keeps them to itself. No answer of a table depends on them.
+/// There is no default seed: whoever makes a table draws 16 bytes at random (once a process is
+/// enough) and keeps them secret. No result of a table depends on them.
 #[derive(Clone, Copy)]
 pub struct Seed {
     keys: [u64; 6],
@@ -40,7 +41,7 @@ impl Model for Seed {
 }
 
 impl Seed {
-    /// The seed of these bytes, which are to be drawn at random and told to nobody.
+    /// The seed of these bytes, which should be drawn at random and kept secret.
     pub fn new(drawn: [u8; 16]) -> Seed
         ensures { result ≡ keys_of drawn }
     {
@@ -59,8 +60,8 @@ impl Seed {
         }
     }
 
-    /// The seed that everybody knows, of sixteen zero bytes: for tests and replays, which then take the
-    /// same time again. Keys can be aimed at tables under it.
+    /// A seed that everybody knows, of sixteen zero bytes: for tests and replays, which then take the
+    /// same time on each run. Keys that collide under it can be constructed.
     pub fn fixed() -> Seed
         ensures { result ≡ keys_of (replicate 16 0) }
     {
@@ -120,7 +121,7 @@ impl Hasher for SeededHasher {
     }
 }
 
-// The state after the bytes of one write. Most writes are one piece, a number or a short text, which goes past the loop.
+// The state after the bytes of one write. Most writes are one piece, a number or a short text, and skip the loop.
 #[inline(always)]
 fn written(keys: &[u64; 6], before: u64, bytes: &[u8]) -> u64
     ensures { result ≡ written keys.now before bytes.now }
@@ -135,8 +136,8 @@ fn written(keys: &[u64; 6], before: u64, bytes: &[u8]) -> u64
     after_piece(keys, before, &bytes[0..len])
 }
 
-// The state after the bytes of one write of any length. It stands apart, so that what is inlined stays small, and takes the
-// keys by value: with a reference to them a hasher would have to stand in memory, and not in registers.
+// The state after the bytes of one write of any length. It is a function of its own, so that what is inlined stays small,
+// and takes the keys by value: with a reference to them a hasher would have to be in memory instead of registers.
 #[inline(never)]
 #[tactic(auto, unfolding(crate::specs::Seeds::written, crate::specs::Seeds::after_pieces))]
 fn written_in_pieces(keys: [u64; 6], before: u64, bytes: &[u8]) -> u64
@@ -162,8 +163,9 @@ fn after_piece(keys: &[u64; 6], state: u64, piece: &[u8]) -> u64
     mixed(keys, state.wrapping_add(piece.len() as u64), low, high)
 }
 
-// Two numbers that have all bytes of a piece in them: its first and its last word, which may overlap,
-// or of less than eight bytes its first and its last half of one, or of less than four these.
+// Two numbers that contain all bytes of a piece: of eight bytes or more its first and its last word,
+// which may overlap; of four to seven bytes its first and its last half of a word; of fewer its first
+// byte, and the middle one with the last.
 #[inline(always)]
 fn parts(piece: &[u8]) -> (u64, u64)
     requires { length piece.now ≤ 16 }
@@ -184,7 +186,7 @@ fn parts(piece: &[u8]) -> (u64, u64)
     }
 }
 
-// Four bytes as a number, the first lowest.
+// Four bytes as a number, the lowest first.
 #[inline(always)]
 fn load_half(piece: &[u8], at: usize) -> u64
     requires { at + 4 ≤ length piece.now }

@@ -1,8 +1,9 @@
 //! Owned text that contracts see as the list of its bytes.
 //!
-//! A `String` in a struct would put its buffer's place and room into every contract that compares
-//! such structs; a `Text` does not. The tags of users are short: a short text stands in the value
-//! itself, so that a key is copied, compared and let go without a look at the heap.
+//! A `String` in a struct would bring the address and the capacity of its buffer into every
+//! contract that compares such structs; a `Text` does not. The tags of users are short: a short
+//! text is kept in the value itself, so that a key is copied, compared and dropped without an
+//! access to the heap.
 ghost use Rattle.std.specs.Prelude.{◌≡◌, IfOk, IfErr, nat_eq, string_bytes};
 ghost use Rattle.std.specs.Ordering.{nat_cmp, as_partial_cmp};
 ghost use Rattle.std.specs.Cmp.{partial_equiv_from_equiv, partial_order_from_own_ties};
@@ -20,10 +21,10 @@ use std::fmt;
 use std::hash::{Hash, Hasher};
 use std::marker::Model;
 
-// The most bytes of a short text: with them it takes as much room as a `String`.
+// The most bytes of a short text: with so many it takes as much memory as a `String`.
 const SHORT: usize = 16;
 
-// Where the bytes of a text stand.
+// Where the bytes of a text are.
 #[derive(Drop)]
 pub(crate) enum Place {
     // In the value: at most 16 of them.
@@ -64,6 +65,7 @@ impl Text {
         }
     }
 
+    /// The text.
     pub fn as_str(&self) -> &str
         ensures { result.now ≡ self.now }
     {
@@ -73,7 +75,7 @@ impl Text {
         }
     }
 
-    /// A second text with the same bytes. It is refused only when memory runs out.
+    /// A second text with the same bytes. Fails only when memory runs out.
     pub fn copied(&self) -> Result<Text>
         ensures ok { IfOk result (λ copy. copy ≡ self.now) }
         ensures kind { IfErr result (λ e. e ≡ OutOfMemory) }

@@ -1,7 +1,7 @@
 //! Spans and tags of a trace, all without effect.
 //!
-//! The calls stand where a tracing back end would be told of a request's course. None of them does
-//! anything, and none calls the closure that it is given (so none requires that it may be called).
+//! The calls are made where a tracing back end would record the course of a request. None of them
+//! does anything, and none calls the closure that it gets (so none requires that it may be called).
 
 use crate::moment::Moment;
 
@@ -16,7 +16,7 @@ impl Tag {
     }
 }
 
-/// A stretch of a request's course. It is always inactive.
+/// A part of a request's course. It is always inactive.
 #[derive(Clone, Copy, Debug, PartialEq, Eq)]
 pub struct Span {}
 
@@ -61,6 +61,6 @@ impl SpanOptionsPlaceholder {
     }
 }
 
-/// What is handed on of a span. Nothing can be told to it.
+/// What is passed on of a span. Nothing is recorded through it.
 #[derive(Clone, Copy, Debug, PartialEq, Eq)]
 pub struct SpanHandle {}

@@ -138,7 +138,7 @@ impl<'a> Value<'a> {
     }
 }
 
-// Adds a name and its value to a message.
+// Adds a name and its value to the message that is hashed.
 #[tactic(auto, unfolding(crate::specs::Variance::spelled))]
 fn absorb(hasher: &mut Hasher, name: &[u8], value: &[u8])
     ensures { (m : List ℕ) → Holds hasher.old m → Holds hasher.new (m ++ spelled (name.now, value.now)) }
@@ -182,7 +182,7 @@ impl<'a> Model for VarianceBuilder<'a> {
 }
 
 impl<'a> VarianceBuilder<'a> {
-    /// No name yet.
+    /// A builder with no name.
     pub fn new(alloc: Global) -> VarianceBuilder<'a>
         ensures { result ≡ map.empty }
     {
@@ -200,7 +200,7 @@ impl<'a> VarianceBuilder<'a> {
         Ok(())
     }
 
-    /// Sets the value of a name. It is refused only when memory runs out, and then changes nothing.
+    /// Sets the value of a name. Fails only when memory runs out, and then changes nothing.
     pub fn add_value(&mut self, name: &'a str, value: &'a [u8]) -> Result<()>
         ensures ok { OnOk result (self.new ≡ map.insert self.old name.now value.now) }
         ensures err { OnErr result (self.new ≡ self.old) }
@@ -209,7 +209,7 @@ impl<'a> VarianceBuilder<'a> {
         self.add(Name::borrowed(name), Value::borrowed(value))
     }
 
-    /// Sets the value of a name to one that is kept. It is refused only when memory runs out, and
+    /// Sets the value of a name; the builder owns the value. Fails only when memory runs out, and
     /// then changes nothing.
     pub fn add_owned_value(&mut self, name: &'a str, value: Vec<u8>) -> Result<()>
         ensures ok { OnOk result (self.new ≡ map.insert self.old name.now value.items) }
@@ -219,8 +219,8 @@ impl<'a> VarianceBuilder<'a> {
         self.add(Name::borrowed(name), Value::owned(value))
     }
 
-    /// Sets the value of a name, both of which are kept. It is refused only when memory runs out,
-    /// and then changes nothing.
+    /// Sets the value of a name; the builder owns both. Fails only when memory runs out, and then
+    /// changes nothing.
     pub fn add_owned_name_value(&mut self, name: String, value: Vec<u8>) -> Result<()>
         ensures ok { OnOk result (self.new ≡ map.insert self.old (string_bytes name) value.items) }
         ensures err { OnErr result (self.new ≡ self.old) }
@@ -236,8 +236,8 @@ impl<'a> VarianceBuilder<'a> {
         self.values.len() > 0
     }
 
-    /// The hash of the names with their last values: of each name in byte order the name, byte 0, its
-    /// value, byte 0. None if there is no name. It takes no memory.
+    /// The hash of the names with their last values: of each name, in byte order, the name, byte 0,
+    /// its value and byte 0. `None` if there is no name. Takes no memory.
     pub fn finalize(self) -> Option<HashBinary>
         ensures none { IsNone result ↔ (map.len self.entry ≡ 0) }
         ensures value { IfSome result (λ hash. hash ≡ blake2b_128 (message self.entry)) }

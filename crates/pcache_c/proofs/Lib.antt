@@ -1,2 +1,9 @@
+pub mod Changed
+pub mod Copies
+pub mod Given
 pub mod HeldSteps
 pub mod LooseValues
+pub mod MetaBytes
+pub mod Numbered
+pub mod Outcomes
+pub mod Places

@@ -1,4 +1,4 @@
--- What a handle has: an object in a box that a pointer leads to, or nothing.
+-- The content of a handle: an object in a box to which a pointer points, or nothing (own).
 use Rattle.std.specs.Prelude.{Option, None, Some}
 use Rattle.std.specs.Box.Ownership.{box_owns}
 use base.Fml.{Fml, ftrue}

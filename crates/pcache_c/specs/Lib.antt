@@ -1,2 +1,12 @@
+pub mod Caches
+pub mod Codes
 pub mod Handle
+pub mod Handles
+pub mod Managers
+pub mod Numbers
 pub mod Objects
+pub mod Opening
+pub mod Reached
+pub mod Requests
+pub mod Seats
+pub mod Values

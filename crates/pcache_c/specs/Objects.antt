@@ -1,17 +1,29 @@
--- What an object is that a call made (own).
-use Rattle.std.specs.Prelude.{ℕ, List, Option, None, Some, codes}
-use Rattle.pcache_control.specs.Control.{ReadsField}
-use Rattle.pcache_meta.specs.MetaBytes.{SpellsMeta}
+-- The kinds of objects (own).
+use Rattle.std.specs.Prelude.{Option, None, Some}
+use Rattle.pcache_base.specs.Variance.{Varied}
+use Rattle.pcache_control.specs.declared.cache_control.CacheControl.{CacheControl}
+use Rattle.pcache_meta.specs.Meta.{Meta}
 use Rattle.pcache_meta.specs.declared.header.ResponseHeader.{ResponseHeader}
 use Rattle.pcache_c.specs.declared.object.Object.{Object}
 use Rattle.pcache_c.specs.declared.object.Object.TheVariants as object
+use Rattle.pcache_c.specs.declared.served.Served.{Served}
 
--- the meta that two byte strings spell
-abbrev pub IsReadMeta : List ℕ → List ℕ → Option Object → Type 0
-IsReadMeta internal header (Some (object.Meta m)) = SpellsMeta internal header m
-IsReadMeta internal header _ = ⊥
+abbrev pub as_variance : Object → Option Varied
+as_variance (object.Variance v) = Some v
+as_variance _ = None
 
--- what the Cache-Control of a head says
-abbrev pub IsReadControl : ResponseHeader → Option Object → Type 0
-IsReadControl head (Some (object.Control c)) = ReadsField head.headers (codes "cache-control") (Some c)
-IsReadControl head _ = ⊥
+abbrev pub as_head : Object → Option ResponseHeader
+as_head (object.Head h) = Some h
+as_head _ = None
+
+abbrev pub as_control : Object → Option CacheControl
+as_control (object.Control c) = Some c
+as_control _ = None
+
+abbrev pub as_meta : Object → Option Meta
+as_meta (object.Meta m) = Some m
+as_meta _ = None
+
+abbrev pub as_cache : Object → Option Served
+as_cache (object.Cache s) = Some s
+as_cache _ = None

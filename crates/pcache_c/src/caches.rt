@@ -1,40 +1,47 @@
 //! A cache with its requests: a store in memory, an eviction manager with one list, and a lock table.
 
+ghost use Rattle.std.specs.Prelude.{◌≡◌, ◌⊎◌, ◌*◌, IfErr, IfOk, IsUtf8, OnOk};
+ghost use Rattle.pcache_c.specs.Caches.{CopiesMeta, MakesCache, SaysCounts, key_with};
+ghost use Rattle.pcache_c.specs.Codes.{OnGood, OnText, bad_value, hash_at, no_memory, watermark_at};
+ghost use Rattle.pcache_c.specs.Handles.{AsksOf, IsSame, OnHandle, OnKind};
+ghost use Rattle.pcache_c.specs.Numbers.{held_number, phase_number};
+ghost use Rattle.pcache_c.specs.Objects.{as_cache, as_meta};
+ghost use Rattle.pcache_c.specs.Opening.{Ends, Opens};
+ghost use Rattle.pcache_c.specs.Reached.{OnRequest};
+ghost use Rattle.pcache_c.specs.Requests.{IsUnchanged, Renews, SetsMeta, meta_shown};
+
 use crate::codes::{BAD_HANDLE, BAD_VALUE, NO_MEMORY, OK, WRONG_KIND, code_of};
 use crate::handle::PcacheHandle;
-use crate::hashes::{hash_from, variance_from};
-use crate::managers::seed_of;
-use crate::metas::moment_of;
+use crate::managers::{seed_of, watermark_of};
 use crate::object::Object;
-use crate::requests;
-use crate::requests::ReadSoFar;
-use crate::served::{ListCache, Open, Served};
+use crate::reached;
+use crate::served::Served;
 use pcache_base::key::CacheKey;
 use pcache_evict::eviction::simple_lru;
 use std::alloc::Global;
 use std::time::Duration;
 
-/// What a cache has. A sum that does not fit is the largest number.
+/// The counts of a cache. A sum that does not fit is the largest number.
 #[repr(C)]
 #[derive(Clone, Copy)]
 pub struct PcacheCacheCounts {
-    /// The lengths of the complete bodies, added up: at most the limit.
+    /// The sum of the lengths of the complete bodies, in bytes: at most the limit.
     pub stored_bytes: u64,
     /// The number of complete bodies: at most the watermark, if there is one.
     pub bodies: usize,
-    /// The weights of the entries that the manager tracks, added up.
+    /// The sum of the weights of the entries that the manager tracks.
     pub weight: usize,
-    /// The number of these.
+    /// The number of these entries.
     pub entries: usize,
-    /// The weight of all that was evicted.
+    /// The sum of the weights of all evicted entries.
     pub evicted_weight: usize,
     /// The number of entries that were evicted.
     pub evicted_entries: usize,
 }
 
-/// A cache in which complete bodies have at most `limit` bytes together and are at most `watermark`
-/// unless that is 0. A permit ages out after so many milliseconds. The seed is 16 bytes that the
-/// caller drew at random.
+/// A cache whose complete bodies have at most `limit` bytes together, and number at most
+/// `watermark` unless that is 0. A permit ages out after so many milliseconds. The seed is 16 bytes
+/// that the caller drew at random.
 #[unsafe(no_mangle)]
 pub extern "C" fn pcache_cache_new(
     alloc: Global,
@@ -43,17 +50,15 @@ pub extern "C" fn pcache_cache_new(
     limit: usize,
     watermark: usize,
     age_timeout_millis: u64,
-) -> u32 {
+) -> u32
+    ensures { OnGood (hash_at seed.now) result (IsSame cache.old cache.new) (λ s.
+        MakesCache limit (watermark_at watermark) (age_timeout_millis * 1000000) cache.old cache.new result) }
+{
     let Some(seed) = seed_of(seed) else {
         return BAD_VALUE;
     };
-    let watermark = if watermark == 0 {
-        None
-    } else {
-        Some(watermark)
-    };
     let age_timeout = Duration::from_millis(age_timeout_millis);
-    match simple_lru::Manager::new_with_watermark(alloc, seed, limit, watermark) {
+    match simple_lru::Manager::new_with_watermark(alloc, seed, limit, watermark_of(watermark)) {
         Ok(manager) => {
             let served = Served::new(alloc, seed, manager, age_timeout);
             cache.fill(alloc, Object::Cache(served))
@@ -62,7 +67,10 @@ pub extern "C" fn pcache_cache_new(
     }
 }
 
-fn totals(served: &Served, out: &mut PcacheCacheCounts) -> u32 {
+fn totals(served: &Served, out: &mut PcacheCacheCounts) -> u32
+    ensures done { result ≡ 0 }
+    ensures says { SaysCounts served.now.cache out.new }
+{
     let totals = served.cache.totals();
     out.stored_bytes = u64::try_from(served.cache.stored_bytes()).unwrap_or(u64::MAX);
     out.bodies = served.cache.slots();
@@ -73,25 +81,38 @@ fn totals(served: &Served, out: &mut PcacheCacheCounts) -> u32 {
     OK
 }
 
+fn totals_of(object: &Object, out: &mut PcacheCacheCounts) -> u32
+    ensures { OnKind (as_cache object.now) result (out.new ≡ out.old) (λ s. (result ≡ 0) × SaysCounts s.cache out.new) }
+{
+    match object {
+        Object::Cache(served) => totals(served, out),
+        _ => WRONG_KIND,
+    }
+}
+
 /// What a cache has.
 #[unsafe(no_mangle)]
 pub extern "C" fn pcache_cache_totals(
     alloc: Global,
     cache: &mut PcacheHandle,
     out: &mut PcacheCacheCounts,
-) -> u32 {
+) -> u32
+    ensures says { AsksOf as_cache cache.old result (out.new ≡ out.old) (λ s. (result ≡ 0) × SaysCounts s.cache out.new) }
+    ensures same { IsSame cache.old cache.new }
+{
     let Some(object) = cache.take(alloc) else {
         return BAD_HANDLE;
     };
-    let code = match &*object {
-        Object::Cache(served) => totals(served, out),
-        _ => WRONG_KIND,
-    };
+    let code = totals_of(&*object, out);
     cache.put(object);
     code
 }
 
-fn key_from(alloc: Global, key: &[u8], tag: &[u8]) -> Result<CacheKey, u32> {
+fn key_from(alloc: Global, key: &[u8], tag: &[u8]) -> Result<CacheKey, u32>
+    ensures key { IfOk result (λ k. k ≡ key_with key.now tag.now) }
+    ensures text { OnOk result (IsUtf8 tag.now) }
+    ensures refused { IfErr result (λ k. ((k ≡ bad_value) × (¬ IsUtf8 tag.now)) ⊎ ((k ≡ no_memory) × IsUtf8 tag.now)) }
+{
     let Ok(tag) = std::str::from_utf8(tag) else {
         return Err(BAD_VALUE);
     };
@@ -104,8 +125,8 @@ fn key_from(alloc: Global, key: &[u8], tag: &[u8]) -> Result<CacheKey, u32> {
     }
 }
 
-/// Opens a request of a key, for the user with this tag, which is text. Its number is said; it has to be ended, and is ended
-/// with its cache.
+/// Opens a request for a key, for the user with this tag, which is UTF-8. Reports its number; it has to be ended, and is
+/// ended with its cache.
 #[unsafe(no_mangle)]
 pub extern "C" fn pcache_request_new(
     alloc: Global,
@@ -113,7 +134,10 @@ pub extern "C" fn pcache_request_new(
     key: &[u8],
     tag: &[u8],
     request: &mut u64,
-) -> u32 {
+) -> u32
+    ensures opens { OnText tag.now result (IsSame cache.old cache.new)
+        (OnHandle cache.old cache.new result (λ a b. Opens (key_with key.now tag.now) a b request.new result)) }
+{
     let key = match key_from(alloc, key, tag) {
         Ok(key) => key,
         Err(code) => return code,
@@ -121,165 +145,58 @@ pub extern "C" fn pcache_request_new(
     let Some(mut object) = cache.take(alloc) else {
         return BAD_HANDLE;
     };
-    let opened = match &mut *object {
-        Object::Cache(served) => served.open(alloc, key),
-        _ => Err(WRONG_KIND),
-    };
+    let code = reached::open(&mut *object, alloc, key, request);
     cache.put(object);
-    match opened {
-        Ok(number) => {
-            *request = number;
-            OK
-        }
-        Err(code) => code,
-    }
+    code
 }
 
-/// Ends a request, which gives back all that it holds. A permit that was not used dangles.
+/// Ends a request, which gives back all that it holds. A permit that was not released is dangling.
 #[unsafe(no_mangle)]
-pub extern "C" fn pcache_request_end(alloc: Global, cache: &mut PcacheHandle, request: u64) -> u32 {
+pub extern "C" fn pcache_request_end(alloc: Global, cache: &mut PcacheHandle, request: u64) -> u32
+    ensures { OnHandle cache.old cache.new result (λ a b. Ends request a b result) }
+{
     let Some(mut object) = cache.take(alloc) else {
         return BAD_HANDLE;
     };
-    let ended = match &mut *object {
-        Object::Cache(served) => served.end(request),
-        _ => Err(WRONG_KIND),
-    };
+    let code = reached::end(&mut *object, request);
     cache.put(object);
-    match ended {
-        Ok(()) => OK,
-        Err(code) => code,
-    }
+    code
 }
 
-// The cache of an object, and its open request with this number.
-fn opened(object: &mut Object, request: u64) -> Result<(&mut ListCache, &mut Open), u32> {
-    match object {
-        Object::Cache(served) => served.with(request),
-        _ => Err(WRONG_KIND),
-    }
-}
-
-/// Where a request stands, by the number that the header has.
+/// The phase of a request, as the header's number.
 #[unsafe(no_mangle)]
 pub extern "C" fn pcache_request_phase(
     alloc: Global,
     cache: &mut PcacheHandle,
     request: u64,
     phase: &mut u32,
-) -> u32 {
+) -> u32
+    ensures { OnRequest request cache.old cache.new result (λ c d o p. IsUnchanged c d o p × (result ≡ 0) × (phase.new ≡ phase_number o.request.cache.phase)) }
+{
     let Some(mut object) = cache.take(alloc) else {
         return BAD_HANDLE;
     };
-    let code = match opened(&mut *object, request) {
-        Ok((_, open)) => {
-            *phase = requests::number_of_phase(open.request.cache.phase());
-            OK
-        }
-        Err(code) => code,
-    };
+    let code = reached::phase(&mut *object, request, phase);
     cache.put(object);
     code
 }
 
-/// Asks the store at a moment, and the lock table if nothing is handed on. Says whether something was
-/// found, 1 or 0: that stays with the request until it is taken or passed.
+/// The lock that a request holds: 0 for nothing, 1 for the permit, 2 for a read lock.
 #[unsafe(no_mangle)]
-pub extern "C" fn pcache_request_look(
+pub extern "C" fn pcache_request_held(
     alloc: Global,
     cache: &mut PcacheHandle,
     request: u64,
-    now_secs: u64,
-    now_nanos: u32,
-    found: &mut u32,
-) -> u32 {
-    let Some(now) = moment_of(now_secs, now_nanos) else {
-        return BAD_VALUE;
-    };
+    held: &mut u32,
+) -> u32
+    ensures { OnRequest request cache.old cache.new result (λ c d o p. IsUnchanged c d o p × (result ≡ 0) × (held.new ≡ held_number o.request.cache.held)) }
+{
     let Some(mut object) = cache.take(alloc) else {
         return BAD_HANDLE;
     };
-    let code = match opened(&mut *object, request) {
-        Ok((cache, open)) => match requests::look(cache, open, now) {
-            Ok(is_there) => {
-                *found = u32::from(is_there);
-                OK
-            }
-            Err(code) => code,
-        },
-        Err(code) => code,
-    };
+    let code = reached::held(&mut *object, request, held);
     cache.put(object);
     code
-}
-
-/// Takes what a look-up found, as what it is worth by the number that the header has.
-#[unsafe(no_mangle)]
-pub extern "C" fn pcache_request_take(
-    alloc: Global,
-    cache: &mut PcacheHandle,
-    request: u64,
-    status: u32,
-    now_secs: u64,
-    now_nanos: u32,
-) -> u32 {
-    let Some(now) = moment_of(now_secs, now_nanos) else {
-        return BAD_VALUE;
-    };
-    let Some(status) = requests::status_of(status) else {
-        return BAD_VALUE;
-    };
-    let Some(mut object) = cache.take(alloc) else {
-        return BAD_HANDLE;
-    };
-    let code = match opened(&mut *object, request) {
-        Ok((cache, open)) => requests::take(cache, open, status, now),
-        Err(code) => code,
-    };
-    cache.put(object);
-    code
-}
-
-/// Lets go what a look-up found.
-#[unsafe(no_mangle)]
-pub extern "C" fn pcache_request_pass(
-    alloc: Global,
-    cache: &mut PcacheHandle,
-    request: u64,
-) -> u32 {
-    let Some(mut object) = cache.take(alloc) else {
-        return BAD_HANDLE;
-    };
-    let code = match opened(&mut *object, request) {
-        Ok((cache, open)) => requests::pass(cache, open),
-        Err(code) => code,
-    };
-    cache.put(object);
-    code
-}
-
-/// Goes on as a miss.
-#[unsafe(no_mangle)]
-pub extern "C" fn pcache_request_miss(
-    alloc: Global,
-    cache: &mut PcacheHandle,
-    request: u64,
-) -> u32 {
-    let Some(mut object) = cache.take(alloc) else {
-        return BAD_HANDLE;
-    };
-    let code = match opened(&mut *object, request) {
-        Ok((_, open)) => requests::miss(open),
-        Err(code) => code,
-    };
-    cache.put(object);
-    code
-}
-
-// The meta of what a request found or has, as an object.
-fn meta_from(object: &mut Object, request: u64) -> Result<Object, u32> {
-    let (_, open) = opened(object, request)?;
-    Ok(Object::Meta(requests::meta_of(open)?))
 }
 
 /// A copy of the meta of what a look-up found, else of what the request serves or fills.
@@ -289,37 +206,32 @@ pub extern "C" fn pcache_request_meta(
     cache: &mut PcacheHandle,
     request: u64,
     meta: &mut PcacheHandle,
-) -> u32 {
+) -> u32
+    ensures { OnRequest request cache.old cache.new result (λ c d o p. IsUnchanged c d o p × CopiesMeta (meta_shown o) meta.old meta.new result) }
+{
     let Some(mut object) = cache.take(alloc) else {
         return BAD_HANDLE;
     };
-    let copied = meta_from(&mut *object, request);
+    let copied = reached::meta_of(&mut *object, request);
     cache.put(object);
     match copied {
-        Ok(copy) => meta.fill(alloc, copy),
+        Ok(copy) => meta.fill(alloc, Object::Meta(copy)),
         Err(code) => code,
     }
 }
 
-// A call with a meta: the cache's own, with the meta that another handle has.
-fn with_meta(
-    alloc: Global,
-    cache: &mut PcacheHandle,
-    request: u64,
-    meta: &Object,
-    is_renewed: bool,
-) -> u32 {
-    let Object::Meta(meta) = meta else {
+// The same with the meta itself.
+fn set_meta_to(alloc: Global, cache: &mut PcacheHandle, request: u64, object: &Object) -> u32
+    ensures { OnKind (as_meta object.now) result (IsSame cache.old cache.new) (λ m. OnRequest request cache.old cache.new result (λ c d o p.
+        (d ≡ c) × SetsMeta m o p result)) }
+{
+    let Object::Meta(meta) = object else {
         return WRONG_KIND;
     };
     let Some(mut object) = cache.take(alloc) else {
         return BAD_HANDLE;
     };
-    let code = match opened(&mut *object, request) {
-        Ok((cache, open)) if is_renewed => requests::renew(cache, open, meta),
-        Ok((_, open)) => requests::set_meta(open, meta),
-        Err(code) => code,
-    };
+    let code = reached::set_meta(&mut *object, request, meta);
     cache.put(object);
     code
 }
@@ -331,12 +243,32 @@ pub extern "C" fn pcache_request_set_meta(
     cache: &mut PcacheHandle,
     request: u64,
     meta: &mut PcacheHandle,
-) -> u32 {
+) -> u32
+    ensures does { AsksOf as_meta meta.old result (IsSame cache.old cache.new) (λ m.
+        OnRequest request cache.old cache.new result (λ c d o p. (d ≡ c) × SetsMeta m o p result)) }
+    ensures meta { IsSame meta.old meta.new }
+{
     let Some(object) = meta.take(alloc) else {
         return BAD_HANDLE;
     };
-    let code = with_meta(alloc, cache, request, &*object, false);
+    let code = set_meta_to(alloc, cache, request, &*object);
     meta.put(object);
+    code
+}
+
+// The same with the meta itself.
+fn renew_to(alloc: Global, cache: &mut PcacheHandle, request: u64, object: &Object) -> u32
+    ensures { OnKind (as_meta object.now) result (IsSame cache.old cache.new) (λ m. OnRequest request cache.old cache.new result (λ c d o p.
+        Renews m c d o p result)) }
+{
+    let Object::Meta(meta) = object else {
+        return WRONG_KIND;
+    };
+    let Some(mut object) = cache.take(alloc) else {
+        return BAD_HANDLE;
+    };
+    let code = reached::renew(&mut *object, request, meta);
+    cache.put(object);
     code
 }
 
@@ -347,307 +279,15 @@ pub extern "C" fn pcache_request_renew(
     cache: &mut PcacheHandle,
     request: u64,
     meta: &mut PcacheHandle,
-) -> u32 {
+) -> u32
+    ensures does { AsksOf as_meta meta.old result (IsSame cache.old cache.new) (λ m.
+        OnRequest request cache.old cache.new result (λ c d o p. Renews m c d o p result)) }
+    ensures meta { IsSame meta.old meta.new }
+{
     let Some(object) = meta.take(alloc) else {
         return BAD_HANDLE;
     };
-    let code = with_meta(alloc, cache, request, &*object, true);
+    let code = renew_to(alloc, cache, request, &*object);
     meta.put(object);
-    code
-}
-
-/// Sets what the response varies on: a hash of 16 bytes, or of none for nothing.
-#[unsafe(no_mangle)]
-pub extern "C" fn pcache_request_vary(
-    alloc: Global,
-    cache: &mut PcacheHandle,
-    request: u64,
-    variance: &[u8],
-) -> u32 {
-    let variance = match variance_from(variance) {
-        Ok(variance) => variance,
-        Err(code) => return code,
-    };
-    let Some(mut object) = cache.take(alloc) else {
-        return BAD_HANDLE;
-    };
-    let code = match opened(&mut *object, request) {
-        Ok((cache, open)) => requests::vary(cache, open, variance),
-        Err(code) => code,
-    };
-    cache.put(object);
-    code
-}
-
-/// Begins the write. From here on others read the body while it comes.
-#[unsafe(no_mangle)]
-pub extern "C" fn pcache_request_begin(
-    alloc: Global,
-    cache: &mut PcacheHandle,
-    request: u64,
-) -> u32 {
-    let Some(mut object) = cache.take(alloc) else {
-        return BAD_HANDLE;
-    };
-    let code = match opened(&mut *object, request) {
-        Ok((cache, open)) => requests::begin(cache, open),
-        Err(code) => code,
-    };
-    cache.put(object);
-    code
-}
-
-/// Adds bytes to the write, and says whether they are the last.
-#[unsafe(no_mangle)]
-pub extern "C" fn pcache_request_write(
-    alloc: Global,
-    cache: &mut PcacheHandle,
-    request: u64,
-    bytes: &[u8],
-    eof: u32,
-) -> u32 {
-    let Some(mut object) = cache.take(alloc) else {
-        return BAD_HANDLE;
-    };
-    let code = match opened(&mut *object, request) {
-        Ok((cache, open)) => requests::write(alloc, cache, open, bytes, eof != 0),
-        Err(code) => code,
-    };
-    cache.put(object);
-    code
-}
-
-/// Ends the write and stores the body. Says how many bytes it has, and how many entries were evicted
-/// for it, whose bodies are gone. There is nothing to end without a write.
-#[unsafe(no_mangle)]
-pub extern "C" fn pcache_request_finish(
-    alloc: Global,
-    cache: &mut PcacheHandle,
-    request: u64,
-    stored: &mut usize,
-    evicted: &mut usize,
-) -> u32 {
-    let Some(mut object) = cache.take(alloc) else {
-        return BAD_HANDLE;
-    };
-    let code = match opened(&mut *object, request) {
-        Ok((cache, open)) => match requests::finish(cache, open) {
-            Ok((size, count)) => {
-                *stored = size;
-                *evicted = count;
-                OK
-            }
-            Err(code) => code,
-        },
-        Err(code) => code,
-    };
-    cache.put(object);
-    code
-}
-
-/// Reads on, to a buffer that has room for a byte at least. Says how many bytes it wrote, and what is
-/// to come: 1 if it wrote some, 0 at the end, 2 if nothing is there yet.
-#[unsafe(no_mangle)]
-pub extern "C" fn pcache_request_read(
-    alloc: Global,
-    cache: &mut PcacheHandle,
-    request: u64,
-    out: &mut [u8],
-    len: &mut usize,
-    more: &mut u32,
-) -> u32 {
-    let Some(mut object) = cache.take(alloc) else {
-        return BAD_HANDLE;
-    };
-    let code = match opened(&mut *object, request) {
-        Ok((cache, open)) => match requests::read(cache, open, out) {
-            Ok(read) => {
-                tell(read, len, more);
-                OK
-            }
-            Err(code) => code,
-        },
-        Err(code) => code,
-    };
-    cache.put(object);
-    code
-}
-
-fn tell(read: ReadSoFar, len: &mut usize, more: &mut u32) {
-    (*len, *more) = match read {
-        ReadSoFar::Some(count) => (count, 1),
-        ReadSoFar::End => (0, 0),
-        ReadSoFar::NotYet => (0, 2),
-    };
-}
-
-/// Ends the reader.
-#[unsafe(no_mangle)]
-pub extern "C" fn pcache_request_finish_hit(
-    alloc: Global,
-    cache: &mut PcacheHandle,
-    request: u64,
-) -> u32 {
-    let Some(mut object) = cache.take(alloc) else {
-        return BAD_HANDLE;
-    };
-    let code = match opened(&mut *object, request) {
-        Ok((cache, open)) => requests::finish_hit(cache, open),
-        Err(code) => code,
-    };
-    cache.put(object);
-    code
-}
-
-/// What a request holds of its key's lock: 0 for nothing, 1 for the permit, 2 for a read lock.
-#[unsafe(no_mangle)]
-pub extern "C" fn pcache_request_held(
-    alloc: Global,
-    cache: &mut PcacheHandle,
-    request: u64,
-    held: &mut u32,
-) -> u32 {
-    let Some(mut object) = cache.take(alloc) else {
-        return BAD_HANDLE;
-    };
-    let code = match opened(&mut *object, request) {
-        Ok((_, open)) => {
-            *held = requests::number_of_held(open);
-            OK
-        }
-        Err(code) => code,
-    };
-    cache.put(object);
-    code
-}
-
-/// Whether the wait for the lock is over at a moment: 0 if it is not, else how it ended by the number
-/// that the header has.
-#[unsafe(no_mangle)]
-pub extern "C" fn pcache_request_wait(
-    alloc: Global,
-    cache: &mut PcacheHandle,
-    request: u64,
-    now_secs: u64,
-    now_nanos: u32,
-    outcome: &mut u32,
-) -> u32 {
-    let Some(now) = moment_of(now_secs, now_nanos) else {
-        return BAD_VALUE;
-    };
-    let Some(mut object) = cache.take(alloc) else {
-        return BAD_HANDLE;
-    };
-    let code = match opened(&mut *object, request) {
-        Ok((cache, open)) => match requests::wait(cache, open, now) {
-            Ok(number) => {
-                *outcome = number;
-                OK
-            }
-            Err(code) => code,
-        },
-        Err(code) => code,
-    };
-    cache.put(object);
-    code
-}
-
-/// Releases the permit, with what the reason tells those who wait.
-#[unsafe(no_mangle)]
-pub extern "C" fn pcache_request_release(
-    alloc: Global,
-    cache: &mut PcacheHandle,
-    request: u64,
-    reason: u32,
-) -> u32 {
-    let Some(reason) = requests::reason_of(reason) else {
-        return BAD_VALUE;
-    };
-    let Some(mut object) = cache.take(alloc) else {
-        return BAD_HANDLE;
-    };
-    let code = match opened(&mut *object, request) {
-        Ok((cache, open)) => requests::release(cache, open, reason),
-        Err(code) => code,
-    };
-    cache.put(object);
-    code
-}
-
-/// Turns caching off for a request, and gives back all that it holds.
-#[unsafe(no_mangle)]
-pub extern "C" fn pcache_request_disable(
-    alloc: Global,
-    cache: &mut PcacheHandle,
-    request: u64,
-    reason: u32,
-) -> u32 {
-    let Some(reason) = requests::reason_of(reason) else {
-        return BAD_VALUE;
-    };
-    let Some(mut object) = cache.take(alloc) else {
-        return BAD_HANDLE;
-    };
-    let code = match opened(&mut *object, request) {
-        Ok((cache, open)) => requests::disable(cache, open, reason),
-        Err(code) => code,
-    };
-    cache.put(object);
-    code
-}
-
-/// Removes what stands under a request's key: the body, and what is being written. Says whether
-/// anything was there, 1 or 0.
-#[unsafe(no_mangle)]
-pub extern "C" fn pcache_request_purge(
-    alloc: Global,
-    cache: &mut PcacheHandle,
-    request: u64,
-    was: &mut u32,
-) -> u32 {
-    let Some(mut object) = cache.take(alloc) else {
-        return BAD_HANDLE;
-    };
-    let code = match opened(&mut *object, request) {
-        Ok((cache, open)) => match requests::purge(cache, open) {
-            Ok(there) => {
-                *was = u32::from(there);
-                OK
-            }
-            Err(code) => code,
-        },
-        Err(code) => code,
-    };
-    cache.put(object);
-    code
-}
-
-/// Ends the freshness of what stands under a request's key. Says whether a body was there, 1 or 0.
-#[unsafe(no_mangle)]
-pub extern "C" fn pcache_request_expire(
-    alloc: Global,
-    cache: &mut PcacheHandle,
-    request: u64,
-    now_secs: u64,
-    now_nanos: u32,
-    was: &mut u32,
-) -> u32 {
-    let Some(now) = moment_of(now_secs, now_nanos) else {
-        return BAD_VALUE;
-    };
-    let Some(mut object) = cache.take(alloc) else {
-        return BAD_HANDLE;
-    };
-    let code = match opened(&mut *object, request) {
-        Ok((cache, open)) => match requests::expire(cache, open, now) {
-            Ok(there) => {
-                *was = u32::from(there);
-                OK
-            }
-            Err(code) => code,
-        },
-        Err(code) => code,
-    };
-    cache.put(object);
     code
 }

@@ -1,5 +1,5 @@
 //! The keys of entries of eviction managers.
-ghost use Rattle.std.specs.Prelude.{◌≡◌, IfOk, None, Some, if◌then◌else◌};
+ghost use Rattle.pcache_c.specs.Managers.{MakesEntry};
 
 use crate::codes::{BAD_VALUE, NO_MEMORY};
 use crate::hashes::{hash_from, variance_from};
@@ -8,12 +8,12 @@ use pcache_base::text::Text;
 use pcache_evict::eviction::{CacheEntryId, CacheEntryKey};
 use std::alloc::Global;
 
-/// What stands beside the hash and the tag of an entry's key. A number counts only if its flag is
+/// The parts of an entry's key besides the hash and the tag. A number counts only if its flag is
 /// not 0.
 #[repr(C)]
 #[derive(Clone, Copy)]
 pub struct PcacheEntry {
-    /// The entry's number, of several entries of a key.
+    /// The entry's number, if a key has several entries.
     pub id: u64,
     /// Whether it has a number.
     pub has_id: u32,
@@ -24,14 +24,16 @@ pub struct PcacheEntry {
 }
 
 /// The key of an entry from a primary hash, a variance (of no bytes for none), a tag, which is
-/// text, and a number if there is one.
+/// UTF-8, and a number if there is one.
 pub(crate) fn entry_from(
     alloc: Global,
     primary: &[u8],
     variance: &[u8],
     tag: &[u8],
     entry: &PcacheEntry,
-) -> Result<CacheEntryKey, u32> {
+) -> Result<CacheEntryKey, u32>
+    ensures { MakesEntry primary.now variance.now tag.now entry.now result }
+{
     let Some(primary) = hash_from(primary) else {
         return Err(BAD_VALUE);
     };

@@ -1,5 +1,5 @@
 //! A handle, as C has it.
-ghost use Rattle.std.specs.Prelude.{◌≡◌, Option, None, Some, IfSome, IsTrue, is_some};
+ghost use Rattle.std.specs.Prelude.{◌≡◌, Option, None, Some, IsTrue, is_some};
 ghost use Rattle.std.specs.Coded.{coded_option};
 ghost use Rattle.pcache_c.specs.contracts.object.Object.{the_row};
 ghost use Rattle.pcache_c.specs.declared.object.Object.{Object};
@@ -56,10 +56,10 @@ impl Held {
     }
 }
 
-/// What a handle with an object in it begins with: the letters PCACHE01.
+/// The first word of a handle with an object: the letters PCACHE01.
 const TAG: u64 = 0x5043_4143_4845_3031;
 
-/// A handle, as C keeps it: an object in a box, or nothing. All zeros is nothing.
+/// A handle, as C keeps it: an object in a box, or nothing. All zeros means empty.
 #[repr(C)]
 #[derive(Drop)]
 pub struct PcacheHandle {
@@ -70,14 +70,20 @@ pub struct PcacheHandle {
 }
 
 impl PcacheHandle {
+    ghost use Rattle.std.specs.Prelude.{◌≡◌, ◌↔◌, None, Some, IsSome, IsTrue, option_map};
+    ghost use Rattle.pcache_c.specs.Handles.{Fills, object_of};
+
     /// Whether there is an object.
-    pub(crate) fn is_live(&self) -> bool {
+    pub(crate) fn is_live(&self) -> bool
+        ensures { IsTrue result ↔ IsSome (object_of self.now) }
+    {
         self.tag == TAG
     }
 
     /// Takes the object out, if there is one.
     pub(crate) fn take(&mut self, alloc: Global) -> Option<Box<Object>>
-        ensures taken { IfSome result (λ object. self.old.held.value ≡ Some object.value) }
+        ensures taken { option_map (λ object. object.value) result ≡ object_of self.old }
+        ensures none { object_of self.new ≡ None }
     {
         if self.tag != TAG {
             return None;
@@ -89,7 +95,7 @@ impl PcacheHandle {
 
     /// Puts an object into a handle that has none.
     pub(crate) fn fill(&mut self, alloc: Global, object: Object) -> u32
-        ensures filled { result ≡ 0 → self.new.held.value ≡ Some object }
+        ensures { Fills object self.old self.new result }
     {
         if self.is_live() {
             return BAD_HANDLE;
@@ -103,9 +109,9 @@ impl PcacheHandle {
         }
     }
 
-    /// Puts an object in.
+    /// Puts an object into the handle.
     pub(crate) fn put(&mut self, object: Box<Object>)
-        ensures put { self.new.held.value ≡ Some object.value }
+        ensures { object_of self.new ≡ Some object.value }
     {
         self.held = Held::of(Loose::of(object));
         self.tag = TAG;

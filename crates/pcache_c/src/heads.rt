@@ -1,14 +1,16 @@
 //! Heads of responses, what Cache-Control says of them, and whether they are to be stored.
-ghost use Rattle.std.specs.Prelude.{◌≡◌, ◌↔◌, IsTrue};
-ghost use Rattle.pcache_c.specs.Objects.{IsReadControl};
-ghost use Rattle.pcache_control.specs.Control.{allows_authorized};
+ghost use Rattle.std.specs.Prelude.{◌≡◌, None, option_map};
+ghost use Rattle.std.specs.Duration.{as_nanos};
+ghost use Rattle.pcache_c.specs.Handles.{AsksOf, ChangesOf, IsSame, OnKind, Turns};
+ghost use Rattle.pcache_c.specs.Objects.{as_control, as_head};
+ghost use Rattle.pcache_c.specs.Values.{AddsField, IsSeconds, MakesHead, ReadsControl, SaysControl};
 
 use crate::codes::{BAD_HANDLE, BAD_VALUE, NO_MEMORY, NONE, OK, WRONG_KIND, code_of};
 use crate::handle::PcacheHandle;
 use crate::metas::moment_of;
 use crate::object::Object;
 use http::StatusCode;
-use http_header::{HeaderName, HeaderValue};
+use http_header::{HeaderName, HeaderNameError, HeaderValue, HeaderValueError};
 use pcache_base::moment::Moment;
 use pcache_control::cache_control::{CacheControl, Cacheable};
 use pcache_control::defaults::CacheMetaDefaults;
@@ -21,23 +23,40 @@ use std::time::Duration;
 
 /// Begins the head of a response of HTTP/1.1 with this status and no fields.
 #[unsafe(no_mangle)]
-pub extern "C" fn pcache_head_new(alloc: Global, handle: &mut PcacheHandle, status: u16) -> u32 {
+pub extern "C" fn pcache_head_new(alloc: Global, handle: &mut PcacheHandle, status: u16) -> u32
+    ensures { MakesHead status handle.old handle.new result }
+{
     match StatusCode::from_u16(status) {
         Ok(status) => handle.fill(alloc, Object::Head(ResponseHeader::build(alloc, status))),
         Err(_) => BAD_VALUE,
     }
 }
 
-fn add_field(alloc: Global, head: &mut ResponseHeader, name: &[u8], value: &[u8]) -> u32 {
-    let Ok(name) = HeaderName::from_bytes(alloc, name) else {
-        return BAD_VALUE;
+fn add_field(alloc: Global, head: &mut ResponseHeader, name: &[u8], value: &[u8]) -> u32
+    ensures { AddsField name.now value.now head.old head.new result }
+{
+    let name = match HeaderName::from_bytes(alloc, name) {
+        Ok(name) => name,
+        Err(HeaderNameError::Invalid) => return BAD_VALUE,
+        Err(_) => return NO_MEMORY,
     };
-    let Ok(value) = HeaderValue::from_bytes(alloc, value) else {
-        return BAD_VALUE;
+    let value = match HeaderValue::from_bytes(alloc, value) {
+        Ok(value) => value,
+        Err(HeaderValueError::Invalid) => return BAD_VALUE,
+        Err(_) => return NO_MEMORY,
     };
     match head.headers.append(name, value) {
         Ok(_) => OK,
         Err(_) => NO_MEMORY,
+    }
+}
+
+fn add(alloc: Global, object: &mut Object, name: &[u8], value: &[u8]) -> u32
+    ensures { Turns as_head object.old object.new result (λ h k. AddsField name.now value.now h k result) }
+{
+    match object {
+        Object::Head(head) => add_field(alloc, head, name, value),
+        _ => WRONG_KIND,
     }
 }
 
@@ -48,25 +67,33 @@ pub extern "C" fn pcache_head_add(
     handle: &mut PcacheHandle,
     name: &[u8],
     value: &[u8],
-) -> u32 {
+) -> u32
+    ensures { ChangesOf as_head handle.old handle.new result (λ h k. AddsField name.now value.now h k result) }
+{
     let Some(mut object) = handle.take(alloc) else {
         return BAD_HANDLE;
     };
-    let code = match &mut *object {
-        Object::Head(head) => add_field(alloc, head, name, value),
-        _ => WRONG_KIND,
-    };
+    let code = add(alloc, &mut *object, name, value);
     handle.put(object);
     code
 }
 
 fn read_control(alloc: Global, head: &ResponseHeader, control: &mut PcacheHandle) -> u32
-    ensures read { result ≡ 0 → IsReadControl head.now control.new.held.value }
+    ensures { ReadsControl head.now control.old control.new result }
 {
     match CacheControl::from_resp_headers(alloc, head) {
         Ok(Some(read)) => control.fill(alloc, Object::Control(read)),
         Ok(None) => NONE,
         Err(e) => code_of(e),
+    }
+}
+
+fn read(alloc: Global, object: &Object, control: &mut PcacheHandle) -> u32
+    ensures { OnKind (as_head object.now) result (IsSame control.old control.new) (λ h. ReadsControl h control.old control.new result) }
+{
+    match object {
+        Object::Head(head) => read_control(alloc, head, control),
+        _ => WRONG_KIND,
     }
 }
 
@@ -76,14 +103,14 @@ pub extern "C" fn pcache_control_read(
     alloc: Global,
     control: &mut PcacheHandle,
     head: &mut PcacheHandle,
-) -> u32 {
+) -> u32
+    ensures reads { AsksOf as_head head.old result (IsSame control.old control.new) (λ h. ReadsControl h control.old control.new result) }
+    ensures head { IsSame head.old head.new }
+{
     let Some(object) = head.take(alloc) else {
         return BAD_HANDLE;
     };
-    let code = match &*object {
-        Object::Head(read) => read_control(alloc, read, control),
-        _ => WRONG_KIND,
-    };
+    let code = read(alloc, &*object, control);
     head.put(object);
     code
 }
@@ -98,7 +125,7 @@ pub struct PcacheAnswers {
     pub stale_while_revalidate_secs: u64,
     /// The seconds in which it may be served stale after an error.
     pub stale_if_error_secs: u64,
-    /// Whether it may be stored: 0 for no, 1 for yes, 2 for what is the default.
+    /// Whether it may be stored: 0 for no, 1 for yes, 2 for the default.
     pub cacheable: u32,
     /// Whether it may be stored if its request had an Authorization.
     pub authorized: u32,
@@ -110,7 +137,9 @@ pub struct PcacheAnswers {
     pub has_stale_if_error: u32,
 }
 
-fn seconds_of(duration: Option<Duration>) -> (u32, u64) {
+fn seconds_of(duration: Option<Duration>) -> (u32, u64)
+    ensures { IsSeconds (option_map as_nanos duration) result.0 result.1 }
+{
     match duration {
         Some(duration) => (1, duration.as_secs()),
         None => (0, 0),
@@ -119,7 +148,7 @@ fn seconds_of(duration: Option<Duration>) -> (u32, u64) {
 
 fn answer(control: &CacheControl, out: &mut PcacheAnswers) -> u32
     ensures done { result ≡ 0 }
-    ensures authorized { (out.new.authorized ≡ 1) ↔ IsTrue (allows_authorized control.now) }
+    ensures says { SaysControl control.now out.new }
 {
     let (has_fresh, fresh_secs) = seconds_of(control.fresh_duration());
     let (has_while, while_secs) = seconds_of(control.serve_stale_while_revalidate_duration());
@@ -139,25 +168,36 @@ fn answer(control: &CacheControl, out: &mut PcacheAnswers) -> u32
     OK
 }
 
+fn answers(object: &Object, out: &mut PcacheAnswers) -> u32
+    ensures { OnKind (as_control object.now) result (out.new ≡ out.old) (λ c. (result ≡ 0) × SaysControl c out.new) }
+{
+    match object {
+        Object::Control(control) => answer(control, out),
+        _ => WRONG_KIND,
+    }
+}
+
 /// What Cache-Control says.
 #[unsafe(no_mangle)]
 pub extern "C" fn pcache_control_answers(
     alloc: Global,
     control: &mut PcacheHandle,
     out: &mut PcacheAnswers,
-) -> u32 {
+) -> u32
+    ensures says { AsksOf as_control control.old result (out.new ≡ out.old) (λ c. (result ≡ 0) × SaysControl c out.new) }
+    ensures same { IsSame control.old control.new }
+{
     let Some(object) = control.take(alloc) else {
         return BAD_HANDLE;
     };
-    let code = match &*object {
-        Object::Control(read) => answer(read, out),
-        _ => WRONG_KIND,
-    };
+    let code = answers(&*object, out);
     control.put(object);
     code
 }
 
-fn no_default(_status: StatusCode) -> Option<Duration> {
+fn no_default(_status: StatusCode) -> Option<Duration>
+    ensures { result ≡ None }
+{
     None
 }
 
@@ -184,6 +224,20 @@ fn fill_meta(
     }
 }
 
+fn judge(
+    alloc: Global,
+    object: &Object,
+    authorization: u32,
+    windows: (u32, u32),
+    now: Moment,
+    meta: &mut PcacheHandle,
+) -> u32 {
+    match object {
+        Object::Head(head) => fill_meta(alloc, head, authorization, windows, now, meta),
+        _ => WRONG_KIND,
+    }
+}
+
 /// Whether the response of a head is to be stored: if so, its meta goes to a second handle, and if
 /// not, there is nothing to hand over. A response that says nothing of its lifetime is not stored.
 /// The windows are what holds in seconds if it says nothing of being served stale.
@@ -197,7 +251,9 @@ pub extern "C" fn pcache_resp_cacheable(
     stale_if_error_secs: u32,
     now_secs: u64,
     now_nanos: u32,
-) -> u32 {
+) -> u32
+    ensures { IsSame head.old head.new }
+{
     let Some(now) = moment_of(now_secs, now_nanos) else {
         return BAD_VALUE;
     };
@@ -205,10 +261,7 @@ pub extern "C" fn pcache_resp_cacheable(
         return BAD_HANDLE;
     };
     let windows = (stale_while_revalidate_secs, stale_if_error_secs);
-    let code = match &*object {
-        Object::Head(read) => fill_meta(alloc, read, authorization, windows, now, meta),
-        _ => WRONG_KIND,
-    };
+    let code = judge(alloc, &*object, authorization, windows, now, meta);
     head.put(object);
     code
 }

@@ -2,18 +2,21 @@
 //! The cache, for callers in C and Rust: a static library of exported functions.
 //!
 //! Nothing is decided here. Each function tests what the call that it makes requires, makes the
-//! call, and says by a code how it went. `docs/FROM_C.md` says what a caller has to uphold.
+//! call, and returns a code. `docs/FROM_C.md` says what a caller has to ensure.
 //!
-//! - `codes`: what the functions return
+//! - `codes`: the codes that the functions return
 //! - `handle`: objects as C keeps them; `object`: what they are; `loose`: a box taken apart
 //! - `hashes`: the hashes of keys, and variances
 //! - `heads`: heads of responses, and what Cache-Control says of them
 //! - `metas`: metas of stored responses, and their bytes
 //! - `entries`: the keys of entries of eviction managers
 //! - `managers`: the eviction managers
-//! - `caches`: a cache with its requests; `served`: the two as one object; `requests`: what requests do
+//! - `caches`: a cache, and its requests opened and ended; `calls`: what its requests do
+//! - `seats`: the numbers of open requests; `served`: a cache with its requests as one object; `reached`: the way from a number to its request; `requests`: the calls
+//!   themselves
 
 mod caches;
+mod calls;
 mod codes;
 mod entries;
 mod handle;
@@ -23,5 +26,7 @@ mod loose;
 mod managers;
 mod metas;
 mod object;
+mod reached;
 mod requests;
+mod seats;
 mod served;

@@ -9,7 +9,7 @@ use std::marker::Model;
 pub(crate) struct Loose<T, A: Allocator> {
     /// Where the value is.
     pub(crate) at: *mut T,
-    /// What frees it.
+    /// The allocator that frees it.
     pub(crate) alloc: A,
     /// The value.
     pub(crate) ghost value: { T },

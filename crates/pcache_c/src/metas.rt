@@ -1,23 +1,22 @@
 //! Metas of stored responses, and their bytes.
-ghost use Rattle.std.specs.Prelude.{◌≡◌, ◌≤◌, ◌+◌, ◌*◌, ◌↔◌, IfSome, Some};
-ghost use Rattle.pcache_c.specs.Objects.{IsReadMeta};
-ghost use Rattle.pcache_c.specs.declared.object.Object.TheVariants.{Meta};
-ghost use Rattle.pcache_meta.specs.Header.{shown};
-ghost use Rattle.pcache_meta.specs.Internal.{first_said};
-ghost use Rattle.pcache_meta.specs.Meta.{MayServeStale};
+ghost use Rattle.std.specs.Prelude.{◌≡◌};
+ghost use Rattle.pcache_c.specs.Codes.{OnGood, moment_at};
+ghost use Rattle.pcache_c.specs.Handles.{AsksOf, IsSame, OnKind};
+ghost use Rattle.pcache_c.specs.Objects.{as_head, as_meta};
+ghost use Rattle.pcache_c.specs.Values.{AreWritten, MakesMeta, ReadsMeta, SavesMeta, SaysMeta, SaysServable, meta_said, nanos_of};
 
 use crate::codes::{BAD_HANDLE, BAD_VALUE, OK, WRONG_KIND, code_of};
 use crate::handle::PcacheHandle;
-use crate::hashes::copy_out;
+use crate::hashes::put;
 use crate::object::Object;
 use pcache_base::moment::Moment;
 use pcache_meta::header::ResponseHeader;
 use pcache_meta::meta::CacheMeta;
 use std::alloc::Global;
 
-/// The moment of seconds and nanoseconds, if the nanoseconds are below a second.
+/// The moment of seconds and nanoseconds; `None` if the nanoseconds are a second or more.
 pub(crate) fn moment_of(secs: u64, nanos: u32) -> Option<Moment>
-    ensures { IfSome result (λ m. m ≡ secs * 1000000000 + nanos) }
+    ensures { result ≡ moment_at secs nanos }
 {
     Moment::new(secs, nanos)
 }
@@ -34,7 +33,7 @@ pub struct PcacheMoment {
 
 impl PcacheMoment {
     fn of(moment: Moment) -> PcacheMoment
-        ensures { result.secs * 1000000000 + result.nanos ≡ moment }
+        ensures { nanos_of result ≡ moment }
     {
         PcacheMoment {
             secs: moment.secs(),
@@ -43,7 +42,7 @@ impl PcacheMoment {
     }
 }
 
-/// What a meta says, beside its head.
+/// The content of a meta beside its head.
 #[repr(C)]
 #[derive(Clone, Copy)]
 pub struct PcacheMeta {
@@ -60,12 +59,9 @@ pub struct PcacheMeta {
 }
 
 fn new_meta(alloc: Global, head: &ResponseHeader, said: &PcacheMeta, meta: &mut PcacheHandle) -> u32
-    ensures made { result ≡ 0 → meta.new.held.value ≡ Some (Meta (record {
-      internal = first_said (said.now.fresh_until.secs * 1000000000 + said.now.fresh_until.nanos)
-          (said.now.created.secs * 1000000000 + said.now.created.nanos)
-          said.now.stale_while_revalidate_secs said.now.stale_if_error_secs;
-      header = shown head.now;
-    })) }
+    ensures { OnGood (moment_at said.now.created.secs said.now.created.nanos) result (IsSame meta.old meta.new) (λ created.
+        OnGood (moment_at said.now.fresh_until.secs said.now.fresh_until.nanos) result (IsSame meta.old meta.new) (λ until.
+        MakesMeta (meta_said created until said.now head.now) meta.old meta.new result)) }
 {
     let Some(created) = moment_of(said.created.secs, said.created.nanos) else {
         return BAD_VALUE;
@@ -87,6 +83,18 @@ fn new_meta(alloc: Global, head: &ResponseHeader, said: &PcacheMeta, meta: &mut 
     meta.fill(alloc, Object::Meta(made))
 }
 
+fn make(alloc: Global, object: &Object, said: &PcacheMeta, meta: &mut PcacheHandle) -> u32
+    ensures { OnKind (as_head object.now) result (IsSame meta.old meta.new) (λ h.
+        OnGood (moment_at said.now.created.secs said.now.created.nanos) result (IsSame meta.old meta.new) (λ created.
+        OnGood (moment_at said.now.fresh_until.secs said.now.fresh_until.nanos) result (IsSame meta.old meta.new) (λ until.
+        MakesMeta (meta_said created until said.now h) meta.old meta.new result))) }
+{
+    match object {
+        Object::Head(head) => new_meta(alloc, head, said, meta),
+        _ => WRONG_KIND,
+    }
+}
+
 /// A meta of what is said, for a response with this head. When it was updated is not read.
 #[unsafe(no_mangle)]
 pub extern "C" fn pcache_meta_new(
@@ -94,14 +102,17 @@ pub extern "C" fn pcache_meta_new(
     meta: &mut PcacheHandle,
     head: &mut PcacheHandle,
     said: &PcacheMeta,
-) -> u32 {
+) -> u32
+    ensures makes { AsksOf as_head head.old result (IsSame meta.old meta.new) (λ h.
+        OnGood (moment_at said.now.created.secs said.now.created.nanos) result (IsSame meta.old meta.new) (λ created.
+        OnGood (moment_at said.now.fresh_until.secs said.now.fresh_until.nanos) result (IsSame meta.old meta.new) (λ until.
+        MakesMeta (meta_said created until said.now h) meta.old meta.new result))) }
+    ensures head { IsSame head.old head.new }
+{
     let Some(object) = head.take(alloc) else {
         return BAD_HANDLE;
     };
-    let code = match &*object {
-        Object::Head(read) => new_meta(alloc, read, said, meta),
-        _ => WRONG_KIND,
-    };
+    let code = make(alloc, &*object, said, meta);
     head.put(object);
     code
 }
@@ -114,7 +125,7 @@ pub extern "C" fn pcache_meta_read(
     internal: &[u8],
     header: &[u8],
 ) -> u32
-    ensures read { result ≡ 0 → IsReadMeta internal.now header.now meta.new.held.value }
+    ensures { ReadsMeta internal.now header.now meta.old meta.new result }
 {
     match CacheMeta::deserialize(alloc, internal, header) {
         Ok(read) => meta.fill(alloc, Object::Meta(read)),
@@ -122,13 +133,9 @@ pub extern "C" fn pcache_meta_read(
     }
 }
 
-fn says(meta: &CacheMeta, out: &mut PcacheMeta) -> u32
+fn say(meta: &CacheMeta, out: &mut PcacheMeta) -> u32
     ensures done { result ≡ 0 }
-    ensures created { out.new.created.secs * 1000000000 + out.new.created.nanos ≡ meta.now.created }
-    ensures updated { out.new.updated.secs * 1000000000 + out.new.updated.nanos ≡ meta.now.updated }
-    ensures fresh { out.new.fresh_until.secs * 1000000000 + out.new.fresh_until.nanos ≡ meta.now.fresh_until }
-    ensures revalidating { out.new.stale_while_revalidate_secs ≡ meta.now.stale_while_revalidate_sec }
-    ensures failing { out.new.stale_if_error_secs ≡ meta.now.stale_if_error_sec }
+    ensures says { SaysMeta meta.now out.new }
 {
     out.created = PcacheMoment::of(meta.created());
     out.updated = PcacheMoment::of(meta.updated());
@@ -138,20 +145,29 @@ fn says(meta: &CacheMeta, out: &mut PcacheMeta) -> u32
     OK
 }
 
+fn says(object: &Object, out: &mut PcacheMeta) -> u32
+    ensures { OnKind (as_meta object.now) result (out.new ≡ out.old) (λ m. (result ≡ 0) × SaysMeta m out.new) }
+{
+    match object {
+        Object::Meta(meta) => say(meta, out),
+        _ => WRONG_KIND,
+    }
+}
+
 /// What a meta says, beside its head.
 #[unsafe(no_mangle)]
 pub extern "C" fn pcache_meta_says(
     alloc: Global,
     meta: &mut PcacheHandle,
     out: &mut PcacheMeta,
-) -> u32 {
+) -> u32
+    ensures says { AsksOf as_meta meta.old result (out.new ≡ out.old) (λ m. (result ≡ 0) × SaysMeta m out.new) }
+    ensures same { IsSame meta.old meta.new }
+{
     let Some(object) = meta.take(alloc) else {
         return BAD_HANDLE;
     };
-    let code = match &*object {
-        Object::Meta(read) => says(read, out),
-        _ => WRONG_KIND,
-    };
+    let code = says(&*object, out);
     meta.put(object);
     code
 }
@@ -168,18 +184,23 @@ pub struct PcacheServable {
     pub after_error: u32,
 }
 
-fn servable(meta: &CacheMeta, now: Moment, out: &mut PcacheServable) -> u32
+fn serve(meta: &CacheMeta, now: Moment, out: &mut PcacheServable) -> u32
     ensures done { result ≡ 0 }
-    ensures fresh { (out.new.fresh ≡ 1) ↔ (now ≤ meta.now.fresh_until) }
-    ensures revalidating { (out.new.while_revalidating ≡ 1)
-        ↔ MayServeStale meta.now.fresh_until meta.now.stale_while_revalidate_sec now }
-    ensures failing { (out.new.after_error ≡ 1)
-        ↔ MayServeStale meta.now.fresh_until meta.now.stale_if_error_sec now }
+    ensures says { SaysServable meta.now now out.new }
 {
     out.fresh = u32::from(meta.is_fresh(now));
     out.while_revalidating = u32::from(meta.serve_stale_while_revalidate(now));
     out.after_error = u32::from(meta.serve_stale_if_error(now));
     OK
+}
+
+fn servable(object: &Object, now: Moment, out: &mut PcacheServable) -> u32
+    ensures { OnKind (as_meta object.now) result (out.new ≡ out.old) (λ m. (result ≡ 0) × SaysServable m now out.new) }
+{
+    match object {
+        Object::Meta(meta) => serve(meta, now, out),
+        _ => WRONG_KIND,
+    }
 }
 
 /// Whether the response of a meta may be served at a moment.
@@ -190,19 +211,35 @@ pub extern "C" fn pcache_meta_servable(
     now_secs: u64,
     now_nanos: u32,
     out: &mut PcacheServable,
-) -> u32 {
+) -> u32
+    ensures says { OnGood (moment_at now_secs now_nanos) result (out.new ≡ out.old) (λ now.
+        AsksOf as_meta meta.old result (out.new ≡ out.old) (λ m. (result ≡ 0) × SaysServable m now out.new)) }
+    ensures same { IsSame meta.old meta.new }
+{
     let Some(now) = moment_of(now_secs, now_nanos) else {
         return BAD_VALUE;
     };
     let Some(object) = meta.take(alloc) else {
         return BAD_HANDLE;
     };
-    let code = match &*object {
-        Object::Meta(read) => servable(read, now, out),
-        _ => WRONG_KIND,
-    };
+    let code = servable(&*object, now, out);
     meta.put(object);
     code
+}
+
+// Writes two byte strings to two buffers, if both have room.
+fn write_both(first: &[u8], second: &[u8], internal: &mut [u8], header: &mut [u8]) -> u32
+    ensures { AreWritten first.now second.now internal.old internal.new header.old header.new result }
+{
+    if internal.len() < first.len() {
+        return BAD_VALUE;
+    }
+    if header.len() < second.len() {
+        return BAD_VALUE;
+    }
+    put(first, internal);
+    put(second, header);
+    OK
 }
 
 fn write_meta(
@@ -212,18 +249,33 @@ fn write_meta(
     header: &mut [u8],
     internal_len: &mut usize,
     header_len: &mut usize,
-) -> u32 {
+) -> u32
+    ensures { SavesMeta meta.now internal.old internal.new header.old header.new internal_len.new header_len.new result }
+{
     match meta.serialize(alloc) {
         Ok((first, second)) => {
             *internal_len = first.len();
             *header_len = second.len();
-            if internal.len() < first.len() || header.len() < second.len() {
-                return BAD_VALUE;
-            }
-            let _done = copy_out(first.as_slice(), internal);
-            copy_out(second.as_slice(), header)
+            write_both(first.as_slice(), second.as_slice(), internal, header)
         }
         Err(e) => code_of(e),
+    }
+}
+
+fn write(
+    alloc: Global,
+    object: &Object,
+    internal: &mut [u8],
+    header: &mut [u8],
+    internal_len: &mut usize,
+    header_len: &mut usize,
+) -> u32
+    ensures { OnKind (as_meta object.now) result ((internal.new ≡ internal.old) × (header.new ≡ header.old)) (λ m.
+        SavesMeta m internal.old internal.new header.old header.new internal_len.new header_len.new result) }
+{
+    match object {
+        Object::Meta(meta) => write_meta(alloc, meta, internal, header, internal_len, header_len),
+        _ => WRONG_KIND,
     }
 }
 
@@ -237,16 +289,15 @@ pub extern "C" fn pcache_meta_write(
     header: &mut [u8],
     internal_len: &mut usize,
     header_len: &mut usize,
-) -> u32 {
+) -> u32
+    ensures writes { AsksOf as_meta meta.old result ((internal.new ≡ internal.old) × (header.new ≡ header.old)) (λ m.
+        SavesMeta m internal.old internal.new header.old header.new internal_len.new header_len.new result) }
+    ensures same { IsSame meta.old meta.new }
+{
     let Some(object) = meta.take(alloc) else {
         return BAD_HANDLE;
     };
-    let code = match &*object {
-        Object::Meta(read) => {
-            write_meta(alloc, read, internal, header, internal_len, header_len)
-        }
-        _ => WRONG_KIND,
-    };
+    let code = write(alloc, &*object, internal, header, internal_len, header_len);
     meta.put(object);
     code
 }

@@ -1,4 +1,4 @@
-//! What handles lead to.
+//! The objects of handles.
 
 use crate::managers::Managed;
 use crate::served::Served;
@@ -8,10 +8,10 @@ use pcache_evict::eviction::{sharded_lru, simple_lru};
 use pcache_meta::header::ResponseHeader;
 use pcache_meta::meta::CacheMeta;
 
-/// What a handle leads to.
+/// The object of a handle.
 #[derive(Drop)]
 pub enum Object {
-    /// What a variance is made of.
+    /// A variance in progress.
     Variance(VarianceBuilder<'static>),
     /// The head of a response.
     Head(ResponseHeader),

@@ -1,20 +1,10 @@
-//! What the requests of a cache do. Each call tests what the call that it makes requires.
+//! What the requests of a cache do. Each call tests what the call that it makes requires, and says by a code how it went.
+ghost use Rattle.std.specs.Prelude.{◌≡◌, []};
+ghost use Rattle.pcache_c.specs.Numbers.{IsNumber, held_number, outcome_number, phase_number, reason_number, status_number};
+ghost use Rattle.pcache_c.specs.Requests.{Adds, Begins, CopyOf, EndsHit, Expires, Finishes, HandsOver, Looks, Misses, Passes, Purges, Reads, Releases, Renews, SetsMeta, Takes, TurnsOff, Varies, Waits, meta_shown, rest_of};
 
-ghost use Rattle.std.specs.Prelude.{◌≡◌, IfOk, IfSome, OnOk, is_some, [], None, Some, true, option_map};
-ghost use Rattle.pcache_base.specs.Key.{slot};
-ghost use Rattle.pcache_lock.specs.declared.lock.status.LockStatus.TheVariants.{Done, GiveUp};
-ghost use Rattle.pcache_request.specs.Phases.{IsDisabled};
-ghost use Rattle.pcache_request.specs.Releasing.{status_for};
-ghost use Rattle.pcache_request.specs.Requests.{HoldsNothing, begun_for, found_row, is_removed_by, missed, settled, store_writing, tracked_found, with_meta, writing};
-ghost use Rattle.pcache_request.specs.Variants.{looked_for, searched, seen_for, table_looked_for};
-ghost use Rattle.pcache_request.specs.LockUse.{unheld};
-ghost use Rattle.pcache_store.specs.Purge.{expire_answer, expired_at, purge_answer, purged_at};
-ghost use Rattle.pcache_store.specs.Readers.{reader_of};
-ghost use Rattle.pcache_store.specs.Store.{write_read};
-ghost use Rattle.pcache_cache.specs.Parts.{written_by};
-
-use crate::codes::{BAD_VALUE, NO_MEMORY, NONE, OK, WRONG_CALL, code_of};
-use crate::served::{ListCache, Open};
+use crate::codes::{NO_MEMORY, NONE, OK, WRONG_CALL, code_of};
+use crate::served::{ListCache, Open, let_go};
 use bytes::Bytes;
 use pcache_base::key::HashBinary;
 use pcache_base::moment::Moment;
@@ -26,15 +16,10 @@ use pcache_request::phase::{CachePhase, HitStatus};
 use std::alloc::Global;
 use std::mem;
 
-/// Whether more is to be read: some bytes were handed over; nothing more comes; nothing is there yet.
-pub(crate) enum ReadSoFar {
-    Some(usize),
-    End,
-    NotYet,
-}
-
 /// The number of a phase, as the header has them.
-pub(crate) fn number_of_phase(phase: CachePhase) -> u32 {
+pub(crate) fn number_of_phase(phase: CachePhase) -> u32
+    ensures { result ≡ phase_number phase }
+{
     match phase {
         CachePhase::Disabled(_) => 0,
         CachePhase::Uninit => 1,
@@ -51,7 +36,9 @@ pub(crate) fn number_of_phase(phase: CachePhase) -> u32 {
 }
 
 /// What a hit is worth, by the header's number.
-pub(crate) fn status_of(number: u32) -> Option<HitStatus> {
+pub(crate) fn status_of(number: u32) -> Option<HitStatus>
+    ensures { IsNumber status_number 7 number result }
+{
     match number {
         0 => Some(HitStatus::Expired),
         1 => Some(HitStatus::ForceExpired),
@@ -65,7 +52,9 @@ pub(crate) fn status_of(number: u32) -> Option<HitStatus> {
 }
 
 /// Why nothing is stored, by the header's number.
-pub(crate) fn reason_of(number: u32) -> Option<NoCacheReason> {
+pub(crate) fn reason_of(number: u32) -> Option<NoCacheReason>
+    ensures { IsNumber reason_number 13 number result }
+{
     match number {
         0 => Some(NoCacheReason::NeverEnabled),
         1 => Some(NoCacheReason::OriginNotCache),
@@ -84,45 +73,44 @@ pub(crate) fn reason_of(number: u32) -> Option<NoCacheReason> {
     }
 }
 
-/// How a wait ended, by the header's numbers.
-pub(crate) fn number_of_outcome(outcome: LockWaitOutcome) -> u32 {
+/// How a wait ended, by the header's numbers: 0 if it goes on.
+fn number_of_outcome(outcome: Poll<LockWaitOutcome>) -> u32
+    ensures { result ≡ outcome_number outcome }
+{
     match outcome {
-        LockWaitOutcome::Done => 1,
-        LockWaitOutcome::TransientError => 2,
-        LockWaitOutcome::Dangling => 3,
-        LockWaitOutcome::WaitTimeout => 4,
-        LockWaitOutcome::AgeTimeout => 5,
-        LockWaitOutcome::GiveUp => 6,
-        LockWaitOutcome::Abandoned { .. } => 7,
+        Poll::Pending => 0,
+        Poll::Ready(LockWaitOutcome::Done) => 1,
+        Poll::Ready(LockWaitOutcome::TransientError) => 2,
+        Poll::Ready(LockWaitOutcome::Dangling) => 3,
+        Poll::Ready(LockWaitOutcome::WaitTimeout) => 4,
+        Poll::Ready(LockWaitOutcome::AgeTimeout) => 5,
+        Poll::Ready(LockWaitOutcome::GiveUp) => 6,
+        Poll::Ready(LockWaitOutcome::Abandoned { .. }) => 7,
     }
 }
 
-/// Asks the store, and the lock table if nothing is handed on. Returns whether something was found, which stays with the
+/// Asks the store, and the lock table if nothing is handed on. Says whether something was found, which stays with the
 /// request until it is taken or passed.
-pub(crate) fn look(cache: &mut ListCache, open: &mut Open, now: Moment) -> Result<bool, u32>
-    ensures found { IfOk result (λ b. b ≡ is_some (seen_for cache.old.store open.old.request.cache)) }
-    ensures request { OnOk result (open.new.request.cache
-        ≡ looked_for cache.old.store cache.old.locks open.old.request.cache) }
-    ensures store { OnOk result (cache.new.store ≡ searched cache.old.store open.old.request.cache) }
-    ensures table { OnOk result (cache.new.locks
-        ≡ table_looked_for cache.old.store now open.old.request.cache cache.old.locks) }
+pub(crate) fn look(cache: &mut ListCache, open: &mut Open, now: Moment, found: &mut u32) -> u32
+    ensures { Looks now cache.old cache.new open.old open.new found.new result }
 {
     if open.found.is_some() || !open.request.cache.phase().may_look_up() {
-        return Err(WRONG_CALL);
+        return WRONG_CALL;
     }
     match cache.cache_lookup(&mut open.request, now) {
-        Ok(found) => {
-            let is_there = found.is_some();
-            if let Some((_meta, hit)) = mem::replace(&mut open.found, found) {
+        Ok(pair) => {
+            *found = u32::from(pair.is_some());
+            if let Some((_meta, hit)) = mem::replace(&mut open.found, pair) {
                 cache.let_go(hit);
             }
-            Ok(is_there)
+            OK
         }
-        Err(e) => Err(code_of(e)),
+        Err(e) => code_of(e),
     }
 }
 
-// Forgets what was read and not handed over: it is of another body than what is read from here on.
+// Forgets bytes that were read and not returned: they are of another body than the one that is read
+// from then on.
 fn forget_piece(open: &mut Open)
     ensures piece { open.new.piece ≡ [] }
     ensures request { open.new.request ≡ open.old.request }
@@ -132,13 +120,9 @@ fn forget_piece(open: &mut Open)
     open.place = 0;
 }
 
-/// Takes what a look-up found. Of what was read before, nothing is handed over any more.
+/// Takes the pair that a look-up found. Bytes that were read before are no longer returned.
 pub(crate) fn take(cache: &mut ListCache, open: &mut Open, status: HitStatus, now: Moment) -> u32
-    ensures request { result ≡ 0 → IfSome open.old.found (λ p. open.new.request.cache
-        ≡ found_row status p.0 (reader_of p.1) cache.old.locks open.old.request.cache) }
-    ensures tracked { result ≡ 0 → IfSome open.old.found (λ p. cache.new.tracked ≡ tracked_found status
-        (reader_of p.1) (write_read (reader_of p.1)) open.old.request.cache cache.old.tracked) }
-    ensures piece { result ≡ 0 → open.new.piece ≡ [] }
+    ensures { Takes status now cache.old cache.new open.old open.new result }
 {
     if !open.request.cache.phase().may_look_up() {
         return WRONG_CALL;
@@ -155,10 +139,9 @@ pub(crate) fn take(cache: &mut ListCache, open: &mut Open, status: HitStatus, no
     }
 }
 
-/// Lets go what a look-up found.
+/// Lets go the pair that a look-up found.
 pub(crate) fn pass(cache: &mut ListCache, open: &mut Open) -> u32
-    ensures request { open.new.request.cache ≡ open.old.request.cache }
-    ensures none { open.new.found ≡ None }
+    ensures { Passes cache.old cache.new open.old open.new result }
 {
     match open.found.take() {
         Some((_meta, hit)) => {
@@ -171,7 +154,7 @@ pub(crate) fn pass(cache: &mut ListCache, open: &mut Open) -> u32
 
 /// Goes on as a miss.
 pub(crate) fn miss(open: &mut Open) -> u32
-    ensures { result ≡ 0 → open.new.request.cache ≡ missed open.old.request.cache }
+    ensures { Misses open.old open.new result }
 {
     if open.found.is_some() || !open.request.cache.phase().may_miss() {
         return WRONG_CALL;
@@ -180,9 +163,9 @@ pub(crate) fn miss(open: &mut Open) -> u32
     OK
 }
 
-/// Takes a copy of a meta for what is to be stored.
+/// Sets a copy of a meta as that of the response that is to be stored.
 pub(crate) fn set_meta(open: &mut Open, meta: &CacheMeta) -> u32
-    ensures { result ≡ 0 → open.new.request.cache ≡ with_meta meta.now open.old.request.cache }
+    ensures { SetsMeta meta.now open.old open.new result }
 {
     if !open.request.cache.may_take_meta() {
         return WRONG_CALL;
@@ -197,7 +180,9 @@ pub(crate) fn set_meta(open: &mut Open, meta: &CacheMeta) -> u32
 }
 
 /// A copy of the meta of what a look-up found, else of the request's own.
-pub(crate) fn meta_of(open: &Open) -> Result<CacheMeta, u32> {
+pub(crate) fn meta_of(open: &Open) -> Result<CacheMeta, u32>
+    ensures { CopyOf (meta_shown open.now) result }
+{
     let meta = match (&open.found, open.request.cache.meta()) {
         (Some((meta, _)), _) => meta,
         (None, Some(meta)) => meta,
@@ -210,7 +195,9 @@ pub(crate) fn meta_of(open: &Open) -> Result<CacheMeta, u32> {
 }
 
 /// Serves a stale body on, of which the origin said that it is good, with this meta's dates and head.
-pub(crate) fn renew(cache: &mut ListCache, open: &mut Open, meta: &CacheMeta) -> u32 {
+pub(crate) fn renew(cache: &mut ListCache, open: &mut Open, meta: &CacheMeta) -> u32
+    ensures { Renews meta.now cache.old cache.new open.old open.new result }
+{
     if !open.request.cache.may_revalidate() {
         return WRONG_CALL;
     }
@@ -225,7 +212,9 @@ pub(crate) fn renew(cache: &mut ListCache, open: &mut Open, meta: &CacheMeta) ->
 }
 
 /// Sets what the response varies on.
-pub(crate) fn vary(cache: &mut ListCache, open: &mut Open, variance: Option<HashBinary>) -> u32 {
+pub(crate) fn vary(cache: &mut ListCache, open: &mut Open, variance: Option<HashBinary>) -> u32
+    ensures { Varies variance cache.old cache.new open.old open.new result }
+{
     if !open.request.cache.may_write() {
         return WRONG_CALL;
     }
@@ -233,14 +222,9 @@ pub(crate) fn vary(cache: &mut ListCache, open: &mut Open, variance: Option<Hash
     OK
 }
 
-/// Begins the write, which the request reads from here on.
+/// Begins the write, which the request reads from then on.
 pub(crate) fn begin(cache: &mut ListCache, open: &mut Open) -> u32
-    ensures request { result ≡ 0 → open.new.request.cache ≡ writing true cache.old.store.next (Some cache.old.store.next)
-        (begun_for open.old.request.cache.key open.old.request.cache.meta cache.old.store) open.old.request.cache }
-    ensures store { result ≡ 0 → cache.new.store
-        ≡ store_writing true cache.old.store.next open.old.request.cache cache.old.store }
-    ensures table { result ≡ 0 → cache.new.locks ≡ settled Done open.old.request.cache.held cache.old.locks }
-    ensures piece { result ≡ 0 → open.new.piece ≡ [] }
+    ensures { Begins cache.old cache.new open.old open.new result }
 {
     if !open.request.cache.may_write() {
         return WRONG_CALL;
@@ -262,9 +246,7 @@ pub(crate) fn write(
     bytes: &[u8],
     eof: bool,
 ) -> u32
-    ensures request { open.new.request.cache ≡ open.old.request.cache }
-    ensures store { result ≡ 0 → cache.new.store
-        ≡ written_by open.old.request.cache.write bytes.now eof cache.old.store }
+    ensures { Adds bytes.now eof cache.old cache.new open.old open.new result }
 {
     if !open.request.cache.phase().is_filling() {
         return WRONG_CALL;
@@ -279,60 +261,94 @@ pub(crate) fn write(
     }
 }
 
-/// Ends the write. Returns how many bytes were stored, and how many entries were evicted for them.
-pub(crate) fn finish(cache: &mut ListCache, open: &mut Open) -> Result<(usize, usize), u32> {
+/// Ends the write. Says how many bytes were stored, and how many entries were evicted for them.
+pub(crate) fn finish(
+    cache: &mut ListCache,
+    open: &mut Open,
+    stored: &mut usize,
+    evicted: &mut usize,
+) -> u32
+    ensures { Finishes stored.new evicted.new cache.old cache.new open.old open.new result }
+{
     if !open.request.cache.phase().is_filling() || !cache.may_end(&open.request) {
-        return Err(WRONG_CALL);
+        return WRONG_CALL;
     }
     match cache.finish_miss_handler(&mut open.request) {
-        Ok(Some(report)) => Ok((report.size, report.evicted.len())),
-        Ok(None) => Err(NONE),
-        Err(e) => Err(code_of(e)),
+        Ok(Some(report)) => {
+            *stored = report.size;
+            *evicted = report.evicted.len();
+            OK
+        }
+        Ok(None) => NONE,
+        Err(e) => code_of(e),
     }
 }
 
-/// Hands over bytes of the body that is read, as many as there are and have room.
+/// Hands over bytes of the body that is read, as many as there are and have room. Says how many, and what is to come: 1 if
+/// there were some, 0 at the end, 2 if nothing is there yet.
 pub(crate) fn read(
     cache: &mut ListCache,
     open: &mut Open,
     out: &mut [u8],
-) -> Result<ReadSoFar, u32> {
-    if out.is_empty() {
-        return Err(BAD_VALUE);
-    }
+    len: &mut usize,
+    more: &mut u32,
+) -> u32
+    ensures { Reads out.old out.new len.new more.new cache.old cache.new open.old open.new result }
+{
     if open.place >= open.piece.len() {
-        if !open.request.cache.has_body_reader() {
-            return Err(WRONG_CALL);
-        }
-        match cache.read_body(&mut open.request) {
-            Ok(Poll::Ready(Some(piece))) => {
-                open.piece = piece;
-                open.place = 0;
-            }
-            Ok(Poll::Ready(None)) => return Ok(ReadSoFar::End),
-            Ok(Poll::Pending) => return Ok(ReadSoFar::NotYet),
-            Err(e) => return Err(code_of(e)),
-        }
+        return read_on(cache, open, out, len, more);
     }
-    Ok(ReadSoFar::Some(hand_over(open, out)))
+    *len = hand_over(open, out);
+    *more = 1;
+    OK
+}
+
+// The same if nothing is left of what was read.
+fn read_on(
+    cache: &mut ListCache,
+    open: &mut Open,
+    out: &mut [u8],
+    len: &mut usize,
+    more: &mut u32,
+) -> u32
+    requires { rest_of open.old ≡ [] }
+    ensures { Reads out.old out.new len.new more.new cache.old cache.new open.old open.new result }
+{
+    if !open.request.cache.has_body_reader() {
+        return WRONG_CALL;
+    }
+    match cache.read_body(&mut open.request) {
+        Ok(Poll::Ready(Some(piece))) => {
+            open.piece = piece;
+            open.place = 0;
+            *len = hand_over(open, out);
+            *more = 1;
+        }
+        Ok(Poll::Ready(None)) => (*len, *more) = (0, 0),
+        Ok(Poll::Pending) => (*len, *more) = (0, 2),
+        Err(e) => return code_of(e),
+    }
+    OK
 }
 
 // Copies what has room, and returns how much.
-fn hand_over(open: &mut Open, out: &mut [u8]) -> usize {
-    let rest = open.piece.len().saturating_sub(open.place);
-    let count = rest.min(out.len());
-    let end = open.place.saturating_add(count);
-    if let Some(bytes) = open.piece.as_slice().get(open.place..end) {
-        if let Some(room) = out.get_mut(..count) {
-            room.copy_from_slice(bytes);
-        }
-    }
-    open.place = end;
+fn hand_over(open: &mut Open, out: &mut [u8]) -> usize
+    ensures bytes { HandsOver (rest_of open.old) out.old out.new (rest_of open.new) result }
+    ensures rest { open.new ≡ record open.old { place = open.new.place } }
+{
+    let Some(rest) = open.piece.as_slice().get(open.place..) else {
+        return 0;
+    };
+    let count = rest.len().min(out.len());
+    out[..count].copy_from_slice(&rest[..count]);
+    open.place += count;
     count
 }
 
 /// Ends the reader.
-pub(crate) fn finish_hit(cache: &mut ListCache, open: &mut Open) -> u32 {
+pub(crate) fn finish_hit(cache: &mut ListCache, open: &mut Open) -> u32
+    ensures { EndsHit cache.old cache.new open.old open.new result }
+{
     if !open.request.cache.phase().may_finish_hit() {
         return WRONG_CALL;
     }
@@ -344,7 +360,9 @@ pub(crate) fn finish_hit(cache: &mut ListCache, open: &mut Open) -> u32 {
 }
 
 /// What the request holds of its key's lock: 0 for nothing, 1 for the permit, 2 for a read lock.
-pub(crate) fn number_of_held(open: &Open) -> u32 {
+pub(crate) fn number_of_held(open: &Open) -> u32
+    ensures { result ≡ held_number open.now.request.cache.held }
+{
     match open.request.cache.held() {
         None => 0,
         Some(Locked::Write(_)) => 1,
@@ -352,23 +370,25 @@ pub(crate) fn number_of_held(open: &Open) -> u32 {
     }
 }
 
-/// Whether the wait for the lock is over: 0 if it is not, else how it ended.
-pub(crate) fn wait(cache: &mut ListCache, open: &mut Open, now: Moment) -> Result<u32, u32> {
+/// Whether the wait for the lock is over: says 0 if it is not, else how it ended.
+pub(crate) fn wait(cache: &mut ListCache, open: &mut Open, now: Moment, outcome: &mut u32) -> u32
+    ensures { Waits now outcome.new cache.old cache.new open.old open.new result }
+{
     if !open.request.cache.phase().is_on() || !open.request.cache.is_cache_locked() {
-        return Err(WRONG_CALL);
+        return WRONG_CALL;
     }
     match cache.cache_lock_wait(&mut open.request, now) {
-        Ok(Poll::Ready(outcome)) => Ok(number_of_outcome(outcome)),
-        Ok(Poll::Pending) => Ok(0),
-        Err(e) => Err(code_of(e)),
+        Ok(polled) => {
+            *outcome = number_of_outcome(polled);
+            OK
+        }
+        Err(e) => code_of(e),
     }
 }
 
-/// Releases the permit, with what the reason tells those who wait.
+/// Releases the permit, with the status of the reason.
 pub(crate) fn release(cache: &mut ListCache, open: &mut Open, reason: NoCacheReason) -> u32
-    ensures table { result ≡ 0 → cache.new.locks
-        ≡ settled (status_for (λ text. GiveUp) reason) open.old.request.cache.held cache.old.locks }
-    ensures request { result ≡ 0 → open.new.request.cache ≡ unheld open.old.request.cache }
+    ensures { Releases reason cache.old cache.new open.old open.new result }
 {
     if !open.request.cache.may_release(reason) {
         return WRONG_CALL;
@@ -381,46 +401,45 @@ pub(crate) fn release(cache: &mut ListCache, open: &mut Open, reason: NoCacheRea
 
 /// Turns caching off for this request, and gives back all that it holds.
 pub(crate) fn disable(cache: &mut ListCache, open: &mut Open, reason: NoCacheReason) -> u32
-    ensures off { result ≡ 0 → IsDisabled open.new.request.cache.phase }
-    ensures held { result ≡ 0 → HoldsNothing open.new.request.cache }
+    ensures { TurnsOff reason cache.old cache.new open.old open.new result }
 {
     if !open.request.cache.may_disable(reason) {
         return WRONG_CALL;
     }
-    pass(cache, open);
+    let_go(cache, open.found.take());
     forget_piece(open);
     cache.disable(&mut open.request, reason);
     OK
 }
 
-/// Removes what stands under the request's key. Returns whether anything was there.
-pub(crate) fn purge(cache: &mut ListCache, open: &mut Open) -> Result<bool, u32>
-    ensures there { IfOk result (λ there. there ≡ is_removed_by
-        (purge_answer true cache.old.store (option_map slot open.old.request.cache.key))) }
-    ensures store { OnOk result (cache.new.store
-        ≡ purged_at cache.old.store (option_map slot open.old.request.cache.key)) }
+/// Removes what stands under the request's key. Says whether anything was there, 1 or 0.
+pub(crate) fn purge(cache: &mut ListCache, open: &mut Open, was: &mut u32) -> u32
+    ensures { Purges was.new cache.old cache.new open.old open.new result }
 {
     if !open.request.cache.phase().may_purge() {
-        return Err(WRONG_CALL);
+        return WRONG_CALL;
     }
     match cache.purge(&mut open.request) {
-        Ok(was_there) => Ok(was_there),
-        Err(e) => Err(code_of(e)),
+        Ok(there) => {
+            *was = u32::from(there);
+            OK
+        }
+        Err(e) => code_of(e),
     }
 }
 
-/// Ends the freshness of what stands under the request's key. Returns whether a body was there.
-pub(crate) fn expire(cache: &mut ListCache, open: &mut Open, now: Moment) -> Result<bool, u32>
-    ensures there { IfOk result (λ there. there ≡ is_removed_by
-        (expire_answer cache.old.store (option_map slot open.old.request.cache.key))) }
-    ensures store { OnOk result (cache.new.store
-        ≡ expired_at now cache.old.store (option_map slot open.old.request.cache.key)) }
+/// Ends the freshness of what stands under the request's key. Says whether a body was there, 1 or 0.
+pub(crate) fn expire(cache: &mut ListCache, open: &mut Open, now: Moment, was: &mut u32) -> u32
+    ensures { Expires now was.new cache.old cache.new open.old open.new result }
 {
     if !open.request.cache.phase().may_purge() {
-        return Err(WRONG_CALL);
+        return WRONG_CALL;
     }
     match cache.expire(&mut open.request, now) {
-        Ok(was_there) => Ok(was_there),
-        Err(e) => Err(code_of(e)),
+        Ok(there) => {
+            *was = u32::from(there);
+            OK
+        }
+        Err(e) => code_of(e),
     }
 }

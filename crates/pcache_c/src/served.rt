@@ -1,6 +1,13 @@
 //! A cache with its open requests, as one object.
+ghost use Rattle.std.specs.Prelude.{◌≡◌, ℕ, None, option_map};
+ghost use Rattle.std.specs.Duration.{as_nanos};
+ghost use Rattle.pcache_store.specs.Readers.{reader_of};
+ghost use Rattle.pcache_c.specs.Opening.{EndsNumber, EndsRequest, IsNew, OpensRequest, new_cache};
+ghost use Rattle.pcache_c.specs.Requests.{left_found};
+ghost use Rattle.pcache_c.specs.Seats.{request_at};
 
-use crate::codes::{BAD_HANDLE, NO_MEMORY};
+use crate::codes::{BAD_HANDLE, NO_MEMORY, OK};
+use crate::seats::{Seat, Seats};
 use bytes::Bytes;
 use pcache_base::key::CacheKey;
 use pcache_base::seed::Seed;
@@ -9,7 +16,6 @@ use pcache_evict::eviction::simple_lru;
 use pcache_meta::meta::CacheMeta;
 use pcache_store::memory::MemHitHandler;
 use std::alloc::Global;
-use std::mem;
 use std::time::Duration;
 
 /// The mark of the cache of a handle, and of its requests.
@@ -18,18 +24,21 @@ pub(crate) struct OfHandle;
 /// A cache over one recency list.
 pub(crate) type ListCache = Cache<simple_lru::Manager, OfHandle>;
 
-/// An open request, with what a look-up of it found and what was read and not handed over yet.
+/// An open request, with the pair that its look-up found and the bytes that were read and not
+/// returned yet.
 pub(crate) struct Open {
     pub(crate) request: CacheRequest<OfHandle>,
     pub(crate) found: Option<(CacheMeta, MemHitHandler)>,
     pub(crate) piece: Bytes,
-    // The first byte of the piece that was not handed over.
+    // The index of the first byte of the piece that was not returned.
     pub(crate) place: usize,
 }
 
 impl Open {
     // Gives back all that the request holds.
-    fn end(self, cache: &mut ListCache) {
+    fn end(self, cache: &mut ListCache)
+        ensures { EndsRequest cache.old cache.new self }
+    {
         let Open {
             request,
             found,
@@ -37,28 +46,24 @@ impl Open {
             place: _,
         } = self;
         drop(piece);
-        if let Some((_meta, hit)) = found {
-            cache.let_go(hit);
-        }
+        let_go(cache, found);
         cache.end(request);
     }
 }
 
-// A place for an open request. A number names it only with its round, which goes up when the place is free again.
-struct Seat {
-    round: u32,
-    // The next free place, counted from 1.
-    next_free: u32,
-    open: Option<Open>,
+/// Lets go what a look-up found.
+pub(crate) fn let_go(cache: &mut ListCache, found: Option<(CacheMeta, MemHitHandler)>)
+    ensures { cache.new ≡ record cache.old { store = left_found (option_map (λ q. (q.0, reader_of q.1)) found) cache.old.store } }
+{
+    if let Some((_meta, hit)) = found {
+        cache.let_go(hit);
+    }
 }
 
-/// A cache with its open requests. A request's number is its place and the round of this place, so a number is not given twice
-/// before a place was free 2^32 times.
+/// A cache with its open requests.
 pub struct Served {
     pub(crate) cache: ListCache,
-    seats: Vec<Seat>,
-    // The first free place, counted from 1.
-    first_free: u32,
+    pub(crate) seats: Seats<Open>,
 }
 
 impl Served {
@@ -67,107 +72,72 @@ impl Served {
         seed: Seed,
         manager: simple_lru::Manager,
         age_timeout: Duration,
-    ) -> Served {
+    ) -> Served
+        ensures cache { result.cache ≡ new_cache manager (as_nanos age_timeout) }
+        ensures none { (number : ℕ) → request_at result.seats number ≡ None }
+    {
         Served {
             cache: Cache::new(alloc, seed, manager, age_timeout),
-            seats: Vec::new(alloc),
-            first_free: 0,
+            seats: Seats::new(alloc),
         }
     }
 
-    /// Opens a request of a key. Returns its number.
-    pub(crate) fn open(&mut self, alloc: Global, key: CacheKey) -> Result<u64, u32> {
-        let place = self.free_place()?;
-        let mut request = CacheRequest::new(alloc);
-        request.cache.set_cache_key(key);
-        let open = Open {
-            request,
-            found: None,
-            piece: Bytes::new(),
-            place: 0,
+    /// Opens a request of a key, and says its number.
+    pub(crate) fn open(&mut self, alloc: Global, key: CacheKey, number: &mut u64) -> u32
+        ensures { OpensRequest key self.old self.new number.new result }
+    {
+        let Some(place) = self.seats.free_place() else {
+            return NO_MEMORY;
         };
-        let Some(seat) = self.seats.get_mut(place as usize) else {
-            open.end(&mut self.cache);
-            return Err(NO_MEMORY);
-        };
-        self.first_free = seat.next_free;
-        let number = (u64::from(seat.round) << 32) | u64::from(place);
-        if let Some(before) = mem::replace(&mut seat.open, Some(open)) {
-            before.end(&mut self.cache);
-        }
-        Ok(number)
-    }
-
-    // A place that is free; a new one if there is none.
-    fn free_place(&mut self) -> Result<u32, u32> {
-        if self.first_free > 0 {
-            return Ok(self.first_free - 1);
-        }
-        let Ok(place) = u32::try_from(self.seats.len()) else {
-            return Err(NO_MEMORY);
-        };
-        if place == u32::MAX || self.seats.reserve(1).is_err() {
-            return Err(NO_MEMORY);
-        }
-        self.seats.push_reserved(Seat {
-            round: 0,
-            next_free: 0,
-            open: None,
-        });
-        self.first_free = place + 1;
-        Ok(place)
-    }
-
-    /// The cache, and an open request by its number.
-    pub(crate) fn with(&mut self, number: u64) -> Result<(&mut ListCache, &mut Open), u32> {
-        let place = (number & 0xffff_ffff) as usize;
-        let Some(seat) = self.seats.get_mut(place) else {
-            return Err(BAD_HANDLE);
-        };
-        if u64::from(seat.round) != number >> 32 {
-            return Err(BAD_HANDLE);
-        }
-        match seat.open.as_mut() {
-            Some(open) => Ok((&mut self.cache, open)),
-            None => Err(BAD_HANDLE),
-        }
+        *number = self.seats.put(place, new_open(alloc, key));
+        OK
     }
 
     /// Ends a request, which gives back all that it holds.
-    pub(crate) fn end(&mut self, number: u64) -> Result<(), u32> {
-        let place = (number & 0xffff_ffff) as u32;
-        let Some(seat) = self.seats.get_mut(place as usize) else {
-            return Err(BAD_HANDLE);
-        };
-        if u64::from(seat.round) != number >> 32 {
-            return Err(BAD_HANDLE);
+    pub(crate) fn end(&mut self, number: u64) -> u32
+        ensures { EndsNumber number self.old self.new result }
+    {
+        match self.seats.take(number) {
+            Some(open) => {
+                open.end(&mut self.cache);
+                OK
+            }
+            None => BAD_HANDLE,
         }
-        let Some(open) = seat.open.take() else {
-            return Err(BAD_HANDLE);
-        };
-        seat.round = seat.round.wrapping_add(1);
-        seat.next_free = self.first_free;
-        self.first_free = place.saturating_add(1);
-        open.end(&mut self.cache);
-        Ok(())
     }
 }
 
-// The end of a cache ends its requests.
+// A request that was just opened.
+fn new_open(alloc: Global, key: CacheKey) -> Open
+    ensures { IsNew key result }
+{
+    let mut request = CacheRequest::new(alloc);
+    request.cache.set_cache_key(key);
+    Open {
+        request,
+        found: None,
+        piece: Bytes::new(),
+        place: 0,
+    }
+}
+
+// Ending a cache ends its requests.
 impl Drop for Served {
     fn drop(self) {
         let Served {
             mut cache,
-            mut seats,
-            first_free: _,
+            seats: Seats {
+                mut seats,
+                first_free: _,
+            },
         } = self;
         'seats: while let Some(seat) = seats.pop() {
             let Seat {
                 round: _,
                 next_free: _,
-                open,
+                request,
             } = seat;
-            if let Some(open) = open {
+            if let Some(open) = request {
                 open.end(&mut cache);
             }
         }

@@ -65,7 +65,7 @@ own_goes_on s t k stage now began b at is own =
     (subst (λ x. is_own_write x (Some k) (write_in (stage_begun stage began s.next (Some s.next))) ≡ true) (sym is)
     (own-wrote (store_begun (slot k) began s) k (write_in (stage_begun stage began s.next (Some s.next))) b (own-begun s k stage began own)))
 
--- a put that stands so has no write
+-- a put in this stage has no write
 pub own_nothing : (t : Store) (k : Key) (now stage : Stage) → now ≡ stage → write_in stage ≡ None → is_own_write t (Some k) (write_in now) ≡ true
 own_nothing t k now stage at none = subst (λ x. is_own_write t (Some k) x ≡ true) (sym (ap write_in at ∙ none)) refl
 

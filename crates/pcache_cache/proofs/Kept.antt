@@ -54,7 +54,7 @@ kept_fewer limits m s t fewer k = record {
 pub kept_slots : (limits : Limits) (m : Tracked) (s t : Store) → t.slots ≡ s.slots → IsKept limits m s → IsKept limits m t
 kept_slots limits m s t same k = kept_fewer limits m s t (fewer-slots s t same) k
 
--- what holds at both ends of a call that may be refused
+-- what holds at both ends of a call that may fail
 pub on-both : {A : Type 0} (result : Result A ErrorType) {P Q R : Type 0} → OnOk result P → OnErr result Q → (P → R) → (Q → R) → R
 on-both (Ok a) p q f g = f p
 on-both (Err e) p q f g = g q
@@ -173,7 +173,7 @@ kept_writing limits m s t streams n r is k =
 pub kept_begun : (limits : Limits) (m : Tracked) (s t : Store) (r : Request) → t ≡ begun_for r.key r.meta s → IsKept limits m s → IsKept limits m t
 kept_begun limits m s t r is k = subst (IsKept limits m) (sym is) (kept_fewer limits m s (begun_for r.key r.meta s) (fewer-begun_for r.key r.meta s) k)
 
--- a begin that may be refused, before or after the write began
+-- a begin that may fail, before or after the write began
 pub kept_beginning : {A : Type 0} (B C D E F G : ErrorType → Type 0) (limits : Limits) (m : Tracked) (s t : Store) (r : Request) (result : Result A ErrorType) → OnOk result (t ≡ store_writing true s.next r s)
     → IfErr result (λ e. (B e × (t ≡ s) × C e × D e) ⊎ (E e × (t ≡ begun_for r.key r.meta s) × F e × G e)) → IsKept limits m s → IsKept limits m t
 kept_beginning B C D E F G limits m s t r (Ok a) ok err k = kept_writing limits m s t true s.next r ok k
@@ -194,7 +194,7 @@ kept_renewed limits m s t x key result ok err k =
 
 -- ---- removals
 
--- what is tracked once an entry of a slot is taken out, under which nothing is complete any more
+-- what is tracked once an entry of a slot is removed, under which nothing is complete any more
 pub kept_purged : (limits : Limits) (m : Tracked) (s : Store) (k : ℕ) (e : CacheEntryKey) → entry_slot e ≡ k → IsKept limits m s → IsKept limits (remove m e) (purged s k)
 kept_purged limits m s k e of kept = record {
   exact = λ q b is.

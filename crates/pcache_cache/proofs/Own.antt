@@ -158,7 +158,7 @@ filling-key phase.StaleUpdating k fills has = absurd fills
 filling-key phase.Revalidated k fills has = absurd fills
 filling-key (phase.RevalidatedNoCache r) k fills has = absurd fills
 
--- a begin that is not refused
+-- a begin that does not fail
 pub beginning_own : {A E : Type 0} (r r' : Request) (s t : Store) (result : Result A E) → MayWrite r → HasKey r.phase r.key → r.uses.eviction ≡ true
     → OnOk result (r' ≡ writing true s.next (Some s.next) (begun_for r.key r.meta s) r) → OnOk result (t ≡ store_writing true s.next r s) → OnOk result (MayEnd t r')
 beginning_own r r' s t (Err e) may has uses request store = tt
@@ -167,7 +167,7 @@ beginning_own r r' s t (Ok a) may has uses request store = subst (λ x. MayEnd t
   own = writing_own r s r.key r.meta refl refl (filling-key r.phase r.key may.0 has) may.1;
 }))
 
--- bytes that may be refused leave it so
+-- adding bytes, which may fail, leaves it so
 pub body_own : {A E : Type 0} (s t : Store) (key : Option Key) (write : Option ℕ) (n m : ℕ) (bytes : List ℕ) (eof : Bool) (result : Result A E) → Some n ≡ write → m ≡ n
     → OnOk result (t ≡ wrote s n bytes eof) → OnErr result (t ≡ s) → is_own_write s key write ≡ true → is_own_write t key (Some m) ≡ true
 body_own s t key write n m bytes eof (Ok a) is same ok err own =

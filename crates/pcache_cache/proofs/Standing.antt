@@ -82,7 +82,7 @@ pub fewer-dropped_by : (s : Store) (o : Option ℕ) → Fewer s.slots (dropped_b
 fewer-dropped_by s None = fewer-same s.slots
 fewer-dropped_by s (Some n) = fewer-dropped s n
 
--- a meta that keeps its number is set in the place of another
+-- a meta that keeps its number replaces another
 pub fewer-changed : (f : Meta → Meta) → ((m : Meta) → (f m).entry_id ≡ m.entry_id) → (s : Store) (k : ℕ) → Fewer s.slots (meta_changed f s k).slots
 fewer-changed f keeps s k =
     elim (get s.slots k) as (λ o. get s.slots k ≡ o → Fewer s.slots (meta_changed_on f s.slots k o)) [

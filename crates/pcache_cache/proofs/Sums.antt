@@ -74,7 +74,7 @@ abbrev pub HasEntry : (Slot → ℕ) → (ℕ → ℕ) → FinMap nat_cmp Slot �
 HasEntry f g xs m k = (e : CacheEntryKey) × (entry_slot e ≡ k) × (share f (get xs k) ≤ share g (get m e))
 
 module _ (f : Slot → ℕ) (g : ℕ → ℕ) where
-  -- the others once a key and its entry are taken out
+  -- the others once a key and its entry are removed
   rest-has : (xs : FinMap nat_cmp Slot) (m : Tracked) (k : ℕ) (e : CacheEntryKey) → entry_slot e ≡ k → ((q : ℕ) → (share f (get xs q) ≡ 0) ⊎ HasEntry f g xs m q)
       → (q : ℕ) → (share f (get (remove xs k) q) ≡ 0) ⊎ HasEntry f g (remove xs k) (remove m e) q
   rest-has xs m k e of all q =
@@ -91,7 +91,7 @@ module _ (f : Slot → ℕ) (g : ℕ → ℕ) where
             ]
       ] refl
 
-  -- a key that adds nothing is taken out, and no entry
+  -- a key that adds nothing is removed, and no entry
   rest-none : (xs : FinMap nat_cmp Slot) (m : Tracked) (k : ℕ) → ((q : ℕ) → (share f (get xs q) ≡ 0) ⊎ HasEntry f g xs m q) → (q : ℕ) → (share f (get (remove xs k) q) ≡ 0) ⊎ HasEntry f g (remove xs k) m q
   rest-none xs m k all q =
       elim (eq_by_cmp nat_cmp q k) as (λ b. eq_by_cmp nat_cmp q k ≡ b → (share f (get (remove xs k) q) ≡ 0) ⊎ HasEntry f g (remove xs k) m q) [

@@ -1,4 +1,4 @@
--- A store, an eviction manager and a lock table as one value, and what always holds of them (own).
+-- A store, an eviction manager and a lock table as one value, and their invariant (own).
 use Rattle.std.specs.Prelude.{◌≡◌, ℕ, ◌≤◌, not, Bool, true, false, List, Option, Some, None, IfSome, cond, length}
 use Rattle.std.specs.FinMap.{get}
 use Rattle.pcache_base.specs.Key.{Key, slot}
@@ -19,18 +19,18 @@ pub record Parts : Type 0 where
   pub evicted : Evicted
   pub locks : Locks
 
--- each key under which a body is complete has an entry of its own, with the number of the write that stored the body, tracked
--- with exactly the body's length
+-- each key with a complete body has an entry of its own, with the number of the write that stored the body, tracked with
+-- exactly the body's length
 abbrev pub TracksExactly : Store → Tracked → Type 0
 TracksExactly s m = (k : ℕ) (b : Stored) → complete_body (get s.slots k) ≡ Some b
     → (e : CacheEntryKey) × (entry_slot e ≡ k) × (get m e ≡ Some (length b.bytes)) × (id_of e ≡ b.meta.entry_id)
 
--- the complete bodies are within the limits: their lengths added up, and their number
+-- the complete bodies are within the limits: the sum of their lengths, and their number
 pub record IsBounded (limits : Limits) (s : Store) : Type 0 where
   pub bytes : stored_bytes s ≤ limits.weight
   pub count : IfSome limits.watermark (λ most. slots s ≤ most)
 
--- what always holds
+-- the invariant
 pub record IsKept (limits : Limits) (m : Tracked) (s : Store) : Type 0 where
   pub exact : TracksExactly s m
   pub bounded : IsBounded limits s
@@ -46,12 +46,12 @@ pub record MayEnd (s : Store) (r : Request) : Type 0 where
   pub uses : r.uses.eviction ≡ true
   pub own : is_own_write s r.key r.write ≡ true
 
--- whether a request's write takes more bytes: there is one, and its last bytes were not said
+-- whether a request's write takes more bytes: there is one, and its end was not announced
 abbrev pub takes_bytes : Store → Option ℕ → Bool
 takes_bytes s None = false
 takes_bytes s (Some w) = not (is_told (get s.writes w))
 
--- the store once they were offered
+-- the store after bytes were offered to it
 abbrev pub written_by : Option ℕ → List ℕ → Bool → Store → Store
 written_by None bytes eof s = s
 written_by (Some w) bytes eof s = cond (is_told (get s.writes w)) s (wrote s w bytes eof)

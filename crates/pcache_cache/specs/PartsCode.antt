@@ -1,4 +1,4 @@
--- A code of what contracts see of a cache, which a model's value needs.
+-- An encoding of what contracts see of a cache, which the value of a model needs (own).
 use Rattle.std.specs.Prelude.{ℕ, Option, refl}
 use Rattle.std.specs.Coded.{Coded, code_by, coded×, coded_ℕ, coded_option}
 use Rattle.std.specs.FinMap.{code}

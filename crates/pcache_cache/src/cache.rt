@@ -1,4 +1,4 @@
-//! The value itself.
+//! The cache: a store, a manager and a lock table as one value.
 ghost use Rattle.std.specs.Prelude.{◌≡◌};
 ghost use Rattle.std.specs.FinMap as map;
 
@@ -12,32 +12,34 @@ use std::alloc::Global;
 use std::marker::{Model, PhantomData};
 use std::time::Duration;
 
-/// The totals that an eviction manager reports; a total that is larger than a `usize` is the largest one.
+/// The totals that an eviction manager reports. A total that does not fit is the largest `usize`.
 #[derive(Clone, Copy, Debug, PartialEq, Eq)]
 pub struct Totals {
-    /// The weights of the tracked entries, added up, in bytes.
+    /// The sum of the weights of the tracked entries, in bytes.
     pub weight: usize,
     /// The number of tracked entries.
     pub items: usize,
-    /// The weight and the number of all that was evicted.
+    /// The sum of the weights, and the number, of all evicted entries.
     pub evicted_weight: usize,
+    /// The number of all evicted entries.
     pub evicted_items: usize,
 }
 
 /// A store in memory, an eviction manager and a lock table as one value.
 ///
-/// At all times, whatever call was refused: the lengths of the complete bodies add up to at most the manager's limit, there are
-/// at most as many as its watermark, and each key with a complete body has an entry of its own, tracked with exactly that
-/// body's length.
+/// At all times, whichever calls failed: the sum of the lengths of the complete bodies is at most the manager's limit, their
+/// number is at most its watermark, and each key with a complete body has an entry of its own, tracked with exactly that body's
+/// length.
 ///
-/// `K` is a mark, a type of the caller's that nothing else uses: a request of one cache cannot be lent another's parts.
+/// `K` is a mark, a type of the caller's that nothing else uses: a request of one cache cannot be used with the parts
+/// of another.
 #[derive(Drop)]
 pub struct Cache<M: EvictionManager, K> {
     pub(crate) alloc: Global,
     pub(crate) store: MemCache,
     pub(crate) manager: M,
     pub(crate) lock: CacheLock,
-    of: PhantomData<K>,
+    pub(crate) of: PhantomData<K>,
 }
 
 impl<M: EvictionManager, K> Model for Cache<M, K> {
@@ -61,8 +63,8 @@ impl<M: EvictionManager, K> Cache<M, K> {
     ghost use Rattle.pcache_store.specs.Totals.{slots, stored_bytes};
     ghost use Rattle.pcache_cache.specs.Parts.{MayEnd, TracksExactly};
 
-    /// A cache with nothing stored. Permits age out after `age_timeout`. The store's tables hash under the seed, which no
-    /// answer shows. The manager may track entries already, as those that it loaded.
+    /// An empty cache. Permits age out after `age_timeout`. The store's tables hash under the seed, on which no result
+    /// depends. The manager may track entries already, for example loaded ones.
     pub fn new(alloc: Global, seed: Seed, manager: M, age_timeout: Duration) -> Cache<M, K>
         ensures { result ≡ record { store = record { slots = map.empty; writes = map.empty; next = 0 }; tracked = M.tracked manager; limits = M.limits manager; evicted = M.evicted manager; locks = no_locks (as_nanos age_timeout) } }
     {
@@ -80,8 +82,8 @@ impl<M: EvictionManager, K> Cache<M, K> {
         self.alloc
     }
 
-    /// The lengths of the complete bodies, added up: at most the manager's limit on weight. Each key with a complete body has
-    /// an entry of its own, tracked with exactly that body's length.
+    /// The sum of the lengths of the complete bodies, in bytes: at most the manager's limit on weight. Each key with a
+    /// complete body has an entry of its own, tracked with exactly that body's length.
     pub fn stored_bytes(&self) -> u128
         ensures value { result ≡ stored_bytes self.now.store }
         ensures within { result ≤ self.now.limits.weight }
@@ -114,7 +116,7 @@ impl<M: EvictionManager, K> Cache<M, K> {
     }
 
     /// Whether a request may end its write here: it uses the manager, and has no write, or one of this cache and of its own
-    /// key. That is so of each request that began its write here, until the write ends.
+    /// key. This holds of each request that began its write here, until the write ends.
     pub fn may_end(&self, request: &CacheRequest<K>) -> bool
         ensures { IsTrue result ↔ MayEnd self.now.store request.now.cache }
     {

@@ -1,18 +1,19 @@
 //! Puts: their pieces and their end.
-ghost use Rattle.std.specs.Prelude.{◌≡◌, ◌⊎◌, Some, IfErr, option_map};
+ghost use Rattle.std.specs.Prelude.{◌≡◌, Some, IfErr, option_map};
 ghost use Rattle.pcache_request.specs.Requests.{dropped_by};
-ghost use Rattle.pcache_put.specs.Progress.{HasFailed};
-ghost use Rattle.pcache_cache.specs.OwnPut.{MayEndPut};
-ghost use Rattle.pcache_put_ctx.specs.Steps.{Done, MayRefusePiece, RepeatsAnswer, StandsAnswered, TakesPiece, stage_begun, store_after, store_left};
+ghost use Rattle.pcache_cache.specs.OwnPut.{MayEndPut, store_put};
+ghost use Rattle.pcache_put_ctx.specs.Readings.{IsReadAt, MayRefuseRead, StoresPiece};
+ghost use Rattle.pcache_put_ctx.specs.Steps.{Done, RepeatsAnswer, StandsAnswered};
 
 use crate::cache::Cache;
-use crate::put::PendingPut;
+use crate::put::{LeftWrite, PendingPut};
 use pcache_base::error::Result;
 use pcache_base::moment::Moment;
 use pcache_base::reason::NoCacheReason;
 use pcache_evict::eviction::EvictionManager;
 use pcache_put_ctx::context::CachePutCtx;
 use pcache_put_ctx::policy::CachePut;
+use pcache_put_ctx::reading::ReadPiece;
 use pcache_put_ctx::report::{PieceEnd, PieceReport, PutOutcome};
 use pcache_store::memory::{MemCache, MemMissHandler};
 use pcache_store::storage::HandleMiss;
@@ -21,15 +22,14 @@ impl<M: EvictionManager, K> Cache<M, K> {
     ghost use Rattle.std.specs.Prelude.{◌≡◌, ◌⊎◌, ◌↔◌, Some, IsTrue, IfErr, List, OnErr, Option};
     ghost use Rattle.pcache_put.specs.Progress.{HasFailed};
     ghost use Rattle.pcache_put_ctx.specs.Puts.{IsResult, Piece};
+    ghost use Rattle.pcache_put_ctx.specs.Readings.{IsReadAt, MayRefuseRead, StoresPiece};
     ghost use Rattle.pcache_put_ctx.specs.State.{Filled, HasTaken, limit_of, write_in};
-    ghost use Rattle.pcache_put_ctx.specs.Steps.{Done, EndsAs, EndsPut, MayRefusePiece, RepeatsAnswer, StandsAnswered, TakesPiece, TellsResult, evicted_ended, stage_begun, stage_ended, store_after, store_left};
+    ghost use Rattle.pcache_put_ctx.specs.Steps.{Done, EndsAs, MayRefusePiece, RepeatsAnswer, StandsAnswered, TakesPiece, TellsResult, stage_ended};
     ghost use Rattle.pcache_request.specs.NoBody.{LeavesNone};
     ghost use Rattle.pcache_request.specs.Requests.{dropped_by};
-    ghost use Rattle.pcache_store.specs.Finishes.{created};
-    ghost use Rattle.pcache_store.specs.Readers.{in_memory};
-    ghost use Rattle.pcache_cache.specs.OwnPut.{MayEndPut};
+    ghost use Rattle.pcache_cache.specs.OwnPut.{EndsOwnPut, MayEndPut, evicted_put, store_put};
 
-    /// Whether a put may end here: it has no write, or one of this cache and of its own key. That is so of each put whose pieces
+    /// Whether a put may end here: it has no write, or one of this cache and of its own key. This holds of each put whose pieces
     /// all came here.
     pub fn may_end_put<C: CachePut>(&self, put: &PendingPut<C, K>) -> bool
         ensures { IsTrue result ↔ MayEndPut self.now.store put.now.put }
@@ -40,9 +40,9 @@ impl<M: EvictionManager, K> Cache<M, K> {
         }
     }
 
-    /// `CachePutCtx::cache_put`: takes in the next piece of the response. Answers why nothing is stored, once that is so. It is
-    /// refused when memory runs out, if all numbers of writes are used, if the head can't be read, and if the body is longer than
-    /// it may be. The write is dropped then.
+    /// `CachePutCtx::cache_put`: takes in the next piece of the response. Returns why nothing is stored, once that is so. Fails
+    /// when memory runs out, if all numbers of writes are used, if the head can't be read, and if the body is longer than its
+    /// limit. The write is dropped then.
     pub fn cache_put<C: CachePut>(
         &mut self,
         put: &mut PendingPut<C, K>,
@@ -50,30 +50,53 @@ impl<M: EvictionManager, K> Cache<M, K> {
         now: Moment,
     ) -> Result<Option<NoCacheReason>>
         ensures step { (d : Done) × TakesPiece (C.says put.old.put.policy) put.old.put put.new.put (record { bytes = piece.now; now = now }) d
-            × (self.new.store ≡ store_left result (stage_begun put.old.put.stage d.began self.old.store.next (Some self.old.store.next)) (store_after put.old.put.key put.old.put.stage d.began d.wrote (Some self.old.store.next) self.old.store)) }
+            × (self.new.store ≡ store_put put.old.put d result self.old.store) }
         ensures stands { StandsAnswered result put.new.put.stage }
         ensures again { RepeatsAnswer put.old.put.stage result }
         ensures kind { IfErr result (λ e. MayRefusePiece put.old.put.stage self.old.store e ⊎ (put.old.put.parser ≡ HasFailed e)) }
         ensures own { MayEndPut self.old.store put.old.put → MayEndPut self.new.store put.new.put }
         ensures rest { self.new ≡ record self.old { store = self.new.store } }
     {
-        take_in(&mut put.put, piece, &mut self.store, now)
+        let read = put.put.read_piece(piece, now);
+        self.store_piece(put, read)
     }
 
-    /// `CachePutCtx::finish`: ends the put once all pieces have come. The body is stored and its entry admitted, and what is evicted
-    /// for it is purged. A put that ends too early, or whose write is refused, stores nothing, and its write is dropped; a body whose
-    /// admission is refused is purged again. Requires a write of this cache, if there is one; ask `may_end_put`.
+    /// The second half of `cache_put`, which alone needs the cache: stores what the put read by `put.read_piece`, the first half.
+    /// Requires that this put read it, and that no other call of the put was made in between.
+    pub fn store_piece<C: CachePut>(
+        &mut self,
+        put: &mut PendingPut<C, K>,
+        read: ReadPiece,
+    ) -> Result<Option<NoCacheReason>>
+        requires at { IsReadAt put.old.put.stage read }
+        ensures step { (d : Done) × StoresPiece (C.says put.old.put.policy) put.old.put put.new.put read d
+            × (self.new.store ≡ store_put put.old.put d result self.old.store) }
+        ensures stands { StandsAnswered result put.new.put.stage }
+        ensures again { RepeatsAnswer put.old.put.stage result }
+        ensures kind { IfErr result (MayRefuseRead put.old.put.stage self.old.store read) }
+        ensures own { MayEndPut self.old.store put.old.put → MayEndPut self.new.store put.new.put }
+        ensures rest { self.new ≡ record self.old { store = self.new.store } }
+    {
+        store_in(&mut put.put, read, &mut self.store)
+    }
+
+    /// `CachePutCtx::finish`: ends the put once all pieces have come. The body is stored and its entry admitted, and what is
+    /// evicted for it is purged. If the put ends too early, or the end of its write fails, nothing is stored, and the write is
+    /// dropped; if the admission fails, the body is purged again. Requires a write of this cache, if there is one; ask
+    /// `may_end_put`.
     pub fn finish_put<C: CachePut>(&mut self, put: &mut PendingPut<C, K>) -> Result<PutOutcome>
         requires own { MayEndPut self.old.store put.old.put }
-        ensures ends { EndsAs result (λ end. EndsPut in_memory put.old.put.key put.old.put.parser (created self.old.store) self.old.limits put.old.put.stage end self.old.store self.new.store self.old.tracked self.new.tracked) }
-        ensures evicted { EndsAs result (λ end. self.new.evicted ≡ evicted_ended put.old.put.key (created self.old.store) put.old.put.stage self.old.tracked self.old.evicted end) }
+        ensures ends { EndsAs result (λ end. EndsOwnPut put.old.put end self.old self.new) }
+        ensures evicted { EndsAs result (λ end. self.new.evicted ≡ evicted_put put.old.put end self.old) }
         ensures stage { EndsAs result (λ end. put.new.put.stage ≡ stage_ended end) }
-        ensures tells { (pieces : List Piece) (f : Option Filled) → HasTaken (C.says put.old.put.policy) put.old.put pieces f → EndsAs result (TellsResult (IsResult (C.says put.old.put.policy) (limit_of put.old.put.size) pieces) f) }
+        ensures tells { (pieces : List Piece) (f : Option Filled) → HasTaken (C.says put.old.put.policy) put.old.put pieces f
+            → EndsAs result (TellsResult (IsResult (C.says put.old.put.policy) (limit_of put.old.put.size) pieces) f) }
         ensures withdrawn { OnErr result (LeavesNone (Some put.old.put.key) (write_in put.old.put.stage) self.old.store self.new.store) }
         ensures limits { self.new.limits ≡ self.old.limits }
         ensures locks { self.new.locks ≡ self.old.locks }
     {
-        // For the prover: the call tells that the entry of the write has the write's number.
+        // For the prover: the contract of the call says that the entry of the write has the write's
+        // number.
         let _writer = put.put.writer();
         put.put.finish(&mut self.store, &mut self.manager)
     }
@@ -83,29 +106,36 @@ impl<M: EvictionManager, K> Cache<M, K> {
         ensures store { self.new.store ≡ dropped_by (write_in put.put.stage) self.old.store }
         ensures rest { self.new ≡ record self.old { store = self.new.store } }
     {
-        put.into_put().end(&mut self.store);
+        self.drop_left(put.into_left());
+    }
+
+    /// Drops the write that an ended put left in flight, if there is one.
+    pub fn drop_left(&mut self, left: LeftWrite<K>)
+        ensures store { self.new.store ≡ dropped_by left self.old.store }
+        ensures rest { self.new ≡ record self.old { store = self.new.store } }
+    {
+        drop_writer(&mut self.store, left.into_writer());
     }
 }
 
-// Takes in a piece of a put over a store.
-fn take_in<C: CachePut>(
+// Stores what a put read, over a store.
+fn store_in<C: CachePut>(
     put: &mut CachePutCtx<C, MemCache>,
-    piece: &[u8],
+    read: ReadPiece,
     store: &mut MemCache,
-    now: Moment,
 ) -> Result<Option<NoCacheReason>>
-    ensures step { (d : Done) × TakesPiece (C.says put.old.policy) put.old put.new (record { bytes = piece.now; now = now }) d
-        × (store.new ≡ store_left result (stage_begun put.old.stage d.began store.old.next (Some store.old.next)) (store_after put.old.key put.old.stage d.began d.wrote (Some store.old.next) store.old)) }
+    requires at { IsReadAt put.old.stage read }
+    ensures step { (d : Done) × StoresPiece (C.says put.old.policy) put.old put.new read d × (store.new ≡ store_put put.old d result store.old) }
     ensures stands { StandsAnswered result put.new.stage }
     ensures again { RepeatsAnswer put.old.stage result }
-    ensures kind { IfErr result (λ e. MayRefusePiece put.old.stage store.old e ⊎ (put.old.parser ≡ HasFailed e)) }
+    ensures kind { IfErr result (MayRefuseRead put.old.stage store.old read) }
     ensures own { MayEndPut store.old put.old → MayEndPut store.new put.new }
 {
     let PieceReport {
         began: _,
         wrote: _,
         end,
-    } = put.take_piece(piece, store, now);
+    } = put.store_piece(read, store);
     match end {
         PieceEnd::GoesOn => Ok(None),
         PieceEnd::NotCached(reason) => Ok(Some(reason)),

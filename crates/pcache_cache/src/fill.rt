@@ -38,16 +38,16 @@ impl<M: EvictionManager, K> Cache<M, K> {
         ensures own { request.old.cache.uses.eviction ≡ true → OnOk result (MayEnd self.new.store request.new.cache) }
         ensures rest { self.new ≡ record self.old { store = self.new.store; locks = self.new.locks } }
     {
-        // For the prover: the call tells that a request which fills has a key.
+        // For the prover: the contract of the call says that a request which fills has a key.
         let _key = request.cache.key();
         request
             .cache
             .set_miss_handler(&mut self.store, &mut self.lock)
     }
 
-    /// Adds bytes to the request's write, and with `eof` says that they are the last. Without a write, or after the last bytes,
-    /// it returns `false` and changes nothing. It fails when memory runs out, and changes nothing then. Requires a phase in which
-    /// a write may be made.
+    /// Adds bytes to the request's write, and with `eof` announces that they are the last. Without a write, or after the last
+    /// bytes, it returns `false` and changes nothing. Fails when memory runs out, and then changes nothing. Requires a phase in
+    /// which a write may be made.
     pub fn write_body(
         &mut self,
         request: &mut CacheRequest<K>,
@@ -86,7 +86,8 @@ impl<M: EvictionManager, K> Cache<M, K> {
         ensures evicted { EndsAs result (λ end. self.new.evicted ≡ evicted_after request.old.cache request.old.cache.key (finishes_of (created self.old.store) request.old.cache.write) self.old.tracked self.old.evicted end) }
         ensures limits { self.new.limits ≡ self.old.limits }
     {
-        // For the prover: the call tells that the entry of the write has the write's number.
+        // For the prover: the contract of the call says that the entry of the write has the write's
+        // number.
         let _writer = request.cache.writer();
         request
             .cache

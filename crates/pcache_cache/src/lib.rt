@@ -1,12 +1,13 @@
 #![tactic(auto)]
 //! A store in memory, an eviction manager and a lock table as one value, for servers: it keeps no history and does not grow
-//! with what went before, and what it stores is within its manager's limits at all times, whatever was refused.
+//! with the number of calls, and what it stores is within its manager's limits at all times, whichever calls fail.
 //!
-//! - `cache`: the value, and what it tells of itself
-//! - `inspect`: its manager, and what always holds of it
+//! - `cache`: the value, and its getters
+//! - `inspect`: its manager, and its invariant
 //! - `request`, `put`: a request of it, and a put
-//! - `look`, `fill`, `remove`, `locks`, `renew`: what a request does, each the call of `HttpCache` with the parts lent
-//! - `feed`: what a put does, each the call of `CachePutCtx`
+//! - `look`, `fill`, `remove`, `locks`, `renew`: the calls of a request, each that of `HttpCache` with the parts
+//!   passed
+//! - `feed`: the calls of a put, each that of `CachePutCtx`
 
 mod cache;
 mod feed;
@@ -20,5 +21,5 @@ mod renew;
 mod request;
 
 pub use cache::{Cache, Totals};
-pub use put::PendingPut;
+pub use put::{LeftWrite, PendingPut};
 pub use request::CacheRequest;

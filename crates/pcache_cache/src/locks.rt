@@ -1,4 +1,4 @@
-//! Waiting for others, and what they wait for.
+//! Waiting for the locks of other requests, and releasing one's own.
 use crate::cache::Cache;
 use crate::request::CacheRequest;
 use pcache_base::error::Result;
@@ -41,7 +41,7 @@ impl<M: EvictionManager, K> Cache<M, K> {
         request.cache.cache_lock_wait(&mut self.lock, now)
     }
 
-    /// `HttpCache::release_write_lock`: releases the permit with what the reason tells the others. Ask `may_release` of the request.
+    /// `HttpCache::release_write_lock`: releases the permit with the status of the reason. Ask `may_release` of the request.
     pub fn release_write_lock(
         &mut self,
         request: &mut CacheRequest<K>,
@@ -72,7 +72,8 @@ impl<M: EvictionManager, K> Cache<M, K> {
         request.cache.set_write_lock(&mut self.lock, permit)
     }
 
-    /// `HttpCache::lock_publish_fill_tokens`: publishes what was found out about the fill, if the permit is held.
+    /// `HttpCache::lock_publish_fill_tokens`: publishes tokens of what was found out about the fill, if the
+    /// permit is held.
     pub fn lock_publish_fill_tokens(
         &mut self,
         request: &CacheRequest<K>,

@@ -28,9 +28,9 @@ impl<M: EvictionManager, K> Cache<M, K> {
     ghost use Rattle.pcache_store.specs.Readers.{reader_of};
     ghost use Rattle.pcache_store.specs.Store.{gives_piece, left, read_of, reader_after, write_read};
 
-    /// `HttpCache::cache_lookup`: what the store has of the request's key, unless a variant hides it; if nothing is handed on, the key's lock
-    /// is asked for. Requires a key that was set, or a stale body that was found. A pair that is handed on has to be taken by `cache_found`
-    /// or let go.
+    /// `HttpCache::cache_lookup`: what the store has for the request's key, unless it is hidden; if nothing is handed on, the
+    /// key's lock is asked for. Requires a key that was set, or a stale body that was found. A pair that is handed on has to be
+    /// taken by `cache_found` or let go.
     #[tactic(auto, using(crate::proofs::Own::looked_phase, crate::proofs::Own::looked_uses))]
     pub fn cache_lookup(
         &mut self,
@@ -57,7 +57,7 @@ impl<M: EvictionManager, K> Cache<M, K> {
             .cache_lookup(&mut self.store, &mut self.lock, now)
     }
 
-    /// `HttpCache::cache_lookup_with`: as `cache_lookup`, and if the store has nothing, a policy in use is asked first.
+    /// `HttpCache::cache_lookup_with`: as `cache_lookup`, but if the store has nothing, a policy in use is asked first.
     /// Requires the phase CacheKey or Stale; ask `phase().may_look_up()` of the request.
     pub fn cache_lookup_with<A: AdmissionPolicy>(
         &mut self,
@@ -85,7 +85,7 @@ impl<M: EvictionManager, K> Cache<M, K> {
             .cache_lookup_with(&mut self.store, &mut self.lock, policy, now)
     }
 
-    /// `HttpCache::cache_found`: takes what a look-up found.
+    /// `HttpCache::cache_found`: takes the pair that a look-up found.
     /// Requires the phase CacheKey or Stale; ask `phase().may_look_up()` of the request.
     pub fn cache_found(
         &mut self,
@@ -120,14 +120,14 @@ impl<M: EvictionManager, K> Cache<M, K> {
         )
     }
 
-    /// Lets go what a look-up found.
+    /// Lets go the reader that a look-up found.
     pub fn let_go(&mut self, hit: MemHitHandler)
         ensures { self.new ≡ record self.old { store = left self.old.store (reader_of hit) } }
     {
         hit.let_go(&mut self.store);
     }
 
-    /// `HttpCache::read_body`: reads on. Requires a reader. It fails only if there is a piece to give.
+    /// `HttpCache::read_body`: reads on. Requires a reader. Fails only if there is a piece to give.
     pub fn read_body(&mut self, request: &mut CacheRequest<K>) -> Result<Poll<Option<Bytes>>>
         requires { IsSome request.old.cache.reader }
         ensures read { IfOk result (λ p. IfSome request.old.cache.reader (λ r. p ≡ read_of self.old.store r)) }

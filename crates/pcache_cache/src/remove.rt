@@ -13,7 +13,8 @@ impl<M: EvictionManager, K> Cache<M, K> {
     ghost use Rattle.pcache_request.specs.Requests.{is_removed_by, tracked_gone_for};
     ghost use Rattle.pcache_store.specs.Purge.{expire_answer, expired_at, purge_answer, purged_at};
 
-    /// `HttpCache::purge`: removes what stands under the key, and takes its entry out of the manager. Returns whether anything was there.
+    /// `HttpCache::purge`: removes what is stored for the key, and its entry from the manager. Returns whether anything was
+    /// stored.
     /// Requires the phase CacheKey; ask `phase().may_purge()` of the request.
     pub fn purge(&mut self, request: &mut CacheRequest<K>) -> Result<bool>
         requires { MayPurge request.old.cache.phase }
@@ -31,7 +32,7 @@ impl<M: EvictionManager, K> Cache<M, K> {
         request.cache.purge(&mut self.store, &mut self.manager)
     }
 
-    /// `HttpCache::spawn_async_purge`: the same in any phase in which there is a key. It is done at once, and the context is not read.
+    /// `HttpCache::spawn_async_purge`: the same in any phase with a key. It is done at once, and the context is not read.
     /// Requires a phase that is neither Disabled nor Uninit; ask `phase().may_spawn_purge()` of the
     /// request.
     pub fn spawn_async_purge(
@@ -56,7 +57,8 @@ impl<M: EvictionManager, K> Cache<M, K> {
             .spawn_async_purge(&mut self.store, &mut self.manager, context)
     }
 
-    /// `HttpCache::expire`: ends the freshness of what stands under the key. Returns whether a body was there.
+    /// `HttpCache::expire`: ends the freshness of what is stored for the key. Returns whether there was a
+    /// body.
     /// Requires the phase CacheKey; ask `phase().may_purge()` of the request.
     pub fn expire(&mut self, request: &mut CacheRequest<K>, now: Moment) -> Result<bool>
         requires { MayPurge request.old.cache.phase }

@@ -1,4 +1,4 @@
-//! Stale bodies that are good, and what responses vary on.
+//! Stale bodies that are still valid, and what responses vary on.
 use crate::cache::Cache;
 use crate::request::CacheRequest;
 use pcache_base::error::Result;
@@ -21,8 +21,8 @@ impl<M: EvictionManager, K> Cache<M, K> {
     ghost use Rattle.pcache_request.specs.Stale.{MayRevalidate, uncacheable};
     ghost use Rattle.pcache_request.specs.Variants.{released_by_variance, table_varied, varied};
 
-    /// `HttpCache::revalidate_cache_meta`: takes the meta of an answer that says that the stale body is good. Ask `may_revalidate` of the
-    /// request.
+    /// `HttpCache::revalidate_cache_meta`: takes the meta of a response that says that the stale body is still valid.
+    /// Ask `may_revalidate` of the request.
     pub fn revalidate_cache_meta(
         &mut self,
         request: &mut CacheRequest<K>,
@@ -43,7 +43,8 @@ impl<M: EvictionManager, K> Cache<M, K> {
             .revalidate_cache_meta(&mut self.store, &mut self.lock, meta)
     }
 
-    /// `HttpCache::revalidate_uncacheable`: serves the stale body with this header, and does not store the new answer.
+    /// `HttpCache::revalidate_uncacheable`: serves the stale body with this header, and does not store the new
+    /// response.
     /// Requires the phase Stale with a meta, and with a permit held a reason that its holder can
     /// have; ask `may_revalidate()` and `may_release(reason)` of the request.
     pub fn revalidate_uncacheable(

@@ -8,9 +8,10 @@ use pcache_store::memory::MemCache;
 use std::alloc::Global;
 use std::marker::PhantomData;
 
-/// A request of the cache with the mark `K`. What needs no part of the cache is a call of `cache`, which is the request itself;
-/// the rest are calls of the [`Cache`](crate::Cache) that has the mark. It must be spent by `Cache::end`.
+/// A request of the cache with the mark `K`. Calls that need no part of the cache are those of `cache`, which is the request
+/// itself; the others are calls of the [`Cache`](crate::Cache) with this mark. It must be spent by `Cache::end`.
 pub struct CacheRequest<K> {
+    /// The request itself.
     pub cache: HttpCache<MemCache>,
     of: PhantomData<K>,
 }

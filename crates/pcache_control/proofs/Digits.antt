@@ -17,7 +17,7 @@ digit_low b e = Prim.grind (arith, e)
 digit_high : (b : ℕ) → is_ascii_digit b ≡ true → b ≤ 57
 digit_high b e = Prim.grind (arith, e)
 
--- the value so far, cut at a limit, and a digit more
+-- the value so far, cut at a limit, and one more digit
 pub value_step : (xs : List ℕ) (i limit v new : ℕ) → i < length xs → is_ascii_digit (get_or xs i 0) ≡ true
     → v ≡ min (digits_value 10 (take i xs)) limit → new ≡ min (v * 10 + (get_or xs i 0 - 48)) limit
     → new ≡ min (digits_value 10 (take (i + 1) xs)) limit

@@ -10,7 +10,7 @@ use Rattle.std.proofs.Math.Seq.{drop-cons}
 use Rattle.std.proofs.lemmas.List.{nil_from_length}
 use Rattle.pcache_control.specs.Directives.{IsTokenAt, IsLongestRun, IsText, HasValue, IsUnit, IsClosed}
 
--- the place after the quote that closes a text, from place `at` on; a backslash takes the next byte along
+-- the index after the quote that closes a text, from index `at` on; a backslash takes the next byte along
 abbrev pub quote_end : Bool → ℕ → List ℕ → Option ℕ
 quote_end escaped at [] = None
 quote_end true at (b ∷ bytes) = if b == 0x0A then None else quote_end false (at + 1) bytes
@@ -134,7 +134,7 @@ closed_from line at end e =
 pub never_closed : (line : List ℕ) (at end : ℕ) → quote_end false at (drop at line) ≡ None → IsClosed line at end → ⊥
 never_closed line at end none closed = let both : ◌≡◌ {A = Option ℕ} None (Some end) = sym none ∙ closed_found line at end closed in cc both
 
--- ---- as a scan goes on, over what it knows at a place
+-- ---- as a scan goes on, over what it knows at an index
 
 at_byte : (escaped : Bool) (line : List ℕ) (i : ℕ) → i < length line → quote_end escaped i (drop i line) ≡ quote_end escaped i (get_or line i 0 ∷ drop (suc i) line)
 at_byte escaped line i lt = ap (quote_end escaped i) (drop-cons line i 0 lt)
@@ -156,7 +156,7 @@ scan_ends line escaped at i end so_far past closed =
     let none : drop i line ≡ [] = nil_from_length (drop i line) (omega (arith, length-drop i line, past)) in
     never_closed line at end (sym so_far ∙ ap (quote_end escaped i) none) closed
 
--- no value, if no token byte stands after the equals sign and no quoted text is closed there
+-- no value, if no token byte follows the equals sign and no quoted text is closed there
 pub no_value : (line : List ℕ) (name_end e : ℕ) → IsLongestRun line (name_end + 1) e → (name_end + 1 < e → ⊥) → ((end : ℕ) → IsClosed line (name_end + 1 + 1) end → ⊥) → (v : ℕ × ℕ) → HasValue line name_end v → ⊥
 no_value line name_end e run short never v value = by_text value.text where
   by_text : IsText line v → ⊥

@@ -21,7 +21,7 @@ ReadsField fields name None = ¬ (ContainsKey fields name)
 ReadsField fields name (Some cc) =
     ContainsKey fields name × AreRead (lines_of (get_all fields name)) cc.directives.entries × (cc.allow_float_seconds ≡ false)
 
--- and whatever list of places the directives stand at, the map is theirs
+-- and for every list of spans of the directives the map is the one made of them
 abbrev pub ReadsOneMap : Entries FieldValue → List ℕ → Option CacheControl → Type 0
 ReadsOneMap fields name found = IfSome found (λ (cc : CacheControl). AreReadOnce (lines_of (get_all fields name)) cc.directives.entries)
 
@@ -36,7 +36,7 @@ given_to cc name = lookup (bytes_eq name) (entries_of cc.directives.entries)
 abbrev pub has : CacheControl → DirectiveKey → Bool
 has cc key = is_some (directive_given cc key)
 
--- there, without a value
+-- the directive is present, without a value
 abbrev pub is_bare : Option (Option (List ℕ)) → Bool
 is_bare (Some None) = true
 is_bare (Some (Some value)) = false
@@ -51,11 +51,11 @@ value_in None = None
 abbrev pub names_in : Option (Option (List ℕ)) → Option (List (List ℕ))
 names_in directive = option_map (λ value. list_items (unquoted value)) (value_in directive)
 
--- the number of seconds that a value says
+-- the number of seconds that a value gives
 abbrev pub seconds_of : Bool → List ℕ → Option ℕ
 seconds_of floor value = if floor then floor_seconds_of (unquoted value) else delta_seconds_of (unquoted value)
 
--- the number of seconds that a directive says: None if it can't be read, Some None if there is no value
+-- the number of seconds that a directive gives: None if it can't be read, Some None if there is no value
 abbrev pub seconds_at : Bool → Option (List ℕ) → Option (Option ℕ)
 seconds_at floor None = Some None
 seconds_at floor (Some value) = option_map (λ n. Some n) (seconds_of floor value)
@@ -63,12 +63,12 @@ seconds_at floor (Some value) = option_map (λ n. Some n) (seconds_of floor valu
 abbrev pub seconds_in : CacheControl → DirectiveKey → Option (Option ℕ)
 seconds_in cc key = seconds_at cc.allow_float_seconds (value_in (directive_given cc key))
 
--- what can't be read counts as not there
+-- what can't be read counts as absent
 abbrev pub or_none : Option (Option ℕ) → Option ℕ
 or_none (Some seconds) = seconds
 or_none None = None
 
--- never to be stored, to be stored, or neither is said
+-- whether the directives forbid storing, allow it, or say neither
 unfoldable pub cacheable_of : CacheControl → Cacheable
 cacheable_of cc =
     if has cc NoStore || is_bare (directive_given cc Private) then No
@@ -79,7 +79,7 @@ cacheable_of cc =
 unfoldable pub allows_authorized : CacheControl → Bool
 allows_authorized cc = has cc MustRevalidate || has cc Public || has cc SMaxAge
 
--- s-maxage decides; if it is absent or without a value, max-age; if it can't be read, nothing
+-- s-maxage decides; if it is absent or has no value, max-age does; if it can't be read, the response gets no lifetime
 abbrev pub shared_age : Option (Option ℕ) → Option ℕ → Option ℕ
 shared_age None max_age = None
 shared_age (Some (Some seconds)) max_age = Some seconds
@@ -101,7 +101,7 @@ stale_seconds cc key = if forbids_stale cc then Some 0 else or_none (seconds_in 
 abbrev pub as_duration : Option ℕ → Option ℕ
 as_duration seconds = option_map (λ s. s * 1_000_000_000) seconds
 
--- fields without those of the names, which are in any case
+-- fields without those of these names, which are compared without regard to case
 abbrev pub without_fields : Entries FieldValue → Option (List (List ℕ)) → Entries FieldValue
 without_fields fields None = fields
 without_fields fields (Some names) = fold (λ left name. remove left (lowercase name)) fields names

@@ -23,23 +23,24 @@ use Rattle.pcache_control.specs.Values.{trim_ows}
 abbrev pub second : ℕ
 second = 1_000_000_000
 
--- the moment at which a lifetime that begins now ends: a zero lifetime ended one second ago; none if that is no
--- moment (moments and lifetimes in nanoseconds)
+-- the moment at which a lifetime that begins now ends: a lifetime of zero ended one second ago; None if the moment is
+-- out of range (moments and lifetimes in nanoseconds)
 abbrev pub end_of : ℕ → ℕ → Option ℕ
 end_of now lifetime =
     if lifetime == 0 then (if nat_le second now then Some (now - second) else None)
     else (if nat_lt (now + lifetime) (2 ^ 64 * second) then Some (now + lifetime) else None)
 
--- the moment of an Expires: the date that it shows, and the epoch if it shows none
+-- the moment of an Expires: the date that it spells, and the epoch if it spells none
 abbrev pub expires_at : List ℕ → ℕ
 expires_at value = unwrap_or (option_map (λ s. s * second) (parse_secs (trim_ows value))) 0
 
--- one Expires gives a moment, none and several give nothing
+-- one Expires gives a moment; none or several give nothing
 abbrev pub expires_in : List FieldValue → Option ℕ
 expires_in [] = None
 expires_in (value ∷ []) = Some (expires_at value.bytes)
 expires_in (value ∷ other ∷ more) = None
 
+-- the moment of the Expires of a response, if it has exactly one
 unfoldable pub expires_of : Entries FieldValue → Option ℕ
 expires_of fields = expires_in (get_all fields (codes "expires"))
 
@@ -48,22 +49,23 @@ abbrev pub or_else : Option ℕ → Option ℕ → Option ℕ
 or_else (Some moment) other = Some moment
 or_else None other = other
 
--- Cache-Control forbids to store the response
+-- Cache-Control forbids storing the response
 abbrev pub is_no : Cacheable → Bool
 is_no No = true
 is_no Yes = false
 is_no Default = false
 
+-- the response is not stored: the request was authorized and that is not allowed, or Cache-Control forbids it
 unfoldable pub forbids : Option CacheControl → Bool → Bool
 forbids None authorized = authorized
 forbids (Some cc) authorized = (authorized && not (allows_authorized cc)) || is_no (cacheable_of cc)
 
--- what Cache-Control and then Expires give
+-- the end of freshness that Cache-Control gives, or else Expires
 unfoldable pub said_moment : ℕ → Option CacheControl → Entries FieldValue → Option ℕ
 said_moment now cc fields =
     or_else (option_and_then (end_of now) (option_and_then (λ c. as_duration (fresh_seconds c)) cc)) (expires_of fields)
 
--- what was said, else one of the default lifetimes
+-- the end of freshness that was given, else that of one of the default lifetimes
 abbrev pub FreshBy : ℕ → Option ℕ → (Option Duration → Type 0) → Option ℕ → Type 0
 FreshBy now (Some moment) answers result = result ≡ Some moment
 FreshBy now None answers result =
@@ -74,8 +76,8 @@ abbrev pub FreshUntil : ℕ → Option CacheControl → Entries FieldValue → B
 FreshUntil now cc fields authorized answers result =
     MatchBool (forbids cc authorized) (result ≡ None) (FreshBy now (said_moment now cc fields) answers result)
 
--- a window in whole seconds: what was said, the overflow value if that does not fit 32 bits, and the default if
--- nothing was said
+-- a window in whole seconds: the given one, the overflow value if that does not fit 32 bits, and the default if none
+-- is given
 abbrev pub window : Option ℕ → ℕ → ℕ
 window None default = default
 window (Some nanos) default = if nat_lt (nanos / second) (2 ^ 32) then nanos / second else overflow_seconds
@@ -84,6 +86,7 @@ window (Some nanos) default = if nat_lt (nanos / second) (2 ^ 32) then nanos / s
 abbrev pub windows : Option ℕ → Option ℕ → ℕ × ℕ → ℕ × ℕ
 windows revalidating error defaults = (window revalidating defaults.0, window error defaults.1)
 
+-- the same by Cache-Control
 abbrev pub windows_of : Option CacheControl → ℕ × ℕ → ℕ × ℕ
 windows_of cc defaults =
     windows

@@ -12,7 +12,7 @@ use Rattle.pcache_control.specs.declared.value.DirectiveValue.{DirectiveValue}
 use Rattle.pcache_control.specs.Directives.{AreDirectives}
 use Rattle.pcache_control.specs.Names.{name_of, is_known, is_known_name}
 
--- two keys are one: the same name, and either both or neither are of the fourteen
+-- two keys are equal: they have the same name, and either both or neither are known ones
 abbrev pub same_key : DirectiveKey → DirectiveKey → Bool
 same_key k j = (if is_known k then is_known j else not (is_known j)) && bytes_eq (name_of k) (name_of j)
 
@@ -27,7 +27,7 @@ entry_of e = (name_of e.0, value_of e.1)
 abbrev pub entries_of : List (DirectiveKey × Option DirectiveValue) → List (List ℕ × Option (List ℕ))
 entries_of entries = map entry_of entries
 
--- each key is of the fourteen if its name is
+-- a key is one of the fourteen known ones exactly if its name is
 unfoldable pub AreNamed : List (DirectiveKey × Option DirectiveValue) → Type 0
 AreNamed entries = All (λ e. is_known e.0 ≡ is_known_name (name_of e.0)) entries
 
@@ -39,7 +39,7 @@ directive_of line p =
     then Some (str_to_ascii_lowercase name, option_map (λ (v : ℕ × ℕ). slice_range line v.0 v.1) p.value)
     else None
 
--- the directives at these places of a line
+-- the directives at these spans of a line
 abbrev pub directives_at : List ℕ → List Span → List (List ℕ × Option (List ℕ))
 directives_at line spans = filter_map (directive_of line) spans
 
@@ -48,12 +48,12 @@ abbrev pub all_directives : List (List ℕ) → List (List Span) → List (List 
 all_directives (line ∷ lines) (spans ∷ others) = directives_at line spans ++ all_directives lines others
 all_directives lines others = []
 
--- the new entries are the old ones with these directives added in turn: a repeated name keeps its place and takes the
--- value
+-- the new entries are the old ones with these directives added in turn: a repeated name keeps its position and takes
+-- the new value
 abbrev pub Adds : List (DirectiveKey × Option DirectiveValue) → List (List ℕ × Option (List ℕ)) → List (DirectiveKey × Option DirectiveValue) → Type 0
 Adds old directives new = entries_of new ≡ insert_all bytes_eq (entries_of old) directives
 
--- a repeated name keeps its first place and takes its last value
+-- a repeated name keeps its first position and takes its last value
 abbrev pub by_name : List (List ℕ × Option (List ℕ)) → List (List ℕ × Option (List ℕ))
 by_name directives = insert_all bytes_eq [] directives
 
@@ -63,13 +63,13 @@ lines_of values = map (λ (v : FieldValue). v.bytes) values
 
 -- entries that were read from lines: the directives of all lines by name
 pub record AreRead (lines : List (List ℕ)) (entries : List (DirectiveKey × Option DirectiveValue)) : Type 0 where
-  -- where the directives stand, line by line
+  -- the spans of the directives, line by line
   pub spans : List (List Span)
   pub found : AllZip AreDirectives lines spans
   pub directives : entries_of entries ≡ by_name (all_directives lines spans)
   pub named : AreNamed entries
 
--- the entries are those of any list of the places, so of the one list that there is
+-- the entries are those of every list of spans of the directives, hence of the one list that exists
 abbrev pub AreReadOnce : List (List ℕ) → List (DirectiveKey × Option DirectiveValue) → Type 0
 AreReadOnce lines entries =
     (spans : List (List Span)) → AllZip AreDirectives lines spans → entries_of entries ≡ by_name (all_directives lines spans)

@@ -1,4 +1,4 @@
--- How the names of directives are hashed (own): under a key that all lines of the field make.
+-- How the names of directives are hashed (own): under a key that is made of all lines of the field.
 use Rattle.std.specs.Prelude.{ℕ, List}
 use Rattle.std.specs.List.{flat_map}
 use Rattle.std.specs.Hash.DefaultHasher as sip

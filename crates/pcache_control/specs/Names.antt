@@ -4,7 +4,7 @@ use Rattle.std.specs.List.{list_any}
 use Rattle.pcache_control.specs.declared.key.DirectiveKey.{DirectiveKey}
 use Rattle.pcache_control.specs.declared.key.DirectiveKey.TheVariants.{MaxAge, SMaxAge, NoCache, NoStore, Private, Public, MustRevalidate, ProxyRevalidate, MustUnderstand, NoTransform, Immutable, StaleWhileRevalidate, StaleIfError, OnlyIfCached, Unknown}
 
--- how a key is written
+-- the name of a key
 abbrev pub name_of : DirectiveKey → List ℕ
 name_of MaxAge = codes "max-age"
 name_of SMaxAge = codes "s-maxage"
@@ -22,7 +22,7 @@ name_of StaleIfError = codes "stale-if-error"
 name_of OnlyIfCached = codes "only-if-cached"
 name_of (Unknown name) = string_bytes name
 
--- the key is one of the fourteen
+-- the key is one of the fourteen known ones
 abbrev pub is_known : DirectiveKey → Bool
 is_known (Unknown name) = false
 is_known key = true
@@ -32,7 +32,7 @@ known_names = codes "max-age" ∷ codes "s-maxage" ∷ codes "no-cache" ∷ code
     ∷ codes "must-revalidate" ∷ codes "proxy-revalidate" ∷ codes "must-understand" ∷ codes "no-transform" ∷ codes "immutable"
     ∷ codes "stale-while-revalidate" ∷ codes "stale-if-error" ∷ codes "only-if-cached" ∷ []
 
--- a name that one of the fourteen has
+-- the name is that of one of the fourteen
 unfoldable pub is_known_name : List ℕ → Bool
 is_known_name name = list_any (λ known. bytes_eq name known) known_names
 

@@ -1,4 +1,4 @@
--- What becomes of a response.
+-- Whether a response is stored, and with which meta (own, over RFC 9111 section 3).
 use Rattle.std.specs.Prelude.{◌≡◌, ℕ, Bool, true, false, Option, Some, None}
 use Rattle.std.specs.declared.time.Duration.{Duration}
 use Rattle.pcache_meta.specs.declared.header.ResponseHeader.{ResponseHeader}
@@ -12,7 +12,7 @@ abbrev pub is_cacheable : RespCacheable → Bool
 is_cacheable (Cacheable meta) = true
 is_cacheable (Uncacheable reason) = false
 
--- stored if there is a moment until which it is fresh
+-- a response is stored if there is a moment until which it is fresh
 abbrev pub outcome : ℕ → Option CacheControl → ℕ × ℕ → ResponseHeader → Option ℕ → RespCacheable
 outcome now cc default header None = Uncacheable OriginNotCache
 outcome now cc default header (Some fresh_until) = Cacheable (new_meta now fresh_until (windows_of cc default) (stored_header cc header))

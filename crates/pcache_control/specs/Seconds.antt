@@ -11,11 +11,11 @@ use Rattle.pcache_base.specs.declared.error.ErrorType.TheVariants.{InternalError
 abbrev pub all_digits : List ℕ → Bool
 all_digits bytes = list_all is_ascii_digit bytes
 
--- the greatest number of seconds that counts: larger ones are this
+-- the value that numbers of seconds past 32 bits count as (RFC 9111 section 1.2.2)
 abbrev pub overflow_seconds : ℕ
 overflow_seconds = 2147483647
 
--- a number past 32 bits counts as the greatest
+-- a number past 32 bits counts as that value
 abbrev pub capped : ℕ → ℕ
 capped n = if nat_lt n (2 ^ 32) then n else overflow_seconds
 
@@ -28,7 +28,7 @@ delta_seconds_of bytes =
 abbrev pub is_point : ℕ → Bool
 is_point b = b == 0x2E
 
--- digits round the point at a place, and at least one digit: the number before the point
+-- digits before and after the point at an index, and at least one digit: the number before the point
 abbrev pub pointed_at : List ℕ → Option ℕ → Option ℕ
 pointed_at bytes None = None
 pointed_at bytes (Some at) =
@@ -50,7 +50,7 @@ floor_seconds_of bytes = or_else (delta_seconds_of bytes) (pointed_seconds_of (w
     or_else (Some n) other = Some n
     or_else None other = other
 
--- what a reading answers: what there is, or the refusal if there is nothing
+-- what a call returns that reads a value: the value, or the error if there is none
 abbrev pub Reads : {A : Type 0} → Option A → Result A ErrorType → Type 0
 Reads (Some n) result = result ≡ Ok n
 Reads None result = result ≡ Err InternalError

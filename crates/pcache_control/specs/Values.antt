@@ -2,7 +2,7 @@
 use Rattle.std.specs.Prelude.{ℕ, ◌-◌, Bool, ◌&&◌, ◌||◌, ◌==◌, List, [], ◌∷◌, length, map, reverse, slice_index, slice_range, Option, Some, None, nat_le, if◌then◌else◌}
 use Rattle.std.specs.List.{slice_split}
 
--- a quote stands at both ends
+-- there is a quote at both ends
 abbrev pub is_quoted : List ℕ → Bool
 is_quoted bytes = nat_le 2 (length bytes) && slice_index bytes 0 == 0x22 && slice_index bytes (length bytes - 1) == 0x22
 
@@ -26,11 +26,11 @@ skip_ows (b ∷ bytes) = if is_ows b then skip_ows bytes else b ∷ bytes
 unfoldable pub trim_ows : List ℕ → List ℕ
 trim_ows bytes = reverse (skip_ows (reverse (skip_ows bytes)))
 
--- the items of a list, of which an empty one counts too
+-- the items of a list; an empty item counts too
 unfoldable pub list_items : List ℕ → List (List ℕ)
 list_items bytes = map trim_ows (slice_split is_comma bytes)
 
--- the items that are still to come
+-- the remaining items
 abbrev pub items_left : Option (List ℕ) → List (List ℕ)
 items_left None = []
 items_left (Some bytes) = list_items bytes

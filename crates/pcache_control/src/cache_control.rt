@@ -23,12 +23,12 @@ use pcache_base::error::Result;
 use pcache_meta::header::{ReqHeader, RespHeader};
 use std::alloc::Global;
 
-/// Directives by name, in the order of their first places, with their last values. A directive
-/// without a value has `None`. Its hasher's key is made of the lines that were read, since a sender
-/// chooses the names.
+/// Directives by name, in the order of their first occurrences, with their last values. A directive
+/// without a value has `None`. The key of its hasher is made of the lines that were read, since the
+/// sender chooses the names.
 pub type DirectiveMap = IndexMap<DirectiveKey, Option<DirectiveValue>, NameHasher>;
 
-// The key of the name that these bytes are in any case, if they are text.
+// The key of the name that these bytes are, in upper or lower case; `None` if they are not UTF-8.
 fn key_of(alloc: Global, name: &[u8]) -> Result<Option<DirectiveKey>>
     ensures ok { IfOk result (λ key.
         MatchOption key (is_utf8 name.now ≡ false) (IsNamed (str_to_ascii_lowercase name.now))) }
@@ -43,7 +43,7 @@ fn key_of(alloc: Global, name: &[u8]) -> Result<Option<DirectiveKey>>
     Ok(Some(DirectiveKey::from_lowercase_owned(lowered)))
 }
 
-// A copy of the value at a place of the line.
+// A copy of the value at this range of the line.
 fn value_at(
     alloc: Global,
     line: &[u8],
@@ -59,7 +59,7 @@ fn value_at(
     }
 }
 
-// A repeated name keeps its first place and takes its last value.
+// Adds a directive. A repeated name keeps its first position and takes its last value.
 fn add(
     directives: &mut DirectiveMap,
     key: DirectiveKey,
@@ -75,7 +75,7 @@ fn add(
     Ok(())
 }
 
-// A directive whose name is not text is passed over.
+// Adds the directive at a span. One whose name is not UTF-8 is skipped.
 fn add_directive(
     alloc: Global,
     directives: &mut DirectiveMap,
@@ -95,7 +95,7 @@ fn add_directive(
     add(directives, key, value)
 }
 
-// The directives of a line are added, from left to right.
+// Adds the directives of a line, from left to right.
 fn add_line(alloc: Global, directives: &mut DirectiveMap, line: &[u8]) -> Result<()>
     ensures added { OnOk result (AreNamed directives.old.entries →
         (spans : List Span) → AreDirectives line.now spans →
@@ -115,7 +115,7 @@ fn add_line(alloc: Global, directives: &mut DirectiveMap, line: &[u8]) -> Result
 pub struct CacheControl {
     /// The directives by name.
     pub directives: DirectiveMap,
-    /// Numbers of seconds may have a fraction, which is cut off (own).
+    /// Whether numbers of seconds may have a fraction, which is cut off (own).
     pub allow_float_seconds: bool,
 }
 
@@ -143,7 +143,7 @@ pub enum Cacheable {
     Yes,
     /// A directive forbids it.
     No,
-    /// No directive says.
+    /// No directive says either.
     Default,
 }
 
@@ -158,7 +158,7 @@ impl CacheControl {
     ghost use Rattle.pcache_control.specs.Names.{IsNamed};
     ghost use Rattle.pcache_control.specs.Seconds.{Reads};
 
-    /// Numbers of seconds may have a fraction from now on, which is cut off (own).
+    /// The same directives, whose numbers of seconds may have a fraction, which is cut off (own).
     pub fn with_float_seconds(mut self) -> CacheControl
         ensures { result ≡ record self { allow_float_seconds = true } }
     {
@@ -166,8 +166,8 @@ impl CacheControl {
         self
     }
 
-    /// The directives of all fields of this name, in any case; `None` if there is none. It is
-    /// refused only when memory runs out.
+    /// The directives of all fields of this name, in upper or lower case; `None` if there is no
+    /// such field. Fails only when memory runs out.
     pub fn from_headers_named(
         alloc: Global,
         header_name: &str,
@@ -234,16 +234,16 @@ impl CacheControl {
         CacheControl::from_resp_headers_named(alloc, "cache-control", resp_header)
     }
 
-    // The value under a key, `None` if there is no such directive.
+    // The value under a key; `None` if there is no such directive.
     fn find(&self, key: &DirectiveKey) -> Option<&Option<DirectiveValue>>
         ensures { option_map value_of (option_copied result) ≡ directive_given self.now key.now }
     {
         self.directives.get(key)
     }
 
-    /// Whether a directive of this name is there. The name is taken as it is written: those of the
-    /// map are in lower case. A name that is none of the fourteen is looked for from the first
-    /// directive on.
+    /// Whether there is a directive of this name. The name is compared as it is given: those of the
+    /// map are in lower case. A name that is none of the fourteen known ones is searched for from
+    /// the first directive on.
     pub fn has_key(&self, key: &str) -> bool
         ensures { (named : DirectiveKey) → IsNamed key.now named → result ≡ has self.now named }
     {
@@ -253,7 +253,7 @@ impl CacheControl {
         }
     }
 
-    // Whether a directive is there under a name of its own.
+    // Whether there is a directive with this name, which is none of the fourteen known ones.
     fn has_unknown(&self, name: &str) -> bool
         ensures { (named : DirectiveKey) → is_known named ≡ false → name_of named ≡ name.now →
             result ≡ has self.now named }
@@ -266,17 +266,18 @@ impl CacheControl {
         false
     }
 
-    /// Whether the directive is there.
+    /// Whether there is a directive under this key.
     pub fn has_directive(&self, key: &DirectiveKey) -> bool
         ensures there { result ≡ has self.now key.now }
-        // In a map that was read the name alone says which directive is meant, in every answer.
+        // In a map that was read from lines the name alone decides which directive is meant,
+        // whatever is asked of it.
         ensures by_name { AreNamed self.now.directives.entries → IsNamed (name_of key.now) key.now →
             directive_given self.now key.now ≡ given_to self.now (name_of key.now) }
     {
         self.find(key).is_some()
     }
 
-    // Whether the directive is there without a value.
+    // Whether the directive is present without a value.
     fn has_key_without_value(&self, key: &DirectiveKey) -> bool
         ensures { result ≡ is_bare (directive_given self.now key.now) }
     {
@@ -291,49 +292,49 @@ impl CacheControl {
         self.find(key)?.as_ref()
     }
 
-    /// Whether `public` is there.
+    /// Whether `public` is present (RFC 9111 section 5.2.2.9).
     pub fn public(&self) -> bool
         ensures { result ≡ has self.now Public }
     {
         self.has_directive(&DirectiveKey::Public)
     }
 
-    /// Whether `private` is there without field names, so for the whole response.
+    /// Whether `private` is present without field names, so that it holds for the whole response.
     pub fn private(&self) -> bool
         ensures { result ≡ is_bare (directive_given self.now Private) }
     {
         self.has_key_without_value(&DirectiveKey::Private)
     }
 
-    /// Whether `no-cache` is there without field names, so for the whole response.
+    /// Whether `no-cache` is present without field names, so that it holds for the whole response.
     pub fn no_cache(&self) -> bool
         ensures { result ≡ is_bare (directive_given self.now NoCache) }
     {
         self.has_key_without_value(&DirectiveKey::NoCache)
     }
 
-    /// Whether `no-store` is there.
+    /// Whether `no-store` is present.
     pub fn no_store(&self) -> bool
         ensures { result ≡ has self.now NoStore }
     {
         self.has_directive(&DirectiveKey::NoStore)
     }
 
-    /// Whether `must-revalidate` is there.
+    /// Whether `must-revalidate` is present.
     pub fn must_revalidate(&self) -> bool
         ensures { result ≡ has self.now MustRevalidate }
     {
         self.has_directive(&DirectiveKey::MustRevalidate)
     }
 
-    /// Whether `proxy-revalidate` is there.
+    /// Whether `proxy-revalidate` is present.
     pub fn proxy_revalidate(&self) -> bool
         ensures { result ≡ has self.now ProxyRevalidate }
     {
         self.has_directive(&DirectiveKey::ProxyRevalidate)
     }
 
-    /// Whether `only-if-cached` is there.
+    /// Whether `only-if-cached` is present.
     pub fn only_if_cached(&self) -> bool
         ensures { result ≡ has self.now OnlyIfCached }
     {
@@ -364,7 +365,7 @@ impl CacheControl {
         self.field_names(&DirectiveKey::NoCache)
     }
 
-    // The number of seconds that the directive says.
+    // The number of seconds that the directive gives.
     fn seconds(&self, key: &DirectiveKey) -> Result<Option<u32>>
         ensures { Reads (seconds_in self.now key.now) result }
     {
@@ -377,29 +378,29 @@ impl CacheControl {
         }
     }
 
-    /// The seconds of `max-age`; `None` if it is absent or has no value. What is no number of
-    /// seconds is refused as `InternalError`.
+    /// The seconds of `max-age`; `None` if it is absent or has no value. Fails with `InternalError`
+    /// if the value is no number of seconds.
     pub fn max_age(&self) -> Result<Option<u32>>
         ensures { Reads (seconds_in self.now MaxAge) result }
     {
         self.seconds(&DirectiveKey::MaxAge)
     }
 
-    /// The seconds of `s-maxage`, as `max_age` answers them.
+    /// The seconds of `s-maxage`, as `max_age` returns them.
     pub fn s_maxage(&self) -> Result<Option<u32>>
         ensures { Reads (seconds_in self.now SMaxAge) result }
     {
         self.seconds(&DirectiveKey::SMaxAge)
     }
 
-    /// The seconds of `stale-while-revalidate`, as `max_age` answers them.
+    /// The seconds of `stale-while-revalidate`, as `max_age` returns them.
     pub fn stale_while_revalidate(&self) -> Result<Option<u32>>
         ensures { Reads (seconds_in self.now StaleWhileRevalidate) result }
     {
         self.seconds(&DirectiveKey::StaleWhileRevalidate)
     }
 
-    /// The seconds of `stale-if-error`, as `max_age` answers them.
+    /// The seconds of `stale-if-error`, as `max_age` returns them.
     pub fn stale_if_error(&self) -> Result<Option<u32>>
         ensures { Reads (seconds_in self.now StaleIfError) result }
     {

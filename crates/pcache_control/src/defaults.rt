@@ -1,4 +1,4 @@
-//! What holds if a response says nothing of its lifetime.
+//! Defaults for a response that says nothing of its lifetime.
 
 ghost use Rattle.std.specs.Prelude.{◌≡◌, ◌==◌, if◌then◌else◌};
 ghost use Rattle.pcache_control.specs.Defaults.{asked_status};
@@ -6,10 +6,10 @@ ghost use Rattle.pcache_control.specs.Defaults.{asked_status};
 use http::StatusCode;
 use std::time::Duration;
 
-/// How long a response of a status is fresh by default; `None` if it is not to be stored.
+/// How long a response of a status is fresh by default; `None` if it may not be stored.
 pub type FreshDurationByStatusFn = fn(StatusCode) -> Option<Duration>;
 
-/// What holds if a response says nothing: lifetimes by status, and windows in which a stale
+/// Defaults for a response that says nothing: lifetimes by status, and windows in which a stale
 /// response may be served.
 #[derive(Drop)]
 pub struct CacheMetaDefaults {
@@ -23,7 +23,7 @@ pub struct CacheMetaDefaults {
 }
 
 impl CacheMetaDefaults {
-    /// Defaults of a function that may be called at every status, and two windows in seconds.
+    /// Defaults of a function that may be called with every status, and of two windows in seconds.
     pub const fn new(
         fresh_sec_fn: FreshDurationByStatusFn,
         stale_while_revalidate_sec: u32,
@@ -41,8 +41,8 @@ impl CacheMetaDefaults {
         }
     }
 
-    /// The default lifetime of a status. A 304 stands for the response that it revalidates, so it
-    /// asks for that of 200.
+    /// The default lifetime of a status. A 304 confirms the response that it revalidates, so it
+    /// gets the lifetime of 200.
     pub fn fresh_sec(&self, resp_status: StatusCode) -> Option<Duration>
         ensures { FreshDurationByStatusFn.post self.now.fresh_sec_fn (asked_status resp_status) result }
     {

@@ -32,8 +32,8 @@ pub fn request_cacheable(req_header: &ReqHeader) -> bool
     req_header.method == Method::GET || req_header.method == Method::HEAD
 }
 
-// When a lifetime that begins now ends. A zero lifetime ended one second ago, so that the response
-// counts as stale.
+// The moment at which a lifetime that begins now ends; `None` if it is out of range. A lifetime of
+// zero ended one second ago, so that the response counts as stale.
 fn end_of(now: Moment, lifetime: Duration) -> Option<Moment>
     ensures { result ≡ end_of now (as_nanos lifetime) }
 {
@@ -44,8 +44,8 @@ fn end_of(now: Moment, lifetime: Duration) -> Option<Moment>
     }
 }
 
-// The moment of an Expires. What is no date stands for a moment in the past (RFC 9111 section 5.3),
-// the epoch.
+// The moment of an Expires. A value that is no date means a moment in the past (RFC 9111 section
+// 5.3): the epoch.
 fn expires_at(value: &HeaderValue) -> Moment
     ensures { result ≡ expires_at value.now.bytes }
 {
@@ -55,8 +55,8 @@ fn expires_at(value: &HeaderValue) -> Moment
     }
 }
 
-/// The moment of a response's one Expires, which is the epoch if it shows no date. Several
-/// Expires count as none.
+/// The moment of a response's one Expires, which is the epoch if its value is no date. Several
+/// Expires fields count as none.
 #[tactic(auto, unfolding(crate::specs::Filters::expires_of))]
 pub fn calculate_expires_header_time(resp_header: &RespHeader) -> Option<Moment>
     ensures { result ≡ expires_of resp_header.now.headers }
@@ -69,7 +69,7 @@ pub fn calculate_expires_header_time(resp_header: &RespHeader) -> Option<Moment>
     Some(expires_at(value))
 }
 
-// The response may not be stored, as far as Cache-Control says.
+// Whether Cache-Control forbids storing the response.
 #[tactic(auto, unfolding(crate::specs::Filters::forbids))]
 fn forbids(cache_control: Option<&CacheControl>, authorization_present: bool) -> bool
     ensures { result ≡ forbids (option_copied cache_control.entry) authorization_present }
@@ -83,7 +83,7 @@ fn forbids(cache_control: Option<&CacheControl>, authorization_present: bool) ->
     }
 }
 
-// The moment that Cache-Control gives, or else Expires.
+// The end of freshness that Cache-Control gives, or else Expires.
 #[tactic(auto, unfolding(crate::specs::Filters::said_moment))]
 fn said_moment(
     now: Moment,
@@ -102,7 +102,8 @@ fn said_moment(
 }
 
 /// Until when a response is fresh: by Cache-Control, else by Expires, else by the default of its
-/// status. A moment out of range gives nothing from that source. `None`: it may not be stored.
+/// status. If a source gives a moment out of range, the next one decides. `None` if the response
+/// may not be stored.
 pub fn calculate_fresh_until(
     now: Moment,
     cache_control: Option<&CacheControl>,
@@ -123,8 +124,8 @@ pub fn calculate_fresh_until(
     end_of(now, defaults.fresh_sec(resp_header.status)?)
 }
 
-// A window in whole seconds: what was said, the overflow value if that does not fit 32 bits, and
-// the default if nothing was said.
+// A window in whole seconds: the given one, the overflow value if that does not fit 32 bits, and
+// the default if none is given.
 fn window(said: Option<Duration>, default: u32) -> u32
     ensures { result ≡ window (option_map as_nanos said) default }
 {
@@ -163,7 +164,7 @@ pub fn calculate_serve_stale_durations<C: InterpretCacheControl>(
 }
 
 /// Whether a response is to be stored, and with what meta. Fields that `private` and `no-cache` list
-/// are taken out of its head. A response with no moment until which it is fresh is `OriginNotCache`.
+/// are removed from its head. If no source gives an end of freshness, it is `OriginNotCache`.
 pub fn resp_cacheable(
     cache_control: Option<&CacheControl>,
     mut resp_header: ResponseHeader,

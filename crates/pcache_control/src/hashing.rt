@@ -7,12 +7,11 @@ use pcache_base::blake2b;
 use std::hash::{BuildHasher, DefaultHasher, Hasher};
 use std::marker::Model;
 
-/// Hashes the names of the directives of some lines, under a key that is made of all of them: SipHash
-/// after their BLAKE2b hash. A contract sees the hasher that each name begins with.
+/// Hashes the names of the directives of some lines, under a key that is made of all of the lines:
+/// SipHash after their BLAKE2b hash. A contract sees the hasher state from which each name is hashed.
 ///
-/// A sender chooses the names. Under a key that is known before, names can be sought that all have
-/// one hash. Here each change of a name changes the key, so names that collide under it can only be
-/// met by chance.
+/// A sender chooses the names. If the key were known before, names could be found that all have one
+/// hash. Here each change of a name changes the key, so names collide only by chance.
 #[derive(Clone, Copy, Debug)]
 pub struct NameHasher {
     keyed: DefaultHasher,
@@ -29,7 +28,8 @@ impl Model for NameHasher {
 }
 
 impl NameHasher {
-    /// The hasher for the names in the lines of a field. It takes time in the number of their bytes.
+    /// The hasher for the names in the lines of a field. It takes time linear in the number of their
+    /// bytes.
     #[tactic(auto, unfolding(crate::specs::NameHashes::keyed_by))]
     pub fn keyed_by(lines: GetAll<'_, HeaderValue>) -> NameHasher
         ensures { result ≡ keyed_by lines.entry }

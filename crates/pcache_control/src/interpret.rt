@@ -15,9 +15,9 @@ use http_header::HeaderMap;
 use pcache_meta::header::ResponseHeader;
 use std::time::Duration;
 
-/// What directives say of a response, whatever field they come from.
+/// What directives say of a response, whichever field they come from.
 pub trait InterpretCacheControl {
-    // The answers, durations in nanoseconds.
+    // What the calls return; durations are in nanoseconds.
     ghost cacheable: { Self → Cacheable };
 
     ghost authorized: { Self → Bool };
@@ -39,7 +39,7 @@ pub trait InterpretCacheControl {
     fn allow_caching_authorized_req(&self) -> bool
         ensures { result ≡ authorized self.now };
 
-    /// For how long the response is fresh, if the directives say (RFC 9111 section 4.2.1).
+    /// For how long the response is fresh, if the directives say so (RFC 9111 section 4.2.1).
     fn fresh_duration(&self) -> Option<Duration>
         ensures { option_map as_nanos result ≡ fresh self.now };
 
@@ -53,12 +53,12 @@ pub trait InterpretCacheControl {
     fn serve_stale_if_error_duration(&self) -> Option<Duration>
         ensures { option_map as_nanos result ≡ stale_after_error self.now };
 
-    /// Takes out of the response's head the fields that a shared cache may not store.
+    /// Removes the fields from the response's head that a shared cache may not store.
     fn strip_private_headers(&self, resp_header: &mut ResponseHeader)
         ensures { resp_header.new ≡ without_private self.now resp_header.old };
 }
 
-// Fields of these names are removed. A name that is none removes nothing.
+// Removes the fields of these names. A name that is no field name removes nothing.
 fn remove_fields(headers: &mut HeaderMap, names: ListValueIter<'_>)
     ensures { headers.new ≡ without_fields headers.old (Some names.entry) }
 {
@@ -68,7 +68,7 @@ fn remove_fields(headers: &mut HeaderMap, names: ListValueIter<'_>)
 }
 
 impl CacheControl {
-    // A stale response is not to be served.
+    // Whether the directives forbid serving a stale response.
     fn forbids_stale(&self) -> bool
         ensures { result ≡ forbids_stale self.now }
     {

@@ -8,7 +8,7 @@ use pcache_base::error::Result;
 use std::alloc::Global;
 use std::fmt;
 
-/// The name of a directive. The fourteen that are read have variants of their own.
+/// The name of a directive. The fourteen known ones have variants of their own.
 #[derive(Clone, Debug, Drop, PartialEq, Eq, Hash)]
 pub enum DirectiveKey {
     /// `max-age` (RFC 9111 section 5.2.2.1).
@@ -71,7 +71,7 @@ pub(crate) fn known_key(name: &str) -> Option<DirectiveKey>
 }
 
 impl DirectiveKey {
-    /// The name in lower case, as it is written.
+    /// The name, in lower case.
     pub fn as_str(&self) -> &str
         ensures { result.now ≡ name_of self.now }
     {
@@ -94,8 +94,8 @@ impl DirectiveKey {
         }
     }
 
-    /// The key of a name, which is in lower case: its own variant if it is known. It is refused
-    /// only when memory runs out, and never for a known name.
+    /// The key of a name in lower case: its own variant if the name is known. Fails only when
+    /// memory runs out, and never for a known name.
     pub fn from_lowercase(alloc: Global, name: &str) -> Result<DirectiveKey>
         ensures ok { IfOk result (IsNamed name.now) }
         ensures no_memory_needed { is_known_name name.now ≡ true → IsOk result }
@@ -107,7 +107,7 @@ impl DirectiveKey {
         }
     }
 
-    /// The key of a name, which is in lower case: its own variant if it is known.
+    /// The key of a name in lower case: its own variant if the name is known.
     pub fn from_lowercase_owned(name: String) -> DirectiveKey
         ensures { IsNamed (string_bytes name) result }
     {
@@ -117,7 +117,7 @@ impl DirectiveKey {
         }
     }
 
-    // Whether this is the key of a name that is none of the fourteen.
+    // Whether this is the key of this name, which is none of the fourteen known ones.
     pub(crate) fn is_unknown(&self, name: &str) -> bool
         ensures { result ≡ (not (is_known self.now) && bytes_eq (name_of self.now) name.now) }
     {
@@ -127,7 +127,7 @@ impl DirectiveKey {
         }
     }
 
-    /// Whether the key has this name, to the letter.
+    /// Whether the key has this name, case included.
     pub fn is(&self, name: &str) -> bool
         ensures { IsTrue result ↔ (name_of self.now ≡ name.now) }
     {

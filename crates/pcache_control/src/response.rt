@@ -1,4 +1,4 @@
-//! What becomes of a response: a meta to store it with, or a reason not to.
+//! Whether a response is stored: a meta to store it with, or a reason not to.
 
 ghost use Rattle.std.specs.Prelude.{◌≡◌, true};
 ghost use Rattle.pcache_control.specs.Responses.{is_cacheable};
@@ -24,7 +24,7 @@ impl RespCacheable {
         matches!(self, RespCacheable::Cacheable(_))
     }
 
-    /// The meta of a response that is to be stored.
+    /// The meta of a response that is to be stored. Requires one; ask `is_cacheable()`.
     pub fn unwrap_meta(self) -> CacheMeta
         requires { is_cacheable self ≡ true }
         ensures { self ≡ Cacheable result }

@@ -1,7 +1,7 @@
-//! Where the directives of a Cache-Control line stand.
+//! The positions of the directives of a Cache-Control line.
 //!
 //! The line is read from left to right in one pass. It is more permissive than RFC 9111 section 5.2
-//! in three ways, as caches in use are: a semicolon separates directives as a comma does, a name or
+//! in three ways, as other caches are: a semicolon separates directives as a comma does, a name or
 //! a bare value may hold any byte past ASCII, and any directive may have a value.
 
 ghost use Rattle.std.specs.Prelude.{◌≡◌, ◌≤◌, ◌<◌, ◌+◌, ◌-◌, ℕ, List, length, drop, IfSome, IfNone, slice_index, false};
@@ -11,16 +11,21 @@ ghost use Rattle.pcache_control.specs.Directives.{IsTokenAt, IsFirstStart, IsNex
 
 use std::marker::Model;
 
-/// Where a directive stands in its line.
+/// The position of a directive in its line, as indices of bytes.
 #[derive(Clone, Copy, Debug, PartialEq, Eq)]
 pub struct Span {
+    /// Where the name starts.
     pub start: usize,
+    /// The end of the name.
     pub name_end: usize,
+    /// The start and the end of the value, quotes included, if there is one.
     pub value: Option<(usize, usize)>,
+    /// The end of the directive.
     pub end: usize,
 }
 
-// A byte of a name or of a bare value (a token of RFC 9110 section 5.6.2, and any byte past ASCII).
+// Whether a byte belongs to a name or a bare value (a token of RFC 9110 section 5.6.2, or any byte
+// past ASCII).
 fn is_token_byte(b: u8) -> bool
     ensures { result ≡ is_token_byte b }
 {
@@ -47,14 +52,14 @@ fn is_token_byte(b: u8) -> bool
     }
 }
 
-// A byte that stands between directives.
+// Whether a byte separates directives: a comma or a semicolon.
 fn is_delimiter(b: u8) -> bool
     ensures { result ≡ is_delimiter b }
 {
     b == b',' || b == b';'
 }
 
-// ASCII white space.
+// Whether a byte is ASCII white space.
 fn is_white_space(b: u8) -> bool
     ensures { result ≡ is_white_space b }
 {
@@ -73,7 +78,7 @@ fn token_end(line: &[u8], at: usize) -> usize
     end
 }
 
-// The place after the closing quote, `at` being after the opening one.
+// The index after the closing quote, where `at` is the one after the opening quote.
 fn quote_end(line: &[u8], at: usize) -> Option<usize>
     requires { at ≤ length line.now }
     ensures found { IfSome result (λ end. IsClosed line.now at end) }
@@ -124,7 +129,7 @@ fn value_at(line: &[u8], name_end: usize) -> Option<(usize, usize)>
     Some((start, end))
 }
 
-// After the white space from `at` on.
+// The index of the first byte from `at` on that is no white space.
 fn skip_white_space(line: &[u8], at: usize) -> usize
     requires { at ≤ length line.now }
     ensures { IsWhiteSpaceRun line.now at result }
@@ -136,7 +141,8 @@ fn skip_white_space(line: &[u8], at: usize) -> usize
     end
 }
 
-// The start to which the delimiter at `at` leads, if one stands there.
+// The start of a directive to which the delimiter at `at` leads, if there is a delimiter and a
+// start.
 fn start_behind(line: &[u8], at: usize) -> Option<usize>
     requires { at < length line.now }
     ensures found { IfSome result (λ s. Leads line.now at s) }
@@ -167,7 +173,7 @@ fn next_start(line: &[u8], from: usize) -> Option<usize>
     None
 }
 
-// The first start that is admitted after `from`.
+// The first start of a directive from `from` on, where the directive before ended.
 fn search(line: &[u8], from: usize) -> Option<usize>
     requires { from ≤ length line.now }
     ensures found { IfSome result (λ s. IsNextStart line.now from s) }
@@ -203,8 +209,8 @@ fn directive_at(line: &[u8], start: usize) -> Span
     }
 }
 
-/// The directives of a line, from left to right. A contract sees the line and the place from which
-/// the next directive is looked for.
+/// The directives of a line, from left to right. A contract sees the line and the index from which
+/// the next directive is sought.
 #[derive(Drop)]
 pub struct Directives<'a> {
     line: &'a [u8],

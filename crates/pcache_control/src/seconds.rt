@@ -1,4 +1,4 @@
-//! A number of seconds, as a directive's value writes it (RFC 9111 section 1.2.2).
+//! A number of seconds in a directive's value (RFC 9111 section 1.2.2).
 
 ghost use Rattle.std.specs.Prelude.{◌≡◌, ◌*◌, ◌<◌, List, length, min, position, Some, None, IfSome, if◌then◌else◌, ◌^◌};
 ghost use Rattle.std.specs.Duration.{as_nanos};
@@ -7,7 +7,7 @@ ghost use Rattle.pcache_control.specs.Seconds.{all_digits, delta_seconds_of, flo
 
 use std::time::Duration;
 
-/// What a number of seconds past 32 bits counts as: about 68 years.
+/// The value that a number of seconds past 32 bits counts as: 2^31 - 1, about 68 years.
 pub const DELTA_SECONDS_OVERFLOW_VALUE: u32 = 2147483647;
 
 /// `DELTA_SECONDS_OVERFLOW_VALUE` as a duration.
@@ -17,10 +17,10 @@ pub const fn delta_seconds_overflow_duration() -> Duration
     Duration::from_secs(DELTA_SECONDS_OVERFLOW_VALUE as u64)
 }
 
-// The least number past 32 bits: longer runs of digits count as it.
+// The least number past 32 bits, as which longer runs of digits count.
 const LIMIT: u64 = 4294967296;
 
-// The number that the digits write, if they are digits; no more than the limit.
+// The number that these digits spell, at most the limit; `None` if a byte is no digit.
 fn digits(bytes: &[u8]) -> Option<u64>
     ensures { result ≡
         (if all_digits bytes.now then Some (min (digits_value 10 bytes.now) 4294967296) else None) }
@@ -44,7 +44,7 @@ fn without_plus(bytes: &[u8]) -> &[u8]
     }
 }
 
-/// The seconds that the bytes write: an optional plus and at least one digit. A number past 32 bits
+/// The seconds that the bytes spell: an optional plus and at least one digit. A number past 32 bits
 /// counts as `DELTA_SECONDS_OVERFLOW_VALUE`.
 #[tactic(auto, unfolding(crate::specs::Seconds::delta_seconds_of))]
 pub fn delta_seconds(bytes: &[u8]) -> Option<u32>
@@ -62,7 +62,7 @@ pub fn delta_seconds(bytes: &[u8]) -> Option<u32>
     })
 }
 
-// The place of the first point.
+// The index of the first point.
 fn point(bytes: &[u8]) -> Option<usize>
     ensures place { result ≡ position is_point bytes.now }
     ensures within { IfSome result (λ at. at < length bytes.now) }
@@ -86,7 +86,7 @@ fn pointed_seconds(bytes: &[u8]) -> Option<u32>
     Some(value.min(2147483647) as u32)
 }
 
-/// The seconds that the bytes write, with a fraction cut off: as `delta_seconds` reads them, or else
+/// The seconds that the bytes spell, with a fraction cut off: as `delta_seconds` reads them, or else
 /// an optional plus and digits with one point among them, at least one digit (own). A number with a
 /// point counts as `DELTA_SECONDS_OVERFLOW_VALUE` at most.
 #[tactic(auto, unfolding(crate::specs::Seconds::floor_seconds_of))]

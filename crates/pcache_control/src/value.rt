@@ -12,7 +12,7 @@ use pcache_base::error::{Error, ErrorType, Result};
 use std::convert::AsSlice;
 use std::marker::Model;
 
-/// The value of a directive as it stands in its line, quotes included.
+/// The value of a directive as it is written in its line, quotes included.
 #[derive(Debug, Drop, PartialEq, Eq)]
 pub struct DirectiveValue(pub Vec<u8>);
 
@@ -35,14 +35,14 @@ fn without_quotes(bytes: &[u8]) -> &[u8]
 }
 
 impl DirectiveValue {
-    /// The value without one pair of outer quotes. A backslash in it stands for itself.
+    /// The value without one pair of outer quotes. A backslash in it means itself.
     pub fn parse_as_bytes(&self) -> &[u8]
         ensures { result.now ≡ unquoted self.now.0.items }
     {
         without_quotes(self.0.as_slice())
     }
 
-    /// The same as text. It is refused as `InternalError` if it is not UTF-8.
+    /// The same, as text. Fails with `InternalError` if it is not UTF-8.
     pub fn parse_as_str(&self) -> Result<&str>
         ensures { MatchResult result
             (λ text. (text.now ≡ unquoted self.now.0.items) × IsUtf8 (unquoted self.now.0.items))
@@ -55,8 +55,8 @@ impl DirectiveValue {
     }
 
     /// The value as delta seconds (RFC 9111 section 1.2.2): an optional plus and at least one digit,
-    /// also in quotes. A number past 32 bits counts as `DELTA_SECONDS_OVERFLOW_VALUE`. All else is
-    /// refused as `InternalError`.
+    /// also in quotes. A number past 32 bits counts as `DELTA_SECONDS_OVERFLOW_VALUE`. All else
+    /// fails with `InternalError`.
     pub fn parse_as_delta_seconds(&self) -> Result<u32>
         ensures { Reads (delta_seconds_of (unquoted self.now.0.items)) result }
     {
@@ -67,7 +67,7 @@ impl DirectiveValue {
     }
 
     /// The value as delta seconds or, if it is not that, as such a number with a point and a
-    /// fraction, which is cut off (own). All else is refused as `InternalError`.
+    /// fraction, which is cut off (own). All else fails with `InternalError`.
     pub fn parse_as_delta_seconds_floor(&self) -> Result<u32>
         ensures { Reads (floor_seconds_of (unquoted self.now.0.items)) result }
     {
@@ -78,9 +78,9 @@ impl DirectiveValue {
     }
 }
 
-/// The items of a list in a directive's value: what stands between its commas, without spaces and
-/// tabs at both ends (RFC 9110 section 5.6.1). An empty item counts too. A contract sees the items
-/// that are still to come.
+/// The items of a list in a directive's value: the bytes between its commas, without spaces and
+/// tabs at both ends (RFC 9110 section 5.6.1). An empty item counts too. A contract sees the
+/// remaining items.
 #[derive(Drop)]
 pub struct ListValueIter<'a> {
     rest: Option<&'a [u8]>,
@@ -97,7 +97,7 @@ impl<'a> Model for ListValueIter<'a> {
 }
 
 impl<'a> ListValueIter<'a> {
-    /// The items of a value, whose outer quotes do not count.
+    /// The items of a value, without its outer quotes.
     pub fn from(value: &'a DirectiveValue) -> ListValueIter<'a>
         ensures { result ≡ list_items (unquoted value.now.0.items) }
     {
@@ -142,7 +142,7 @@ pub(crate) fn trim_ows(bytes: &[u8]) -> &[u8]
     trim_end(trim_start(bytes))
 }
 
-// The place of the first comma.
+// The index of the first comma.
 fn comma(bytes: &[u8]) -> Option<usize>
     ensures place { result ≡ position is_comma bytes.now }
     ensures within { IfSome result (λ at. at < length bytes.now) }
@@ -150,7 +150,7 @@ fn comma(bytes: &[u8]) -> Option<usize>
     bytes.iter().position(|b| *b == b',')
 }
 
-// What stands before the first comma, and what stands after it.
+// The bytes before the first comma, and those after it.
 fn split_at_comma(bytes: &[u8]) -> (&[u8], Option<&[u8]>)
     ensures { list_items bytes.now ≡ trim_ows result.0.now ∷ items_left (option_copied result.1) }
 {

@@ -105,7 +105,7 @@ inside-chain limits n place shards long lt i =
     let same = chain-all n place shards long lt in
     record { weight = subst (λ m. m ≤ limits.weight) same.0 i.weight; count = subst (λ m. IfSome limits.watermark (λ most. m ≤ most)) same.1 i.count }
 
--- the list of an entry's shard stands in front, and the entry is in no other
+-- the list of an entry's shard comes first, and the entry is in no other
 pub record Home (n : ℕ) (shards : List Recency) (k : CacheEntryKey) : Type 0 where
   pub rest : Recency
   pub here : chain n (shard_of n k) shards ≡ list_at shards (shard_of n k) ++ rest
@@ -136,7 +136,7 @@ home n shards k p =
     upto shards i =
         ap (span shards 0) (let e : i + 1 ≡ suc i = omega arith in e) ∙ span-more shards 0 i ∙ ap (λ m. list_at shards m ++ span shards 0 i) (let e : 0 + i ≡ i = omega arith in e)
 
--- no entry stands twice
+-- no entry occurs twice
 once-none : IsOnce []
 unfolding IsDistinct
 once-none = tt
@@ -285,7 +285,7 @@ distinct-back : (a b : Recency) → IsOnce (a ++ b) → IsOnce b
 distinct-back [] b d = d
 distinct-back (e ∷ a) b d = distinct-back a b (IsDistinct-tail entry_eq e.0 (keys_of (a ++ b)) d)
 
--- and for a weight that is set where it stands
+-- and for a weight that is set in place
 enough-set : (limits : Limits) (k : CacheEntryKey) (size : ℕ) (l : Recency) (a b : Walk) → Walks limits k l a b → IsOnce l → a.room ≡ 0 → a.sum ≡ weight (others k l) + size → a.count ≡ length (others k l) + 1 → IsEnough limits (reweighed k size l) (b.room + 1)
 enough-set limits k size l a b v once start sum count =
     let own : others k l ≡ others k v.left ++ others k v.passed = ap (others k) v.split ∙ filter-append (λ (e : E). not (entry_eq k e.0)) v.left v.passed in
@@ -351,7 +351,7 @@ room-found n limits k size shards a b p v start sum count =
       set = λ there. subst (λ l. IsEnough limits l (b.room + 1)) (sym (chain-reweighed n shards k size p there)) (enough-set limits k size (chain n (shard_of n k) shards) a b v (once-chain n (shard_of n k) shards p) start (omega arith) (omega arith));
     }
 
--- within the limits nothing goes
+-- within the limits nothing is evicted
 pub room-none : (n : ℕ) (limits : Limits) (k : CacheEntryKey) (size : ℕ) (shards : List Recency) (sum count : ℕ) → ArePlaced n shards → IsWithinTotals limits sum count → sum ≡ weight (others k (all shards)) + size → count ≡ length (others k (all shards)) + 1
     → RoomFor n limits k size shards 0
 room-none n limits k size shards sum count p small is many =
@@ -477,7 +477,7 @@ pop-fewer n place old new k p =
     let one = length-append p.list ((k, p.size) ∷ []) in
     omega arith
 
--- ---- answers of a search that is made in two parts
+-- ---- results of a search that is made in two parts
 
 pub turn-behind : (n place : ℕ) (shards : List Recency) (o : Option ℕ) → length shards ≡ n → IfSome o (λ at. IsFirstFrom shards (place + 1) n at) → IfSome o (λ at. IsFirst n place shards at)
 turn-behind n place shards None long f = tt
@@ -496,7 +496,7 @@ turn-none n place shards None None long lt none far near = all-none shards (λ i
   | inr high ↦ far i high (omega arith)
 ])
 
--- an entry taken out of the first list in turn
+-- an entry removed from the first list in turn
 pub record Taken (n place : ℕ) (inside now : List Recency) (total items at : ℕ) (front : Recency) (k : CacheEntryKey) (size : ℕ) : Type 0 where
   pub light : size ≤ total
   pub one : 1 ≤ items

@@ -30,7 +30,7 @@ copied-more whole left front copy new k n once is split made =
     let apart = all_apart k k copy (laws.refl k) (IsDistinct-head entry_eq k (keys_of copy) (once-behind front ((k, n) ∷ copy) (subst IsOnce shape once))) in
     shape ∙ ap (λ l. front ++ l) (sym (made ∙ ap (λ l. (k, n) ∷ l) apart))
 
--- ---- lists read and written at a place
+-- ---- lists read and written at an index
 
 pub set-same : (shards : List Recency) (i : ℕ) → slice_set shards i (list_at shards i) ≡ shards
 set-same [] i = refl
@@ -170,7 +170,7 @@ longer-joined n old now new k w placed longer is =
       ];
     }
 
--- an entry that is there is left alone
+-- a tracked entry is unchanged
 pub joined-there : (n : ℕ) (shards : List Recency) (k : CacheEntryKey) (w : ℕ) → is_some (weight_of k (list_at shards (shard_of n k))) ≡ true → shards ≡ in_shard n k (joined k w) shards
 joined-there n shards k w there =
     let l = list_at shards (shard_of n k) in

@@ -1,4 +1,4 @@
--- One eviction more.
+-- One more eviction.
 use Rattle.std.proofs.Common.{◌≡◌, ℕ, Bool, true, false, cond, Option, None, is_some, IsTrue, All, List, [], ◌∷◌, ◌++◌, refl, ap, sym, subst, ◌∙◌, arith, length, inl, inr}
 use Rattle.std.specs.List.{list_any, IsDistinct}
 use Rattle.std.specs.Ordering.{eq_by_cmp, is_eq}
@@ -13,7 +13,7 @@ use Rattle.pcache_evict.specs.declared.eviction.entry_key.CacheEntryKey.{CacheEn
 use Rattle.pcache_evict.specs.Entry.{entry_cmp, entries_total}
 use Rattle.pcache_evict.specs.Tracked.{Tracked, Limits, IsWithin, without}
 
--- what went so far from a map
+-- what was evicted so far from a map
 pub record Gone (limits : Limits) (m : Tracked) (out : List CacheEntryKey) : Type 0 where
   pub tracked : All (λ e. IsTrue (map.contains_key m e)) out
   pub once : IsDistinct (eq_by_cmp entry_cmp) out

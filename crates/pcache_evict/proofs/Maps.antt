@@ -130,7 +130,7 @@ within limits l d i = record { weight = subst (λ n. n ≤ limits.weight) (sym (
 pub inside : (limits : Limits) (l : Recency) → IsOnce l → IsWithin limits (map_of l) → IsWithinAsList limits l
 inside limits l d i = record { weight = subst (λ n. n ≤ limits.weight) (weight-map_of l d) i.weight; count = subst (λ n. IfSome limits.watermark (λ most. n ≤ most)) (len-map_of l d) i.count }
 
--- what the list says of its tail, the map says of what went
+-- what the list says of its tail, the map says of what was evicted
 popped : (limits : Limits) (tail list front : Recency) → list ≡ front ++ tail → IsOnce list
     → ((f b : Recency) → list ≡ f ++ b → length b < length tail → ¬ IsWithinAsList limits f) → Gone limits (map_of list) (reverse (keys_of tail))
 popped limits [] list front is d short = gone-none limits (map_of list)
@@ -164,7 +164,7 @@ moved-fair old new k n out m = subst (λ t. IsFair old.limits t out) (map-moved 
 pub moved-left : (old new : Listed) (k : CacheEntryKey) (n : ℕ) (out : List CacheEntryKey) → Moves old (moved k n old.entries) new out → map_of new.entries ≡ without out (fin.insert (map_of old.entries) k n)
 moved-left old new k n out m = sym (left-of old.limits (moved k n old.entries) new.entries out m.once m.evicts) ∙ ap (without out) (map-moved k n old.entries)
 
--- ---- what went, as the totals see it
+-- ---- what was evicted, as the totals see it
 
 apart_mid : (k : CacheEntryKey) (front tail : Recency) (e : CacheEntryKey × ℕ) → AllByRecursion (λ y. entry_eq k y ≡ false) (keys_of (front ++ e ∷ tail)) → entry_eq k e.0 ≡ false
 apart_mid k [] tail e a = a.0
@@ -196,7 +196,7 @@ in_reverse f (e ∷ es) =
     let rest = in_reverse f es in
     omega arith
 
--- what an eviction takes off the weight of a list, the map gives as the weights of what went
+-- what an eviction takes off the weight of a list, the map gives as the weights of what was evicted
 pub gone-weight : (limits : Limits) (list after : Recency) (out : List CacheEntryKey) → IsOnce list → Evicts limits list after out → weight_in (map_of list) out ≡ weight list - weight after
 gone-weight limits list after out d v =
     let keys = ap (weight_in (map_of list)) v.order in

@@ -1,4 +1,4 @@
--- What one look-up tells: the weight of the others, and how much heavier a change makes a list.
+-- What one look-up gives: the weight of the others, and how much heavier a change makes a list.
 use Rattle.std.proofs.Common.{◌≡◌, ℕ, ◌+◌, ◌-◌, ◌≤◌, true, Option, None, Some, is_some, cond, unwrap_or, [], refl, ap, sym, subst, arith, length, append-nil}
 use Rattle.pcache_evict.specs.declared.eviction.entry_key.CacheEntryKey.{CacheEntryKey}
 use Rattle.pcache_evict.specs.Tracked.{Limits, raised}

@@ -1,4 +1,4 @@
--- Lists of entries: an entry taken out, moved to the front.
+-- Lists of entries: an entry removed, moved to the front.
 use Rattle.std.proofs.Common.{◌≡◌, ℕ, zero, suc, ◌+◌, ◌-◌, ◌<◌, ◌≤◌, ◌^◌, true, false, cond, not, Option, None, Some, is_some, option_map, unwrap_or, [], ◌∷◌, ◌++◌, refl, ap, sym, subst, ◌∙◌, arith, length, length-append, take, All}
 use Rattle.std.specs.Prelude.{IfSome, IsSome}
 use Rattle.std.specs.Cmp.{IsEquivalence, eq_by_cmp_equiv}
@@ -68,7 +68,7 @@ put-moved c k n d few =
       | Some w ↦ λ h. ap (λ xs. (k, n) ∷ xs) (remove-others k c.entries d)
     ] refl)
 
--- a weight written where it stands is what `put` makes of a present entry
+-- a weight written in place is what `put` makes of a present entry
 written_by : (k : CacheEntryKey) (n : ℕ) (rest es more : Recency) (o : Option ℕ) → IsSome o → set_value (entry_eq k) (option_map_or (λ (e : CacheEntryKey × ℕ). e ∷ rest) (option_map (λ w. (k, w)) o) es) n ≡ option_map_or (λ (e : CacheEntryKey × ℕ). (e.0, n) ∷ rest) (option_map (λ w. (k, w)) o) more
 written_by k n rest es more None there = cc
 written_by k n rest es more (Some w) there = ap (λ b. cond b ((k, n) ∷ rest) ((k, w) ∷ set_value (entry_eq k) rest n)) (laws.refl k)

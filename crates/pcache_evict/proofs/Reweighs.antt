@@ -1,4 +1,4 @@
--- A weight set where its entry stands.
+-- A weight set in place.
 use Rattle.std.proofs.Common.{◌≡◌, ℕ, ◌+◌, ◌-◌, ◌≤◌, ◌^◌, true, false, cond, not, Some, [], ◌∷◌, refl, ap, sym, subst, ◌∙◌, arith, length, All}
 use Rattle.std.specs.Prelude.{IsSome}
 use Rattle.std.specs.List.{IsDistinct}

@@ -83,7 +83,7 @@ found_mid (x ∷ p) b e d =
     ap (λ t. cond t (Some x.1) (weight_of e.0 (p ++ e ∷ b))) (laws.symm e.0 x.0 ∙ apart_mid x.0 p b e (IsDistinct-head entry_eq x.0 (keys_of (p ++ e ∷ b)) d))
     ∙ found_mid p b e (IsDistinct-tail entry_eq x.0 (keys_of (p ++ e ∷ b)) d)
 
--- where the entry stood among all, and what is left
+-- the position of the entry among all, and what is left
 record Popped (shards next : List Recency) (e : E) : Type 0 where
   before : Recency
   behind : Recency

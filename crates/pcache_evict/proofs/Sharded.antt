@@ -1,4 +1,4 @@
--- Recency lists in shards: where an entry stands among all of them, and what one list's changes make of all.
+-- Recency lists in shards: the position of an entry among all of them, and how one list's changes change all.
 use Rattle.std.proofs.Common.{◌≡◌, ℕ, zero, suc, ◌+◌, ◌-◌, ◌<◌, ◌≤◌, ◌^◌, Bool, true, false, cond, not, Option, None, Some, is_some, unwrap_or, List, [], ◌∷◌, ◌++◌, refl, ap, sym, subst, ◌∙◌, arith, length, All, append_assoc, length-append, inl, inr}
 use Rattle.std.specs.Prelude.{IsSome, IfSome, slice_set, slice_index_or}
 use Rattle.std.specs.List.{IsDistinct, AllByRecursion}
@@ -59,7 +59,7 @@ pub light-all : (shards : List Recency) → ((i : ℕ) → Light (list_at shards
 light-all [] h = All-nil (λ (e : E). e.1 ≤ 2 ^ 64 - 1)
 light-all (l ∷ shards) h = All-append (λ (e : E). e.1 ≤ 2 ^ 64 - 1) l (all shards) (h 0) (light-all shards (λ i. h (suc i)))
 
--- ---- no entry stands twice
+-- ---- no entry occurs twice
 
 pub once-append : (a b : Recency) → IsOnce a → IsOnce b → AllByRecursion (λ e. AllByRecursion (λ (f : E). entry_eq e.0 f.0 ≡ false) b) a → IsOnce (a ++ b)
 once-append [] b c d h = d
@@ -293,7 +293,7 @@ kept-promoted n shards total items k w kept found =
     subst (λ t. AreKept n (in_shard n k (moved k w) shards) t items) (here ∙ sym kept.summed)
     (subst (AreKept n (in_shard n k (moved k w) shards) (weight (others k (all shards)) + w)) (number ∙ sym kept.counted) next)
 
--- the last entry of a list taken out
+-- the last entry of a list removed
 pub kept-popped : (n : ℕ) (shards : List Recency) (total items at : ℕ) (front : Recency) (e : E) → AreKept n shards total items → at < n → list_at shards at ≡ front ++ e ∷ []
     → (e.1 ≤ total) × (1 ≤ items) × AreKept n (slice_set shards at front) (total - e.1) (items - 1)
 kept-popped n shards total items at front e kept lt is =
@@ -351,9 +351,9 @@ rest-kept n inside shards k total items o kept is found =
       found = found ∙ sym (found-all n shards k here.placed);
     }
 
--- ---- answers of calls on the list at an entry's place
+-- ---- results of calls on the list at an entry's place
 
--- the list that was read at a place is the one that stands there
+-- the list that was read at a place is the one at this place
 pub read_at : (n : ℕ) (shards : List Recency) (k : CacheEntryKey) (place : ℕ) (l : Recency) → ArePlaced n shards → place ≡ shard_of n k → l ≡ slice_index_or shards place l → l ≡ list_at shards (shard_of n k)
 read_at n shards k place l p at is = is ∙ get_or_any shards place l [] (subst (λ m. m < length shards) (sym at) (in_range n shards k p)) ∙ ap (list_at shards) at
   where

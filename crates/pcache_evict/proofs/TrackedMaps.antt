@@ -48,7 +48,7 @@ get-without_apart (e ∷ out) m x h =
     let parts = or_parts (ties x e) (list_any (ties x) out) h in
     get-without_apart out (map.remove m e) x parts.1 ∙ get-remove_apart m x e parts.0
 
--- an access leaves the weight of what is there
+-- an access leaves the weight of a tracked entry
 pub get-added_there : (m : Tracked) (x e : CacheEntryKey) (n v : ℕ) → map.get m x ≡ Some v → map.get (added m e n) x ≡ Some v
 get-added_there m x e n v is =
     elim (map.contains_key m e) as (λ b. map.contains_key m e ≡ b → map.get (cond b m (map.insert m e n)) x ≡ Some v) [

@@ -1,4 +1,4 @@
--- Walks over a recency list from its end: what goes, and how many at most.
+-- Walks over a recency list from its end: what is evicted, and how many at most.
 use Rattle.std.proofs.Common.{◌≡◌, ℕ, suc, ◌+◌, ◌-◌, ◌<◌, ◌≤◌, not, List, [], ◌∷◌, ◌++◌, reverse, refl, ap, sym, subst, ◌∙◌, arith, length, take, inl, inr, append_assoc, length-append}
 use Rattle.std.specs.Map.{keys_of}
 use Rattle.std.proofs.lemmas.List.{take_at, reverse-append, append_cancel_left}
@@ -13,7 +13,7 @@ use Rattle.pcache_evict.specs.Tracked.{Limits}
 use Rattle.pcache_evict.specs.Recency.{Recency, weight, others, moved, IsWithinAsList, Evicts}
 use Rattle.pcache_evict.specs.Listed.{IsEnough}
 
--- what went so far
+-- what was evicted so far
 pub record Pops (limits : Limits) (before now : Recency) (out : List CacheEntryKey) : Type 0 where
   pub tail : Recency
   pub split : before ≡ now ++ tail

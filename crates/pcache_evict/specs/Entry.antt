@@ -1,4 +1,4 @@
--- Keys of entries: what they are made of, when two are one, and an order of them (own, as the Rust derives it).
+-- Keys of entries: what they consist of, when two are equal, and an order of them (own, as the Rust derives it).
 use Rattle.std.specs.Prelude.{◌≡◌, ℕ, Bool, true, false, Option, None, Some, List, [], ◌∷◌, is_some, nat_eq, ◌&&◌, ◌++◌, refl}
 use Rattle.std.specs.declared.cmp.Ordering.{Ordering}
 use Rattle.std.specs.declared.cmp.Ordering.TheVariants.{Equal}
@@ -15,7 +15,7 @@ use Rattle.pcache_base.specs.declared.key.CompactCacheKey.{CompactCacheKey}
 use Rattle.pcache_evict.specs.declared.eviction.entry_key.CacheEntryKey.{CacheEntryKey}
 use Rattle.pcache_evict.specs.declared.eviction.entry_key.CacheEntryKey.TheVariants.{KeyOnly, Identified}
 
--- the entry of a key with this number, or its only one
+-- the entry of a key with this number; its only entry if there is no number
 abbrev pub entry_with : CompactCacheKey → Option ℕ → CacheEntryKey
 entry_with k None = KeyOnly k
 entry_with k (Some n) = Identified k n
@@ -33,14 +33,15 @@ id_of (Identified k n) = Some n
 abbrev pub compact_cmp : CompactCacheKey → CompactCacheKey → Ordering
 compact_cmp a b = ordering_then (slice_cmp nat_cmp a.primary b.primary) (ordering_then (option_cmp (slice_cmp nat_cmp) a.variance b.variance) (slice_cmp nat_cmp a.user_tag b.user_tag))
 
--- entries without a number stand before those with one; then by key, then by number
+-- entries without a number come before those with one; then the keys decide, then the numbers
 abbrev pub entry_cmp : CacheEntryKey → CacheEntryKey → Ordering
 entry_cmp a b = ordering_then (bool_cmp (is_some (id_of a)) (is_some (id_of b))) (ordering_then (compact_cmp (key_of a) (key_of b)) (option_cmp nat_cmp (id_of a) (id_of b)))
 
--- what `==` answers: all parts are the same
+-- the result of `==`: all parts are equal
 abbrev pub compact_eq : CompactCacheKey → CompactCacheKey → Bool
 compact_eq a b = pointwise nat_eq a.primary b.primary && (option_eq (pointwise nat_eq) a.variance b.variance && pointwise nat_eq a.user_tag b.user_tag)
 
+-- two entries are equal: their keys are, and their numbers
 abbrev pub entry_eq : CacheEntryKey → CacheEntryKey → Bool
 entry_eq a b = compact_eq (key_of a) (key_of b) && option_eq nat_eq (id_of a) (id_of b)
 
@@ -50,7 +51,7 @@ compact_equiv = and_equiv (on_equiv (λ (k : CompactCacheKey). k.primary) nat_li
 pub entry_equiv : IsEquivalence entry_eq
 entry_equiv = and_equiv (on_equiv key_of compact_equiv) (on_equiv id_of (options_equiv nat_eq_equiv))
 
--- what a hasher is fed: the primary hash and the variance as numbers, the tag, and the number; nothing for what is not there
+-- what a hasher is fed with: the primary hash and the variance as numbers, the tag, and the number; nothing for absent parts
 abbrev pub variance_writes : Option (List ℕ) → HashWrites
 variance_writes None = []
 variance_writes (Some v) = fed.u128 (number_of v)
@@ -90,11 +91,12 @@ compact_alike = and-Alike (on_Alike (λ (k : CompactCacheKey). k.primary) (same_
 pub entry_alike : Alike entry_eq entry_writes
 entry_alike = and-Alike (on_Alike key_of compact_alike) (on_Alike id_of id_alike)
 
--- ---- the order is total, and `==` is a tie in it
+-- ---- the order is total, and `==` holds exactly for a tie in it
 
 compact_total : IsTotalOrder compact_cmp
 compact_total = then_total (on_total (λ (k : CompactCacheKey). k.primary) nat_list_cmp_total) (then_total (on_total (λ (k : CompactCacheKey). k.variance) (options_total nat_list_cmp_total)) (on_total (λ (k : CompactCacheKey). k.user_tag) nat_list_cmp_total))
 
+-- the order of entries is total
 pub entries_total : IsTotalOrder entry_cmp
 entries_total = then_total (on_total (λ (e : CacheEntryKey). is_some (id_of e)) bool_cmp_total) (then_total (on_total key_of compact_total) (on_total id_of (options_total nat_cmp_total)))
 
@@ -113,6 +115,7 @@ never : (b : Bool) → (b && false) ≡ false
 never true = refl
 never false = refl
 
+-- two entries are equal exactly if neither comes first
 pub entry_ties : (a b : CacheEntryKey) → entry_eq a b ≡ eq_by_cmp entry_cmp a b
 entry_ties (KeyOnly a) (KeyOnly b) = both_tied _ true (compact_cmp a b) Equal (compact_ties a b) refl
 entry_ties (KeyOnly a) (Identified b n) = never (compact_eq a b)

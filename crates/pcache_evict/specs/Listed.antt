@@ -1,4 +1,4 @@
--- What a manager with one recency list is, and what its calls do (own).
+-- A manager with one recency list, and what its calls do (own).
 use Rattle.std.specs.Prelude.{◌≡◌, ℕ, ◌+◌, ◌-◌, ◌^◌, ◌<◌, ◌≤◌, Option, List, [], ◌++◌, length, min, All}
 use Rattle.std.specs.List.{IsDistinct}
 use Rattle.std.specs.Map.{keys_of}
@@ -22,7 +22,7 @@ map_of l = from_entries {R = entry_cmp} l
 abbrev pub empty_list : ℕ → Option ℕ → Listed
 empty_list limit watermark = record { entries = []; limits = limits_of limit watermark; evicted = record { weight = 0; count = 0 } }
 
--- no entry stands twice
+-- no entry occurs twice
 abbrev pub IsOnce : Recency → Type 0
 IsOnce l = IsDistinct entry_eq (keys_of l)
 
@@ -34,7 +34,7 @@ pub record Moves (old : Listed) (list : Recency) (new : Listed) (out : List Cach
   pub weight : new.evicted.weight ≡ min (old.evicted.weight + (weight list - weight new.entries)) (2 ^ 64 - 1)
   pub count : new.evicted.count ≡ min (old.evicted.count + length out) (2 ^ 64 - 1)
 
--- what the code keeps of its list
+-- the invariant of the code's list
 pub record IsKept (cache : LruCache CacheEntryKey ℕ) (total : ℕ) : Type 0 where
   pub summed : total ≡ weight cache.entries
   pub room : cache.cap ≡ 2 ^ 64 - 1
@@ -42,6 +42,6 @@ pub record IsKept (cache : LruCache CacheEntryKey ℕ) (total : ℕ) : Type 0 wh
   pub small : All (λ e. e.1 ≤ 2 ^ 64 - 1) cache.entries
   pub distinct : IsDistinct entry_eq (keys_of cache.entries)
 
--- as many entries at the end are enough to bring a list within the limits
+-- to remove so many entries at its end brings a list within the limits
 abbrev pub IsEnough : Limits → Recency → ℕ → Type 0
 IsEnough limits l m = (front : Recency) × (back : Recency) × (l ≡ front ++ back) × (length back ≤ m) × IsWithinAsList limits front

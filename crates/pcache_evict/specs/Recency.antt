@@ -1,4 +1,4 @@
--- A recency list: entries with their weights, most recent first, and what the moves do to it (own).
+-- A recency list: entries with their weights, most recent first, and what calls do to it (own).
 use Rattle.std.specs.Prelude.{◌≡◌, ℕ, ◌<◌, ◌≤◌, not, Option, List, [], ◌∷◌, ◌++◌, length, reverse, unwrap_or, IfSome, sum_by, is_some, if◌then◌else◌}
 use Rattle.std.specs.List.{filter}
 use Rattle.std.specs.Map.{lookup, keys_of}
@@ -9,7 +9,7 @@ use Rattle.pcache_evict.specs.Tracked.{Limits, raised}
 abbrev pub Recency : Type 0
 Recency = List (CacheEntryKey × ℕ)
 
--- the weights, added up
+-- the sum of the weights
 abbrev pub weight : Recency → ℕ
 weight l = sum_by (λ e. e.1) l
 
@@ -28,11 +28,12 @@ moved k n l = (k, n) ∷ others k l
 abbrev pub incremented : CacheEntryKey → ℕ → Option ℕ → Recency → Recency
 incremented k delta cap l = moved k (raised delta cap (weight_of k l)) l
 
--- an access leaves the weight of a present entry
+-- an access moves an entry to the front; its weight is unchanged, and an entry that is not in the list is added with
+-- this one
 abbrev pub accessed : CacheEntryKey → ℕ → Recency → Recency
 accessed k n l = moved k (unwrap_or (weight_of k l) n) l
 
--- a loaded entry goes to the back; one that is there moves to the front with the new weight
+-- a loaded entry is added at the back; one that is in the list moves to the front with the new weight
 abbrev pub loaded : CacheEntryKey → ℕ → Recency → Recency
 loaded k n l = if is_some (weight_of k l) then moved k n l else l ++ (k, n) ∷ []
 
@@ -46,7 +47,7 @@ pub record IsWithinAsList (limits : Limits) (l : Recency) : Type 0 where
   pub weight : weight l ≤ limits.weight
   pub count : IfSome limits.watermark (λ most. length l ≤ most)
 
--- the shortest tail goes without which the limits hold, least recent first
+-- the shortest tail goes without which the limits hold, the least recently used entry first
 pub record Evicts (limits : Limits) (before after : Recency) (out : List CacheEntryKey) : Type 0 where
   pub tail : Recency
   pub split : before ≡ after ++ tail

@@ -1,4 +1,4 @@
--- Recency lists in shards: each entry stands in the list of its key's shard (own).
+-- Recency lists in shards: each entry is in the list of its key's shard (own).
 use Rattle.std.specs.Prelude.{◌≡◌, ℕ, ◌+◌, ◌-◌, ◌^◌, ◌<◌, ◌≤◌, ◌%◌, Option, None, List, [], ◌∷◌, ◌++◌, length, min, All, is_some, if◌then◌else◌, slice_index, slice_index_or, slice_get, slice_set, replicate, option_map}
 use Rattle.std.specs.List.{AllByRecursion}
 use Rattle.std.specs.Map.{set_value}
@@ -27,7 +27,7 @@ pub record IsShard (n place : ℕ) (l : Recency) : Type 0 where
   pub own : AllByRecursion (λ e. shard_of n e.0 ≡ place) l
   pub once : IsOnce l
 
--- so many lists, and each entry stands in that of its key's shard
+-- so many lists, and each entry is in the list of its key's shard
 pub record ArePlaced (n : ℕ) (shards : List Recency) : Type 0 where
   pub some : 0 < n
   pub long : length shards ≡ n
@@ -37,11 +37,11 @@ pub record ArePlaced (n : ℕ) (shards : List Recency) : Type 0 where
 abbrev pub no_entries : ℕ → List Recency
 no_entries n = replicate n []
 
--- the shards with what becomes of the list of an entry's shard
+-- the shards with a change made to the list of an entry's shard
 abbrev pub in_shard : ℕ → CacheEntryKey → (Recency → Recency) → List Recency → List Recency
 in_shard n k becomes shards = slice_set shards (shard_of n k) (becomes (list_at shards (shard_of n k)))
 
--- an entry that is there with another weight, in its place
+-- the list with another weight for an entry, which keeps its position
 abbrev pub reweighed : CacheEntryKey → ℕ → Recency → Recency
 reweighed k n l = set_value (entry_eq k) l n
 
@@ -49,11 +49,11 @@ reweighed k n l = set_value (entry_eq k) l n
 abbrev pub last_key : Recency → Option CacheEntryKey
 last_key l = option_map (λ (e : CacheEntryKey × ℕ). e.0) (slice_get l (length l - 1))
 
--- an increment raises the weight of a present entry in its place; a missing one comes in at the front
+-- an increment raises the weight of an entry in place; one that is not in the list is added at the front
 abbrev pub grown : CacheEntryKey → ℕ → Option ℕ → Recency → Recency
 grown k delta cap l = if is_some (weight_of k l) then reweighed k (raised delta cap (weight_of k l)) l else moved k (raised delta cap None) l
 
--- a loaded entry goes to the back; one that is there is left alone
+-- a loaded entry is added at the back; one that is in the list is unchanged
 abbrev pub joined : CacheEntryKey → ℕ → Recency → Recency
 joined k n l = if is_some (weight_of k l) then l else l ++ (k, n) ∷ []
 
@@ -72,7 +72,7 @@ pub record AreLonger (old new : List Recency) : Type 0 where
   pub long : length new ≡ length old
   pub each : (place : ℕ) → (tail : Recency) × (list_at new place ≡ list_at old place ++ tail)
 
--- entries are popped, each from the end of a nonempty list, as long as the limits don't hold
+-- entries are popped, each from the end of a nonempty list, while the limits don't hold
 abbrev pub RunsOut : Limits → List Recency → List CacheEntryKey → List Recency → Type 0
 RunsOut limits shards [] after = (after ≡ shards) × IsWithinAsList limits (all shards)
 RunsOut limits shards (k ∷ out) after =
@@ -96,7 +96,7 @@ pub record Runs (n : ℕ) (old : Sharded) (lists : List Recency) (new : Sharded)
   pub weight : new.evicted.weight ≡ min (old.evicted.weight + (weight (all lists) - weight (all new.shards))) (2 ^ 64 - 1)
   pub count : new.evicted.count ≡ min (old.evicted.count + length out) (2 ^ 64 - 1)
 
--- what the code keeps of its lists
+-- the invariant of the code's lists
 pub record AreKept (n : ℕ) (shards : List Recency) (total items : ℕ) : Type 0 where
   pub placed : ArePlaced n shards
   pub small : (place : ℕ) → All (λ e. e.1 ≤ 2 ^ 64 - 1) (list_at shards place)

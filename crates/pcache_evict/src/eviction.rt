@@ -1,5 +1,5 @@
-//! What an eviction manager is: it knows the entries of a cache with their weights, and says which
-//! of them leave when there are too many.
+//! What an eviction manager is: it tracks the entries of a cache with their weights, and decides
+//! which of them leave when there are too many.
 ghost use Rattle.std.specs.Prelude.{◌≡◌, ◌^◌, ◌-◌, IfOk, IfErr, IsOk, IsTrue, OnErr, OnOk, min};
 ghost use Rattle.std.specs.FinMap as map;
 ghost use Rattle.std.specs.List.{IsDistinct};
@@ -23,7 +23,7 @@ pub use pcache_base::entry_id::CacheEntryId;
 /// Decides which entries leave a cache, by their weights and by how they are used.
 ///
 /// A contract sees the map from entries to weights, and the limits on their sum and number. Calls
-/// are refused only when memory runs out, and a refused call changes nothing.
+/// fail only when memory runs out, and a failed call changes nothing.
 pub trait EvictionManager: Drop {
     /// The entries, with their weights.
     ghost tracked: { Self → Tracked };
@@ -34,7 +34,7 @@ pub trait EvictionManager: Drop {
     /// The weight and the number of all that was evicted.
     ghost evicted: { Self → Evicted };
 
-    /// The weights of the entries, added up; the largest `usize` if they are more.
+    /// The sum of the entries' weights; the largest `usize` if it is larger.
     fn total_size(&self) -> usize
         ensures { result ≡ min (weight (tracked self.now)) (2 ^ 64 - 1) };
 
@@ -42,11 +42,11 @@ pub trait EvictionManager: Drop {
     fn total_items(&self) -> usize
         ensures { result ≡ map.len (tracked self.now) };
 
-    /// The weight of all that was evicted so far; the largest `usize` if it is more.
+    /// The sum of the weights of all entries evicted so far; the largest `usize` if it is larger.
     fn evicted_size(&self) -> usize
         ensures { result ≡ (evicted self.now).weight };
 
-    /// The number of entries that were evicted so far; the largest `usize` if they are more.
+    /// The number of entries evicted so far; the largest `usize` if it is larger.
     fn evicted_items(&self) -> usize
         ensures { result ≡ (evicted self.now).count };
 
@@ -56,8 +56,8 @@ pub trait EvictionManager: Drop {
         ensures once { IfOk result (λ all. IsDistinct entry_eq (keys_of all.items)) }
         ensures kind { IfErr result (λ e. e ≡ OutOfMemory) };
 
-    /// Sets the weight of an entry, and evicts until the limits hold and no longer. The entry itself
-    /// may be among those that go. Answers what went; `fresh_until` is when the entry goes stale.
+    /// Sets the weight of an entry, and evicts entries only until the limits hold. The entry itself
+    /// may be evicted. Returns the evicted entries; `fresh_until` is when the entry goes stale.
     fn admit(
         &mut self,
         item: CacheEntryKey,
@@ -75,9 +75,9 @@ pub trait EvictionManager: Drop {
         ensures err { OnErr result (tracked self.new ≡ tracked self.old) }
         ensures err_evicted { OnErr result (evicted self.new ≡ evicted self.old) };
 
-    /// Adds to the weight of an entry, up to `max_weight` (the largest `usize` if that is
-    /// `None`), and evicts as `admit` does. A weight never falls; a missing entry comes in with what
-    /// is added, at least 1. It is not refused if the entry is there and nothing is evicted.
+    /// Adds to the weight of an entry, up to `max_weight` (the largest `usize` if that is `None`),
+    /// and evicts as `admit` does. A weight never decreases; an entry that is not tracked is added
+    /// with this weight, at least 1. Does not fail if the entry is tracked and nothing is evicted.
     fn increment_weight(
         &mut self,
         item: &CacheEntryKey,
@@ -99,15 +99,15 @@ pub trait EvictionManager: Drop {
         ensures err { OnErr result (tracked self.new ≡ tracked self.old) }
         ensures err_evicted { OnErr result (evicted self.new ≡ evicted self.old) };
 
-    /// Takes an entry out, if it is there. That is no eviction.
+    /// Removes an entry, if it is tracked. That is no eviction.
     fn remove(&mut self, item: &CacheEntryKey)
         ensures limits { limits self.new ≡ limits self.old }
         ensures tracked { tracked self.new ≡ map.remove (tracked self.old) item.now }
         ensures evicted { evicted self.new ≡ evicted self.old };
 
-    /// Notes a use of an entry and answers whether it was there. A missing one is added with this
-    /// weight; nothing is evicted, even if the limits no longer hold. It is not refused if the
-    /// entry is there.
+    /// Records a use of an entry and returns whether it was tracked. One that was not is added with
+    /// this weight; nothing is evicted, even if the limits no longer hold. Does not fail if the
+    /// entry is tracked.
     fn access(&mut self, item: &CacheEntryKey, size: usize, fresh_until: Moment) -> Result<bool>
         ensures limits { limits self.new ≡ limits self.old }
         ensures was { IfOk result (λ was. was ≡ map.contains_key (tracked self.old) item.now) }
@@ -117,7 +117,7 @@ pub trait EvictionManager: Drop {
         ensures kind { IfErr result (λ e. e ≡ OutOfMemory) }
         ensures err { OnErr result (tracked self.new ≡ tracked self.old) };
 
-    /// Whether an entry is there. That does not count as a use.
+    /// Whether an entry is tracked. That does not count as a use.
     fn peek(&self, item: &CacheEntryKey) -> bool
         ensures { result ≡ map.contains_key (tracked self.now) item.now };
 }

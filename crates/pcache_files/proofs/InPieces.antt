@@ -29,14 +29,14 @@ none_left : (new : Option (List ℕ)) (left : List ℕ) → new ≡ Some left �
 none_left None left e end = absurd (cc e)
 none_left (Some xs) left e end = sym (same_Some xs left e) ∙ end
 
--- a piece that was read stands ahead, and no longer behind
+-- a piece that was read is ahead, and no longer behind
 joined : (a b piece rest left : List ℕ) → b ≡ a ++ piece → rest ≡ piece ++ left → a ++ rest ≡ b ++ left
 joined a b piece rest left is split = ap (λ l. a ++ l) split ∙ sym (append_assoc a piece left) ∙ ap (λ l. l ++ left) (sym is)
 
 alone : (b left : List ℕ) → left ≡ [] → b ++ left ≡ b
 alone b left e = ap (λ l. b ++ l) e ∙ append-nil b
 
--- what no memory is wanted for is refused only if there is nothing to be read
+-- reading that takes no memory fails only if there is nothing to read
 pub fails_none : {Y : Type 0} (e : ErrorType) (read : Option Y) → Fails e read → read ≡ None
 fails_none InternalError read h = h
 fails_none _ read h = absurd h

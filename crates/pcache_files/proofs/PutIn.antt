@@ -163,7 +163,7 @@ module _ {F : Type 0} (left : F → Option (List ℕ)) where
       one_more : (n : ℕ) → n + 1 ≡ suc n
       one_more n = omega arith
 
-  -- one file more, as the code takes it in
+  -- one more file, as the code takes it in
   pub loads_step : {X : Type 0} (view : X → Recency) (o : Option X) (files s t : ℕ) (e f : Recency) → Loads left files s e → IfSome o (λ v. IsRead left (view v)) → IfNone o (IsSkipped left)
       → IfSome o (λ v. (f ≡ e ++ view v) × (t ≡ s)) → IfNone o ((f ≡ e) × (t ≡ s + 1)) → Loads left (files + 1) t f
   loads_step view (Some v) files s t e f so_far one none added missed =

@@ -18,7 +18,7 @@ use Rattle.pcache_files.specs.FileSpelling as spell
 
 -- ---- what comes behind a spelling
 
--- the second bytes stand at the end of the first
+-- the second bytes are the end of the first
 abbrev pub Behind : List ℕ → List ℕ → Type 0
 Behind bytes rest = (front : List ℕ) × (bytes ≡ front ++ rest)
 
@@ -237,7 +237,7 @@ node_within b node later more t long =
     let last = number_within entry.rest node.1 later more (subst (λ l. NumberThen l node.1 later) entry.split t.weight) (omega (arith, long, head.near, entry.near)) in
     record { rest = last.rest; split = last.split; there = record { items = head.rest; head = head.there; later = entry.rest; entry = entry.there; weight = last.there }; near = omega (arith, head.near, entry.near, last.near) }
 
--- ---- what stands before the tag of a node
+-- ---- the bytes before the tag of a node
 
 -- the bytes from the tag of a key on
 pub record KeyFront (b : List ℕ) (k : CompactCacheKey) (tag : List ℕ) : Type 0 where
@@ -290,7 +290,7 @@ head_again form.wide8 n rest lt = wide_again w8 (2 ^ 8) wide8 n rest lt
 head_again form.wide16 n rest lt = wide_again w16 (2 ^ 16) wide16 n rest lt
 head_again form.wide32 n rest lt = wide_again w32 (2 ^ 32) wide32 n rest lt
 
--- the length of a text is told as soon as its head is there
+-- the length of a text is known as soon as its head is there
 text_len : (b t later more : List ℕ) → TextThen (b ++ more) t later → 5 ≤ length b → (r : List ℕ) × (text_head_at b ≡ Some (length t, r))
 text_len b t later more s long =
     let head = text_head s.form (length t) in
@@ -324,7 +324,7 @@ told : (b tag r : List ℕ) (n m : ℕ) → tag_at b ≡ Some tag → text_head_
 unfolding tag_len_at text_len_at
 told b tag r n m at head is = rw (at, head, is) refl
 
--- the length of a node's tag is told as soon as all that may stand before it is there
+-- the length of a node's tag is known as soon as all bytes that may come before it are there
 pub tag_told : (b : List ℕ) (node : CacheEntryKey × ℕ) (later more : List ℕ) → NodeThen (b ++ more) node later → 318 ≤ length b → tag_len_at b ≡ Some (length (tag_of node.0))
 tag_told b node later more t long =
     let f = fronted (b ++ more) node later t in

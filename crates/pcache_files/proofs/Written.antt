@@ -130,6 +130,6 @@ too_long all left after node out w split long =
     let here : slice_index_or all (length w.done) node ≡ node = ap (λ l. slice_index_or l (length w.done) node) whole ∙ get_or-append_seam w.done node after node in
     inr (length w.done, node, omega arith, here, long)
 
--- a refusal that was passed on
+-- an error that was passed on
 pub passed_on : {T U : Type 0} (r : Result U ErrorType) (e f : ErrorType) → r ≡ Err f → f ≡ e → IsErrOf r InternalError → IsErrOf {T = T} (Err e) InternalError
 passed_on r e f is same refused = let both = sym is ∙ refused in cc (same, both)

@@ -8,7 +8,7 @@ use Rattle.pcache_files.specs.FileWriting.{AreNodes, file_written}
 abbrev pub FilesSpellOneList : Type 0
 FilesSpellOneList = (bytes : List ℕ) (l m : Recency) → SpellsFile bytes l → SpellsFile bytes m → l ≡ m
 
--- if a file begins with a file, it is that file
+-- a file that has another file as its prefix is that file
 abbrev pub NoBeginningIsAFile : Type 0
 NoBeginningIsAFile = (bytes more : List ℕ) (l m : Recency) → SpellsFile bytes l → SpellsFile (bytes ++ more) m → more ≡ []
 
@@ -16,6 +16,6 @@ NoBeginningIsAFile = (bytes more : List ℕ) (l m : Recency) → SpellsFile byte
 abbrev pub FilesAreShortest : Type 0
 FilesAreShortest = (bytes : List ℕ) (l : Recency) → SpellsFile bytes l → length (file_written l) ≤ length bytes
 
--- of a list that has a spelling and no entry twice
+-- what is written of a list spells it, and loads as the same list, if the list has a spelling and no entry twice
 abbrev pub SavedIsLoaded : Type 0
 SavedIsLoaded = (l : Recency) → AreNodes l → IsOnce l → SpellsFile (file_written l) l × (loaded_all l [] ≡ l)

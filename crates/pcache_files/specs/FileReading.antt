@@ -7,7 +7,7 @@ use Rattle.pcache_evict.specs.Entry.{entry_with}
 use Rattle.pcache_evict.specs.Recency.{Recency}
 use Rattle.pcache_meta.specs.Reading.{◌>>=◌, when, number_at, array_at, items_at, text_at, text_head_at, hash_at, optional_at}
 
--- the items of a key, after the head
+-- the items of a key, after the array's head
 unfoldable pub key_items_at : List ℕ → Option (CompactCacheKey × List ℕ)
 key_items_at bytes = do
   primary ← hash_at bytes
@@ -15,13 +15,13 @@ key_items_at bytes = do
   tag ← text_at variance.1
   Some (record { primary = primary.0; variance = variance.0; user_tag = tag.0 }, tag.1)
 
--- an entry that is a key alone, after the head
+-- an entry that is a key alone, after the array's head
 unfoldable pub only_at : List ℕ → Option (CacheEntryKey × List ℕ)
 only_at bytes = do
   key ← key_items_at bytes
   Some (entry_with key.0 None, key.1)
 
--- an entry that is a key and a number or nil, after the head
+-- an entry that is a key and a number or nil, after the array's head
 unfoldable pub pair_at : List ℕ → Option (CacheEntryKey × List ℕ)
 pair_at bytes = do
   items ← items_at 3 bytes
@@ -49,7 +49,7 @@ nodes_at (suc n) bytes = do
   nodes ← nodes_at n node.1
   Some (node.0 ∷ nodes.0, nodes.1)
 
--- all of the bytes
+-- the list that all of the bytes spell
 unfoldable pub file_at : List ℕ → Option Recency
 file_at bytes = do
   count ← array_at bytes
@@ -57,7 +57,7 @@ file_at bytes = do
   rest ← when (length nodes.1 == 0) nodes.1
   Some nodes.0
 
--- ---- of a node whose bytes are not all there
+-- ---- of a node of which some bytes are still missing
 
 -- the bytes from the tag of the next node on
 unfoldable pub tag_at : List ℕ → Option (List ℕ)
@@ -69,7 +69,7 @@ tag_at bytes = do
   variance ← optional_at hash_at primary.1
   Some variance.1
 
--- how many bytes the text has that comes next
+-- how many bytes the next text has
 unfoldable pub text_len_at : List ℕ → Option ℕ
 text_len_at bytes = do
   size ← text_head_at bytes

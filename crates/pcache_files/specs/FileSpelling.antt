@@ -33,7 +33,7 @@ pub record NodeThen (bytes : List ℕ) (node : CacheEntryKey × ℕ) (rest : Lis
   pub entry : EntryThen items node.0 later
   pub weight : NumberThen later node.1 rest
 
--- nodes one after the other
+-- nodes, one after the other
 abbrev pub NodesThen : List ℕ → Recency → List ℕ → Type 0
 NodesThen bytes [] rest = bytes ≡ rest
 NodesThen bytes (node ∷ nodes) rest = (later : List ℕ) × NodeThen bytes node later × NodesThen later nodes rest

@@ -1,5 +1,5 @@
--- What the files of a folder gave, and what becomes of what is tracked once they are put in (own). What a file will
--- give is a function of the file, `left`, where it is known.
+-- What the files of a folder gave, and what is tracked once they are loaded (own). What a file will give is a
+-- function of the file, `left`, where it is known.
 use Rattle.std.specs.Prelude.{◌≡◌, ℕ, suc, List, [], ◌∷◌, ◌++◌, length, Option, Some, None}
 use Rattle.std.specs.List.{AllByRecursion}
 use Rattle.std.specs.FinMap.{insert}
@@ -18,17 +18,17 @@ pub record IsRead {F : Type 0} (left : F → Option (List ℕ)) (l : Recency) : 
   pub gave : Gave (left opened) (left after) bytes
   pub spelled : SpellsFile bytes l
 
--- the opening of a file was answered by an error
+-- opening a file returned an error
 pub record IsUnopened : Type 0 where
   pub error : Error
 
--- a file could not be opened, or a read of it failed, or what it has spells no list
+-- a file could not be opened, or a read of it failed, or its bytes spell no list
 pub data IsSkipped {F : Type 0} (left : F → Option (List ℕ)) : Type 0 where
   unopened : IsUnopened → IsSkipped left
   failed : (opened after : Counted F) → Rose opened.failures after.failures → IsSkipped left
   foreign : (opened : F) → ((bytes : List ℕ) → left opened ≡ Some bytes → (l : Recency) → ¬ (SpellsFile bytes l)) → IsSkipped left
 
--- what one file gave: its list, or nothing
+-- what one file gave: its list, or nothing if it was skipped
 abbrev pub IsFile : {F : Type 0} → (F → Option (List ℕ)) → Option Recency → Type 0
 IsFile left (Some l) = IsRead left l
 IsFile left None = IsSkipped left
@@ -39,13 +39,13 @@ found [] = []
 found (None ∷ lists) = found lists
 found (Some l ∷ lists) = l ++ found lists
 
--- how many were not found
+-- how many lists were not found
 abbrev pub missing : List (Option Recency) → ℕ
 missing [] = 0
 missing (None ∷ lists) = suc (missing lists)
 missing (Some l ∷ lists) = missing lists
 
--- of so many files so many were skipped, and the others gave these entries, one file after the other
+-- of `files` files `skipped` were skipped, and the others gave these entries, one file after the other
 pub record Loads {F : Type 0} (left : F → Option (List ℕ)) (files skipped : ℕ) (entries : Recency) : Type 0 where
   pub lists : List (Option Recency)
   pub many : length lists ≡ files
@@ -58,7 +58,7 @@ abbrev pub set_all : Recency → Tracked → Tracked
 set_all [] m = m
 set_all (e ∷ entries) m = set_all entries (insert m e.0 e.1)
 
--- the map with those of these entries that are missing, one after the other
+-- the map with those of these entries added that it does not have, one after the other
 abbrev pub added_all : Recency → Tracked → Tracked
 added_all [] m = m
 added_all (e ∷ entries) m = added_all entries (added m e.0 e.1)

@@ -20,13 +20,13 @@ use pcache_meta::msgpack::reader::Reader;
 use pcache_meta::msgpack::writer::{put_array, put_hash, put_number, put_optional_hash, put_text};
 use std::alloc::Global;
 
-/// No node is shorter: two heads of one byte, one of three, sixteen bytes of a hash, nil, an empty
-/// tag and a weight.
+/// The fewest bytes that a node has: two heads of one byte, one of three, sixteen bytes of a hash,
+/// nil, an empty tag and a weight.
 const NODE_BYTES: usize = 24;
 
 // ---- reading
 
-/// The refusal of bytes that spell no list.
+/// The error for bytes that spell no list.
 pub(crate) fn unreadable() -> Error
     ensures { result ≡ InternalError }
 {
@@ -40,7 +40,7 @@ fn owned(alloc: Global, text: &str) -> Result<Text>
     Ok(Text::new(String::from_str(alloc, text)?))
 }
 
-// The items of a key, after the head.
+// The items of a key, after the array's head.
 #[tactic(auto, unfolding(crate::specs::FileReading::key_items_at))]
 fn read_key_items(alloc: Global, reader: &mut Reader<'_>) -> Result<CompactCacheKey>
     ensures { GivesOrWants (λ k. (k, reader.new)) result (key_items_at reader.old) }
@@ -56,7 +56,7 @@ fn read_key_items(alloc: Global, reader: &mut Reader<'_>) -> Result<CompactCache
     })
 }
 
-// An entry that is a key alone, after the head.
+// An entry that is a key alone, after the array's head.
 #[tactic(auto, unfolding(crate::specs::FileReading::only_at))]
 fn read_only(alloc: Global, reader: &mut Reader<'_>) -> Result<CacheEntryKey>
     ensures { GivesOrWants (λ e. (e, reader.new)) result (only_at reader.old) }
@@ -76,7 +76,7 @@ fn read_id(reader: &mut Reader<'_>) -> Result<Option<CacheEntryId>>
     Ok(Some(CacheEntryId::new(reader.number()?)))
 }
 
-// An entry that is a key and a number or nil, after the head.
+// An entry that is a key and a number or nil, after the array's head.
 #[tactic(auto, unfolding(crate::specs::FileReading::pair_at))]
 fn read_pair(alloc: Global, reader: &mut Reader<'_>) -> Result<CacheEntryKey>
     ensures { GivesOrWants (λ e. (e, reader.new)) result (pair_at reader.old) }
@@ -87,7 +87,7 @@ fn read_pair(alloc: Global, reader: &mut Reader<'_>) -> Result<CacheEntryKey>
     Ok(CacheEntryKey::from_entry_id(key, id))
 }
 
-// An entry: what it is is told by the number of items.
+// An entry, of the form that its number of items shows.
 #[tactic(auto, unfolding(crate::specs::FileReading::entry_at))]
 fn read_entry(alloc: Global, reader: &mut Reader<'_>) -> Result<CacheEntryKey>
     ensures { GivesOrWants (λ e. (e, reader.new)) result (entry_at reader.old) }
@@ -110,7 +110,8 @@ fn read_node(alloc: Global, reader: &mut Reader<'_>) -> Result<(CacheEntryKey, u
     Ok((entry, weight as usize))
 }
 
-// So many nodes. Room is made by the bytes that are left, and never by the number that is stated.
+// So many nodes. Room is reserved by the bytes that are left, and never by the number that the file
+// states.
 fn read_nodes(
     alloc: Global,
     reader: &mut Reader<'_>,
@@ -151,9 +152,9 @@ pub fn read_file(alloc: Global, bytes: &[u8]) -> Result<Vec<(CacheEntryKey, usiz
     read_list(alloc, bytes)
 }
 
-// ---- a node whose bytes are not all there
+// ---- a node of which some bytes are still missing
 
-// What stands before the tag of the next node.
+// Reads what comes before the tag of the next node.
 #[tactic(auto, unfolding(crate::specs::FileReading::tag_at))]
 fn pass_front(reader: &mut Reader<'_>) -> Result<()>
     ensures { Gives (λ _. reader.new) result (tag_at reader.old) }
@@ -169,7 +170,7 @@ fn pass_front(reader: &mut Reader<'_>) -> Result<()>
     Ok(())
 }
 
-// The last bytes, so many.
+// The last `count` bytes.
 fn last_bytes(bytes: &[u8], count: usize) -> &[u8]
     requires { count ≤ length bytes.now }
     ensures { result.now ≡ drop (length bytes.now - count) bytes.now }
@@ -216,7 +217,7 @@ fn wide32(bytes: &[u8]) -> Result<usize>
     Ok(u32::from_be_bytes([b[0], b[1], b[2], b[3]]) as usize)
 }
 
-// How many bytes the text has that comes next.
+// How many bytes the next text has.
 #[tactic(auto, unfolding(crate::specs::FileReading::text_len_at, pcache_meta::specs::Reading::text_head_at))]
 fn text_len(bytes: &[u8]) -> Result<usize>
     ensures { Gives (λ n. n) result (text_len_at bytes.now) }
@@ -242,7 +243,8 @@ pub(crate) fn tag_len(bytes: &[u8]) -> Result<usize>
     text_len(tag)
 }
 
-/// The head of an array that comes first: how many items it has, and how many bytes are behind it.
+/// The head of the array that comes first: how many items it has, and how many bytes follow the
+/// head.
 pub(crate) fn first_count(bytes: &[u8]) -> Result<(u64, usize)>
     ensures found { IfOk result (λ x. ArrayThen bytes.now x.0 (drop (length bytes.now - x.1) bytes.now)) }
     ensures within { IfOk result (λ x. x.1 ≤ length bytes.now) }
@@ -254,7 +256,7 @@ pub(crate) fn first_count(bytes: &[u8]) -> Result<(u64, usize)>
     Ok((count, reader.remaining()))
 }
 
-/// The node that comes first, and how many bytes are behind it.
+/// The node that comes first, and how many bytes follow it.
 pub(crate) fn first_node(alloc: Global, bytes: &[u8]) -> Result<((CacheEntryKey, usize), usize)>
     ensures found { IfOk result (λ x. NodeThen bytes.now x.0 (drop (length bytes.now - x.1) bytes.now)) }
     ensures within { IfOk result (λ x. x.1 ≤ length bytes.now) }
@@ -314,8 +316,8 @@ fn put_node(out: &mut Vec<u8>, entry: &CacheEntryKey, weight: usize) -> Result<(
     Ok(())
 }
 
-/// The bytes of the file of a list, each part in its shortest form. A list of 2^32 entries, or with
-/// a tag of 2^32 bytes, has none.
+/// The bytes of the file of a list, each part in its shortest form. A list of 2^32 or more entries,
+/// or with a tag of 2^32 or more bytes, has no file.
 pub fn write_file(
     alloc: Global,
     count: usize,

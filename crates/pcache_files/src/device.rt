@@ -1,5 +1,5 @@
-//! Readers and writers that count the calls that failed, so that a contract can say that a device
-//! is blamed exactly when it failed.
+//! Readers and writers that count the calls that failed, so that a contract can say that a call
+//! fails with `Io` exactly when the device failed.
 ghost use Rattle.std.specs.Prelude.{◌≡◌, ◌+◌, ◌%◌, ◌^◌, ◌<◌, ◌≤◌, ◌⊎◌, ℕ, List, Option, None, length, IfErr, IfOk, OnErr, OnOk};
 ghost use Rattle.std.specs.Io.KnownBytes.{Appends, Keeps, ReadConsumes, WriteAppends};
 ghost use Rattle.pcache_files.specs.Device.{Counts, Gave, TookBeginning};
@@ -11,14 +11,14 @@ use std::io::{ErrorKind, Read, Write};
 
 /// A reader that counts the reads that failed.
 pub trait CountedRead {
-    /// The bytes that reads will give from here on, if they are known.
+    /// The bytes that reads will give from now on, if they are known.
     ghost remaining: { Self → Option (List ℕ) } = { λ _. None };
 
     /// How many reads failed so far, modulo 2^64.
     ghost failed: { Self → ℕ };
 
-    /// Gives the next bytes, at the front of the buffer, and answers how many they are: none only at
-    /// the end, or if the buffer has no room. A read that fails gives none and is counted.
+    /// Writes the next bytes to the front of the buffer, and returns how many they are: none only at
+    /// the end, or if the buffer is empty. A read that fails gives no bytes and is counted.
     fn read(&mut self, buf: &mut [u8]) -> Result<usize>
         ensures within { IfOk result (λ n. n ≤ length buf.new) }
         ensures bytes { ReadConsumes (remaining self.old) (remaining self.new) result buf.new }
@@ -35,14 +35,15 @@ pub trait CountedWrite {
     /// The bytes that the writer took so far, if they are known.
     ghost contents: { Self → Option (List ℕ) } = { λ _. None };
 
-    /// Whether what was taken was passed on, if a writer says so.
+    /// Whether all taken bytes were passed on, if the writer states it.
     ghost is_flushed: { Self → Type 0 } = { λ _. Unit {0} };
 
     /// How many writes and flushes failed so far, modulo 2^64.
     ghost failed: { Self → ℕ };
 
-    /// Takes bytes from the front of the buffer, and answers how many: at least one, if it has
-    /// one. A write that takes none of them fails; one that fails took none and is counted.
+    /// Takes bytes from the front of the buffer, and returns how many: at least one, unless the
+    /// buffer is empty. A write that takes none of them fails; one that fails took none and is
+    /// counted.
     fn write(&mut self, buf: &[u8]) -> Result<usize>
         ensures within { IfOk result (λ n. n ≤ length buf.now) }
         ensures some { IfOk result (λ n. 0 < length buf.now → 0 < n) }
@@ -50,7 +51,7 @@ pub trait CountedWrite {
         ensures counted { Counts (failed self.old) (failed self.new) result }
         ensures kind { IfErr result (λ e. e ≡ Io) };
 
-    /// Passes on what was taken.
+    /// Passes on the bytes that were taken.
     fn flush(&mut self) -> Result<()>
         ensures bytes { Keeps (contents self.old) (contents self.new) }
         ensures flushed { OnOk result (is_flushed self.new) }
@@ -63,7 +64,7 @@ pub trait CountedWrite {
 }
 
 /// A reader or a writer of std's, with a count of the calls that failed. A call that a signal
-/// interrupted is made again and does not count.
+/// interrupted is repeated and does not count.
 #[derive(Drop)]
 pub struct Counted<T> {
     device: T,
@@ -81,7 +82,7 @@ impl<T> Counted<T> {
         }
     }
 
-    // One more call failed.
+    // Counts one more failed call.
     fn fail(&mut self) -> Error
         ensures kind { result ≡ Io }
         ensures device { self.new.device ≡ self.old.device }
@@ -156,7 +157,7 @@ impl<T: Write> CountedWrite for Counted<T> {
     }
 }
 
-/// Writes all of the bytes, and flushes. If the writer fails, it has taken a beginning of them.
+/// Writes all of the bytes, and flushes. If the writer fails, it has taken a prefix of them.
 pub fn write_whole<W: CountedWrite>(to: &mut W, bytes: &[u8]) -> Result<()>
     ensures whole { OnOk result (Appends (W.contents to.old) (W.contents to.new) bytes.now) }
     ensures flushed { OnOk result (W.is_flushed to.new) }

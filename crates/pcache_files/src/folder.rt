@@ -1,5 +1,5 @@
-//! The files of a folder: one that is opened, and one that is written under a temporary name and
-//! then renamed. No contract says what a file holds.
+//! The files of a folder: opening one, and writing one under a temporary name and renaming it. No
+//! contract says what a file holds.
 ghost use Rattle.std.specs.Prelude.{◌≡◌, ◌⊎◌, IfErr, IsErrOf};
 ghost use Rattle.pcache_base.specs.declared.error.ErrorType.TheVariants.{Io, OutOfMemory};
 ghost use Rattle.pcache_files.specs.Folder.{IsUnopened};
@@ -12,10 +12,10 @@ use std::io::Write;
 use std::path::{Path, PathBuf};
 use std::{fs, io};
 
-/// How many suffixes are tried for a temporary file, if there are files with the first ones.
+/// How many suffixes are tried for a temporary file, if files with the first ones exist.
 const SUFFIXES: u32 = 64;
 
-/// Opens a file of a folder to be read.
+/// Opens a file of a folder for reading.
 pub(crate) fn open_file<R: Files>(
     alloc: Global,
     files: &R,
@@ -32,10 +32,10 @@ pub(crate) fn open_file<R: Files>(
     }
 }
 
-/// Puts a file with these bytes in the place of an older one. The folder is made with its parents
-/// if it is missing. The bytes go to a new file first, whose name ends in the suffix, or in the next
-/// one for which there is no file; one that is there is never written to. The new file is taken away
-/// again if a call on it fails, and the older one stays.
+/// Writes a file with these bytes in place of an older one. The folder is made, with its parents, if
+/// it is missing. The bytes go to a new file first, whose name ends in the suffix, or in the next
+/// one for which no file exists; an existing file is never written to. If a call on the new file
+/// fails, it is removed again, and the older one stays.
 pub(crate) fn replace_file<R: Files>(
     alloc: Global,
     files: &R,
@@ -72,7 +72,7 @@ fn temporary_path(alloc: Global, dir: &str, name: &str, suffix: u32) -> Result<P
     Ok(Path::new(dir).join(alloc, temporary.as_str())?)
 }
 
-// Writes a new file and gives it the name of an older one, or takes it away.
+// Writes a new file and gives it the name of an older one, or removes it.
 fn put_in_place<R: Files>(
     files: &R,
     file: R::File,
@@ -89,7 +89,7 @@ fn put_in_place<R: Files>(
     placed
 }
 
-// The file is closed before it gets its name.
+// Writes a file and renames it. It is closed before it is renamed.
 fn write_and_rename<R: Files>(
     files: &R,
     file: R::File,
@@ -111,7 +111,7 @@ fn write_new<W: Write + Drop>(file: W, bytes: &[u8]) -> Result<()>
     write_whole(&mut file, bytes)
 }
 
-// What a call on the file system answered.
+// The result of a call on the file system.
 fn told(answer: io::Result<()>) -> Result<()>
     ensures { IfErr result (λ e. (e ≡ OutOfMemory) ⊎ (e ≡ Io)) }
 {
@@ -121,7 +121,7 @@ fn told(answer: io::Result<()>) -> Result<()>
     }
 }
 
-// The refusal that stands for a failed call: std tells a lack of memory in the same way.
+// The error for a failed call: std reports a lack of memory in the same way.
 fn refusal(error: &io::Error) -> Error
     ensures { (result ≡ OutOfMemory) ⊎ (result ≡ Io) }
 {

@@ -1,4 +1,4 @@
-//! What is promised of every file.
+//! Laws of all files.
 ghost use Rattle.pcache_files.specs.FileLaws.{FilesAreShortest, FilesSpellOneList, NoBeginningIsAFile, SavedIsLoaded};
 
 /// No bytes spell two lists.
@@ -6,7 +6,7 @@ pub fn files_spell_one_list()
     ensures { FilesSpellOneList }
 {}
 
-/// No proper beginning of a file is a file: so each is refused.
+/// No proper prefix of a file is a file, so reading one fails.
 pub fn no_beginning_is_a_file()
     ensures { NoBeginningIsAFile }
 {}
@@ -16,8 +16,8 @@ pub fn files_are_shortest()
     ensures { FilesAreShortest }
 {}
 
-/// The file that is written of a list spells it, and a list without an entry twice is the same list
-/// once it is loaded into an empty one.
+/// The file that is written of a list spells it, and a list in which no entry occurs twice is the
+/// same list after it is loaded into an empty one.
 pub fn saved_is_loaded()
     ensures { SavedIsLoaded }
 {}

@@ -1,5 +1,5 @@
 #![tactic(auto)]
-//! Eviction managers as files: what they hold is written down, and put back in after a restart.
+//! Eviction managers as files: their entries are written to a file, and loaded after a restart.
 //!
 //! - `device`: readers and writers that count the calls that failed
 //! - `codec`: the bytes of a file, read and written
@@ -7,7 +7,7 @@
 //! - `folder`: files that are opened, and files that take the place of older ones
 //! - `simple_lru`, `sharded_lru`: the files of the two managers
 //! - `saved`: managers that are saved in a folder and loaded from it
-//! - `laws`: what is promised of every file
+//! - `laws`: laws of all files
 
 pub mod codec;
 pub mod device;

@@ -1,5 +1,5 @@
-//! The list of a file that a reader gives in pieces. No more is read than a list that begins so can
-//! still need, so a file that is none is left at the piece that shows it.
+//! The list of a file that a reader gives in pieces. No more is read than a list with this
+//! beginning can still need, so reading stops at the piece that shows that the file spells no list.
 ghost use Rattle.std.specs.Prelude.{◌≡◌, ◌≤◌, ◌⊎◌, ◌++◌, ◌-◌, ℕ, List, Some, [], length, drop, IfErr, IfOk, IsErrOf, IsTrue, OnOk};
 ghost use Rattle.std.specs.Io.KnownBytes.{Consumes, IsAtEnd};
 ghost use Rattle.pcache_base.specs.declared.error.ErrorType.TheVariants.{InternalError, Io, OutOfMemory};
@@ -15,18 +15,18 @@ use pcache_evict::eviction::CacheEntryKey;
 use std::alloc::Global;
 use std::marker::Model;
 
-/// How many bytes the head of an array has at most.
+/// The most bytes that the head of an array has.
 const ARRAY_HEAD: usize = 5;
 
-/// How many bytes of a node stand at most before the text of its tag: three heads of arrays, two
-/// hashes and the head of the tag.
+/// The most bytes of a node that come before the text of its tag: three heads of arrays, two hashes
+/// and the head of the tag.
 const BEFORE_TAG: usize = 318;
 
-/// How many bytes of a node stand at most around the text of its tag: those before it, a number and
-/// a weight.
+/// The most bytes of a node that are not the text of its tag: those before it, a number and a
+/// weight.
 const AROUND_TAG: usize = 336;
 
-/// What a reader gave that was not used yet, which is what a contract sees.
+/// The bytes that a reader gave and that were not used yet. A contract sees these bytes.
 #[derive(Drop)]
 struct Ahead {
     bytes: Vec<u8>,
@@ -65,7 +65,7 @@ impl Ahead {
         self.bytes.len() - self.used
     }
 
-    // Leaves the last bytes, which were not used.
+    // Keeps the last `count` bytes, which were not used.
     fn keep_last(&mut self, count: usize)
         requires { count ≤ length self.old }
         ensures { self.new ≡ drop (length self.old - count) self.old }
@@ -73,7 +73,7 @@ impl Ahead {
         self.used = self.bytes.len() - count;
     }
 
-    // Adds a piece. The bytes that were used are let go as soon as they are half of all.
+    // Adds a piece. The used bytes are dropped as soon as they are half of all.
     fn add(&mut self, piece: &[u8]) -> Result<()>
         ensures added { OnOk result (self.new ≡ self.old ++ piece.now) }
         ensures kind { IfErr result (λ e. e ≡ OutOfMemory) }
@@ -95,7 +95,7 @@ impl Ahead {
     }
 }
 
-// Reads until so many bytes are ahead, or up to the end. A reader that has ended is not read again.
+// Reads until so many bytes are ahead, or to the end. A reader that has ended is not called again.
 fn fill<D: CountedRead>(
     from: &mut D,
     ahead: &mut Ahead,
@@ -142,7 +142,7 @@ fn read_count<D: CountedRead>(from: &mut D, ahead: &mut Ahead, ended: &mut bool)
     Ok(count)
 }
 
-// The next node. All bytes that it may have are ahead before it is read, so a refusal is final.
+// The next node. All bytes that it can have are ahead before it is read, so a failure is final.
 fn read_next<D: CountedRead>(
     alloc: Global,
     from: &mut D,
@@ -192,8 +192,8 @@ fn read_nodes<D: CountedRead>(
     Ok(nodes)
 }
 
-/// The list of the file that a reader gives up to its end, most recent first. It is refused as soon as
-/// the bytes so far begin no file; the text of a tag is read whole before it is looked at.
+/// The list of the file that a reader gives up to its end, most recent first. Fails as soon as the
+/// bytes so far are no prefix of a file; the text of a tag is read as a whole before it is checked.
 pub(crate) fn read_list_from<D: CountedRead>(
     alloc: Global,
     from: &mut D,

@@ -15,25 +15,25 @@ use std::fs::Files;
 /// A manager that can be saved in a folder and loaded from it.
 ///
 /// What a file holds is not promised, nor that the files are those of the folder: a contract can only
-/// say what becomes of the manager by what the files gave that were opened.
+/// say how the manager changes, given what the files gave that were opened.
 pub trait SavedManager: EvictionManager {
     /// How many files the manager has.
     ghost file_count: { ℕ };
 
-    /// What entries of its files make of what is tracked.
+    /// How the entries of its files change what is tracked.
     ghost put_in: { Recency → Tracked → Tracked };
 
-    /// Saves what the manager holds in a folder, which is made with its parents if it is missing.
-    /// Each file is written under a temporary name that no file has, which ends in the suffix or in one
-    /// of the next, and then renamed. If that fails, the older file stays, and the temporary one is
-    /// taken away.
+    /// Saves the manager's entries in a folder, which is made, with its parents, if it is missing. Each
+    /// file is written under a temporary name that no file has, which ends in the suffix or in one of
+    /// the next ones, and is then renamed. If that fails, the older file stays, and the temporary one
+    /// is removed.
     fn save<R: Files>(&self, alloc: Global, files: &R, dir: &str, suffix: u32) -> Result<()>
         ensures kinds { IfErr result (λ e. (e ≡ OutOfMemory) ⊎ (e ≡ InternalError) ⊎ (e ≡ Io)) };
 
-    /// Puts in what was saved in a folder, and answers how many of several files were skipped: those
-    /// that could not be opened or read, and those that spell no list. What is tracked then is what was
-    /// there with the lists of the others put in, each of which was read whole. Nothing is evicted, and
-    /// a refusal changes nothing.
+    /// Loads what was saved in a folder, and returns how many of several files were skipped: those that
+    /// could not be opened or read, and those that spell no list. What is tracked then is what was
+    /// tracked before with the lists of the other files loaded, each of which was read to its end.
+    /// Nothing is evicted, and a failed call changes nothing.
     fn load<R: Files>(&mut self, alloc: Global, files: &R, dir: &str) -> Result<usize>
         ensures ok { IfOk result (λ skipped. (entries : Recency)
             × Loads R.File.remaining file_count skipped entries

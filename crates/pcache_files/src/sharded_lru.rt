@@ -16,7 +16,7 @@ use pcache_evict::eviction::sharded_lru::Manager;
 use std::alloc::Global;
 use std::fs::Files;
 
-/// The bytes of a shard's file: its list as it stands.
+/// The bytes of a shard's file, which spell its list in its order.
 pub fn serialize_shard<const N: usize>(
     alloc: Global,
     manager: &Manager<N>,
@@ -32,9 +32,9 @@ pub fn serialize_shard<const N: usize>(
     write_file(alloc, manager.shard_len(shard), manager.iter_shard(shard))
 }
 
-/// Puts in the list that the bytes of a shard's file spell, each entry at the back of the list of its
-/// key's shard, whichever that is now. One that is there is left alone, and nothing is evicted. A
-/// refusal changes nothing.
+/// Loads the list that the bytes of a shard's file spell, each entry at the back of the list of its
+/// key's shard, whichever that is now. One that is tracked is unchanged, and nothing is evicted. A
+/// failed call changes nothing.
 pub fn deserialize_shard<const N: usize>(
     alloc: Global,
     manager: &mut Manager<N>,
@@ -50,11 +50,11 @@ pub fn deserialize_shard<const N: usize>(
     manager.load_entries(entries)
 }
 
-/// Saves each shard as `lru.data.` and its number in a folder, which is made with its parents if
-/// it is missing, each written under a name that ends in the suffix in eight hexadecimal digits (or
-/// the next one of 64 for which there is no file yet) and `.tmp`, and then renamed. If a shard is
-/// refused, those before it are saved, older files stay for the others, and what was written of it is
-/// taken away.
+/// Saves each shard as `lru.data.` and its number in a folder, which is made, with its parents, if it
+/// is missing, each written under a name that ends in the suffix in eight hexadecimal digits (or the
+/// next one of 64 for which there is no file yet) and `.tmp`, and then renamed. If saving a shard
+/// fails, those before it are saved, older files stay for the others, and what was written of it is
+/// removed.
 pub fn save<R: Files, const N: usize>(
     alloc: Global,
     manager: &Manager<N>,
@@ -90,10 +90,10 @@ fn save_shard<R: Files, const N: usize>(
     replace_file(alloc, files, dir, name.as_str(), suffix, &bytes)
 }
 
-/// Puts in what the files of a folder hold, shard after shard, each entry as `deserialize_shard` does,
-/// and answers how many files were skipped: those that could not be opened or read, and those that
-/// spell no list. All are read before anything is put in, and a refusal, which comes only when memory
-/// runs out, changes nothing. That the files are those of these names no contract says.
+/// Loads what the files of a folder hold, shard after shard, each entry as `deserialize_shard` does,
+/// and returns how many files were skipped: those that could not be opened or read, and those that
+/// spell no list. All are read before an entry is added. Fails only when memory runs out, and then
+/// changes nothing. That the files are those of these names no contract says.
 pub fn load<R: Files, const N: usize>(
     alloc: Global,
     manager: &mut Manager<N>,
@@ -136,7 +136,7 @@ fn take_in(
     Ok(())
 }
 
-// The list of a shard's file, or none if it is skipped.
+// The list of a shard's file; `None` if the file is skipped.
 fn read_shard<R: Files>(
     alloc: Global,
     files: &R,

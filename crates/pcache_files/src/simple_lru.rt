@@ -21,7 +21,7 @@ use std::fs::Files;
 /// The file's name in its folder.
 const FILE_NAME: &str = "simple_lru.data";
 
-/// The bytes of the manager's file: its list as it stands.
+/// The bytes of the manager's file, which spell its list in its order.
 pub fn serialize(alloc: Global, manager: &Manager) -> Result<Vec<u8>>
     ensures written { IfOk result (λ v. v.items ≡ file_written manager.now.entries) }
     ensures spelled { IfOk result (λ v. SpellsFile v.items manager.now.entries) }
@@ -32,9 +32,9 @@ pub fn serialize(alloc: Global, manager: &Manager) -> Result<Vec<u8>>
     write_file(alloc, manager.total_items(), manager.iter())
 }
 
-/// Puts in the list that the bytes of a file spell: an entry that is new goes to the back, one that
-/// is there moves to the front with the new weight, and nothing is evicted. A refusal changes
-/// nothing.
+/// Loads the list that the bytes of a file spell: an entry that is new is added at the back, one
+/// that is tracked moves to the front with the new weight, and nothing is evicted. A failed call
+/// changes nothing.
 pub fn deserialize(alloc: Global, manager: &mut Manager, bytes: &[u8]) -> Result<()>
     ensures ok { OnOk result ((l : Recency) × SpellsFile bytes.now l
         × (manager.new ≡ record manager.old { entries = loaded_all l manager.old.entries })) }
@@ -46,8 +46,8 @@ pub fn deserialize(alloc: Global, manager: &mut Manager, bytes: &[u8]) -> Result
     manager.load_entries(entries)
 }
 
-/// Writes the manager's file, and flushes. If the writer fails, it has taken a beginning of the
-/// file; if there was no memory, or the list has no file, nothing.
+/// Writes the manager's file, and flushes. If the writer fails, it has taken a prefix of the file;
+/// if memory ran out, or the list has no file, it has taken nothing.
 pub fn save_to<W: CountedWrite>(alloc: Global, manager: &Manager, to: &mut W) -> Result<()>
     ensures ok { OnOk result (Appends (W.contents to.old) (W.contents to.new) (file_written manager.now.entries)) }
     ensures spelled { OnOk result (SpellsFile (file_written manager.now.entries) manager.now.entries) }
@@ -62,9 +62,9 @@ pub fn save_to<W: CountedWrite>(alloc: Global, manager: &Manager, to: &mut W) ->
     write_whole(to, &bytes)
 }
 
-/// Puts in the list of the file that a reader gives up to its end, as `deserialize` does. The file
-/// is read whole before anything is put in, and a refusal leaves the manager as it was. Bytes that
-/// begin no list are refused as soon as they show it, and no more is read then.
+/// Loads the list of the file that a reader gives up to its end, as `deserialize` does. The whole
+/// file is read before an entry is added, and a failed call leaves the manager unchanged. A file
+/// that spells no list fails as soon as its bytes show it, and no more is read then.
 pub fn load_from<D: CountedRead>(alloc: Global, manager: &mut Manager, from: &mut D) -> Result<()>
     ensures ok { OnOk result ((bytes : List ℕ) × (l : Recency)
         × Gave (D.remaining from.old) (D.remaining from.new) bytes × SpellsFile bytes l
@@ -79,10 +79,10 @@ pub fn load_from<D: CountedRead>(alloc: Global, manager: &mut Manager, from: &mu
     manager.load_entries(entries)
 }
 
-/// Saves the manager as `simple_lru.data` in a folder, which is made with its parents if it is
+/// Saves the manager as `simple_lru.data` in a folder, which is made, with its parents, if it is
 /// missing. It is written as `simple_lru.data.XXXXXXXX.tmp`, with the suffix in eight hexadecimal
-/// digits (or the next one of 64 for which there is no file yet), and then renamed. If it is
-/// refused, an older `simple_lru.data` stays, and what was written is taken away.
+/// digits (or the next one of 64 for which there is no file yet), and then renamed. If it fails, an
+/// older `simple_lru.data` stays, and what was written is removed.
 pub fn save<R: Files>(
     alloc: Global,
     manager: &Manager,
@@ -97,8 +97,8 @@ pub fn save<R: Files>(
     replace_file(alloc, files, dir, FILE_NAME, suffix, &bytes)
 }
 
-/// Puts in the list of the file `simple_lru.data` of a folder, as `load_from` does. A file that can't
-/// be opened is an `Io` error. That the file is the one of this name no contract says.
+/// Loads the list of the file `simple_lru.data` of a folder, as `load_from` does. Fails with `Io` if
+/// the file can't be opened. That the file is the one of this name no contract says.
 pub fn load<R: Files>(alloc: Global, manager: &mut Manager, files: &R, dir: &str) -> Result<()>
     ensures ok { OnOk result ((l : Recency) × IsRead R.File.remaining l
         × (manager.new ≡ record manager.old { entries = loaded_all l manager.old.entries })) }

@@ -1,10 +1,13 @@
--- What a legal history tells of a look-up and of a read is what the events before it say.
-use Rattle.std.proofs.Common.{◌≡◌, Option, None, Some, refl, subst}
+-- The result of a look-up and of a read in a legal history is what the events before it say.
+use Rattle.std.proofs.Common.{◌≡◌, ℕ, Option, None, Some, List, [], ◌∷◌, ◌++◌, refl, subst}
+use Rattle.pcache_evict.specs.Tracked.{Tracked, Limits}
 use Rattle.pcache_store.specs.Store.{Reader}
+use Rattle.pcache_history.specs.declared.entry.Entry.{Entry}
 use Rattle.pcache_history.specs.Due.{makes_of, reader_for, AreDue}
 use Rattle.pcache_history.specs.Headline.{LooksAreTrue, ReadsAreTrue}
 use Rattle.pcache_history.specs.Held.{Held, row, request_of}
 use Rattle.pcache_history.specs.History.{events_of}
+use Rattle.pcache_history.specs.Legal.{IsLegal}
 
 pub looks_are_true : LooksAreTrue
 looks_are_true age limits start before entry k answer rest l is =
@@ -22,3 +25,8 @@ reads_are_true age limits start before entry answer rest l is =
     let told = (subst (λ xs. AreDue limits start (events_of before) q (makes_of q) None xs (makes_of (row entry.call.act entry.reply entry.events q))) is l.0.due).0 in
     let x = reader-is q told.0 told.1 in
     (x.0, told.0, x.1, x.2, told.2)
+
+-- what a legal history begins with is legal
+pub legal-part : (age : ℕ) (limits : Limits) (start : Tracked) (later : List Entry) (entry : Entry) (before : List Entry) → IsLegal age limits start (later ++ entry ∷ before) → IsLegal age limits start (entry ∷ before)
+legal-part age limits start [] entry before l = l
+legal-part age limits start (e ∷ later) entry before l = legal-part age limits start later entry before l.1

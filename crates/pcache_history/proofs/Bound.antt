@@ -71,7 +71,7 @@ keys_distinct (Read a ∷ es) = keys_distinct es
 abbrev missing : ℕ → CacheEntryKey
 missing k = KeyOnly (record { primary = []; variance = None; user_tag = k ∷ [] })
 
--- the number by which an entry is told from those of other keys
+-- the number by which an entry differs from those of other keys
 abbrev first : List ℕ → ℕ
 first [] = 0
 first (k ∷ ks) = k

@@ -1,4 +1,4 @@
--- A reply and its copy move a request alike, and tell alike whether the call was a wrong one.
+-- A reply and its copy change a request alike, and say alike whether the call was a wrong one.
 use Rattle.std.proofs.Common.{◌≡◌, Option, List, refl, ap, sym, subst, ◌∙◌, inl, inr}
 use Rattle.pcache_base.specs.declared.error.ErrorType.TheVariants.{OutOfMemory}
 use Rattle.pcache_history.specs.declared.call.Act.{Act}

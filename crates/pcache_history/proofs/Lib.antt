@@ -8,6 +8,7 @@ pub mod LoadsLaw
 pub mod NumbersLaw
 pub mod WriteLaws
 pub mod Promised
+pub mod PutEnds
 pub mod PutShape
 pub mod PutWrites
 pub mod ReadsLaw

@@ -1,4 +1,4 @@
--- Loads come first in a legal history, and no event tells of them: so it is legal from whatever the manager held before them.
+-- Loads come first in a legal history, and make no event: so it is legal from whatever the manager tracked before them.
 use Rattle.std.proofs.Common.{◌≡◌, ℕ, ◌↔◌, Bool, true, false, ◌&&◌, Option, None, Some, List, [], ◌∷◌, ◌++◌, reverse, refl, sym, subst, ◌∙◌, inl, inr}
 use Rattle.std.proofs.lemmas.Bool.{both_ways}
 use Rattle.pcache_evict.specs.Tracked.{Tracked, Limits}
@@ -103,9 +103,9 @@ loads-start age limits start start' (e ∷ h) l is =
       l.3,
     )
 
--- What a call on files answers, and whether a call that is none is a load.
+-- The reply to a call on files, and whether a call that is none is a load.
 
--- what it answers, if only loads came before it or not
+-- the reply, if only loads came before it or not
 pub answers-files : (f : Facts) (a : FilesAct) (q : Option Held) (reply : Reply) → IsFilesReply a reply → (a ≡ F.Load → f.early ≡ true) → Replies f (C.Files a) q reply []
 answers-files f F.Save q reply is may = inl (finds_files F.Save q, inl (tt, other_files F.Save reply is, (is, refl)))
 answers-files f F.Load q reply is may = inl (finds_files F.Load q, inl (may refl, other_files F.Load reply is, (is, refl)))

@@ -32,19 +32,20 @@ use Rattle.pcache_history.specs.Legal.{IsLegal, Gives}
 use Rattle.pcache_history.specs.Log.{Log, HasLegal}
 use Rattle.pcache_history.specs.ReadSoFar.{read_by}
 use Rattle.pcache_history.specs.Rules.{Answers, Replies, HandsOn, Looks, LooksOn, Misses, drop_of, look_reply, release_of, IsCopy}
-use Rattle.pcache_history.proofs.AnswersLaw.{looks_are_true, reads_are_true}
+use Rattle.pcache_history.proofs.AnswersLaw.{legal-part, looks_are_true, reads_are_true}
+use Rattle.pcache_history.proofs.Found.{follows_a_write}
 use Rattle.pcache_history.proofs.WriteLaws.{finds_exactly, reads_the_last, is_within_limits, finishes_exactly}
 use Rattle.pcache_history.proofs.ReadsLaw.{reads_a_beginning, written_as}
 use Rattle.pcache_history.proofs.TrackedLaws.{evicts-fairly}
 use Rattle.pcache_history.proofs.Waiting.{gives_the_permit_exactly}
 
--- what the reply of a look-up tells of its answer
+-- what the reply to a look-up says of what it found
 tells-found : (a : Answer) (l : Option LockKind) → told_found (look_reply a l) ≡ Some (is_found a)
 tells-found A.Nothing l = refl
 tells-found (A.Complete m body) l = refl
 tells-found (A.Streaming m w) l = refl
 
--- a reply that tells nothing of what was found
+-- a reply that says nothing of what was found
 tells-none : {P : Type 0} (reply silent : Reply) (b : Bool) → reply ≡ silent → told_found silent ≡ None → told_found reply ≡ Some b → P
 tells-none reply silent b is none told = let no : ◌≡◌ {A = Option Bool} None (Some b) = sym none ∙ sym (ap told_found is) ∙ told in absurd (cc)
 
@@ -52,7 +53,7 @@ none-hides : (o : Option (Meta × Reader)) → hides_pair None o ≡ false
 none-hides None = refl
 none-hides (Some p) = refl
 
--- what is told and handed on of an answer
+-- what is said and handed on of what was found
 abbrev IsHandedOn : Held → Answer → Type 0
 IsHandedOn x a = (is_found a ≡ true) × (hides_pair x.request.valid_after (pair_of a) ≡ false)
 
@@ -85,7 +86,7 @@ looks-first true h f k a x reply events seen on = (release_of x.held ++ drop_of 
 looks-first false true f k a x reply events seen on = misses-first f k a x reply events (subst (λ c. HandsOn c f k a x reply events) seen on)
 looks-first false false f k a x reply events seen on = ([], (subst (λ c. HandsOn c f k a x reply events) seen on).0)
 
--- what a look-up found, and what its reply tells of it
+-- what a look-up found, and what its reply says of it
 module _ (b : Bool) (x : Held) where
   abbrev Tells : List Event → Facts → List Event → Type 0
   Tells es f events = (k : Key) × (a : Answer) × (more : List Event) × (x.request.key ≡ Some k) × (pair_of a ≡ f.found) × (events ≡ E.Look (slot k) a ∷ more) × ((b ≡ true) ↔ IsHandedOn x a)
@@ -135,7 +136,7 @@ hands_on_exactly age limits start before entry t d x k answer rest b l act has i
     let same : n.1 ≡ answer = cc in
     subst (λ a. (b ≡ true) ↔ IsHandedOn x a) same n.6
 
--- a reader of a write that tells the end has given all of it
+-- a reader of a write that returns the end has given all of it
 gave-all : (place : ℕ) (body : List ℕ) (more : Bool) (got : List ℕ) → ◌≡◌ {A = Poll (Option (List ℕ))} (Ready None) (cond (nat_lt place (length body)) (Ready (Some (drop place body))) (cond more Pending (Ready None))) → (got ≡ take place body) × (place ≤ length body) → got ≡ body
 gave-all place body more got is h =
     h.0 ∙ take_all place body (elim (nat_lt place (length body)) as (λ b. nat_lt place (length body) ≡ b → ◌≡◌ {A = Poll (Option (List ℕ))} (Ready None) (cond b (Ready (Some (drop place body))) (cond more Pending (Ready None))) → length body ≤ place) [
@@ -144,7 +145,7 @@ gave-all place body more got is h =
     ] refl is)
 
 pub reads_the_whole : ReadsTheWhole
-reads_the_whole age limits start before entry rest x w place l is has reader begun =
+reads_the_whole age limits start before entry rest x w place l is has reader =
     let es = events_of before in
     let told = reads_are_true age limits start before entry (Ready None) rest l is in
     let opened : ◌≡◌ {A = Option Held} (Some told.0) (Some x) = sym told.2 ∙ has in
@@ -156,13 +157,9 @@ reads_the_whole age limits start before entry rest x w place l is has reader beg
     elim (begin_of w es) as (λ o. begin_of w es ≡ o → IsSome o → read_by entry.call.request before ≡ body_of w es) [
       | None ↦ λ _ none. absurd (cc)
       | Some p ↦ λ b _. gave-all place (body_of w es) (in_flight w es && not (is_told w es)) (read_by entry.call.request before) (gave ∙ ap (λ o. read_part place (option_map (written_as w es) o)) b) h
-    ] refl begun
+    ] refl (follows_a_write age limits start before entry.call.request x w place l.1 has reader)
 
 -- ---- a world's own history
-
-pub legal-part : (age : ℕ) (limits : Limits) (start : Tracked) (later : List Entry) (entry : Entry) (before : List Entry) → IsLegal age limits start (later ++ entry ∷ before) → IsLegal age limits start (entry ∷ before)
-legal-part age limits start [] entry before l = l
-legal-part age limits start (e ∷ later) entry before l = legal-part age limits start later entry before l.1
 
 module _ (log : Log) (legal : HasLegal log) where
   at-entry : (entry : Entry) (before : List Entry) → IsEntryOf log entry before → IsLegal log.age log.limits log.start (entry ∷ before)

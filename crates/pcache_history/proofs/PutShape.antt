@@ -12,7 +12,8 @@ use Rattle.pcache_history.specs.declared.call.Act.TheVariants as C
 use Rattle.pcache_history.specs.declared.call.RequestAct.{RequestAct}
 use Rattle.pcache_history.specs.declared.call.RequestAct.TheVariants as Q
 use Rattle.pcache_put_ctx.specs.State.{Filled}
-use Rattle.pcache_history.specs.PutHistory.{filled_after}
+use Rattle.pcache_put_ctx.specs.Puts.{Piece}
+use Rattle.pcache_history.specs.PutHistory.{filled_after, pieces_on}
 use Rattle.pcache_history.specs.declared.call.Reply.{Reply}
 use Rattle.pcache_history.specs.declared.call.Reply.TheVariants as R
 use Rattle.pcache_history.specs.declared.entry.Answer.{Answer}
@@ -95,7 +96,7 @@ abbrev pub IsNoPush : Change → Type 0
 IsNoPush (pushes k limit) = ⊥
 IsNoPush change = Unit {0}
 
--- unless a put comes to be
+-- unless a put is made
 pub plain-kept : (change : Change) (o : Outcome) (events : List Event) (q : Option Held) → HasPut None q → IsNoPush change → HasPut None (changed change o events q)
 plain-kept (opens options) o events q h p = one-of (HasPut None) (is_done o) _ q refl h
 plain-kept closes o events q h p = one-of (HasPut None) (is_done o) None q tt h
@@ -223,3 +224,7 @@ legal_shaped age limits start (e ∷ h) l r =
 pub wrong-filled : (act : Act) (f : Option Filled) → filled_after act was_wrong [] f ≡ f
 wrong-filled (C.Put k limit) f = refl
 wrong-filled act f = refl
+
+pub wrong-pieces : (act : Act) (pieces : List Piece) → pieces_on act was_wrong pieces ≡ pieces
+wrong-pieces (C.Put k limit) pieces = refl
+wrong-pieces act pieces = refl

@@ -1,4 +1,4 @@
--- What a legal history says was written of an open put is the body of its write.
+-- The bytes that, by a legal history, an open put has written are the body of its write.
 use Rattle.std.proofs.Common.{◌≡◌, ◌≢◌, ℕ, ◌<◌, ◌≤◌, ◌==◌, Bool, true, false, if◌then◌else◌, cond, Option, None, Some, IfSome, IsSome, List, [], ◌∷◌, ◌++◌, refl, ap, sym, subst, ◌∙◌, arith, reverse, inl, inr}
 use Rattle.std.proofs.lemmas.Bool.{and_parts, both_ways, eqb-true, eqb-false, ne_eqb}
 use Rattle.pcache_base.specs.Key.{Key}
@@ -39,7 +39,7 @@ Gave f (Some w) es = (g : Filled) × (f ≡ Some g) × (g.body ≡ body_of w es)
 abbrev AreUnwritten : List Event → Type 0
 AreUnwritten es = (w : ℕ) → begun es ≤ w → body_of w es ≡ []
 
-abbrev IsBelow : Option ℕ → List Event → Type 0
+abbrev pub IsBelow : Option ℕ → List Event → Type 0
 IsBelow None es = Unit {0}
 IsBelow (Some w) es = w < begun es
 
@@ -52,7 +52,7 @@ unwritten-next limits m es q o None (E.Wrote w bytes eof) due unwritten low = λ
 unwritten-next limits m es q o (Some n) (E.Wrote w bytes eof) due unwritten low = absurd due
 unwritten-next limits m es q o owed e due unwritten low = unwritten
 
-below-next : (limits : Limits) (m : Tracked) (es : List Event) (q : Option Held) (o : Option ℕ) (owed : Option Owed) (e : Event) → IsNext limits m es q o owed e → IsBelow o es → IsBelow (makes e o) (e ∷ es)
+pub below-next : (limits : Limits) (m : Tracked) (es : List Event) (q : Option Held) (o : Option ℕ) (owed : Option Owed) (e : Event) → IsNext limits m es q o owed e → IsBelow o es → IsBelow (makes e o) (e ∷ es)
 below-next limits m es q o None (E.Begin w k n) due low = let is : w ≡ begun es = due.0 in omega (arith, is)
 below-next limits m es q o (Some n) (E.Begin w k y) due low = absurd due
 below-next limits m es q o owed (E.Finish w kept) due low = tt
@@ -103,11 +103,11 @@ gave-away limits m es q o None (E.Wrote x bytes eof) f w due low other h =
 gave-away limits m es q o (Some y) (E.Wrote x bytes eof) f w due low other h = absurd due
 gave-away limits m es q o owed e f w due low other h = h
 
-begun-grows : (e : Event) (es : List Event) (w : ℕ) → w < begun es → w < begun (e ∷ es)
+pub begun-grows : (e : Event) (es : List Event) (w : ℕ) → w < begun es → w < begun (e ∷ es)
 begun-grows (E.Begin x k n) es w low = omega (arith, low)
 begun-grows e es w low = low
 
-other-next : (limits : Limits) (m : Tracked) (es : List Event) (q : Option Held) (o : Option ℕ) (owed : Option Owed) (e : Event) (w : ℕ) → IsNext limits m es q o owed e → w < begun es → (o ≡ Some w → ⊥) → makes e o ≡ Some w → ⊥
+pub other-next : (limits : Limits) (m : Tracked) (es : List Event) (q : Option Held) (o : Option ℕ) (owed : Option Owed) (e : Event) (w : ℕ) → IsNext limits m es q o owed e → w < begun es → (o ≡ Some w → ⊥) → makes e o ≡ Some w → ⊥
 other-next limits m es q o None (E.Begin x k n) w due low other same = let is : x ≡ begun es = due.0 in let at : x ≡ w = cc in omega (arith, is, at, low)
 other-next limits m es q o (Some y) (E.Begin x k n) w due low other same = absurd due
 other-next limits m es q o owed (E.Finish x kept) w due low other same = absurd (cc)
@@ -122,7 +122,7 @@ run-away limits start q (e ∷ events) es o owed o' f w due low other h =
     (other-next limits (tracked start es) es q o owed e w due.0 low other)
     (gave-away limits (tracked start es) es q o owed e f w due.0 low other h))
 
--- of what stands under a number, if that is a put
+-- of what is open under a number, if that is a put
 abbrev GaveIn : Option Filled → Option Held → List Event → Type 0
 GaveIn f None es = Unit {0}
 GaveIn f (Some x) es = IfSome x.put (λ p. Gave f x.request.write es)
@@ -138,7 +138,7 @@ gave-put f (Some x) es h = elim x.put as (λ o. IfSome o (λ p. Gave f x.request
 put-gave : (f : Option Filled) (x : Held) (es : List Event) → IsSome x.put → GaveIn f (Some x) es → Gave f x.request.write es
 put-gave f x es some h = elim x.put as (λ o. IsSome o → IfSome o (λ p. Gave f x.request.write es) → Gave f x.request.write es) [ None ↦ λ s. absurd (both_ways false refl s) | Some p ↦ λ _ g. g ] some h
 
-right-kept : (reply : Reply) → IsOther reply → is_wrong (outcome reply) ≡ false
+pub right-kept : (reply : Reply) → IsOther reply → is_wrong (outcome reply) ≡ false
 right-kept R.WrongCall other = absurd other
 right-kept reply other = refl
 
@@ -157,7 +157,7 @@ none-gave : (b : Bool) (g : Option Filled) (es : List Event) → GaveIn g (cond 
 none-gave true g es = tt
 none-gave false g es = tt
 
--- a call of the put itself, by what it answers
+-- a call of the put itself, by its reply
 own-call : (limits : Limits) (start : Tracked) (f : Facts) (act : Act) (q : Option Held) (reply : Reply) (events es : List Event) (g : Option Filled) → Replies f act q reply events → AreDue limits start es q (makes_of q) None events (makes_of (row act reply events q)) → AreUnwritten es → IsBelow (makes_of q) es → GaveIn g q es
     → GaveIn (filled_after act (outcome reply) events g) (row act reply events q) (reverse events ++ es)
 own-call limits start f act q reply events es g (inr (other, idle)) due unwritten low h = wrong-call act q reply events es g idle h
@@ -178,7 +178,7 @@ own-call limits start f (C.Request a) (Some x) reply events es g (inl (kind, inl
 own-call limits start f act None reply events es g (inl (kind, inl (may, other, does))) due unwritten low h = gave-plain (filled_after act (outcome reply) events g) (row act reply events None) (reverse events ++ es) (plain-kept (change_of act) (outcome reply) events None tt tt)
 own-call limits start f act (Some x) reply events es g (inl (kind, inl (may, other, does))) due unwritten low h = gave-plain (filled_after act (outcome reply) events g) (row act reply events (Some x)) (reverse events ++ es) (plain-kept (change_of act) (outcome reply) events (Some x) kind tt)
 
--- one write more, of another
+-- one more write, of another
 away-held : (limits : Limits) (start : Tracked) (q : Option Held) (events es : List Event) (o' : Option ℕ) (f : Option Filled) (p : Option Held) → AreDue limits start es q (makes_of q) None events o' → IsBelow (makes_of p) es → ((w : ℕ) → makes_of p ≡ Some w → makes_of q ≡ Some w → ⊥) → GaveIn f p es → GaveIn f p (reverse events ++ es)
 away-held limits start q events es o' f None due low other h = tt
 away-held limits start q events es o' f (Some x) due low other h = elim x.put as (λ o. IfSome o (λ p. Gave f x.request.write es) → IfSome o (λ p. Gave f x.request.write (reverse events ++ es))) [ None ↦ λ _. tt | Some p ↦ λ g. by x.request.write refl low g ] h

@@ -109,7 +109,7 @@ gave-rest place body got h =
     let rest = length-drop place body in
     (ap (λ (xs : List ℕ). xs ++ drop place body) h.0 ∙ take-append-drop place body ∙ sym (take_all (place + length (drop place body)) body (omega (arith, h.1))), omega (arith, h.1))
 
--- what an answer makes of a reader of a write, and of what it has given
+-- how the result of a read changes a reader of a write, and what it has given
 abbrev HasReadPast : List Event → ℕ → ℕ → List ℕ → Poll (Option (List ℕ)) → Type 0
 HasReadPast es w place got a = HasRead es (read_past a (Part w place)) (got ++ given_in (E.Read a ∷ []))
 

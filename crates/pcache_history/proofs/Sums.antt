@@ -18,7 +18,7 @@ module _ {X : Type 0} (f : X → ℕ) where
   head_here : (m : FinMap nat_cmp X) (e : ℕ × X) (es : List (ℕ × X)) → entries m ≡ e ∷ es → get m e.0 ≡ Some e.1
   head_here m e es is = get-entries m e.0 ∙ ap (find nat_cmp e.0) is ∙ ap (λ r. cond (is_eq r) (Some e.1) (find nat_cmp e.0 es)) (tied_itself nat_cmp_total e.0)
 
-  -- a key that adds nothing adds nothing once another was taken out
+  -- a key that adds nothing adds nothing once another was removed
   pub zero-remove : (m : FinMap nat_cmp X) (k q : ℕ) → share f (get m q) ≡ 0 → share f (get (remove m k) q) ≡ 0
   zero-remove m k q h = subst (λ o. share f o ≡ 0) (sym (get-remove nat_cmp_total m k q)) (elim (eq_by_cmp nat_cmp q k) as (λ b. share f (cond b None (get m q)) ≡ 0) [ true ↦ refl | false ↦ h ])
 

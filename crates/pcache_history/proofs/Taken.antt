@@ -1,4 +1,4 @@
--- What a permit that is handed to a request leaves of that request: all but the lock that it holds.
+-- A permit that is handed to a request changes only the lock that the request holds.
 use Rattle.std.proofs.Common.{◌≡◌, ℕ, ◌==◌, true, false, cond, Option, None, Some, List, refl}
 use Rattle.pcache_lock.specs.Permits.{Permit}
 use Rattle.pcache_lock.specs.declared.lock.permit.Locked.{Locked}

@@ -72,4 +72,4 @@ pub tracks-exactly : TracksExactly
 tracks-exactly age limits start before k b l is =
     let x = (legal_kept age limits start before l).exact k b is in
     let own = standing-names (events_of before) k x.0 x.1 in
-    (x.0, own, x.3, x.2, λ q other. eqb-true k q (sym (names_only k x.0 own q) ∙ other))
+    (x.0, x.1, own, x.3, x.2, λ q other. eqb-true k q (sym (names_only k x.0 own q) ∙ other))

@@ -37,7 +37,7 @@ still : (b : Bool) (o : Option ℕ) (k : ℕ) → (if b then None else o) ≡ So
 still true o k e = absurd (cc)
 still false o k e = e
 
--- one permit more, under a key if none waited
+-- one more permit, under a key if none waited
 one-more : (w : Waiting) (k n : ℕ) → NoneWaits w k → IsSingle w → (q l m : ℕ) (a b : Bool) → (n == l) ≡ a → (n == m) ≡ b → (if a then Some k else w.under l) ≡ Some q → (if b then Some k else w.under m) ≡ Some q → l ≡ m
 one-more w k n none one q l m true true x y e f = sym (eqb-true n l x) ∙ eqb-true n m y
 one-more w k n none one q l m true false x y e f = let same : k ≡ q = cc in absurd (none m (f ∙ ap Some (sym same)))

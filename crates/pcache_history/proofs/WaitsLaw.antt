@@ -1,4 +1,4 @@
--- In a legal history a wait is answered by what the deeds before it say of its lock.
+-- In a legal history the reply to a wait is decided by what the deeds before it say of its lock.
 use Rattle.std.proofs.Common.{◌≡◌, ℕ, ◌⊎◌, false, Option, None, Some, IsSome, IfSome, is_some, List, refl, ap, sym, subst, ◌∙◌, inl, inr}
 use Rattle.pcache_base.specs.declared.error.ErrorType.TheVariants.{OutOfMemory}
 use Rattle.pcache_base.specs.declared.poll.Poll.{Poll}
@@ -22,7 +22,7 @@ use Rattle.pcache_history.specs.Rules.{Answers, IsCopy, Replies, wait_reply, was
 use Rattle.pcache_history.specs.Waits.{wait_of}
 use Rattle.pcache_history.proofs.PutShape.{IsShaped, legal_shaped}
 
--- a reply to a wait has no bytes, so it is told as it is
+-- a reply to a wait has no bytes, so its copy is equal
 abbrev IsNoData : Reply → Type 0
 IsNoData (R.Data bytes) = ⊥
 IsNoData _ = Unit {0}

@@ -33,7 +33,7 @@ pub record IsKept (limits : Limits) (start : Tracked) (h : List Entry) : Type 0 
   pub bounded : IsBounded limits (events_of h)
   pub world : (r : ℕ) → IsOfWorldIn (request_of r h)
 
--- an entry moves the request that it names, and no other, but for one that is handed a permit
+-- an entry changes only the request that it names, and one that is handed a permit
 abbrev rowed : ℕ → Entry → List Entry → Option Held
 rowed r e h = if e.call.request == r then row e.call.act e.reply e.events (request_of r h) else request_of r h
 

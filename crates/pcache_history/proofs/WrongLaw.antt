@@ -1,4 +1,4 @@
--- In a legal history a call is answered as a wrong one exactly when its condition fails.
+-- In a legal history a call has the reply WrongCall exactly when its condition fails.
 use Rattle.std.proofs.Common.{◌≡◌, ℕ, ◌↔◌, false, Option, None, Some, IsSome, List, refl, sym, subst, ◌∙◌, inl, inr}
 use Rattle.pcache_request.specs.Requests.{Request}
 use Rattle.pcache_history.specs.declared.call.Act.{Act}
@@ -18,7 +18,7 @@ use Rattle.pcache_history.specs.History.{events_of}
 use Rattle.pcache_history.specs.Rules.{FindsKind, MayBe, MayTake, Answers, IsOther, IsCopy, Replies}
 use Rattle.pcache_history.proofs.Copied.{other-copied, wrong-copied}
 
--- facts that are told by one history make the same conditions
+-- facts that one history gives make the same conditions
 same-told : (age : ℕ) (es : List Event) (ds : List Deed) (r : ℕ) (x : Request) (f g : Facts) → Says age es ds r x f → Says age es ds r x g → IsSome x.write → f.told ≡ false → g.told ≡ false
 same-told age es ds r x f g a b some told = elim x.write as (λ o. x.write ≡ o → IsSome o → g.told ≡ false) [
   | None ↦ λ _ none. absurd (cc)
@@ -41,7 +41,7 @@ exact : (age : ℕ) (es : List Event) (ds : List Deed) (r : ℕ) (f g : Facts) (
 exact age es ds r f g h act q reply told events a b same early first (inl (may, other, does)) copy = (λ wrong. absurd (subst IsOther wrong (other-copied reply told copy other)), λ no-way. absurd (no-way (same-may age es ds r g f h act q b a (sym same) first early may)))
 exact age es ds r f g h act q reply told events a b same early first (inr (fails, idle)) copy = (λ _ may. fails (same-may age es ds r f g h act q a b same early first may), λ _. wrong-copied reply told copy idle.0)
 
--- and if it is of the kind of what stands under its number
+-- and if it is of the kind of what is open under its number
 exact-kind : (age : ℕ) (es : List Event) (ds : List Deed) (r : ℕ) (f g : Facts) (h : List Entry) (act : Act) (q : Option Held) (reply told : Reply) (events : List Event) → Says age es ds r (request_in q) f → Says age es ds r (request_in q) g → g.taker ≡ f.taker → IsEarly act f h → IsEarly act g h → Replies g act q reply events → IsCopy reply told
     → (told ≡ R.WrongCall) ↔ (FindsKind act q × MayBe f act q → ⊥)
 exact-kind age es ds r f g h act q reply told events a b same early first (inl (finds, answers)) copy = let e = exact age es ds r f g h act q reply told events a b same early first answers copy in (λ wrong p. e.0 wrong p.1, λ no. e.1 (λ may. no (finds, may)))

@@ -1,6 +1,6 @@
--- What the entries of a history do to locks, read off them as deeds, and what a list of deeds says (own). Deeds stand newest
--- first, those of one call oldest first. A function says what one deed makes of the answer so far; the definition over the list
--- is then two clauses.
+-- What the entries of a history do to locks, as deeds, and what a list of deeds says (own). Deeds are listed newest first,
+-- those of one call oldest first. One function says how one deed changes the result so far; the definition over the list then
+-- has two clauses.
 use Rattle.std.specs.Prelude.{ℕ, ◌==◌, Bool, true, false, cond, if◌then◌else◌, Option, None, Some, is_some, List, [], ◌∷◌, ◌++◌, reverse}
 use Rattle.std.specs.List.{list_any}
 use Rattle.std.specs.Option.{option_map}
@@ -19,6 +19,7 @@ use Rattle.pcache_history.specs.declared.entry.Event.{Event}
 use Rattle.pcache_history.specs.declared.entry.Event.TheVariants as E
 use Rattle.pcache_history.specs.Held.{Held, Outcome, was_done, was_waited, outcome, request_of}
 
+-- what an entry does to locks
 pub data Deed : Type 0 where
   -- a request asks for the lock of a key at a moment, and is given the permit, or a read lock
   Asked : (by slot lock : ℕ) (is_permit : Bool) (at : ℕ) → Deed
@@ -26,11 +27,11 @@ pub data Deed : Type 0 where
   Released : (lock : ℕ) (status : LockStatus) → Deed
   LetGo : (lock : ℕ) → Deed
   Aged : (lock : ℕ) → Deed
-  -- a permit that is held is handed to a request
+  -- a held permit is handed to a request
   Handed : (lock by : ℕ) → Deed
-  -- who holds a permit publishes
+  -- the holder of a permit publishes tokens
   Published : (lock : ℕ) (tokens : List ℕ) → Deed
-  -- a request looks at its read lock, and has to wait on
+  -- a request polls its read lock, and has to wait
   Polled : (by : ℕ) → Deed
 
 -- The deeds of an entry.
@@ -42,12 +43,13 @@ moment_of (C.Request (Q.Found s t)) = t
 moment_of (C.Wait t) = t
 moment_of _ = 0
 
+-- whether an event stores a body
 abbrev pub keeps : Event → Bool
 keeps (E.Finish w kept) = kept
 keeps _ = false
 
--- the status that a permit is released with: that of the reason that a call brings; the end of a write tells whether it was
--- stored; a deferred look-up leaves the key to others
+-- the status that a permit is released with: that of the reason that a call brings; after the end of a write, by whether it
+-- was stored; after a deferred look-up one that leaves the key to others
 abbrev pub status_left : Act → List Event → LockStatus
 status_left (C.Request (Q.Disable why)) events = status_for (λ text. GiveUp) why
 status_left (C.Request (Q.Look t d)) events = TransientError
@@ -56,6 +58,7 @@ status_left (C.Request (Q.Release why)) events = status_for (λ text. GiveUp) wh
 status_left (C.Request (Q.Uncacheable h why)) events = status_for (λ text. GiveUp) why
 status_left _ events = Done
 
+-- the deed of one event, of a call of the request r at a moment, which releases with this status
 abbrev pub deed_of : ℕ → ℕ → LockStatus → Event → List Deed
 deed_of r at s (E.Ask k n is_permit) = Asked r k n is_permit at ∷ []
 deed_of r at s (E.Release n) = Released n s ∷ []
@@ -63,15 +66,17 @@ deed_of r at s (E.LetGo n) = LetGo n ∷ []
 deed_of r at s (E.Aged n) = Aged n ∷ []
 deed_of r at s _ = []
 
--- of these events, of a call of the request r at a moment, which releases with a status
+-- the deeds of these events, of a call of the request r at a moment, which releases with this status
 abbrev pub deeds_by : ℕ → ℕ → LockStatus → List Event → List Deed
 deeds_by r at s [] = []
 deeds_by r at s (e ∷ events) = deed_of r at s e ++ deeds_by r at s events
 
+-- the lock that is held
 abbrev pub held_in : Option Held → Option Locked
 held_in None = None
 held_in (Some x) = x.request.held
 
+-- tokens are published if a permit is held; a permit that is held is handed over
 abbrev pub published_on : List ℕ → Option Locked → List Deed
 published_on tokens None = []
 published_on tokens (Some (Write p)) = Published p.number tokens ∷ []
@@ -82,7 +87,7 @@ handed_on to None = []
 handed_on to (Some (Write p)) = Handed p.number to ∷ []
 handed_on to (Some (Read rd)) = []
 
--- what a call does to locks that no event tells: tokens are published, if a permit is held; a wait has to go on; a permit is
+-- what a call does to locks that no event shows: tokens are published, if a permit is held; a wait has to go on; a permit is
 -- handed over
 abbrev pub said_by : ℕ → Act → Outcome → Option Locked → List Deed
 said_by r (C.Request (Q.Publish tokens)) was_done held = published_on tokens held
@@ -90,11 +95,11 @@ said_by r (C.Wait t) (was_waited Pending) held = Polled r ∷ []
 said_by r (C.Give to) was_done held = handed_on to held
 said_by r _ _ held = []
 
--- of a call of the request r
+-- the deeds of a call of the request r
 abbrev pub deeds_in : ℕ → Act → Outcome → List Event → Option Held → List Deed
 deeds_in r act o events q = said_by r act o (held_in q) ++ deeds_by r (moment_of act) (status_left act events) events
 
--- of a history
+-- the deeds of a history
 abbrev pub deeds_of : List Entry → List Deed
 deeds_of [] = []
 deeds_of (e ∷ h) = reverse (deeds_in e.call.request e.call.act (outcome e.reply) e.events (request_of e.call.request h)) ++ deeds_of h
@@ -114,8 +119,8 @@ holds_at l (LetGo n) before = if n == l then None else before
 holds_at l (Handed n r) before = if n == l then option_map (λ _. r) before else before
 holds_at l _ before = before
 
--- what a permit leaves to those who wait on it: waiting, too old, dangling once it is let go, else the status that it was
--- released with, unless it was found too old
+-- the status of a permit for those who wait for it: waiting, too old, dangling once it is let go, or else the status that
+-- it was released with, unless it was found too old
 abbrev pub status_at : ℕ → Deed → LockStatus → LockStatus
 status_at l (Asked r k n true t) before = if n == l then Waiting else before
 status_at l (Released n s) before = if n == l then released_status s before else before
@@ -123,23 +128,24 @@ status_at l (LetGo n) before = if n == l then dropped_status before else before
 status_at l (Aged n) before = if n == l then AgeTimeout else before
 status_at l _ before = before
 
--- the publication that stands
+-- the current publication
 abbrev pub standing_at : ℕ → Deed → List ℕ → List ℕ
 standing_at l (Asked r k n true t) before = if n == l then [] else before
 standing_at l (Published n tokens) before = if n == l then tokens else before
 standing_at l _ before = before
 
--- one publication more is shown to who was shown any; who was shown none is shown the one that stands
+-- one more publication for a reader that has some; for one that has none, the current one
 abbrev pub shown_more : List ℕ → List (List ℕ) → List (List ℕ)
 shown_more p [] = []
 shown_more p (q ∷ qs) = (q ∷ qs) ++ p ∷ []
 
+-- the first publication that a reader has to look at is the one that was current at its first poll
 abbrev pub shown_first : List ℕ → List (List ℕ) → List (List ℕ)
 shown_first p [] = p ∷ []
 shown_first p (q ∷ qs) = q ∷ qs
 
--- the publications of the lock l that the request r is shown, which waits on it: the one that stands at its first poll, and
--- the later ones
+-- the publications of the lock l that the request r, which waits for it, has to look at: the one that is current at its
+-- first poll, and the later ones
 abbrev pub shown_at : ℕ → ℕ → List ℕ → Deed → List (List ℕ) → List (List ℕ)
 shown_at r l standing (Asked q k n is_permit t) before = if q == r then [] else before
 shown_at r l standing (Published n tokens) before = if n == l then shown_more tokens before else before
@@ -152,21 +158,26 @@ abbrev pub ask_of : ℕ → List Deed → Option (ℕ × ℕ)
 ask_of l [] = None
 ask_of l (d ∷ ds) = ask_at l d (ask_of l ds)
 
+-- the request that holds a permit
 abbrev pub who_holds : ℕ → List Deed → Option ℕ
 who_holds l [] = None
 who_holds l (d ∷ ds) = holds_at l d (who_holds l ds)
 
+-- whether a permit is held
 abbrev pub is_held : ℕ → List Deed → Bool
 is_held l ds = is_some (who_holds l ds)
 
+-- the status of a permit
 abbrev pub status_of : ℕ → List Deed → LockStatus
 status_of l [] = Waiting
 status_of l (d ∷ ds) = status_at l d (status_of l ds)
 
+-- the current publication of a permit
 abbrev pub standing : ℕ → List Deed → List ℕ
 standing l [] = []
 standing l (d ∷ ds) = standing_at l d (standing l ds)
 
+-- the publications of the lock l that the request r has to look at
 abbrev pub shown : ℕ → ℕ → List Deed → List (List ℕ)
 shown r l [] = []
 shown r l (d ∷ ds) = shown_at r l (standing l ds) d (shown r l ds)

@@ -1,4 +1,4 @@
--- When the events of a call may come, by what stands before them (own): one definition a kind of event.
+-- When the events of a call may come, by the events before them (own): one definition for each kind of event.
 use Rattle.std.specs.Prelude.{◌≡◌, ℕ, true, false, Option, None, Some, IsSome, List, [], ◌∷◌, length}
 use Rattle.std.specs.Option.{option_map, option_and_then}
 use Rattle.std.specs.FinMap as map
@@ -18,9 +18,11 @@ use Rattle.pcache_history.specs.History.{Finds, reads}
 abbrev pub makes_of : Option Held → Option ℕ
 makes_of q = option_and_then (λ x. x.request.write) q
 
+-- the slot of an open request's key
 abbrev pub slot_of : Option Held → Option ℕ
 slot_of q = option_and_then (λ x. option_map slot x.request.key) q
 
+-- the reader of an open request
 abbrev pub reader_for : Option Held → Option Reader
 reader_for q = option_and_then (λ x. x.request.reader) q
 
@@ -31,7 +33,8 @@ makes (Finish w kept) o = None
 makes (Dropped w) o = None
 makes _ o = o
 
--- what is owed to the manager: the entry of a write whose body was stored, with its weight, until it is admitted or its key purged
+-- what is still owed to the manager: the entry of a write whose body was stored, with its weight, until the entry is admitted or
+-- the key purged
 pub record Owed : Type 0 where
   pub write : ℕ
   pub weight : ℕ
@@ -43,9 +46,9 @@ owes es (Admit e n out) owed = None
 owes es (Purge k) owed = None
 owes es _ owed = owed
 
--- If a request q makes the write o, or none, and nothing is owed: a look-up and a read tell what the history says; a write
--- has the next number and the request's slot; only the request's own is written to and ended; it is stored exactly when it is
--- untouched; an entry is untracked whose key has no complete body.
+-- If the request q makes the write o, or none, and nothing is owed: a look-up and a read give what the history says; a write
+-- has the next number and the request's slot; only the request's own write gets bytes and ends; it is stored exactly when it
+-- is untouched; an entry is untracked only if its key has no complete body.
 abbrev pub MayCome : List Event → Option Held → Option ℕ → Event → Type 0
 MayCome es q o (Look k a) = Finds es k a
 MayCome es q o (Begin w k m) = (w ≡ begun es) × (o ≡ None) × (slot_of q ≡ Some k)
@@ -59,13 +62,14 @@ MayCome es q o (Read a) = (rd : Reader) × (reader_for q ≡ Some rd) × (a ≡ 
 MayCome es q o _ = Unit {0}
 
 -- If this is owed for the request's key: the entry of the write is admitted with its weight, by a fair eviction, or the key is
--- purged; before that only a permit is released.
+-- purged; before that only a permit may be released.
 abbrev pub MaySettle : Limits → Tracked → Option Held → Owed → Event → Type 0
 MaySettle limits m q owed (Admit e n out) = (n ≡ owed.weight) × ((k : ℕ) × (slot_of q ≡ Some k) × (names_slot k e ≡ true)) × (id_of e ≡ Some owed.write) × IsFair limits (map.insert m e n) out
 MaySettle limits m q owed (Purge k) = slot_of q ≡ Some k
 MaySettle limits m q owed (Release n) = Unit {0}
 MaySettle limits m q owed _ = ⊥
 
+-- an event may come next: freely, or, while an entry is owed, one that may settle that
 abbrev pub IsNext : Limits → Tracked → List Event → Option Held → Option ℕ → Option Owed → Event → Type 0
 IsNext limits m es q o None e = MayCome es q o e
 IsNext limits m es q o (Some owed) e = MaySettle limits m q owed e
@@ -86,10 +90,11 @@ abbrev pub IsOfWorldIn : Option Held → Type 0
 IsOfWorldIn None = Unit {0}
 IsOfWorldIn (Some x) = IsOfWorld x.request
 
--- a request of a world becomes one, and keeps its key while it makes a write
+-- a request of a world stays one, and keeps its key while it makes a write
 abbrev pub KeepsIn : Request → Request → Type 0
 KeepsIn x y = IsOfWorld x → IsOfWorld y × (IsSome y.write → y.key ≡ x.key)
 
+-- the same of what is open under a number; what was not open before makes no write yet
 abbrev pub KeepsKey : Option Held → Option Held → Type 0
 KeepsKey q None = Unit {0}
 KeepsKey None (Some y) = IsOfWorld y.request × (y.request.write ≡ None)

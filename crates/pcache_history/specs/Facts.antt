@@ -1,4 +1,4 @@
--- What a call may ask of what stands before it, of the request that it names, and what a history says to it (own).
+-- What a call may ask of the history before it, about the request that it names, and what the history says (own).
 use Rattle.std.specs.Prelude.{◌≡◌, ℕ, Bool, not, Option, Some, None, is_some, List, length}
 use Rattle.pcache_base.specs.Key.{Key, slot}
 use Rattle.pcache_lock.specs.Permits as permits
@@ -21,34 +21,35 @@ use Rattle.pcache_history.specs.Waits.{finds_too_old, wait_of}
 pub record Facts : Type 0 where
   -- the number of the next write
   pub next : ℕ
-  -- what a look-up of the key finds, and whether anything of it is there
+  -- what a look-up of the key finds, and whether anything is stored for it
   pub found : Option (Meta × Reader)
   pub there : Bool
-  -- whether a complete body of it is there, and the number of the write that stored it
+  -- whether it has a complete body, and the number of the write that stored that
   pub complete : Bool
   pub number : Option ℕ
   -- what the reader gives
   pub given : Poll (Option (List ℕ))
-  -- of the write: whether its last bytes were told, whether its key met no removal since it began, its size
+  -- of the write: whether its end was announced, whether its key met no removal since it began, its size
   pub told : Bool
   pub untouched : Bool
   pub size : ℕ
-  -- how many permits were asked for
+  -- how many permits were given
   pub asked : ℕ
-  -- what a wait answers at a moment, and whether it finds the permit too old
+  -- what a wait returns at a moment, and whether it finds the permit too old
   pub wait : ℕ → Poll LockWaitOutcome
   pub too_old : ℕ → Bool
-  -- the request to which the call hands a permit, once that is out of its giver's hands
+  -- the request to which the call hands a permit, after the giver no longer holds it
   pub taker : Option Held
   -- of a load: whether only loads came before it
   pub early : Bool
 
+-- the open request; a new one if none is open
 abbrev pub request_in : Option Held → Request
 request_in None = new_request
 request_in (Some x) = x.request
 
--- From the events and the deeds of a history: these facts of the request r are what it says, if permits are too old after
--- this time.
+-- These facts about the request r are what a history with these events and deeds says, if permits are too old after the
+-- time `age`.
 pub record Says (age : ℕ) (es : List Event) (ds : List Deed) (r : ℕ) (x : Request) (f : Facts) : Type 0 where
   pub next : f.next ≡ begun es
   pub found : (k : Key) (a : Answer) → x.key ≡ Some k → pair_of a ≡ f.found → Finds es (slot k) a

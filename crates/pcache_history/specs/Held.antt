@@ -1,5 +1,5 @@
--- An open request with the pair that its last look-up gave, or an open put, and what the entries of a history leave of it (own). Calls that
--- do one thing move a request by their reply; calls that can be refused half way move it by their events.
+-- An open request with the pair that its last look-up gave, or an open put, and its state after the entries of a history (own). A
+-- call that does one thing changes a request by its reply; a call that can fail half way changes it by its events.
 use Rattle.std.specs.Prelude.{◌≡◌, ℕ, ◌+◌, ◌==◌, ◌&&◌, ◌||◌, Bool, true, false, is_none, is_some, Option, Some, None, cond, if◌then◌else◌, List, [], ◌∷◌, length, unwrap_or}
 use Rattle.std.specs.Option.{option_map, option_and_then}
 use Rattle.pcache_meta.specs.Header.{shown}
@@ -43,12 +43,13 @@ use Rattle.pcache_history.specs.declared.entry.Event.TheVariants as E
 use Rattle.pcache_history.specs.Taking.{Taking, filling, new_put}
 use Rattle.pcache_history.specs.Watching.{waited_with}
 
+-- what is open under a number: a request with the pair that its last look-up gave, or a put
 pub record Held : Type 0 where
   pub request : Request
   pub pair : Option (Meta × Reader)
-  -- the decision that a look-up carried last, which the policy in use answers
+  -- the decision that a look-up carried last, which is that of the policy in use
   pub carried : Option Decision
-  -- what it has taken in, if it is a put: then the request has its key and its write, and no more
+  -- what it has taken in, if it is a put: then the request has only its key and its write
   pub put : Option Taking
 
 -- a call that names one request alone
@@ -57,7 +58,7 @@ IsOfOne (C.Give to) = ⊥
 IsOfOne (C.Files a) = ⊥
 IsOfOne _ = Unit {0}
 
--- what a request or a put moves by of a reply
+-- the part of a reply by which a request or a put changes
 pub data Outcome : Type 0 where
   was_wrong : Outcome
   was_done : Outcome
@@ -67,6 +68,7 @@ pub data Outcome : Type 0 where
   was_refused : (kind : ErrorType) → Outcome
   was_other : Outcome
 
+-- the part of a reply that counts
 abbrev pub outcome : Reply → Outcome
 outcome R.WrongCall = was_wrong
 outcome R.Done = was_done
@@ -77,10 +79,11 @@ outcome R.Waiting = was_waited Pending
 outcome (R.Waited o) = was_waited (Ready o)
 outcome (R.NotCached reason) = was_declined reason
 outcome (R.Refused e) = was_refused e
--- bytes that were read went by also if their copy is refused
+-- bytes that were read count as read even if copying them fails
 outcome (R.Data bytes) = was_refused OutOfMemory
 outcome _ = was_other
 
+-- the call was a wrong one; it was done; a pair was taken
 abbrev pub is_wrong : Outcome → Bool
 is_wrong was_wrong = true
 is_wrong _ = false
@@ -93,19 +96,21 @@ abbrev pub is_taken : Outcome → Bool
 is_taken was_taken = true
 is_taken _ = false
 
--- a world's requests use the manager and the lock
+-- the requests of a world use the manager and the lock
 abbrev pub world_use : InUse
 world_use = record { eviction = true; predictor = false; lock = true }
 
+-- a request that was just opened
 abbrev pub opened : Option CacheOptionOverrides → Held
 opened options = record { request = with_options true options (enabled_request world_use); pair = None; carried = None; put = None }
 
--- the pair of a look-up's answer
+-- the pair that a look-up found
 abbrev pub pair_of : Answer → Option (Meta × Reader)
 pair_of A.Nothing = None
 pair_of (A.Complete m body) = Some (m, Whole m.entry_id body 0 (length body) false)
 pair_of (A.Streaming m w) = Some (m, Part w 0)
 
+-- the reader of a pair
 abbrev pub pair_reader : Option (Meta × Reader) → Option Reader
 pair_reader p = option_map (λ q. q.1) p
 
@@ -114,91 +119,101 @@ abbrev pub lock_of : Bool → Bool → ℕ → Locked
 lock_of stale true n = Write (record { number = n; stale_writer = stale })
 lock_of stale false n = Read (record { number = n; watch = None })
 
+-- the request with the lock that an event gave it
 abbrev pub with_given : Bool → Event → Request → Request
 with_given stale (E.Ask k n is_permit) x = record x { held = Some (lock_of stale is_permit n) }
 with_given stale _ x = x
 
+-- the request after the events of a call that asks for a lock
 abbrev pub asked : Bool → List Event → Request → Request
 asked stale [] x = x
 asked stale (e ∷ es) x = asked stale es (with_given stale e x)
 
--- a decision that a look-up carries, if the request looks its key up first, puts a policy in use that answers it
+-- a decision that a look-up carries, if the request looks its key up for the first time, takes a policy into use that
+-- decides so
 abbrev pub carries : Option Decision → Held → Bool
 carries d x = is_some d && is_key_phase x.request.phase
 
+-- the request with the policy that the carried decision takes into use
 abbrev pub carrying : Option Decision → Held → Held
 carrying d x = let r : Request = x.request in record { request = record r { has_policy = carries d x || r.has_policy }; pair = x.pair; carried = cond (carries d x) d x.carried; put = x.put }
 
--- the policy in use decides as the decision that was carried last; before one was carried, none is in use
+-- the policy in use always makes the decision that was carried last; before one was carried, none is in use
 abbrev pub policy_in : Option Decision → Decision
 policy_in carried = unwrap_or carried (decision.Ready 0)
 
--- what the policy in use decides if this was found, if it is asked
+-- what the policy in use decides after this was found, if it is asked
 abbrev pub decides : Answer → Held → Option Decision
 decides a x = kept_if (is_none (pair_of a) && observes x.request) (Some (policy_in x.carried))
 
--- the request with a decision: if it defers, caching is turned off; else the lock that was asked for is held, and what was
--- found, unless it is hidden
+-- the request after a look-up with a decision: if it defers, caching is turned off; otherwise the lock that was asked for
+-- is held, and the found pair, unless it is hidden
 abbrev pub after_look : Option Decision → Answer → List Event → Held → Held
 after_look d a es x = cond (is_deferral d)
     (record { request = disabled_for Deferred (with_decision d x.request); pair = None; carried = None; put = x.put })
     (record { request = asked false es (with_decision d x.request); pair = visible x.request.valid_after (pair_of a); carried = x.carried; put = x.put })
 
+-- the request after a look-up, by the events of the call
 abbrev pub looked_by : List Event → Held → Held
 looked_by [] x = x
 looked_by (E.Look k a ∷ es) x = after_look (decides a x) a es x
 looked_by (_ ∷ es) x = x
 
--- a look-up for a variance, by the meta of what was found
+-- a look-up for a variance, given the found meta
 abbrev pub looks_for : List ℕ → Option (Meta × Reader) → Request → Request
 looks_for v None r = r
 looks_for v (Some p) r = looks_for_variance v p.0 r
 
--- what was found is taken, or let go if that is refused
+-- the found pair is taken, or let go if that fails
 abbrev pub placed_by : HitStatus → List Event → Request → Option (Meta × Reader) → Request
 placed_by s events x None = x
 placed_by s events x (Some p) = placed s p.0 p.1 (asked (asks_as_stale s x.phase) events x)
 
+-- the request after the found pair was taken
 abbrev pub taken_by : HitStatus → List Event → Held → Held
 taken_by s events x = record { request = placed_by s events x.request x.pair; pair = None; carried = x.carried; put = x.put }
 
+-- the request without its pair
 abbrev pub without_pair : Held → Held
 without_pair x = record { request = x.request; pair = None; carried = x.carried; put = x.put }
 
--- a write that began is held, and the permit released; if the call was not refused, the reader follows it
+-- a write that began is held, and the permit released; if the call did not fail, the reader follows it
 abbrev pub began : Bool → List Event → Request → Request
 began joined [] x = x
 began joined (E.Begin w k m ∷ es) x = record x { write = Some w; entry = Some w; held = None; reader = cond joined (Some (Part w 0)) x.reader }
 began joined (_ ∷ es) x = x
 
--- a write that ended is held no more
+-- a write that ended is no longer held
 abbrev pub ended : List Event → Request → Request
 ended [] x = x
 ended (e ∷ es) x = record x { write = None; entry = None; held = None }
 
--- a reader that gave bytes is past them
+-- a reader after it gave bytes
 abbrev pub read_past : Poll (Option (List ℕ)) → Reader → Reader
 read_past a (Whole id body start stop done) = Whole id body start stop true
 read_past (Ready (Some bs)) (Part w place) = Part w (place + length bs)
 read_past (Ready None) (Part w place) = Part w place
 read_past Pending (Part w place) = Part w place
 
+-- the request after a read, by its event
 abbrev pub has_read : List Event → Request → Request
 has_read [] x = x
 has_read (E.Read a ∷ es) x = record x { reader = option_map (read_past a) x.reader }
 has_read (_ ∷ es) x = x
 
--- a reader that is sent to another range
+-- a reader that is moved to another range
 abbrev pub sought_in : ℕ → Option ℕ → Option Reader → Option Reader
 sought_in start end r = option_and_then (λ x. sought x start end) r
 
+-- the request after its reader was moved
 abbrev pub with_sought : ℕ → Option ℕ → Request → Request
 with_sought start end x = record x { reader = sought_in start end x.reader }
 
+-- a change of the request alone
 abbrev pub on_request : (Request → Request) → Held → Held
 on_request f x = record { request = f x.request; pair = x.pair; carried = x.carried; put = x.put }
 
--- a wait that was answered
+-- the request after the reply to a wait
 abbrev pub waited_by : Outcome → ℕ → Request → Request
 waited_by (was_waited answer) now x = waited_with answer now x
 waited_by _ now x = x
@@ -207,61 +222,65 @@ waited_by _ now x = x
 abbrev pub held_put : Taking → Held
 held_put p = record { request = filling p.key (write_in p.stage) (entry_in p.stage); pair = None; carried = None; put = Some p }
 
+-- a put
 abbrev pub IsHeldPut : Held → Type 0
 IsHeldPut x = (p : Taking) × (x ≡ held_put p)
 
--- where a put stands once its write began, if one did; and after a piece
+-- the stage of a put after its write began, if one did; and after a piece
 abbrev pub stage_noted : List Event → Stage → Stage
 stage_noted (E.Begin w k m ∷ es) stage = InBody w (Some w) m.fresh_until
 stage_noted _ stage = stage
 
+-- the stage of a put after a piece, by the reply
 abbrev pub stage_fed : Outcome → List Event → Stage → Stage
 stage_fed was_done events stage = stage_noted events stage
 stage_fed (was_declined reason) events stage = HasDeclined reason
 stage_fed (was_refused kind) events stage = IsOver kind
 stage_fed _ events stage = stage
 
--- a put that was fed
+-- a put after it was fed
 abbrev pub fed_in : Outcome → List Event → Held → Option Taking → Held
 fed_in o events x None = x
 fed_in o events x (Some p) = held_put (record { key = p.key; size = p.size; parser = p.parser; stage = stage_fed o events p.stage })
 
+-- a put after a piece
 abbrev pub fed : Outcome → List Event → Held → Held
 fed o events x = cond (is_wrong o) x (fed_in o events x x.put)
 
--- What a call makes of the request or the put that it names, by the row of the phase table.
+-- How a call changes the request or the put that it names: its row of the phase table.
 pub data Change : Type 0 where
-  -- a request comes to be, whose lock has these options
+  -- a request is made, whose lock has these options
   opens : (options : Option CacheOptionOverrides) → Change
-  -- it goes
+  -- it is ended
   closes : Change
-  -- it stays as it is
+  -- it is unchanged
   stays : Change
-  -- if the call is done, all of it changes but its reader; its pair goes, or stays
+  -- if the call is done, all of it changes except its reader; its pair is let go, or kept
   turns : (f : Request → Request) (leaves_pair : Bool) → Change
-  -- the same, by the pair that it holds, which stays
+  -- the same, depending on the pair that it holds, which is kept
   turns_by : (f : Option (Meta × Reader) → Request → Request) → Change
-  -- if the call is done, all of it changes, and its reader and its pair go
+  -- if the call is done, all of it changes, and its reader and its pair are let go
   shuts : (f : Request → Request) → Change
-  -- it looks up, with a decision that is carried, and takes what was found
+  -- it looks up, with a decision that is carried; it takes the found pair
   looks : (d : Option Decision) → Change
   takes : (s : HitStatus) → Change
-  -- a write begins, and ends
+  -- its write begins; its write ends
   begins : Change
   ends : Change
-  -- its reader reads on, is sent to another range, and goes
+  -- its reader reads on; is moved to another range; is ended
   reads_on : Change
   seeks : (start : ℕ) (end : Option ℕ) → Change
   reads_no_more : Change
-  -- its stale meta is renewed, also if the store refuses it
+  -- its stale meta is renewed, even if the store could not set it
   renews : (m : Meta) → Change
   -- it waits on the read lock that it holds
   waits : (now : ℕ) → Change
-  -- a put comes to be, is fed, and goes, whatever it is answered
+  -- a put is made; is fed; is ended, whatever the reply
   pushes : (k : Key) (limit : Option ℕ) → Change
   feeds : Change
   goes : Change
 
+-- the change that each call makes
 abbrev pub change_of : Act → Change
 change_of (C.Open options) = opens options
 change_of (C.Request (Q.Enable options)) = turns (enabled_waiting world_use options) false
@@ -298,14 +317,15 @@ change_of C.Drop = closes
 change_of C.Close = goes
 change_of (C.Files a) = stays
 
--- all but its reader
+-- all of it changes except its reader
 abbrev pub turned_by : (Request → Request) → Bool → Held → Held
 turned_by f leaves_pair x = record { request = record (f x.request) { reader = x.request.reader }; pair = cond leaves_pair None x.pair; carried = x.carried; put = x.put }
 
--- all of it, and nothing is read any more; a policy goes out of use
+-- all of it changes, and its reader is let go; a policy is no longer in use
 abbrev pub shut_by : (Request → Request) → Held → Held
 shut_by f x = record { request = record (f x.request) { reader = None }; pair = None; carried = None; put = x.put }
 
+-- what is open under the number after that change
 abbrev pub changed : Change → Outcome → List Event → Option Held → Option Held
 changed (opens options) o events q = cond (is_done o) (Some (opened options)) q
 changed closes o events q = cond (is_done o) None q
@@ -326,32 +346,36 @@ changed (pushes k limit) o events q = cond (is_done o) (Some (held_put (new_put 
 changed feeds o events q = option_map (fed o events) q
 changed goes o events q = cond (is_wrong o) q None
 
+-- the row of a call, by the part of its reply that counts
 abbrev pub row_by : Act → Outcome → List Event → Option Held → Option Held
 row_by act o events q = changed (change_of act) o events q
 
+-- the row of a call: what is open under its number after it
 abbrev pub row : Act → Reply → List Event → Option Held → Option Held
 row act reply events q = row_by act (outcome reply) events q
 
--- a request that is handed a permit
+-- a request after it was handed a permit
 abbrev pub handed_by : Option Permit → Held → Held
 handed_by None x = x
 handed_by (Some p) x = on_request (handed p) x
 
+-- the permit that is held, if one is
 abbrev pub permit_held : Option Held → Option Permit
 permit_held None = None
 permit_held (Some x) = permit_in x.request.held
 
--- the request r after a call that may hand it the permit of another, which was giver before the call, and q after it
+-- the request r after a call that may hand it the permit of another request; `giver` is that one before the call, and
+-- q is r after the call's own change
 abbrev pub taken_over : Act → Outcome → ℕ → Option Held → Option Held → Option Held
 taken_over (C.Give to) was_done r giver q = cond (to == r) (option_map (handed_by (permit_held giver)) q) q
 taken_over act o r giver q = q
 
--- a request or a put as the entries that name it leave it
+-- a request or a put after all entries that name it
 abbrev pub request_of : ℕ → List Entry → Option Held
 request_of r [] = None
 request_of r (e ∷ h) = taken_over e.call.act (outcome e.reply) r (request_of e.call.request h) (if e.call.request == r then row e.call.act e.reply e.events (request_of r h) else request_of r h)
 
--- the request to which a call hands a permit, once that is out of its giver's hands
+-- the request to which a call hands a permit, after the giver no longer holds it
 abbrev pub taker_in : ℕ → Act → List Entry → Option Held
 taker_in from (C.Give to) h = cond (from == to) (option_map (on_request unheld) (request_of to h)) (request_of to h)
 taker_in from act h = None

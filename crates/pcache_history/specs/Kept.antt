@@ -1,5 +1,5 @@
--- What every legal history keeps (own): numbers are given in order, standing keys are tracked exactly, and what is stored is
--- within the limits.
+-- Invariants of every legal history (own): numbers are given in order, keys that stand are tracked exactly, and the complete
+-- bodies are within the limits.
 use Rattle.std.specs.Prelude.{◌≡◌, ℕ, ◌≤◌, true, false, ◌&&◌, if◌then◌else◌, Option, None, Some, is_some, IfSome, List, [], ◌∷◌}
 use Rattle.std.specs.FinMap as map
 use Rattle.pcache_evict.specs.declared.eviction.entry_key.CacheEntryKey.{CacheEntryKey}
@@ -10,7 +10,7 @@ use Rattle.pcache_history.specs.declared.entry.Event.TheVariants.{Admit}
 use Rattle.pcache_history.specs.Events as ev
 use Rattle.pcache_history.specs.Events.{begun, begin_of, is_removed, has_ended, was_stored, is_told, is_of, last_finished, complete, tracked, stored, slots, names_slot, stored_size}
 
--- numbers are given in order, and what finished was begun under its key
+-- numbers are given in order, and each finished write was begun for its key
 pub record IsTidy (es : List Event) : Type 0 where
   pub unbegun : (w : ℕ) → begun es ≤ w → begin_of w es ≡ None
   pub not_ended : (w : ℕ) → begun es ≤ w → has_ended w es ≡ false
@@ -28,13 +28,13 @@ abbrev pub standing_entry : ℕ → List Event → Option CacheEntryKey
 standing_entry k [] = None
 standing_entry k (e ∷ es) = admits k e (standing_entry k es)
 
--- of each standing key, the entry that was admitted last for it has the number of its last finished write, and is tracked with
--- exactly the length of its body
+-- of each key that stands, the entry that was admitted last for it has the number of its last finished write, and is tracked
+-- with exactly the length of its body
 abbrev pub IsExact : Tracked → List Event → Type 0
 IsExact start es = (k : ℕ) (b : _) → complete k es ≡ Some b
     → (e : CacheEntryKey) × (standing_entry k es ≡ Some e) × (map.get (tracked start es) e ≡ Some (stored_size b)) × (id_of e ≡ last_finished k es)
 
--- what is stored is within the limits
+-- the complete bodies are within the limits
 pub record IsBounded (limits : Limits) (es : List Event) : Type 0 where
   pub bytes : stored es ≤ limits.weight
   pub count : IfSome limits.watermark (λ most. slots es ≤ most)

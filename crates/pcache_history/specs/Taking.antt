@@ -1,5 +1,5 @@
--- An open put, and the request that a world keeps for it (own). Of the bytes that came, its parser and its counter keep what
--- the pieces of the history say.
+-- An open put, and the request that a world keeps for it (own). Its parser and its counter are those of the bytes of the
+-- history's pieces.
 use Rattle.std.specs.Prelude.{ℕ, Option, Some, [], true, false}
 use Rattle.std.specs.Option.{option_map}
 use Rattle.pcache_base.specs.Key.{Key}
@@ -12,15 +12,16 @@ use Rattle.pcache_request.specs.declared.phase.InUse.{InUse}
 
 pub record Taking : Type 0 where
   pub key : Key
-  -- the bytes of the body that were counted, if their number is limited
+  -- the count of the body's bytes, if their number is limited
   pub size : Option Counted
   pub parser : Parsed
   pub stage : Stage
 
+-- a count of zero under a limit
 abbrev pub counted_none : ℕ → Counted
 counted_none limit = record { bytes = 0; limit = limit }
 
--- a put of a key, whose body may have so many bytes if there is a limit
+-- a put of a key, perhaps with a limit on the number of the body's bytes
 abbrev pub new_put : Key → Option ℕ → Taking
 new_put k limit = record { key = k; size = option_map counted_none limit; parser = AtHead []; stage = InHead }
 
@@ -28,10 +29,11 @@ new_put k limit = record { key = k; size = option_map counted_none limit; parser
 abbrev pub put_use : InUse
 put_use = record { eviction = true; predictor = false; lock = false }
 
--- a request that fills this key with this write, if it does, for the entry of a number, and does nothing else
+-- a request that fills this key with this write, if there is one, for the entry with this number, and does nothing
+-- else
 abbrev pub filling : Key → Option ℕ → Option ℕ → Request
 filling k w id = let made : Request = enabled_request put_use in record made { phase = phase.Miss; key = Some k; write = w; entry = id }
 
--- a put as its context is seen, but for its policy
+-- a put as its contracts see it, without its policy
 abbrev pub taking : {C : Type 0} → Put C → Taking
 taking p = record { key = p.key; size = p.size; parser = p.parser; stage = p.stage }

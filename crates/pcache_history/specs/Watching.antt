@@ -1,5 +1,5 @@
--- A read lock that a request waits on, as its calls' replies tell it (own): a reader that was polled has the fills that it
--- watches for, those of its first poll.
+-- A read lock that a request waits with, as far as the replies to its calls show it (own): a reader that was polled has
+-- the fills that it watches for, which are those of its first poll.
 use Rattle.std.specs.Prelude.{ℕ, Option, None, Some, List, [], unwrap_or}
 use Rattle.pcache_base.specs.declared.fills.UnusableFill.{UnusableFill}
 use Rattle.pcache_base.specs.declared.poll.Poll.{Poll}
@@ -19,7 +19,8 @@ fills_of (Some w) fills = w.fills
 abbrev pub reader_watching : Reader → Option (List UnusableFill) → Reader
 reader_watching rd fills = record { number = rd.number; watch = Some (record { fills = fills_of rd.watch fills; seen = 0; told = None }) }
 
--- the request after a wait with this answer: while it waits it holds the read lock again; else the wait is counted
+-- the request after a wait with this result: while it waits it holds the read lock again; otherwise the wait is
+-- counted
 abbrev pub waited_on : Poll LockWaitOutcome → ℕ → Option Locked → Request → Request
 waited_on answer now None x = x
 waited_on answer now (Some (Write p)) x = x

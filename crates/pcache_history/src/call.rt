@@ -1,4 +1,4 @@
-//! What a world is asked, and what it answers.
+//! The calls of a world, and its replies.
 ghost use Rattle.std.specs.Prelude.{◌≡◌, ℕ, List, IfOk, IfErr, OnErr};
 ghost use Rattle.pcache_base.specs.declared.error.ErrorType.TheVariants.{OutOfMemory};
 ghost use Rattle.pcache_history.specs.Files.{files_in};
@@ -19,11 +19,13 @@ use pcache_put_ctx::boxed::Boxed;
 use pcache_request::cache::CacheOptionOverrides;
 use pcache_request::phase::{CachePhase, HitStatus};
 
-/// A call: what the request or the put of a number is to do. Requests and puts share the numbers.
+/// A call: what the request or the put with this number is to do. Requests and puts share the
+/// numbers.
 #[derive(Drop)]
 pub struct Call {
     /// The number of the request or the put.
     pub request: u64,
+    /// What it is to do.
     pub act: Act,
 }
 
@@ -37,18 +39,18 @@ pub enum Act {
     },
     /// Gives back all that the request holds. Its number is free then.
     End,
-    /// Does one thing of an open request.
+    /// Makes one call of an open request.
     Request(RequestAct),
-    /// Waits on the read lock that is held, at a moment.
+    /// Polls the read lock that is held, at a moment.
     Wait {
         now: Moment,
     },
-    /// Hands the permit over to another request. What that one held is let go; if it uses no lock, the
-    /// permit is let go.
+    /// Hands the permit over to another request. A lock that that one held is let go; if it uses no
+    /// lock, the permit is let go.
     Give {
         to: u64,
     },
-    /// Makes a put of the key, whose body may have so many bytes if there is a limit.
+    /// Makes a put of the key, perhaps with a limit on the number of the body's bytes.
     Put {
         key: Boxed<CacheKey>,
         limit: Option<usize>,
@@ -60,21 +62,21 @@ pub enum Act {
     },
     /// Ends the put before its response has come, and drops its write. Its number is free then.
     Drop,
-    /// Ends the put if its response has come, and stores the body. Its number is free then, also if
-    /// it is refused.
+    /// Ends the put if its response has come, and stores the body. Its number is free then, even if
+    /// the call fails.
     Close,
     /// Saves what the eviction manager holds, or loads what was saved. It names no request and no put,
     /// whatever its number.
     Files(FilesAct),
 }
 
-/// What is to be done with the files of an eviction manager. Which folder they are in is no part of
-/// the call: no contract can tell files by their names.
+/// What is to be done with the files of an eviction manager. The folder is not part of the call: no
+/// contract can tell files by their names.
 #[derive(Clone, Copy, Debug, PartialEq, Eq)]
 pub enum FilesAct {
     /// Saves what the manager holds.
     Save,
-    /// Puts in what was saved, as long as only loads came before.
+    /// Loads what was saved, if only loads came before.
     Load,
 }
 
@@ -85,7 +87,7 @@ pub enum RequestAct {
     Enable {
         options: Option<CacheOptionOverrides>,
     },
-    /// Turns caching off for a reason, and gives back what is held.
+    /// Turns caching off for a reason, and gives back all that is held.
     Disable {
         reason: NoCacheReason,
     },
@@ -93,22 +95,23 @@ pub enum RequestAct {
     Key {
         key: Boxed<CacheKey>,
     },
-    /// Looks the key up. A decision that it carries, if the request looks its key up first, is that
-    /// of an admission policy, which is in use from then on and decides so until another is carried.
+    /// Looks the key up. If it carries a decision, and the request looks its key up for the first
+    /// time, that decision is the one of an admission policy, which is in use from then on and
+    /// decides so until another decision is carried.
     Look {
         now: Moment,
         decision: Option<Decision>,
     },
-    /// Has the next look-up look for this variance of the key, by the meta of what the last one found.
+    /// Has the next look-up look for this variance of the key, given the meta that the last one found.
     Vary {
         variance: HashBinary,
     },
-    /// Takes what the look-up found.
+    /// Takes the pair that the look-up found.
     Found {
         status: HitStatus,
         now: Moment,
     },
-    /// Passes the cache by.
+    /// Bypasses the cache.
     Bypass,
     /// Goes on as a miss.
     Miss,
@@ -118,7 +121,7 @@ pub enum RequestAct {
     },
     /// Begins the write.
     Begin,
-    /// Adds bytes to the write, and with `eof` says that they are the last.
+    /// Adds bytes to the write, and with `eof` announces that they are the last.
     Write {
         bytes: Bytes,
         eof: bool,
@@ -127,16 +130,17 @@ pub enum RequestAct {
     Finish,
     /// Reads on.
     Read,
-    /// Has the reader give the body from `start` on, and before `end` if one is given, anew.
+    /// Moves the reader to `start`, from where it gives the body again, to before `end` if that is
+    /// given.
     Seek {
         start: usize,
         end: Option<usize>,
     },
     /// Ends the reader.
     Done,
-    /// Removes what stands under the key.
+    /// Removes what is stored for the key.
     Purge,
-    /// Ends the freshness of what stands under the key.
+    /// Ends the freshness of what is stored for the key.
     Expire {
         now: Moment,
     },
@@ -144,7 +148,7 @@ pub enum RequestAct {
     Lock {
         is_used: bool,
     },
-    /// Publishes what was found out about the fill, if the permit is held.
+    /// Publishes tokens of what was found out about the fill, if the permit is held.
     Publish {
         tokens: Tokens,
     },
@@ -154,8 +158,8 @@ pub enum RequestAct {
     },
     /// Serves the stale body while another request renews it.
     Updating,
-    /// Serves the stale body, of which the origin said that it is good, with this header. The new
-    /// answer is not stored, for this reason.
+    /// Serves the stale body, which the origin confirmed as valid, with this header. The new
+    /// response is not stored, for this reason.
     Uncacheable {
         header: Boxed<ResponseHeader>,
         reason: NoCacheReason,
@@ -164,16 +168,17 @@ pub enum RequestAct {
     Variance {
         variance: Option<HashBinary>,
     },
-    /// Takes the meta of an answer that says that the stale body is good, also for the stored body.
+    /// Takes the meta of a response that says that the stale body is still valid, also for the
+    /// stored body.
     Revalidate {
         meta: Boxed<CacheMeta>,
     },
-    /// Tells the phase that the request is in.
+    /// Returns the phase of the request.
     Phase,
 }
 
 impl Act {
-    /// What it is to do with files, if it is such an act.
+    /// The act on files, if it is one.
     pub fn files(&self) -> Option<FilesAct>
         ensures { result ≡ files_in self.now }
     {
@@ -183,7 +188,7 @@ impl Act {
         }
     }
 
-    /// The call of this act, by the request or the put of a number.
+    /// The call of this act, for the request or the put with this number.
     pub fn of(self, request: u64) -> Call
         ensures { result ≡ record { request = request; act = self } }
     {
@@ -192,7 +197,7 @@ impl Act {
 }
 
 impl FilesAct {
-    /// The call of this act. Its number is 0, which says nothing.
+    /// The call of this act. Its number is 0, which means nothing.
     pub fn call(self) -> Call
         ensures { result ≡ record { request = 0; act = acts.Files self } }
     {
@@ -201,7 +206,7 @@ impl FilesAct {
 }
 
 impl RequestAct {
-    /// The call of this act, by the request of a number.
+    /// The call of this act, for the request with this number.
     pub fn of(self, request: u64) -> Call
         ensures { result ≡ record { request = request; act = acts.Request self } }
     {
@@ -214,30 +219,30 @@ impl RequestAct {
 pub enum LockKind {
     /// The permit to fill the key.
     Write,
-    /// A lock that waits for another's permit.
+    /// A read lock, which waits for another request's permit.
     Read,
 }
 
-/// What a call answers.
+/// The reply of a call.
 #[derive(Debug, Drop)]
 pub enum Reply {
     /// A condition of the call was not met, and nothing changed.
     WrongCall,
-    /// The call was refused.
+    /// The call failed.
     Refused(ErrorType),
-    /// Done.
+    /// The call was done.
     Done,
     /// A complete body of this weight was found.
     Hit(usize),
-    /// A write was found that can be read while it is made.
+    /// A write in flight was found.
     Part,
     /// Nothing was found; the lock that was asked for, if one was.
     NotFound(Option<LockKind>),
-    /// What was found is taken: the phase, and the lock that was asked for, if one was.
+    /// The found pair is taken: the phase, and the lock that was asked for, if one was.
     Taken(CachePhase, Option<LockKind>),
     /// The body is stored: its size, and how many entries were evicted.
     Stored { size: usize, evicted: usize },
-    /// There was nothing to be finished.
+    /// There was no write to finish.
     Nothing,
     /// Nothing is stored of the put, for this reason.
     NotCached(NoCacheReason),
@@ -245,35 +250,34 @@ pub enum Reply {
     Data(Bytes),
     /// There is nothing to read yet.
     Pending,
-    /// All was read.
+    /// The body was read to its end.
     Finished,
-    /// What stood under the key is removed.
+    /// What was stored for the key is removed.
     Purged,
-    /// The freshness of the body under the key has ended.
+    /// The freshness of the key's body has ended.
     Expired,
-    /// Nothing stood under the key.
+    /// Nothing was stored for the key.
     Absent,
-    /// What was found is of the variance.
+    /// The found response has this variance.
     Same,
-    /// What was found is of another variance.
+    /// The found response has another variance.
     Other,
     /// The stored body has the new meta.
     Updated,
-    /// No complete body stood under the key.
+    /// There was no complete body for the key.
     NotUpdated,
     /// The wait goes on.
     Waiting,
-    /// The wait ended so, and the read lock is let go.
+    /// The wait ended with this outcome, and the read lock is let go.
     Waited(LockWaitOutcome),
     /// The phase of the request.
     Phase(CachePhase),
-    /// What was saved is put in, but for so many of several files, which were skipped.
+    /// What was saved is loaded, except so many of several files, which were skipped.
     Loaded(usize),
 }
 
 impl Reply {
-    /// A second reply, equal to this one. It is refused only when memory runs out, and only if the
-    /// reply has bytes.
+    /// A copy of this reply. Fails only when memory runs out, and only if the reply has bytes.
     pub fn copied(&self) -> Result<Reply>
         ensures ok { IfOk result (λ copy. copy ≡ self.now) }
         ensures data { OnErr result ((bytes : List ℕ) × (self.now ≡ Data bytes)) }

@@ -1,4 +1,4 @@
-//! A second call, equal to one that is there.
+//! Copies of calls.
 ghost use Rattle.std.specs.Prelude.{◌≡◌, IfErr, IfOk};
 ghost use Rattle.pcache_base.specs.declared.error.ErrorType.TheVariants.{OutOfMemory};
 
@@ -6,7 +6,7 @@ use crate::call::{Act, Call, RequestAct};
 use pcache_base::error::Result;
 
 impl Call {
-    /// A second call, equal to this one. It is refused only when memory runs out.
+    /// A copy of this call. Fails only when memory runs out.
     pub fn copied(&self) -> Result<Call>
         ensures ok { IfOk result (λ copy. copy ≡ self.now) }
         ensures kind { IfErr result (λ e. e ≡ OutOfMemory) }
@@ -19,7 +19,7 @@ impl Call {
 }
 
 impl Act {
-    // A second act, equal to this one. It is refused only when memory runs out.
+    // A copy of this act. Fails only when memory runs out.
     fn copied(&self) -> Result<Act>
         ensures ok { IfOk result (λ copy. copy ≡ self.now) }
         ensures kind { IfErr result (λ e. e ≡ OutOfMemory) }
@@ -46,7 +46,7 @@ impl Act {
 }
 
 impl RequestAct {
-    // A second act, equal to this one. It is refused only when memory runs out.
+    // A copy of this act. Fails only when memory runs out.
     fn copied(&self) -> Result<RequestAct>
         ensures ok { IfOk result (λ copy. copy ≡ self.now) }
         ensures kind { IfErr result (λ e. e ≡ OutOfMemory) }

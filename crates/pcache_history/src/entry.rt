@@ -16,7 +16,7 @@ pub enum Answer {
     Nothing,
     /// A complete body, with its meta.
     Complete { meta: Boxed<CacheMeta>, body: Bytes },
-    /// A write that can be read while it is made, with its meta.
+    /// A write in flight, with its meta.
     Streaming { meta: Boxed<CacheMeta>, write: u128 },
 }
 
@@ -34,7 +34,7 @@ pub enum Event {
         lock: u64,
         is_permit: bool,
     },
-    /// A use of an entry was noted; it came in with this weight if it was missing.
+    /// A use of an entry was recorded; it was added with this weight if it was not tracked.
     Access {
         entry: CacheEntryKey,
         weight: usize,
@@ -45,18 +45,18 @@ pub enum Event {
         slot: u128,
         meta: Boxed<CacheMeta>,
     },
-    /// Bytes of a write came, and whether they are the last.
+    /// Bytes were added to a write; `eof`: they were announced as the last.
     Wrote {
         write: u128,
         bytes: Bytes,
         eof: bool,
     },
-    /// A write was finished: its body stands, or its key was removed since it began.
+    /// A write was finished: its body is stored, or its key was removed since it began.
     Finish {
         write: u128,
         is_stored: bool,
     },
-    /// A write was given up.
+    /// A write was dropped.
     Dropped {
         write: u128,
     },
@@ -78,25 +78,25 @@ pub enum Event {
         weight: usize,
         evicted: Entries,
     },
-    /// What stood under a key was removed.
+    /// What was stored for a key was removed.
     Purge {
         slot: u128,
     },
-    /// The freshness of the complete body under a key, if there is one, ended at this moment.
+    /// The freshness of the complete body of a key, if there is one, ended at this moment.
     Expire {
         slot: u128,
         now: Moment,
     },
-    /// The complete body under a key has this meta from then on: the stale body was found good.
+    /// The complete body of a key has this meta from then on: the stale body is still valid.
     Renew {
         slot: u128,
         meta: Boxed<CacheMeta>,
     },
-    /// An entry was taken out of the manager.
+    /// An entry was removed from the manager.
     Untrack {
         entry: CacheEntryKey,
     },
-    /// A reader was read from.
+    /// A reader gave this.
     Read {
         answer: Poll<Option<Bytes>>,
     },
@@ -105,13 +105,16 @@ pub enum Event {
 /// Keys of entries. A contract sees the list.
 pub type Entries = Listed<CacheEntryKey>;
 
-/// Events, in the order in which they came. A contract sees the list.
+/// Events, in their order. A contract sees the list.
 pub type Events = Listed<Event>;
 
-/// One call of a history: what was asked and answered, and what was done.
+/// One call of a history, with its reply and its events.
 #[derive(Drop)]
 pub struct Entry {
+    /// The call.
     pub call: Call,
+    /// Its reply.
     pub reply: Reply,
+    /// Its events.
     pub events: Events,
 }

@@ -1,25 +1,25 @@
-//! What is promised of every legal history, whatever calls it has.
-ghost use Rattle.pcache_history.specs.Headline.{EvictsFairly, FindsExactly, FinishesExactly, FoundIsNumbered, GivesThePermitExactly, HandsOnExactly, IsWithinLimits, IsWrongExactly, LoadsComeFirst, LooksAreTrue, OnePermitWaits, PutsAreWritten, ReadsABeginning, ReadsAreTrue, ReadsTheLast, ReadsTheWhole, ReadsWhatWasFound, TellsExactly, TracksExactly, WaitsAreTrue};
+//! Laws of all legal histories, whatever calls they have.
+ghost use Rattle.pcache_history.specs.Headline.{EvictsFairly, FindsExactly, FinishesExactly, FollowsAWrite, FoundIsNumbered, GivesThePermitExactly, HandsOnExactly, IsWithinLimits, IsWrongExactly, LoadsComeFirst, LooksAreTrue, OnePermitWaits, PutsAreWritten, ReadsABeginning, ReadsAreTrue, ReadsTheLast, ReadsTheWhole, ReadsWhatWasFound, TellsExactly, TracksExactly, WaitsAreTrue};
 ghost use Rattle.pcache_history.specs.Settling.{SettlesAtOnce};
 
-/// A call is answered as a wrong one exactly when its condition fails.
+/// The reply to a call is WrongCall exactly when its condition fails.
 pub fn is_wrong_exactly()
     ensures { IsWrongExactly }
 {}
 
-/// A load is answered as a wrong call exactly when another call than a load came before it, also a save;
-/// and what manager files are saved or loaded makes no event.
+/// The reply to a load is WrongCall exactly when a call other than a load came before it, even a save;
+/// saving and loading make no event.
 pub fn loads_come_first()
     ensures { LoadsComeFirst }
 {}
 
-/// A look-up answers what the events before it say of its key.
+/// A look-up finds what the events before it say of its key.
 pub fn looks_are_true()
     ensures { LooksAreTrue }
 {}
 
 /// A found meta has the number of the write that is found, or that stored the body, whatever numbers the
-/// metas had that were handed in.
+/// given metas had.
 pub fn found_is_numbered()
     ensures { FoundIsNumbered }
 {}
@@ -51,41 +51,41 @@ pub fn stored_is_within_limits()
     ensures { IsWithinLimits }
 {}
 
-/// What a reader of a write has read is a beginning of the write's body; a reader of a complete
-/// body gives its range once.
+/// What a reader of a write has read is a prefix of the write's body; a reader of a complete body
+/// gives its range once.
 pub fn reads_a_beginning()
     ensures { ReadsABeginning }
 {}
 
-/// Whatever an admission evicts is fair: nothing goes if the limits hold, and no more than they
-/// want.
+/// Every eviction is fair: nothing is evicted if the limits hold, and no more than they require.
 pub fn evicts_fairly()
     ensures { EvictsFairly }
 {}
 
-/// Each standing key has an entry of its own, tracked with exactly the length of its body.
+/// Each key that stands has an entry of its own, that of its last finished write, tracked with exactly
+/// the length of its body.
 pub fn tracks_exactly()
     ensures { TracksExactly }
 {}
 
-/// A request for the lock of a key is given the permit exactly when no permit waits under its key.
+/// A request for the lock of a key is given the permit exactly when no permit waits for its key.
 pub fn gives_the_permit_exactly()
     ensures { GivesThePermitExactly }
 {}
 
-/// Of the permits that were asked for under one key at most one waits.
+/// Of the permits that were given for one key at most one waits.
 pub fn one_permit_waits()
     ensures { OnePermitWaits }
 {}
 
-/// A wait on a read lock is answered by how its permit ended, else by its age, else by what was
-/// published, else by the time waited; else it goes on.
+/// The reply to a wait on a read lock is decided by how its permit ended, else by its age, else by
+/// what was published, else by the time waited; otherwise the wait goes on.
 pub fn waits_are_true()
     ensures { WaitsAreTrue }
 {}
 
-/// The reply to a look-up tells that something was found exactly when a write of the key, in
-/// flight or finished, met no removal since it began: of a request that looked for no variant.
+/// The reply to a look-up says that something was found exactly when a write of the key, in flight
+/// or finished, met no removal since it began: of a request that looked for no variant.
 pub fn tells_exactly()
     ensures { TellsExactly }
 {}
@@ -96,25 +96,30 @@ pub fn hands_on_exactly()
     ensures { HandsOnExactly }
 {}
 
-/// What a reader of a write has given when it tells the end is the whole body of the write.
+/// The write that a request's reader follows was begun.
+pub fn follows_a_write()
+    ensures { FollowsAWrite }
+{}
+
+/// What a reader of a write has given when it returns the end is the whole body of the write.
 pub fn reads_the_whole()
     ensures { ReadsTheWhole }
 {}
 
-/// What a request reads through a hit is the body that a look-up of it found: that of the write of
-/// the key which had finished last then.
+/// What a request reads through a hit is the body that a look-up of it found, since it was opened: that
+/// of the last write of the key finished by then.
 pub fn reads_what_was_found()
     ensures { ReadsWhatWasFound }
 {}
 
-/// What the history says was written of an open put, and with what meta, is the body of its write and
-/// the meta that this began with.
+/// The bytes that, by the history, an open put has written, and their meta, are the body of its write
+/// and the meta that this began with.
 pub fn puts_are_written()
     ensures { PutsAreWritten }
 {}
 
 /// The finish of a body that is stored is followed, in its own entry, by the admission of its key with
-/// the body's length, or by the purge of its slot with a refusal for memory.
+/// the body's length, or by the purge of its slot if memory ran out.
 pub fn settles_at_once()
     ensures { SettlesAtOnce }
 {}

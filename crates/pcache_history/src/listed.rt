@@ -1,11 +1,11 @@
-//! Lists of what calls and events have.
+//! Lists in calls and events.
 ghost use Rattle.std.specs.Prelude.{◌≡◌, IfErr, IfOk};
 ghost use Rattle.pcache_base.specs.declared.error.ErrorType.TheVariants.{OutOfMemory};
 
 use pcache_base::error::Result;
 use std::marker::Model;
 
-/// Values in an order, which nothing changes. A contract sees the list, and not where it lies.
+/// An immutable list of values. A contract sees the list, and not its address.
 #[derive(Debug, Drop)]
 pub struct Listed<T> {
     list: Vec<T>,
@@ -36,7 +36,7 @@ impl<T> Listed<T> {
 }
 
 impl Listed<u64> {
-    /// A second list of the same numbers. It is refused only when memory runs out.
+    /// A copy of this list of numbers. Fails only when memory runs out.
     pub fn copied(&self) -> Result<Listed<u64>>
         ensures ok { IfOk result (λ copy. copy ≡ self.now) }
         ensures kind { IfErr result (λ e. e ≡ OutOfMemory) }

@@ -46,7 +46,7 @@ or_second : (a b : Bool) → b ≡ true → (a || b) ≡ true
 or_second true b e = refl
 or_second false b e = e
 
--- a permit that was told where its lock ended waits no more
+-- a permit whose final status was set no longer waits
 pub reason_ends : (s : LockStatus) → IsReason s → is_waiting s ≡ false
 reason_ends status.Waiting r = absurd r
 reason_ends status.Done r = refl
@@ -73,7 +73,7 @@ module _ (unlocks : Bool) where
   pub kept_tidy : (t : Locks) (n : ℕ) (c d : Core) → get t.cores n ≡ Some c → d.slot ≡ c.slot → ((unlocks || is_open c) ≡ true → (unlocks || is_open d) ≡ true) → ((d.held && is_waiting d.status) ≡ true → (c.held && is_waiting c.status) ≡ true) → Tidy unlocks t → Tidy unlocks (kept t n d)
   kept_tidy t n c d is e o w tidy = kept_by (is_named d) t n c d is e o w tidy
 
-  -- a read lock more
+  -- one more read lock
   read_tidy : (t : Locks) (n : ℕ) (o : Option Core) → get t.cores n ≡ o → Tidy unlocks t → Tidy unlocks (with_read_lock t n o)
   read_tidy t n None is tidy = tidy
   read_tidy t n (Some c) is tidy = put_tidy unlocks t n c (with_reader c) is refl (λ h. h) (λ h. h) tidy
@@ -149,7 +149,7 @@ module _ (unlocks : Bool) where
             (λ off. get-insert-off t.cores t.next c m off ∙ tidy.unused m (omega arith));
       }
 
-  -- a permit told where its lock ended, which takes nobody's place
+  -- a permit whose final status is set, which takes no other one's place
   unlock_tidy : (t : Locks) (n : ℕ) (reason : LockStatus) (o : Option Core) → get t.cores n ≡ o → IsReason reason → unlocks ≡ true → Tidy unlocks t → Tidy unlocks (record t { cores = changed (ended reason) t.cores n o })
   unlock_tidy t n reason None is r allowed tidy = tidy
   unlock_tidy t n reason (Some c) is r allowed tidy =

@@ -23,7 +23,7 @@ through : {A B : Type 0} (f : A → B) (b : Bool) (x y : A) → f (cond b x y) �
 through f true x y = refl
 through f false x y = refl
 
--- a lock written, and one taken out
+-- a lock written, and one removed
 at_insert : (t : Locks) (m : ℕ) (d : Core) (n : ℕ) → waits_under (record t { cores = insert t.cores m d }) n ≡ cond (n == m) (waiting_slot (Some d)) (waits_under t n)
 at_insert t m d n =
     ap waiting_slot (get-insert nat_cmp_total t.cores m d n)
@@ -127,7 +127,7 @@ waits_until_its_end = record {
   unlocking = λ t m reason n r. unlocked_at t m reason n (get t.cores m) refl r;
 }
 
--- publications looked at in two goes
+-- publications looked at in two steps
 or_or : {X : Type 0} (a b c : Option X) → option_or (option_or a b) c ≡ option_or a (option_or b c)
 or_or None b c = refl
 or_or (Some x) b c = refl

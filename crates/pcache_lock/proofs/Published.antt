@@ -18,7 +18,7 @@ use Rattle.pcache_base.specs.Fills.{first_match}
 use Rattle.pcache_lock.specs.Waiting.{first_told, says_nothing, HasRoom}
 use Rattle.pcache_lock.specs.Published.{has_token, entry_of, stands_for, IsIndex, IsFirstPlace}
 
--- ---- what a fill more makes of it
+-- ---- what one more fill makes of it
 
 picked : (g : UnusableFill) (b : Bool) (x y z : Option UnusableFill) → x ≡ option_or y z → cond b (Some g) x ≡ option_or (cond b (Some g) y) z
 picked g true x y z h = refl
@@ -28,7 +28,7 @@ match_more : (p : List ℕ) (fs : List UnusableFill) (f : UnusableFill) → firs
 match_more p [] f = refl
 match_more p (g ∷ fs) f = picked g (list_any (λ t. t == g.token) p) _ _ _ (match_more p fs f)
 
--- the place of the first publication that has any of the fills, or how many there are
+-- the position of the first publication that has any of the fills, or how many there are
 abbrev pub place_told : List UnusableFill → List (List ℕ) → ℕ
 place_told fs [] = 0
 place_told fs (p ∷ ps) = cond (is_some (first_match p fs)) 0 (suc (place_told fs ps))
@@ -91,7 +91,7 @@ module _ (f : UnusableFill) where
   next_step None true s m n off e is place = cc
   next_step None false s m n off e is place = (is, ap suc place)
 
--- a fill that no publication before the place has
+-- a fill that no publication before the position has
 told_as_before : (fs : List UnusableFill) (f : UnusableFill) (ps : List (List ℕ)) → ((i : ℕ) → i < place_told fs ps → has_token ps i f.token ≡ false)
     → (first_told (fs ++ f ∷ []) ps ≡ first_told fs ps) × (place_told (fs ++ f ∷ []) ps ≡ place_told fs ps)
 told_as_before fs f [] none = (refl, refl)
@@ -102,7 +102,7 @@ told_as_before fs f (p ∷ ps) none =
     (λ e. none 0 (at_head _ _ e))
     (λ e. told_as_before fs f ps (λ i lt. none (suc i) (behind _ _ _ e lt))))
 
--- a fill whose first place is before it
+-- a fill whose first position is before it
 told_now : (fs : List UnusableFill) (f : UnusableFill) (ps : List (List ℕ)) (m : ℕ) → m < place_told fs ps → has_token ps m f.token ≡ true → ((i : ℕ) → i < m → has_token ps i f.token ≡ false)
     → (first_told (fs ++ f ∷ []) ps ≡ Some f) × (place_told (fs ++ f ∷ []) ps ≡ m)
 told_now fs f [] m lt has none = cc
@@ -143,7 +143,7 @@ told_with ps fs f from before place at (le, lt, has, none) =
 
 -- ---- the index
 
--- a publication more
+-- one more publication
 pub has_more : (ps : List (List ℕ)) (p : List ℕ) (place token : ℕ) → has_token (ps ++ p ∷ []) place token ≡ (has_token ps place token || ((place == length ps) && list_any (λ t. t == token) p))
 has_more [] p zero token = refl
 has_more [] p (suc n) token = let off : (suc n == 0) ≡ false = grind (arith, nat_tests) in ap (λ b. b && list_any (λ t. t == token) p) (sym off)
@@ -159,7 +159,7 @@ not_true : (b : Bool) → (b ≡ true → ⊥) → b ≡ false
 not_true true h = absurd (h refl)
 not_true false h = refl
 
--- the first entry of a token's range is that of its first place there
+-- the first entry of a token's range is that of its first position there
 pub place_found : (index : BTreeSet ℕ) (ps : List (List ℕ)) (token from before base start end : ℕ) → IsIndex index ps → before < 2 ^ 64 → base ≡ entry_of token 0 → start ≡ entry_of token from → end ≡ entry_of token before
     → (r rest : List ℕ) (k : ℕ) → IsKeyRangeOf nat_cmp (Included start) (Excluded end) index r → r ≡ k ∷ rest → IsFirstPlace ps token from before (Some (k - base))
 place_found index ps token from before base start end known small base-is start-is end-is r rest k range is =
@@ -182,7 +182,7 @@ place_found index ps token from before base start end known small base-is start-
           omega arith),
     )
 
--- what a fill more is told, if it is found and if it is not
+-- what one more fill is told, if it is found and if it is not
 pub found_next : (ps : List (List ℕ)) (fs : List UnusableFill) (i : ℕ) (d : UnusableFill) (from before place : ℕ) (found : Option ℕ) → i < length fs → before ≡ from + place_told (take i fs) (drop from ps)
     → IsFirstPlace ps (get_or fs i d).token from before found → found ≡ Some place
     → (first_told (take (i + 1) fs) (drop from ps) ≡ Some (get_or fs i d)) × (place ≡ from + place_told (take (i + 1) fs) (drop from ps))
@@ -218,7 +218,7 @@ taken_more false true true = refl
 taken_more false true false = refl
 taken_more false false b = refl
 
--- a token more is put in, and taken out
+-- one more token is put in, and removed
 pub more_in : (old index new : BTreeSet ℕ) (place : ℕ) (tokens : List ℕ) (i k q : ℕ) → i < length tokens → k ≡ entry_of (get_or tokens i 0) place
     → contains nat_cmp index q ≡ (contains nat_cmp old q || stands_for place (take i tokens) q)
     → contains nat_cmp new q ≡ cond (is_at (nat_cmp k) q) true (contains nat_cmp index q)
@@ -250,7 +250,7 @@ any_of_all test zero xs h = cc
 any_of_all test (suc i) [] h = h
 any_of_all test (suc i) (x ∷ xs) h = either (test x) (list_any test (take i xs)) (list_any test xs) (any_of_all test i xs) h
 
--- what was put in is taken out again
+-- what was put in is removed again
 pub as_before : (old marked new : BTreeSet ℕ) (place : ℕ) (tokens : List ℕ) (i q : ℕ) → (stands_for place tokens q ≡ true → contains nat_cmp old q ≡ false)
     → contains nat_cmp marked q ≡ (contains nat_cmp old q || stands_for place (take i tokens) q)
     → contains nat_cmp new q ≡ (contains nat_cmp marked q && not (stands_for place tokens q))
@@ -271,7 +271,7 @@ shared : (p a b : Bool) → ((p && a) || (p && b)) ≡ (p && (a || b))
 shared true a b = refl
 shared false a b = refl
 
--- numbers of entries are the same as their tokens and places are
+-- index entries are equal if their tokens and positions are
 same_entry : (t u i j : ℕ) → i < 2 ^ 64 → j < 2 ^ 64 → (entry_of t i == entry_of u j) ≡ ((j == i) && (t == u))
 same_entry t u i j small_i small_j = alike (entry_of t i == entry_of u j) (j == i) (t == u)
     (λ e. let is : entry_of t i ≡ entry_of u j = grind (arith, nat_tests) in let t_is : t ≡ u = omega arith in let i_is : j ≡ i = omega arith in (let a : (j == i) ≡ true = grind (arith, nat_tests) in a, let b : (t == u) ≡ true = grind (arith, nat_tests) in b))
@@ -295,7 +295,7 @@ pub index_silent : (index : BTreeSet ℕ) (ps : List (List ℕ)) → IsIndex ind
 index_silent index ps known token place small =
     known token place small ∙ or_false (has_token ps place token) ∙ ap (λ b. has_token ps place token || b) (sym (and_false (place == length ps))) ∙ sym (has_more ps [] place token)
 
--- nothing stands in it behind the last place
+-- the index has nothing behind the last position
 pub index_ends : (index : BTreeSet ℕ) (ps : List (List ℕ)) (p : List ℕ) → length ps < 2 ^ 64 → IsIndex index ps → (q : ℕ) → stands_for (length ps) p q ≡ true → contains nat_cmp index q ≡ false
 index_ends index ps [] few known q at = cc
 index_ends index ps (x ∷ xs) few known q at = apart (entry_of x (length ps) == q) refl at (λ h. index_ends index ps xs few known q h) where
@@ -318,7 +318,7 @@ whole place tokens i q le = ap (λ ts. stands_for place ts q) (take_all i tokens
 pub index_cleared : (index : BTreeSet ℕ) (ps : List (List ℕ)) → IsEmpty index → ps ≡ [] → IsIndex index (ps ++ [] ∷ [])
 index_cleared index ps none is = subst (λ (qs : List (List ℕ)). IsIndex index (qs ++ [] ∷ [])) (sym is) (index_silent index [] (index_none index none))
 
--- ---- what stands is empty
+-- ---- the current publication is empty
 
 says_last : (ps : List (List ℕ)) → says_nothing (slice_get (ps ++ [] ∷ []) (length (ps ++ [] ∷ []) - 1)) ≡ true
 says_last ps =

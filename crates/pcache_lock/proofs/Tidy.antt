@@ -12,8 +12,8 @@ use Rattle.pcache_lock.specs.Locks.{Locks, holder, held_by, unless_free, with_pe
 use Rattle.pcache_lock.specs.Waits.{waiting_slot, waits_under}
 use Rattle.pcache_table.proofs.Sharded.{by_test, get-insert-at, get-insert-off, same_key}
 
--- what stands under a key is a lock of that key whose place may be taken, or whose permit waits;
--- if permits may be unlocked, any lock of that key
+-- the current lock of a key is a lock of that key whose status is free, or whose permit waits; if permits may be
+-- unlocked, any lock of that key
 abbrev pub is_open : Core → Bool
 is_open c = is_free c.status || (c.held && is_waiting c.status)
 
@@ -27,7 +27,7 @@ module _ (unlocks : Bool) where
     pub waiting : (slot n : ℕ) → waits_under t n ≡ Some slot → get t.standing slot ≡ Some n
     pub unused : (n : ℕ) → t.next ≤ n → get t.cores n ≡ None
 
--- what stands under the keys once a lock's entry is gone
+-- the current locks of the keys after a lock's entry was removed
 picked : (b : Bool) (st : FinMap nat_cmp ℕ) (k s : ℕ) → get (cond b (remove st k) st) s ≡ cond b (cond (eq_by_cmp nat_cmp s k) None (get st s)) (get st s)
 picked true st k s = get-remove nat_cmp_total st k s
 picked false st k s = refl
@@ -65,7 +65,7 @@ other_stays n (Some k) st s m h off = by_test s k (eq_by_cmp nat_cmp s k) refl
     (λ e. picked (stands_as n (get st k)) st k s ∙ ap (λ b. cond b (cond (eq_by_cmp nat_cmp s k) None (get st s)) (get st s)) (kept_other (get st k) n m (ap (get st) (sym e) ∙ h) off) ∙ h)
     (λ e. picked (stands_as n (get st k)) st k s ∙ ap (λ b. cond (stands_as n (get st k)) (cond b None (get st s)) (get st s)) e ∙ same_both (stands_as n (get st k)) (get st s) ∙ h)
 
--- a lock changed where it stands
+-- a lock changed in place
 open_of : (bd bc : Bool) (d c : Option ℕ) (slot : ℕ) → (bd ≡ true → bc ≡ true) → d ≡ c → cond bd d None ≡ Some slot → cond bc c None ≡ Some slot
 open_of true bc d c slot w e h = ap (λ b. cond b c None) (w refl) ∙ sym e ∙ h
 open_of false bc d c slot w e h = cc
@@ -118,7 +118,7 @@ module _ (unlocks : Bool) where
         (λ off. get-insert-off t.cores n d m off ∙ tidy.unused m le);
   }
 
-  -- a lock that does not wait any more, with its entry gone
+  -- a lock that no longer waits, with its entry gone
   pub left_tidy : (t : Locks) (n : ℕ) (c : Core) (cores : FinMap nat_cmp Core) (st : FinMap nat_cmp ℕ) → get t.cores n ≡ Some c → ((m : ℕ) → eq_by_cmp nat_cmp m n ≡ false → get cores m ≡ get t.cores m) → waiting_slot (get cores n) ≡ None → st ≡ without_entry n c.slot t.standing → Tidy unlocks t → Tidy unlocks (record t { cores = cores; standing = st })
   left_tidy t n c cores st is rest none gone tidy = record {
     entries = λ slot m h.

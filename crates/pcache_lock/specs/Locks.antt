@@ -1,4 +1,4 @@
--- What a table of locks holds, and what its calls do to it (own).
+-- What a table of locks contains, and what its calls do to it (own).
 use Rattle.std.specs.Prelude.{ℕ, ◌+◌, ◌^◌, ◌==◌, ◌≤◌, Bool, true, false, Option, Some, None, cond}
 use Rattle.std.specs.Ordering.{nat_cmp}
 use Rattle.std.specs.FinMap.{FinMap, empty, get, insert, remove}
@@ -11,8 +11,8 @@ use Rattle.pcache_lock.specs.declared.lock.status.LockStatus.TheVariants.{Dangli
 use Rattle.pcache_lock.specs.Statuses.{is_free, is_aged}
 use Rattle.pcache_lock.specs.Permits.{Core, new_core, is_locked, is_named, with_reader, without_reader, spent, released_status, dropped_status}
 
--- the locks that are still named, by number; under each key the number of its entry; the number of
--- the next lock; and after how many nanoseconds a permit is too old
+-- the locks that are still named, by number; the number of the current lock of each key; the number of the next lock;
+-- and the age in nanoseconds at which a permit is too old
 pub record Locks : Type 0 where
   pub cores : FinMap nat_cmp Core
   pub standing : FinMap nat_cmp ℕ
@@ -27,7 +27,7 @@ no_locks age_timeout = record { cores = empty; standing = empty; next = 0; age_t
 abbrev pub no_locks_from : ℕ → ℕ → Locks
 no_locks_from next age_timeout = record { cores = empty; standing = empty; next = next; age_timeout = age_timeout }
 
--- the lock on which a request for the key would wait: that of the key's entry, unless its place may be taken
+-- the lock that a request for the key would wait for: the key's current one, unless its status is free
 abbrev pub unless_free : ℕ → Option Core → Option ℕ
 unless_free n None = None
 unless_free n (Some c) = cond (is_free c.status) None (Some n)
@@ -36,6 +36,7 @@ abbrev pub held_by : Locks → Option ℕ → Option ℕ
 held_by t None = None
 held_by t (Some n) = unless_free n (get t.cores n)
 
+-- the lock that a request for the key has to wait for, by the key's current lock
 abbrev pub holder : Locks → ℕ → Option ℕ
 holder t k = held_by t (get t.standing k)
 
@@ -44,7 +45,7 @@ abbrev pub lock_given : Locks → Bool → Option ℕ → Locked
 lock_given t stale None = Write (record { number = t.next; stale_writer = stale })
 lock_given t stale (Some n) = Read (record { number = n; watch = None })
 
--- the table after it: with a new lock as the key's entry, or with a read lock more
+-- the table after that: with a new lock as the key's current one, or with one more read lock
 abbrev pub with_core : Locks → ℕ → Core → Locks
 with_core t k c = record t {
   cores = insert t.cores t.next c;
@@ -52,18 +53,21 @@ with_core t k c = record t {
   next = t.next + 1;
 }
 
+-- the table with a new lock of a key, whose permit is given now
 abbrev pub with_permit : Locks → ℕ → Bool → ℕ → Locks
 with_permit t k stale now = with_core t k (new_core (Some k) t.age_timeout stale now)
 
+-- the table with one more read lock on a lock
 abbrev pub with_read_lock : Locks → ℕ → Option Core → Locks
 with_read_lock t n None = t
 with_read_lock t n (Some c) = record t { cores = insert t.cores n (with_reader c) }
 
+-- the table after a request for a key, given the lock that it has to wait for
 abbrev pub after_request : Locks → ℕ → Bool → ℕ → Option ℕ → Locks
 after_request t k stale now None = with_permit t k stale now
 after_request t k stale now (Some n) = with_read_lock t n (get t.cores n)
 
--- the entries without that of this lock, if it stands under its key
+-- the entries without that of this lock, if it is the current one of its key
 abbrev pub stands_as : ℕ → Option ℕ → Bool
 stands_as n None = false
 stands_as n (Some m) = m == n
@@ -72,7 +76,7 @@ abbrev pub without_entry : ℕ → Option ℕ → FinMap nat_cmp ℕ → FinMap 
 without_entry n None standing = standing
 without_entry n (Some k) standing = cond (stands_as n (get standing k)) (remove standing k) standing
 
--- a lock written back; one that nobody names any more goes, and its entry with it
+-- a lock written back; a lock that nothing names any more is removed with its entry
 abbrev pub kept : Locks → ℕ → Core → Locks
 kept t n c = cond (is_named c)
     (record t { cores = insert t.cores n c })
@@ -88,10 +92,11 @@ abbrev pub permit_spent : Locks → ℕ → LockStatus → Option Core → Locks
 permit_spent t n status None = t
 permit_spent t n status (Some c) = kept t n (spent c status)
 
--- a permit released: its own entry goes, unless it aged out
+-- a permit released: its own entry is removed, unless it aged out
 abbrev pub left : Locks → ℕ → Core → Locks
 left t n c = cond (is_aged c.status) t (record t { standing = without_entry n c.slot t.standing })
 
+-- the table after a permit was released with a status
 abbrev pub released_on : Locks → ℕ → LockStatus → Option Core → Locks
 released_on t n reason None = t
 released_on t n reason (Some c) = kept (left t n c) n (spent c (released_status reason c.status))
@@ -104,15 +109,17 @@ abbrev pub permit_dropped : Locks → ℕ → Option Core → Locks
 permit_dropped t n None = t
 permit_dropped t n (Some c) = kept t n (spent c (dropped_status c.status))
 
+-- the table after a read lock was let go
 abbrev pub reader_dropped : Locks → ℕ → Option Core → Locks
 reader_dropped t n None = t
 reader_dropped t n (Some c) = kept t n (without_reader c)
 
+-- the table after a lock was let go
 abbrev pub let_go : Locks → Locked → Locks
 let_go t (Write p) = permit_dropped t p.number (get t.cores p.number)
 let_go t (Read r) = reader_dropped t r.number (get t.cores r.number)
 
--- whether it is the permit; the lock's number
+-- whether a lock that was given is the permit; the lock's number
 abbrev pub is_permit : Locked → Bool
 is_permit (Write p) = true
 is_permit (Read r) = false
@@ -121,7 +128,7 @@ abbrev pub number_of_lock : Locked → ℕ
 number_of_lock (Write p) = p.number
 number_of_lock (Read r) = r.number
 
--- why a lock may be refused: memory, or all numbers were given
+-- why asking for a lock may fail: memory ran out, or all numbers are used
 abbrev pub MayRefuseLock : Locks → ErrorType → Type 0
 MayRefuseLock t OutOfMemory = Unit {0}
 MayRefuseLock t InternalError = ⊥
@@ -132,25 +139,27 @@ MayRefuseLock t WriteRemoved = ⊥
 MayRefuseLock t NumbersExhausted = 2 ^ 64 ≤ t.next
 MayRefuseLock t Io = ⊥
 
--- a lock told where it ended, by a permit that is still held
+-- a lock whose final status is set while its permit is still held
 abbrev pub ended : LockStatus → Core → Core
 ended reason c = record c { status = reason }
 
+-- the table after a lock's final status was set while its permit is still held
 abbrev pub unlocked : Locks → ℕ → LockStatus → Locks
 unlocked t n reason = record t { cores = changed (ended reason) t.cores n (get t.cores n) }
 
--- a lock under no key
+-- a lock for no key
 abbrev pub with_free_permit : Locks → ℕ → Bool → ℕ → Locks
 with_free_permit t age_timeout stale now = record t {
   cores = insert t.cores t.next (new_core None age_timeout stale now);
   next = t.next + 1;
 }
 
--- what is known of a lock: whether its permit is still held, and where it stands
+-- what is known of a lock: whether its permit is still held, and its status
 abbrev pub locked_at : Option Core → Bool
 locked_at None = false
 locked_at (Some c) = is_locked c
 
+-- the status of a lock; a lock that is not known is dangling
 abbrev pub status_kept : Option Core → LockStatus
 status_kept None = Dangling
 status_kept (Some c) = c.status

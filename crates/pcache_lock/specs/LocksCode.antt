@@ -1,4 +1,4 @@
--- A table of locks as a value that proofs can tell apart.
+-- A table of locks as a value that proofs can tell from others (own).
 use Rattle.std.specs.Prelude.{ℕ, refl}
 use Rattle.std.specs.Coded.{Coded, code_by, coded×, coded_ℕ}
 use Rattle.std.specs.Ordering.{nat_cmp}

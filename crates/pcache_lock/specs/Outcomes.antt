@@ -4,7 +4,7 @@ use Rattle.pcache_lock.specs.declared.lock.outcome.LockWaitOutcome.TheVariants a
 use Rattle.pcache_lock.specs.declared.lock.status.LockStatus.{LockStatus}
 use Rattle.pcache_lock.specs.declared.lock.status.LockStatus.TheVariants as status
 
--- the status of the same name, and that of a response which is not cached for an abandoned wait
+-- the status of the same name; for an abandoned wait that of a response which is not cached
 abbrev pub status_of_outcome : LockWaitOutcome → LockStatus
 status_of_outcome outcome.Done = status.Done
 status_of_outcome outcome.TransientError = status.TransientError

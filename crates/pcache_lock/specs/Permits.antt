@@ -10,27 +10,27 @@ pub record Permit : Type 0 where
   pub number : ℕ
   pub stale_writer : Bool  -- it was asked for to replace a stale entry
 
--- what a reader watches for since its first poll
+-- what a reader watches for from its first poll on
 pub record Watch : Type 0 where
-  pub fills : List UnusableFill  -- those that it cannot use
+  pub fills : List UnusableFill  -- the fills that it cannot use
   pub seen : ℕ  -- how many of the permit's publications it has looked at
   pub told : Option UnusableFill  -- the one that it was told of
 
 -- what a contract sees of a read lock
 pub record Reader : Type 0 where
-  pub number : ℕ  -- of the lock that it waits on
+  pub number : ℕ  -- of the lock that it waits for
   pub watch : Option Watch
 
 -- what a table knows of a lock
 pub record Core : Type 0 where
-  pub slot : Option ℕ  -- the key that it was asked for under
+  pub slot : Option ℕ  -- the slot of the key for which it was given
   pub status : LockStatus
   pub start : ℕ  -- the moment when its permit was given
-  pub age_timeout : ℕ  -- after how many nanoseconds it is too old
+  pub age_timeout : ℕ  -- the age in nanoseconds at which it is too old
   pub stale_writer : Bool
   pub held : Bool  -- its permit is not spent
   pub readers : ℕ  -- how many read locks name it
-  pub publications : List (List ℕ)  -- the one that stands is the last
+  pub publications : List (List ℕ)  -- the current one is the last
 
 -- a lock whose permit is given now
 abbrev pub new_core : Option ℕ → ℕ → Bool → ℕ → Core
@@ -49,11 +49,11 @@ new_core slot age_timeout stale now = record {
 abbrev pub is_named : Core → Bool
 is_named c = c.held || nat_lt 0 c.readers
 
--- the permit is held, and nobody told yet where it ended
+-- the permit is held, and its final status was not set yet
 abbrev pub is_locked : Core → Bool
 is_locked c = c.held && is_pending c.status
 
--- a read lock more, up to what 128 bits count; a read lock less
+-- one more read lock, up to the largest number of 128 bits; one read lock less
 abbrev pub with_reader : Core → Core
 with_reader c = record c { readers = min (c.readers + 1) (2 ^ 128 - 1) }
 
@@ -64,7 +64,7 @@ without_reader c = record c { readers = c.readers - 1 }
 abbrev pub spent : Core → LockStatus → Core
 spent c status = record c { status = status; held = false }
 
--- what a permit leaves that is released with a reason, and one that is let go
+-- the status that a permit leaves which is released with a reason, and one that is let go
 abbrev pub released_status : LockStatus → LockStatus → LockStatus
 released_status reason status = cond (is_aged status) AgeTimeout reason
 

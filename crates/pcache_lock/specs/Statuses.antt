@@ -1,9 +1,9 @@
--- Where a lock stands (own).
+-- The statuses of locks (own).
 use Rattle.std.specs.Prelude.{Bool, true, false, ℕ, ◌==◌, List, Option, Some, None, cond, codes}
 use Rattle.pcache_lock.specs.declared.lock.status.LockStatus.{LockStatus}
 use Rattle.pcache_lock.specs.declared.lock.status.LockStatus.TheVariants.{Waiting, Done, TransientError, GiveUp, Dangling, WaitTimeout, AgeTimeout}
 
--- a request may take the lock's place
+-- the next request may get a permit of its own
 abbrev pub is_free : LockStatus → Bool
 is_free Waiting = false
 is_free Done = false
@@ -33,7 +33,7 @@ is_aged Dangling = false
 is_aged WaitTimeout = false
 is_aged AgeTimeout = true
 
--- nobody told yet where it ended
+-- the final status was not set yet
 abbrev pub is_pending : LockStatus → Bool
 is_pending Waiting = true
 is_pending Done = false

@@ -10,12 +10,13 @@ use Rattle.pcache_lock.specs.Permits.{Core, Permit, Reader, Watch, is_named}
 use Rattle.pcache_lock.specs.Locks.{Locks, after_request, holder, let_go, no_locks, released, unlocked, with_free_permit, with_read_lock}
 use Rattle.pcache_lock.specs.Waiting.{after_poll, is_old, watched, published, stage_of}
 
--- the key under which a lock's permit waits: it was asked for under that key, and was neither
--- released, nor unlocked, nor let go, nor found too old
+-- the slot of the key for which a lock's permit waits: it was given for that key, and was neither released, nor
+-- unlocked, nor let go, nor found too old
 abbrev pub waiting_slot : Option Core → Option ℕ
 waiting_slot None = None
 waiting_slot (Some c) = cond (c.held && is_waiting c.status) c.slot None
 
+-- the same, by the number of the lock
 abbrev pub waits_under : Locks → ℕ → Option ℕ
 waits_under t n = waiting_slot (get t.cores n)
 
@@ -26,11 +27,11 @@ pub data Call : Type 0 where
   LetGo : (locked : Locked) → Call
   Polled : (number : ℕ) (now : ℕ) → Call
   Published : (number : ℕ) (tokens : List ℕ) → Call
-  Made : (age_timeout : ℕ) (stale : Bool) (now : ℕ) → Call  -- a permit under no key
-  Joined : (number : ℕ) → Call  -- a read lock of a lock's number
+  Made : (age_timeout : ℕ) (stale : Bool) (now : ℕ) → Call  -- a permit for no key
+  Joined : (number : ℕ) → Call  -- a read lock on the lock with this number
   Unlocked : (number : ℕ) (reason : LockStatus) → Call  -- by a permit that is still held
 
--- a call leads from one table to another; a refused one leaves it as it was
+-- a call leads from one table to another; a failed one leaves it unchanged
 abbrev pub Leads : Call → Locks → Locks → Type 0
 Leads (Asked slot stale now) s t = (t ≡ s) ⊎ (t ≡ after_request s slot stale now (holder s slot))
 Leads (Released number reason) s t = IsReason reason × (t ≡ released s number reason)
@@ -41,12 +42,12 @@ Leads (Made age_timeout stale now) s t = (t ≡ s) ⊎ (t ≡ with_free_permit s
 Leads (Joined number) s t = t ≡ with_read_lock s number (get s.cores number)
 Leads (Unlocked number reason) s t = IsReason reason × (t ≡ unlocked s number reason)
 
--- a list of calls does
+-- a list of calls leads from one table to another
 abbrev pub LeadsAll : List Call → Locks → Locks → Type 0
 LeadsAll [] s t = t ≡ s
 LeadsAll (call ∷ calls) s t = (m : Locks) × (Leads call s m × LeadsAll calls m t)
 
--- no call tells where a lock ended while its permit is still held
+-- a call that sets the final status of a lock while its permit is still held
 abbrev pub is_unlock : Call → Bool
 is_unlock (Asked slot stale now) = false
 is_unlock (Released number reason) = false
@@ -57,19 +58,20 @@ is_unlock (Made age_timeout stale now) = false
 is_unlock (Joined number) = false
 is_unlock (Unlocked number reason) = true
 
+-- no call of the list is such a one
 abbrev pub NoneUnlocks : List Call → Type 0
 NoneUnlocks calls = list_any is_unlock calls ≡ false
 
--- of the permits asked for under one key at most one waits
+-- of the permits given for one key at most one waits
 abbrev pub OneWaits : Locks → Type 0
 OneWaits t = (slot n m : ℕ) → waits_under t n ≡ Some slot → waits_under t m ≡ Some slot → n ≡ m
 
--- a request for a key gets a read lock on the permit that waits under it, and else the permit
+-- a request for a key gets a read lock on the permit that waits for it, and otherwise the permit
 abbrev pub AskFindsTheWaiting : Locks → Type 0
 AskFindsTheWaiting t = (slot n : ℕ) → (holder t slot ≡ Some n) ↔ (waits_under t n ≡ Some slot)
 
--- the first holds after every list of calls, and the second if none unlocks: a lock that is unlocked
--- stands under its key until its permit is released
+-- the first holds after every list of calls, and the second if none unlocks: a lock that is unlocked remains the
+-- current one of its key until its permit is released
 abbrev pub OneWaitsAlways : Type 0
 OneWaitsAlways = (age_timeout : ℕ) (calls : List Call) (t : Locks) → LeadsAll calls (no_locks age_timeout) t → OneWaits t
 
@@ -81,7 +83,7 @@ abbrev pub is_old_at : ℕ → Option Core → Bool
 is_old_at now None = false
 is_old_at now (Some c) = is_old (stage_of now c)
 
--- a permit waits from its asking until it is released, unlocked, let go or found too old, whatever else happens
+-- a permit waits from when it is given until it is released, unlocked, let go or found too old, whatever else happens
 pub record WaitsUntilItsEnd : Type 0 where
   pub asking : (t : Locks) (slot : ℕ) (stale : Bool) (now n : ℕ) → waits_under (after_request t slot stale now None) n ≡ cond (n == t.next) (Some slot) (waits_under t n)
   pub joining : (t : Locks) (slot : ℕ) (stale : Bool) (now m n : ℕ) → waits_under (after_request t slot stale now (Some m)) n ≡ waits_under t n
@@ -94,8 +96,8 @@ pub record WaitsUntilItsEnd : Type 0 where
   pub reading : (t : Locks) (m n : ℕ) → waits_under (with_read_lock t m (get t.cores m)) n ≡ waits_under t n
   pub unlocking : (t : Locks) (m : ℕ) (reason : LockStatus) (n : ℕ) → IsReason reason → waits_under (unlocked t m reason) n ≡ cond (n == m) None (waits_under t n)
 
--- to look twice is to look once, at all that was published since the first poll: the first
--- publication with a match tells, however often it was replaced before the reader looked again
+-- looking twice is looking once, at all that was published since the first poll: the first publication with a match
+-- counts, however often it was replaced before the reader looked again
 abbrev pub LooksAtEachPublication : Type 0
 LooksAtEachPublication = (c : Core) (more : List (List ℕ)) (w : Watch) → w.seen ≤ length c.publications
     → watched (record c { publications = c.publications ++ more }) (watched c w) ≡ watched (record c { publications = c.publications ++ more }) w
@@ -104,6 +106,7 @@ LooksAtEachPublication = (c : Core) (more : List (List ℕ)) (w : Watch) → w.s
 abbrev pub AllNamed : Locks → Type 0
 AllNamed t = (n : ℕ) (c : Core) → get t.cores n ≡ Some c → is_named c ≡ true
 
+-- each lock that is known is named by a permit or a read lock, and the current lock of each key is known
 pub record NothingRemains (t : Locks) : Type 0 where
   pub locks : AllNamed t
   pub entries : (slot n : ℕ) → get t.standing slot ≡ Some n → IsSome (get t.cores n)

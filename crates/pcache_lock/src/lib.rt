@@ -1,6 +1,6 @@
 #![tactic(auto)]
-//! Locks on cache keys: one request fills a key, and the others wait for it.
+//! Locks on cache keys: one request fills a key while the others wait.
 //!
-//! - `lock`: permits to fill, read locks that wait on them, and the table that gives them
+//! - `lock`: permits to fill, read locks that wait for their release, and the table that gives both
 
 pub mod lock;

@@ -1,7 +1,8 @@
 //! Locks on cache keys.
 //!
-//! A request that finds nothing asks for the lock of its key. The first gets a permit to fill the
-//! key; the others get read locks, and poll until the permit is released, let go or too old.
+//! A request that finds nothing asks for the lock of its key. The first one gets the permit to fill
+//! the key; the others get read locks, which they poll until the permit is released, let go or too
+//! old.
 ghost use Rattle.std.specs.Prelude.{◌≡◌, ℕ, [], IfErr, IfOk, IsOk, IsSome, List, None, OnErr, OnOk, option_copied};
 ghost use Rattle.std.specs.FinMap.{get};
 ghost use Rattle.pcache_base.specs.declared.error.ErrorType.TheVariants.{OutOfMemory};
@@ -38,17 +39,17 @@ pub type CacheKeyLockImpl = Box<dyn CacheKeyLock + Send + Drop>;
 
 /// A table of locks on cache keys. A contract sees it as the record `Locks`.
 pub trait CacheKeyLock {
-    /// The permits that were given and are still named, and the one that stands under each key.
+    /// The locks that a permit or a read lock still names, and the current one of each key.
     ghost table: { Self → Locks };
 
-    /// What a permit is released with for each reason of a caller's own.
+    /// The status that a permit is released with, for each reason of a caller's own.
     ghost custom_status: { Self → List ℕ → LockStatus };
 
-    /// Asks for the lock of a key: the permit if no request that the key would wait on holds
-    /// it, else a read lock on that one. A permit for a stale entry is marked as such.
+    /// Asks for the lock of a key: the permit, unless another request holds one that the key has to
+    /// wait for; then a read lock on that one. A permit for a stale entry is marked as such.
     ///
-    /// Only a permit is refused: when memory runs out, or if all 64-bit numbers of locks are used.
-    /// That changes nothing.
+    /// Fails only if the permit would be given: when memory runs out, or if all 64-bit numbers of
+    /// locks are used. Then it changes nothing.
     fn lock(
         &mut self,
         alloc: Global,
@@ -62,23 +63,24 @@ pub trait CacheKeyLock {
         ensures joins { IsSome (holder (table self.old) (slot key.now)) → IsOk result }
         ensures kind { IfErr result (λ e. MayRefuseLock (table self.old) e) };
 
-    /// Releases a permit with a reason, which its readers are told. It goes by the permit alone
-    /// and touches no other, whatever stands under the key by now. A permit that aged out before
-    /// stays so, and leaves its entry.
+    /// Releases a permit with a status, which its readers get. It affects the lock of this permit
+    /// alone, whichever lock is current for the key by now. A permit that aged out before keeps
+    /// that status, and its entry remains.
     fn release(&mut self, key: &CacheKey, permit: WritePermit, reason: LockStatus)
         requires { IsReason reason }
         ensures { table self.new ≡ released (table self.old) permit.number reason };
 
-    /// Lets a lock go: a permit is dangling from then on, so that the next request gets one of its
-    /// own; a read lock is forgotten.
+    /// Lets a lock go. A permit is dangling from then on, so that the next request gets a permit of
+    /// its own; a read lock is forgotten.
     fn drop_lock(&mut self, locked: Locked)
         ensures { table self.new ≡ let_go (table self.old) locked };
 
     /// Asks whether the wait is over: the permit was released, unlocked or let go; or else it has
-    /// been held for too long, which the table keeps; or else its writer published a fill that the
-    /// reader cannot use. The list of the reader's first poll counts, and what it is told stays.
+    /// been held for too long, which the table records; or else its writer published a fill that
+    /// the reader cannot use. The fills passed to the reader's first poll count, and a publication
+    /// that it was told of remains its outcome.
     ///
-    /// It is refused only when memory runs out, and only at a first poll that names fills.
+    /// Fails only when memory runs out, and only at a first poll that names fills.
     fn poll_wait(
         &mut self,
         alloc: Global,
@@ -95,21 +97,23 @@ pub trait CacheKeyLock {
         ensures later { IsSome read.old.watch → IsOk result }
         ensures unnamed { option_copied fills.entry ≡ None → IsOk result };
 
-    /// Where the lock stands that a reader waits on: too old as soon as that moment has come.
+    /// The status of the lock that a reader waits for: too old as soon as that moment has come.
     fn lock_status(&self, read: &ReadLock, now: Moment) -> LockStatus
         ensures { result ≡ status_seen now (get (table self.now).cores read.now.number) };
 
-    /// Publishes what a permit's holder found out about the fill, in place of what stood.
+    /// Publishes tokens of what a permit's holder found out about the fill. They replace the
+    /// current publication.
     ///
-    /// It is refused only when memory runs out, and then changes nothing. No tokens clear what
-    /// stood, which is never refused.
+    /// Fails only when memory runs out, and then changes nothing. An empty list clears the
+    /// publication, which never fails.
     fn publish(&mut self, alloc: Global, permit: &WritePermit, tokens: &[u64]) -> Result<()>
         ensures ok { OnOk result (table self.new ≡ published (table self.old) permit.now.number tokens.now) }
         ensures clears { tokens.now ≡ [] → IsOk result }
         ensures err { OnErr result (table self.new ≡ table self.old) }
         ensures kind { IfErr result (λ e. e ≡ OutOfMemory) };
 
-    /// The status to release a permit with, if the caller's own reason keeps the response out.
+    /// The status to release a permit with if the response is not cached for the caller's own
+    /// reason.
     fn custom_lock_status(&self, custom_no_cache: &'static str) -> LockStatus
         ensures value { result ≡ custom_status self.now custom_no_cache.now }
         ensures reason { IsReason result };

@@ -317,7 +317,7 @@ pub joined : (bytes k text rest first fields : List ℕ) → bytes ≡ k ++ (0x0
     → bytes ≡ first ++ (0x0D ∷ 0x0A ∷ fields)
 joined bytes k text rest first fields whole line is later = rw (whole, ← line, is, later) refl
 
--- lines that stand in their map's order, and no others
+-- lines that are in their map's order, and no others
 ordered_takes : (bytes : List ℕ) (m n : Fields) → ordered_at bytes m ≡ Some n → (n ≡ m) × (bytes ≡ fields_text (pairs m))
 unfolding ordered_at
 ordered_takes bytes m n e = elim (chosen (bytes_eq bytes (fields_text (pairs m))) _ _ _ e) [

@@ -1,4 +1,4 @@
--- The text of a head is told from its lines exactly when it spells a head.
+-- The lines of a text are those of a head exactly when the text spells a head.
 use Rattle.std.proofs.Common.{◌≡◌, ℕ, zero, suc, ◌+◌, ◌-◌, ◌^◌, ◌<◌, ◌≤◌, Bool, true, false, cond, eqb, List, [], ◌∷◌, ◌++◌, length, map, take, Option, Some, None, refl, sym, ap, ◌∙◌, append_assoc, arith, inl, inr, length-append}
 use Rattle.std.specs.Prelude.{All, ◌&&◌, ◌||◌, bytes_eq, not, slice_set}
 use Rattle.std.proofs.lemmas.List.{append_cancel_left}
@@ -153,7 +153,7 @@ among_more name n (m ∷ names) = ap (λ (b : Bool). bytes_eq m name || b) (amon
 either_way : (xs ys : List ℕ) → bytes_eq xs ys ≡ bytes_eq ys xs
 either_way xs ys = same_answer {P = xs ≡ ys} _ _ (bytes_eq-Decides xs ys) (λ t. sym ((bytes_eq-Decides ys xs).0 t), λ p. (bytes_eq-Decides ys xs).1 (sym p))
 
--- one name more that the lines may not have
+-- one more name that the lines may not have
 any_more : (names : List (List ℕ)) (n : List ℕ) (lines : List Field) → has_any (names ++ n ∷ []) lines ≡ (has_any names lines || has_name n lines)
 any_more names n [] = refl
 any_more names n (f ∷ lines) =
@@ -253,7 +253,7 @@ lines_few (f ∷ lines) =
     let size = ap (λ (x : List ℕ). length x) (fields_cons f lines) in
     omega (arith, lines_few lines, size, length-append (field_text f) (0x0D ∷ 0x0A ∷ fields_text lines))
 
--- of lines that stand together by name, the map that they make has those lines
+-- of lines that are grouped by name, the map that they make has those lines
 grouped_lines : (lines : List Field) → are_grouped 24576 lines ≡ true → (pairs (fields_of lines) ≡ lines) × (length (fields_of lines) ≤ 24576)
 grouped_lines lines grouped =
     let made = map_of 24576 lines grouped in

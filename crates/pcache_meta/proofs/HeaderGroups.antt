@@ -1,4 +1,4 @@
--- Lines that stand together by name are those of a map, and no others are.
+-- Lines that are grouped by name are those of a map, and no others are.
 use Rattle.std.proofs.Common.{◌≡◌, ℕ, zero, suc, ◌-◌, ◌<◌, ◌≤◌, Bool, true, false, cond, eqb, List, [], ◌∷◌, ◌++◌, length, map, refl, sym, ap, ◌∙◌, arith, inl, inr, length-append}
 use Rattle.std.specs.Prelude.{All, ◌||◌, bytes_eq}
 use Rattle.std.proofs.lemmas.List.Elements.{All-nil, All-cons, All-head, All-tail, All-append}
@@ -27,7 +27,7 @@ other_way xs ys e = not_true (bytes_eq ys xs) (λ t. unlike (sym ((bytes_eq-Deci
   unlike : true ≡ false → ⊥
   unlike both = cc both
 
--- ---- maps in which no name stands twice
+-- ---- maps in which no name occurs twice
 
 -- an entry has the name
 abbrev has_key : List ℕ → Fields → Bool
@@ -88,7 +88,7 @@ filled (e ∷ m) is = All-cons (λ (x : Entry (List ℕ)). 0 < length x.1) e m i
 pub made_again : (m : Fields) → IsSet m → fields_of (pairs m) ≡ m
 made_again m is = append_all-pairs m (IsUnique-of m is) (filled m is)
 
--- ---- the lines of a map stand together by name
+-- ---- the lines of a map are grouped by name
 
 has_name-entry : (x name : List ℕ) (vs : List (List ℕ)) (lines : List Field) → 0 < length vs
     → has_name x (map (λ v. (name, v)) vs ++ lines) ≡ (bytes_eq name x || has_name x lines)
@@ -116,7 +116,7 @@ grouped-pairs room [] is few = refl
 grouped-pairs room (e ∷ m) is few =
     grouped_entry room e.0 e.1 (pairs m) is.0 (has_name-pairs e.0 m is.2 ∙ is.1) (Prim.grind (arith, few)) (grouped-pairs (room - 1) m is.2 (omega (arith, few)))
 
--- ---- lines that stand together by name are those of a map
+-- ---- lines that are grouped by name are those of a map
 
 pub record IsMapOf (room : ℕ) (lines : List Field) : Type 0 where
   pub fields : Fields

@@ -1,4 +1,4 @@
--- Lines that stand in the order of the map that they make.
+-- Lines that are in the order of the map that they make.
 use Rattle.std.proofs.Common.{◌≡◌, ℕ, Bool, true, false, List, [], ◌∷◌, ◌++◌, length, drop, take, Some, None, refl, sym, ap, ◌∙◌, append_assoc}
 use Rattle.std.specs.Prelude.{Option, bytes_eq, IfNone, IfSome, MatchOption, ◌+◌}
 use Rattle.std.specs.List.{flat_map}

@@ -17,7 +17,7 @@ read_found bytes h read = header_takes bytes h read
 pub read_same : (bytes : List ℕ) (found h : Header) → header_at bytes ≡ Some found → SpellsHeader bytes h → found ≡ h
 read_same bytes found h read spelled = same_Some found h (sym read ∙ header_again bytes h spelled)
 
--- a refusal that was not for a lack of memory, or one of bytes that are no head's text
+-- an error other than a lack of memory, or one for bytes that are no head's text
 pub refused_for_form : (e : ErrorType) (bytes : List ℕ) (h : Header) → FailsOrWants e (header_at bytes) → (e ≡ OutOfMemory → IsHeaderText bytes → ⊥) → SpellsHeader bytes h → ⊥
 refused_for_form InternalError bytes h none never spelled = let some = header_again bytes h spelled in absurd (cc (none, some))
 refused_for_form OutOfMemory bytes h none never spelled = never refl (h, spelled)

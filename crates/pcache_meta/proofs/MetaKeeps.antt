@@ -28,7 +28,7 @@ kept_spelled m a b internal header first second is are = rw (first, second, ← 
 pub kept_said : (m : Meta) (a internal header : List ℕ) → a ≡ internal → meta_of internal header ≡ m → AreOf (meta_of internal header) internal header → SpellsInternal a m.internal
 kept_said m a internal header first is are = rw (first, ← is) are.spelled.0
 
--- a refusal to read what spells a meta comes only of a lack of memory
+-- reading what spells a meta fails only when memory runs out
 pub wants_memory : {T : Type 0} (r : Result T ErrorType) (m : Meta) (internal header : List ℕ) → SpellsMeta internal header m
     → (IsErrOf r InternalError → (x : Meta) → ¬ (SpellsMeta internal header x)) → IfErr r (λ e. (e ≡ OutOfMemory) ⊎ (e ≡ InternalError))
     → IfErr r (λ e. e ≡ OutOfMemory)

@@ -106,7 +106,7 @@ version1_long m =
 
 -- ---- versions 2 and 3
 
--- an item that is there
+-- a present item
 item_then : {A : Type 0} (present : Bool) (Then : List ℕ → A → List ℕ → Type 0) (bytes : List ℕ) (o : Option A) (rest : List ℕ)
     → present ≡ true → OptionThen Then bytes o rest → ItemThen present Then bytes o rest
 item_then true Then bytes o rest e t = t

@@ -23,7 +23,7 @@ FailsOrWants-from_fails _ a b h go = absurd h
 pub same_error : {T U E : Type 0} (r : Result T E) (e f g : E) → r ≡ Err e → e ≡ f → r ≡ Err g → IsErrOf {T = U} (Err f) g
 same_error r e f g is passed refused = let both = sym is ∙ refused in cc (passed, both)
 
--- a refusal of a reader that takes no memory
+-- an error of a reader that takes no memory
 pub Fails-none : {Y : Type 0} (e : ErrorType) (a : Option Y) → Fails e a → a ≡ None
 Fails-none InternalError a h = h
 Fails-none _ a h = absurd h

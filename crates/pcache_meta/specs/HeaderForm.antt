@@ -1,5 +1,5 @@
--- Which bytes are the text of a head, told from its lines alone, with no map made of them. Each `.._at` gives exactly
--- what `HeaderText` says (`proofs/HeaderForm.antt`).
+-- Which bytes are the text of a head, decided by its lines alone, without making a map of them. Each `.._at` gives
+-- exactly what `HeaderText` says (`proofs/HeaderForm.antt`).
 use Rattle.std.specs.Prelude.{ℕ, ◌-◌, Bool, true, false, ◌&&◌, ◌||◌, List, [], ◌∷◌, ◌++◌, Option, Some, None, bytes_eq, ◌==◌, if◌then◌else◌}
 use Rattle.pcache_meta.specs.Header.{Header}
 use Rattle.pcache_meta.specs.HeaderText.{Field, fields_text, SpellsHeader}
@@ -22,7 +22,7 @@ abbrev pub then_lines : Option Field → List Field → List Field
 then_lines None lines = []
 then_lines (Some field) lines = field ∷ lines
 
--- the fields that the first lines are, up to one that is none; front is the line so far
+-- the fields of the first lines, up to the first line that is no field; front is the line so far
 abbrev pub lines_from : List ℕ → List ℕ → List Field
 lines_from front [] = []
 lines_from front (a ∷ []) = []
@@ -36,7 +36,7 @@ lines_at bytes = lines_from [] bytes
 unfoldable pub are_fields : List ℕ → Bool
 are_fields bytes = bytes_eq bytes (fields_text (lines_at bytes))
 
--- one of these lines has the name
+-- one of the lines has the name
 abbrev pub has_name : List ℕ → List Field → Bool
 has_name name [] = false
 has_name name (f ∷ lines) = bytes_eq f.0 name || has_name name lines
@@ -46,7 +46,7 @@ abbrev pub starts_with_name : List ℕ → List Field → Bool
 starts_with_name name [] = false
 starts_with_name name (f ∷ lines) = bytes_eq f.0 name
 
--- the lines have no more names than room, and those of one name stand together
+-- the lines have no more names than `room`, and those of one name are adjacent
 abbrev pub are_grouped : ℕ → List Field → Bool
 are_grouped room [] = true
 are_grouped room (f ∷ lines) =
@@ -60,7 +60,7 @@ abbrev pub is_among : List ℕ → List (List ℕ) → Bool
 is_among name [] = false
 is_among name (n ∷ names) = bytes_eq n name || is_among name names
 
--- one of these lines has one of the names
+-- one of the lines has one of the names
 abbrev pub has_any : List (List ℕ) → List Field → Bool
 has_any names [] = false
 has_any names (f ∷ lines) = is_among f.0 names || has_any names lines

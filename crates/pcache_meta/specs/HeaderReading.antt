@@ -38,9 +38,11 @@ version_at bytes =
 abbrev pub are_digits : ℕ → List ℕ → Bool
 are_digits n bytes = (nat_le 100 n && nat_lt n 1000) && bytes_eq (code_digits n) bytes
 
+-- the status, if the bytes are its digits
 abbrev pub when_digits : ℕ → List ℕ → Option ℕ
 when_digits n bytes = if are_digits n bytes then Some n else None
 
+-- the status that three bytes are
 unfoldable pub status_at : List ℕ → Option ℕ
 status_at (a ∷ b ∷ c ∷ []) = when_digits ((a - 48) * 100 + (b - 48) * 10 + (c - 48)) (a ∷ b ∷ c ∷ [])
 status_at _ = None
@@ -69,17 +71,20 @@ field_at text = do
   value ← value_at behind
   Some (name, value)
 
--- a map with one more value, unless it is more than a map holds
+-- a map with one more value, unless that is more than a map can hold
 abbrev pub is_held : Fields → Bool
 is_held m = nat_le (length m) 24576 && nat_lt (value_count m) (2 ^ 64)
 
+-- the map, if it can be held
 abbrev pub when_held : Fields → Option Fields
 when_held m = if is_held m then Some m else None
 
+-- the map with one more field, if there is room
 unfoldable pub append_at : Fields → Field → Option Fields
 append_at m f = when_held (append m f.0 f.1)
 
--- the map that lines make, added to m, up to the empty line and nothing after it; front is the line so far
+-- the map that the lines make, added to m, up to the empty line, after which nothing follows; front is the line so
+-- far
 abbrev pub fields_from : List ℕ → Fields → List ℕ → Option Fields
 fields_from front m [] = None
 fields_from front m (a ∷ []) = None
@@ -90,10 +95,11 @@ fields_from front m (a ∷ b ∷ bytes) =
     )
     else fields_from (front ++ a ∷ []) m (b ∷ bytes)
 
+-- the same from the first line on
 unfoldable pub fields_at : Fields → List ℕ → Option Fields
 fields_at m bytes = fields_from [] m bytes
 
--- the map, if the lines that made it stand by name, in its order
+-- the map, if the lines that made it are grouped by name, in its order
 unfoldable pub ordered_at : List ℕ → Fields → Option Fields
 ordered_at bytes m = if bytes_eq bytes (fields_text (pairs m)) then Some m else None
 

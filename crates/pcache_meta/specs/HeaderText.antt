@@ -13,6 +13,7 @@ use Rattle.pcache_meta.specs.declared.header.HttpVersion.TheVariants.{Http09, Ht
 abbrev pub Field : Type 0
 Field = List ℕ × List ℕ
 
+-- the name of a version
 abbrev pub version_text : HttpVersion → List ℕ
 version_text Http09 = codes "HTTP/0.9"
 version_text Http10 = codes "HTTP/1.0"
@@ -32,6 +33,7 @@ status_text version status = version_text version ++ 0x20 ∷ code_digits status
 unfoldable pub field_text : Field → List ℕ
 field_text f = f.0 ++ 0x3A ∷ 0x20 ∷ f.1
 
+-- the line of a field
 unfoldable pub field_line : Field → List ℕ
 field_line f = field_text f ++ line_end
 
@@ -39,22 +41,23 @@ field_line f = field_text f ++ line_end
 unfoldable pub fields_text : List Field → List ℕ
 fields_text lines = flat_map field_line lines ++ line_end
 
+-- the whole text
 unfoldable pub header_text : HttpVersion → ℕ → List Field → List ℕ
 header_text version status lines = status_text version status ++ line_end ++ fields_text lines
 
--- a field that a header map takes, its name in lower case
+-- a field that a header map accepts, its name in lower case
 abbrev pub IsField : Field → Type 0
 IsField f = IsHeaderName f.0 × IsFieldValue f.1
 
--- the pairs of a header map, with no mark of what logs leave out
+-- the pairs of a header map, without the mark of values that logs leave out
 abbrev pub shown_lines : List (List ℕ × FieldValue) → List Field
 shown_lines items = map (λ p. (p.0, p.1.bytes)) items
 
--- the map that lines make: a value goes after those of its name, a new name goes last
+-- the map that lines make: a value is added after those of its name, a new name is added last
 abbrev pub fields_of : List Field → Fields
 fields_of lines = append_all [] lines
 
--- no more names and values than a header map holds
+-- no more names and values than a header map can hold
 abbrev pub IsHeld : Fields → Type 0
 IsHeld fields = (length fields ≤ 24576) × (value_count fields < 2 ^ 64)
 
@@ -62,7 +65,7 @@ IsHeld fields = (length fields ≤ 24576) × (value_count fields < 2 ^ 64)
 abbrev pub header_written : Header → List ℕ
 header_written h = header_text h.version h.status (pairs h.fields)
 
--- all of the bytes are the text of lines that make this head, and the lines stand in its map's order
+-- all of the bytes are the text of lines that make this head, and the lines are in the order of its map
 pub record SpellsHeader (bytes : List ℕ) (h : Header) : Type 0 where
   pub lines : List Field
   pub text : bytes ≡ header_text h.version h.status lines

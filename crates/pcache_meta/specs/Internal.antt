@@ -1,5 +1,5 @@
--- What a meta says beside its head (moments are nanoseconds since the epoch, windows are seconds), and what became of
--- older versions (own).
+-- What a meta says beside its head (moments are nanoseconds since the epoch, windows are seconds), and how older
+-- versions are read (own).
 use Rattle.std.specs.Prelude.{ℕ, Some, None}
 use Rattle.pcache_meta.specs.declared.meta.internal_meta.InternalMetaV2.{InternalMetaV2}
 use Rattle.pcache_meta.specs.declared.meta.internal_meta.InternalMetaV3.{InternalMetaV3}
@@ -15,7 +15,7 @@ pub record OldInternal : Type 0 where
   pub stale_while_revalidate_sec : ℕ
   pub stale_if_error_sec : ℕ
 
--- versions 0 and 1, as version 2 says them: updated when it was created, and nothing of what came later
+-- versions 0 and 1, as version 2 says them: last updated when created, and without the fields that came later
 abbrev pub in_version2 : OldInternal → InternalMetaV2
 in_version2 old = record {
   fresh_until = old.fresh_until;
@@ -28,7 +28,7 @@ in_version2 old = record {
   provenance = None;
 }
 
--- version 2, as the latest says it: with no number
+-- version 2, as the latest version says it: with no number
 abbrev pub of_version2 : InternalMetaV2 → Internal
 of_version2 m = record {
   fresh_until = m.fresh_until;
@@ -42,11 +42,12 @@ of_version2 m = record {
   entry_id = None;
 }
 
--- versions 0 and 1, as the latest says them
+-- versions 0 and 1, as the latest version says them
 abbrev pub upgraded : OldInternal → Internal
 upgraded old = of_version2 (in_version2 old)
 
--- what is said of a response that is stored for the first time: its body was fetched when it was created
+-- the meta of a response that is stored for the first time, without its head: its body was fetched when it was
+-- created
 abbrev pub first_said : ℕ → ℕ → ℕ → ℕ → Internal
 first_said fresh_until created while_revalidate if_error =
     record (upgraded (record {
@@ -56,6 +57,6 @@ first_said fresh_until created while_revalidate if_error =
       stale_if_error_sec = if_error;
     })) { provenance = Some created }
 
--- made and stale at the epoch
+-- created and stale at the epoch
 abbrev pub of_the_epoch : OldInternal
 of_the_epoch = record { fresh_until = 0; created = 0; stale_while_revalidate_sec = 0; stale_if_error_sec = 0 }

@@ -26,7 +26,7 @@ no_header = record { version = Http11; status = 200; fields = [] }
 unfoldable pub meta_of : List ℕ → List ℕ → Meta
 meta_of internal header = unwrap_or (meta_at internal header) (record { internal = upgraded of_the_epoch; header = no_header })
 
--- the two byte strings are those that are written of a meta, and they spell it
+-- the two byte strings are the ones that are written of the meta m, and they spell it
 pub record AreOf (m : Meta) (internal header : List ℕ) : Type 0 where
   pub said : internal ≡ internal_written m.internal
   pub head : header ≡ header_written m.header

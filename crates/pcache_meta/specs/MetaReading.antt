@@ -16,7 +16,7 @@ moment_at bytes = do
 unfoldable pub item_at : {A : Type 0} → Bool → (List ℕ → Option (A × List ℕ)) → List ℕ → Option (Option A × List ℕ)
 item_at present read bytes = if present then optional_at read bytes else Some (None, bytes)
 
--- versions 0 and 1, after the head and the version
+-- versions 0 and 1, after the array's head and the version
 unfoldable pub old_internal_at : List ℕ → Option (OldInternal × List ℕ)
 old_internal_at bytes = do
   fresh ← moment_at bytes
@@ -34,7 +34,7 @@ upgraded_at bytes = do
   old ← old_internal_at bytes
   Some (upgraded old.0, old.1)
 
--- versions 2 and 3, after the head and the version
+-- versions 2 and 3, after the array's head and the version
 unfoldable pub new_internal_at : ℕ → List ℕ → Option (Internal × List ℕ)
 new_internal_at extra bytes = do
   fresh ← moment_at bytes
@@ -61,7 +61,7 @@ new_internal_at extra bytes = do
     number.1,
   )
 
--- the version that the number of items tells
+-- the version that the number of items shows
 unfoldable pub versioned_at : ℕ → List ℕ → Option (Internal × List ℕ)
 versioned_at count bytes =
     if count == 4 then upgraded_at bytes
@@ -71,7 +71,7 @@ versioned_at count bytes =
     else if nat_lt 9 count then None
     else (mark_at 2 bytes >>= new_internal_at (count - 6))
 
--- all of the bytes
+-- the meta, without its head, that all of the bytes spell
 unfoldable pub internal_at : List ℕ → Option Internal
 internal_at bytes = do
   long ← when (nat_le 10 (length bytes)) bytes

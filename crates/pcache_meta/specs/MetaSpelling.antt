@@ -24,7 +24,7 @@ pub record WindowsThen (bytes : List ℕ) (while_revalidate if_error : ℕ) (res
   pub second : NumberThen later if_error rest
   pub second_fits : if_error < 2 ^ 32
 
--- what versions 0 and 1 say, after the head and the version
+-- what versions 0 and 1 say, after the array's head and the version
 pub record OldInternalThen (bytes : List ℕ) (m : OldInternal) (rest : List ℕ) : Type 0 where
   pub later1 : List ℕ
   pub fresh_until : MomentThen bytes m.fresh_until later1
@@ -32,12 +32,13 @@ pub record OldInternalThen (bytes : List ℕ) (m : OldInternal) (rest : List ℕ
   pub created : MomentThen later1 m.created later2
   pub windows : WindowsThen later2 m.stale_while_revalidate_sec m.stale_if_error_sec rest
 
--- an item that is there, as a value or nil, or that is left out and reads as nil
+-- an item that is present, as a value or nil, or that is left out and reads as nil
 abbrev pub ItemThen : {A : Type 0} → Bool → (List ℕ → A → List ℕ → Type 0) → List ℕ → Option A → List ℕ → Type 0
 ItemThen true Then bytes o rest = OptionThen Then bytes o rest
 ItemThen false Then bytes o rest = (o ≡ None) × (bytes ≡ rest)
 
--- what versions 2 and 3 say, after the head and the version: of the last four items the first `extra` are there
+-- what versions 2 and 3 say, after the array's head and the version: of the last four items the first `extra` are
+-- present
 pub record NewInternalThen (extra : ℕ) (bytes : List ℕ) (m : Internal) (rest : List ℕ) : Type 0 where
   pub later1 : List ℕ
   pub fresh_until : MomentThen bytes m.fresh_until later1
@@ -55,13 +56,14 @@ pub record NewInternalThen (extra : ℕ) (bytes : List ℕ) (m : Internal) (rest
   pub provenance : ItemThen (nat_lt 2 extra) MomentThen later6 m.provenance later7
   pub entry_id : ItemThen (nat_lt 3 extra) NumberThen later7 m.entry_id rest
 
--- any version. The number of items tells it; from version 1 on the version follows, in its one byte and no wider form
+-- any version. The number of items shows which; from version 1 on the version number follows, in one byte and no
+-- wider form
 pub data InternalThen (bytes : List ℕ) (m : Internal) (rest : List ℕ) : Type 0 where
   version0 : (old : OldInternal) (items : List ℕ) → m ≡ upgraded old → ArrayThen bytes 4 items → OldInternalThen items old rest → InternalThen bytes m rest
   version1 : (old : OldInternal) (items : List ℕ) → m ≡ upgraded old → ArrayThen bytes 5 (1 ∷ items) → OldInternalThen items old rest → InternalThen bytes m rest
   version2 : (extra : ℕ) (items : List ℕ) → extra ≤ 3 → ArrayThen bytes (6 + extra) (2 ∷ items) → NewInternalThen extra items m rest → InternalThen bytes m rest
   version3 : (items : List ℕ) → ArrayThen bytes 10 (3 ∷ items) → NewInternalThen 4 items m rest → InternalThen bytes m rest
 
--- all of the bytes, which are ten at least, say this
+-- all of the bytes, which are at least ten, say this
 abbrev pub SpellsInternal : List ℕ → Internal → Type 0
 SpellsInternal bytes m = (10 ≤ length bytes) × InternalThen bytes m []

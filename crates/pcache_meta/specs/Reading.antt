@@ -1,5 +1,5 @@
--- Reading from left to right: what the next bytes are, and the bytes after it, or nothing. Each `.._at` here gives
--- exactly what a relation of `Spelling` says (`proofs/Exact.antt`).
+-- Reading from left to right: the value that the next bytes spell, with the bytes after it, or nothing. Each `.._at`
+-- here gives exactly what a relation of `Spelling` says (`proofs/Exact.antt`).
 use Rattle.std.specs.Prelude.{◌≡◌, ℕ, zero, suc, ◌-◌, Bool, true, false, List, [], ◌∷◌, length, take, drop, Option, Some, None, Result, Ok, Err, nat_lt, ◌==◌, if◌then◌else◌, option_and_then}
 use Rattle.std.specs.Str.{is_utf8}
 use Rattle.std.specs.Int.{Width, w8, w16, w32, w64, byte_len, from_be_bytes}
@@ -10,7 +10,7 @@ infixl 10 ◌>>=◌
 abbrev pub ◌>>=◌ : {A B : Type 0} → Option A → (A → Option B) → Option B
 o >>= f = option_and_then f o
 
--- a refusal if reading takes no memory: nothing is there to be read
+-- reading that takes no memory fails only because the bytes spell no such value
 abbrev pub Fails : {Y : Type 0} → ErrorType → Option Y → Type 0
 Fails InternalError read = read ≡ None
 Fails _ read = ⊥
@@ -20,13 +20,13 @@ abbrev pub Gives : {X Y : Type 0} → (X → Y) → Result X ErrorType → Optio
 Gives view (Ok x) read = read ≡ Some (view x)
 Gives view (Err e) read = Fails e read
 
--- a refusal if reading takes memory: a lack of it says nothing of the bytes
+-- reading that takes memory may also fail because memory runs out, which says nothing of the bytes
 abbrev pub FailsOrWants : {Y : Type 0} → ErrorType → Option Y → Type 0
 FailsOrWants InternalError read = read ≡ None
 FailsOrWants OutOfMemory read = Unit {0}
 FailsOrWants _ read = ⊥
 
--- what a function returned, seen by view, is what reading gives, unless memory was refused
+-- what a function returned, seen by view, is what reading gives, unless memory ran out
 abbrev pub GivesOrWants : {X Y : Type 0} → (X → Y) → Result X ErrorType → Option Y → Type 0
 GivesOrWants view (Ok x) read = read ≡ Some (view x)
 GivesOrWants view (Err e) read = FailsOrWants e read
@@ -36,7 +36,7 @@ abbrev pub when : Bool → List ℕ → Option (List ℕ)
 when true bytes = Some bytes
 when false bytes = None
 
--- so many bytes, and the bytes after them
+-- the first `count` bytes, and the bytes after them
 unfoldable pub bytes_at : ℕ → List ℕ → Option (List ℕ × List ℕ)
 bytes_at count bytes = if nat_lt (length bytes) count then None else Some (take count bytes, drop count bytes)
 
@@ -73,7 +73,7 @@ array_at (b ∷ rest) =
     else if nat_lt b 0xA0 then Some (b - 0x90, rest)
     else None
 
--- the items of an array of so many
+-- the items of an array of exactly `count` items
 unfoldable pub items_at : ℕ → List ℕ → Option (List ℕ)
 items_at count bytes = do
   a ← array_at bytes
@@ -124,7 +124,7 @@ unfoldable pub optional_at : {A : Type 0} → (List ℕ → Option (A × List �
 optional_at read bytes =
     if starts_with_nil bytes then Some (None, drop 1 bytes) else (read bytes >>= λ x. Some (Some x.0, x.1))
 
--- the bytes after one that is given
+-- the bytes after the first one, which must be this byte
 unfoldable pub mark_at : ℕ → List ℕ → Option (List ℕ)
 mark_at mark [] = None
 mark_at mark (b ∷ rest) = when (b == mark) rest

@@ -34,11 +34,13 @@ pub record NumberThen (bytes : List ℕ) (n : ℕ) (rest : List ℕ) : Type 0 wh
 pub data ArrayForm : Type 0 where
   short wide16 wide32 : ArrayForm
 
+-- the number of items from which a form has no room
 abbrev pub array_limit : ArrayForm → ℕ
 array_limit short = 16
 array_limit wide16 = 2 ^ 16
 array_limit wide32 = 2 ^ 32
 
+-- the head of an array of n items in a form
 abbrev pub array_text : ArrayForm → ℕ → List ℕ
 array_text short n = (0x90 + n) ∷ []
 array_text wide16 n = 0xDC ∷ to_be_bytes w16 n
@@ -54,12 +56,14 @@ pub record ArrayThen (bytes : List ℕ) (n : ℕ) (rest : List ℕ) : Type 0 whe
 pub data TextForm : Type 0 where
   short wide8 wide16 wide32 : TextForm
 
+-- the number of bytes from which a form has no room
 abbrev pub text_limit : TextForm → ℕ
 text_limit short = 32
 text_limit wide8 = 2 ^ 8
 text_limit wide16 = 2 ^ 16
 text_limit wide32 = 2 ^ 32
 
+-- the head of a text of n bytes in a form
 abbrev pub text_head : TextForm → ℕ → List ℕ
 text_head short n = (0xA0 + n) ∷ []
 text_head wide8 n = 0xD9 ∷ to_be_bytes w8 n

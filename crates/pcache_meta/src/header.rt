@@ -10,18 +10,26 @@ use std::alloc::Global;
 /// A version of HTTP.
 #[derive(Clone, Copy, Debug, PartialEq, Eq, PartialOrd, Ord)]
 pub enum HttpVersion {
+    /// HTTP/0.9.
     Http09,
+    /// HTTP/1.0.
     Http10,
+    /// HTTP/1.1.
     Http11,
+    /// HTTP/2.
     Http2,
+    /// HTTP/3.
     Http3,
 }
 
 /// The head of a response.
 #[derive(Drop)]
 pub struct ResponseHeader {
+    /// The version of HTTP.
     pub version: HttpVersion,
+    /// The status code.
     pub status: StatusCode,
+    /// The fields.
     pub headers: HeaderMap,
 }
 
@@ -42,7 +50,7 @@ impl ResponseHeader {
         }
     }
 
-    /// A second head, equal to this one. It is refused only when memory runs out.
+    /// A copy of this head. Fails only when memory runs out.
     pub fn copied(&self) -> Result<ResponseHeader>
         ensures ok { IfOk result (λ copy. copy ≡ self.now) }
         ensures kind { IfErr result (λ e. e ≡ OutOfMemory) }
@@ -58,9 +66,11 @@ impl ResponseHeader {
 /// The head of a request.
 #[derive(Drop)]
 pub struct RequestHeader {
+    /// The method.
     pub method: Method,
     /// The request target (RFC 9112 section 3.2), as bytes.
     pub target: Vec<u8>,
+    /// The fields.
     pub headers: HeaderMap,
 }
 

@@ -4,7 +4,7 @@
 //! - `header`: heads of requests and responses; `header_text`: heads of responses as text
 //! - `meta`: what is known of a stored response; `meta::codec`: that as bytes; `meta::spelled`: a meta
 //!   kept as bytes
-//! - `msgpack`: the few forms of MessagePack in which metas are written
+//! - `msgpack`: the forms of MessagePack that metas use
 //! - `trace`: spans that are tagged with a meta
 
 pub mod header;

@@ -42,7 +42,7 @@ impl CacheMeta {
     ghost use Rattle.pcache_meta.specs.contracts.meta.CacheMeta.{the_row};
     ghost use Rattle.pcache_meta.specs.contracts.header.ResponseHeader as head;
 
-    /// A new meta: updated when it was created, and its provenance is its creation.
+    /// A new meta: its last update and its provenance are its creation.
     pub fn new(
         fresh_until: Moment,
         created: Moment,
@@ -110,14 +110,14 @@ impl CacheMeta {
         self.internal.provenance = Some(provenance);
     }
 
-    /// The body was fetched when the response was first stored.
+    /// Sets the moment when the body was fetched to the one when the response was first stored.
     pub fn reset_provenance_to_created(&mut self)
         ensures { self.new ≡ internal_changed (λ x. record x { provenance = Some x.created }) self.old }
     {
         self.internal.provenance = Some(self.internal.created);
     }
 
-    /// The moment from which ages count: the override, else `updated`.
+    /// The moment from which ages count: the override if there is one, else `updated`.
     pub fn epoch(&self) -> Moment
         ensures { result ≡ epoch_of self.now }
     {
@@ -126,7 +126,7 @@ impl CacheMeta {
             .unwrap_or(self.internal.updated)
     }
 
-    /// The moment set in place of `updated`, if there is one.
+    /// The moment that replaces `updated` in `epoch`, if one is set.
     pub fn epoch_override(&self) -> Option<Moment>
         ensures { result ≡ self.now.epoch_override }
     {
@@ -140,49 +140,50 @@ impl CacheMeta {
         self.internal.epoch_override = Some(epoch);
     }
 
-    /// Ages count from `updated` again.
+    /// Removes the override: ages count from `updated` again.
     pub fn remove_epoch_override(&mut self)
         ensures { self.new ≡ internal_changed (λ x. record x { epoch_override = None }) self.old }
     {
         self.internal.epoch_override = None;
     }
 
-    /// Whether the response is fresh at a moment: its freshness ends then or later.
+    /// Whether the response is fresh at a moment: its freshness ends at that moment or later.
     pub fn is_fresh(&self, time: Moment) -> bool
         ensures { IsTrue result ↔ (time ≤ self.now.fresh_until) }
     {
         self.internal.fresh_until >= time
     }
 
-    /// The whole seconds from the epoch to the end of freshness, zero if that is earlier.
+    /// The whole seconds from `epoch` to the end of freshness; zero if freshness ended before.
     pub fn fresh_sec(&self) -> u64
         ensures { result ≡ fresh_seconds self.now }
     {
         self.internal.fresh_until.since(self.epoch()).as_secs()
     }
 
-    /// Until when the response is fresh.
+    /// The last moment at which the response is fresh.
     pub fn fresh_until(&self) -> Moment
         ensures { result ≡ self.now.fresh_until }
     {
         self.internal.fresh_until
     }
 
-    /// The time since the epoch, zero if that is later than now.
+    /// The time since `epoch`; zero if that is later than `now`.
     pub fn age(&self, now: Moment) -> Duration
         ensures { as_nanos result ≡ now - epoch_of self.now }
     {
         now.since(self.epoch())
     }
 
-    /// For how many seconds a stale response may be served while it is revalidated.
+    /// For how many seconds after its freshness a stale response may be served while it is
+    /// revalidated.
     pub fn stale_while_revalidate_sec(&self) -> u32
         ensures { result ≡ self.now.stale_while_revalidate_sec }
     {
         self.internal.stale_while_revalidate_sec
     }
 
-    /// For how many seconds a stale response may be served after an error.
+    /// For how many seconds after its freshness a stale response may be served after an error.
     pub fn stale_if_error_sec(&self) -> u32
         ensures { result ≡ self.now.stale_if_error_sec }
     {
@@ -203,7 +204,7 @@ impl CacheMeta {
         self.can_serve_stale(self.internal.stale_if_error_sec, time)
     }
 
-    // A sum that is no moment counts as a window that never ends.
+    // If the end of the window is out of range, the window never ends.
     fn can_serve_stale(&self, window: u32, time: Moment) -> bool
         ensures { IsTrue result ↔ MayServeStale self.now.fresh_until window time }
     {
@@ -217,7 +218,7 @@ impl CacheMeta {
         }
     }
 
-    /// A stale response may not be served any more.
+    /// Sets both windows to zero, so that a stale response may not be served.
     pub fn disable_serve_stale(&mut self)
         ensures { self.new ≡ internal_changed (λ x. record x { stale_while_revalidate_sec = 0; stale_if_error_sec = 0 }) self.old }
     {
@@ -225,7 +226,7 @@ impl CacheMeta {
         self.internal.stale_if_error_sec = 0;
     }
 
-    /// Freshness ends at this moment, unless it ends earlier. The windows stay.
+    /// Ends freshness at this moment, unless it ends earlier. The windows are unchanged.
     pub fn expire_at(&mut self, time: Moment)
         ensures { self.new ≡ expired_at time self.old }
     {
@@ -234,7 +235,7 @@ impl CacheMeta {
         }
     }
 
-    /// Sets the end of freshness and the windows, as of now.
+    /// Sets the end of freshness and both windows, and `now` as the moment of the last update.
     pub fn update_freshness(
         &mut self,
         fresh_until: Moment,
@@ -276,7 +277,7 @@ impl CacheMeta {
         self.set_variance_key(variance);
     }
 
-    /// The response varies on nothing.
+    /// Removes the variance: the response varies on nothing.
     pub fn remove_variance(&mut self)
         ensures { self.new ≡ internal_changed (λ x. record x { variance = None }) self.old }
     {
@@ -290,7 +291,7 @@ impl CacheMeta {
         &self.header
     }
 
-    /// The response's head, to be changed.
+    /// The response's head, mutably.
     pub fn response_header_mut(&mut self) -> &mut ResponseHeader
         ensures* writes_back { sem 𝓛 (Lends the_row head.the_row self.entry result (λ h. record self.old { header = shown h })) }
         ensures value { shown result.now ≡ self.old.header }
@@ -298,7 +299,7 @@ impl CacheMeta {
         &mut self.header
     }
 
-    /// A second head, equal to this one's. It is refused only when memory runs out.
+    /// A copy of the response's head. Fails only when memory runs out.
     pub fn response_header_copy(&self) -> Result<ResponseHeader>
         ensures ok { IfOk result (λ copy. shown copy ≡ self.now.header) }
         ensures kind { IfErr result (λ e. e ≡ OutOfMemory) }
@@ -313,7 +314,7 @@ impl CacheMeta {
         &self.header.headers
     }
 
-    /// A second meta, equal to this one. It is refused only when memory runs out.
+    /// A copy of this meta. Fails only when memory runs out.
     pub fn copied(&self) -> Result<CacheMeta>
         ensures ok { IfOk result (λ copy. copy ≡ self.now) }
         ensures kind { IfErr result (λ e. e ≡ OutOfMemory) }

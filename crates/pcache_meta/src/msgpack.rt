@@ -1,7 +1,7 @@
 //! Numbers, arrays, texts and nil in MessagePack.
 //!
-//! Metas are written in these few forms. A reader takes any width that holds a value; a writer takes
-//! the shortest.
+//! Metas use only these forms. A reader accepts any width that holds a value; a writer uses the
+//! shortest.
 
 pub mod laws;
 pub mod reader;

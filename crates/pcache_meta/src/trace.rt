@@ -4,7 +4,7 @@ ghost use Rattle.std.specs.Prelude.{◌≡◌};
 use crate::meta::CacheMeta;
 pub use pcache_base::trace::{Span, SpanHandle, SpanOptionsPlaceholder, Tag};
 
-/// Tags a span with what is known of a stored response. Like every call of a span it does nothing.
+/// Tags a span with the meta of a stored response. Like every call of a span it does nothing.
 pub fn tag_span_with_meta(span: &mut Span, meta: &CacheMeta)
     ensures { span.new ≡ span.old }
 {

@@ -34,7 +34,7 @@ split_small coming s a m e is = ap (λ a. coming ++ (a ++ m)) is ∙ ap (λ q. c
 split_main : (coming a m q : Queue) (e : E) → m ≡ q ++ e ∷ [] → coming ++ (a ++ m) ≡ (coming ++ (a ++ q)) ++ e ∷ []
 split_main coming a m q e is = ap (λ m. coming ++ (a ++ m)) is ∙ ap (λ r. coming ++ r) (sym (append_assoc a q (e ∷ []))) ∙ sym (append_assoc coming (a ++ q) (e ∷ []))
 
--- an entry whose uses are forgotten where it stands
+-- an entry whose uses are forgotten in place
 keys_forgot : (x y : Queue) (k : CacheEntryKey) (v w : Seen) → keys_of (x ++ (k, w) ∷ y) ≡ keys_of (x ++ (k, v) ∷ y)
 keys_forgot [] y k v w = refl
 keys_forgot (e ∷ x) y k v w = ap (λ ks. e.0 ∷ ks) (keys_forgot x y k v w)
@@ -100,7 +100,7 @@ kept-run old new from out keeps once =
     at_end (inl h) = within_of old.limits [] (entries new.fifos) 0 0 none_comes h
     at_end (inr e) = subst (λ q. IsWithinAsList old.limits (plain q)) (sym e) (inside-none old.limits)
 
--- a new entry came in, or went itself
+-- a new entry was added, or went itself
 pub admits-run : (old new : Queued) (k : CacheEntryKey) (n : ℕ) (out : List CacheEntryKey) → Admits old k n new out → IsOnce (whole old.fifos) → seen_of k (whole old.fifos) ≡ None → Run old.limits out ((k, n) ∷ entries old.fifos) (entries new.fifos)
 admits-run old new k n out a once none = by_end a.comes
   where

@@ -16,7 +16,7 @@ use Rattle.pcache_policies.proofs.Queues.{plain-append}
 use Rattle.pcache_policies.proofs.Rings.{Apart, apart_none, apart_front, map-mid, reseen-all}
 use Rattle.pcache_policies.proofs.SieveRooms.{whole_weight, room-within, set-back}
 
--- a new entry stands among the others
+-- a new entry is among the others
 pub weight-entered : (k : CacheEntryKey) (n : ℕ) (f : Fifos) → weight (entries (entered k n f)) ≡ n + weight (entries f)
 weight-entered k n f =
     let w : CacheEntryKey × ℕ → ℕ = λ e. e.1 in

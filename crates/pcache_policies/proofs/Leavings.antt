@@ -125,7 +125,7 @@ pub fair-run : (limits : Limits) (out : List CacheEntryKey) (l left : Recency) �
 fair-run limits [] l left once r = subst (λ m. Run limits [] l m) (sym r.0) (run-none limits l once r.1)
 fair-run limits (k ∷ out) l left once (over, newer, n, older, is, rest) = run-first limits out l left newer older k n once over is (λ apart. fair-run limits out (newer ++ older) left apart rest)
 
--- the order in which entries stand does not matter
+-- the order of the entries does not matter
 pub run-same : (limits : Limits) (out : List CacheEntryKey) (l m left : Recency) → IsOnce l → IsOnce m → map_of m ≡ map_of l → Run limits out m left → Run limits out l left
 run-same limits out l m left once apart same run =
     let heavy : weight m ≡ weight l = sym (weight-map_of m apart) ∙ ap tracked.weight same ∙ weight-map_of l once in

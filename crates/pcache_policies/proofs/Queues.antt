@@ -1,4 +1,4 @@
--- Queues: an entry taken out, put in, changed where it stands.
+-- Queues: an entry removed, put in, changed in place.
 use Rattle.std.proofs.Common.{◌≡◌, ℕ, zero, suc, ◌+◌, ◌*◌, ◌-◌, ◌<◌, ◌≤◌, ◌^◌, Bool, true, false, cond, not, Option, None, Some, is_some, option_map, unwrap_or, List, [], ◌∷◌, ◌++◌, map, refl, ap, sym, subst, ◌∙◌, arith, length, length-append, take, All}
 use Rattle.std.specs.Prelude.{IsSome, IfSome}
 use Rattle.std.specs.List.{IsDistinct, AllByRecursion, slice_get}
@@ -359,7 +359,7 @@ kept-promoted c d total k kept e few =
           }
     ] refl
 
--- an entry set where it stands, and put first
+-- an entry set in place, and put first
 pub seen-set : (k : CacheEntryKey) (v : Seen) (q : Queue) → is_some (seen_of k q) ≡ true → seen_of k (reseen k v q) ≡ Some v
 seen-set k v [] h = cc
 seen-set k v (e ∷ q) h =

@@ -1,4 +1,4 @@
--- The three queues of a list with a hand: where an entry may stand, and what one step of the hand does.
+-- The three queues of a list with a hand: where an entry may be, and what one step of the hand does.
 use Rattle.std.proofs.Common.{◌≡◌, ℕ, suc, ◌+◌, ◌-◌, ◌<◌, ◌≤◌, Bool, true, false, cond, not, Option, None, Some, is_some, List, [], ◌∷◌, ◌++◌, map, reverse, refl, ap, sym, subst, ◌∙◌, arith, inl, inr, length, length-append, append_assoc, append-nil}
 use Rattle.std.specs.Prelude.{◌≢◌, ◌⊎◌, ◌^◌, IfSome}
 use Rattle.lru.specs.LruCache.{last_entry}
@@ -126,7 +126,7 @@ once_swap (e ∷ x) y d =
     let apart = IsDistinct-head entry_eq e.0 (keys_of (x ++ y)) d in
     once_in y x e (apart_both e.0 y x (apart_back e.0 x y apart) (apart_front e.0 x y apart)) (once_swap x y (IsDistinct-tail entry_eq e.0 (keys_of (x ++ y)) d))
 
--- ---- the map of a list does not see where an entry stands
+-- ---- the map of a list does not depend on the position of an entry
 
 lookup-mid : (k : CacheEntryKey) (v : Seen) (a b : Queue) (q : CacheEntryKey) → Apart k a → weight_of q (plain (a ++ (k, v) ∷ b)) ≡ weight_of q (plain ((k, v) ∷ (a ++ b)))
 lookup-mid k v [] b q h = refl
@@ -414,7 +414,7 @@ none_of (Some v) f e h = absurd (h v refl)
 pub last_whole : (a g p q : Queue) (e : E) → p ≡ q ++ e ∷ [] → a ++ (g ++ p) ≡ (a ++ (g ++ q)) ++ e ∷ []
 last_whole a g p q e is = ap (λ p. a ++ (g ++ p)) is ∙ ap (λ r. a ++ r) (sym (append_assoc g q (e ∷ []))) ∙ sym (append_assoc a (g ++ q) (e ∷ []))
 
--- the others are not it, and stand once
+-- the others are not it, and occur once
 pub apart_last : (a g p q : Queue) (e : E) → IsOnce (a ++ (g ++ p)) → p ≡ q ++ e ∷ [] → Apart e.0 (a ++ (g ++ q)) × IsOnce (a ++ (g ++ q))
 apart_last a g p q e once is =
     let whole = subst IsOnce (last_whole a g p q e is) once in
@@ -425,7 +425,7 @@ map-last a g p q e once is =
     let apart = apart_last a g p q e once is in
     ap (λ r. map_of (plain r)) (last_whole a g p q e is) ∙ map-mid e.0 e.1 (a ++ (g ++ q)) [] apart.0 ∙ ap (λ r. map_of (plain (e ∷ r))) (append-nil (a ++ (g ++ q)))
 
--- it comes in there anew
+-- it becomes the newest there
 pub again : (a g p q : Queue) (e : E) (v : Seen) → IsOnce (a ++ (g ++ p)) → p ≡ q ++ e ∷ [] → v.weight ≡ e.1.weight
     → IsOnce (a ++ (g ++ (e.0, v) ∷ q)) × (map_of (plain (a ++ (g ++ (e.0, v) ∷ q))) ≡ map_of (plain (a ++ (g ++ p))))
 again a g p q e v once is w =
@@ -475,7 +475,7 @@ pub rest_last : (q : Queue) (e : E) → Apart e.0 q → rest_of e.0 (q ++ e ∷ 
 rest_last [] e a = ap (λ b. cond (not b) (e ∷ []) []) (laws.refl e.0)
 rest_last (f ∷ q) e a = ap (λ b. cond (not b) (f ∷ rest_of e.0 (q ++ e ∷ [])) (rest_of e.0 (q ++ e ∷ []))) a.0 ∙ ap (λ q. f ∷ q) (rest_last q e a.1)
 
--- the oldest that was passed comes in there anew: what stands before and after
+-- the oldest that was passed becomes the newest there: the entries before and after
 pub record Again (p : Queue) (e : E) : Type 0 where
   pub rest : Queue
   pub split : p ≡ rest ++ e ∷ []

@@ -81,7 +81,7 @@ kept-run old new from out keeps once =
     at_end (inl h) = within_of old.limits [] (entries new.sieve) 0 0 none_comes h
     at_end (inr e) = subst (λ q. IsWithinAsList old.limits (plain q)) (sym e) (inside-none old.limits)
 
--- a new entry came in, or went itself
+-- a new entry was added, or went itself
 pub none_plain : (k : CacheEntryKey) (q : Queue) → seen_of k q ≡ None → weight_of k (plain q) ≡ None
 none_plain k q none = plain-found k q ∙ ap (option_map (λ (v : Seen). v.weight)) none
 

@@ -1,4 +1,4 @@
--- What a manager with a hand makes of room that was made.
+-- What a manager with a hand does after room was made.
 use Rattle.std.proofs.Common.{◌≡◌, ℕ, ◌+◌, ◌-◌, ◌≤◌, ◌^◌, min, Bool, true, false, cond, Option, None, Some, is_some, option_map, List, [], ◌∷◌, ◌++◌, refl, ap, sym, subst, ◌∙◌, arith, inl, inr, length, length-append, append-nil}
 use Rattle.std.specs.Prelude.{IfSome, IsSome, ◌⊎◌}
 use Rattle.std.specs.FinMap as fin
@@ -47,7 +47,7 @@ whole_weight old new d e same =
     let three = sum_by-append (λ (e : CacheEntryKey × ℕ). e.1) (plain new.ahead) (plain new.passed) in
     omega arith
 
--- a new entry stands before the others
+-- a new entry comes before the others
 pub entries-entered : (k : CacheEntryKey) (n : ℕ) (s : Sieve) → entries (entered k n s) ≡ (k, n) ∷ entries s
 entries-entered k n s = ap (λ l. (k, n) ∷ l) (facing s.ahead s.passed)
   where

@@ -1,4 +1,4 @@
--- What the code keeps of a small and a main queue with ghosts: the queues as those of a list with a hand, ahead of it and passed (own).
+-- How the code keeps a small and a main queue with ghosts: as the two queues of a list with a hand, ahead of it and passed (own).
 use Rattle.std.specs.Prelude.{◌≡◌, ◌≢◌, ℕ, ◌+◌, ◌<◌, ◌≤◌, ◌⊎◌, Bool, true, false, List, [], ◌∷◌, ◌++◌, length, sum_by}
 use Rattle.pcache_evict.specs.declared.eviction.entry_key.CacheEntryKey.{CacheEntryKey}
 use Rattle.pcache_evict.specs.Tracked.{Limits}
@@ -11,11 +11,11 @@ use Rattle.pcache_policies.specs.S3Fifo.{Fifos, fifos, Ghosts, ghosted, IsSmallN
 abbrev pub Kept : Type 0
 Kept = kept.Fifos
 
--- the queues that it stands for: what was chosen and did not go counts as the newest of the main one
+-- the queues that it represents: entries that were chosen but did not go count as the newest of the main one
 abbrev pub shown : Kept → Fifos
 shown f = fifos f.ring.ahead (f.ring.leaving ++ f.ring.passed) f.ghosts
 
--- the queues without what was chosen
+-- the queues without the chosen entries
 abbrev pub left_of : Kept → Fifos
 left_of f = fifos f.ring.ahead f.ring.passed f.ghosts
 
@@ -39,10 +39,10 @@ pub data Steps (limit : ℕ) (old : Kept) (more : Bool) (new : Kept) : Type 0 wh
   small : more ≡ true → IsSmallNext limit (left_of old) → LooksAtSmall old new → Steps limit old more new
   main : IsMainNext limit (left_of old) → (old.ring.passed ≡ [] → old.ring.ahead ≡ []) → LooksAtMain old more new → Steps limit old more new
 
--- what was chosen makes room
+-- to evict the chosen entries makes room
 abbrev pub Chooses : Limits → ℕ → ℕ → Kept → Kept → Type 0
 Chooses limits size count old new = MakesRoom limits size count (left_of old) (chosen new.ring) (left_of new)
 
--- how many entries are still looked at at most
+-- an upper bound of how many entries are still looked at
 abbrev pub steps_of : Queue → Queue → ℕ
 steps_of ahead passed = sum_by (λ (e : CacheEntryKey × Seen). 2) ahead + sum_by (λ (e : CacheEntryKey × Seen). 1 + e.1.uses) passed

@@ -1,10 +1,10 @@
--- Entries that leave a list, whichever they are, as long as there is no room (own).
+-- Entries that leave a list, whichever they are, while there is no room (own).
 use Rattle.std.specs.Prelude.{◌≡◌, ℕ, ◌+◌, ◌≤◌, List, [], ◌∷◌, ◌++◌, length, IfSome}
 use Rattle.pcache_evict.specs.declared.eviction.entry_key.CacheEntryKey.{CacheEntryKey}
 use Rattle.pcache_evict.specs.Tracked.{Limits}
 use Rattle.pcache_evict.specs.Recency.{Recency, weight, IsWithinAsList}
 
--- the limits hold for a list once it has so many entries more, of this weight
+-- the limits hold for a list with `count` more entries of this total weight
 pub record HasRoom (limits : Limits) (size count : ℕ) (l : Recency) : Type 0 where
   pub heavy : size + weight l ≤ limits.weight
   pub many : IfSome limits.watermark (λ most. count + length l ≤ most)

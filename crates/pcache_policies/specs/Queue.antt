@@ -8,6 +8,7 @@ use Rattle.pcache_evict.specs.Entry.{entry_eq}
 use Rattle.pcache_evict.specs.Recency.{Recency, weight}
 use Rattle.pcache_policies.specs.declared.queue.Seen.{Seen}
 
+-- entries, each with what a policy knows of it
 abbrev pub Queue : Type 0
 Queue = List (CacheEntryKey × Seen)
 
@@ -15,7 +16,7 @@ Queue = List (CacheEntryKey × Seen)
 abbrev pub plain : Queue → Recency
 plain q = map (λ (e : CacheEntryKey × Seen). (e.0, e.1.weight)) q
 
--- no entry stands twice
+-- no entry occurs twice
 abbrev pub IsOnce : Queue → Type 0
 IsOnce q = IsDistinct entry_eq (keys_of q)
 
@@ -27,25 +28,25 @@ seen_of k q = lookup (entry_eq k) q
 abbrev pub rest_of : CacheEntryKey → Queue → Queue
 rest_of k q = filter (λ e. not (entry_eq k e.0)) q
 
--- the queue with this known of an entry, wherever it stands
+-- the queue with this record of an entry, wherever the entry is
 abbrev pub reseen : CacheEntryKey → Seen → Queue → Queue
 reseen k v q = map (λ (e : CacheEntryKey × Seen). if entry_eq k e.0 then (e.0, v) else e) q
 
--- an entry whose bit is clear, and one whose bit is set
+-- the record of an entry of this weight: not used, its bit clear; and used, its bit set
 abbrev pub unused : ℕ → Seen
 unused n = record { weight = n; uses = 0 }
 
 abbrev pub used : ℕ → Seen
 used n = record { weight = n; uses = 1 }
 
--- what is known of an entry that is used once more, counted up to 3, and of one that went round the main queue
+-- the record of an entry after one more use, counted up to 3, and of one that went round the main queue once
 abbrev pub reused : Seen → Seen
 reused v = record v { uses = min (v.uses + 1) 3 }
 
 abbrev pub spent : Seen → Seen
 spent v = record v { uses = v.uses - 1 }
 
--- what the code keeps of a queue
+-- the invariant of the code's queue
 pub record IsKept (cache : LruCache CacheEntryKey Seen) (total : ℕ) : Type 0 where
   pub summed : total ≡ weight (plain cache.entries)
   pub room : cache.cap ≡ 2 ^ 64 - 1

@@ -1,5 +1,5 @@
--- S3-FIFO: a small queue for new entries, a main queue for those that were used there or come in again soon, and the keys
--- of those that went from the small one, their ghosts (Yang, Zhang, Qiu, Yue, Vigfusson, SOSP 2023).
+-- S3-FIFO: a small queue for new entries, a main queue for those that were used there or come in again soon, and ghosts,
+-- which are the keys of entries evicted from the small one (Yang, Zhang, Qiu, Yue, Vigfusson, SOSP 2023).
 use Rattle.std.specs.Prelude.{◌≡◌, ℕ, ◌+◌, ◌-◌, ◌*◌, ◌/◌, ◌^◌, ◌<◌, ◌≤◌, ◌⊎◌, ◌==◌, Bool, not, Option, None, Some, List, [], ◌∷◌, ◌++◌, length, min, take, if◌then◌else◌}
 use Rattle.std.specs.List.{list_any, filter}
 use Rattle.pcache_evict.specs.declared.eviction.entry_key.CacheEntryKey.{CacheEntryKey}
@@ -11,6 +11,7 @@ use Rattle.pcache_policies.specs.declared.queue.Seen.{Seen}
 use Rattle.pcache_policies.specs.Queue.{Queue, plain, rest_of, reseen, unused, reused, spent}
 use Rattle.pcache_policies.specs.Leaving.{HasRoom}
 
+-- keys, the newest first
 abbrev pub Ghosts : Type 0
 Ghosts = List CacheEntryKey
 
@@ -23,9 +24,11 @@ pub record Fifos : Type 0 where
 abbrev pub fifos : Queue → Queue → Ghosts → Fifos
 fifos s m g = record { small = s; main = m; ghosts = g }
 
+-- the entries of both queues
 abbrev pub whole : Fifos → Queue
 whole f = f.small ++ f.main
 
+-- the same with their weights alone
 abbrev pub entries : Fifos → Recency
 entries f = plain (whole f)
 
@@ -36,11 +39,12 @@ is_ghost k g = list_any (entry_eq k) g
 abbrev pub forgotten : CacheEntryKey → Ghosts → Ghosts
 forgotten k g = filter (λ j. not (entry_eq k j)) g
 
--- a key becomes the newest ghost as one of so many entries; the oldest go if there are more than nine tenths of that number
+-- a key becomes the newest ghost; the oldest ghosts go if there are more than nine tenths of the number of entries
 abbrev pub ghosted : CacheEntryKey → ℕ → Ghosts → Ghosts
 ghosted k n g = take (n - n / 10) (k ∷ forgotten k g)
 
--- the oldest of the small queue is next if that has its share, a tenth of the limit, or the main queue is empty
+-- the oldest of the small queue is next if that queue weighs its share, a tenth of the limit, or the main queue is
+-- empty
 abbrev pub IsSmallNext : ℕ → Fifos → Type 0
 IsSmallNext limit f = (f.main ≡ []) ⊎ (limit ≤ 10 * weight (plain f.small))
 
@@ -48,9 +52,9 @@ IsSmallNext limit f = (f.main ≡ []) ⊎ (limit ≤ 10 * weight (plain f.small)
 abbrev pub IsMainNext : ℕ → Fifos → Type 0
 IsMainNext limit f = (f.small ≡ []) ⊎ (10 * weight (plain f.small) < limit)
 
--- room is made for so many entries of this weight: as long as there is none, the next entry is looked at. One of the small
--- queue that was used more than once moves to the main one, its uses forgotten, and another goes and leaves its ghost.
--- One of the main queue that was used comes in there anew, with one use less, and another goes.
+-- room is made for `count` entries of this total weight: while there is none, the next entry is looked at. One of the
+-- small queue that was used more than once moves to the main one, its uses forgotten; another goes and leaves its ghost.
+-- One of the main queue that was used becomes its newest, with one use less; another goes.
 pub data MakesRoom (limits : Limits) (size count : ℕ) : Fifos → List CacheEntryKey → Fifos → Type 0 where
   rests : (f : Fifos) → HasRoom limits size count (entries f) ⊎ (whole f ≡ []) → MakesRoom limits size count f [] f
   moves : (f t : Fifos) (s : Queue) (k : CacheEntryKey) (v : Seen) (out : List CacheEntryKey) → ¬ HasRoom limits size count (entries f) → IsSmallNext limits.weight f
@@ -62,11 +66,12 @@ pub data MakesRoom (limits : Limits) (size count : ℕ) : Fifos → List CacheEn
   goes : (f t : Fifos) (m : Queue) (k : CacheEntryKey) (v : Seen) (out : List CacheEntryKey) → ¬ HasRoom limits size count (entries f) → IsMainNext limits.weight f
       → f.main ≡ m ++ (k, v) ∷ [] → v.uses ≡ 0 → MakesRoom limits size count (fifos f.small m f.ghosts) out t → MakesRoom limits size count f (k ∷ out) t
 
--- a new entry comes in, not used yet: to the main queue if its ghost is there, which goes then, and else to the small one
+-- a new entry, not used yet, is added to the main queue if its key is a ghost, which then goes, and otherwise to the
+-- small one
 abbrev pub entered : CacheEntryKey → ℕ → Fifos → Fifos
 entered k n f = if is_ghost k f.ghosts then fifos f.small ((k, unused n) ∷ f.main) (forgotten k f.ghosts) else fifos ((k, unused n) ∷ f.small) f.main f.ghosts
 
--- an entry with this known of it, wherever it stands, and the queues without an entry
+-- the queues with this record of an entry, wherever it is; and the queues without an entry
 abbrev pub reseen_in : CacheEntryKey → Seen → Fifos → Fifos
 reseen_in k v f = fifos (reseen k v f.small) (reseen k v f.main) f.ghosts
 
@@ -83,17 +88,17 @@ pub record Queued : Type 0 where
 abbrev pub empty_fifos : ℕ → Option ℕ → Queued
 empty_fifos limit watermark = record { fifos = fifos [] [] []; limits = limits_of limit watermark; evicted = record { weight = 0; count = 0 } }
 
--- the totals once so much of this weight went
+-- the totals after entries of this weight went
 abbrev pub IsCounted : Queued → ℕ → Queued → List CacheEntryKey → Type 0
 IsCounted old before new out =
     (new.limits ≡ old.limits) × (new.evicted.weight ≡ min (old.evicted.weight + (before - weight (entries new.fifos))) (2 ^ 64 - 1)) × (new.evicted.count ≡ min (old.evicted.count + length out) (2 ^ 64 - 1))
 
--- entries of these queues go until the limits hold
+-- entries of these queues are evicted until the limits hold
 pub record KeepsLimits (old : Queued) (from : Fifos) (new : Queued) (out : List CacheEntryKey) : Type 0 where
   pub room : MakesRoom old.limits 0 0 from out new.fifos
   pub counted : IsCounted old (weight (entries from)) new out
 
--- room is made, and then a new entry comes in; one for which there is no room though nothing is left goes itself
+-- room is made, and then a new entry is added; one for which there is no room although no entry is left goes itself
 pub record Admits (old : Queued) (k : CacheEntryKey) (n : ℕ) (new : Queued) (out : List CacheEntryKey) : Type 0 where
   pub left : Fifos
   pub gone : List CacheEntryKey
@@ -101,22 +106,22 @@ pub record Admits (old : Queued) (k : CacheEntryKey) (n : ℕ) (new : Queued) (o
   pub comes : (HasRoom old.limits n 1 (entries left) × (new.fifos ≡ entered k n left) × (out ≡ gone)) ⊎ ((¬ HasRoom old.limits n 1 (entries left)) × (new.fifos ≡ left) × (out ≡ gone ++ k ∷ []))
   pub counted : IsCounted old (n + weight (entries old.fifos)) new out
 
--- an entry that is admitted again has its new weight where it stands, which is a use; a new one comes in
+-- an entry that is admitted again gets its new weight in place, which is a use; a new one is added
 abbrev pub Admission : Option Seen → Queued → CacheEntryKey → ℕ → Queued → List CacheEntryKey → Type 0
 Admission None old k n new out = Admits old k n new out
 Admission (Some v) old k n new out = KeepsLimits old (reseen_in k (record (reused v) { weight = n }) old.fifos) new out
 
--- an increment raises the weight of an entry where it stands, which is no use; a new one comes in
+-- an increment raises the weight of an entry in place, which is no use; a new one is added
 abbrev pub Increment : Option Seen → Queued → CacheEntryKey → ℕ → Option ℕ → Queued → List CacheEntryKey → Type 0
 Increment None old k delta most new out = Admits old k (raised delta most None) new out
 Increment (Some v) old k delta most new out = KeepsLimits old (reseen_in k (record v { weight = raised delta most (Some v.weight) }) old.fifos) new out
 
--- a use counts one more, where the entry stands; a new one comes in, even if there is no room
+-- an access counts one more use, in place; a new entry is added, even if there is no room
 abbrev pub accessed : Option Seen → CacheEntryKey → ℕ → Fifos → Fifos
 accessed None k n f = entered k n f
 accessed (Some v) k n f = if v.uses == 3 then f else reseen_in k (reused v) f
 
--- a refused call leaves every entry with its weight, and what was evicted; queues, uses and ghosts may have changed
+-- a failed call leaves every entry with its weight, and the totals; queues, uses and ghosts may have changed
 pub record IsRefused (old new : Queued) : Type 0 where
   pub same : map_of (entries new.fifos) ≡ map_of (entries old.fifos)
   pub limits : new.limits ≡ old.limits

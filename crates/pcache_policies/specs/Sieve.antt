@@ -1,5 +1,5 @@
--- SIEVE: one list from the newest entry to the oldest, and a hand that lets entries go
--- (Zhang, Yang, Yue, Vigfusson, Rashmi, NSDI 2024).
+-- SIEVE: one list from the newest entry to the oldest, and a hand that chooses the entries to evict (Zhang, Yang,
+-- Yue, Vigfusson, Rashmi, NSDI 2024).
 use Rattle.std.specs.Prelude.{◌≡◌, ◌≢◌, ℕ, ◌+◌, ◌-◌, ◌^◌, ◌⊎◌, ◌==◌, Option, None, Some, List, [], ◌∷◌, ◌++◌, length, min, if◌then◌else◌}
 use Rattle.pcache_evict.specs.declared.eviction.entry_key.CacheEntryKey.{CacheEntryKey}
 use Rattle.pcache_evict.specs.Tracked.{Limits, Evicted, limits_of, raised}
@@ -9,7 +9,7 @@ use Rattle.pcache_policies.specs.declared.queue.Seen.{Seen}
 use Rattle.pcache_policies.specs.Queue.{Queue, plain, rest_of, reseen, unused, used}
 use Rattle.pcache_policies.specs.Leaving.{HasRoom}
 
--- the list is `ahead ++ passed`; the hand stands at the last of `ahead`, or at the oldest if there is none
+-- the list is `ahead ++ passed`; the hand is at the last entry of `ahead`, or at the oldest entry if `ahead` is empty
 pub record Sieve : Type 0 where
   pub ahead : Queue
   pub passed : Queue
@@ -17,14 +17,16 @@ pub record Sieve : Type 0 where
 abbrev pub sieve : Queue → Queue → Sieve
 sieve a p = record { ahead = a; passed = p }
 
+-- all entries
 abbrev pub whole : Sieve → Queue
 whole s = s.ahead ++ s.passed
 
+-- all entries with their weights alone
 abbrev pub entries : Sieve → Recency
 entries s = plain (whole s)
 
--- room is made for so many entries of this weight: as long as there is none, the hand looks at the entry where it
--- stands, clears its bit if that is set, and lets it go if not, and moves on to the next newer one, from the newest to the oldest
+-- room is made for `count` entries of this total weight: while there is none, the hand looks at the entry that it is at, clears
+-- its bit if that is set, evicts it if not, and moves to the next newer one, and from the newest to the oldest
 pub data MakesRoom (limits : Limits) (size count : ℕ) : Sieve → List CacheEntryKey → Sieve → Type 0 where
   rests : (s : Sieve) → HasRoom limits size count (entries s) ⊎ (whole s ≡ []) → MakesRoom limits size count s [] s
   clears : (s m t : Sieve) (k : CacheEntryKey) (v : Seen) (out : List CacheEntryKey) → ¬ HasRoom limits size count (entries s)
@@ -34,19 +36,20 @@ pub data MakesRoom (limits : Limits) (size count : ℕ) : Sieve → List CacheEn
   turns : (s t : Sieve) (out : List CacheEntryKey) → ¬ HasRoom limits size count (entries s)
       → s.ahead ≡ [] → MakesRoom limits size count (sieve s.passed []) out t → MakesRoom limits size count s out t
 
--- the hand where it looks next
+-- the list with the hand at the entry that it looks at next
 abbrev pub turned : Queue → Queue → Sieve
 turned [] p = sieve p []
 turned (e ∷ a) p = sieve (e ∷ a) p
 
--- a new entry comes in as the newest, with its bit clear
+-- a new entry is added as the newest, with its bit clear
 abbrev pub entered : CacheEntryKey → ℕ → Sieve → Sieve
 entered k n s = let at = turned s.ahead s.passed in sieve ((k, unused n) ∷ at.ahead) at.passed
 
--- an entry with this known of it, wherever it stands, and the list without an entry
+-- the list with this record of an entry, wherever it is; and the list without an entry
 abbrev pub reseen_in : CacheEntryKey → Seen → Sieve → Sieve
 reseen_in k v s = sieve (reseen k v s.ahead) (reseen k v s.passed)
 
+-- the list without an entry
 abbrev pub rest_in : CacheEntryKey → Sieve → Sieve
 rest_in k s = sieve (rest_of k s.ahead) (rest_of k s.passed)
 
@@ -60,7 +63,7 @@ pub record Sieved : Type 0 where
 abbrev pub empty_sieve : ℕ → Option ℕ → Sieved
 empty_sieve limit watermark = record { sieve = sieve [] []; limits = limits_of limit watermark; evicted = record { weight = 0; count = 0 } }
 
--- the totals once so much of this weight went
+-- the totals after entries of this weight went
 abbrev pub IsCounted : Sieved → ℕ → Sieved → List CacheEntryKey → Type 0
 IsCounted old before new out =
     (new.limits ≡ old.limits) × (new.evicted.weight ≡ min (old.evicted.weight + (before - weight (entries new.sieve))) (2 ^ 64 - 1)) × (new.evicted.count ≡ min (old.evicted.count + length out) (2 ^ 64 - 1))
@@ -70,7 +73,7 @@ pub record KeepsLimits (old : Sieved) (from : Sieve) (new : Sieved) (out : List 
   pub room : MakesRoom old.limits 0 0 from out new.sieve
   pub counted : IsCounted old (weight (entries from)) new out
 
--- room is made, and then a new entry comes in; one for which there is no room though nothing is left goes itself
+-- room is made, and then a new entry is added; one for which there is no room although no entry is left goes itself
 pub record Admits (old : Sieved) (k : CacheEntryKey) (n : ℕ) (new : Sieved) (out : List CacheEntryKey) : Type 0 where
   pub left : Sieve
   pub gone : List CacheEntryKey
@@ -78,22 +81,22 @@ pub record Admits (old : Sieved) (k : CacheEntryKey) (n : ℕ) (new : Sieved) (o
   pub comes : (HasRoom old.limits n 1 (entries left) × (new.sieve ≡ entered k n left) × (out ≡ gone)) ⊎ ((¬ HasRoom old.limits n 1 (entries left)) × (new.sieve ≡ left) × (out ≡ gone ++ k ∷ []))
   pub counted : IsCounted old (n + weight (entries old.sieve)) new out
 
--- an entry that is admitted again has its new weight where it stands, which is a use; a new one comes in
+-- an entry that is admitted again gets its new weight in place, which is a use; a new one is added
 abbrev pub Admission : Option Seen → Sieved → CacheEntryKey → ℕ → Sieved → List CacheEntryKey → Type 0
 Admission None old k n new out = Admits old k n new out
 Admission (Some v) old k n new out = KeepsLimits old (reseen_in k (used n) old.sieve) new out
 
--- an increment raises the weight of an entry where it stands, which is no use; a new one comes in
+-- an increment raises the weight of an entry in place, which is no use; a new one is added
 abbrev pub Increment : Option Seen → Sieved → CacheEntryKey → ℕ → Option ℕ → Sieved → List CacheEntryKey → Type 0
 Increment None old k delta most new out = Admits old k (raised delta most None) new out
 Increment (Some v) old k delta most new out = KeepsLimits old (reseen_in k (record v { weight = raised delta most (Some v.weight) }) old.sieve) new out
 
--- a use sets the bit of an entry, where it stands; a new one comes in, even if there is no room
+-- an access sets the bit of an entry, in place; a new entry is added, even if there is no room
 abbrev pub accessed : Option Seen → CacheEntryKey → ℕ → Sieve → Sieve
 accessed None k n s = entered k n s
 accessed (Some v) k n s = if v.uses == 0 then reseen_in k (used v.weight) s else s
 
--- a refused call leaves every entry with its weight, and what was evicted; the hand may have moved
+-- a failed call leaves every entry with its weight, and the totals; the hand may have moved
 pub record IsRefused (old new : Sieved) : Type 0 where
   pub same : map_of (entries new.sieve) ≡ map_of (entries old.sieve)
   pub limits : new.limits ≡ old.limits

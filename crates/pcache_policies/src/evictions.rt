@@ -1,4 +1,4 @@
-//! What is evicted, and what it weighs.
+//! The totals of evictions, and how the chosen entries are evicted.
 ghost use Rattle.std.specs.Prelude.{◌≡◌, ◌+◌, ◌-◌, ◌^◌, ◌≤◌, [], length, min};
 ghost use Rattle.std.specs.Vec.{vec_capacity};
 ghost use Rattle.pcache_evict.specs.Tracked.{raised};
@@ -9,7 +9,7 @@ ghost use Rattle.pcache_policies.specs.Ring as ring_specs;
 use crate::ring::Ring;
 use pcache_evict::eviction::CacheEntryKey;
 
-/// What was evicted so far, stopped at the largest `usize`.
+/// The weight and the number of all entries evicted so far; each stops at the largest `usize`.
 #[derive(Clone, Copy, Debug)]
 pub(crate) struct Evictions {
     pub(crate) weight: usize,
@@ -17,7 +17,7 @@ pub(crate) struct Evictions {
 }
 
 impl Evictions {
-    /// Nothing yet.
+    /// The totals before the first eviction.
     pub(crate) fn none() -> Evictions
         ensures { (result.weight ≡ 0) × (result.count ≡ 0) }
     {
@@ -27,7 +27,7 @@ impl Evictions {
         }
     }
 
-    /// Adds what went.
+    /// Adds the weight and the number of evicted entries.
     pub(crate) fn add(&mut self, weight: u128, count: usize)
         ensures weight { self.new.weight ≡ min (self.old.weight + weight) (2 ^ 64 - 1) }
         ensures count { self.new.count ≡ min (self.old.count + count) (2 ^ 64 - 1) }
@@ -38,7 +38,7 @@ impl Evictions {
     }
 }
 
-/// Lets go what the hand chose, into a list with room for it.
+/// Evicts what the hand chose into a vector that has room for it.
 pub(crate) fn let_go(
     ring: &mut Ring,
     evicted: &mut Evictions,

@@ -17,7 +17,8 @@ use pcache_evict::eviction::CacheEntryKey;
 use std::alloc::Global;
 
 /// A small queue (the entries ahead in the ring), a main queue (those that were passed), and the keys
-/// of entries that went from the small one. What is to go is set aside at first, as in the ring.
+/// of entries that went from the small one. An entry that is to go is first set aside, as in the
+/// ring.
 #[derive(Drop)]
 pub(crate) struct Fifos {
     pub(crate) ring: Ring,
@@ -36,7 +37,8 @@ impl Fifos {
         })
     }
 
-    /// Chooses what goes so that so many entries more of this weight fit.
+    /// Chooses entries to evict until `count` more entries of this total weight fit or no entry is
+    /// left.
     fn make_room(
         &mut self,
         size: usize,
@@ -58,8 +60,8 @@ impl Fifos {
         Ok(())
     }
 
-    /// Chooses what goes so that so many entries more of this weight fit, and makes a list with room
-    /// for the keys of all that and of one more.
+    /// Chooses entries to evict until `count` more entries of this total weight fit or no entry is
+    /// left, and makes a vector with room for the keys of all of them and of one more.
     pub(crate) fn prepare(
         &mut self,
         alloc: Global,
@@ -80,7 +82,7 @@ impl Fifos {
         Ok(Vec::with_capacity(alloc, self.ring.leaving_len() + 1)?)
     }
 
-    /// Puts in a new entry as the newest, in the main queue if its ghost is there.
+    /// Adds a new entry as the newest, to the main queue if its key is a ghost.
     pub(crate) fn enter(&mut self, item: CacheEntryKey, size: usize) -> Result<()>
         requires { seen_of item (all self.old.ring) ≡ None }
         ensures ok { OnOk result (left_of self.new ≡ entered item size (left_of self.old)) }
@@ -97,14 +99,14 @@ impl Fifos {
         Ok(())
     }
 
-    // Looks at one entry, and answers whether there was one.
+    // Looks at one entry, and returns whether there was one.
     fn step(&mut self, limit: usize) -> Result<bool>
         ensures ok { IfOk result (λ more. Steps limit self.old more self.new) }
         ensures kind { IfErr result (λ e. e ≡ OutOfMemory) }
         ensures err { OnErr result (self.new.ring ≡ self.old.ring) }
         ensures once { IsOnce (all self.old.ring) }
     {
-        self.ring.len(); // for the prover: its contract says that no entry stands twice
+        self.ring.len(); // for the prover: its contract says that no entry occurs twice
         if self.is_small_next(limit) {
             self.look_at_small()?;
             return Ok(true);
@@ -150,7 +152,7 @@ impl Fifos {
         Ok(())
     }
 
-    // The oldest entry of the main queue comes in there anew, or is chosen to go.
+    // The oldest entry of the main queue becomes its newest, or is chosen to go.
     fn look_at_main(&mut self) -> Result<bool>
         ensures ok { IfOk result (λ more. LooksAtMain self.old more self.new) }
         ensures kind { IfErr result (λ e. e ≡ OutOfMemory) }

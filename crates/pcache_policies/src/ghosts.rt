@@ -1,4 +1,4 @@
-//! The keys of entries that went.
+//! The keys of evicted entries.
 ghost use Rattle.std.specs.Prelude.{◌≡◌, [], IfOk, IfErr, OnOk};
 ghost use Rattle.pcache_base.specs.declared.error.ErrorType.TheVariants.{OutOfMemory};
 ghost use Rattle.pcache_policies.specs.S3Fifo.{is_ghost, forgotten, ghosted};
@@ -11,7 +11,7 @@ use std::alloc::Global;
 use std::marker::Model;
 
 /// Keys, the newest first, each once. A contract sees the list. Each call takes at most one look-up,
-/// and one for each key that goes.
+/// and one for each key that is dropped.
 #[derive(Drop)]
 pub(crate) struct Ghosts {
     queue: Queue,
@@ -37,7 +37,7 @@ impl Ghosts {
         })
     }
 
-    /// Whether a key is there.
+    /// Whether a key is among the ghosts.
     pub(crate) fn has(&self, key: &CacheEntryKey) -> bool
         ensures { result ≡ is_ghost key.now self.now }
     {
@@ -51,7 +51,7 @@ impl Ghosts {
         self.queue.remove(key);
     }
 
-    /// Adds the key of one of so many entries as the newest, and keeps nine tenths of that number.
+    /// Adds a key as the newest, and keeps at most nine tenths of `count` keys.
     pub(crate) fn add(&mut self, key: CacheEntryKey, count: usize) -> Result<()>
         ensures ok { OnOk result (self.new ≡ ghosted key count self.old) }
         ensures kind { IfErr result (λ e. e ≡ OutOfMemory) }

@@ -1,8 +1,10 @@
 #![tactic(auto)]
-//! Eviction managers that follow policies other than the least recent use.
+//! Eviction managers with policies other than least recently used.
 //!
-//! - `sieve`: one list with a hand that passes what was used, and lets go what was not
-//! - `s3_fifo`: a small queue for what is new, and a main queue for what was used or comes in again
+//! - `sieve`: one list with a hand that passes entries that were used, and evicts those that were
+//!   not
+//! - `s3_fifo`: a small queue for new entries, and a main queue for entries that were used or come
+//!   in again
 
 mod evictions;
 mod fifos;

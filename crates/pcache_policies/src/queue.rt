@@ -14,7 +14,7 @@ use pcache_evict::eviction::CacheEntryKey;
 use std::alloc::Global;
 use std::marker::Model;
 
-/// So many uses are counted at most: what two bits hold.
+/// The most uses that are counted: what two bits hold.
 pub(crate) const MOST_USES: u8 = 3;
 
 /// What a policy knows of an entry.
@@ -27,14 +27,14 @@ pub struct Seen {
 }
 
 impl Seen {
-    /// What is known of an entry that was not used yet.
+    /// The record of an entry that was not used yet.
     pub(crate) fn unused(weight: usize) -> Seen
         ensures { result ≡ unused weight }
     {
         Seen { weight, uses: 0 }
     }
 
-    /// What is known of an entry once it is used again, and has this weight.
+    /// The record of an entry after one more use, with this weight.
     pub(crate) fn used_again(&self, weight: usize) -> Seen
         ensures { result ≡ record (reused self.now) { weight = weight } }
     {
@@ -44,7 +44,7 @@ impl Seen {
         }
     }
 
-    /// What is known of an entry that was used.
+    /// The record of an entry that was used once.
     pub(crate) fn used(weight: usize) -> Seen
         ensures { result ≡ used weight }
     {
@@ -52,7 +52,7 @@ impl Seen {
     }
 }
 
-/// Entries, the newest first, and what they weigh together. No entry stands twice.
+/// Entries, the newest first, with the sum of their weights. No entry occurs twice.
 ///
 /// A contract sees the list. Each call takes at most one look-up.
 #[derive(Drop)]
@@ -72,7 +72,7 @@ impl Model for Queue {
 }
 
 impl Queue {
-    /// An empty queue. Under which seed it hashes no answer shows.
+    /// An empty queue. No result depends on the seed.
     pub(crate) fn new(alloc: Global, seed: Seed) -> Result<Queue>
         ensures ok { IfOk result (λ queue. queue ≡ []) }
         ensures kind { IfErr result (λ e. e ≡ OutOfMemory) }
@@ -91,7 +91,7 @@ impl Queue {
         self.cache.len()
     }
 
-    /// The weights of the entries, added up.
+    /// The sum of the entries' weights.
     pub(crate) fn weight(&self) -> u128
         ensures value { result ≡ weight (plain self.now) }
         ensures bound { result ≤ length self.now * (2 ^ 64 - 1) }
@@ -99,7 +99,7 @@ impl Queue {
         self.weight
     }
 
-    /// What is known of an entry, if it is there.
+    /// What is known of an entry; `None` if the queue does not have it.
     pub(crate) fn get(&self, item: &CacheEntryKey) -> Option<Seen>
         ensures value { result ≡ seen_of item.now self.now }
         ensures fits { IfSome result (λ seen. seen.weight ≤ 2 ^ 64 - 1) }
@@ -107,7 +107,7 @@ impl Queue {
         self.cache.peek(item).copied()
     }
 
-    /// Sets what is known of an entry, where it stands, and answers whether it is there.
+    /// Sets what is known of an entry in place, and returns whether the queue has it.
     pub(crate) fn set(&mut self, item: &CacheEntryKey, seen: Seen) -> bool
         ensures was { result ≡ is_some (seen_of item.now self.old) }
         ensures value { self.new ≡ reseen item.now seen self.old }
@@ -120,7 +120,7 @@ impl Queue {
         true
     }
 
-    /// Puts in a new entry as the newest.
+    /// Adds a new entry as the newest.
     pub(crate) fn push(&mut self, item: CacheEntryKey, seen: Seen) -> Result<()>
         requires { seen_of item self.old ≡ None }
         ensures ok { OnOk result (self.new ≡ (item, seen) ∷ self.old) }
@@ -145,7 +145,7 @@ impl Queue {
         }
     }
 
-    /// Takes the oldest entry out.
+    /// Removes the oldest entry, and returns it.
     pub(crate) fn pop(&mut self) -> Option<(CacheEntryKey, Seen)>
         ensures value { result ≡ last_entry self.old }
         ensures last { IfSome result (λ entry. self.old ≡ self.new ++ entry ∷ []) }
@@ -156,14 +156,14 @@ impl Queue {
         Some((key, seen))
     }
 
-    /// Takes the oldest entry out, if there is one.
+    /// Removes the oldest entry, if there is one.
     pub(crate) fn drop_oldest(&mut self)
         ensures { IfSome (last_entry self.old) (λ entry. self.old ≡ self.new ++ entry ∷ []) }
     {
         self.pop();
     }
 
-    /// Sets what is known of an entry that is there, and puts it first.
+    /// Sets what is known of an entry of the queue, and moves it to the front.
     pub(crate) fn requeue(&mut self, item: &CacheEntryKey, seen: Seen)
         requires { IsSome (seen_of item.now self.old) }
         ensures { self.new ≡ (item.now, seen) ∷ rest_of item.now self.old }
@@ -172,7 +172,7 @@ impl Queue {
         self.promote(item);
     }
 
-    // Puts an entry that is there first.
+    // Moves an entry of the queue to the front.
     fn promote(&mut self, item: &CacheEntryKey)
         ensures { (v : Seen) → seen_of item.now self.old ≡ Some v → self.new ≡ (item.now, v) ∷ rest_of item.now self.old }
     {
@@ -180,7 +180,7 @@ impl Queue {
         self.cache.len(); // for the prover: its contract says that the list is valid
     }
 
-    /// Keeps so many of the newest entries.
+    /// Keeps the `most` newest entries, and drops the others.
     pub(crate) fn keep(&mut self, most: usize)
         ensures { self.new ≡ take most self.old }
     {
@@ -189,7 +189,7 @@ impl Queue {
         }
     }
 
-    /// Takes an entry out, and answers whether it was there.
+    /// Removes an entry, and returns whether the queue had it.
     pub(crate) fn remove(&mut self, item: &CacheEntryKey) -> bool
         ensures was { result ≡ is_some (seen_of item.now self.old) }
         ensures value { self.new ≡ rest_of item.now self.old }
@@ -222,8 +222,7 @@ fn push_copy(all: &mut Vec<(CacheEntryKey, usize)>, key: &CacheEntryKey, size: u
     Ok(())
 }
 
-/// Writes what is known of an entry, where it stands, and answers what it weighed before, if it is
-/// there.
+/// Sets what is known of an entry in place. Returns what it weighed before, if the list has it.
 fn write_seen(
     cache: &mut LruCache<CacheEntryKey, Seen, Seed>,
     item: &CacheEntryKey,

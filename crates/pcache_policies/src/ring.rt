@@ -20,14 +20,14 @@ use std::alloc::Global;
 use std::marker::Model;
 use std::mem;
 
-/// So many entries are too many for one more.
+/// With so many entries no more can be added.
 const FULL: usize = (1 << 63) - 1;
 
 /// The entries ahead of the hand, those that it chose to go, and those that it passed, each the
 /// newest first.
 ///
-/// An entry that the hand passes moves from one queue to another, which may take memory. So what is
-/// to go is set aside at first, and leaves once nothing can be refused any more.
+/// An entry that the hand passes moves from one queue to another, which may take memory. So an
+/// entry that is to go is first set aside, and leaves once nothing can fail any more.
 #[derive(Drop)]
 pub(crate) struct Ring {
     ahead: Queue,
@@ -67,7 +67,7 @@ impl Ring {
         self.ahead.len() + (self.leaving.len() + self.passed.len())
     }
 
-    /// The weights of the entries, added up.
+    /// The sum of the entries' weights.
     pub(crate) fn weight(&self) -> u128
         ensures value { result ≡ weight (plain (all self.now)) }
         ensures once { IsOnce (all self.now) }
@@ -75,7 +75,7 @@ impl Ring {
         self.ahead.weight() + (self.leaving.weight() + self.passed.weight())
     }
 
-    /// What is known of an entry, if it is there.
+    /// What is known of an entry; `None` if the ring does not have it.
     pub(crate) fn get(&self, item: &CacheEntryKey) -> Option<Seen>
         ensures value { result ≡ seen_of item.now (all self.now) }
         ensures fits { IfSome result (λ seen. seen.weight ≤ 2 ^ 64 - 1) }
@@ -90,7 +90,7 @@ impl Ring {
         self.passed.get(item)
     }
 
-    /// Sets what is known of an entry, where it stands.
+    /// Sets what is known of an entry in place.
     pub(crate) fn set(&mut self, item: &CacheEntryKey, seen: Seen)
         ensures { self.new ≡ ring (reseen item.now seen self.old.ahead) (reseen item.now seen self.old.leaving) (reseen item.now seen self.old.passed) }
     {
@@ -99,7 +99,7 @@ impl Ring {
         self.passed.set(item, seen);
     }
 
-    /// Takes an entry out.
+    /// Removes an entry.
     pub(crate) fn remove(&mut self, item: &CacheEntryKey)
         ensures { self.new ≡ ring (rest_of item.now self.old.ahead) (rest_of item.now self.old.leaving) (rest_of item.now self.old.passed) }
     {
@@ -108,7 +108,7 @@ impl Ring {
         self.passed.remove(item);
     }
 
-    /// The number of the entries that were chosen to go.
+    /// The number of entries chosen to go.
     pub(crate) fn leaving_len(&self) -> usize
         ensures value { result ≡ length self.now.leaving }
         ensures few { result < 2 ^ 63 }
@@ -118,14 +118,15 @@ impl Ring {
         self.leaving.len()
     }
 
-    /// What the entries weigh that were chosen to go.
+    /// The weight of the entries chosen to go.
     pub(crate) fn leaving_weight(&self) -> u128
         ensures { result ≡ weight (plain self.now.leaving) }
     {
         self.leaving.weight()
     }
 
-    /// Whether the limits hold for what was not chosen, with so many entries more of this weight.
+    /// Whether the limits hold for the entries that were not chosen, with `count` more of this
+    /// total weight.
     pub(crate) fn has_room(
         &self,
         size: usize,
@@ -142,7 +143,7 @@ impl Ring {
         weight <= limit as u128 && watermark.is_none_or(|most| items <= most)
     }
 
-    /// Counts what was chosen and did not go as passed.
+    /// Counts the entries that were chosen but did not go as passed.
     pub(crate) fn settle(&mut self) -> Result<()>
         ensures shown { shown self.new ≡ shown self.old }
         ensures ok { OnOk result (self.new.leaving ≡ []) }
@@ -167,7 +168,8 @@ impl Ring {
         Ok(true)
     }
 
-    /// Chooses what goes so that so many entries more of this weight fit.
+    /// Chooses entries to evict until `count` more entries of this total weight fit or no entry is
+    /// left.
     pub(crate) fn make_room(
         &mut self,
         size: usize,
@@ -189,8 +191,8 @@ impl Ring {
         Ok(())
     }
 
-    /// Chooses what goes so that so many entries more of this weight fit, and makes a list with room
-    /// for the keys of all that and of one more.
+    /// Chooses entries to evict until `count` more entries of this total weight fit or no entry is
+    /// left, and makes a vector with room for the keys of all of them and of one more.
     pub(crate) fn prepare(
         &mut self,
         alloc: Global,
@@ -211,7 +213,7 @@ impl Ring {
         Ok(Vec::with_capacity(alloc, self.leaving_len() + 1)?)
     }
 
-    // The hand looks at one entry, or turns from the newest to the oldest. Answers whether there was
+    // The hand looks at one entry, or turns from the newest to the oldest. Returns whether there was
     // one.
     fn step(&mut self) -> Result<bool>
         ensures ok { IfOk result (λ more. Steps self.old more self.new) }
@@ -219,7 +221,7 @@ impl Ring {
         ensures err { OnErr result (self.new ≡ self.old) }
         ensures once { IsOnce (all self.old) }
     {
-        self.len(); // for the prover: its contract says that no entry stands twice
+        self.len(); // for the prover: its contract says that no entry occurs twice
         let Some((key, seen)) = self.ahead.oldest()? else {
             return Ok(self.turn());
         };
@@ -241,7 +243,7 @@ impl Ring {
         Ok(true)
     }
 
-    // The hand passes the entry where it stands.
+    // The hand passes the entry that it is at.
     fn pass(&mut self, key: CacheEntryKey, seen: Seen) -> Result<bool>
         requires last { last_entry self.old.ahead ≡ Some (key, seen) }
         requires used { seen.uses ≢ 0 }
@@ -292,7 +294,7 @@ impl Ring {
         Ok(())
     }
 
-    /// The oldest entry that was passed is the newest of these from now on, with this known of it.
+    /// The oldest passed entry becomes the newest passed one, with this record.
     pub(crate) fn pass_again(&mut self, key: &CacheEntryKey, before: Seen, after: Seen)
         requires last { last_entry self.old.passed ≡ Some (key.now, before) }
         requires weight { after.weight ≡ before.weight }
@@ -318,7 +320,7 @@ impl Ring {
         self.passed.oldest()
     }
 
-    /// The number of the entries ahead, and of those that were passed.
+    /// The number of entries ahead, and of passed ones.
     pub(crate) fn lens(&self) -> (usize, usize)
         ensures ahead { result.0 ≡ length self.now.ahead }
         ensures passed { result.1 ≡ length self.now.passed }
@@ -327,7 +329,7 @@ impl Ring {
         (self.ahead.len(), self.passed.len())
     }
 
-    /// The number of the entries that were not chosen.
+    /// The number of entries that were not chosen.
     pub(crate) fn left_len(&self) -> usize
         ensures { result ≡ length self.now.ahead + length self.now.passed }
     {
@@ -335,14 +337,14 @@ impl Ring {
         ahead + passed
     }
 
-    /// What the entries ahead weigh.
+    /// The weight of the entries ahead.
     pub(crate) fn ahead_weight(&self) -> u128
         ensures { result ≡ weight (plain self.now.ahead) }
     {
         self.ahead.weight()
     }
 
-    /// Puts in a new entry as the newest ahead.
+    /// Adds a new entry as the newest ahead.
     pub(crate) fn add_ahead(&mut self, item: CacheEntryKey, size: usize) -> Result<()>
         requires { seen_of item (all self.old) ≡ None }
         ensures ok { OnOk result (self.new ≡ ring ((item, unused size) ∷ self.old.ahead) self.old.leaving self.old.passed) }
@@ -356,7 +358,7 @@ impl Ring {
         Ok(())
     }
 
-    /// Puts in a new entry as the newest of those that were passed.
+    /// Adds a new entry as the newest of the passed ones.
     pub(crate) fn add_passed(&mut self, item: CacheEntryKey, size: usize) -> Result<()>
         requires { seen_of item (all self.old) ≡ None }
         ensures ok { OnOk result (self.new ≡ ring self.old.ahead self.old.leaving ((item, unused size) ∷ self.old.passed)) }
@@ -394,7 +396,7 @@ impl Ring {
         }
     }
 
-    /// Puts in a new entry as the newest.
+    /// Adds a new entry as the newest.
     pub(crate) fn enter(&mut self, item: CacheEntryKey, size: usize) -> Result<()>
         requires { seen_of item (all self.old) ≡ None }
         ensures ok { OnOk result (left_of self.new ≡ entered item size (left_of self.old)) }
@@ -407,7 +409,7 @@ impl Ring {
         Ok(())
     }
 
-    /// Lets go what was chosen, and adds its keys to `out`.
+    /// Removes the chosen entries, and adds their keys to `out`.
     pub(crate) fn drain(&mut self, out: &mut Vec<CacheEntryKey>)
         requires { length out.old.items + length self.old.leaving ≤ vec_capacity out.old }
         ensures ring { self.new ≡ ring self.old.ahead [] self.old.passed }
@@ -419,7 +421,7 @@ impl Ring {
         }
     }
 
-    // The next of what was chosen goes.
+    // Removes the next of the chosen entries.
     fn pop_leaving(&mut self) -> Option<CacheEntryKey>
         ensures last { IfSome result (λ k. (v : Seen) × (self.old.leaving ≡ self.new.leaving ++ (k, v) ∷ [])) }
         ensures empty { IfNone result (self.old.leaving ≡ []) }

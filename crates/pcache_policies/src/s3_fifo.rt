@@ -1,4 +1,4 @@
-//! An eviction manager that lets most new entries go soon, and keeps those that were used: S3-FIFO
+//! An eviction manager that evicts most new entries soon, and keeps those that were used: S3-FIFO
 //! (Yang, Zhang, Qiu, Yue, Vigfusson, SOSP 2023).
 ghost use Rattle.std.specs.Prelude.{◌≡◌, ◌-◌, ◌^◌, true, false, None, Some, is_some, length, OnOk, OnErr, IfOk, IfErr, IsOk, IsSome, min};
 ghost use Rattle.pcache_base.specs.declared.error.ErrorType.TheVariants.{OutOfMemory};
@@ -17,16 +17,16 @@ use pcache_evict::eviction::{CacheEntryKey, EvictionManager};
 use std::alloc::Global;
 use std::marker::Model;
 
-/// Entries with weights in a small and a main queue, the keys of those that went from the small one,
-/// and limits on the sum of the weights and on the number of entries.
+/// Entries with weights in a small and a main queue, the keys of those that were evicted from the
+/// small one (their ghosts), and limits on the sum of the weights and on the number of entries.
 ///
-/// A use of an entry is counted, up to three, and moves nothing. New entries come in to the small
-/// queue, or to the main one if their ghost is there. Before that, room is made: the small queue, if
-/// it has a tenth of the limit, and else the main one looks at its oldest entry. What was used more
-/// than once moves from the small to the main queue, what was used comes in to the main queue anew
-/// with one use less, and other entries go. A contract sees the queues with the ghosts, the limits
-/// and the totals of evictions. Each call takes a fixed number of look-ups, and some for each entry
-/// that is looked at; the uses of those that do not go are used up.
+/// A use of an entry is counted, up to three, and moves nothing. A new entry is added to the small
+/// queue, or to the main one if its key is a ghost. Before that, room is made: the small queue looks
+/// at its oldest entry if it has a tenth of the limit, otherwise the main one does. An entry of the
+/// small queue that was used more than once moves to the main queue, an entry of the main queue that
+/// was used becomes its newest with one use less, and others are evicted. A contract sees the queues
+/// with the ghosts, the limits and the totals of evictions. Each call takes a constant number of
+/// look-ups, and some for each entry that is looked at; the uses of those that stay are used up.
 #[derive(Drop)]
 pub struct Manager {
     alloc: Global,
@@ -50,8 +50,8 @@ impl Model for Manager {
 }
 
 impl Manager {
-    /// An empty manager whose entries weigh at most `limit` once it has evicted. Its lists hash under the
-    /// seed, which no answer shows.
+    /// An empty manager whose entries weigh at most `limit` after each eviction. Its lists hash under the
+    /// seed, on which no result depends.
     pub fn new(alloc: Global, seed: Seed, limit: usize) -> Result<Manager>
         ensures ok { IfOk result (λ m. m ≡ empty_fifos limit None) }
         ensures kind { IfErr result (λ e. e ≡ OutOfMemory) }
@@ -59,7 +59,7 @@ impl Manager {
         Manager::new_with_watermark(alloc, seed, limit, None)
     }
 
-    /// An empty manager whose entries weigh at most `limit` once it has evicted, and are at most
+    /// An empty manager whose entries weigh at most `limit` after each eviction, and number at most
     /// `items_watermark` if that is given.
     pub fn new_with_watermark(
         alloc: Global,
@@ -79,7 +79,7 @@ impl Manager {
         })
     }
 
-    /// The weights of the entries, added up; the largest `usize` if they are more.
+    /// The sum of the entries' weights; the largest `usize` if it is larger.
     pub fn total_size(&self) -> usize
         ensures value { result ≡ min (weight (entries self.now.fifos)) (2 ^ 64 - 1) }
         ensures once { IsOnce (whole self.now.fifos) }
@@ -95,14 +95,14 @@ impl Manager {
         self.fifos.ring.len()
     }
 
-    /// The weight of all that was evicted so far; the largest `usize` if it is more.
+    /// The sum of the weights of all entries evicted so far; the largest `usize` if it is larger.
     pub fn evicted_size(&self) -> usize
         ensures { result ≡ self.now.evicted.weight }
     {
         self.evicted.weight
     }
 
-    /// The number of entries that were evicted so far; the largest `usize` if they are more.
+    /// The number of entries evicted so far; the largest `usize` if it is larger.
     pub fn evicted_items(&self) -> usize
         ensures { result ≡ self.now.evicted.count }
     {
@@ -120,17 +120,17 @@ impl Manager {
         Ok(list)
     }
 
-    /// Whether an entry is there. That is no use.
+    /// Whether an entry is tracked. That does not count as a use.
     pub fn peek(&self, item: &CacheEntryKey) -> bool
         ensures { result ≡ is_some (seen_of item.now (whole self.now.fifos)) }
     {
         self.fifos.ring.get(item).is_some()
     }
 
-    /// Makes room for a new entry, which then comes in as the newest; one that is there gets its
-    /// weight where it stands, which is a use, and then the hand goes until the limits hold. Answers
-    /// what went, in that order; an entry above the limit goes itself, last of all. `fresh_until` is
-    /// not read.
+    /// Makes room for a new entry, which is then added as the newest; one that is tracked gets its
+    /// weight in place, which is a use, and then entries are looked at until the limits hold.
+    /// Returns the evicted entries, in the order in which they went; an entry above the limit goes
+    /// itself, last of all. `fresh_until` is not read.
     pub fn admit(
         &mut self,
         item: CacheEntryKey,
@@ -148,10 +148,10 @@ impl Manager {
         }
     }
 
-    /// Adds to the weight of an entry where it stands, up to `max_weight` (the largest `usize` if
-    /// that is `None`), which is no use; then the hand goes until the limits hold. A weight never
-    /// falls; a missing entry comes in with what is added, at least 1. It is not refused if the
-    /// entry is there and nothing is evicted.
+    /// Adds to the weight of an entry in place, up to `max_weight` (the largest `usize` if that is
+    /// `None`), which is no use; then entries are looked at until the limits hold. A weight never
+    /// decreases; an entry that is not tracked is added with this weight, at least 1. Does not fail
+    /// if the entry is tracked and nothing is evicted.
     pub fn increment_weight(
         &mut self,
         item: &CacheEntryKey,
@@ -177,15 +177,16 @@ impl Manager {
         }
     }
 
-    /// Takes an entry out, if it is there. That is no eviction; the hand stays where it is.
+    /// Removes an entry, if it is tracked. That is no eviction.
     pub fn remove(&mut self, item: &CacheEntryKey)
         ensures { self.new ≡ record self.old { fifos = rest_in item.now self.old.fifos } }
     {
         self.fifos.ring.remove(item);
     }
 
-    /// Sets the bit of an entry, or adds it as the newest with this weight. Answers whether it was
-    /// there. Nothing is evicted; `fresh_until` is not read. It is not refused if the entry is there.
+    /// Counts a use of an entry, or adds it as the newest with this weight. Returns whether it was
+    /// tracked. Nothing is evicted; `fresh_until` is not read. Does not fail if the entry is
+    /// tracked.
     pub fn access(
         &mut self,
         item: &CacheEntryKey,
@@ -222,14 +223,15 @@ impl Manager {
         Ok(false)
     }
 
-    // Room is made, and then a new entry comes in; if there is none although nothing is left, it goes.
+    // Makes room, and then adds a new entry; if there is no room although no entry is left, it goes
+    // itself.
     fn admit_new(&mut self, item: CacheEntryKey, size: usize) -> Result<Vec<CacheEntryKey>>
         requires { seen_of item (whole self.old.fifos) ≡ None }
         ensures ok { IfOk result (λ out. Admits self.old item size self.new out.items) }
         ensures kind { IfErr result (λ e. e ≡ OutOfMemory) }
         ensures err { OnErr result (IsRefused self.old self.new) }
     {
-        self.fifos.ring.len(); // for the prover: its contract says that no entry stands twice
+        self.fifos.ring.len(); // for the prover: its contract says that no entry occurs twice
         let out = self
             .fifos
             .prepare(self.alloc, size, 1, self.limit, self.watermark)?;
@@ -247,7 +249,7 @@ impl Manager {
         Ok(out)
     }
 
-    // Sets what is known of an entry, and then the hand goes until the limits hold.
+    // Sets what is known of an entry, and then evicts until the limits hold.
     fn reweigh(
         &mut self,
         item: &CacheEntryKey,
@@ -270,16 +272,16 @@ impl Manager {
         }
     }
 
-    // The hand goes until the limits hold.
+    // Evicts until the limits hold.
     fn keep_limits(&mut self) -> Result<Vec<CacheEntryKey>>
         ensures ok { IfOk result (λ out. KeepsLimits self.old self.old.fifos self.new out.items) }
         ensures within { IsWithinAsList self.old.limits (entries self.old.fifos) → IsOk result }
         ensures kind { IfErr result (λ e. e ≡ OutOfMemory) }
         ensures err { OnErr result (IsRefused self.old self.new) }
     {
-        self.fifos.ring.len(); // for the prover: its contract says that no entry stands twice
+        self.fifos.ring.len(); // for the prover: its contract says that no entry occurs twice
         if self.is_within() {
-            self.evicted.add(0, 0); // for the prover: what is reported stops at the largest number
+            self.evicted.add(0, 0); // for the prover: its contract says that the totals stop at the largest number
             return Ok(Vec::new(self.alloc));
         }
         let out = self

@@ -84,7 +84,7 @@ module _ (n k : ℕ) (ps : List Part) (some : 0 < n) (long : length ps ≡ n) (k
       let p = list_at ps (k % n) in
       changed (part_without k p) (unmarked k) (ap (λ es. record { capacity = p.cap; keys = es }) (remove-others k p.entries own.0))
 
-  -- the lists stay as they are kept, whether a key was put in or not, and once one was taken out
+  -- the lists stay as they are kept, whether a key was put in or not, and once one was removed
   pub marked-kept : {A B : Type 0} (w : NoCacheReason) (qs : List Part) (r : Result A B) → OnOk r (qs ≡ slice_set ps (k % n) (part_with k w (list_at ps (k % n)))) → OnErr r (qs ≡ ps) → (0 < n) × (length qs ≡ n) × AreKept qs
   marked-kept w qs (Ok a) ok err = let p = list_at ps (k % n) in subst (λ l. (0 < n) × (length l ≡ n) × AreKept l) (sym ok) (still (part_with k w p) (valid-marked (lru_cache p.entries p.cap) k w own))
   marked-kept w qs (Err b) ok err = subst (λ l. (0 < n) × (length l ≡ n) × AreKept l) (sym err) (some, long, kept)

@@ -13,13 +13,13 @@ use Rattle.lru.specs.LruCache.{LruCache, lru_cache, put_entries, IsValid}
 use Rattle.pcache_base.specs.declared.reason.NoCacheReason.{NoCacheReason}
 use Rattle.pcache_predict.specs.Remembered.{others}
 
--- if a key tied with k stands no further, k stands nowhere
+-- if a key equal to k does not occur any further, k does not occur
 all_apart : (k j : ℕ) (l : List (ℕ × NoCacheReason)) → nat_eq k j ≡ true → AllByRecursion (λ y. nat_eq j y ≡ false) (keys_of l) → others k l ≡ l
 all_apart k j [] t a = refl
 all_apart k j (e ∷ l) t a =
     ap (λ b. cond (not b) (e ∷ others k l) (others k l)) (nat_eq_equiv.congr k j e.0 t ∙ a.0) ∙ ap (λ xs. e ∷ xs) (all_apart k j l t a.1)
 
--- a key is taken out
+-- a key is removed
 pub remove-others : (k : ℕ) (l : List (ℕ × NoCacheReason)) → IsDistinct nat_eq (keys_of l) → remove_entry (nat_eq k) l ≡ others k l
 remove-others k [] d = refl
 remove-others k (e ∷ l) d =
@@ -77,7 +77,7 @@ put-marked c k w valid =
           ap (λ es. (k, w) ∷ es) (remove-others k c.entries valid.0 ∙ sym (take_all (c.cap - 1) (others k c.entries) short)) ∙ sym (take_front c.cap (k, w) (others k c.entries) valid.2)
     ] refl)
 
--- the key that was taken out stands nowhere
+-- the key that was removed does not occur
 apart-others : (k : ℕ) (l : List (ℕ × NoCacheReason)) → AllByRecursion (λ y. nat_eq k y ≡ false) (keys_of (others k l))
 apart-others k [] = tt
 apart-others k (e ∷ l) =
@@ -103,7 +103,7 @@ length-take_le zero l = omega arith
 length-take_le (suc n) [] = omega arith
 length-take_le (suc n) (x ∷ l) = let rest = length-take_le n l in omega (arith, rest)
 
--- a list stays as lists are kept once a key is put in front, and once one is taken out
+-- a list stays as lists are kept once a key is put in front, and once one is removed
 pub valid-marked : (c : LruCache ℕ NoCacheReason) (k : ℕ) (w : NoCacheReason) → IsValid nat_eq c → IsValid nat_eq (lru_cache (put_entries nat_eq c k w) c.cap)
 valid-marked c k w valid =
     let l = others k c.entries in

@@ -1,4 +1,4 @@
--- What an admission policy decides.
+-- What an admission policy decides (own).
 use Rattle.std.specs.Prelude.{ℕ, Bool, true, false}
 use Rattle.pcache_predict.specs.declared.admission.Decision.{Decision}
 use Rattle.pcache_predict.specs.declared.admission.Decision.TheVariants.{Defer, Ready}

@@ -1,4 +1,4 @@
--- The lists of a predictor as they are kept (own): shards of a table that forget.
+-- The lists of a predictor as they are kept (own): LRU shards of a table.
 use Rattle.std.specs.Prelude.{ℕ, ◌≡◌, List, Some, map, nat_eq, slice_get}
 use Rattle.lru.specs.LruCache.{lru_cache, IsValid}
 use Rattle.pcache_base.specs.declared.reason.NoCacheReason.{NoCacheReason}
@@ -12,7 +12,7 @@ list_seen p = record { capacity = p.cap; keys = p.entries }
 abbrev pub seen : List (LruPart NoCacheReason) → List Shard
 seen ps = map list_seen ps
 
--- no key stands twice in a shard, and it has at most as many as its capacity, which is above zero
+-- no key occurs twice in a shard, and it has at most as many keys as its capacity, which is not zero
 abbrev pub IsKept : LruPart NoCacheReason → Type 0
 IsKept p = IsValid nat_eq (lru_cache p.entries p.cap)
 

@@ -1,4 +1,4 @@
--- What a predictor remembers and skips.
+-- What a predictor remembers and skips (own).
 use Rattle.std.specs.Prelude.{ℕ, Bool, List, Option}
 use Rattle.std.specs.Borrow.{Bor}
 use Rattle.std.specs.Option.{option_map}

@@ -1,10 +1,9 @@
--- What a predictor remembers (own): for each shard a plain list of keys with reasons, last marked first.
+-- What a predictor remembers (own): for each shard a plain list of keys with reasons, the last marked first.
 use Rattle.std.specs.Prelude.{ℕ, ◌%◌, not, nat_eq, List, [], ◌∷◌, filter, length, take, max, Option, slice_index_or, slice_set}
 use Rattle.std.specs.Map.{lookup}
 use Rattle.pcache_base.specs.declared.reason.NoCacheReason.{NoCacheReason}
 
--- how many keys a list may hold, and its keys (primary hashes as numbers) with the reasons that they were
--- marked with, last marked first
+-- how many keys a list may have, and its keys (primary hashes as numbers) with their reasons, the last marked first
 pub record Shard : Type 0 where
   pub capacity : ℕ
   pub keys : List (ℕ × NoCacheReason)
@@ -17,15 +16,15 @@ empty_shard capacity = record { capacity = max capacity 1; keys = [] }
 abbrev pub found : ℕ → Shard → Option NoCacheReason
 found key l = lookup (nat_eq key) l.keys
 
--- the keys without one
+-- the keys without this one
 abbrev pub others : ℕ → List (ℕ × NoCacheReason) → List (ℕ × NoCacheReason)
 others key keys = filter (λ e. not (nat_eq key e.0)) keys
 
--- a marking takes its key out, puts it in front, and cuts the list to the capacity
+-- a mark moves its key to the front, and cuts the list to the capacity
 abbrev pub marked : ℕ → NoCacheReason → Shard → Shard
 marked key why l = record l { keys = take l.capacity ((key, why) ∷ others key l.keys) }
 
--- an unmarking takes its key out
+-- an unmarking removes its key
 abbrev pub unmarked : ℕ → Shard → Shard
 unmarked key l = record l { keys = others key l.keys }
 
@@ -40,10 +39,10 @@ shard_of shards key = slice_index_or shards (place shards key) (empty_shard 0)
 abbrev pub reason_of : List Shard → ℕ → Option NoCacheReason
 reason_of shards key = found key (shard_of shards key)
 
--- after a key was marked with a reason
+-- the shards after a key was marked with a reason
 abbrev pub after_mark : List Shard → ℕ → NoCacheReason → List Shard
 after_mark shards key why = slice_set shards (place shards key) (marked key why (shard_of shards key))
 
--- after a key was unmarked
+-- the shards after a key was unmarked
 abbrev pub after_unmark : List Shard → ℕ → List Shard
 after_unmark shards key = slice_set shards (place shards key) (unmarked key (shard_of shards key))

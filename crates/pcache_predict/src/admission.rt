@@ -4,7 +4,7 @@ ghost use Rattle.pcache_predict.specs.Admission.{observed_of, is_defer};
 
 use pcache_base::key::CacheKey;
 
-/// What a policy says of a key: to wait, or to store, with how often the key was observed.
+/// A policy's decision on a key: to wait or to store, and how often the key was observed.
 #[derive(Clone, Copy, Debug, PartialEq, Eq)]
 pub enum Decision {
     /// Not to be stored yet.
@@ -37,20 +37,20 @@ impl Decision {
     }
 }
 
-/// Decides for each key that is asked for whether its response is to be stored.
+/// Decides for each requested key whether its response is to be stored.
 pub trait AdmissionPolicy {
     ghost use Rattle.pcache_base.specs.Key.{Key};
     ghost use Rattle.pcache_predict.specs.declared.admission.Decision.{Decision};
 
-    /// What the policy may decide of a key, and how that leaves it. By default nothing is claimed.
+    /// What the policy may decide on a key, and its state after that. By default nothing is stated.
     ghost decides: { Self → Key → Decision → Self → Type 0 } = { λ _ _ _ _. Unit {0} };
 
-    /// Counts the key as asked for once more, and decides.
+    /// Counts one more request for the key, and decides.
     fn observe(&mut self, key: &CacheKey) -> Decision
         ensures { decides self.old key.now result self.new };
 }
 
-/// A decision is the policy that always decides so.
+/// A decision is itself a policy, which always decides so.
 impl AdmissionPolicy for Decision {
     ghost use Rattle.std.specs.Prelude.{◌≡◌};
 

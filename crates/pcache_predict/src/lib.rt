@@ -1,5 +1,5 @@
 #![tactic(auto)]
-//! What is foretold of keys before the origin is asked.
+//! What is predicted of keys before the origin is asked.
 //!
 //! - `predictor`: which keys' responses are predicted not to be cacheable
 //! - `marked_keys`: the lists of marked keys that it keeps

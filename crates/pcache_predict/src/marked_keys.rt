@@ -1,4 +1,4 @@
-//! Marked keys with their reasons, in lists that forget.
+//! Marked keys with their reasons, in lists that drop the oldest marks.
 ghost use Rattle.std.specs.Prelude.{◌≡◌, ◌<◌, is_none, replicate, IfOk, IfErr, OnOk, OnErr};
 ghost use Rattle.pcache_base.specs.declared.error.ErrorType.TheVariants.{OutOfMemory};
 ghost use Rattle.pcache_predict.specs.Remembered.{empty_shard, reason_of, after_mark, after_unmark};
@@ -10,7 +10,7 @@ use pcache_table::hashtable::LruShards;
 use std::alloc::Global;
 use std::marker::Model;
 
-// The marked keys, each in the list of its number modulo the number of lists.
+// The marked keys. The list of a key is the key, as a number, modulo the number of lists.
 #[derive(Drop)]
 pub(crate) struct MarkedKeys<const N: usize> {
     lists: LruShards<NoCacheReason, N>,
@@ -29,7 +29,7 @@ impl<const N: usize> Model for MarkedKeys<N> {
 }
 
 impl<const N: usize> MarkedKeys<N> {
-    // No key yet. A capacity of 0 counts as 1. No room is taken in advance.
+    // No key yet. A capacity of 0 counts as 1. No room is reserved in advance.
     pub(crate) fn new(alloc: Global, seed: Seed, capacity: usize) -> Result<MarkedKeys<N>>
         requires { 0 < N }
         ensures ok { IfOk result (λ all. all ≡ replicate N (empty_shard capacity)) }
@@ -47,25 +47,23 @@ impl<const N: usize> MarkedKeys<N> {
         self.lists.peek(key).copied()
     }
 
-    // Marks a key. True if it was not marked.
+    // Marks a key with a reason. Returns whether it was not marked before.
     pub(crate) fn mark(&mut self, key: u128, reason: NoCacheReason) -> Result<bool>
         ensures was { IfOk result (λ new. new ≡ is_none (reason_of self.old key)) }
         ensures ok { OnOk result (self.new ≡ after_mark self.old key reason) }
         ensures err { OnErr result (self.new ≡ self.old) }
         ensures kind { IfErr result (λ e. e ≡ OutOfMemory) }
     {
-        // The prover knows the invariant once a field was used.
         let _ = &self.lists; // for the prover: once a field is used, the invariant is known
         let old = self.lists.put(key, reason)?;
         Ok(old.is_none())
     }
 
-    // Unmarks a key. True if it was not marked.
+    // Unmarks a key. Returns whether it was not marked before.
     pub(crate) fn unmark(&mut self, key: u128) -> bool
         ensures was { result ≡ is_none (reason_of self.old key) }
         ensures out { self.new ≡ after_unmark self.old key }
     {
-        // The prover knows the invariant once a field was used.
         let _ = &self.lists; // for the prover: once a field is used, the invariant is known
         self.lists.pop(key).is_none()
     }

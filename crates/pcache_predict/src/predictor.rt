@@ -14,12 +14,13 @@ use pcache_base::reason::NoCacheReason;
 use pcache_base::seed::Seed;
 use std::alloc::Global;
 
-/// Whether a marking with a custom reason is skipped, by the reason's word.
+/// Whether a mark with a custom reason is skipped, decided by the reason's text.
 pub type CustomReasonPredicate = fn(&str) -> bool;
 
-/// Foretells whether a key's response can be cached, from what came of the key before.
+/// Predicts whether a key's response can be cached, from the key's earlier responses.
 ///
-/// Keys go by their primary hashes, since a prediction is asked for before the variance is known.
+/// Keys are compared by their primary hashes, since a prediction is needed before the variance is
+/// known.
 pub trait CacheablePredictor {
     /// Whether the keys with a primary hash are predicted not to be cacheable.
     ghost uncacheable: { Self → List ℕ → Bool };
@@ -27,13 +28,13 @@ pub trait CacheablePredictor {
     /// The reason that is predicted for the keys with a primary hash.
     ghost reason: { Self → List ℕ → Option NoCacheReason };
 
-    /// What marking a primary hash as cacheable answers and leaves.
+    /// What marking a primary hash as cacheable returns, and the state after it.
     ghost unmarks: { Self → List ℕ → Bool → Self → Type 0 };
 
-    /// What marking a primary hash as not cacheable, for a reason, answers and leaves.
+    /// What marking a primary hash as not cacheable, for a reason, returns, and the state after it.
     ghost marks: { Self → List ℕ → NoCacheReason → Option Bool → Self → Type 0 };
 
-    /// Whether a marking for this reason may count.
+    /// Whether a mark with this reason may count.
     ghost may_count: { Self → NoCacheReason → Type 0 };
 
     /// Whether the key's response is predicted to be cacheable.
@@ -44,13 +45,13 @@ pub trait CacheablePredictor {
     fn predicted_uncacheable_reason(&self, key: &CacheKey) -> Option<NoCacheReason>
         ensures { result ≡ reason self.now (primary_of key.now) };
 
-    /// Takes in that the key's response was cacheable. True if that was predicted.
+    /// Records that the key's response was cacheable. Returns whether that was predicted.
     fn mark_cacheable(&mut self, key: &CacheKey) -> bool
         ensures { unmarks self.old (primary_of key.now) result self.new };
 
-    /// Takes in that the key's response was not cacheable, for this reason: None if the reason does
-    /// not count, else whether the key was predicted to be cacheable. It is refused only when memory
-    /// runs out, for a reason that may count, and then changes nothing.
+    /// Records that the key's response was not cacheable, for this reason. Returns `None` if the
+    /// reason does not count, otherwise whether the key was predicted to be cacheable. Fails only
+    /// when memory runs out, for a reason that may count, and then changes nothing.
     fn mark_uncacheable(&mut self, key: &CacheKey, why: NoCacheReason) -> Result<Option<bool>>
         ensures ok { IfOk result (λ answer. marks self.old (primary_of key.now) why answer self.new) }
         ensures err { OnErr result (self.new ≡ self.old) }
@@ -82,8 +83,9 @@ impl SkippedReasons {
 
 /// Remembers the keys that were marked last as not cacheable, in `N_SHARDS` lists.
 ///
-/// A marking for the origin's word, for a response that was too large, and for a custom reason that the
-/// predicate does not skip, is remembered; others change nothing. Looking a key up does not promote it.
+/// A mark is remembered if its reason is that the origin forbids caching or that the response was too
+/// large, or a custom one that the predicate does not skip; other marks change nothing. Looking a key
+/// up does not promote it.
 #[derive(Drop)]
 pub struct Predictor<const N_SHARDS: usize> {
     memory: MarkedKeys<N_SHARDS>,
@@ -93,8 +95,9 @@ pub struct Predictor<const N_SHARDS: usize> {
 impl<const N_SHARDS: usize> Predictor<N_SHARDS> {
     ghost use Rattle.pcache_predict.specs.Predictor.{memory_of, predicate_of};
 
-    /// Remembers no key yet, and at most `shard_capacity` in each list (0 counts as 1). The lists'
-    /// tables hash under the seed, which no answer shows. It is refused only when memory runs out.
+    /// Remembers no key yet, and later at most `shard_capacity` keys in each list (0 counts as 1).
+    /// The lists' tables hash under the seed, on which no result depends. Fails only when memory
+    /// runs out.
     pub fn new(
         alloc: Global,
         seed: Seed,
@@ -117,7 +120,7 @@ impl<const N_SHARDS: usize> Predictor<N_SHARDS> {
         })
     }
 
-    // Whether a marking with this reason is remembered.
+    // Whether a mark with this reason is remembered.
     fn remembers(&self, reason: NoCacheReason) -> bool
         ensures { (skipped : Bool) × Skips CustomReasonPredicate.post (predicate_of self.now) reason skipped
             × (result ≡ counts reason skipped) }
@@ -154,14 +157,14 @@ impl<const N_SHARDS: usize> CacheablePredictor for Predictor<N_SHARDS> {
         × (memory_of q ≡ after_unmark (memory_of p) (number_of key))
         × (predicate_of q ≡ predicate_of p) };
 
-    // A marking that does not count answers None and changes nothing.
+    // A mark that does not count returns `None` and changes nothing.
     ghost marks = { λ p key why answer q.
         (skipped : Bool) × Skips CustomReasonPredicate.post (predicate_of p) why skipped
         × (answer ≡ (if counts why skipped then Some (is_none (reason_of (memory_of p) (number_of key))) else None))
         × (memory_of q ≡ (if counts why skipped then after_mark (memory_of p) (number_of key) why else memory_of p))
         × (predicate_of q ≡ predicate_of p) };
 
-    // A reason that the predicate does not skip, if it is a custom one.
+    // The reason counts, unless it is a custom one that the predicate skips.
     ghost may_count = { λ p why. (skipped : Bool) × Skips CustomReasonPredicate.post (predicate_of p) why skipped × (counts why skipped ≡ true) };
 
     fn cacheable_prediction(&self, key: &CacheKey) -> bool {

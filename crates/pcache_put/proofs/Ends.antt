@@ -26,7 +26,7 @@ text_inside (b ∷ text) all =
 line_inside : (text : List ℕ) → All (λ b. b ≢ 0x0A) text → place_after Inside (text ++ 0x0A ∷ []) ≡ LineStart
 line_inside text all = place-append Inside text (0x0A ∷ []) ∙ ap (λ p. place_after p (0x0A ∷ [])) (text_inside text all)
 
--- a line that is not empty, from a place at the start of a line
+-- a line that is not empty, from a state at the start of a line
 full_from : (p q : Place) → ((b : ℕ) → b ≢ 0x0A → b ≢ 0x0D → next p b ≡ Inside) → next p 0x0D ≡ q → ((b : ℕ) → b ≢ 0x0A → next q b ≡ Inside) → (l : List ℕ) → IsFull l → place_after p l ≡ LineStart
 full_from p q other return behind l full = by_text full.0.0 full.0.1 full.0.2 where
   by_text : (text : List ℕ) → All (λ b. b ≢ 0x0A) text → l ≡ text ++ 0x0A ∷ [] → place_after p l ≡ LineStart
@@ -73,7 +73,7 @@ all_fresh (l ∷ ls) all =
     ap (place_after LineStart) (joined-cons l ls) ∙ place-append LineStart l (joined ls)
     ∙ ap (λ p. place_after p (joined ls)) (full_from LineStart LineReturn line_start_other refl fresh_return l (All-head IsFull l ls all)) ∙ all_fresh ls (All-tail IsFull l ls all)
 
--- the place before the last line
+-- the state before the last line
 before_last : (h : List ℕ) (w : IsWhole h) → place_after Blank (joined w.skipped ++ (w.first ++ joined w.lines)) ≡ LineStart
 before_last h w =
     place-append Blank (joined w.skipped) (w.first ++ joined w.lines) ∙ ap (λ p. place_after p (w.first ++ joined w.lines)) (all_skipped w.skipped w.empty)
@@ -255,7 +255,7 @@ whole_more l w empty h = record {
   whole = ap (λ x. l ++ x) h.whole ∙ sym (append_assoc l (joined h.skipped) (h.first ++ (joined h.lines ++ h.last))) ∙ ap (λ x. x ++ (h.first ++ (joined h.lines ++ h.last))) (sym (joined-cons l h.skipped));
 }
 
--- what each place leads to
+-- what each state leads to
 record Leads (w : List ℕ) : Type 0 where
   inside : (f : List ℕ) → IsFront f → Stops Inside w → Begun f w
   starting : Stops LineStart w → Left w

@@ -9,7 +9,7 @@ use Rattle.http_header.specs.FieldValue.{FieldValue}
 use Rattle.http_header.specs.HeaderMap.{Entries, append, append_all, value_count}
 use Rattle.pcache_put.specs.Fields.{kept_pair, append_pair, fields_after}
 
--- one item more
+-- one more item
 pub mapped_more : {X Y : Type 0} (f : X → Y) (xs : List X) (i : ℕ) (d : X) → i < length xs → map f (take (i + 1) xs) ≡ map f (take i xs) ++ f (get_or xs i d) ∷ []
 mapped_more f xs i d lt = ap (map f) (take_more xs i d lt) ∙ map-append f (take i xs) (get_or xs i d ∷ [])
 
@@ -19,7 +19,7 @@ All-map_at P f xs i d lt all =
     let within : i < length (map f xs) = omega (arith, length-map xs f) in
     subst P (get_or-map f xs i d) (All-get_or P (map f xs) i (f d) within all)
 
--- one pair more
+-- one more pair
 pub fields_more : (ps : List (List ℕ × List ℕ)) (p : List ℕ × List ℕ) → fields_after (ps ++ p ∷ []) ≡ append_pair (fields_after ps) p
 fields_more ps p = ap (append_all []) (map-append kept_pair ps (p ∷ [])) ∙ fold-append (λ (n : Entries FieldValue) (item : List ℕ × FieldValue). append n item.0 item.1) [] (map kept_pair ps) (kept_pair p ∷ [])
 

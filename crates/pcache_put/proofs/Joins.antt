@@ -8,7 +8,7 @@ use Rattle.pcache_put.specs.Places.{next, place_after, CutsAt, NeverCuts}
 use Rattle.pcache_put.specs.declared.head_end.Place.{Place}
 use Rattle.pcache_put.specs.declared.head_end.Place.TheVariants.{Blank, Inside, Ended}
 
--- the place after two pieces
+-- the state after two pieces
 pub place-append : (p : Place) (a b : List ℕ) → place_after p (a ++ b) ≡ place_after (place_after p a) b
 place-append p a b = fold-append next p a b
 
@@ -44,14 +44,14 @@ NeverCuts-append a b unended later = λ k le.
     let size = length-append a b in
     not_sooner a b (length b + 1) k unended (λ j lt. later j (omega arith)) (omega (arith, size)) (order k (length a))
 
--- it ends at one place
+-- it ends at one index
 pub CutsAt-unique : (p : Place) (a : List ℕ) (n k : ℕ) → CutsAt p a n → CutsAt p a k → n ≡ k
 CutsAt-unique p a n k h g =
     let first : ¬ (k < n) = λ lt. h.no_sooner k lt g.ended in
     let second : ¬ (n < k) = λ lt. g.no_sooner n lt h.ended in
     grind (arith, first, second)
 
--- the same, with the place kept beside the first piece
+-- the same, with the state kept beside the first piece
 pub joined_open : (p q : Place) (a b c : List ℕ) → p ≡ place_after Blank a → NeverCuts a → q ≡ place_after p b → ((k : ℕ) → k ≤ length b → place_after p (take k b) ≢ Ended) → c ≡ a ++ b → (q ≡ place_after Blank c) × NeverCuts c
 joined_open p q a b c e unended moved later whole =
     let here : q ≡ place_after Blank (a ++ b) = moved ∙ ap (λ r. place_after r b) e ∙ sym (place-append Blank a b) in
@@ -61,7 +61,7 @@ joined_open p q a b c e unended moved later whole =
 pub joined_ended : (p : Place) (a b : List ℕ) (n : ℕ) → p ≡ place_after Blank a → NeverCuts a → CutsAt p b n → CutsAt Blank (a ++ b) (length a + n)
 joined_ended p a b n e unended h = CutsAt-append a b n unended (subst (λ r. CutsAt r b n) e h)
 
--- ---- runs of bytes at which the place stays
+-- ---- runs of bytes that do not change the state
 
 not_true : (b : Bool) → (b ≡ true → ⊥) → b ≡ false
 not_true true never = absurd (never refl)

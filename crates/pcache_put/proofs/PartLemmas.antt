@@ -39,7 +39,7 @@ take_two n a b (inr gt) =
     let whole : length a + (n - length a) ≡ n = omega (arith, gt) in
     ap (λ x. x ++ take (n - length a) b) (take_all n a (omega (arith, gt))) ∙ sym (take-append-add a b (n - length a)) ∙ ap (λ k. take k (a ++ b)) whole
 
--- whether so many bytes are there, before and after
+-- whether so many bytes have come, before and after
 whole_two : (n a b : ℕ) (t : Bool) → (min (n - a) b == 0) ≡ t → (n ≤ a + b) ⊎ (a + b < n) → cond t (nat_le n a) (nat_le (n - a) b) ≡ nat_le n (a + b)
 whole_two n a b true e (inl le) =
     let z = eqb-true (min (n - a) b) 0 e in

@@ -72,7 +72,7 @@ unfinished_early bytes unended complete = unended complete.1.cut complete.1.ends
 one_head_or_body : (bytes : List ℕ) (r : Response) → IsUnfinished bytes → IsResponse bytes r → ⊥
 one_head_or_body bytes r unended h = unended h.cut h.ends
 
--- whoever took in the same bytes stands at the same place and gave the same
+-- parsers that took in the same bytes are in the same state and gave the same
 pub one_outcome : (p q : Parsed) (bytes : List ℕ) (g h : Given) → TakenIn p bytes g → TakenIn q bytes h → (p ≡ q) × (g ≡ h)
 one_outcome (AtHead a) (AtHead b) bytes g h x y = (ap (λ (k : List ℕ). AtHead k) (x.0 ∙ sym y.0), x.2 ∙ sym y.2)
 one_outcome (AtHead a) (AtBody b) bytes g h x y = absurd (one_head_or_body bytes y.0 x.1 y.1)

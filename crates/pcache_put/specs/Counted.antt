@@ -1,7 +1,7 @@
--- What is counted of a body.
+-- The count of a body's bytes, and its limit (own).
 use Rattle.std.specs.Prelude.{ℕ}
 
--- the bytes counted, and how many are allowed
+-- the number of counted bytes, and the largest allowed one
 pub record Counted : Type 0 where
   pub bytes : ℕ
   pub limit : ℕ

@@ -1,4 +1,4 @@
--- Fields as pairs of a name and a value, both as bytes.
+-- Fields as pairs of a name and a value, both as bytes (RFC 9110 section 5).
 use Rattle.std.specs.Prelude.{ℕ, ◌≤◌, List, [], map, length}
 use Rattle.http_header.specs.Token.{IsToken, lowercase}
 use Rattle.http_header.specs.FieldValue.{FieldValue, IsFieldValue, plain_value}
@@ -8,11 +8,11 @@ use Rattle.http_header.specs.HeaderMap.{Entries, append, append_all}
 abbrev pub IsPair : List ℕ × List ℕ → Type 0
 IsPair p = IsToken p.0 × IsFieldValue p.1
 
--- the name is not too long for `http_header`
+-- the name is not too long (in bytes) for `http_header`
 abbrev pub IsShort : List ℕ × List ℕ → Type 0
 IsShort p = length p.0 ≤ 65535
 
--- what is kept of a pair: the name in lower case
+-- the field that is kept of a pair: its name in lower case
 abbrev pub kept_pair : List ℕ × List ℕ → List ℕ × FieldValue
 kept_pair p = (lowercase p.0, plain_value p.1)
 

@@ -8,12 +8,12 @@ use Rattle.pcache_meta.specs.declared.header.HttpVersion.TheVariants.{Http10, Ht
 use Rattle.pcache_meta.specs.declared.header.ResponseHeader.{ResponseHeader}
 use Rattle.pcache_put.specs.Fields.{IsShort, fields_after}
 
--- the bytes, all of them, are a head of the grammar, with at most so many fields
+-- all of the bytes are a head of the grammar, with at most `room` fields
 pub record IsHead (room : ℕ) (bytes : List ℕ) (h : ResponseHead) : Type 0 where
   pub reads : ReadsResponse bytes h []
   pub few : length h.fields ≤ room
 
--- what `http` and `http_header` accept beyond the grammar's rules: a status from 100 on, names that are not too long
+-- what `http` and `http_header` require beyond the grammar's rules: a status from 100 on, names that are not too long
 pub record IsAccepted (h : ResponseHead) : Type 0 where
   pub status : IsStatusCode (status_code h)
   pub names : All IsShort (map name_and_value h.fields)
@@ -26,6 +26,6 @@ version_of minor = if minor == 0 then Http10 else Http11
 abbrev pub header_of : ResponseHead → ResponseHeader
 header_of h = record { version = version_of h.minor; status = status_code h; headers = fields_after (map name_and_value h.fields) }
 
--- the bytes, all of them, are a head, and this is kept of it
+-- all of the bytes are a head, and this is kept of it
 abbrev pub ReadsHeader : List ℕ → ResponseHeader → Type 0
 ReadsHeader bytes header = (h : ResponseHead) × IsHead 256 bytes h × IsAccepted h × (header ≡ header_of h)

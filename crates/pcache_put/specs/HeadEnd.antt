@@ -7,7 +7,7 @@ use Rattle.std.specs.List.{flat_map}
 abbrev pub IsLine : List ℕ → Type 0
 IsLine l = (text : List ℕ) × All (λ b. b ≢ 0x0A) text × (l ≡ text ++ 0x0A ∷ [])
 
--- an empty line ends by LF, or CR LF
+-- an empty line is LF, or CR LF
 abbrev pub IsEmpty : List ℕ → Type 0
 IsEmpty l = (l ≡ 0x0A ∷ []) ⊎ (l ≡ 0x0D ∷ 0x0A ∷ [])
 

@@ -1,4 +1,4 @@
--- The parts that a parser gives of a response.
+-- The parts that a parser gives of a response (own).
 use Rattle.std.specs.Prelude.{ℕ, ◌-◌, Bool, false, ◌==◌, nat_lt, if◌then◌else◌, List, [], ◌∷◌, ◌++◌, length, fold, Option, Some, None}
 use Rattle.pcache_meta.specs.declared.header.ResponseHeader.{ResponseHeader}
 use Rattle.pcache_put.specs.Response.{Response, declared_body, is_whole}
@@ -14,34 +14,34 @@ pub record Given : Type 0 where
 abbrev pub nothing : Given
 nothing = record { head = None; body = []; whole = false }
 
--- what is to be given of a response in all
+-- what is given of a response altogether
 abbrev pub given_in_all : Response → Given
 given_in_all r = record { head = Some r.head; body = declared_body r.size r.behind; whole = is_whole r.size r.behind }
 
--- a part more
+-- with one more part
 abbrev pub add : Given → ParsePart → Given
 add g (part.Head head whole) = record { head = Some head; body = g.body; whole = whole }
 add g (part.Body bytes whole) = record { head = g.head; body = g.body ++ bytes; whole = whole }
 
--- parts more, in turn
+-- with more parts, in turn
 abbrev pub add_all : Given → List ParsePart → Given
 add_all g parts = fold add g parts
 
--- what is given of bytes of a body of which so much is left: no empty part
+-- the parts for bytes of a body of which so many are missing: no part is empty
 abbrev pub body_parts : Option ℕ → List ℕ → List ParsePart
 body_parts left bytes =
     if length (declared_body left bytes) == 0 then [] else part.Body (declared_body left bytes) (is_whole left bytes) ∷ []
 
--- what is left of a body after some bytes of it
+-- how many bytes of a body are missing after some more bytes
 abbrev pub left_behind : Option ℕ → ℕ → Option ℕ
 left_behind None count = None
 left_behind (Some n) count = Some (n - count)
 
--- whether bytes of a body are missing of which so much is left
+-- whether bytes of the body are still missing
 abbrev pub is_missing : Option ℕ → Bool
 is_missing None = false
 is_missing (Some n) = nat_lt 0 n
 
--- what is given in one piece, if the head ends in it
+-- the parts that are given for one piece, if the head ends in it
 abbrev pub whole_parts : Response → List ParsePart
 whole_parts r = part.Head r.head (is_whole r.size []) ∷ body_parts r.size r.behind

@@ -1,4 +1,4 @@
--- What a response's bytes say, all of those that have come taken together (RFC 9112; the cut of the head is own).
+-- What the bytes of a response say, all that have come taken together (RFC 9112; where the head ends is own).
 use Rattle.std.specs.Prelude.{◌≡◌, ℕ, ◌<◌, ◌^◌, Bool, true, false, ◌||◌, ◌==◌, nat_le, List, length, take, drop, Option, Some, None, codes}
 use Rattle.std.specs.Option.{SomeIff}
 use Rattle.std.specs.Str.Parse.{IsNumeral, digits_value, without_leading_plus}
@@ -17,7 +17,8 @@ SpellsLength bytes size =
 abbrev pub is_bodiless : ℕ → Bool
 is_bodiless status = (status == 204) || (status == 304)
 
--- how many bytes a body has, by whether its status has none and by the first Content-Length; None: it lasts to the end
+-- how many bytes a body has, by whether its status has none and by the first Content-Length; None if it lasts to the
+-- end
 abbrev pub HasSizeBy : Bool → Option FieldValue → Option ℕ → Type 0
 HasSizeBy true field size = size ≡ Some 0
 HasSizeBy false None size = size ≡ None
@@ -40,18 +41,18 @@ pub record IsResponse (bytes : List ℕ) (r : Response) : Type 0 where
   pub size : HasSize r.head r.size
   pub behind : r.behind ≡ drop cut bytes
 
--- the head has ended, and it can't be read
+-- the head has ended, and can't be read
 pub record IsUnreadable (bytes : List ℕ) : Type 0 where
   pub cut : ℕ
   pub ends : EndsAt bytes cut
   pub no_head : (head : ResponseHeader) → ¬ (ReadsHeader (take cut bytes) head)
 
--- the body, as far as it has come; what lies after it is none of it
+-- the body, as far as it has come; bytes after its end do not belong to it
 abbrev pub declared_body : Option ℕ → List ℕ → List ℕ
 declared_body None behind = behind
 declared_body (Some n) behind = take n behind
 
--- whether the body is known to have come whole
+-- whether the whole body is known to have come
 abbrev pub is_whole : Option ℕ → List ℕ → Bool
 is_whole None behind = false
 is_whole (Some n) behind = nat_le n (length behind)

@@ -21,10 +21,10 @@ use std::alloc::Global;
 // How many fields a head may have.
 const MAX_FIELDS: usize = 256;
 
-// The longest name that `http_header` takes.
+// The longest name, in bytes, that `http_header` accepts.
 const MAX_NAME_LEN: usize = 65535;
 
-// Where the parts of the head are that the bytes are, all of them.
+// The spans of the parts of the head that all of the bytes are.
 fn parts_of(bytes: &[u8], room: &mut [HeaderSpan]) -> Result<ResponseSpans>
     ensures found { IfOk result (λ r. (h : ResponseHead) × IsHead (length room.old) bytes.now h
         × (r.code ≡ status_code h) × (r.version ≡ h.minor) × AreFieldsAt bytes.now room.new r.headers h.fields) }
@@ -38,7 +38,7 @@ fn parts_of(bytes: &[u8], room: &mut [HeaderSpan]) -> Result<ResponseSpans>
     }
 }
 
-// The name that a field of the grammar has.
+// The name of a field of the grammar.
 fn field_name(alloc: Global, name: &[u8]) -> Result<HeaderName>
     requires { IsToken name.now }
     ensures ok { IfOk result (λ n. n ≡ lowercase name.now) }
@@ -57,7 +57,7 @@ fn field_name(alloc: Global, name: &[u8]) -> Result<HeaderName>
     }
 }
 
-// Adds the field that a span covers. Its value is a part of the bytes, and no copy of them.
+// Adds the field that a span covers. Its value shares the bytes, without a copy.
 fn add_span(alloc: Global, fields: &mut HeaderMap, bytes: &Bytes, span: HeaderSpan) -> Result<()>
     requires within { IsHeaderWithin (length bytes.now) span }
     requires pair { IsPair (header_bytes bytes.now span) }
@@ -78,7 +78,7 @@ fn add_span(alloc: Global, fields: &mut HeaderMap, bytes: &Bytes, span: HeaderSp
     }
 }
 
-// A map with room for as many names as there are fields at most.
+// A map with room for as many names as there are fields.
 fn room_for(alloc: Global, fields: usize) -> Result<HeaderMap>
     requires { fields ≤ 256 }
     ensures ok { IfOk result (λ map. map ≡ []) }
@@ -119,7 +119,7 @@ fn version_of(minor: u8) -> HttpVersion
     }
 }
 
-// The head that the bytes are, all of them.
+// The head that all of the bytes are.
 pub(crate) fn read_header(alloc: Global, bytes: Vec<u8>) -> Result<ResponseHeader>
     ensures ok { IfOk result (ReadsHeader bytes.items) }
     ensures invalid { IfErr result (λ e. e ≡ InvalidHttpHeader → (header : _) → ¬ (ReadsHeader bytes.items header)) }

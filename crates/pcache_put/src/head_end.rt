@@ -1,4 +1,4 @@
-//! Where the head of a response ends, as its bytes come.
+//! Finds the end of a response's head as its bytes come.
 ghost use Rattle.std.specs.Prelude.{◌≡◌, ◌≢◌, ℕ, ◌+◌, ◌≤◌, ◌<◌, ◌++◌, [], List, length, take, drop, IfSome, IfNone, IfOk, IfErr};
 ghost use Rattle.pcache_put.specs.Places.{next, place_after, CutsAt};
 ghost use Rattle.pcache_base.specs.declared.error.ErrorType.TheVariants.{OutOfMemory};
@@ -8,18 +8,18 @@ use pcache_base::error::Result;
 use std::alloc::Global;
 use std::marker::Model;
 
-// Where in the head a byte stands.
+// The state of the search for the head's end, before the next byte.
 #[derive(Clone, Copy, Debug, PartialEq, Eq)]
 pub(crate) enum Place {
-    // Among the empty lines before it.
+    // Among the empty lines before the head.
     Blank,
     // After the CR of such a line.
     BlankReturn,
-    // In a line.
+    // Within a line.
     Inside,
     // At the start of a line after the first.
     LineStart,
-    // After a CR there.
+    // After a CR at the start of a line after the first.
     LineReturn,
     // After the empty line that ends the head.
     Ended,
@@ -38,7 +38,7 @@ fn next(place: Place, byte: u8) -> Place
     }
 }
 
-// How many of the next bytes of a line there are before it ends, which are searched at once.
+// How many of the next bytes come before the end of their line, found by one search.
 fn line_rest(bytes: &[u8]) -> usize
     ensures within { result ≤ length bytes.now }
     ensures stays { (k : ℕ) → k ≤ result → place_after Place.Inside (take k bytes.now) ≡ Place.Inside }
@@ -49,7 +49,7 @@ fn line_rest(bytes: &[u8]) -> usize
     }
 }
 
-// How many of the next bytes leave the place as it is, at the least.
+// A number of next bytes that surely leave the state as it is.
 fn passed(place: Place, bytes: &[u8]) -> usize
     ensures within { result ≤ length bytes.now }
     ensures stays { (k : ℕ) → k ≤ result → place_after place (take k bytes.now) ≡ place }
@@ -60,7 +60,8 @@ fn passed(place: Place, bytes: &[u8]) -> usize
     }
 }
 
-// How many of the next bytes still belong to the head, if it ends among them; else the place moves on.
+// How many of the next bytes still belong to the head, if it ends among them; otherwise the state
+// advances past them.
 fn cut(place: &mut Place, piece: &[u8]) -> Option<usize>
     requires { place.old ≢ Place.Ended }
     ensures found { IfSome result (λ n. CutsAt place.old piece.now n) }
@@ -82,7 +83,7 @@ fn cut(place: &mut Place, piece: &[u8]) -> Option<usize>
     None
 }
 
-// The bytes of a head that has not ended, and the place after them.
+// The bytes of a head that has not ended, and the state after them.
 #[derive(Drop)]
 pub(crate) struct HeadBytes {
     bytes: Vec<u8>,
@@ -101,12 +102,12 @@ impl Model for HeadBytes {
     ghost invariant = { λ h. (h.place ≡ place_after Blank h.bytes.items) × NeverCuts h.bytes.items };
 }
 
-// A head with one piece more.
+// A head with one more piece.
 #[derive(Drop)]
 pub(crate) enum HeadPiece {
     // It has not ended.
     Open(HeadBytes),
-    // It has ended: all its bytes, and how many of the piece's bytes are among them.
+    // It has ended: all its bytes, and how many bytes of the piece belong to it.
     Ended(Vec<u8>, usize),
 }
 

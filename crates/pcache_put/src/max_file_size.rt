@@ -23,7 +23,7 @@ impl Model for MaxFileSizeTracker {
 }
 
 impl MaxFileSizeTracker {
-    /// No byte yet, and at most `max_size` allowed.
+    /// A count of zero, with at most `max_size` bytes allowed.
     pub fn new(max_size: usize) -> MaxFileSizeTracker
         ensures { result ≡ record { bytes = 0; limit = max_size } }
     {
@@ -33,8 +33,8 @@ impl MaxFileSizeTracker {
         }
     }
 
-    /// Counts so many bytes more, up to the largest count there is, and answers whether all of them are
-    /// allowed.
+    /// Counts so many more bytes, up to the largest `usize`, and returns whether the count is at most
+    /// the limit.
     pub fn add_body_bytes(&mut self, bytes: usize) -> bool
         ensures counted { self.new ≡ record self.old { bytes = min (self.old.bytes + bytes) (2 ^ 64 - 1) } }
         ensures allowed { IsTrue result ↔ (self.new.bytes ≤ self.new.limit) }
@@ -50,7 +50,7 @@ impl MaxFileSizeTracker {
         self.max_size
     }
 
-    /// Whether the bytes counted are at most the limit.
+    /// Whether the counted bytes are at most the limit.
     pub fn allow_caching(&self) -> bool
         ensures { IsTrue result ↔ (self.now.bytes ≤ self.now.limit) }
     {

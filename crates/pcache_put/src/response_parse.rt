@@ -35,15 +35,17 @@ pub enum ParsePart {
 pub(crate) enum Progress {
     // The head has not ended.
     Head(HeadBytes),
-    // The head was given, and so many bytes of the body are left; None if it lasts to the end.
+    // The head was given, and so many bytes of the body are still missing; `None` if the body lasts
+    // to the end.
     Body(Option<usize>),
     // The response has ended.
     Finished,
-    // A call was refused for this kind.
+    // A call failed with this kind.
     Failed(ErrorType),
 }
 
-/// The length that the value of a Content-Length spells: digits, perhaps after a plus, within a `usize`.
+/// The length that the value of a Content-Length spells: digits, perhaps after a plus, whose number fits
+/// a `usize`.
 pub fn spelled_length(value: &[u8]) -> Option<usize>
     ensures { SpellsLength value.now result }
 {
@@ -53,7 +55,7 @@ pub fn spelled_length(value: &[u8]) -> Option<usize>
     text.parse().ok()
 }
 
-// How many bytes the body has; None if it lasts to the end.
+// How many bytes the body has; `None` if it lasts to the end.
 fn body_size(head: &ResponseHeader) -> Option<usize>
     ensures { HasSize head.now result }
 {
@@ -66,7 +68,8 @@ fn body_size(head: &ResponseHeader) -> Option<usize>
     }
 }
 
-// Reads a head that has ended, and gives it; answers how many bytes of the body are left.
+// Reads a head that has ended, adds it to the parts, and returns how many bytes of the body are
+// still missing.
 fn give_head(alloc: Global, bytes: Vec<u8>, parts: &mut Vec<ParsePart>) -> Result<Option<usize>>
     ensures ok { IfOk result (λ size. (head : ResponseHeader) × ReadsHeader bytes.items head × HasSize head size
         × (parts.new.items ≡ parts.old.items ++ ParsePart.Head head (is_whole size []) ∷ [])) }
@@ -79,7 +82,8 @@ fn give_head(alloc: Global, bytes: Vec<u8>, parts: &mut Vec<ParsePart>) -> Resul
     Ok(size)
 }
 
-// Gives what the bytes have of the body, and answers what is left after them.
+// Adds the body's part of the bytes to the parts, and returns how many bytes of the body are
+// missing after them.
 fn give_body(
     alloc: Global,
     left: Option<usize>,
@@ -155,14 +159,14 @@ fn take_in(
     }
 }
 
-// Whether bytes of a body are missing of which so much is left.
+// Whether bytes of the body are still missing.
 fn is_missing(left: Option<usize>) -> bool
     ensures { result ≡ is_missing left }
 {
     matches!(left, Some(count) if count > 0)
 }
 
-// Why a response may not end where the parser stands.
+// The reason why a response may not end in this state; `None` if it may.
 fn missing(progress: &Progress) -> Option<ErrorType>
     ensures complete { IfNone result ((bytes : List ℕ) (g : Given) → TakenIn (parsed_of progress.now) bytes g → IsComplete bytes) }
     ensures early { IfSome result (λ e. e ≡ IncompleteHttpBody → (bytes : List ℕ) (g : Given) → TakenIn (parsed_of progress.now) bytes g
@@ -185,8 +189,8 @@ fn missing(progress: &Progress) -> Option<ErrorType>
     }
 }
 
-/// Of two parsers that took in the same bytes, in whatever pieces, both have given the same and stand at the
-/// same place, and the head of these bytes can be read if it has ended. A law; the call does nothing.
+/// Two parsers that took in the same bytes, split in whatever way, have given the same and are in the same
+/// state, and the head of these bytes can be read if it has ended. A law; the call does nothing.
 pub fn same_however_cut()
     ensures given { (p q : Parsed) (bytes : List ℕ) (g h : Given) → TakenIn p bytes g → TakenIn q bytes h → (p ≡ q) × (g ≡ h) }
     ensures readable { (p : Parsed) (bytes : List ℕ) (g : Given) → TakenIn p bytes g → ¬ (IsUnreadable bytes) }
@@ -195,12 +199,12 @@ pub fn same_however_cut()
 /// Reads a response whose bytes come in pieces of any size.
 ///
 /// The head: empty lines before it are skipped; it ends with the first empty line after its first line
-/// (lines end by LF or CR LF), and only then it is read, as RFC 9112 has it, with at most 256 fields. The
-/// body: none for status 204 or 304; as many bytes as the first Content-Length says, if that can be
-/// read, and further ones are ignored; else all bytes to the end. Only the bytes of a head that has not
+/// (lines end with LF or CR LF), and is read only then, as RFC 9112 says, with at most 256 fields. The
+/// body: none for status 204 or 304; as many bytes as the first Content-Length says, if it can be read,
+/// and further bytes are ignored; otherwise all bytes to the end. Only the bytes of a head that has not
 /// ended are kept.
 ///
-/// A contract sees where the parser stands. After a refusal every later call is refused for the same kind.
+/// A contract sees the parser's state. After a failure every later call fails with the same kind.
 #[derive(Drop)]
 pub struct ResponseParse {
     progress: Progress,
@@ -216,7 +220,7 @@ impl Model for ResponseParse {
 }
 
 impl ResponseParse {
-    /// No byte yet.
+    /// A parser that has taken in no byte.
     pub fn new(alloc: Global) -> ResponseParse
         ensures start { TakenIn result [] nothing }
         ensures empty { result ≡ AtHead [] }
@@ -227,10 +231,10 @@ impl ResponseParse {
         }
     }
 
-    /// Takes in the next piece, and answers the parts that it brings. What the parts of all pieces make up
-    /// together is what the bytes of all pieces say together, however they were cut.
+    /// Takes in the next piece, and returns the parts that it brings. The parts of all pieces together are
+    /// what the bytes of all pieces say together, however they were split.
     ///
-    /// It is refused when memory runs out, and if a head ended that can't be read.
+    /// Fails when memory runs out, and if the head has ended and can't be read.
     pub fn inject_data(&mut self, piece: &[u8]) -> Result<Vec<ParsePart>>
         ensures joined { IfOk result (λ parts. (bytes : List ℕ) (g : Given) → TakenIn self.old bytes g
             → TakenIn self.new (bytes ++ piece.now) (add_all g parts.items)) }
@@ -239,8 +243,8 @@ impl ResponseParse {
             → IsUnreadable (bytes ++ piece.now)) }
         ensures kind { IfErr result (λ e. (e ≡ OutOfMemory) ⊎ (e ≡ InvalidHttpHeader) ⊎ (self.old ≡ HasFailed e)) }
 
-        // After the end, and after a whole body, pieces are ignored. After a refusal they are refused for the
-        // same kind.
+        // After the end, and after a whole body, pieces are ignored. After a failure each fails with the same
+        // kind.
         ensures finished { self.old ≡ AtEnd → IsOk result × (self.new ≡ AtEnd) }
         ensures whole { self.old ≡ AtBody (Some 0) → IsOk result }
         ensures failed { (kind : ErrorType) → self.old ≡ HasFailed kind → result ≡ Err kind }
@@ -260,8 +264,8 @@ impl ResponseParse {
         }
     }
 
-    /// Says that no more pieces come. It is refused if the head has not ended, or if bytes of a body
-    /// with a length are missing. It takes no memory.
+    /// Ends the response: no more pieces come. Fails if the head has not ended, or if bytes of a
+    /// body with a length are missing. Takes no memory.
     pub fn finish(&mut self) -> Result<()>
         ensures complete { OnOk result ((bytes : List ℕ) (g : Given) → TakenIn self.old bytes g → IsComplete bytes) }
         ensures early { IfErr result (λ e. e ≡ IncompleteHttpBody → (bytes : List ℕ) (g : Given) → TakenIn self.old bytes g

@@ -20,7 +20,7 @@ use Rattle.pcache_put_ctx.specs.Openings.{IsDue}
 use Rattle.pcache_put_ctx.specs.Puts.{Piece, joined, Says, counted, is_over}
 use Rattle.pcache_put_ctx.specs.State.{BodyRead, BodyTaken, Counts, Overrun, limit_of}
 use Rattle.pcache_put_ctx.specs.Steps.{part_bytes, is_done, counted_on, counted_part, IsAllowed, written, filled_wrote}
-use Rattle.pcache_put_ctx.specs.declared.brought.BodyPart.{BodyPart}
+use Rattle.pcache_put_ctx.specs.declared.reading.BodyPart.{BodyPart}
 use Rattle.pcache_put_ctx.specs.declared.brought.Brought.{Brought}
 use Rattle.pcache_put_ctx.specs.declared.report.Written.{Written}
 

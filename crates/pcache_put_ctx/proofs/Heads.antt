@@ -20,9 +20,9 @@ use Rattle.pcache_put_ctx.specs.Openings.{IsVerdict, IsBegun, HasOpened}
 use Rattle.pcache_put_ctx.specs.Puts.{Piece, joined, Says, IsJudged}
 use Rattle.pcache_put_ctx.specs.State.{HeadTaken, limit_of}
 use Rattle.pcache_put_ctx.specs.Steps.{part_bytes, is_done}
-use Rattle.pcache_put_ctx.specs.declared.brought.BodyPart.{BodyPart}
-use Rattle.pcache_put_ctx.specs.declared.intake.Opened.{Opened}
-use Rattle.pcache_put_ctx.specs.declared.intake.Opened.TheVariants as opened
+use Rattle.pcache_put_ctx.specs.declared.reading.BodyPart.{BodyPart}
+use Rattle.pcache_put_ctx.specs.declared.reading.ReadPiece.{ReadPiece}
+use Rattle.pcache_put_ctx.specs.declared.reading.ReadPiece.TheVariants as read
 
 judged_here : (says : Says) (limit : Option ℕ) (pieces : List Piece) (p : Piece) (r : Response) (header : ResponseHeader) (verdict : RespCacheable) → IsResponse (joined pieces ++ p.bytes) r → header ≡ r.head → IsVerdict says limit header p.now verdict
     → IsJudged says limit (joined (pieces ++ p ∷ [])) p.now r verdict
@@ -58,11 +58,11 @@ goes_unfinished size parser q pieces p parts goes gives none h =
     ]
 
 -- a piece in which it ends
-pub opens : {M : Type 0} (says : Says) (size : Option Counted) (parser q : Parsed) (pieces : List Piece) (p : Piece) (parts : List ParsePart) (header : ResponseHeader) (o : Opened M)
+pub opens : (says : Says) (size : Option Counted) (parser q : Parsed) (pieces : List Piece) (p : Piece) (parts : List ParsePart) (header : ResponseHeader) (o : ReadPiece)
     → ((bytes : List ℕ) (g : Given) → TakenIn parser bytes g → TakenIn q (bytes ++ p.bytes) (add_all g parts))
     → GivesParts parser p.bytes parts → (brought parts).head ≡ Some header → IsBegun (IsVerdict says (limit_of size) header p.now) (brought parts).body o
     → HeadTaken size parser pieces → HasOpened says size q (pieces ++ p ∷ []) o
-opens {M} says size parser q pieces p parts header o goes gives some begun h =
+opens says size parser q pieces p parts header o goes gives some begun h =
     let here = taken_there parser q (joined pieces) p.bytes parts h.stands h.unfinished goes in
     let by : GivesParts (AtHead (joined pieces)) p.bytes parts = subst (λ (x : Parsed). GivesParts x p.bytes parts) h.stands gives in
     elim by [
@@ -70,7 +70,7 @@ opens {M} says size parser q pieces p parts header o goes gives some begun h =
       | inr u ↦ with-head u.0 u.1 u.2 here o begun
     ]
   where
-    with-head : (r : Response) → IsResponse (joined pieces ++ p.bytes) r → parts ≡ whole_parts r → TakenIn q (joined pieces ++ p.bytes) (add_all nothing parts) → (o : Opened M) → IsBegun (IsVerdict says (limit_of size) header p.now) (brought parts).body o → HasOpened says size q (pieces ++ p ∷ []) o
+    with-head : (r : Response) → IsResponse (joined pieces ++ p.bytes) r → parts ≡ whole_parts r → TakenIn q (joined pieces ++ p.bytes) (add_all nothing parts) → (o : ReadPiece) → IsBegun (IsVerdict says (limit_of size) header p.now) (brought parts).body o → HasOpened says size q (pieces ++ p ∷ []) o
     with-head r is whole here o begun =
         let bytes = declared_body r.size r.behind in
         let last = is_whole r.size r.behind in
@@ -82,16 +82,19 @@ opens {M} says size parser q pieces p parts header o goes gives some begun h =
         (ap (λ (x : List ParsePart). part_bytes (brought x).body) whole ∙ bytes_by (Some r.head) bytes last (length bytes == 0) refl)
         (last_done (brought parts).body last (is_done q) (subst (λ (x : List ParsePart). IfSome (brought x).body (λ (b : BodyPart). b.is_last ≡ last)) (sym whole) (last_by (Some r.head) bytes last (length bytes == 0))) (sym (done_whole r.size r.behind) ∙ ap is_done (sym stands)))
       where
-        by : (o : Opened M) → IsBegun (IsVerdict says (limit_of size) header p.now) (brought parts).body o → (r : Response) → (is : IsResponse (joined pieces ++ p.bytes) r) → header ≡ r.head → q ≡ AtBody (left_behind r.size (length r.behind))
+        by : (o : ReadPiece) → IsBegun (IsVerdict says (limit_of size) header p.now) (brought parts).body o → (r : Response) → (is : IsResponse (joined pieces ++ p.bytes) r) → header ≡ r.head → q ≡ AtBody (left_behind r.size (length r.behind))
             → part_bytes (brought parts).body ≡ declared_body r.size r.behind → IfSome (brought parts).body (λ (b : BodyPart). b.is_last ≡ is_done q) → HasOpened says size q (pieces ++ p ∷ []) o
-        by opened.Unfinished begun r is same stands written last = absurd begun
-        by (opened.Declined reason) begun r is same stands written last = record {
+        by read.Unfinished begun r is same stands written last = absurd begun
+        by (read.Brings part) begun r is same stands written last = absurd begun
+        by (read.Refused e) begun r is same stands written last = absurd begun
+        by read.Ignored begun r is same stands written last = absurd begun
+        by (read.Declined reason) begun r is same stands written last = record {
           r = r;
           now = p.now;
           moment = ends_here pieces p is.cut h.unfinished is.ends;
           judged = judged_here says (limit_of size) pieces p r header (Uncacheable reason) is same begun;
         }
-        by (opened.Begun f meta body) begun r is same stands written last = (
+        by (read.Begins meta body) begun r is same stands written last = (
           (
             record {
               r = r;
@@ -106,11 +109,11 @@ opens {M} says size parser q pieces p parts header o goes gives some begun h =
           h.counts,
         )
 
--- the same of what is answered
-pub opens_if : {M : Type 0} (says : Says) (size : Option Counted) (parser q : Parsed) (p : Piece) (parts : List ParsePart) (header : ResponseHeader) (result : Result (Opened M) ErrorType)
+-- the same for the result of the call
+pub opens_if : (says : Says) (size : Option Counted) (parser q : Parsed) (p : Piece) (parts : List ParsePart) (header : ResponseHeader) (result : Result ReadPiece ErrorType)
     → ((bytes : List ℕ) (g : Given) → TakenIn parser bytes g → TakenIn q (bytes ++ p.bytes) (add_all g parts))
     → GivesParts parser p.bytes parts → (brought parts).head ≡ Some header → IfOk result (IsBegun (IsVerdict says (limit_of size) header p.now) (brought parts).body)
-    → IfOk result (λ (o : Opened M). (pieces : List Piece) → HeadTaken size parser pieces → HasOpened says size q (pieces ++ p ∷ []) o)
+    → IfOk result (λ (o : ReadPiece). (pieces : List Piece) → HeadTaken size parser pieces → HasOpened says size q (pieces ++ p ∷ []) o)
 opens_if says size parser q p parts header (Ok o) goes gives some begun = λ pieces h. opens says size parser q pieces p parts header o goes gives some begun h
 opens_if says size parser q p parts header (Err e) goes gives some begun = tt
 

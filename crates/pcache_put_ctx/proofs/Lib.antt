@@ -1,5 +1,6 @@
 pub mod Bodies
 pub mod Declared
+pub mod Halves
 pub mod Heads
 pub mod NoBody
 pub mod OneAnswer

@@ -1,5 +1,5 @@
--- A put whose body's admission was refused leaves no body under its key.
-use Rattle.std.proofs.Common.{◌≡◌, ◌⊎◌, ℕ, Bool, true, false, Option, None, Some, refl, sym, subst, ◌∙◌, inl, inr}
+-- A put whose body's admission failed leaves no body under its key.
+use Rattle.std.proofs.Common.{◌≡◌, ℕ, true, Some, inl, inr}
 use Rattle.pcache_base.specs.Key.{Key}
 use Rattle.pcache_base.specs.declared.error.ErrorType.{ErrorType}
 use Rattle.pcache_evict.specs.Tracked.{Tracked, Limits}
@@ -10,7 +10,7 @@ use Rattle.pcache_request.specs.declared.cache.finish.WriteEnd.TheVariants as wr
 use Rattle.pcache_store.specs.Store.{Store, Guarantees}
 use Rattle.pcache_store.specs.declared.storage.MissFinishType.{MissFinishType}
 use Rattle.pcache_put_ctx.specs.State.{Stage, InHead, InBody, HasDeclined, IsOver, write_in}
-use Rattle.pcache_put_ctx.specs.Steps.{EndsPut, EndsEarly, IfWithdrawn}
+use Rattle.pcache_put_ctx.specs.Steps.{EndsPut, IfWithdrawn}
 use Rattle.pcache_put_ctx.specs.declared.report.PutEnd.{PutEnd}
 use Rattle.pcache_put_ctx.specs.declared.report.PutEnd.TheVariants as end
 

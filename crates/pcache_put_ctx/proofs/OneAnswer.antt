@@ -1,4 +1,4 @@
--- What is said by default of a head at a moment is one answer.
+-- The default policy decides one way on a head at a moment.
 use Rattle.std.proofs.Common.{◌≡◌, ℕ, Bool, true, false, Option, None, Some, refl, sym, ap, subst, ◌∙◌}
 use Rattle.std.specs.Prelude.{◌||◌, bytes_eq, codes, is_some, option_and_then, if◌then◌else◌}
 use Rattle.std.specs.Bool.{MatchBool}

@@ -25,7 +25,7 @@ use Rattle.pcache_put_ctx.specs.Puts.{Piece, joined, Says, counted, is_over, Out
 use Rattle.pcache_put_ctx.specs.State.{Stage, InHead, HasDeclined, IsOver, Filled, BodyRead, BodyTaken, Declined, Overrun, Counts, IsWhyOver, TakenBy, limit_of}
 use Rattle.pcache_put_ctx.specs.Steps.{IsRefusal, StoresFilled}
 
--- ---- a piece more
+-- ---- one more piece
 
 declined_more : (says : Says) (limit : Option ℕ) (reason : NoCacheReason) (pieces : List Piece) (p : Piece) → Declined says limit reason pieces → Declined says limit reason (pieces ++ p ∷ [])
 declined_more says limit reason pieces p h = record {
@@ -66,7 +66,7 @@ why_more says limit WriteRemoved pieces p h = tt
 why_more says limit NumbersExhausted pieces p h = tt
 why_more says limit Io pieces p h = tt
 
--- once nothing is stored, and once a call was refused
+-- once nothing is stored, and once a call failed
 pub taken_declined : (says : Says) (size : Option Counted) (parser : Parsed) (stage now : Stage) (reason : NoCacheReason) (pieces : List Piece) (p : Piece) (f : Option Filled) → stage ≡ HasDeclined reason → now ≡ HasDeclined reason → TakenBy says size parser stage pieces f → TakenBy says size parser now (pieces ++ p ∷ []) f
 taken_declined says size parser stage now reason pieces p f is at h =
     let taken = subst (λ (x : Stage). TakenBy says size parser x pieces f) is h in

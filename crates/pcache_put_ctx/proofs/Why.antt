@@ -1,4 +1,4 @@
--- Why a put is refused.
+-- Why a put fails.
 use Rattle.std.proofs.Common.{◌≡◌, ℕ, ◌⊎◌, inl, inr, true, false, cond, Option, Some, List, refl, ap, sym, subst, ◌∙◌, arith}
 use Rattle.std.proofs.lemmas.Bool.Decides.{nat_tests}
 use Rattle.std.specs.Cmp.{nat_cmp_total}
@@ -15,7 +15,7 @@ use Rattle.pcache_put_ctx.specs.declared.report.PieceEnd.{PieceEnd}
 use Rattle.pcache_put_ctx.specs.declared.report.PieceEnd.TheVariants as piece
 use Rattle.pcache_store.specs.Store.{Store, Written, begun, is_told, new_write}
 
--- bytes of a write were refused
+-- adding bytes to a write failed
 pub why_filling : (says : Says) (limit : Option ℕ) (s : Store) (w : ℕ) (e : ErrorType) (pieces : List Piece) → MayRefuseFill s w e → (e ≡ ResponseTooLarge → Overrun says limit pieces) → IsWhyOver says limit e pieces
 why_filling says limit s w OutOfMemory pieces may over = tt
 why_filling says limit s w ResponseTooLarge pieces may over = over refl
@@ -26,13 +26,13 @@ why_filling says limit s w WriteRemoved pieces may over = absurd may
 why_filling says limit s w NumbersExhausted pieces may over = absurd may
 why_filling says limit s w Io pieces may over = absurd may
 
--- a piece of a body was refused
+-- a piece of a body failed
 pub why_body : (says : Says) (limit : Option ℕ) (parser : Parsed) (left : Option ℕ) (e : ErrorType) (pieces : List Piece) → (e ≡ InvalidHttpHeader) ⊎ (e ≡ OutOfMemory) ⊎ (parser ≡ HasFailed e) → ¬ (e ≡ InvalidHttpHeader) → parser ≡ AtBody left → IsWhyOver says limit e pieces
 why_body says limit parser left e pieces (inl is) never at = absurd (never is)
 why_body says limit parser left e pieces (inr (inl is)) never at = subst (λ (x : ErrorType). IsWhyOver says limit x pieces) (sym is) tt
 why_body says limit parser left e pieces (inr (inr is)) never at = absurd (cc (is, at))
 
--- what holds of every kind holds of that of a refusal
+-- what holds of every kind holds of that of an error
 pub refused_as : {M : Type 0} (end : PieceEnd M) (P Q : ErrorType → Type 0) → IfRefused end P → ((e : ErrorType) → P e → Q e) → IfRefused end Q
 refused_as piece.GoesOn P Q h f = tt
 refused_as (piece.NotCached reason) P Q h f = tt
@@ -41,7 +41,7 @@ refused_as (piece.Refused e w) P Q h f = f e h
 same_key : (n : ℕ) → eq_by_cmp nat_cmp n n ≡ true
 same_key n = grind (arith, nat_tests)
 
--- bytes of a write that just began were refused
+-- adding bytes to a write that just began failed
 told_new : (m : FinMap nat_cmp Written) (n : ℕ) (w : Written) → is_told (get (insert m n w) n) ≡ w.told
 told_new m n w = ap is_told (get-insert nat_cmp_total m n w n ∙ ap (λ b. cond b (Some w) (get m n)) (same_key n))
 

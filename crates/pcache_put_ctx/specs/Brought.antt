@@ -7,7 +7,7 @@ use Rattle.pcache_put_ctx.specs.declared.brought.Brought.{Brought}
 abbrev pub nothing_brought : Brought
 nothing_brought = record { head = None; body = None }
 
--- a part more: of two heads or two parts of the body the last counts, but a piece brings one of each at most
+-- one more part: of two heads or two parts of the body the last counts, but a piece brings at most one of each
 abbrev pub with_part : Brought → ParsePart → Brought
 with_part b (part.Head head whole) = record { head = Some head; body = b.body }
 with_part b (part.Body bytes whole) = record { head = b.head; body = Some (record { bytes = bytes; is_last = whole }) }

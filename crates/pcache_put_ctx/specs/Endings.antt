@@ -1,11 +1,11 @@
--- Where a put stands at its end, as the code keeps it.
+-- The stage of a put at its end, as the code keeps it (own).
 use Rattle.pcache_base.specs.declared.error.ErrorType.TheVariants.{InternalError}
 use Rattle.pcache_put_ctx.specs.declared.report.PutEnd.{PutEnd}
 use Rattle.pcache_put_ctx.specs.declared.report.PutEnd.TheVariants as end
 use Rattle.pcache_put_ctx.specs.declared.stage.Stage.{Stage}
 use Rattle.pcache_put_ctx.specs.declared.stage.Stage.TheVariants as stage
 
--- whoever goes on after a body was stored is mistaken
+-- after a body was stored, another call is a mistake of the caller
 abbrev pub stage_left : {M : Type 0} → PutEnd → Stage M
 stage_left (end.NotCached reason) = stage.Declined reason
 stage_left (end.Stored f) = stage.Over InternalError

@@ -3,6 +3,7 @@ pub mod Endings
 pub mod Openings
 pub mod Policies
 pub mod Puts
+pub mod Readings
 pub mod Stages
 pub mod State
 pub mod Steps

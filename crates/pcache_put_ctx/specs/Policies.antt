@@ -21,11 +21,11 @@ SaysByDefault windows lifetimes header now answer =
     (cc : Option CacheControl) × ReadsField header.headers (codes "cache-control") cc × ReadsOneMap header.headers (codes "cache-control") cc
     × IsOutcome now cc windows header false (lifetimes (asked_status header.status)) answer
 
--- one answer to a head at a moment
+-- the policy decides only one way on a head at a moment
 abbrev pub HasOneAnswer : (ResponseHeader → ℕ → RespCacheable → Type 0) → Type 0
 HasOneAnswer says = (header : ResponseHeader) (now : ℕ) (a b : RespCacheable) → says header now a → says header now b → a ≡ b
 
--- one default lifetime of a status
+-- each status has at most one default lifetime
 abbrev pub HaveOneLifetime : (ℕ → Option Duration → Type 0) → Type 0
 HaveOneLifetime lifetimes = (status : ℕ) (a b : Option Duration) → lifetimes status a → lifetimes status b → option_map as_nanos a ≡ option_map as_nanos b
 
@@ -44,8 +44,8 @@ is_above None length = false
 is_above (Some limit) None = false
 is_above (Some limit) (Some length) = nat_lt limit length
 
--- what becomes of a response of which the policy says so: one whose meta declares a longer body than is allowed is not
--- stored, whatever its status
+-- the verdict on a response on which the policy decides so: one whose meta declares a longer body than is allowed is
+-- not stored, whatever its status
 abbrev pub Judges : Option ℕ → RespCacheable → RespCacheable → Type 0
 Judges limit (Uncacheable reason) verdict = verdict ≡ Uncacheable reason
 Judges limit (Cacheable meta) verdict =

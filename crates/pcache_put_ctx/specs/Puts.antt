@@ -1,5 +1,5 @@
--- What comes of a put: a response that is pushed in, in pieces (own). It goes by the bytes of all pieces together, by the
--- moment of the piece that ends the head, and by the limit on the body.
+-- The outcome of a put, which is a response that is pushed in, in pieces (own). It depends on the bytes of all pieces
+-- together, on the moment of the piece that ends the head, and on the limit on the body.
 use Rattle.std.specs.Prelude.{◌≡◌, ℕ, ◌-◌, ◌^◌, ◌⊎◌, Bool, false, nat_lt, if◌then◌else◌, List, [], ◌∷◌, ◌++◌, length, min, Option, Some, None}
 use Rattle.pcache_base.specs.declared.error.ErrorType.{ErrorType}
 use Rattle.pcache_base.specs.declared.error.ErrorType.TheVariants.{InvalidHttpHeader, ResponseTooLarge, IncompleteHttpBody}
@@ -33,7 +33,7 @@ pub record HeadEndsAt (pieces : List Piece) (now : ℕ) : Type 0 where
   pub ends : EndsAt (joined before ++ piece.bytes) cut
   pub moment : now ≡ piece.now
 
--- what a policy may answer of a head at a moment
+-- what a policy may decide on a head at a moment
 abbrev pub Says : Type 1
 Says = ResponseHeader → ℕ → RespCacheable → Type 0
 
@@ -44,7 +44,7 @@ pub record IsJudged (says : Says) (limit : Option ℕ) (bytes : List ℕ) (now :
   pub said : says r.head now answer
   pub judged : Judges limit answer verdict
 
--- how many bytes are counted of a body: their number, up to the largest of 64 bits
+-- how many bytes of a body are counted: their number, up to the largest number of 64 bits
 abbrev pub counted : List ℕ → ℕ
 counted body = min (length body) (2 ^ 64 - 1)
 
@@ -53,13 +53,13 @@ abbrev pub is_over : Option ℕ → List ℕ → Bool
 is_over None body = false
 is_over (Some limit) body = nat_lt limit (counted body)
 
--- what comes of a put: a body that is stored with its meta, nothing for a reason, or a refusal
+-- the outcome of a put: a body is stored with its meta, nothing is stored for a reason, or the put fails
 pub data Outcome : Type 0 where
   Stores : (meta : Meta) (body : List ℕ) → Outcome
   Declines : (reason : NoCacheReason) → Outcome
   Refuses : (kind : ErrorType) → Outcome
 
--- what comes of a put by the verdict on its response, the size of the body, and the bytes after the head
+-- the outcome of a put, by the verdict on its response, the size of the body, and the bytes after the head
 abbrev pub outcome : Option ℕ → RespCacheable → Option ℕ → List ℕ → Outcome
 outcome limit (Uncacheable reason) size behind = Declines reason
 outcome limit (Cacheable meta) size behind =
@@ -67,14 +67,14 @@ outcome limit (Cacheable meta) size behind =
     else if may_end size behind then Stores meta (declared_body size behind)
     else Refuses IncompleteHttpBody
 
--- what comes of a put of these bytes, whose head ended at this moment: a head that never ends, one that can't be read, or
--- a response on which there is a verdict
+-- the outcome of a put of these bytes, whose head ended at this moment: of a head that never ends, of one that can't be
+-- read, or of a response with a verdict
 pub data ComesTo (says : Says) (limit : Option ℕ) (bytes : List ℕ) (now : ℕ) (o : Outcome) : Type 0 where
   NoHead : IsUnfinished bytes → o ≡ Refuses IncompleteHttpBody → ComesTo says limit bytes now o
   BadHead : IsUnreadable bytes → o ≡ Refuses InvalidHttpHeader → ComesTo says limit bytes now o
   WithHead : (r : Response) (verdict : RespCacheable) → IsJudged says limit bytes now r verdict → o ≡ outcome limit verdict r.size r.behind → ComesTo says limit bytes now o
 
--- what comes of a put of these pieces: its moment is that of the piece that ends the head, if that can be read
+-- the outcome of a put of these pieces: its moment is that of the piece that ends the head, if the head can be read
 pub record IsResult (says : Says) (limit : Option ℕ) (pieces : List Piece) (o : Outcome) : Type 0 where
   pub now : ℕ
   pub moment : HeadEndsAt pieces now ⊎ ((r : Response) → ¬ (IsResponse (joined pieces) r))

@@ -1,4 +1,4 @@
--- Where a put stands, and what it has taken in (own).
+-- The stage of a put, and what it has taken in (own).
 use Rattle.std.specs.Prelude.{◌≡◌, ℕ, true, false, Option, Some, None, List, [], length, option_map}
 use Rattle.pcache_base.specs.Key.{Key}
 use Rattle.pcache_base.specs.declared.error.ErrorType.{ErrorType}
@@ -13,8 +13,8 @@ use Rattle.pcache_put.specs.Response.{Response, IsUnreadable, declared_body}
 use Rattle.pcache_put.specs.Counted.{Counted}
 use Rattle.pcache_put_ctx.specs.Puts.{Piece, joined, HeadEndsAt, Says, IsJudged, counted, is_over}
 
--- the head has not ended; a write is in flight, of this number, which fills an entry, and the response is fresh until a
--- moment; nothing is stored; or every call is refused
+-- the stages: the head has not ended; the write with this number is in flight, which fills an entry, and the response
+-- is fresh until a moment; nothing is stored; or every call fails
 pub data Stage : Type 0 where
   InHead : Stage
   InBody : (write : ℕ) (entry : Option ℕ) (fresh_until : ℕ) → Stage
@@ -25,7 +25,7 @@ pub data Stage : Type 0 where
 pub record Put (C : Type 0) : Type 0 where
   pub policy : C
   pub key : Key
-  -- the bytes of the body that were counted, if their number is limited
+  -- the count of the body's bytes, if their number is limited
   pub size : Option Counted
   pub parser : Parsed
   pub stage : Stage
@@ -47,12 +47,12 @@ entry_in (IsOver kind) = None
 abbrev pub limit_of : Option Counted → Option ℕ
 limit_of size = option_map (λ (c : Counted). c.limit) size
 
--- so much of a body was counted, and it is allowed
+-- this part of a body was counted, and it is within the limit
 abbrev pub Counts : Option Counted → List ℕ → Type 0
 Counts None body = Unit {0}
 Counts (Some c) body = (c.bytes ≡ counted body) × (is_over (Some c.limit) body ≡ false)
 
--- what a write was given: its meta, and so much of the body
+-- what a write was given: its meta, and a part of the body
 pub record Filled : Type 0 where
   pub meta : Meta
   pub body : List ℕ
@@ -63,7 +63,7 @@ pub record HeadTaken (size : Option Counted) (parser : Parsed) (pieces : List Pi
   pub stands : parser ≡ AtHead (joined pieces)
   pub counts : Counts size []
 
--- the head was read, and the response is to be stored with this meta; so much of its body has come
+-- the head was read, and the response is to be stored with this meta; and this part of its body has come
 pub record BodyRead (says : Says) (limit : Option ℕ) (parser : Parsed) (meta : Meta) (pieces : List Piece) (body : List ℕ) : Type 0 where
   pub r : Response
   pub now : ℕ
@@ -72,7 +72,7 @@ pub record BodyRead (says : Says) (limit : Option ℕ) (parser : Parsed) (meta :
   pub stands : parser ≡ AtBody (left_behind r.size (length r.behind))
   pub came : body ≡ declared_body r.size r.behind
 
--- and all of it was written
+-- the same, and all of that part was written
 abbrev pub BodyTaken : Says → Option Counted → Parsed → ℕ → List Piece → Option Filled → Type 0
 BodyTaken says size parser fresh_until pieces None = ⊥
 BodyTaken says size parser fresh_until pieces (Some f) =
@@ -94,7 +94,7 @@ pub record Overrun (says : Says) (limit : Option ℕ) (pieces : List Piece) : Ty
   pub judged : IsJudged says limit (joined pieces) now r (Cacheable meta)
   pub over : is_over limit (declared_body r.size r.behind) ≡ true
 
--- why every call is refused: the bytes say so, or some call was refused for another reason
+-- why every call fails: the bytes say so, or a call failed for another reason
 abbrev pub IsWhyOver : Says → Option ℕ → ErrorType → List Piece → Type 0
 IsWhyOver says limit error.InvalidHttpHeader pieces = IsUnreadable (joined pieces)
 IsWhyOver says limit error.ResponseTooLarge pieces = Overrun says limit pieces
@@ -107,6 +107,6 @@ TakenBy says size parser (InBody w id fresh_until) pieces f = BodyTaken says siz
 TakenBy says size parser (HasDeclined reason) pieces f = Declined says (limit_of size) reason pieces × (f ≡ None)
 TakenBy says size parser (IsOver kind) pieces f = IsWhyOver says (limit_of size) kind pieces
 
--- the put has taken in these pieces, in turn, and its write was given this; `says` is what its policy answers
+-- the put has taken in these pieces, in turn, and its write was given this; `says` is what its policy decides
 abbrev pub HasTaken : {C : Type 0} → Says → Put C → List Piece → Option Filled → Type 0
 HasTaken says p pieces f = TakenBy says p.size p.parser p.stage pieces f

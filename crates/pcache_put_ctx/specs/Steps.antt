@@ -19,7 +19,7 @@ use Rattle.pcache_store.specs.Store.{Store, Guarantees, begun, wrote, dropped, i
 use Rattle.pcache_store.specs.declared.storage.MissFinishType.{MissFinishType}
 use Rattle.pcache_put_ctx.specs.Puts.{Piece, Says, Outcome, Stores, Declines, Refuses}
 use Rattle.pcache_put_ctx.specs.State.{Stage, InHead, InBody, HasDeclined, IsOver, Put, Filled, HasTaken, write_in, limit_of}
-use Rattle.pcache_put_ctx.specs.declared.brought.BodyPart.{BodyPart}
+use Rattle.pcache_put_ctx.specs.declared.reading.BodyPart.{BodyPart}
 use Rattle.pcache_put_ctx.specs.declared.report.Written.{Written}
 use Rattle.pcache_put_ctx.specs.declared.report.PieceEnd.{PieceEnd}
 use Rattle.pcache_put_ctx.specs.declared.report.PieceEnd.TheVariants as piece
@@ -30,12 +30,12 @@ use Rattle.pcache_put_ctx.specs.declared.report.PutOutcome.TheVariants as answer
 
 -- ---- counting
 
--- so many bytes more
+-- so many more bytes
 abbrev pub counted_on : Option Counted → ℕ → Option Counted
 counted_on None n = None
 counted_on (Some c) n = Some (record c { bytes = min (c.bytes + n) (2 ^ 64 - 1) })
 
--- what was counted is within the limit
+-- the counted bytes are within the limit
 abbrev pub IsAllowed : Option Counted → Type 0
 IsAllowed None = Unit {0}
 IsAllowed (Some c) = c.bytes ≤ c.limit
@@ -45,28 +45,29 @@ abbrev pub part_bytes : Option BodyPart → List ℕ
 part_bytes None = []
 part_bytes (Some b) = b.bytes
 
+-- the same by the bytes of a part, if there is one
 abbrev pub counted_part : Option Counted → Option BodyPart → Option Counted
 counted_part size None = size
 counted_part size (Some b) = counted_on size (length b.bytes)
 
 -- ---- a piece
 
--- what a part is once it was written
+-- a part, after it was written
 abbrev pub written : BodyPart → Written
 written b = record { bytes = b.bytes; eof = b.is_last }
 
--- the store once a write of a key began, if one did
+-- the store after a write of a key began, if one did
 abbrev pub store_begun : ℕ → Option Meta → Store → Store
 store_begun k None s = s
 store_begun k (Some m) s = begun s k m
 
--- the store once bytes came for the write, if any did
+-- the store after bytes were added to the write, if any were
 abbrev pub store_wrote : Option ℕ → Option Written → Store → Store
 store_wrote None b s = s
 store_wrote (Some w) None s = s
 store_wrote (Some w) (Some b) s = wrote s w b.bytes b.eof
 
--- where the put stands once a write began, if one did: of the next number, for the next entry
+-- the stage after a write began, if one did: with the next number, for the next entry
 abbrev pub stage_begun : Stage → Option Meta → ℕ → Option ℕ → Stage
 stage_begun stage None next entry = stage
 stage_begun stage (Some m) next entry = InBody next entry m.fresh_until
@@ -75,14 +76,14 @@ stage_begun stage (Some m) next entry = InBody next entry m.fresh_until
 abbrev pub store_after : Key → Stage → Option Meta → Option Written → Option ℕ → Store → Store
 store_after k stage began b entry s = store_wrote (write_in (stage_begun stage began s.next entry)) b (store_begun (slot k) began s)
 
--- the put stands as a piece ended: it goes on if it stood, or with the write that began; nothing is stored, and there
--- was no write; or every call is refused, and the write is handed out
+-- the stage after a piece: unchanged, or with the write that began; nothing is stored, and there was no write; or
+-- every call fails, and the write is returned
 abbrev pub EndsPiece : {M : Type 0} → (M → ℕ) → PieceEnd M → Stage → Stage → Type 0
 EndsPiece write piece.GoesOn stage now = now ≡ stage
 EndsPiece write (piece.NotCached reason) stage now = (now ≡ HasDeclined reason) × (write_in stage ≡ None)
 EndsPiece write (piece.Refused e w) stage now = (now ≡ IsOver e) × (option_map write w ≡ write_in stage)
 
--- a piece that comes once nothing is stored, or once a call was refused, is answered that again
+-- a call after nothing is stored, or after a failure, returns the same again
 abbrev pub AnswersAgain : {M : Type 0} → Stage → PieceEnd M → Type 0
 AnswersAgain InHead end = Unit {0}
 AnswersAgain (InBody w id fresh_until) end = Unit {0}
@@ -115,28 +116,28 @@ is_done (AtBody (Some n)) = n == 0
 is_done AtEnd = false
 is_done (HasFailed e) = false
 
--- what holds of the kind of a refusal, if there was one
+-- P holds of the kind of the error, if there was one
 abbrev pub IfRefused : {M : Type 0} → PieceEnd M → (ErrorType → Type 0) → Type 0
 IfRefused piece.GoesOn P = Unit {0}
 IfRefused (piece.NotCached reason) P = Unit {0}
 IfRefused (piece.Refused e w) P = P e
 
--- the body that is written is whole: what comes then is no part of it
+-- the body that is written is whole: later bytes do not belong to it
 abbrev pub HasWholeBody : Stage → Parsed → Type 0
 HasWholeBody InHead parser = ⊥
 HasWholeBody (InBody w id fresh_until) parser = is_done parser ≡ true
 HasWholeBody (HasDeclined reason) parser = ⊥
 HasWholeBody (IsOver kind) parser = ⊥
 
--- why bytes of a write may be refused
+-- why adding bytes to a write may fail
 abbrev pub MayRefuseFill : Store → ℕ → ErrorType → Type 0
 MayRefuseFill s w OutOfMemory = Unit {0}
 MayRefuseFill s w ResponseTooLarge = Unit {0}
 MayRefuseFill s w InternalError = is_told (get s.writes w) ≡ true
 MayRefuseFill s w _ = ⊥
 
--- why a piece may be refused: a lack of memory; a head that can't be read; a body that is too long; all numbers of
--- writes used; a write that was told its end, in a storage that is not the put's own; or as every call is
+-- why a piece may fail: memory ran out; the head can't be read; the body is too long; all numbers of writes are used;
+-- the end of the write was announced, in a storage that is not the put's own; or every call fails
 abbrev pub MayRefusePiece : Stage → Store → ErrorType → Type 0
 MayRefusePiece (IsOver kind) s e = e ≡ kind
 MayRefusePiece (HasDeclined reason) s e = ⊥
@@ -156,8 +157,8 @@ pub record Done : Type 0 where
   pub began : Option Meta
   pub wrote : Option Written
 
--- a piece was taken in: policy, key and limit stay, and the put has taken in that much more; the end is said of the bytes
--- that complete a body, and of no others
+-- a piece was taken in: policy, key and limit are unchanged, and the put has taken in one more piece; the end is
+-- announced for the bytes that complete a body, and for no others
 pub record TakesPiece {C : Type 0} (says : Says) (old new : Put C) (p : Piece) (d : Done) : Type 0 where
   pub policy : new.policy ≡ old.policy
   pub key : new.key ≡ old.key
@@ -172,20 +173,20 @@ GoesOn (InBody w id fresh_until) = Unit {0}
 GoesOn (HasDeclined reason) = ⊥
 GoesOn (IsOver kind) = ⊥
 
--- where the put stands as it answered: it goes on, nothing is stored, or every call is refused
+-- the stage after the call returned this: the put goes on, nothing is stored, or every call fails
 abbrev pub StandsAnswered : Result (Option NoCacheReason) ErrorType → Stage → Type 0
 StandsAnswered (Ok None) stage = GoesOn stage
 StandsAnswered (Ok (Some reason)) stage = stage ≡ HasDeclined reason
 StandsAnswered (Err e) stage = stage ≡ IsOver e
 
--- a piece that comes once nothing is stored, or once a call was refused, is answered that again
+-- a call after nothing is stored, or after a failure, returns the same again
 abbrev pub RepeatsAnswer : Stage → Result (Option NoCacheReason) ErrorType → Type 0
 RepeatsAnswer InHead answered = Unit {0}
 RepeatsAnswer (InBody w id fresh_until) answered = Unit {0}
 RepeatsAnswer (HasDeclined reason) answered = answered ≡ Ok (Some reason)
 RepeatsAnswer (IsOver kind) answered = answered ≡ Err kind
 
--- the store once the write was dropped, if the piece was refused
+-- the store after the write was dropped, if the piece failed
 abbrev pub store_left : Result (Option NoCacheReason) ErrorType → Stage → Store → Store
 store_left (Ok answered) stage s = s
 store_left (Err e) stage s = dropped_by (write_in stage) s
@@ -208,8 +209,8 @@ IsStill s s' m m' = (s' ≡ s) × (m' ≡ m)
 abbrev pub EndsEarly : Parsed → ℕ → PutEnd → Store → Store → Entries → Entries → Type 0
 EndsEarly parser w how s s' m m' = (e : ErrorType) × ((e ≡ IncompleteHttpBody) ⊎ (parser ≡ HasFailed e)) × (how ≡ end.Dropped e) × (s' ≡ dropped s w) × (m' ≡ m)
 
--- a put ends as it stands: refused if its head has not ended; for its reason, or as every call is refused; else its
--- write ends, too early or as any write does, with a manager in use
+-- a put ends by its stage: it fails if its head has not ended; it returns its reason, or fails as every call does;
+-- otherwise its write ends, too early or as any write does, with a manager in use
 abbrev pub EndsPut : Guarantees → Key → Parsed → (ℕ → MissFinishType) → Limits → Stage → PutEnd → Store → Store → Entries → Entries → Type 0
 EndsPut g k parser kinds limits InHead how s s' m m' = (how ≡ end.Refused IncompleteHttpBody) × IsStill s s' m m'
 EndsPut g k parser kinds limits (HasDeclined reason) how s s' m m' = (how ≡ end.NotCached reason) × IsStill s s' m m'
@@ -217,7 +218,7 @@ EndsPut g k parser kinds limits (IsOver kind) how s s' m m' = (how ≡ end.Refus
 EndsPut g k parser kinds limits (InBody w id fresh_until) how s s' m m' =
     EndsEarly parser w how s s' m m' ⊎ EndsBody g true id HoldsNoLock k w (kinds w) limits (write_end how) s s' m m'
 
--- how the put stands at its end: whoever goes on after a body was stored is mistaken
+-- the stage of the put at its end: after a body was stored, another call is a mistake of the caller
 abbrev pub stage_ended : PutEnd → Stage
 stage_ended (end.NotCached reason) = HasDeclined reason
 stage_ended (end.Refused e) = IsOver e
@@ -225,7 +226,7 @@ stage_ended (end.Dropped e) = IsOver e
 stage_ended (end.Stored f) = IsOver InternalError
 stage_ended (end.Withdrawn e) = IsOver e
 
--- the entry of a body that was stored for good
+-- the entry of a body that was stored and not withdrawn
 abbrev pub entry_told : Key → Stage → PutEnd → Option CacheEntryKey
 entry_told k InHead how = None
 entry_told k (HasDeclined reason) how = None
@@ -239,8 +240,8 @@ evicted_ended k kinds (HasDeclined reason) m before how = before
 evicted_ended k kinds (IsOver kind) m before how = before
 evicted_ended k kinds (InBody w id fresh_until) m before how = evicted_by true id k (kinds w) m before (write_end how)
 
--- what is answered at the end is what comes of the pieces, but for a lack of memory, a removed write, used numbers and
--- mistakes of the caller; a stored body is the one that the write was given
+-- the result at the end is the outcome of the pieces, unless memory ran out, the write was removed, all numbers are
+-- used or the caller made a mistake; a stored body is the one that the write was given
 abbrev pub IsRefusal : (Outcome → Type 0) → ErrorType → Type 0
 IsRefusal comes OutOfMemory = Unit {0}
 IsRefusal comes NumbersExhausted = Unit {0}
@@ -262,13 +263,13 @@ TellsResult comes f (end.Dropped e) = IsRefusal comes e
 TellsResult comes f (end.Stored report) = StoresFilled comes f
 TellsResult comes f (end.Withdrawn e) = StoresFilled comes f
 
--- the same as it is answered: a refusal does not tell how far it came
+-- the same, for the result of the call: an error does not say how far it came
 abbrev pub EndsAs : Result PutOutcome ErrorType → (PutEnd → Type 0) → Type 0
 EndsAs (Ok (answer.NotCached reason)) P = P (end.NotCached reason)
 EndsAs (Ok (answer.Stored report)) P = P (end.Stored report)
 EndsAs (Err e) P = P (end.Refused e) ⊎ P (end.Dropped e) ⊎ P (end.Withdrawn e)
 
--- if the admission was refused
+-- P holds if the admission failed
 abbrev pub IfWithdrawn : PutEnd → Type 0 → Type 0
 IfWithdrawn (end.Withdrawn e) P = P
 IfWithdrawn how P = Unit {0}

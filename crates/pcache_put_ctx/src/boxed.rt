@@ -1,4 +1,4 @@
-//! Values behind boxes, for what a put tells and for the calls and events of worlds.
+//! Values behind boxes, for the reports of puts and for the calls and events of worlds.
 ghost use Rattle.std.specs.Prelude.{◌≡◌, IfErr, IfOk, Some};
 ghost use Rattle.pcache_base.specs.declared.error.ErrorType.TheVariants.{OutOfMemory};
 ghost use Rattle.pcache_meta.specs.Meta.{internal_changed};
@@ -9,8 +9,8 @@ use pcache_meta::meta::CacheMeta;
 use std::alloc::Global;
 use std::marker::Model;
 
-/// A value behind a box, so that what has it takes no more room than a pointer. A contract sees the
-/// value.
+/// A value behind a box, so that a struct that has it has only a pointer in its place. A contract
+/// sees the value.
 #[derive(Drop)]
 pub struct Boxed<T> {
     place: Box<T>,
@@ -23,7 +23,7 @@ impl<T> Model for Boxed<T> {
 }
 
 impl<T: Drop> Boxed<T> {
-    /// Puts a value behind a box. It is refused only when memory runs out.
+    /// Puts a value behind a box. Fails only when memory runs out.
     pub fn new(alloc: Global, value: T) -> Result<Boxed<T>>
         ensures ok { IfOk result (λ boxed. boxed ≡ value) }
         ensures kind { IfErr result (λ e. e ≡ OutOfMemory) }
@@ -33,7 +33,7 @@ impl<T: Drop> Boxed<T> {
         })
     }
 
-    /// Puts another value behind a box of its own. It is refused only when memory runs out.
+    /// Puts another value behind a box of its own. Fails only when memory runs out.
     pub fn beside(&self, value: T) -> Result<Boxed<T>>
         ensures ok { IfOk result (λ boxed. boxed ≡ value) }
         ensures kind { IfErr result (λ e. e ≡ OutOfMemory) }

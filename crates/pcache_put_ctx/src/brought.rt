@@ -2,16 +2,9 @@
 ghost use Rattle.std.specs.Prelude.{◌≡◌};
 ghost use Rattle.pcache_put_ctx.specs.Brought.{brought, with_part};
 
-use bytes::Bytes;
+use crate::reading::BodyPart;
 use pcache_meta::header::ResponseHeader;
 use pcache_put::response_parse::ParsePart;
-
-// Bytes of a body, and whether the body is whole with them.
-#[derive(Drop)]
-pub(crate) struct BodyPart {
-    pub(crate) bytes: Bytes,
-    pub(crate) is_last: bool,
-}
 
 // At most one head and one part of the body.
 #[derive(Drop)]
@@ -21,7 +14,7 @@ pub(crate) struct Brought {
 }
 
 impl Brought {
-    // With one part more.
+    // With one more part.
     fn with_part(self, part: ParsePart) -> Brought
         ensures { result ≡ with_part self part }
     {
@@ -37,7 +30,7 @@ impl Brought {
         }
     }
 
-    // What these parts are: a piece brings one head at most, and one part of the body.
+    // Collects these parts: a piece brings at most one head, and one part of the body.
     pub(crate) fn from_parts(parts: Vec<ParsePart>) -> Brought
         ensures { result ≡ brought parts.items }
     {

@@ -1,6 +1,7 @@
 //! A put: a response that is pushed into the cache, in pieces.
 //!
-//! A put is lent the storage and the eviction manager by each call. It may hold a write, so it is spent by `end`.
+//! Each call of a put borrows the storage and the eviction manager. A put may hold a write, so it is spent by
+//! `end`.
 ghost use Rattle.std.specs.Prelude.{◌≡◌, option_map};
 ghost use Rattle.pcache_request.specs.Requests.{dropped_by};
 ghost use Rattle.pcache_base.specs.declared.error.ErrorType.TheVariants.{InternalError};
@@ -8,6 +9,7 @@ ghost use Rattle.pcache_put_ctx.specs.Endings.{stage_left};
 
 use crate::intake::Intake;
 use crate::policy::CachePut;
+use crate::reading::ReadPiece;
 use crate::report::{PieceEnd, PieceReport, PutEnd, PutOutcome, PutReport};
 use crate::stage::{Filling, Stage, Taken, declines, put_stage, refuses, stage_after, take_stage};
 use pcache_base::error::{Error, Result};
@@ -21,12 +23,13 @@ use pcache_store::storage::{HandleMiss, Storage};
 use std::alloc::Global;
 use std::marker::Model;
 
-/// A response that is pushed into the cache under a key, in pieces.
+/// A response that is pushed into the cache for a key, in pieces.
 ///
-/// The head decides, at the moment of the piece that ends it: the policy says whether the response is stored, and with
-/// what meta. What follows is written as it comes. Only the piece that completes a body of known length says that it is
-/// the last. Once nothing is to be stored, later pieces are ignored, and each is answered the reason. After a refusal every
-/// later call is refused for the same kind; so is every call after the end that stored the body, as a mistake of the caller.
+/// The head decides, at the moment of the piece that ends it: the policy says whether the response is stored, and with what
+/// meta. The body is written as it comes. Only the piece that completes a body of known length is announced as the last.
+/// Once nothing is to be stored, later pieces are ignored, and each returns the reason. After a failure every later call
+/// fails with the same kind; a call after the end that stored the body fails with `InternalError`, as a mistake of the
+/// caller.
 pub struct CachePutCtx<C: CachePut, S: Storage> {
     intake: Intake<C>,
     stage: Stage<S::Miss>,
@@ -48,7 +51,7 @@ impl<C: CachePut, S: Storage> Model for CachePutCtx<C, S> {
     } };
 }
 
-// Puts back where a put stands, and tells of the piece.
+// Puts the stage back, and returns the report on the piece.
 fn stand<M>(place: &mut Stage<M>, taken: Taken<M>) -> PieceReport<M>
     requires { place.old ≡ Stage.Over InternalError }
     ensures place { place.new ≡ taken.stage }
@@ -68,7 +71,7 @@ fn drop_writer<S: Storage>(storage: &mut S, writer: Option<S::Miss>)
     }
 }
 
-// Ends a put: nothing more is taken.
+// Ends a put: no more pieces are taken in.
 fn leave<M>(place: &mut Stage<M>, end: PutEnd, entry: Option<CacheEntryKey>) -> PutReport
     requires { place.old ≡ Stage.Over InternalError }
     ensures place { place.new ≡ stage_left end }
@@ -87,6 +90,8 @@ impl<C: CachePut, S: Storage> CachePutCtx<C, S> {
     ghost use Rattle.pcache_request.specs.NoBody.{HasNoBody, LeavesNone};
     ghost use Rattle.pcache_request.specs.Requests.{dropped_by};
     ghost use Rattle.pcache_put_ctx.specs.Puts.{Piece, IsResult};
+    ghost use Rattle.pcache_put_ctx.specs.Readings.{BringsNothing, HasRead, IfUnread, IsReadAt, MayRefuseRead, ReadsPiece};
+    ghost use Rattle.pcache_store.specs.Store.{Store};
     ghost use Rattle.std.specs.Option.{option_and_then};
     ghost use Rattle.pcache_put_ctx.specs.State.{InHead, Filled, HasTaken, entry_in, limit_of, write_in};
     ghost use Rattle.pcache_put_ctx.specs.Steps.{Done, HasWholeBody, store_after, store_left, stage_begun, filled_on, BeginsAtHead, EndsPiece, TakesPiece, StandsAnswered, RepeatsAnswer, AnswersAgain, IfRefused, MayRefusePiece, is_done, EndsPut, EndsAs, stage_ended, entry_told, evicted_ended, IfWithdrawn, TellsResult};
@@ -108,7 +113,7 @@ impl<C: CachePut, S: Storage> CachePutCtx<C, S> {
         }
     }
 
-    /// The body may have at most so many bytes, none of which was counted yet: to be set before the body begins.
+    /// Limits the number of the body's bytes, and sets their count to zero; to be called before the body begins.
     pub fn set_max_file_size_bytes(&mut self, max_file_size_bytes: usize)
         ensures put { self.new ≡ record self.old { size = Some (record { bytes = 0; limit = max_file_size_bytes }) } }
         ensures taken { (pieces : List Piece) → self.old.stage ≡ InHead → HasTaken (C.says self.old.policy) self.old pieces None → HasTaken (C.says self.old.policy) self.new pieces None }
@@ -134,10 +139,10 @@ impl<C: CachePut, S: Storage> CachePutCtx<C, S> {
         }
     }
 
-    /// Takes in the next piece of the response, at a moment. Answers why nothing is stored, once that is so.
+    /// Takes in the next piece of the response, at a moment. Returns why nothing is stored, once that is so.
     ///
-    /// It is refused when memory runs out, if all numbers of writes are used, if the head can't be read, and if the
-    /// body is longer than it may be. The write is dropped then. What comes after a whole body is ignored, and not refused.
+    /// Fails when memory runs out, if all numbers of writes are used, if the head can't be read, and if the body is longer
+    /// than its limit. The write is dropped then. Bytes after a whole body are ignored, without an error.
     pub fn cache_put(
         &mut self,
         piece: &[u8],
@@ -166,34 +171,82 @@ impl<C: CachePut, S: Storage> CachePutCtx<C, S> {
         }
     }
 
-    /// What `cache_put` does, told apart; a write that it would drop is handed out, to be dropped.
+    /// `cache_put` with a result that says what it did. A write that it would drop is returned, for
+    /// the caller to drop.
     pub fn take_piece(&mut self, piece: &[u8], storage: &mut S, now: Moment) -> PieceReport<S::Miss>
         ensures policy { self.new.policy ≡ self.old.policy }
         ensures key { self.new.key ≡ self.old.key }
         ensures limit { limit_of self.new.size ≡ limit_of self.old.size }
 
         // What the piece did: a write began, and bytes were written.
-        ensures store { S.state storage.new ≡ store_after self.old.key self.old.stage result.began result.wrote (entry_given S.guarantees.numbers (S.state storage.old).next) (S.state storage.old) }
+        ensures store { S.state storage.new ≡ store_after self.old.key self.old.stage result.began result.wrote
+            (entry_given S.guarantees.numbers (S.state storage.old).next) (S.state storage.old) }
         ensures began { BeginsAtHead self.old.stage result.began }
-        ensures ends { EndsPiece S.Miss.write result.end (stage_begun self.old.stage result.began (S.state storage.old).next (entry_given S.guarantees.numbers (S.state storage.old).next)) self.new.stage }
+        ensures ends { EndsPiece S.Miss.write result.end
+            (stage_begun self.old.stage result.began (S.state storage.old).next (entry_given S.guarantees.numbers (S.state storage.old).next)) self.new.stage }
 
-        // What the put has taken in, with this piece; and the end is said of the bytes that complete a body.
+        // The put has taken in this piece too; and the end is announced for the bytes that complete a body.
         ensures taken { (pieces : List Piece) (f : Option Filled) → HasTaken (C.says self.old.policy) self.old pieces f
             → HasTaken (C.says self.old.policy) self.new (pieces ++ record { bytes = piece.now; now = now } ∷ []) (filled_on result.began result.wrote f) }
         ensures last { (pieces : List Piece) (f : Option Filled) → HasTaken (C.says self.old.policy) self.old pieces f → IfSome result.wrote (λ w. w.eof ≡ is_done self.new.parser) }
 
-        // A reason is answered again, and so is a refusal. What comes after a whole body is ignored.
+        // A reason is returned again, and so is an error. Bytes after a whole body are ignored.
         ensures again { AnswersAgain self.old.stage result.end }
         ensures ignored { HasWholeBody self.old.stage self.old.parser → result ≡ record { began = None; wrote = None; end = PieceEnd.GoesOn } }
         ensures kind { IfRefused result.end (λ e. MayRefusePiece self.old.stage (S.state storage.old) e ⊎ (self.old.parser ≡ HasFailed e)) }
     {
+        let read = self.read_piece(piece, now);
+        self.store_piece(read, storage)
+    }
+
+    /// The first half of `take_piece`, which needs no storage: reads the next piece of the response, at a moment, and asks the policy
+    /// once the head has come. What was read is to be stored by `store_piece` next.
+    pub fn read_piece(&mut self, piece: &[u8], now: Moment) -> ReadPiece
+        ensures read { ReadsPiece (C.says self.old.policy) self.old self.new (record { bytes = piece.now; now = now }) result }
+        ensures at { IsReadAt self.new.stage result }
+        ensures ignored { HasWholeBody self.old.stage self.old.parser → BringsNothing self.new.stage result }
+        ensures kind { IfUnread result (λ e. (s : Store) → MayRefusePiece self.old.stage s e ⊎ (self.old.parser ≡ HasFailed e)) }
+    {
+        match &self.stage {
+            Stage::Head => self.intake.read_head(piece, now),
+            Stage::Body(_) => self.intake.read_more(piece),
+            Stage::Declined(_) | Stage::Over(_) => ReadPiece::Ignored,
+        }
+    }
+
+    /// The second half of `take_piece`: stores what was read. Requires that this put read it by `read_piece`, with no other call of
+    /// the put in between.
+    pub fn store_piece(&mut self, read: ReadPiece, storage: &mut S) -> PieceReport<S::Miss>
+        requires at { IsReadAt self.old.stage read }
+        ensures policy { self.new.policy ≡ self.old.policy }
+        ensures key { self.new.key ≡ self.old.key }
+        ensures parsed { self.new.parser ≡ self.old.parser }
+        ensures limit { limit_of self.new.size ≡ limit_of self.old.size }
+
+        // What was done: a write began, and bytes were written.
+        ensures store { S.state storage.new ≡ store_after self.old.key self.old.stage result.began result.wrote
+            (entry_given S.guarantees.numbers (S.state storage.old).next) (S.state storage.old) }
+        ensures began { BeginsAtHead self.old.stage result.began }
+        ensures ends { EndsPiece S.Miss.write result.end
+            (stage_begun self.old.stage result.began (S.state storage.old).next (entry_given S.guarantees.numbers (S.state storage.old).next)) self.new.stage }
+
+        // The put has taken in what it has read; and the end is announced with the bytes that complete a body.
+        ensures taken { (pieces : List Piece) (f : Option Filled) → HasRead (C.says self.old.policy) self.old pieces f read
+            → HasTaken (C.says self.old.policy) self.new pieces (filled_on result.began result.wrote f) }
+        ensures last { (pieces : List Piece) (f : Option Filled) → HasRead (C.says self.old.policy) self.old pieces f read
+            → IfSome result.wrote (λ w. w.eof ≡ is_done self.new.parser) }
+
+        ensures again { AnswersAgain self.old.stage result.end }
+        ensures ignored { BringsNothing self.old.stage read → result ≡ record { began = None; wrote = None; end = PieceEnd.GoesOn } }
+        ensures kind { IfRefused result.end (MayRefuseRead self.old.stage (S.state storage.old) read) }
+    {
         match take_stage(&mut self.stage) {
             Stage::Head => {
-                let taken = self.intake.take_head(piece, storage, now);
+                let taken = self.intake.store_head(read, storage);
                 stand(&mut self.stage, taken)
             }
             Stage::Body(filling) => {
-                let taken = self.intake.take_body(piece, storage, filling, now);
+                let taken = self.intake.store_body(read, filling, storage);
                 stand(&mut self.stage, taken)
             }
             Stage::Declined(reason) => stand(&mut self.stage, declines(reason)),
@@ -201,9 +254,9 @@ impl<C: CachePut, S: Storage> CachePutCtx<C, S> {
         }
     }
 
-    /// Ends the put once all pieces have come: the body is stored and its entry admitted, and what is evicted for it is
-    /// purged, in order. A put that ends too early, or whose write is refused, stores nothing, and its write is dropped;
-    /// a body whose admission is refused is purged again.
+    /// Ends the put after all pieces have come: the body is stored and its entry admitted, and what is evicted for it is
+    /// purged, in order. If the put ends too early, or the end of its write fails, nothing is stored, and the write is
+    /// dropped; if the admission fails, the body is purged again.
     pub fn finish<E: EvictionManager>(
         &mut self,
         storage: &mut S,
@@ -214,10 +267,10 @@ impl<C: CachePut, S: Storage> CachePutCtx<C, S> {
         ensures limits { E.limits eviction.new ≡ E.limits eviction.old }
         ensures stage { EndsAs result (λ end. self.new.stage ≡ stage_ended end) }
 
-        // What comes of the put is what comes of its bytes, all pieces together.
+        // The outcome of the put is that of its bytes, all pieces together.
         ensures tells { (pieces : List Piece) (f : Option Filled) → HasTaken (C.says self.old.policy) self.old pieces f → EndsAs result (TellsResult (IsResult (C.says self.old.policy) (limit_of self.old.size) pieces) f) }
 
-        // If the admission was refused, the key has no body in the store after the call.
+        // If the admission failed, the key has no body in the store after the call.
         ensures withdrawn { IsTrue S.guarantees.purges → OnErr result (LeavesNone (Some self.old.key) (write_in self.old.stage) (S.state storage.old) (S.state storage.new)) }
     {
         let PutReport { end, entry: _ } = self.end_put(storage, eviction);
@@ -230,7 +283,7 @@ impl<C: CachePut, S: Storage> CachePutCtx<C, S> {
         }
     }
 
-    /// What `finish` does, told apart by how far it came.
+    /// `finish` with a result that says how far it came.
     pub fn end_put<E: EvictionManager>(&mut self, storage: &mut S, eviction: &mut E) -> PutReport
         ensures policy { self.new.policy ≡ self.old.policy }
         ensures key { self.new.key ≡ self.old.key }
@@ -240,7 +293,7 @@ impl<C: CachePut, S: Storage> CachePutCtx<C, S> {
         ensures limits { E.limits eviction.new ≡ E.limits eviction.old }
         ensures stage { self.new.stage ≡ stage_ended result.end }
 
-        // What comes of the put is what comes of its bytes, all pieces together.
+        // The outcome of the put is that of its bytes, all pieces together.
         ensures tells { (pieces : List Piece) (f : Option Filled) → HasTaken (C.says self.old.policy) self.old pieces f → TellsResult (IsResult (C.says self.old.policy) (limit_of self.old.size) pieces) f result.end }
         ensures withdrawn { IsTrue S.guarantees.purges → IfWithdrawn result.end (HasNoBody (S.state storage.new) self.old.key) }
     {
@@ -263,6 +316,14 @@ impl<C: CachePut, S: Storage> CachePutCtx<C, S> {
     pub fn end(self, storage: &mut S)
         ensures { S.state storage.new ≡ dropped_by (write_in self.stage) (S.state storage.old) }
     {
+        let writer = self.into_writer();
+        drop_writer(storage, writer);
+    }
+
+    /// Ends the put, and returns the write that is still in flight, if there is one. The caller drops it.
+    pub fn into_writer(self) -> Option<S::Miss>
+        ensures { option_map S.Miss.write result ≡ write_in self.stage }
+    {
         let CachePutCtx { intake: _, stage } = self;
         match stage {
             Stage::Body(filling) => {
@@ -270,9 +331,9 @@ impl<C: CachePut, S: Storage> CachePutCtx<C, S> {
                     writer,
                     fresh_until: _,
                 } = filling;
-                drop_writer(storage, Some(writer));
+                Some(writer)
             }
-            Stage::Head | Stage::Declined(_) | Stage::Over(_) => {}
+            Stage::Head | Stage::Declined(_) | Stage::Over(_) => None,
         }
     }
 }

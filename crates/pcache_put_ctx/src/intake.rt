@@ -1,4 +1,4 @@
-//! How a put takes in its pieces.
+//! How a put takes in its pieces: each is read first, for which no storage is needed, and then stored.
 ghost use Rattle.std.specs.Prelude.{◌≡◌, ◌≢◌, ◌⊎◌, Ok, ◌↔◌, ◌++◌, ◌∷◌, [], List, ℕ, true, false, IsTrue, IfOk, IfErr, IfSome, OnOk, OnErr, Option, Some, None, option_map};
 ghost use Rattle.std.specs.FinMap as map;
 ghost use Rattle.pcache_base.specs.Key.{slot};
@@ -8,17 +8,20 @@ ghost use Rattle.pcache_put.specs.Progress.{HasFailed};
 ghost use Rattle.pcache_put.specs.Response.{IsUnreadable};
 ghost use Rattle.pcache_store.specs.Purge.{entry_given};
 ghost use Rattle.pcache_store.specs.Refusals.{MayRefuseWrite};
-ghost use Rattle.pcache_store.specs.Store.{is_told};
-ghost use Rattle.pcache_put_ctx.specs.Openings.{IsVerdict, IsBegun, IsNext, store_opened, IsDue, HasOpened};
+ghost use Rattle.pcache_store.specs.Store.{Store, begun, is_told};
+ghost use Rattle.pcache_put_ctx.specs.Openings.{IsVerdict, IsBegun, IsDue, HasOpened};
 ghost use Rattle.pcache_put_ctx.specs.Puts.{Piece, IsResult, joined};
+ghost use Rattle.pcache_put_ctx.specs.Readings.{BodyDue, IfUnread, IsOfBody, IsOfHead, MayRefuseRead};
 ghost use Rattle.pcache_put_ctx.specs.Stages.{stage_of};
 ghost use Rattle.pcache_put_ctx.specs.State.{InHead, InBody, Filled, HeadTaken, BodyRead, BodyTaken, Counts, limit_of, TakenBy};
 ghost use Rattle.pcache_put_ctx.specs.Steps.{counted_part, IsAllowed, IfRefused, MayRefuseFill, written, store_wrote, store_after, stage_begun, filled_on, filled_wrote, EndsPiece, EndsPut, TellsResult, entry_told, evicted_ended, MayRefusePiece, is_done};
+ghost use Rattle.pcache_put_ctx.specs.declared.reading.ReadPiece.TheVariants.{Brings};
 ghost use Rattle.pcache_put_ctx.specs.declared.report.PieceEnd.TheVariants.{GoesOn};
 
 use crate::boxed::Boxed;
-use crate::brought::{BodyPart, Brought};
+use crate::brought::Brought;
 use crate::policy::{CachePut, judge};
+use crate::reading::{BodyPart, ReadPiece};
 use crate::report::{PutEnd, Written};
 use crate::stage::{Filling, SPENT, Stage, Taken, declines, goes_on, refuses};
 use pcache_base::error::{Error, Result};
@@ -36,7 +39,7 @@ use pcache_request::cache::ending::{EndedWrite, end_writer};
 use pcache_store::storage::{HandleMiss, Storage};
 use std::alloc::Global;
 
-// All of a put but where it stands.
+// All of a put except its stage.
 #[derive(Drop)]
 pub(crate) struct Intake<C> {
     pub(crate) alloc: Global,
@@ -46,17 +49,7 @@ pub(crate) struct Intake<C> {
     pub(crate) parser: ResponseParse,
 }
 
-// What became of a head.
-pub(crate) enum Opened<M> {
-    // It has not ended.
-    Unfinished,
-    // Nothing is stored, for this reason.
-    Declined(NoCacheReason),
-    // A write began, with this meta; and the piece has this of the body.
-    Begun(Filling<M>, Boxed<CacheMeta>, Option<BodyPart>),
-}
-
-// Counts the bytes of a part, if they are limited, and tells whether they are still allowed.
+// Counts the bytes of a part, if they are limited, and returns whether they are still allowed.
 fn allows(size: &mut Option<MaxFileSizeTracker>, part: &BodyPart) -> bool
     ensures size { size.new ≡ counted_part size.old (Some part.now) }
     ensures allowed { IsTrue result ↔ IsAllowed size.new }
@@ -92,7 +85,8 @@ fn write_part<S: Storage>(
     if !allows(size, &part) {
         return Err(Error::new(ERR_RESPONSE_TOO_LARGE));
     }
-    // a write that goes on was told its end: it is not the put's own storage that was lent
+    // the end of a write that goes on was announced: so the caller passed another storage than the
+    // put's own
     if writer.at_eof(storage) {
         return Err(Error::new(SPENT));
     }
@@ -106,7 +100,7 @@ fn write_part<S: Storage>(
 }
 
 impl<C: CachePut> Intake<C> {
-    // How many bytes the body may have, if that is limited.
+    // The largest number of bytes of the body, if it is limited.
     fn limit(&self) -> Option<usize>
         ensures { result ≡ limit_of self.now.size }
     {
@@ -116,57 +110,41 @@ impl<C: CachePut> Intake<C> {
         }
     }
 
-    // Begins the write of a response that is to be stored.
-    fn begin<S: Storage>(
-        &self,
-        header: ResponseHeader,
-        body: Option<BodyPart>,
-        storage: &mut S,
-        now: Moment,
-    ) -> Result<Opened<S::Miss>>
+    // What a piece in which the head ends is read as.
+    fn open(&self, header: ResponseHeader, body: Option<BodyPart>, now: Moment) -> Result<ReadPiece>
         ensures begun { IfOk result (IsBegun (IsVerdict (C.says self.now.policy) (limit_of self.now.size) header now) body) }
-        ensures next { IfOk result (IsNext S.Miss.write S.Miss.entry_number (S.state storage.old).next (entry_given S.guarantees.numbers (S.state storage.old).next)) }
-        ensures store { IfOk result (λ o. S.state storage.new ≡ store_opened (slot self.now.key) o (S.state storage.old)) }
-        ensures err { OnErr result (S.state storage.new ≡ S.state storage.old) }
-        ensures kind { IfErr result (λ e. (e ≡ OutOfMemory) ⊎ MayRefuseWrite (S.state storage.old) e) }
+        ensures head { IfOk result IsOfHead }
+        ensures read { IfOk result (λ o. IfUnread o (λ _. ⊥)) }
+        ensures kind { IfErr result (λ e. e ≡ OutOfMemory) }
     {
-        let meta = match judge(self.alloc, &self.policy, self.limit(), header, now)? {
-            RespCacheable::Cacheable(meta) => Boxed::new(self.alloc, meta)?,
-            RespCacheable::Uncacheable(reason) => return Ok(Opened::Declined(reason)),
-        };
-        let writer = storage.get_miss_handler(self.alloc, &self.key, meta.get())?;
-        let fresh_until = meta.get().fresh_until();
-        let filling = Filling {
-            writer,
-            fresh_until,
-        };
-        Ok(Opened::Begun(filling, meta, body))
+        match judge(self.alloc, &self.policy, self.limit(), header, now)? {
+            RespCacheable::Cacheable(meta) => {
+                Ok(ReadPiece::Begins(Boxed::new(self.alloc, meta)?, body))
+            }
+            RespCacheable::Uncacheable(reason) => Ok(ReadPiece::Declined(reason)),
+        }
     }
 
-    // Takes in a piece of the head, and begins the write of a response that is to be stored.
-    fn open<S: Storage>(
-        &mut self,
-        piece: &[u8],
-        storage: &mut S,
-        now: Moment,
-    ) -> Result<Opened<S::Miss>>
+    // Reads a piece of the head, if it can be read.
+    fn read_opening(&mut self, piece: &[u8], now: Moment) -> Result<ReadPiece>
         ensures same { self.new ≡ record self.old { parser = self.new.parser } }
-        ensures opened { IfOk result (λ o. (pieces : List Piece) → HeadTaken self.old.size self.old.parser pieces → HasOpened (C.says self.old.policy) self.old.size self.new.parser (pieces ++ record { bytes = piece.now; now = now } ∷ []) o) }
-        ensures next { IfOk result (IsNext S.Miss.write S.Miss.entry_number (S.state storage.old).next (entry_given S.guarantees.numbers (S.state storage.old).next)) }
-        ensures store { IfOk result (λ o. S.state storage.new ≡ store_opened (slot self.old.key) o (S.state storage.old)) }
-        ensures invalid { IfErr result (λ e. e ≡ InvalidHttpHeader → (pieces : List Piece) → HeadTaken self.old.size self.old.parser pieces → IsUnreadable (joined (pieces ++ record { bytes = piece.now; now = now } ∷ []))) }
-        ensures err { OnErr result (S.state storage.new ≡ S.state storage.old) }
-        ensures kind { IfErr result (λ e. (e ≡ InvalidHttpHeader) ⊎ (e ≡ OutOfMemory) ⊎ MayRefuseWrite (S.state storage.old) e ⊎ (self.old.parser ≡ HasFailed e)) }
+        ensures head { IfOk result IsOfHead }
+        ensures opened { IfOk result (λ o. (pieces : List Piece) → HeadTaken self.old.size self.old.parser pieces
+            → HasOpened (C.says self.old.policy) self.old.size self.new.parser (pieces ++ record { bytes = piece.now; now = now } ∷ []) o) }
+        ensures read { IfOk result (λ o. IfUnread o (λ _. ⊥)) }
+        ensures invalid { IfErr result (λ e. e ≡ InvalidHttpHeader → (pieces : List Piece) → HeadTaken self.old.size self.old.parser pieces
+            → IsUnreadable (joined (pieces ++ record { bytes = piece.now; now = now } ∷ []))) }
+        ensures kind { IfErr result (λ e. (e ≡ InvalidHttpHeader) ⊎ (e ≡ OutOfMemory) ⊎ (self.old.parser ≡ HasFailed e)) }
     {
         let parts = self.parser.inject_data(piece)?;
         let Brought { head, body } = Brought::from_parts(parts);
         match head {
-            Some(header) => self.begin(header, body, storage, now),
-            None => Ok(Opened::Unfinished),
+            Some(header) => self.open(header, body, now),
+            None => Ok(ReadPiece::Unfinished),
         }
     }
 
-    // Takes in a piece of the body, and answers what is to be written of it.
+    // Reads a piece of the body, if it can be read, and returns what is to be written of it.
     fn read_body(&mut self, piece: &[u8]) -> Result<Option<BodyPart>>
         ensures same { self.new ≡ record self.old { parser = self.new.parser } }
         ensures due { IfOk result (λ part. (pieces : List Piece) (now : ℕ) (meta : Meta) (body : List ℕ) → BodyRead (C.says self.old.policy) (limit_of self.old.size) self.old.parser meta pieces body → IsDue (C.says self.old.policy) (limit_of self.old.size) self.new.parser meta (pieces ++ record { bytes = piece.now; now = now } ∷ []) body part) }
@@ -179,7 +157,7 @@ impl<C: CachePut> Intake<C> {
         Ok(brought.body)
     }
 
-    // Writes what there is to be written.
+    // Writes the part of the body, if there is one.
     fn fill<S: Storage>(
         &mut self,
         filling: Filling<S::Miss>,
@@ -191,10 +169,13 @@ impl<C: CachePut> Intake<C> {
         ensures limit { limit_of self.new.size ≡ limit_of self.old.size }
         ensures began { result.report.began ≡ began }
         ensures store { S.state storage.new ≡ store_wrote (Some (S.Miss.write filling.writer)) result.report.wrote (S.state storage.old) }
-        ensures ends { EndsPiece S.Miss.write result.report.end (InBody (S.Miss.write filling.writer) (S.Miss.entry_number filling.writer) filling.fresh_until) (stage_of S.Miss.write S.Miss.entry_number result.stage) }
+        ensures ends { EndsPiece S.Miss.write result.report.end
+            (InBody (S.Miss.write filling.writer) (S.Miss.entry_number filling.writer) filling.fresh_until)
+            (stage_of S.Miss.write S.Miss.entry_number result.stage) }
         ensures last { IfSome result.report.wrote (λ w. (b : BodyPart) × (part ≡ Some b) × (w.eof ≡ b.is_last)) }
         ensures taken { (pieces : List Piece) (meta : Meta) (body : List ℕ) → filling.fresh_until ≡ meta.fresh_until → IsDue (C.says self.old.policy) (limit_of self.old.size) self.old.parser meta pieces body part → Counts self.old.size body
-            → TakenBy (C.says self.old.policy) self.new.size self.new.parser (stage_of S.Miss.write S.Miss.entry_number result.stage) pieces (filled_wrote result.report.wrote (Some (record { meta = meta; body = body }))) }
+            → TakenBy (C.says self.old.policy) self.new.size self.new.parser
+            (stage_of S.Miss.write S.Miss.entry_number result.stage) pieces (filled_wrote result.report.wrote (Some (record { meta = meta; body = body }))) }
         ensures nothing { part ≡ None → result.report ≡ record { began = began; wrote = None; end = GoesOn } }
         ensures kind { IfRefused result.report.end (MayRefuseFill (S.state storage.old) (S.Miss.write filling.writer)) }
     {
@@ -214,63 +195,153 @@ impl<C: CachePut> Intake<C> {
         }
     }
 
-    // Takes in a piece while the head has not ended.
-    pub(crate) fn take_head<S: Storage>(
-        &mut self,
-        piece: &[u8],
-        storage: &mut S,
-        now: Moment,
-    ) -> Taken<S::Miss>
-        ensures same { self.new ≡ record self.old { size = self.new.size; parser = self.new.parser } }
-        ensures limit { limit_of self.new.size ≡ limit_of self.old.size }
-        ensures store { S.state storage.new ≡ store_after self.old.key InHead result.report.began result.report.wrote (entry_given S.guarantees.numbers (S.state storage.old).next) (S.state storage.old) }
-        ensures ends { EndsPiece S.Miss.write result.report.end (stage_begun InHead result.report.began (S.state storage.old).next (entry_given S.guarantees.numbers (S.state storage.old).next)) (stage_of S.Miss.write S.Miss.entry_number result.stage) }
-        ensures last { (pieces : List Piece) (f : Option Filled) → TakenBy (C.says self.old.policy) self.old.size self.old.parser InHead pieces f → IfSome result.report.wrote (λ w. w.eof ≡ is_done self.new.parser) }
-        ensures taken { (pieces : List Piece) (f : Option Filled) → TakenBy (C.says self.old.policy) self.old.size self.old.parser InHead pieces f
-            → TakenBy (C.says self.old.policy) self.new.size self.new.parser (stage_of S.Miss.write S.Miss.entry_number result.stage) (pieces ++ record { bytes = piece.now; now = now } ∷ []) (filled_on result.report.began result.report.wrote f) }
-        ensures kind { IfRefused result.report.end (λ e. MayRefusePiece InHead (S.state storage.old) e ⊎ (self.old.parser ≡ HasFailed e)) }
+    // Reads a piece while the head has not ended.
+    pub(crate) fn read_head(&mut self, piece: &[u8], now: Moment) -> ReadPiece
+        ensures same { self.new ≡ record self.old { parser = self.new.parser } }
+        ensures head { IsOfHead result }
+        ensures opened { (pieces : List Piece) → HeadTaken self.old.size self.old.parser pieces
+            → HasOpened (C.says self.old.policy) self.old.size self.new.parser (pieces ++ record { bytes = piece.now; now = now } ∷ []) result }
+        ensures kind { IfUnread result (λ e. (e ≡ InvalidHttpHeader) ⊎ (e ≡ OutOfMemory) ⊎ (self.old.parser ≡ HasFailed e)) }
     {
-        match self.open(piece, storage, now) {
-            Ok(Opened::Begun(filling, meta, part)) => self.fill(filling, Some(meta), part, storage),
-            Ok(Opened::Unfinished) => goes_on(Stage::Head, None, None),
-            Ok(Opened::Declined(reason)) => declines(reason),
+        match self.read_opening(piece, now) {
+            Ok(read) => read,
+            Err(refused) => ReadPiece::Refused(refused),
+        }
+    }
+
+    // Reads a piece while the body is written.
+    pub(crate) fn read_more(&mut self, piece: &[u8]) -> ReadPiece
+        ensures same { self.new ≡ record self.old { parser = self.new.parser } }
+        ensures body { IsOfBody result }
+        ensures due { (pieces : List Piece) (now fresh_until : ℕ) (f : Option Filled)
+            → BodyTaken (C.says self.old.policy) self.old.size self.old.parser fresh_until pieces f
+            → BodyDue (C.says self.old.policy) self.old.size self.new.parser fresh_until (pieces ++ record { bytes = piece.now; now = now } ∷ []) f result }
+        ensures whole { is_done self.old.parser ≡ true → result ≡ Brings None }
+        ensures kind { IfUnread result (λ e. (e ≡ InvalidHttpHeader) ⊎ (e ≡ OutOfMemory) ⊎ (self.old.parser ≡ HasFailed e)) }
+    {
+        match self.read_body(piece) {
+            Ok(part) => ReadPiece::Brings(part),
+            Err(refused) => ReadPiece::Refused(refused),
+        }
+    }
+
+    // Begins the write of a response that is to be stored with this meta.
+    fn begin<S: Storage>(&self, meta: &CacheMeta, storage: &mut S) -> Result<Filling<S::Miss>>
+        ensures write { IfOk result (λ f. S.Miss.write f.writer ≡ (S.state storage.old).next) }
+        ensures entry { IfOk result (λ f. S.Miss.entry_number f.writer ≡ entry_given S.guarantees.numbers (S.state storage.old).next) }
+        ensures fresh { IfOk result (λ f. f.fresh_until ≡ meta.now.fresh_until) }
+        ensures store { OnOk result (S.state storage.new ≡ begun (S.state storage.old) (slot self.now.key) meta.now) }
+        ensures err { OnErr result (S.state storage.new ≡ S.state storage.old) }
+        ensures kind { IfErr result (MayRefuseWrite (S.state storage.old)) }
+    {
+        let writer = storage.get_miss_handler(self.alloc, &self.key, meta)?;
+        Ok(Filling {
+            writer,
+            fresh_until: meta.fresh_until(),
+        })
+    }
+
+    // Begins a write with what was read of its body, and writes that.
+    fn begin_with<S: Storage>(
+        &mut self,
+        meta: Boxed<CacheMeta>,
+        part: Option<BodyPart>,
+        storage: &mut S,
+    ) -> Taken<S::Miss>
+        ensures same { self.new ≡ record self.old { size = self.new.size } }
+        ensures limit { limit_of self.new.size ≡ limit_of self.old.size }
+        ensures store { S.state storage.new ≡ store_after self.old.key InHead result.report.began result.report.wrote
+            (entry_given S.guarantees.numbers (S.state storage.old).next) (S.state storage.old) }
+        ensures ends { EndsPiece S.Miss.write result.report.end
+            (stage_begun InHead result.report.began (S.state storage.old).next (entry_given S.guarantees.numbers (S.state storage.old).next))
+            (stage_of S.Miss.write S.Miss.entry_number result.stage) }
+        ensures last { IfSome result.report.wrote (λ w. (b : BodyPart) × (part ≡ Some b) × (w.eof ≡ b.is_last)) }
+        ensures taken { (pieces : List Piece) → IsDue (C.says self.old.policy) (limit_of self.old.size) self.old.parser meta pieces [] part
+            → Counts self.old.size []
+            → TakenBy (C.says self.old.policy) self.new.size self.new.parser (stage_of S.Miss.write S.Miss.entry_number result.stage) pieces
+            (filled_on result.report.began result.report.wrote None) }
+        ensures kind { IfRefused result.report.end (MayRefusePiece InHead (S.state storage.old)) }
+    {
+        match self.begin(meta.get(), storage) {
+            Ok(filling) => self.fill(filling, Some(meta), part, storage),
             Err(refused) => refuses(refused, None, None),
         }
     }
 
-    // Takes in a piece while the body is written.
-    pub(crate) fn take_body<S: Storage>(
+    // Stores what was read while the head had not ended.
+    pub(crate) fn store_head<S: Storage>(
         &mut self,
-        piece: &[u8],
+        read: ReadPiece,
         storage: &mut S,
-        filling: Filling<S::Miss>,
-        now: Moment,
     ) -> Taken<S::Miss>
-        ensures same { self.new ≡ record self.old { size = self.new.size; parser = self.new.parser } }
+        requires head { IsOfHead read }
+        ensures same { self.new ≡ record self.old { size = self.new.size } }
         ensures limit { limit_of self.new.size ≡ limit_of self.old.size }
-        ensures store { S.state storage.new ≡ store_after self.old.key (InBody (S.Miss.write filling.writer) (S.Miss.entry_number filling.writer) filling.fresh_until) result.report.began result.report.wrote (entry_given S.guarantees.numbers (S.state storage.old).next) (S.state storage.old) }
-        ensures began { result.report.began ≡ None }
-        ensures ends { EndsPiece S.Miss.write result.report.end (stage_begun (InBody (S.Miss.write filling.writer) (S.Miss.entry_number filling.writer) filling.fresh_until) result.report.began (S.state storage.old).next (entry_given S.guarantees.numbers (S.state storage.old).next)) (stage_of S.Miss.write S.Miss.entry_number result.stage) }
-        ensures last { (pieces : List Piece) (f : Option Filled) → TakenBy (C.says self.old.policy) self.old.size self.old.parser (InBody (S.Miss.write filling.writer) (S.Miss.entry_number filling.writer) filling.fresh_until) pieces f → IfSome result.report.wrote (λ w. w.eof ≡ is_done self.new.parser) }
-        ensures taken { (pieces : List Piece) (f : Option Filled) → TakenBy (C.says self.old.policy) self.old.size self.old.parser (InBody (S.Miss.write filling.writer) (S.Miss.entry_number filling.writer) filling.fresh_until) pieces f
-            → TakenBy (C.says self.old.policy) self.new.size self.new.parser (stage_of S.Miss.write S.Miss.entry_number result.stage) (pieces ++ record { bytes = piece.now; now = now } ∷ []) (filled_on result.report.began result.report.wrote f) }
-        ensures ignored { is_done self.old.parser ≡ true → result.report ≡ record { began = None; wrote = None; end = GoesOn } }
-        ensures kind { IfRefused result.report.end (λ e. MayRefusePiece (InBody (S.Miss.write filling.writer) (S.Miss.entry_number filling.writer) filling.fresh_until) (S.state storage.old) e ⊎ (self.old.parser ≡ HasFailed e)) }
+        ensures store { S.state storage.new ≡ store_after self.old.key InHead result.report.began result.report.wrote
+            (entry_given S.guarantees.numbers (S.state storage.old).next) (S.state storage.old) }
+        ensures ends { EndsPiece S.Miss.write result.report.end
+            (stage_begun InHead result.report.began (S.state storage.old).next (entry_given S.guarantees.numbers (S.state storage.old).next))
+            (stage_of S.Miss.write S.Miss.entry_number result.stage) }
+        ensures last { (pieces : List Piece) → HasOpened (C.says self.old.policy) self.old.size self.old.parser pieces read
+            → IfSome result.report.wrote (λ w. w.eof ≡ is_done self.new.parser) }
+        ensures taken { (pieces : List Piece) → HasOpened (C.says self.old.policy) self.old.size self.old.parser pieces read
+            → TakenBy (C.says self.old.policy) self.new.size self.new.parser (stage_of S.Miss.write S.Miss.entry_number result.stage) pieces
+            (filled_on result.report.began result.report.wrote None) }
+        ensures kind { IfRefused result.report.end (MayRefuseRead InHead (S.state storage.old) read) }
     {
-        let _ = now;
-        match self.read_body(piece) {
-            Ok(part) => self.fill(filling, None, part, storage),
-            Err(refused) => {
+        match read {
+            ReadPiece::Begins(meta, part) => self.begin_with(meta, part, storage),
+            ReadPiece::Unfinished => goes_on(Stage::Head, None, None),
+            ReadPiece::Declined(reason) => declines(reason),
+            ReadPiece::Refused(refused) => refuses(refused, None, None),
+            ReadPiece::Brings(_) | ReadPiece::Ignored => unreachable!(),
+        }
+    }
+
+    // Stores what was read while the body is written.
+    pub(crate) fn store_body<S: Storage>(
+        &mut self,
+        read: ReadPiece,
+        filling: Filling<S::Miss>,
+        storage: &mut S,
+    ) -> Taken<S::Miss>
+        requires body { IsOfBody read }
+        ensures same { self.new ≡ record self.old { size = self.new.size } }
+        ensures limit { limit_of self.new.size ≡ limit_of self.old.size }
+        ensures began { result.report.began ≡ None }
+        ensures store { S.state storage.new ≡ store_wrote (Some (S.Miss.write filling.writer)) result.report.wrote (S.state storage.old) }
+        ensures ends { EndsPiece S.Miss.write result.report.end
+            (InBody (S.Miss.write filling.writer) (S.Miss.entry_number filling.writer) filling.fresh_until)
+            (stage_of S.Miss.write S.Miss.entry_number result.stage) }
+        ensures last { (pieces : List Piece) (f : Option Filled)
+            → BodyDue (C.says self.old.policy) self.old.size self.old.parser filling.fresh_until pieces f read
+            → IfSome result.report.wrote (λ w. w.eof ≡ is_done self.new.parser) }
+        ensures taken { (pieces : List Piece) (f : Option Filled)
+            → BodyDue (C.says self.old.policy) self.old.size self.old.parser filling.fresh_until pieces f read
+            → TakenBy (C.says self.old.policy) self.new.size self.new.parser (stage_of S.Miss.write S.Miss.entry_number result.stage) pieces
+            (filled_wrote result.report.wrote f) }
+        ensures nothing { read ≡ Brings None → result.report ≡ record { began = None; wrote = None; end = GoesOn } }
+        ensures kind { IfRefused result.report.end (MayRefuseRead
+            (InBody (S.Miss.write filling.writer) (S.Miss.entry_number filling.writer) filling.fresh_until) (S.state storage.old) read) }
+    {
+        match read {
+            ReadPiece::Brings(part) => self.fill(filling, None, part, storage),
+            ReadPiece::Refused(refused) => {
                 let Filling {
                     writer,
                     fresh_until: _,
                 } = filling;
                 refuses(refused, None, Some(writer))
             }
+            ReadPiece::Unfinished
+            | ReadPiece::Declined(_)
+            | ReadPiece::Begins(_, _)
+            | ReadPiece::Ignored => unreachable!(),
         }
     }
 
-    // Ends the write: too early, if the response ended before its body did, else as any write ends.
+    // Ends the write: too early, if the response ended before its body did, otherwise as any write
+    // ends.
     pub(crate) fn end_body<S: Storage, E: EvictionManager>(
         &mut self,
         storage: &mut S,

@@ -1,4 +1,5 @@
-//! What comes of a put, however its bytes were cut, and which policies answer a head at a moment in one way.
+//! The outcome of a put does not depend on how its bytes were split; and which policies decide one way on a
+//! head at a moment.
 ghost use Rattle.std.specs.Prelude.{◌≡◌, ℕ, List, None, Option, option_map};
 ghost use Rattle.std.specs.Duration.{as_nanos};
 ghost use Rattle.pcache_control.specs.declared.response.RespCacheable.{RespCacheable};
@@ -9,8 +10,8 @@ ghost use Rattle.pcache_put_ctx.specs.Puts.{Piece, Outcome, ComesTo, IsResult, j
 use crate::policy::{ByDefaults, CachePut};
 use pcache_control::FreshDurationByStatusFn;
 
-/// Of two puts of the same bytes, whose heads ended at one moment and whose policy answers a head at a moment in one way,
-/// the same comes, however the bytes were cut into pieces. A law; the call does nothing.
+/// Two puts of the same bytes, whose heads ended at one moment and whose policy decides one way on a head at a moment,
+/// have the same outcome, however the bytes were split into pieces. A law; the call does nothing.
 pub fn same_put_however_cut<C: CachePut>(policy: &C)
     ensures { ((header : ResponseHeader) (now : ℕ) (a b : RespCacheable) → C.says policy.now header now a → C.says policy.now header now b → a ≡ b)
         → (limit : Option ℕ) (bytes : List ℕ) (now : ℕ) (o q : Outcome) → ComesTo (C.says policy.now) limit bytes now o → ComesTo (C.says policy.now) limit bytes now q → o ≡ q }
@@ -18,8 +19,8 @@ pub fn same_put_however_cut<C: CachePut>(policy: &C)
     let _ = policy;
 }
 
-/// The policy that goes by a response and by defaults answers a head at a moment in one way, if its defaults give a status
-/// one lifetime. So `same_put_however_cut` holds of its puts. A law; the call does nothing.
+/// The policy that goes by a response and by defaults decides one way on a head at a moment, if its defaults give a status
+/// only one lifetime. So `same_put_however_cut` holds for its puts. A law; the call does nothing.
 pub fn one_answer_by_defaults(policy: &ByDefaults)
     ensures { HaveOneLifetime (FreshDurationByStatusFn.post policy.now.defaults.fresh_sec_fn)
         → HasOneAnswer (SaysByDefault (policy.now.defaults.stale_while_revalidate_sec, policy.now.defaults.stale_if_error_sec) (FreshDurationByStatusFn.post policy.now.defaults.fresh_sec_fn)) }

@@ -19,22 +19,22 @@ use std::alloc::Global;
 
 /// Decides whether a pushed response is stored.
 pub trait CachePut: Drop {
-    /// What it may answer of a head at a moment. Nothing else decides, so the answer does not depend on what was asked
-    /// before.
+    /// What it may decide on a head at a moment. Nothing else matters, so the decision does not depend on earlier
+    /// calls.
     ghost says: { Self → ResponseHeader → ℕ → RespCacheable → Type 0 };
 
-    /// Whether the response with this head is stored, and with what meta. `default_cacheable` is how most answer. It is
-    /// refused only when memory runs out.
+    /// Whether the response with this head is stored, and with what meta. Most policies use `default_cacheable`. Fails
+    /// only when memory runs out.
     fn cacheable(&self, alloc: Global, header: ResponseHeader, now: Moment) -> Result<RespCacheable>
         ensures says { IfOk result (says self.now header now) }
         ensures kind { IfErr result (λ e. e ≡ OutOfMemory) };
 
-    /// Is shown each head that was read.
+    /// Is called with each head that was read.
     fn trace_header(&self, _header: &ResponseHeader) {}
 }
 
 /// Whether a response with this head is stored, as its Cache-Control, its Expires and these defaults say, if its request
-/// had no Authorization. It is refused only when memory runs out.
+/// had no Authorization. Fails only when memory runs out.
 pub fn default_cacheable(
     alloc: Global,
     header: ResponseHeader,
@@ -51,12 +51,12 @@ pub fn default_cacheable(
 /// The policy that goes by the response and by defaults alone.
 #[derive(Drop)]
 pub struct ByDefaults {
-    /// What holds if a response says nothing of its lifetime.
+    /// The defaults for a response that says nothing of its lifetime.
     pub defaults: CacheMetaDefaults,
 }
 
 impl ByDefaults {
-    /// What holds if a response says nothing of its lifetime.
+    /// The defaults for a response that says nothing of its lifetime.
     pub fn cache_defaults(&self) -> &CacheMetaDefaults
         ensures { result.now ≡ self.now.defaults }
     {
@@ -97,7 +97,7 @@ fn declares_more(meta: &CacheMeta, limit: Option<usize>) -> bool
     }
 }
 
-// What becomes of the response with this head, whose body may have so many bytes.
+// The decision on the response with this head, whose body may have at most so many bytes.
 pub(crate) fn judge<C: CachePut>(
     alloc: Global,
     policy: &C,

@@ -1,4 +1,4 @@
-//! What the calls of a put give, and what they tell of what they did.
+//! What the calls of a put return, and the reports on what they did.
 use crate::boxed::Boxed;
 use bytes::Bytes;
 use pcache_base::error::Error;
@@ -7,7 +7,7 @@ use pcache_evict::eviction::CacheEntryKey;
 use pcache_meta::meta::CacheMeta;
 use pcache_request::cache::FinishReport;
 
-/// What came of a put.
+/// The outcome of a put.
 #[derive(Debug, Drop)]
 pub enum PutOutcome {
     /// The body is stored.
@@ -21,27 +21,27 @@ pub enum PutOutcome {
 pub struct Written {
     /// The bytes.
     pub bytes: Bytes,
-    /// Whether they were said to be the last.
+    /// Whether they were announced as the last (`eof`).
     pub eof: bool,
 }
 
-/// Where a put stands after a piece. A write that is handed out has to be dropped.
+/// The state of a put after a piece. A write that is returned has to be dropped.
 pub enum PieceEnd<M> {
     /// It goes on.
     GoesOn,
     /// Nothing is stored, for this reason.
     NotCached(NoCacheReason),
-    /// The piece was refused, and so will every later call be. The write that was in flight is to be dropped.
+    /// The call failed, and so will every later call. The write that was in flight has to be dropped.
     Refused(Error, Option<M>),
 }
 
 /// What a piece did.
 pub struct PieceReport<M> {
-    /// The meta of the write that it began.
+    /// The meta of the write that it began, if it began one.
     pub began: Option<Boxed<CacheMeta>>,
-    /// What it wrote.
+    /// What it wrote, if anything.
     pub wrote: Option<Written>,
-    /// Where the put stands.
+    /// The state of the put.
     pub end: PieceEnd<M>,
 }
 
@@ -50,21 +50,21 @@ pub struct PieceReport<M> {
 pub enum PutEnd {
     /// Nothing is stored, for this reason.
     NotCached(NoCacheReason),
-    /// Nothing is stored: the head never ended, or an earlier call was refused. There was no write.
+    /// Nothing is stored: the head never ended, or an earlier call failed. There was no write.
     Refused(Error),
-    /// The write was refused and dropped, or the response ended too early.
+    /// The end of the write failed, or the response ended too early, and the write was dropped.
     Dropped(Error),
     /// The body is stored.
     Stored(FinishReport),
-    /// The body was stored, its admission was refused, and its key was purged again.
+    /// The body was stored, but its admission failed, and its key was purged again.
     Withdrawn(Error),
 }
 
 /// What the end of a put did.
 #[derive(Debug, Drop)]
 pub struct PutReport {
-    /// How it went.
+    /// The outcome.
     pub end: PutEnd,
-    /// The entry of the body, if one was stored for good.
+    /// The entry of the body, if it was stored and not withdrawn.
     pub entry: Option<CacheEntryKey>,
 }

@@ -1,4 +1,4 @@
-//! Where a put stands.
+//! The stage of a put.
 ghost use Rattle.std.specs.Prelude.{◌≡◌, None, Some};
 ghost use Rattle.pcache_base.specs.declared.error.ErrorType.TheVariants.{InternalError};
 ghost use Rattle.pcache_put_ctx.specs.Endings.{stage_left};
@@ -25,11 +25,12 @@ pub(crate) enum Stage<M> {
     Body(Filling<M>),
     // Nothing is stored, for this reason.
     Declined(NoCacheReason),
-    // Every call is refused for this kind.
+    // Every call fails with this kind.
     Over(ErrorType),
 }
 
-// What stands in for the stage while a call works with it, and once a body was stored: whoever goes on is mistaken.
+// The kind of the stage that replaces the real one while a call works with it, and after a body was stored, when
+// another call is a mistake of the caller.
 pub(crate) const SPENT: ErrorType = ErrorType::InternalError;
 
 // Takes the stage out.
@@ -40,7 +41,7 @@ pub(crate) fn take_stage<M>(place: &mut Stage<M>) -> Stage<M>
     mem::replace(place, Stage::Over(SPENT))
 }
 
-// Puts a stage where the one before was taken out.
+// Puts a stage back after the old one was taken out.
 pub(crate) fn put_stage<M>(place: &mut Stage<M>, stage: Stage<M>)
     requires { place.old ≡ Stage.Over InternalError }
     ensures { place.new ≡ stage }
@@ -51,7 +52,7 @@ pub(crate) fn put_stage<M>(place: &mut Stage<M>, stage: Stage<M>)
     };
 }
 
-// Where a put stands after a piece, and what is told of the piece.
+// The stage of a put after a piece, and the report on the piece.
 pub(crate) struct Taken<M> {
     pub(crate) stage: Stage<M>,
     pub(crate) report: PieceReport<M>,
@@ -89,7 +90,7 @@ pub(crate) fn declines<M>(reason: NoCacheReason) -> Taken<M>
     }
 }
 
-// Every later call is refused as this one is.
+// This call and every later one fail.
 pub(crate) fn refuses<M>(
     refused: Error,
     began: Option<Boxed<CacheMeta>>,
@@ -107,7 +108,8 @@ pub(crate) fn refuses<M>(
     }
 }
 
-// Where a put stands once it ended so. After a body was stored, whoever goes on is mistaken.
+// The stage of a put after it ended so. After a body was stored, another call is a mistake of the
+// caller.
 pub(crate) fn stage_after<M>(end: &PutEnd) -> Stage<M>
     ensures { result ≡ stage_left end.now }
 {

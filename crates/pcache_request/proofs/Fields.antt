@@ -1,4 +1,4 @@
--- Values put in place of those under a name, one by one.
+-- Values that replace those under a name, one by one.
 use Rattle.std.proofs.Common.{◌≡◌, ℕ, Bool, true, false, cond, List, [], ◌∷◌, ◌++◌, map, refl, ap, sym, subst, ◌∙◌, inl, inr}
 use Rattle.std.specs.Prelude.{bytes_eq, codes, Contains}
 use Rattle.std.proofs.lemmas.Bool.{cases_Bool}
@@ -94,7 +94,7 @@ lacks_now h name v rest refuses = inl (append_shown h name refuses)
 pub lacks_later : (h : Entries FieldValue) (name : List ℕ) (v : FieldValue) (rest : List FieldValue) → LacksRoomAfter (shown_fields (append h name v)) name (shown_values rest) → LacksRoomAfter (shown_fields h) name (shown_values (v ∷ rest))
 lacks_later h name v rest lacks = inr (subst (λ (n : Fields). LacksRoomAfter n name (shown_values rest)) (shown_append h name v) lacks)
 
--- the values of an answer, in place of those that were there
+-- the values of an answer, in place of the old ones
 given_all : (answer : Entries FieldValue) (name : List ℕ) (v : FieldValue) (rest : List FieldValue) → get_all answer name ≡ v ∷ rest → get_all (shown_fields answer) name ≡ v.bytes ∷ shown_values rest
 given_all answer name v rest found = shown_get_all answer name ∙ ap (λ (vs : List FieldValue). shown_values vs) found
 

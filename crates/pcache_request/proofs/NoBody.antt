@@ -1,4 +1,4 @@
--- A key that was purged has no body, and so has one whose body's admission was refused.
+-- A key that was purged has no body, and so has one whose body's admission failed.
 use Rattle.std.proofs.Common.{◌≡◌, ◌⊎◌, ℕ, Bool, true, false, Option, None, Some, Result, Ok, Err, refl, ap, sym, subst, ◌∙◌, inl, inr, cond, arith}
 use Rattle.std.specs.Ordering.{nat_cmp, eq_by_cmp}
 use Rattle.std.specs.Cmp.{nat_cmp_total, unsigned_tied}
@@ -36,7 +36,7 @@ pub body_none : (Lets : LockStatus → Type 0) (k : Key) (w : ℕ) (id : Option 
 body_none Lets k w id kind limits used s s' m m' g is (end.Withdrawn e) h = withdrawn_none Lets k w e s s' m m' (subst (λ b. Withdraws b Lets k w e s s' m m') is h)
 body_none Lets k w id kind limits used s s' m m' g is how h = tt
 
--- the same of what is told of the end, and of a refusal
+-- the same for the report of the end, and for an error
 module _ (r : Request) (kind : MissFinishType) (limits : Limits) (s s' : Store) (m m' : Tracked) (t t' : Locks) where
   pub ends_none : (g : Guarantees) → g.purges ≡ true → (k : Option Key) (w : Option ℕ) (how : WriteEnd) → Ends g r k w kind limits how s s' m m' t t' → IfWithdrawn how (HasNoBodyFor s' k)
   ends_none g is None w (end.Withdrawn e) h = tt

@@ -9,7 +9,7 @@ use Rattle.pcache_request.specs.Finishing.{PurgesAll}
 drop_item : (ks : List CacheEntryKey) (i : ℕ) (d : CacheEntryKey) → i < length ks → drop i ks ≡ get_or ks i d ∷ drop (i + 1) ks
 drop_item ks i d lt = rw add-one (drop-cons ks i d lt)
 
--- what was told of the rest is told of one entry less, once that entry was purged or refused
+-- what holds of the rest holds of one entry less, once that entry was purged or its purge failed
 pub told_on : (numbers : Bool) (whole s s' : Store) (ks : List CacheEntryKey) (i f g : ℕ) (d : CacheEntryKey) (b : Bool) → i < length ks
     → (b ≡ true → s' ≡ s) → (b ≡ false → s' ≡ entry_purged numbers s (get_or ks i d)) → (b ≡ true → g ≡ f + 1) → (b ≡ false → g ≡ f)
     → ((m : ℕ) (t : Store) → PurgesAll numbers s (drop i ks) m t → PurgesAll numbers whole ks (f + m) t)

@@ -1,5 +1,5 @@
--- What the end of a write leads to: the body is stored and admitted, and what is evicted for it is purged; or
--- it is refused (own).
+-- The outcomes of the end of a write (own): the body is stored and admitted, and what is evicted for it is purged; or
+-- the end fails.
 use Rattle.std.specs.Prelude.{ℕ, ◌+◌, ◌≡◌, ◌⊎◌, Bool, true, false, Option, None, List, [], ◌∷◌, is_some, cond}
 use Rattle.std.specs.FinMap.{insert, get}
 use Rattle.pcache_base.specs.Key.{Key, slot}
@@ -18,12 +18,12 @@ use Rattle.pcache_store.specs.declared.storage.MissFinishType.TheVariants.{Creat
 use Rattle.pcache_store.specs.Purge.{entry_purged}
 use Rattle.pcache_request.specs.Requests.{Request, entry_of}
 
--- the size that a report of the end tells
+-- the size in a report of the end
 abbrev pub size_told : MissFinishType → ℕ
 size_told (Created n) = n
 size_told (Appended n most) = n
 
--- the tracked entries with that of a write that ended so
+-- the tracked entries with the entry of a write that ended so
 abbrev pub with_entry : MissFinishType → CacheEntryKey → Tracked → Tracked
 with_entry (Created n) e m = insert m e n
 with_entry (Appended n most) e m = insert m e (raised n most (get m e))
@@ -36,18 +36,18 @@ after_finish r = cond (is_some r.write) (record r { write = None; entry = None; 
 abbrev pub entry_slot : CacheEntryKey → ℕ
 entry_slot e = compact_slot (key_of e)
 
--- t is s once each entry was purged in order, or left if that was refused, which happened n times
+-- t is s after each entry was purged in order; for n of them the purge failed, and they remain
 abbrev pub PurgesAll : Bool → Store → List CacheEntryKey → ℕ → Store → Type 0
 PurgesAll numbers s [] n t = (n ≡ 0) × (t ≡ s)
 PurgesAll numbers s (e ∷ es) n t = PurgesAll numbers (entry_purged numbers s e) es n t ⊎ ((m : ℕ) × (n ≡ m + 1) × PurgesAll numbers s es m t)
 
--- with a manager in use the entry is admitted, and a fair eviction follows; else nothing is tracked or evicted
+-- with a manager in use the entry is admitted, and a fair eviction follows; otherwise nothing is tracked or evicted
 abbrev pub Admits : Bool → Limits → MissFinishType → CacheEntryKey → Tracked → List CacheEntryKey → Tracked → Type 0
 Admits true limits kind e m out m' = IsFair limits (with_entry kind e m) out × (m' ≡ without out (with_entry kind e m))
 Admits false limits kind e m out m' = (out ≡ []) × (m' ≡ m)
 
 -- the write w of the key k, whose entry has the number id, is stored and admitted if a manager is used, and what is
--- evicted is purged; `Lets` says what becomes of a lock that is held, by the status that a permit is released with
+-- evicted is purged; `Lets` says what happens to a held lock, given the status that a permit is released with
 pub record Stores (g : Guarantees) (used : Bool) (id : Option ℕ) (Lets : LockStatus → Type 0) (k : Key) (w : ℕ) (kind : MissFinishType) (limits : Limits) (size failed : ℕ) (out : List CacheEntryKey) (s s' : Store) (m m' : Tracked) : Type 0 where
   pub untouched : is_untouched s w ≡ true
   pub size_is : size ≡ size_told kind
@@ -56,14 +56,14 @@ pub record Stores (g : Guarantees) (used : Bool) (id : Option ℕ) (Lets : LockS
   pub sure : g.purges ≡ true → failed ≡ 0
   pub released : Lets Done
 
--- the write w is refused and dropped
+-- the end of the write w fails, and it is dropped
 pub record Drops (Lets : LockStatus → Type 0) (w : ℕ) (e : ErrorType) (s s' : Store) (m m' : Tracked) : Type 0 where
   pub why : (e ≡ OutOfMemory) ⊎ MayRefuseFinish s w e
   pub dropped : s' ≡ dropped s w
   pub tracked : m' ≡ m
   pub released : Lets TransientError
 
--- the write w of the key k is stored, but its admission is refused, and its key is purged again
+-- the write w of the key k is stored, but its admission fails, and its key is purged again
 pub record Withdraws (always_purges : Bool) (Lets : LockStatus → Type 0) (k : Key) (w : ℕ) (e : ErrorType) (s s' : Store) (m m' : Tracked) : Type 0 where
   pub why : e ≡ OutOfMemory
   pub untouched : is_untouched s w ≡ true

@@ -1,4 +1,4 @@
--- Whether a request uses a lock and how it waits, and what becomes of the lock that it holds (the phase table).
+-- Whether a request uses a lock and how it waits, and what happens to the lock that it holds (the phase table).
 use Rattle.std.specs.Prelude.{ℕ, ◌≡◌, List, Bool, Option, Some, None, cond, option_map}
 use Rattle.std.specs.Duration.{as_nanos}
 use Rattle.pcache_lock.specs.Locks.{Locks, let_go}
@@ -18,18 +18,20 @@ permit_in None = None
 permit_in (Some (Write p)) = Some p
 permit_in (Some (Read r)) = None
 
+-- the read lock that is held
 abbrev pub read_in : Option Locked → Option Reader
 read_in None = None
 read_in (Some (Write p)) = None
 read_in (Some (Read r)) = Some r
 
--- a lock may be taken into use, or out of it: before the key's lock is held
+-- a lock may be taken into use, or out of it
 abbrev pub MaySetLockIn : CachePhase → Type 0
 MaySetLockIn phase.CacheKey = Unit {0}
 MaySetLockIn phase.Stale = Unit {0}
 MaySetLockIn phase.Hit = Unit {0}
 MaySetLockIn _ = ⊥
 
+-- the same for a request: it holds no lock
 abbrev pub MaySetLock : Request → Type 0
 MaySetLock r = MaySetLockIn r.phase × (r.held ≡ None)
 
@@ -38,16 +40,20 @@ abbrev pub timeout_in : Option CacheOptionOverrides → Option ℕ
 timeout_in None = None
 timeout_in (Some o) = option_map as_nanos o.wait_timeout
 
+-- how often a request tries again at most
 abbrev pub retries_in : Option CacheOptionOverrides → Option ℕ
 retries_in None = None
 retries_in (Some o) = o.max_lock_retries
 
+-- the request with these options
 abbrev pub with_options : Bool → Option CacheOptionOverrides → Request → Request
 with_options uses o r = record r { wait_timeout = cond uses (timeout_in o) None; max_retries = cond uses (retries_in o) None }
 
+-- whether a lock is in use
 abbrev pub lock_used : Bool → InUse → InUse
 lock_used uses u = record u { lock = uses }
 
+-- the request with a lock in use, or not, and these options
 abbrev pub with_cache_lock : Bool → Option CacheOptionOverrides → Request → Request
 with_cache_lock uses o r = with_options uses o (record r { uses = lock_used uses r.uses })
 
@@ -59,14 +65,16 @@ enabled_waiting uses o r = with_options uses.lock o (enabled_with uses r)
 abbrev pub unheld : Request → Request
 unheld r = record r { held = None }
 
--- a permit that is handed over is held, and an older lock let go; without a lock in use the permit itself is let go
+-- a permit that is handed over is held, and a lock held before is let go; if no lock is in use, the permit itself is
+-- let go
 abbrev pub handed : Permit → Request → Request
 handed p r = cond r.uses.lock (record r { held = Some (Write p) }) r
 
+-- the lock table after that
 abbrev pub table_handed : Permit → Request → Locks → Locks
 table_handed p r t = cond r.uses.lock (let_go_by r.held t) (let_go t (Write p))
 
--- the lock that goes then
+-- the lock that is let go then
 abbrev pub gone_for : Permit → Request → Option Locked
 gone_for p r = cond r.uses.lock r.held (Some (Write p))
 

@@ -1,4 +1,4 @@
--- How a request waits on the read lock that it holds (the phase table).
+-- How a request waits with the read lock that it holds (the phase table).
 use Rattle.std.specs.Prelude.{ℕ, ◌-◌, nat_le, List, Bool, true, false, Option, Some, None, cond, unwrap_or}
 use Rattle.std.specs.FinMap.{get}
 use Rattle.pcache_base.specs.Key.{Key}
@@ -21,7 +21,7 @@ use Rattle.pcache_request.specs.declared.digest.LockAbandon.{LockAbandon}
 use Rattle.pcache_request.specs.Digest.{Digest, time_added}
 use Rattle.pcache_request.specs.Requests.{Request}
 
--- the outcome of the name of a status; a permit that is over does not wait any more
+-- the outcome with the name of a status; a permit that is over is never Waiting
 abbrev pub outcome_of_status : LockStatus → LockWaitOutcome
 outcome_of_status status.Waiting = outcome.Dangling
 outcome_of_status status.Done = outcome.Done
@@ -41,27 +41,29 @@ abbrev pub since_of : ℕ → Option Watch → Option ℕ → ℕ
 since_of now None since = now
 since_of now (Some w) since = unwrap_or since now
 
--- it waited for what is left of its wait timeout, or longer; moments that go back count as no time
+-- it waited for as long as its wait timeout leaves, or longer; a moment before the first poll counts as no time
 abbrev pub has_waited : Option ℕ → Option ℕ → ℕ → Bool
 has_waited None before waited = false
 has_waited (Some timeout) before waited = nat_le (timeout - unwrap_or before 0) waited
 
+-- the wait timed out at this poll
 abbrev pub is_late : ℕ → Reader → Option ℕ → Option ℕ → Option ℕ → Bool
 is_late now rd timeout before since = has_waited timeout before (now - since_of now rd.watch since)
 
--- What a wait answers: how the permit ended, else that it is too old, else the fill that the reader was told of, else that
--- it waited for long enough, else that it has to wait on.
+-- What a wait returns: how the permit ended; or else that it is too old; or else the fill that the reader was told of; or
+-- else that the wait timed out; or else that it goes on.
 abbrev pub answer_by : LockStatus → Bool → Poll WaitOutcome → Poll LockWaitOutcome
 answer_by s late (Ready poll.Released) = Ready (outcome_of_status s)
 answer_by s late (Ready poll.AgeTimeout) = Ready outcome.AgeTimeout
 answer_by s late (Ready (poll.Abandoned f)) = Ready (outcome.Abandoned (Custom f.reason) f.token)
 answer_by s late Pending = cond late (Ready outcome.WaitTimeout) Pending
 
+-- what a poll of a read lock returns
 abbrev pub answer_on : Locks → ℕ → Reader → Option (List UnusableFill) → Option ℕ → Option ℕ → Option ℕ → Poll LockWaitOutcome
 answer_on t now rd fills timeout before since =
     answer_by (status_seen now (get t.cores rd.number)) (is_late now rd timeout before since) (polled now fills rd.watch (get t.cores rd.number))
 
--- of a request: only one that holds a read lock waits
+-- what a request's wait returns: only a request that holds a read lock waits
 abbrev pub wait_answer : Locks → ℕ → Option Locked → Request → Poll LockWaitOutcome
 wait_answer t now None r = Pending
 wait_answer t now (Some (Write p)) r = Pending
@@ -74,15 +76,17 @@ is_old_answer (Ready poll.AgeTimeout) = true
 is_old_answer (Ready (poll.Abandoned f)) = false
 is_old_answer Pending = false
 
+-- a poll of a read lock finds its permit too old
 abbrev pub finds_too_old : Locks → ℕ → Reader → Option (List UnusableFill) → Bool
 finds_too_old t now rd fills = is_old_answer (polled now fills rd.watch (get t.cores rd.number))
 
+-- the same for what a request holds
 abbrev pub too_old_for : Locks → ℕ → Option Locked → Option (List UnusableFill) → Bool
 too_old_for t now None fills = false
 too_old_for t now (Some (Write p)) fills = false
 too_old_for t now (Some (Read rd)) fills = finds_too_old t now rd fills
 
--- the fill that an outcome was told of
+-- the fill of an outcome, if the wait was abandoned for one
 abbrev pub abandoned_in : LockWaitOutcome → Option LockAbandon → Option LockAbandon
 abandoned_in outcome.Done before = before
 abandoned_in outcome.TransientError before = before
@@ -92,23 +96,27 @@ abandoned_in outcome.AgeTimeout before = before
 abandoned_in outcome.GiveUp before = before
 abandoned_in (outcome.Abandoned reason token) before = Some (record { reason = reason; token = token })
 
--- a wait that ended took so many nanoseconds
+-- the digest after a wait that ended took so many nanoseconds
 abbrev pub with_wait : ℕ → LockWaitOutcome → Digest → Digest
 with_wait n o d = record d { waits = time_added d.waits n; abandoned = abandoned_in o d.abandoned }
 
--- the request after a poll: while it waits it holds the read lock again, as the poll left it; else the wait is counted
+-- the request after a poll: while it waits it holds the read lock again, as the poll left it; otherwise the wait is
+-- counted
 abbrev pub held_after : Poll LockWaitOutcome → Reader → Option Locked
 held_after (Ready o) rd = None
 held_after Pending rd = Some (Read rd)
 
+-- since when it waits after a poll
 abbrev pub since_after : Poll LockWaitOutcome → ℕ → Option ℕ → Option ℕ
 since_after (Ready o) since before = before
 since_after Pending since before = Some since
 
+-- the digest after a poll, of a wait that took n nanoseconds so far
 abbrev pub digest_after : Poll LockWaitOutcome → ℕ → Digest → Digest
 digest_after (Ready o) n d = with_wait n o d
 digest_after Pending n d = d
 
+-- the request after a poll that returned this
 abbrev pub after_wait : Poll LockWaitOutcome → ℕ → ℕ → Reader → Request → Request
 after_wait answer since now rd r = record r {
   held = held_after answer rd;
@@ -116,16 +124,18 @@ after_wait answer since now rd r = record r {
   digest = digest_after answer (now - since) r.digest;
 }
 
+-- the request after a poll, by what it holds
 abbrev pub waited : Locks → ℕ → Option Locked → Request → Request
 waited t now None r = r
 waited t now (Some (Write p)) r = r
 waited t now (Some (Read rd)) r = after_wait (wait_answer t now (Some (Read rd)) r) (since_of now rd.watch r.waits_since) now (reader_polled now (unusable_in r.key) rd (get t.cores rd.number)) r
 
--- the table after it: the read lock of a wait that ended is let go
+-- the table after a poll: the read lock of a wait that ended is let go
 abbrev pub let_go_after : Poll LockWaitOutcome → ℕ → Locks → Locks
 let_go_after (Ready o) n t = reader_dropped t n (get t.cores n)
 let_go_after Pending n t = t
 
+-- the lock table after a poll, by what the request holds
 abbrev pub table_waited : Locks → ℕ → Option Locked → Request → Locks
 table_waited t now None r = t
 table_waited t now (Some (Write p)) r = t

@@ -1,4 +1,4 @@
--- What a look-up tells of what it did (own).
+-- What a look-up reports of what it did (own).
 use Rattle.std.specs.Prelude.{◌≡◌, true, false, Option, Some, None, IfOk, IfErr, OnOk, OnErr, IsTrue, option_map}
 use Rattle.pcache_lock.specs.Locks.{Locks, MayRefuseLock}
 use Rattle.pcache_meta.specs.Meta.{Meta}
@@ -17,20 +17,20 @@ handed_on (Found meta hit) = Some (meta, hit)
 handed_on (NotFound asked) = None
 handed_on (Deferred released) = None
 
--- something holds unless the lock was refused
+-- P holds unless the lock failed
 abbrev pub OnLooked : {H : Type 0} → LookUp H → Type 0 → Type 0
 OnLooked (Found meta hit) P = P
 OnLooked (NotFound asked) P = OnOk asked P
 OnLooked (Deferred released) P = P
 
--- and if it was
+-- P holds if the lock failed
 abbrev pub OnUnlocked : {H : Type 0} → LookUp H → Type 0 → Type 0
 OnUnlocked (Found meta hit) P = Unit {0}
 OnUnlocked (NotFound asked) P = OnErr asked P
 OnUnlocked (Deferred released) P = Unit {0}
 
--- with a decision that was taken, or none: deferred, it tells the lock that was released; else, if it hands nothing on, the
--- lock that was asked for, or why that was refused
+-- what a look-up reports with this decision, or none: if deferred, the lock that was released; otherwise, if it hands
+-- nothing on, the lock that was asked for, or why that failed
 abbrev pub Tells : {H : Type 0} → Option Decision → Store → Locks → Request → LookUp H → Type 0
 Tells d s t r (Found meta hit) = is_deferral d ≡ false
 Tells d s t r (NotFound asked) = (is_deferral d ≡ false) × IfOk asked (λ a. a ≡ asked_for_key t r) × IfErr asked (λ e. IsTrue (asks_unseen s r) × MayRefuseLock t e)

@@ -6,6 +6,7 @@ use Rattle.pcache_request.specs.declared.phase.CachePhase.TheVariants as phase
 use Rattle.pcache_request.specs.declared.phase.HitStatus.{HitStatus}
 use Rattle.pcache_request.specs.declared.phase.HitStatus.TheVariants as status
 
+-- the word of a phase
 abbrev pub word_of : CachePhase → List ℕ
 word_of (phase.Disabled r) = codes "disabled"
 word_of phase.Uninit = codes "uninitialized"
@@ -29,6 +30,7 @@ abbrev pub is_on : CachePhase → Bool
 is_on (phase.Disabled r) = false
 is_on _ = true
 
+-- the same as a statement
 abbrev pub IsOn : CachePhase → Type 0
 IsOn (phase.Disabled r) = ⊥
 IsOn _ = Unit {0}
@@ -38,7 +40,7 @@ abbrev pub WasEnabled : CachePhase → Type 0
 WasEnabled (phase.Disabled reason.NeverEnabled) = ⊥
 WasEnabled _ = Unit {0}
 
--- the key is known, and nothing was looked up
+-- the key is set, and nothing was looked up
 abbrev pub is_key_phase : CachePhase → Bool
 is_key_phase phase.CacheKey = true
 is_key_phase _ = false
@@ -49,12 +51,12 @@ MayTakeKey phase.Uninit = Unit {0}
 MayTakeKey phase.CacheKey = Unit {0}
 MayTakeKey _ = ⊥
 
--- the cache may be passed by
+-- the cache may be bypassed
 abbrev pub MayBypass : CachePhase → Type 0
 MayBypass phase.CacheKey = Unit {0}
 MayBypass _ = ⊥
 
--- the key may be looked up, and what was found be taken
+-- the key may be looked up, and a found pair taken
 abbrev pub MayLookUp : CachePhase → Type 0
 MayLookUp phase.CacheKey = Unit {0}
 MayLookUp phase.Stale = Unit {0}
@@ -73,12 +75,13 @@ IsFilling phase.Miss = Unit {0}
 IsFilling phase.Expired = Unit {0}
 IsFilling _ = ⊥
 
+-- the same as a test
 abbrev pub is_filling : CachePhase → Bool
 is_filling phase.Miss = true
 is_filling phase.Expired = true
 is_filling _ = false
 
--- a body that was found may be read
+-- the body that was found may be read
 abbrev pub IsReading : CachePhase → Type 0
 IsReading phase.Hit = Unit {0}
 IsReading phase.Stale = Unit {0}
@@ -103,26 +106,28 @@ abbrev pub IsStale : CachePhase → Type 0
 IsStale phase.Stale = Unit {0}
 IsStale _ = ⊥
 
+-- the same as a test
 abbrev pub is_stale_phase : CachePhase → Bool
 is_stale_phase phase.Stale = true
 is_stale_phase _ = false
 
--- a new body is fetched in place of a stale one
+-- a new body is fetched to replace a stale one
 abbrev pub is_expired_phase : CachePhase → Bool
 is_expired_phase phase.Expired = true
 is_expired_phase _ = false
 
--- the key may be purged, and what stands under it be expired
+-- the key may be purged, and what is stored for it expired
 abbrev pub MayPurge : CachePhase → Type 0
 MayPurge phase.CacheKey = Unit {0}
 MayPurge _ = ⊥
 
--- the key may be purged beside what the request does
+-- the key may be purged independently of what the request does
 abbrev pub MaySpawnPurge : CachePhase → Type 0
 MaySpawnPurge (phase.Disabled r) = ⊥
 MaySpawnPurge phase.Uninit = ⊥
 MaySpawnPurge _ = Unit {0}
 
+-- the word of a hit's status
 abbrev pub status_word : HitStatus → List ℕ
 status_word status.Expired = codes "expired"
 status_word status.ForceExpired = codes "force_expired"
@@ -132,17 +137,19 @@ status_word status.FailedHitFilter = codes "failed_hit_filter"
 status_word status.Fresh = codes "fresh"
 status_word status.ForceFresh = codes "force_fresh"
 
+-- the body is served as it is
 abbrev pub is_fresh : HitStatus → Bool
 is_fresh status.Fresh = true
 is_fresh status.ForceFresh = true
 is_fresh _ = false
 
+-- the body is treated as if nothing was found
 abbrev pub is_treated_as_miss : HitStatus → Bool
 is_treated_as_miss status.ForceMiss = true
 is_treated_as_miss status.FailedHitFilter = true
 is_treated_as_miss _ = false
 
--- the body is not served as it is, though it is not passed over
+-- the body is neither served as it is nor treated as a miss
 abbrev pub is_stale : HitStatus → Bool
 is_stale status.Expired = true
 is_stale status.ForceExpired = true

@@ -10,11 +10,11 @@ abbrev pub expects_cacheable : Bool → (List ℕ → Bool) → Option Key → B
 expects_cacheable uses is_uncacheable None = true
 expects_cacheable uses is_uncacheable (Some k) = cond uses (not (is_uncacheable (primary_of k))) true
 
--- the reason that a predictor in use has
+-- the reason that a predictor in use gives
 abbrev pub foretold : Bool → (List ℕ → Option NoCacheReason) → Option Key → Option NoCacheReason
 foretold uses reason None = None
 foretold uses reason (Some k) = cond uses (reason (primary_of k)) None
 
--- the cache is passed by, and the reason that was foretold is kept
+-- the cache is bypassed, and the predicted reason is kept
 abbrev pub bypassed_for : Option NoCacheReason → Request → Request
 bypassed_for why r = record (bypassed r) { predicted = why }

@@ -1,4 +1,4 @@
--- What calls tell of what they did (own).
+-- What calls report of what they did (own).
 use Rattle.std.specs.Prelude.{ℕ, Bool, Option, Some, None, cond, option_map}
 use Rattle.pcache_base.specs.CompactKey.{compact_of}
 use Rattle.pcache_base.specs.Key.{Key, slot}
@@ -24,7 +24,7 @@ use Rattle.pcache_request.specs.declared.cache.finish.WriteEnd.TheVariants as en
 abbrev pub name_of : Locked → LockName
 name_of l = record { number = number_of_lock l; is_permit = is_permit l }
 
--- the lock of a key that is asked for while this one is held
+-- the report of asking for the lock of a key while this one is held
 abbrev pub asked_with : Bool → Locks → Key → Option Locked → AskedLock
 asked_with stale t k h = record { given = name_of (lock_given t stale (holder t (slot k))); replaced = option_map name_of h }
 
@@ -36,14 +36,14 @@ asked_by_found s t r = cond (asks_for_hit s r) (option_map (λ k. asked_with (as
 abbrev pub access_by_found : HitStatus → Reader → Option ℕ → Request → Option Access
 access_by_found s h id r = cond (counts_found s h r) (option_map (λ k. record { entry = entry_of k id; weight = reader_weight h }) r.key) None
 
--- the entry of a body that was stored for good
+-- the entry of a body that was stored and not withdrawn
 abbrev pub entry_stored : Option Key → Option ℕ → WriteEnd → Option CacheEntryKey
 entry_stored k id end.Nothing = None
 entry_stored k id (end.Stored f) = option_map (λ k. entry_of k id) k
 entry_stored k id (end.Dropped e) = None
 entry_stored k id (end.Withdrawn e) = None
 
--- the entry that a removal takes out of a manager in use
+-- the entry that a removal removes from a manager in use
 abbrev pub untracked : Bool → CompactCacheKey → PurgeOutcome → Option CacheEntryKey
 untracked uses k NotFound = None
 untracked uses k (Purged id) = cond uses (Some (entry_with k id)) None

@@ -1,4 +1,4 @@
--- What a request is, and the rows of its phase table: what each call makes of the request, the store, the lock table
+-- What a request is, and the rows of its phase table: how each call changes the request, the store, the lock table
 -- and the tracked entries (own, after the phases of pingora-cache).
 use Rattle.std.specs.Prelude.{ℕ, ◌≡◌, ◌&&◌, List, Bool, true, false, not, Option, Some, None, cond, IsSome, is_some, option_map}
 use Rattle.std.specs.FinMap.{remove}
@@ -38,24 +38,24 @@ pub record Request : Type 0 where
   pub write : Option ℕ
   -- the number of the entry that the write fills, if entries have numbers
   pub entry : Option ℕ
-  -- for how many nanoseconds it waits in all, and how often it is to look again, if that is limited
+  -- for how many nanoseconds it waits altogether, and how often it may look up again, if that is limited
   pub wait_timeout : Option ℕ
   pub max_retries : Option ℕ
-  -- the moment of the first poll of the read lock that it polled last
+  -- the moment of the first poll of the read lock that was polled last
   pub waits_since : Option ℕ
   -- what was created before this moment is no variant of its key
   pub valid_after : Option ℕ
-  -- the variance of the stale meta that its meta stands in place of
+  -- the variance of the stale meta that its meta replaces
   pub stale_variance : Option (List ℕ)
-  -- the body's bytes that were counted, if their number is limited
+  -- the count of the body's bytes, if their number is limited
   pub size : Option Counted
-  -- why its response was predicted not to be cacheable, when it passed the cache by
+  -- why its response was predicted not to be cacheable, if the cache was bypassed for that
   pub predicted : Option NoCacheReason
   -- an admission policy is in use
   pub has_policy : Bool
   pub digest : Digest
 
--- which parts a request uses that was never enabled
+-- the parts that a request uses before it is enabled: none
 abbrev pub nothing_used : InUse
 nothing_used = record { eviction = false; predictor = false; lock = false }
 
@@ -71,7 +71,7 @@ enabled_request uses = record { phase = phase.Uninit; uses = uses; key = None; m
 abbrev pub enabled_with : InUse → Request → Request
 enabled_with uses r = let made : Request = enabled_request uses in record made { digest = r.digest }
 
--- a phase after the key's has a key
+-- in each phase after CacheKey there is a key
 abbrev pub HasKey : {K : Type 0} → CachePhase → Option K → Type 0
 HasKey (phase.Disabled r) k = Unit {0}
 HasKey phase.Uninit k = Unit {0}
@@ -86,12 +86,12 @@ IsClear _ h d w = Unit {0}
 abbrev pub HoldsNothing : Request → Type 0
 HoldsNothing r = (r.held ≡ None) × (r.reader ≡ None) × (r.write ≡ None) × (r.entry ≡ None)
 
--- a write is held only if a write may be made, beside the meta that it began with
+-- a write is held only in a phase that fills, together with the meta that it began with
 abbrev pub IsWriting : {M W : Type 0} → CachePhase → Option M → Option W → Type 0
 IsWriting p m None = Unit {0}
 IsWriting p m (Some w) = IsFilling p × IsSome m
 
--- a reader is let go, a write dropped, a lock let go, if there is one
+-- the store or table after a reader is let go, a write dropped, or a lock let go, if there is one
 abbrev pub left_by : Option Reader → Store → Store
 left_by None s = s
 left_by (Some r) s = left s r
@@ -104,7 +104,7 @@ abbrev pub let_go_by : Option Locked → Locks → Locks
 let_go_by None t = t
 let_go_by (Some l) t = let_go t l
 
--- a held lock is released: a permit with a status, a read lock is let go
+-- a held lock is released: a permit with a status; a read lock is let go
 abbrev pub settled : LockStatus → Option Locked → Locks → Locks
 settled s None t = t
 settled s (Some (Write p)) t = released t p.number s
@@ -119,20 +119,21 @@ abbrev pub found_for : Store → Option Key → Option (Meta × Reader)
 found_for s None = None
 found_for s (Some k) = find s (slot k)
 
--- a lock that is asked for is held; the older one is let go once the new one was given
+-- a lock that is asked for is held; a lock held before is let go once the new one was given
 abbrev pub with_lock : Bool → Locks → Option Key → Request → Request
 with_lock stale t None r = r
 with_lock stale t (Some k) r = record r { held = Some (lock_given t stale (holder t (slot k))) }
 
+-- the lock table after the lock of a key was asked for; a lock held before is let go
 abbrev pub table_asked : Bool → ℕ → Option Key → Option Locked → Locks → Locks
 table_asked stale now None h t = t
 table_asked stale now (Some k) h t = let_go_by h (after_request t (slot k) stale now (holder t (slot k)))
 
--- the entry of a key, and of the body or write of that number if it has one
+-- the entry of a key, with the number of its body or write if there is one
 abbrev pub entry_of : Key → Option ℕ → CacheEntryKey
 entry_of k id = entry_with (compact_of k) id
 
--- the phase that a found pair brings
+-- the phase after a found pair with this status
 abbrev pub phase_found : HitStatus → CachePhase → CachePhase
 phase_found status.Fresh p = phase.Hit
 phase_found status.ForceFresh p = phase.Hit
@@ -146,17 +147,19 @@ phase_found status.FailedHitFilter p = p
 abbrev pub asks_for_hit : HitStatus → Request → Bool
 asks_for_hit s r = r.uses.lock && not (is_fresh s)
 
--- it asks as one who replaces a stale body if the request is stale then
+-- it asks in order to replace a stale body if the request is stale then
 abbrev pub asks_as_stale : HitStatus → CachePhase → Bool
 asks_as_stale s p = is_stale_phase (phase_found s p)
 
+-- the request after the lock that a found pair asks for was given
 abbrev pub locked_found : HitStatus → Locks → Request → Request
 locked_found s t r = cond (asks_for_hit s r) (with_lock (asks_as_stale s r.phase) t r.key r) r
 
+-- the lock table after that
 abbrev pub table_found : HitStatus → ℕ → Request → Locks → Locks
 table_found s now r t = cond (asks_for_hit s r) (table_asked (asks_as_stale s r.phase) now r.key r.held t) t
 
--- the meta and reader that a found pair brings with it
+-- the request with the meta and the reader of a found pair
 abbrev pub placed : HitStatus → Meta → Reader → Request → Request
 placed s m h r = record r {
   phase = phase_found s r.phase;
@@ -164,17 +167,19 @@ placed s m h r = record r {
   reader = cond (is_treated_as_miss s) None (Some h);
 }
 
+-- the row of a found pair: its meta and its reader are taken, and the lock is held
 abbrev pub found_row : HitStatus → Meta → Reader → Locks → Request → Request
 found_row s m h t r = placed s m h (locked_found s t r)
 
--- the hit that is passed over and the reader that is replaced are let go
+-- a hit that is treated as a miss and a reader that is replaced are let go
 abbrev pub store_found : HitStatus → Reader → Request → Store → Store
 store_found s h r st = left_by r.reader (cond (is_treated_as_miss s) (left st h) st)
 
--- an access is counted for a hit that counts and is not passed over
+-- an access is recorded for a hit that counts as accessed and is not treated as a miss
 abbrev pub counts_found : HitStatus → Reader → Request → Bool
 counts_found s h r = r.uses.eviction && (counts_access h && not (is_treated_as_miss s))
 
+-- the tracked entries after that: an access is recorded for a hit that counts
 abbrev pub tracked_found_at : HitStatus → Reader → Option ℕ → Request → Option Key → Tracked → Tracked
 tracked_found_at s h id r None m = m
 tracked_found_at s h id r (Some k) m = cond (counts_found s h r) (added m (entry_of k id) (reader_weight h)) m
@@ -186,11 +191,11 @@ tracked_found s h id r m = tracked_found_at s h id r r.key m
 abbrev pub without_reader : Request → Request
 without_reader r = record r { reader = None }
 
--- the request goes on as a miss; a reader stays
+-- the request goes on as a miss; a reader is kept
 abbrev pub missed : Request → Request
 missed r = record r { phase = phase.Miss; meta = None; stale_variance = None }
 
--- a meta may be set: of a response that is to be stored first, or in place of a stale one
+-- a meta may be set: of a response to store, in Miss or in place of a stale one
 abbrev pub MayTakeMetaIn : CachePhase → Option Meta → Type 0
 MayTakeMetaIn phase.Miss m = Unit {0}
 MayTakeMetaIn phase.Stale m = IsSome m
@@ -199,28 +204,32 @@ MayTakeMetaIn _ m = ⊥
 abbrev pub MayTakeMeta : Request → Type 0
 MayTakeMeta r = MayTakeMetaIn r.phase r.meta
 
--- a meta in place of a stale one keeps where that came from, and the body is fetched anew
+-- a meta in place of a stale one keeps the moment from which that one's body came, and the body is fetched again
 abbrev pub phase_with_meta : CachePhase → CachePhase
 phase_with_meta phase.Stale = phase.Expired
 phase_with_meta p = p
 
+-- a meta with the moment from which the old one's body came
 abbrev pub with_provenance_of : Option Meta → Meta → Meta
 with_provenance_of None m = m
 with_provenance_of (Some old) m = internal_changed (λ x. record x { provenance = Some (provenance_of old) }) m
 
+-- the meta that is set: one that replaces a stale one keeps the moment from which the body came
 abbrev pub meta_taken : CachePhase → Option Meta → Meta → Meta
 meta_taken phase.Stale old m = with_provenance_of old m
 meta_taken _ old m = m
 
--- the variance of the meta that was stale
+-- the variance of the stale meta
 abbrev pub variance_in : Option Meta → Option (List ℕ)
 variance_in None = None
 variance_in (Some m) = m.variance
 
+-- the variance of the stale meta that is replaced
 abbrev pub variance_left : CachePhase → Option Meta → Option (List ℕ)
 variance_left phase.Stale old = variance_in old
 variance_left _ old = None
 
+-- the row of setting a meta
 abbrev pub with_meta : Meta → Request → Request
 with_meta m r = record r { phase = phase_with_meta r.phase; meta = Some (meta_taken r.phase r.meta m); stale_variance = variance_left r.phase r.meta }
 
@@ -234,38 +243,42 @@ begun_for (Some k) (Some m) s = begun s (slot k) m
 begun_for (Some k) None s = s
 begun_for None m s = s
 
--- the reader that joins the request's write
+-- the reader that follows the request's write
 abbrev pub joined_for : Option Key → ℕ → Store → Option (Meta × Reader)
 joined_for None n s = None
 joined_for (Some k) n s = find_write s (slot k) (Some n)
 
+-- the reader of a found pair
 abbrev pub reader_in : Option (Meta × Reader) → Option Reader
 reader_in p = option_map (λ q. q.1) p
 
--- the request once its write n began in a store that is s then
+-- the request after its write n began, where s is the store then
 abbrev pub writing : Bool → ℕ → Option ℕ → Store → Request → Request
 writing streams n id s r = cond streams (record r { write = Some n; entry = id; held = None; reader = reader_in (joined_for r.key n s) }) (record r { write = Some n; entry = id })
 
+-- the store after the request's write began, and its reader follows it if the storage allows that
 abbrev pub store_writing : Bool → ℕ → Request → Store → Store
 store_writing streams n r s =
     let t = begun_for r.key r.meta s in
     cond streams (left_by r.reader (followed t (joined_for r.key n t))) t
 
--- what a removal leaves of the tracked entries: the entry that went is taken out
+-- the tracked entries after a removal: without the removed entry
 abbrev pub tracked_gone : Bool → CompactCacheKey → PurgeOutcome → Tracked → Tracked
 tracked_gone uses k NotFound m = m
 tracked_gone uses k (Purged id) m = cond uses (remove m (entry_with k id)) m
 tracked_gone uses k Expired m = m
 
+-- whether a removal or an expiry found anything
 abbrev pub is_removed_by : PurgeOutcome → Bool
 is_removed_by NotFound = false
 is_removed_by (Purged id) = true
 is_removed_by Expired = true
 
+-- the tracked entries after a removal of the request's key
 abbrev pub tracked_gone_for : Bool → Option Key → PurgeOutcome → Tracked → Tracked
 tracked_gone_for uses None o m = m
 tracked_gone_for uses (Some k) o m = tracked_gone uses (compact_of k) o m
 
--- a look-up took so many nanoseconds more
+-- the request after a look-up took so many nanoseconds
 abbrev pub with_look_up_time : ℕ → Request → Request
 with_look_up_time n r = let d : Digest = r.digest in record r { digest = record d { look_ups = time_added d.look_ups n } }

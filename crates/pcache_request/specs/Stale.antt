@@ -1,4 +1,4 @@
--- What becomes of a stale body (the phase table).
+-- What a request does with a stale body (the phase table).
 use Rattle.std.specs.Prelude.{Option, None, IsSome, option_map}
 use Rattle.pcache_base.specs.declared.reason.NoCacheReason.{NoCacheReason}
 use Rattle.pcache_meta.specs.Header.{Header}
@@ -11,7 +11,7 @@ use Rattle.pcache_request.specs.Requests.{Request}
 abbrev pub updating : Request → Request
 updating r = record r { phase = phase.StaleUpdating }
 
--- a stale body was found, and its meta is there
+-- a stale body was found, with its meta
 abbrev pub IsStaleWith : CachePhase → Option Meta → Type 0
 IsStaleWith phase.Stale m = IsSome m
 IsStaleWith _ m = ⊥
@@ -19,7 +19,7 @@ IsStaleWith _ m = ⊥
 abbrev pub MayRevalidate : Request → Type 0
 MayRevalidate r = IsStaleWith r.phase r.meta
 
--- the body is good, with this header, and the new answer is not stored
+-- the body is valid, with this header, and the new response is not stored
 abbrev pub with_header : Header → Meta → Meta
 with_header h m = record m { header = h }
 

@@ -1,4 +1,4 @@
--- How the end of a write went, and what it leaves (own).
+-- The outcomes of the end of a write, and what each leaves (own).
 use Rattle.std.specs.Prelude.{ℕ, ◌≡◌, Bool, Option, Some, None, Result, Ok, Err, ◌⊎◌, cond}
 use Rattle.pcache_base.specs.Key.{Key}
 use Rattle.pcache_base.specs.declared.error.ErrorType.{ErrorType}
@@ -15,7 +15,7 @@ use Rattle.pcache_request.specs.declared.cache.finish.FinishReport.{FinishReport
 use Rattle.pcache_request.specs.declared.cache.finish.WriteEnd.{WriteEnd}
 use Rattle.pcache_request.specs.declared.cache.finish.WriteEnd.TheVariants as end
 
--- what a storage answers at the end of the write, if there is one
+-- what a storage returns at the end of the write, if there is one
 abbrev pub finishes_of : (ℕ → MissFinishType) → Option ℕ → MissFinishType
 finishes_of f None = Created 0
 finishes_of f (Some w) = f w
@@ -36,7 +36,7 @@ EndsBody g used id Lets k w kind limits (end.Withdrawn e) s s' m m' = Withdraws 
 abbrev pub HoldsNoLock : LockStatus → Type 0
 HoldsNoLock status = Unit {0}
 
--- the status that a permit is released with once a write ended so
+-- the status that a permit is released with after a write ended so
 abbrev pub status_after : WriteEnd → LockStatus
 status_after end.Nothing = Done
 status_after (end.Stored f) = Done
@@ -52,13 +52,14 @@ Ends g r k None kind limits end s s' m m' t t' = EndsIdle end s s' m m' t t'
 Ends g r (Some k) (Some w) kind limits end s s' m m' t t' = EndsWrite g r k w kind limits end s s' m m' t t'
 Ends g r None (Some w) kind limits end s s' m m' t t' = ⊥
 
--- the same as it is answered: a refusal does not tell how far it came
+-- the same, for the result of the call: an error does not say how far it came
 abbrev pub EndsAs : Result (Option FinishReport) ErrorType → (WriteEnd → Type 0) → Type 0
 EndsAs (Ok None) P = P end.Nothing
 EndsAs (Ok (Some f)) P = P (end.Stored f)
 EndsAs (Err e) P = P (end.Dropped e) ⊎ P (end.Withdrawn e)
 
--- the manager's totals once a write ended so: if a manager is in use, they grow by what was evicted for a stored body
+-- the manager's totals after a write ended so: if a manager is in use, they grow by what was evicted for a stored
+-- body
 abbrev pub evicted_by : Bool → Option ℕ → Key → MissFinishType → Tracked → Evicted → WriteEnd → Evicted
 evicted_by used id k kind m before end.Nothing = before
 evicted_by used id k kind m before (end.Stored f) = cond used (evicted_with before (with_entry kind (entry_of k id) m) f.evicted.items) before

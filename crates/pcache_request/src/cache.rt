@@ -1,8 +1,8 @@
 //! One request's way through the cache.
 //!
-//! A request is lent what it works on: the storage, the eviction manager and the lock table. Parts
-//! that it does not use are left as they are. What it holds (a lock, a reader, a write) has to be
-//! given back, so a request is spent by `end`.
+//! A request borrows what it works on: the storage, the eviction manager and the lock table. Parts
+//! that it does not use are not changed. What it holds (a lock, a reader, a write) has to be given
+//! back, so a request is spent by `end`.
 ghost use Rattle.std.specs.Prelude.{◌≡◌, IfOk, IfErr, OnOk, OnErr, IsSome, Option, Some, None, option_map, cond, true};
 ghost use Rattle.pcache_base.specs.Key.{slot};
 ghost use Rattle.pcache_base.specs.declared.error.ErrorType.TheVariants.{OutOfMemory};
@@ -108,7 +108,7 @@ impl<S: Storage> Model for HttpCache<S> {
     ghost invariant = { λ a. HasKey a.phase a.key × IsClear a.phase a.held a.reader a.writer × IsWriting a.phase a.meta a.writer };
 }
 
-// Puts a linear value where none is.
+// Puts a linear value into an empty place.
 fn put<T>(place: &mut Option<T>, value: T)
     requires { place.old ≡ None }
     ensures { place.new ≡ Some value }
@@ -117,7 +117,7 @@ fn put<T>(place: &mut Option<T>, value: T)
     let None = before else { unreachable!() };
 }
 
-// The name of a lock, if one is held.
+// The name of the held lock, if there is one.
 fn name_of(held: &Option<Locked>) -> Option<LockName>
     ensures { result ≡ option_map name_of held.now }
 {
@@ -127,7 +127,7 @@ fn name_of(held: &Option<Locked>) -> Option<LockName>
     }
 }
 
-// Asks for a key's lock, and lets an older one go once the new one was given.
+// Asks for a key's lock, and lets a lock held before go once the new one was given.
 fn take_lock<L: CacheKeyLock>(
     alloc: Global,
     held: &mut Option<Locked>,
@@ -152,7 +152,7 @@ fn take_lock<L: CacheKeyLock>(
     Ok(AskedLock { given, replaced })
 }
 
-// Asks for a key's lock, if that is to be done.
+// Asks for a key's lock, if `asks` holds.
 fn take_lock_if<L: CacheKeyLock>(
     alloc: Global,
     asks: bool,
@@ -177,8 +177,8 @@ fn take_lock_if<L: CacheKeyLock>(
     Ok(Some(asked))
 }
 
-// Releases what is held: a permit with a status, which needs no key of its own; a read lock is let go.
-// Answers what it was.
+// Releases the held lock: a permit with a status, which needs no key; a read lock is let go. Returns
+// which lock it was.
 fn settle<L: CacheKeyLock>(
     alloc: Global,
     key: &Option<CacheKey>,
@@ -206,7 +206,7 @@ fn settle<L: CacheKeyLock>(
     released
 }
 
-// The reader that follows a write, if the store has one by this tag.
+// A reader that follows the write with this tag, if the store has one.
 fn join_write<S: Storage>(
     alloc: Global,
     storage: &mut S,
@@ -225,7 +225,7 @@ fn join_write<S: Storage>(
     }
 }
 
-// The entry of a key, and of the body or write of this number if it has one.
+// The entry of a key, with the number of its body or write if there is one.
 fn entry_for(key: &CacheKey, id: Option<CacheEntryId>) -> Result<CacheEntryKey>
     ensures ok { IfOk result (λ entry. entry ≡ entry_of key.now id) }
     ensures kind { IfErr result (λ e. e ≡ OutOfMemory) }
@@ -233,7 +233,7 @@ fn entry_for(key: &CacheKey, id: Option<CacheEntryId>) -> Result<CacheEntryKey>
     Ok(CacheEntryKey::from_entry_id(key.to_compact()?, id))
 }
 
-// Puts a reader, or none, in place of the one before, which is let go.
+// Replaces the reader, perhaps by none. The old one is let go.
 fn replace_reader<S: Storage>(place: &mut Option<S::Hit>, reader: Option<S::Hit>, storage: &mut S)
     ensures place { place.new ≡ reader }
     ensures store { S.state storage.new ≡ left_by (option_map S.Hit.reader place.old) (S.state storage.old) }
@@ -287,8 +287,8 @@ impl<S: Storage> HttpCache<S> {
         }
     }
 
-    /// Turns caching on, with these parts in use and all else but the digest as in a new request. A
-    /// disabled request holds nothing, so that nothing is lost.
+    /// Turns caching on, with these parts in use. All else but the digest is as in a new request. A
+    /// disabled request holds nothing, so nothing is lost.
     /// Requires the phase Disabled; ask `phase().is_disabled()`.
     pub fn enable(&mut self, uses: InUse)
         requires { IsDisabled self.old.phase }
@@ -308,7 +308,7 @@ impl<S: Storage> HttpCache<S> {
         self.has_policy = false;
     }
 
-    /// Where the request stands.
+    /// The phase of the request.
     pub fn phase(&self) -> CachePhase
         ensures { result ≡ self.now.phase }
     {
@@ -322,7 +322,7 @@ impl<S: Storage> HttpCache<S> {
         self.uses
     }
 
-    /// The key, if one is set: in each phase after the key's there is one.
+    /// The key, if one is set. There is one in each phase after CacheKey.
     pub fn key(&self) -> Option<&CacheKey>
         ensures value { option_copied result ≡ self.now.key }
         ensures known { HasKey self.now.phase self.now.key }
@@ -344,7 +344,7 @@ impl<S: Storage> HttpCache<S> {
         self.held.as_ref()
     }
 
-    /// The handler of the write, if there is one, to be asked.
+    /// The handler of the write, if there is one, for reading its state.
     pub fn writer(&self) -> Option<&S::Miss>
         ensures write { option_map (λ w. S.Miss.write w.now) result ≡ self.now.write }
         ensures entry { option_and_then (λ w. S.Miss.entry_number w.now) result ≡ self.now.entry }
@@ -362,7 +362,7 @@ impl<S: Storage> HttpCache<S> {
         self.phase = CachePhase::CacheKey;
     }
 
-    /// Goes on as a miss, of which nothing was written yet.
+    /// Goes on as a miss. The write has not begun.
     /// Requires the phase CacheKey, Bypass or Stale; ask `phase().may_miss()`.
     pub fn cache_miss(&mut self)
         requires { MayMiss self.old.phase }
@@ -382,7 +382,7 @@ impl<S: Storage> HttpCache<S> {
         self.reader.is_some()
     }
 
-    /// Reads on. It fails only when memory runs out, and only if there is a piece to give; it changes nothing then.
+    /// Reads on. Fails only when memory runs out, and only if there is a piece to give; then it changes nothing.
     /// Requires a reader; ask `has_body_reader()`.
     pub fn read_body(&mut self, storage: &mut S) -> Result<Poll<Option<Bytes>>>
         requires { IsSome self.old.reader }
@@ -399,9 +399,9 @@ impl<S: Storage> HttpCache<S> {
         reader.read_body(self.alloc, storage)
     }
 
-    /// Has the reader give the body from `start` on, and before `end` if one is given, anew. It is
-    /// refused as an internal error if the reader follows a write, the body has no byte at `start`
-    /// or `end` lies before it, and changes nothing then.
+    /// Moves the reader to `start`, from where it gives the body again, to before `end` if that is
+    /// given. Fails with `InternalError` if the reader follows a write, the body has no byte at
+    /// `start` or `end` is before `start`, and changes nothing then.
     /// Requires a reader; ask `has_body_reader()`.
     pub fn seek(&mut self, start: usize, end: Option<usize>) -> Result<()>
         requires { IsSome self.old.reader }
@@ -429,7 +429,7 @@ impl<S: Storage> HttpCache<S> {
         self.reader.as_mut().unwrap()
     }
 
-    /// Ends the reader, if there is one, also if that is refused, which it is only when memory runs
+    /// Ends the reader, if there is one, even if this fails, which it does only when memory runs
     /// out.
     /// Requires a phase after a look-up (not Disabled, Uninit, CacheKey or Bypass); ask
     /// `phase().may_finish_hit()`.
@@ -472,9 +472,9 @@ impl<S: Storage> HttpCache<S> {
         }
     }
 
-    /// Sets the meta of the response that is to be stored. In place of a stale one it keeps the
-    /// moment from which that one's body came, and the request goes on as expired, of which nothing
-    /// was written yet.
+    /// Sets the meta of the response that is to be stored. If it replaces a stale one, the moment
+    /// from which that one's body came is kept, and the request goes on as expired. The write has
+    /// not begun.
     /// Requires the phase Miss, or Stale with a meta; ask `may_take_meta()`.
     pub fn set_cache_meta(&mut self, meta: CacheMeta)
         requires { MayTakeMeta self.old }
@@ -506,8 +506,8 @@ impl<S: Storage> HttpCache<S> {
     }
 
     /// Begins the write. In a storage whose writes can be read while they are made, the permit is
-    /// released and the request's reader follows the write; if that is refused, the write has
-    /// begun and the permit is released. Over any other storage a refusal changes nothing.
+    /// released and the request's reader follows the write; if this fails, the write has begun and
+    /// the permit is released. Over any other storage a failed call changes nothing.
     /// Requires a phase that fills, a meta, and no write; ask `may_write()`.
     pub fn set_miss_handler<L: CacheKeyLock>(&mut self, storage: &mut S, lock: &mut L) -> Result<()>
         requires { MayWrite self.old }
@@ -523,8 +523,8 @@ impl<S: Storage> HttpCache<S> {
         self.begin_write(storage, lock)?.joined
     }
 
-    /// What `set_miss_handler` does, told apart by how far it came: refused, it changes nothing; else
-    /// the write has begun, also if the reader could not join it.
+    /// `set_miss_handler` with a result that says how far it came: if it fails, nothing is changed;
+    /// otherwise the write has begun, even if the reader could not join it.
     /// Requires a phase that fills, a meta, and no write; ask `may_write()`.
     pub fn begin_write<L: CacheKeyLock>(
         &mut self,
@@ -593,8 +593,8 @@ impl<S: Storage> HttpCache<S> {
         Some(writer)
     }
 
-    /// Gives back all that is held: the write is dropped, a permit dangles, the rest is let go.
-    /// Answers the lock that was let go.
+    /// Gives back all that is held: the write is dropped, a permit is dangling, the rest is let go.
+    /// Returns the lock that was let go.
     pub fn end<L: CacheKeyLock>(self, storage: &mut S, lock: &mut L) -> Option<LockName>
         ensures let_go { result ≡ option_map name_of self.held }
         ensures store { S.state storage.new ≡ left_by self.reader (dropped_by self.write (S.state storage.old)) }

@@ -1,4 +1,4 @@
-//! What a request took.
+//! What a request measured.
 ghost use Rattle.std.specs.Prelude.{◌≡◌, Some, option_map};
 ghost use Rattle.std.specs.Duration.{as_nanos};
 ghost use Rattle.pcache_request.specs.Digest.{empty_digest, time_added};
@@ -8,7 +8,7 @@ use pcache_predict::admission::Decision;
 use std::marker::Model;
 use std::time::Duration;
 
-/// The fill that a request did not wait for any longer, since it cannot use it.
+/// A fill that a request stopped waiting for, since it cannot use it.
 #[derive(Clone, Copy, Debug, PartialEq, Eq)]
 pub struct LockAbandon {
     /// Why it cannot use the fill.
@@ -17,16 +17,16 @@ pub struct LockAbandon {
     pub token: u64,
 }
 
-/// What a request took, over all that it did.
+/// What a request measured, over all its calls.
 #[derive(Debug, Drop)]
 pub struct HttpCacheDigest {
-    /// The time that it waited for locks, over all its waits that ended; the longest duration if
-    /// it is more.
+    /// The time that it waited for locks, over all its waits that ended; the longest duration if it
+    /// is longer.
     pub lock_duration: Option<Duration>,
     /// The time that its look-ups took, as its caller measured it; the longest duration if it is
-    /// more.
+    /// longer.
     pub lookup_duration: Option<Duration>,
-    /// The fill that a wait was told of last.
+    /// The last fill that ended a wait.
     pub lock_abandon: Option<LockAbandon>,
     /// What the admission policy decided of the request, if it was asked.
     pub admission: Option<Decision>,
@@ -42,7 +42,7 @@ impl Model for HttpCacheDigest {
     ghost view = { λ d. record { look_ups = option_map as_nanos d.lookup_duration; waits = option_map as_nanos d.lock_duration; abandoned = d.lock_abandon; admission = d.admission } };
 }
 
-/// Nothing took any time, and nothing was decided.
+/// No time was measured, and nothing was decided.
 impl Default for HttpCacheDigest {
     fn default() -> HttpCacheDigest
         ensures { result ≡ empty_digest }
@@ -90,7 +90,7 @@ impl HttpCacheDigest {
     }
 }
 
-// A time, if there was one, and a further one; the longest duration if they are more.
+// The sum of a time, if there was one, and a further one; the longest duration if it is longer.
 fn longer(before: Option<Duration>, extra: Duration) -> Duration
     ensures { Some (as_nanos result) ≡ time_added (option_map as_nanos before) (as_nanos extra) }
 {

@@ -2,8 +2,8 @@
 //! One request's way through the cache.
 //!
 //! - `cache`: `HttpCache`, one request over a storage, an eviction manager and a lock table
-//! - `digest`: what a request took
-//! - `phase`: where a request stands, and what a hit is worth
+//! - `digest`: what a request measured
+//! - `phase`: the phase of a request, and the status of a hit
 
 pub mod cache;
 pub mod digest;

@@ -1,20 +1,20 @@
-//! Where a request stands, and what a hit is worth.
+//! The phase of a request, and the status of a hit.
 ghost use Rattle.std.specs.Prelude.{◌≡◌, ◌↔◌, IsTrue};
 ghost use Rattle.pcache_request.specs.Phases as phases;
 
 use pcache_base::moment::Moment;
 use pcache_base::reason::NoCacheReason;
 
-/// Where a request stands.
+/// The phase of a request.
 #[derive(Clone, Copy, Debug, PartialEq, Eq)]
 pub enum CachePhase {
     /// Nothing is cached.
     Disabled(NoCacheReason),
-    /// Caching is on, and nothing is known yet.
+    /// Caching is on, and no key is set.
     Uninit,
-    /// The cache is passed by, and the key is kept.
+    /// The cache is bypassed; the key is kept.
     Bypass,
-    /// The key is known.
+    /// The key is set.
     CacheKey,
     /// A fresh body was found.
     Hit,
@@ -22,13 +22,13 @@ pub enum CachePhase {
     Miss,
     /// A body was found that is not fresh.
     Stale,
-    /// The same, while another request renews it.
+    /// A stale body was found, and another request renews it.
     StaleUpdating,
     /// A body was found that is not fresh, and a new one is fetched.
     Expired,
-    /// The origin said that the body found is still good.
+    /// The origin said that the body found is still valid.
     Revalidated,
-    /// The same, and the new answer is not to be stored.
+    /// The origin said that the body found is still valid, and its response is not to be stored.
     RevalidatedNoCache(NoCacheReason),
 }
 
@@ -74,7 +74,7 @@ impl CachePhase {
         !matches!(self, CachePhase::Disabled(NoCacheReason::NeverEnabled))
     }
 
-    /// Whether the cache may be passed by.
+    /// Whether the cache may be bypassed.
     pub fn may_bypass(self) -> bool
         ensures { IsTrue result ↔ phases.MayBypass self }
     {
@@ -88,7 +88,7 @@ impl CachePhase {
         matches!(self, CachePhase::Uninit | CachePhase::CacheKey)
     }
 
-    /// Whether the key may be looked up, and what was found be taken.
+    /// Whether the key may be looked up, and a found body taken.
     pub fn may_look_up(self) -> bool
         ensures { IsTrue result ↔ phases.MayLookUp self }
     {
@@ -113,7 +113,7 @@ impl CachePhase {
         matches!(self, CachePhase::Miss | CachePhase::Expired)
     }
 
-    /// Whether a body that was found may be read.
+    /// Whether the body that was found may be read.
     pub fn is_reading(self) -> bool
         ensures { IsTrue result ↔ phases.IsReading self }
     {
@@ -151,14 +151,15 @@ impl CachePhase {
         matches!(self, CachePhase::Stale)
     }
 
-    /// Whether the key may be purged, and what stands under it be expired.
+    /// Whether the key may be purged, and what is stored for it expired.
     pub fn may_purge(self) -> bool
         ensures { IsTrue result ↔ phases.MayPurge self }
     {
         matches!(self, CachePhase::CacheKey)
     }
 
-    /// Whether the key may be purged beside what the request does: caching is on, and the key is set.
+    /// Whether the key may be purged independently of what the request does: caching is on, and the
+    /// key is set.
     pub fn may_spawn_purge(self) -> bool
         ensures { IsTrue result ↔ phases.MaySpawnPurge self }
     {
@@ -166,35 +167,36 @@ impl CachePhase {
     }
 }
 
-/// How a filter has a hit taken, whatever its meta says.
+/// How a filter overrides the freshness of a hit.
 #[derive(Clone, Copy, Debug, PartialEq, Eq)]
 pub enum ForcedFreshness {
-    /// As expired.
+    /// The hit counts as expired.
     ForceExpired,
-    /// As expired at this moment, or at the one that the meta says, and it may be served stale.
+    /// The hit counts as expired at this moment, or at the one of its meta, and may be served
+    /// stale.
     ForceExpiredServeStale { expired_at: Option<Moment> },
-    /// As a miss.
+    /// The hit counts as a miss.
     ForceMiss,
-    /// As fresh.
+    /// The hit counts as fresh.
     ForceFresh,
 }
 
-/// What a hit is worth.
+/// The status of a hit.
 #[derive(Clone, Copy, Debug, PartialEq, Eq)]
 pub enum HitStatus {
     /// Its freshness ended.
     Expired,
-    /// It is to be taken as expired.
+    /// It counts as expired.
     ForceExpired,
-    /// It is to be taken as expired, and may be served stale.
+    /// It counts as expired, and may be served stale.
     ForceExpiredServeStale,
-    /// It is to be taken as a miss.
+    /// It counts as a miss.
     ForceMiss,
-    /// A filter refused it, so that it is taken as a miss.
+    /// A filter rejected it, so that it counts as a miss.
     FailedHitFilter,
     /// It is fresh.
     Fresh,
-    /// It is to be taken as fresh.
+    /// It counts as fresh.
     ForceFresh,
 }
 
@@ -221,7 +223,7 @@ impl HitStatus {
         matches!(self, HitStatus::Fresh | HitStatus::ForceFresh)
     }
 
-    /// Whether the body is neither served as it is nor passed over.
+    /// Whether the body is neither served as it is nor treated as a miss.
     pub fn is_stale(self) -> bool
         ensures { result ≡ phases.is_stale self }
     {
@@ -231,7 +233,7 @@ impl HitStatus {
         )
     }
 
-    /// Whether the body is passed over.
+    /// Whether the body is treated as a miss.
     pub fn is_treated_as_miss(self) -> bool
         ensures { result ≡ phases.is_treated_as_miss self }
     {
@@ -239,10 +241,13 @@ impl HitStatus {
     }
 }
 
-/// Which of the parts that calls are lent a request uses.
+/// Which of the parts that its calls borrow a request uses.
 #[derive(Clone, Copy, Debug, PartialEq, Eq)]
 pub struct InUse {
+    /// The eviction manager.
     pub eviction: bool,
+    /// The predictor.
     pub predictor: bool,
+    /// The lock table.
     pub lock: bool,
 }

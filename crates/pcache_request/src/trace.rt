@@ -1,6 +1,6 @@
-//! The spans of one request, all without effect.
+//! The spans of one request. None has an effect.
 //!
-//! Each call stands where a back end of tracing would be told of the request's course.
+//! The calls are made where a tracing back end would record the request's course.
 
 use crate::phase::{CachePhase, HitStatus};
 use pcache_base::moment::Moment;
@@ -26,7 +26,7 @@ impl CacheTraceCTX {
         }
     }
 
-    /// Takes this span for all of the request's calls.
+    /// Uses this span for all of the request's calls.
     pub(crate) fn enable(&mut self, cache_span: Span) {
         self.cache_span = cache_span;
     }
@@ -47,7 +47,7 @@ impl CacheTraceCTX {
         self.miss_span.handle()
     }
 
-    /// The request has no clock of its own; the closure stands for a back end's, and is not called.
+    /// The request has no clock of its own; the closure is that of a back end, and is not called.
     pub(crate) fn finish_miss_span(&mut self) {
         self.miss_span.set_finish_time(|| Moment::EPOCH);
     }
@@ -63,7 +63,7 @@ impl CacheTraceCTX {
         self.hit_span.handle()
     }
 
-    /// The request has no clock of its own; the closure stands for a back end's, and is not called.
+    /// The request has no clock of its own; the closure is that of a back end, and is not called.
     pub(crate) fn finish_hit_span(&mut self) {
         self.hit_span.set_finish_time(|| Moment::EPOCH);
     }

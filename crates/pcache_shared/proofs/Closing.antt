@@ -1,4 +1,4 @@
--- What the last step tells, in terms of the history and the receipts.
+-- What the last step gives, in terms of the history and the receipts.
 use Rattle.std.proofs.Common.{◌≡◌, ℕ, suc, ◌+◌, ◌-◌, ◌<◌, List, [], ◌∷◌, ◌++◌, map, length, refl, sym, ap, ◌∙◌, subst, arith, length-append, eq-eqb, ne_eqb, eqb}
 use Rattle.std.specs.Prelude.{slice_get}
 use Rattle.std.specs.List.{All}
@@ -53,7 +53,7 @@ places_are : (s : ℕ) (claims : List (ℕ × Entry)) → places_of (map (receip
 places_are s [] = refl
 places_are s (c ∷ cs) = ap (λ l. (s + c.0) ∷ l) (places_are s cs)
 
--- rising places rise also from s on
+-- increasing indices increase also from s on
 pub rises_of : (s : ℕ) (claims : List (ℕ × Entry)) → Rises (places claims) → Rises (places_of (map (receipt_of s) claims))
 rises_of s claims h = subst Rises (sym (places_are s claims)) (shifted (places claims) h)
   where

@@ -54,7 +54,7 @@ module _ {E : Type 0} where
   length_snoc [] x = refl
   length_snoc (y ∷ xs) x = ap suc (length_snoc xs x)
 
-  -- the keeper adds an entry, and claims its place
+  -- the keeper adds an entry, and claims its index
   add_keeps : (by parts : ℕ) (all : List E) (claims : List (ℕ × E)) (e : E) (views : List (View E)) → 0 < parts → Kept views → get_elem? views by ≡ some (keeper parts all claims) → Kept (set views by (added (keeper parts all claims) (some e)))
   add_keeps by parts all claims e views some_part h at =
       let v = keeper parts all claims in

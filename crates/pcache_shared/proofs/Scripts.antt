@@ -1,5 +1,5 @@
 -- What is known of a script that was run.
-use Rattle.std.proofs.Common.{◌≡◌, ℕ, zero, suc, ◌+◌, ◌<◌, List, [], ◌∷◌, map, take, length, Vec, refl, sym, ap, ◌∙◌, subst, arith, length-append}
+use Rattle.std.proofs.Common.{◌≡◌, ℕ, zero, suc, ◌+◌, ◌<◌, List, [], ◌∷◌, Result, Ok, Err, OnErr, map, take, length, Vec, refl, sym, ap, ◌∙◌, subst, arith, length-append}
 use Rattle.std.specs.Prelude.{slice_index_or}
 use Rattle.std.proofs.lemmas.List.{append-nil}
 use Rattle.pcache_history.specs.declared.call.Call.{Call}
@@ -39,3 +39,18 @@ pub all_run : {A : Type 0} (scripts : List (Vec Call A)) (before after : List (L
 all_run scripts before after counts same are runs grown i d lt =
     runs_whole (script_at scripts i) (slice_index_or before i d) (slice_index_or after i d) (runs i d lt)
     (grown i d (subst (λ n. i < n) same lt) ∙ ap (λ k. k + length (script_at scripts i)) (ap (λ l. slice_index_or l i 0) are ∙ length_at before i d lt))
+
+-- and if all of it was run, there is one for each call
+pub whole_grown : {A : Type 0} (scripts : List (Vec Call A)) (before after : List (List Receipt)) (counts : List ℕ)
+    → length before ≡ length after → counts ≡ map length before → EachRuns RunsWhole scripts before after → HaveGrown scripts counts after
+whole_grown scripts before after counts same are whole i d lt =
+    let within = subst (λ n. i < n) (sym same) lt in
+    let r = whole i d within in
+    let at : slice_index_or counts i 0 ≡ length (slice_index_or before i d) = ap (λ l. slice_index_or l i 0) are ∙ length_at before i d within in
+    let a = ap length r.1 ∙ length-append (slice_index_or before i d) r.0 in
+    omega (arith, a, at, length_calls r.0, ap length r.2)
+
+-- what holds anyhow holds of a refusal
+pub if_refused : {A E P : Type 0} (r : Result A E) → P → OnErr r P
+if_refused (Ok a) p = tt
+if_refused (Err e) p = p

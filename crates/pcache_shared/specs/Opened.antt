@@ -1,4 +1,4 @@
--- What a mark stands for (own).
+-- What a mark names (own).
 use Rattle.std.specs.Prelude.{ℕ, [], None, refl}
 use Rattle.std.specs.Coded.{Coded, code_by, coded×, coded_ℕ}
 use Rattle.std.specs.FinMap as map
@@ -21,7 +21,7 @@ unopened =
       shares = 0;
     }
 
--- a code, which a model's value needs
+-- an encoding, which the value of a model needs
 abbrev pub opened_code : Coded Opened
 opened_code =
     code_by (TableId × (Log × ℕ)) (coded× table_id_coded (coded× log_code coded_ℕ)) (λ o. (o.table, (o.log, o.shares))) (λ p. record { table = p.0; log = p.1.0; shares = p.1.1 }) (λ _. refl)

@@ -6,7 +6,7 @@ use Rattle.pcache_history.specs.declared.entry.Entry.{Entry}
 use Rattle.pcache_shared.specs.declared.receipt.Receipt.{Receipt}
 use Rattle.pcache_shared.specs.Views.{times, numbers, Rises}
 
--- the receipt of an entry that was added as the one with this number, to a history of s entries
+-- the receipt of the entry with this number among those added to a history of s entries
 abbrev pub receipt_of : ℕ → ℕ × Entry → Receipt
 receipt_of s c = record { place = s + c.0; call = c.1.call; reply = c.1.reply }
 
@@ -14,7 +14,7 @@ receipt_of s c = record { place = s + c.0; call = c.1.call; reply = c.1.reply }
 abbrev pub IsOf : Entry → Receipt → Type 0
 IsOf e r = (e.call ≡ r.call) × (e.reply ≡ r.reply)
 
--- an entry with the receipt's call and reply stands in the history at the receipt's place
+-- an entry with the receipt's call and reply is in the history at the receipt's index
 abbrev pub StandsIn : List Entry → Receipt → Type 0
 StandsIn history r = (e : Entry) × (slice_get history r.place ≡ Some e) × IsOf e r
 
@@ -26,23 +26,24 @@ joined (x ∷ xs) = x ++ joined xs
 abbrev pub places_of : List Receipt → List ℕ
 places_of receipts = map (λ (r : Receipt). r.place) receipts
 
--- the places that a history of m entries has and one of s entries has not
+-- the indices of a history of m entries that one of s entries does not have
 abbrev pub places_from : ℕ → ℕ → List ℕ
 places_from s m = map (λ k. s + k) (numbers (m - s))
 
--- the receipts are those of the entries that came to the history since the start: each stands in it, in a share the places rise, and each place that came is that of one receipt
+-- the receipts are those of the entries added to the history since the start: each is in it, in a share the indices increase, and
+-- each added index is that of exactly one receipt
 pub record AreReceipts (start history : List Entry) (all : List (List Receipt)) : Type 0 where
   pub stand : All (StandsIn history) (joined all)
   pub rise : All (λ rs. Rises (places_of rs)) all
   pub once : (p : ℕ) → times p (places_of (joined all)) ≡ times p (places_from (length start) (length history))
 
--- the world has the history of before and perhaps more, over the same entries at the start and under the same limits
+-- the world has the old history and perhaps more entries, with the same entries at the start and the same limits
 pub record HasGrown (old new : Log) : Type 0 where
   pub more : List Entry
   pub history : new.history ≡ old.history ++ more
   pub start : new.start ≡ old.start
   pub limits : new.limits ≡ old.limits
 
--- it holds of what the world has become, by calls that make a legal history
+-- `Holds` holds of the state that the world has reached, by calls that make a legal history
 abbrev pub IsTold : Log → (Log → Type 0) → Type 0
 IsTold opened Holds = (log : Log) × HasLegal log × HasGrown opened log × Holds log

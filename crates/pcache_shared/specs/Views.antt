@@ -1,4 +1,4 @@
--- What the seats of a shared log know, and the rule that ties them (own).
+-- What the seats of a shared log know, and the rule that connects them (own).
 use Rattle.std.specs.Prelude.{◌≡◌, ℕ, zero, suc, ◌+◌, ◌-◌, ◌<◌, ◌^◌, ◌==◌, List, [], ◌∷◌, ◌++◌, map, length, Bool, true, false, Some, slice_get, ⊤}
 use Rattle.std.specs.List.{All}
 use mathlib.Core.Option.{Option, none, some}
@@ -10,7 +10,7 @@ abbrev pub one_if : Bool → ℕ
 one_if true = 1
 one_if false = 0
 
--- how often p stands in the list
+-- how often p occurs in the list
 abbrev pub times : ℕ → List ℕ → ℕ
 times p [] = 0
 times p (x ∷ xs) = one_if (x == p) + times p xs
@@ -29,7 +29,7 @@ abbrev pub Rises : List ℕ → Type 0
 Rises [] = ⊤
 Rises (x ∷ xs) = All (λ y. x < y) xs × Rises xs
 
--- as many parts as there are in all
+-- the number of all parts
 abbrev pub whole : ℕ
 whole = 2 ^ 64
 
@@ -41,7 +41,7 @@ module _ {E : Type 0} where
   abbrev pub keeper : ℕ → List E → List (ℕ × E) → View E
   keeper parts all claims = record { keeps = true; all = all; parts = parts; claims = claims }
 
-  -- what a share's seat knows: its entries, each with its place
+  -- what a share's seat knows: its entries, each with its index
   abbrev pub slip : List (ℕ × E) → View E
   slip claims = record { keeps = false; all = []; parts = 1; claims = claims }
 
@@ -55,7 +55,7 @@ module _ {E : Type 0} where
   abbrev pub Fits : ℕ → List E → ℕ → View E → Type 0
   Fits seat log by v = (v.keeps ≡ true → (by ≡ seat) × (v.all ≡ log)) × All (Stands log) v.claims × (v.parts ≡ 0 → v.claims ≡ [])
 
-  -- one view at most keeps the log; each claim stands in it, and each place of it is claimed once; a view with no part claims nothing
+  -- at most one view keeps the log; each claim is in it, and each index of it is claimed once; a view with no part claims nothing
   abbrev pub Kept : List (View E) → Type 0
   Kept views =
       (seat : ℕ) × (log : List E)
@@ -71,7 +71,7 @@ module _ {E : Type 0} where
   abbrev pub Adds : Step E → Me E (View E) → ℕ → Me E (View E) → Type 0
   Adds s v found w = (w ≡ (added v.0 s.said, v.1)) × All (λ c. c.0 < length v.0.all) v.0.claims
 
-  -- with every part: the claims stand in the log, at each place once
+  -- with all parts: the claims are in the log, one at each index
   abbrev pub Settles : Step E → Me E (View E) → ℕ → Me E (View E) → Type 0
   Settles s v found w = (w ≡ v) × (v.0.parts ≡ whole → All (Stands v.0.all) v.0.claims × ((p : ℕ) → times p (places v.0.claims) ≡ times p (numbers (length v.0.all))))
 

@@ -19,7 +19,7 @@ use pingora_cache::world::entry::Entry;
 use pingora_cache::world::policy::PutPolicy;
 use std::marker::{Model, PhantomData};
 
-/// What lies under the lock: the world, beside the seat that knows all that was added to it.
+/// The value under the lock: the world, and the seat that knows all entries added to it.
 #[derive(Drop)]
 pub(crate) struct Desk<M: EvictionManager, P: PutPolicy, K: Mark> {
     pub(crate) world: World<M, P>,
@@ -45,12 +45,12 @@ impl<M: EvictionManager, P: PutPolicy, K: Mark> Model for Desk<M, P, K> {
 impl<M: EvictionManager, P: PutPolicy, K: Mark> Desk<M, P, K> {
     ghost use Rattle.pcache_history.specs.Events.{slots, stored};
 
-    /// The lengths of the complete bodies, added up.
+    /// The sum of the lengths of the complete bodies.
     pub(crate) fn stored_bytes(&self) -> u128
         ensures value { IsTold K.opened.log (λ log. result ≡ stored (events_in log)) }
         ensures within { result ≤ K.opened.log.limits.weight }
     {
-        // For the prover: the call tells what is promised of the history.
+        // For the prover: the contract of the call says what is promised of the history.
         let _history = self.world.history();
         self.world.stored_bytes()
     }
@@ -60,12 +60,12 @@ impl<M: EvictionManager, P: PutPolicy, K: Mark> Desk<M, P, K> {
         ensures value { IsTold K.opened.log (λ log. result ≡ slots (events_in log)) }
         ensures within { IfSome K.opened.log.limits.watermark (λ most. result ≤ most) }
     {
-        // For the prover: the call tells what is promised of the history.
+        // For the prover: the contract of the call says what is promised of the history.
         let _history = self.world.history();
         self.world.slots()
     }
 
-    /// Makes a call, which the seat then claims. The copy goes into the receipt.
+    /// Makes a call, which the seat then claims. The copy of it goes into the receipt.
     pub(crate) fn call(
         &mut self,
         room: &Room,
@@ -99,7 +99,7 @@ impl<M: EvictionManager, P: PutPolicy, K: Mark> Desk<M, P, K> {
     }
 }
 
-// The entry of a history at a place.
+// The entry of a history at an index.
 fn entry_at<M: EvictionManager, P: PutPolicy>(world: &World<M, P>, place: usize) -> &Entry
     requires { place < length world.now.history }
     ensures { slice_get world.now.history place ≡ Some result.now }

@@ -1,13 +1,13 @@
 #![tactic(auto)]
-//! A world that threads share. Each call gives its caller a receipt, and in the end the receipts are
-//! the calls of the history.
+//! A world that threads share. Each call gives its caller a receipt, and at the end the receipts are
+//! exactly the calls of the history.
 //!
-//! - `mark`: what names one shared world
-//! - `view`: what the two sides of the lock know, and the rule that ties them
-//! - `receipt`, `share`: what a thread has of its calls
+//! - `mark`: the type that names one shared world
+//! - `view`: what the two sides of the lock know, and the rule that connects them
+//! - `receipt`, `share`: the receipts of a thread's calls
 //! - `desk`: the world under its lock
 //! - `shared_world`: the lock, its calls and its end
-//! - `opening`: how it begins
+//! - `opening`: making a shared world
 //! - `workers`: threads that run scripts of calls
 
 mod desk;

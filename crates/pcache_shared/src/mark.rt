@@ -1,17 +1,17 @@
-//! What names a shared world.
+//! The types that name shared worlds.
 
 use std::marker::Brand;
 
 /// Names one shared world: its table, the world it was made with and the number of its shares. The
-/// shared world and its shares carry the same mark, so that no share of another world fits.
+/// shared world and its shares carry the same mark, so that a share of another world cannot be used
+/// with it.
 pub trait Mark {
     ghost use Rattle.pcache_shared.specs.Opened.{Opened};
 
     ghost opened: { Opened };
 }
 
-/// A caller that names no mark in its own signature takes this one, and picks what it stands for at
-/// the call.
+/// A caller without a mark parameter uses this one, and chooses at the call what it names.
 impl Mark for Brand {
     ghost use Rattle.pcache_shared.specs.Opened.{unopened};
 

@@ -1,4 +1,4 @@
-//! How a shared world begins. It comes in two steps, since its table has a name only once it is made.
+//! How a shared world begins. It takes two steps, since its table has a name only after it is made.
 ghost use Rattle.std.specs.Prelude.{◌≡◌, IfOk};
 
 use crate::view::{Room, View};
@@ -10,7 +10,7 @@ use pingora_cache::world::policy::PutPolicy;
 use std::alloc::{AllocError, Global};
 use std::marker::Model;
 
-/// A world that is to be shared, and has no mark yet. To a contract it is what a mark stands for.
+/// A world that is to be shared, and has no mark yet. A contract sees what the mark names.
 #[derive(Drop)]
 pub struct Opening<M: EvictionManager, P: PutPolicy> {
     pub(crate) room: Room,
@@ -34,7 +34,7 @@ impl<M: EvictionManager, P: PutPolicy> Model for Opening<M, P> {
 }
 
 impl<M: EvictionManager, P: PutPolicy> Opening<M, P> {
-    /// Makes the table for a world with this number of shares. Refused, the world is gone.
+    /// Makes the table for a world with this number of shares. If it fails, the world is dropped.
     pub fn new(
         alloc: Global,
         world: World<M, P>,

@@ -1,12 +1,14 @@
-//! What a thread has of a call.
+//! The receipt of a call.
 
 use pingora_cache::world::call::{Call, Reply};
 
-/// A call of a share.
+/// The receipt of a call of a share: the call and its reply.
 #[derive(Drop)]
 pub struct Receipt {
-    /// Where it stands in the history; the first call of a world has place 0.
+    /// The index of its entry in the history; the first call of a world has index 0.
     pub place: usize,
+    /// The call.
     pub call: Call,
+    /// Its reply.
     pub reply: Reply,
 }

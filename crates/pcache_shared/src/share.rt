@@ -1,4 +1,4 @@
-//! What a thread calls with.
+//! The value through which a thread calls.
 ghost use Rattle.std.specs.Prelude.{◌≡◌, ℕ, [], ◌∷◌, ◌++◌, IfOk, OnErr};
 ghost use Rattle.pcache_history.specs.declared.call.Reply.{Reply};
 
@@ -15,8 +15,8 @@ use std::alloc::{AllocError, Global};
 use std::marker::{Model, PhantomData};
 use std::sync::Wait;
 
-/// What a thread calls a shared world with. It can't be copied. To a contract it is the receipts of
-/// its calls, in order.
+/// The value through which a thread calls a shared world. It can't be copied. A contract sees the
+/// receipts of its calls, in order.
 #[derive(Drop)]
 pub struct Share<K: Mark> {
     pub(crate) receipts: Vec<Receipt>,
@@ -60,7 +60,8 @@ impl<K: Mark> Share<K> {
         self.receipts.as_slice()
     }
 
-    // Makes a call. The room for its receipt and the copy for it are made before the lock is taken.
+    // Makes a call. The room for its receipt is reserved, and the copy made, before the lock is
+    // taken.
     fn make<M: EvictionManager, P: PutPolicy, R: Wait>(
         &mut self,
         rt: &R,

@@ -18,8 +18,8 @@ use std::alloc::{AllocError, Global};
 use std::marker::PhantomData;
 use std::sync::{Mutex, Wait};
 
-/// A world that threads call, one call at a time. Each call is whole: its lock is taken before it is
-/// made and let go when it is noted.
+/// A world that threads call, one call at a time. Each call is atomic: the lock is taken before it
+/// is made, and released after it is recorded.
 #[derive(Drop)]
 pub struct SharedWorld<M: EvictionManager, P: PutPolicy, K: Mark> {
     pub(crate) alloc: Global,
@@ -39,8 +39,8 @@ impl<M: EvictionManager, P: PutPolicy, K: Mark> SharedWorld<M, P, K> {
     ghost use Rattle.pcache_shared.specs.Receipts.{AreReceipts, HasGrown, IsTold};
     ghost use Rattle.pcache_shared.specs.Views.{keeper, whole};
 
-    /// The world under its lock, and its shares, which have made no calls. The mark stands for what
-    /// was opened. Refused, the world is gone.
+    /// The world under its lock, and its shares, which have made no calls. The mark names what was
+    /// opened. If it fails, the world is dropped.
     pub fn new(
         alloc: Global,
         opening: Opening<M, P>,
@@ -91,8 +91,9 @@ impl<M: EvictionManager, P: PutPolicy, K: Mark> SharedWorld<M, P, K> {
         }
     }
 
-    /// Makes a call of a share, and lends the reply from its receipt. With a reply, the share has one
-    /// receipt more, of the call and that reply. Refused when memory runs out, it has none more.
+    /// Makes a call of a share, and lends the reply from its receipt. If it succeeds, the share has
+    /// one more receipt, of the call and that reply. Fails when memory runs out; then the share has
+    /// no more receipts than before.
     pub fn call<'a, R: Wait>(
         share: &'a mut Share<K>,
         rt: &R,
@@ -104,7 +105,7 @@ impl<M: EvictionManager, P: PutPolicy, K: Mark> SharedWorld<M, P, K> {
         share.made(rt, shared, call)
     }
 
-    /// The lengths of the complete bodies, added up, as they are between two calls: at most the
+    /// The sum of the lengths of the complete bodies, as it is between two calls: at most the
     /// manager's limit on weight.
     pub fn stored_bytes<R: Wait>(&self, rt: &R) -> u128
         ensures value { IsTold K.opened.log (λ log. result ≡ stored (events_in log)) }
@@ -122,9 +123,9 @@ impl<M: EvictionManager, P: PutPolicy, K: Mark> SharedWorld<M, P, K> {
         self.desk.lock(rt).slots()
     }
 
-    /// Ends the sharing. It takes all shares that were made with the world, and gives the world back
-    /// with the receipts of each. These are exactly the calls that the history has more than at the
-    /// opening. It takes no memory and does not wait.
+    /// Ends the sharing. It takes all shares that were made with the world, and returns the world
+    /// with the receipts of each. These are exactly the calls that were added to the history since
+    /// the opening. It takes no memory and does not wait.
     pub fn close(self, shares: Vec<Share<K>>) -> (World<M, P>, Vec<Vec<Receipt>>)
         requires { length shares.items ≡ K.opened.shares }
         ensures legal { HasLegal result.0 }
@@ -153,7 +154,7 @@ impl<M: EvictionManager, P: PutPolicy, K: Mark> SharedWorld<M, P, K> {
             all.push_reserved(receipts);
         }
         room.shared.load::<Settling>(&mut keeper, 0);
-        // For the prover: the call tells that the history is legal.
+        // For the prover: the contract of the call says that the history is legal.
         let _history = world.history();
         (world, all)
     }

@@ -1,21 +1,25 @@
-//! What carries the entries out of the lock: tokens of no bytes, whose steps neither wait nor take
-//! memory.
+//! The tokens that carry the entries out of the lock. They have no bytes, and their steps neither
+//! wait nor take memory.
 
 use atomic_table::{Join, Play, Split, Table, TableRule};
 use pingora_cache::world::entry::Entry;
 use std::alloc::Global;
 use std::collections::LinkedList;
 
-/// What a seat knows: the one under the lock all entries that came since the opening, and each those
-/// that it has added, with their places. No value of it is made.
+/// What a seat knows: the one under the lock knows all entries added since the opening, each other
+/// one those that it has added, with their indices. No value of this type is made.
 pub struct View<E> {
+    /// Whether this is the seat under the lock.
     pub keeps: bool,
+    /// All added entries, if it is.
     pub all: LinkedList<E>,
+    /// How many parts of the whole it has.
     pub parts: u64,
+    /// The entries that it claims, each with its index.
     pub claims: LinkedList<(u64, E)>,
 }
 
-/// What always holds of all views.
+/// The invariant of all views.
 pub struct Law;
 
 impl<E> TableRule<E, View<E>, ()> for Law {
@@ -36,7 +40,7 @@ impl<E> Play<E, View<E>> for Adding {
     ghost then = { Adds };
 }
 
-/// The claims of all are seen.
+/// All claims are looked at.
 pub struct Settling;
 
 impl<E> Play<E, View<E>> for Settling {
@@ -45,7 +49,7 @@ impl<E> Play<E, View<E>> for Settling {
     ghost then = { Settles };
 }
 
-/// All that a share knows goes to a new seat.
+/// All that a share knows is moved to a new seat.
 pub struct Moving;
 
 impl<E> Split<View<E>> for Moving {
@@ -56,7 +60,7 @@ impl<E> Split<View<E>> for Moving {
     ghost right = { λ v. v };
 }
 
-/// One part and the claims go from the keeper to a new seat, or come back.
+/// One part and the claims are moved from the keeper to a new seat, or back.
 pub struct Dealing;
 
 impl<E> Split<View<E>> for Dealing {
@@ -75,5 +79,5 @@ impl<E> Join<View<E>> for Dealing {
     ghost spent = { nobody };
 }
 
-/// The table whose seats they are: one word, and no slots.
+/// The table of the seats: one word, and no slots.
 pub type Room = Table<Entry, View<Entry>, (), Law, Global>;

@@ -1,5 +1,5 @@
 //! Threads that run scripts of calls.
-ghost use Rattle.std.specs.Prelude.{◌≡◌, ℕ, ◌+◌, ◌<◌, ◌++◌, List, length, map, IfOk, IsTrue, slice_index_or};
+ghost use Rattle.std.specs.Prelude.{◌≡◌, ◌⊎◌, ℕ, ◌+◌, ◌<◌, ◌++◌, List, length, map, false, IfOk, OnErr, IsTrue, slice_index_or};
 ghost use Rattle.pcache_shared.specs.Workers.{EachRuns, HaveGrown, Runs, RunsWhole, calls_of, script_at};
 ghost use Rattle.pcache_shared.specs.declared.receipt.Receipt.{Receipt};
 
@@ -15,18 +15,18 @@ use std::thread;
 use std::thread::Threads;
 
 /// What a worker calls before and after each call, while it does not hold the lock. A gate that
-/// waits holds its worker back, and no other.
+/// waits delays its worker only.
 pub trait Gate {
     /// The worker is about to make the call with this index of its script. Both count from 0.
     fn enter(&self, worker: usize, index: usize);
 
-    /// The call was answered.
+    /// The worker has the reply to that call.
     fn left(&self, worker: usize, index: usize);
 }
 
 /// Runs each script in a thread of its own, with the share at its place, and returns when all have
 /// ended. A worker for whose call memory was refused stops there; that is answered at the end, and
-/// what was called stands in the shares.
+/// what was called stands in the shares. It is refused only so, or before anything is called.
 pub fn run_workers<
     M: EvictionManager + Send,
     P: PutPolicy + Send,
@@ -44,6 +44,7 @@ pub fn run_workers<
     ensures count { length shares.new ≡ length shares.old }
     ensures runs { EachRuns Runs scripts.now shares.old shares.new }
     ensures ok { IfOk result (λ _. EachRuns RunsWhole scripts.now shares.old shares.new) }
+    ensures refused { OnErr result ((shares.new ≡ shares.old) ⊎ (EachRuns RunsWhole scripts.now shares.old shares.new → ⊥)) }
 {
     let before = counts_of(shared.alloc, shares)?;
     let workers = shares.len();
@@ -68,7 +69,7 @@ pub fn run_workers<
     }
 }
 
-// Makes the calls of a script, up to one for which memory is refused.
+// Makes the calls of a script, up to one that fails for memory.
 fn run_script<M: EvictionManager, P: PutPolicy, K: Mark, G: Gate, R: Wait>(
     rt: &R,
     shared: &SharedWorld<M, P, K>,
@@ -101,11 +102,12 @@ fn counts_of<K: Mark>(alloc: Global, shares: &[Share<K>]) -> Result<Vec<usize>, 
     Ok(counts)
 }
 
-// Whether each share has as many receipts more as its script has calls.
+// Whether each share has gained as many receipts as its script has calls.
 fn have_run<K: Mark>(scripts: &[Vec<Call>], before: &[usize], shares: &[Share<K>]) -> bool
     requires scripts { length scripts.now ≡ length shares.now }
     requires before { length before.now ≡ length shares.now }
-    ensures { IsTrue result → HaveGrown scripts.now before.now shares.now }
+    ensures grown { IsTrue result → HaveGrown scripts.now before.now shares.now }
+    ensures not_grown { result ≡ false → HaveGrown scripts.now before.now shares.now → ⊥ }
 {
     for worker in 0..shares.len() {
         let count = shares[worker].receipts().len();

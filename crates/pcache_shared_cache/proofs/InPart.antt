@@ -1,4 +1,4 @@
--- What a call is told of a part that it has.
+-- What a call knows of a part that it has.
 use Rattle.std.proofs.Common.{◌≡◌, ℕ, Bool, false, List, Some, sym, subst, ap, ◌∙◌}
 use Rattle.std.specs.Prelude.{◌↔◌, IsTrue, slice_get}
 use Rattle.std.proofs.lemmas.Bool.{both_ways}

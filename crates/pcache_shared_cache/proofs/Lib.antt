@@ -1,4 +1,5 @@
 pub mod Adding
 pub mod InPart
+pub mod Parting
 pub mod Together
 pub mod Waiting

@@ -24,7 +24,7 @@ within (p ∷ ps) all =
     let right = sum_by-cons (λ (l : Limits). l.weight) p.limits (map (λ (p : Parts). p.limits) ps) in
     omega (arith, first, rest, left, right)
 
--- so many parts were asked, and what they told adds up to this
+-- so many parts were asked, and their results sum to this
 abbrev pub Told : List Limits → ℕ → (Parts → ℕ) → ℕ → Type 0
 Told limits i of total =
     ((ps : List Parts) × (map (λ (p : Parts). p.limits) ps ≡ take i limits) × All Kept ps × (total ≡ sum_by of ps)) × (total ≤ i * (2 ^ 64 - 1))
@@ -53,7 +53,7 @@ sums-same g f h same a (suc n) =
 pub portions-whole : (n limit : ℕ) (watermark : Option ℕ) → 0 < n → whole_weight (portions n limit watermark) ≡ limit
 portions-whole n limit watermark some = sums-same (λ (l : Limits). l.weight) (portion_at n limit watermark) (portion limit n) (λ j. refl) 0 n ∙ add_up limit n some
 
--- what a call that may be refused makes has the whole, if its parts have their portions
+-- what a call that may fail makes has the whole, if its parts have their portions
 pub ok-whole : {E : Type 0} (n limit : ℕ) (watermark : Option ℕ) (result : Result (List Limits) E) → 0 < n → IfOk result (λ c. c ≡ portions n limit watermark) → IfOk result (λ c. whole_weight c ≡ limit)
 ok-whole n limit watermark (Ok c) some is = ap whole_weight is ∙ portions-whole n limit watermark some
 ok-whole n limit watermark (Err e) some is = tt

@@ -4,26 +4,27 @@ use Rattle.std.specs.List.{range_with_len}
 use Rattle.pcache_base.specs.Key.{Key, number_of, primary_of}
 use Rattle.pcache_evict.specs.Tracked.{Limits}
 
--- the part of a whole that the part at a place has, of n: all have the same, and the first ones have one of the rest each
+-- the portion of a whole for the part at a place, of n parts: all get the same, and the first ones get one more each, for
+-- the remainder
 abbrev pub portion : ℕ → ℕ → ℕ → ℕ
 portion whole n place = whole / n + cond (nat_lt place (whole % n)) 1 0
 
--- the limits of the part at a place, of n, and those of all parts
+-- the limits of the part at a place, of n parts, and those of all parts
 abbrev pub portion_at : ℕ → ℕ → Option ℕ → ℕ → Limits
 portion_at n limit watermark place = record { weight = portion limit n place; watermark = option_map (λ w. portion w n place) watermark }
 
 abbrev pub portions : ℕ → ℕ → Option ℕ → List Limits
 portions n limit watermark = map (portion_at n limit watermark) (range_with_len 0 n)
 
--- the place of a key's part, of n: the first eight bytes of its primary hash as a number, modulo n
+-- the place of a key's part, of n parts: the first eight bytes of its primary hash as a number, modulo n
 abbrev pub place_of : ℕ → Key → ℕ
 place_of n k = (number_of (primary_of k) / 2 ^ 64) % n
 
--- the limits on the weights, added up
+-- the sum of the limits on weight
 abbrev pub whole_weight : List Limits → ℕ
 whole_weight ls = sum_by (λ l. l.weight) ls
 
--- the watermarks, added up, if each part has one
+-- the sum of the watermarks, if each part has one
 abbrev pub added_watermark : Option ℕ → Option ℕ → Option ℕ
 added_watermark None rest = None
 added_watermark (Some most) None = None

@@ -1,4 +1,4 @@
--- A cache in parts, and what is known of a part when a thread has it (own).
+-- A cache in parts, and what is known of a part while a thread has it (own).
 use Rattle.std.specs.Prelude.{◌≡◌, ℕ, List, All, Some, map, slice_get}
 use Rattle.pcache_cache.specs.Parts.{Parts, IsKept}
 use Rattle.pcache_evict.specs.Tracked.{Limits}
@@ -15,18 +15,18 @@ pub record SeatedPermit : Type 0 where
   pub place : ℕ
   pub permit : WritePermit
 
--- this is so of what a part with these limits is while a call has it: a cache that keeps what caches always keep
+-- P holds of the state that a part with these limits has while a call has it, which has the invariant of caches
 abbrev pub Held : Limits → (Parts → Type 0) → Type 0
 Held limits P = (p : Parts) × (p.limits ≡ limits) × IsKept p.limits p.tracked p.store × P p
 
--- the same of the part at a place
+-- the same, for the part at a place
 abbrev pub InPart : List Limits → ℕ → (Parts → Type 0) → Type 0
 InPart limits place P = (l : Limits) × (slice_get limits place ≡ Some l) × Held l P
 
--- this is so of what the part at a place is before a call, and after it
+-- P holds of the states of the part at a place before a call and after it
 abbrev pub MovesPart : List Limits → ℕ → (Parts → Parts → Type 0) → Type 0
 MovesPart limits place P = InPart limits place (λ p. (q : Parts) × (q.limits ≡ p.limits) × IsKept q.limits q.tracked q.store × P p q)
 
--- the same of all parts, each while the call had it
+-- the same, for the states of all parts, each while the call had it
 abbrev pub InParts : List Limits → (List Parts → Type 0) → Type 0
 InParts limits P = (ps : List Parts) × (map (λ (p : Parts). p.limits) ps ≡ limits) × All (λ (p : Parts). IsKept p.limits p.tracked p.store) ps × P ps

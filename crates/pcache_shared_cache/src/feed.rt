@@ -14,15 +14,13 @@ impl<M: EvictionManager, K, const N: usize> SharedCache<M, K, N> {
     ghost use Rattle.pcache_put.specs.Progress.{HasFailed};
     ghost use Rattle.pcache_put_ctx.specs.Puts.{IsResult, Piece};
     ghost use Rattle.pcache_put_ctx.specs.State.{Filled, HasTaken, limit_of, write_in};
-    ghost use Rattle.pcache_put_ctx.specs.Steps.{Done, EndsAs, EndsPut, MayRefusePiece, RepeatsAnswer, StandsAnswered, TakesPiece, TellsResult};
+    ghost use Rattle.pcache_put_ctx.specs.Steps.{Done, EndsAs, MayRefusePiece, RepeatsAnswer, StandsAnswered, TakesPiece, TellsResult};
     ghost use Rattle.pcache_request.specs.Requests.{dropped_by};
-    ghost use Rattle.pcache_store.specs.Finishes.{created};
-    ghost use Rattle.pcache_store.specs.Readers.{in_memory};
-    ghost use Rattle.pcache_cache.specs.OwnPut.{MayEndPut};
+    ghost use Rattle.pcache_cache.specs.OwnPut.{EndsOwnPut, MayEndPut};
     ghost use Rattle.pcache_shared_cache.specs.Shared.{InPart, MovesPart};
 
     /// `Cache::cache_put` in the put's part: takes in the next piece of the response. Answers why nothing is stored, once that is so.
-    /// The policy is asked, once the head has come, while the part is locked: it may call no cache.
+    /// The piece is read, and the policy asked once the head has come, before the part is locked: it is free to call the cache.
     pub fn cache_put<C: CachePut, R: Wait>(
         &self,
         rt: &R,
@@ -33,24 +31,26 @@ impl<M: EvictionManager, K, const N: usize> SharedCache<M, K, N> {
         ensures step { (d : Done) × TakesPiece (C.says put.old.put.policy) put.old.put put.new.put (record { bytes = piece.now; now = now }) d }
         ensures stands { StandsAnswered result put.new.put.stage }
         ensures again { RepeatsAnswer put.old.put.stage result }
-        ensures kind { InPart self.now put.old.place (λ p. IfErr result (λ e. MayRefusePiece put.old.put.stage p.store e ⊎ (put.old.put.parser ≡ HasFailed e))) }
+        ensures kind { InPart self.now put.old.place (λ p.
+            IfErr result (λ e. MayRefusePiece put.old.put.stage p.store e ⊎ (put.old.put.parser ≡ HasFailed e))) }
         ensures place { put.new.place ≡ put.old.place }
     {
+        let read = put.read_piece(piece, now);
         self.part(put.place())
             .lock(rt)
-            .cache_put(&mut put.pending, piece, now)
+            .store_piece(&mut put.pending, read)
     }
 
-    /// `Cache::finish_put`: ends the put once all pieces have come. It fails as an internal error, and changes nothing, if the put's
-    /// write is none of its part: of a put whose pieces came here it is.
+    /// `Cache::finish_put`: ends the put once all pieces have come. Fails with `InternalError`, and changes nothing, if the put's
+    /// write is not of its part; the write of a put whose pieces came here is.
     pub fn finish_put<C: CachePut, R: Wait>(
         &self,
         rt: &R,
         put: &mut SharedPut<C, K, N>,
     ) -> Result<PutOutcome>
-        ensures ends { MovesPart self.now put.old.place (λ p q. MayEndPut p.store put.old.put
-            → EndsAs result (λ end. EndsPut in_memory put.old.put.key put.old.put.parser (created p.store) p.limits put.old.put.stage end p.store q.store p.tracked q.tracked)) }
-        ensures tells { (pieces : List Piece) (f : Option Filled) → HasTaken (C.says put.old.put.policy) put.old.put pieces f → EndsAs result (TellsResult (IsResult (C.says put.old.put.policy) (limit_of put.old.put.size) pieces) f) }
+        ensures ends { MovesPart self.now put.old.place (λ p q. MayEndPut p.store put.old.put → EndsAs result (λ end. EndsOwnPut put.old.put end p q)) }
+        ensures tells { (pieces : List Piece) (f : Option Filled) → HasTaken (C.says put.old.put.policy) put.old.put pieces f
+            → EndsAs result (TellsResult (IsResult (C.says put.old.put.policy) (limit_of put.old.put.size) pieces) f) }
         ensures place { put.new.place ≡ put.old.place }
     {
         let mut part = self.part(put.place()).lock(rt);
@@ -62,12 +62,14 @@ impl<M: EvictionManager, K, const N: usize> SharedCache<M, K, N> {
         outcome
     }
 
-    /// `Cache::end_put`: ends the put, and drops a write that is still in flight.
+    /// `Cache::end_put`: ends the put, and drops a write that is still in flight. The policy is dropped before the part is locked.
     pub fn end_put<C: CachePut, R: Wait>(&self, rt: &R, put: SharedPut<C, K, N>)
         ensures { MovesPart self.now put.place (λ p q. q ≡ record p { store = dropped_by (write_in put.put.stage) p.store }) }
     {
-        let mut part = self.part(put.place()).lock(rt);
-        part.end_put(put.into_pending());
+        let place = put.place();
+        let left = put.into_left();
+        let mut part = self.part(place).lock(rt);
+        part.drop_left(left);
         part.is_kept(); // for the prover
     }
 }

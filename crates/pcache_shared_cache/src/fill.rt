@@ -35,8 +35,8 @@ impl<M: EvictionManager, K, const N: usize> SharedCache<M, K, N> {
             .set_miss_handler(&mut request.request)
     }
 
-    /// `Cache::write_body`: adds bytes to the request's write, and with `eof` says that they are the last. Without a write, or after
-    /// the last bytes, it returns `false` and changes nothing. It fails when memory runs out, and changes nothing then.
+    /// `Cache::write_body`: adds bytes to the request's write, and with `eof` announces that they are the last. Without a write,
+    /// or after the last bytes, it returns `false` and changes nothing. Fails when memory runs out, and then changes nothing.
     /// Requires the phase Miss or Expired; ask `phase().is_filling()` of `cache()`.
     pub fn write_body<R: Wait>(
         &self,
@@ -55,9 +55,9 @@ impl<M: EvictionManager, K, const N: usize> SharedCache<M, K, N> {
             .write_body(&mut request.request, bytes, eof)
     }
 
-    /// `Cache::finish_miss_handler`: ends the write and stores the body, whose entry is admitted; what is evicted for it is purged.
-    /// It fails as an internal error, and changes nothing, if the write is none of the request's part: of a request that began its
-    /// write here it is.
+    /// `Cache::finish_miss_handler`: ends the write and stores the body, whose entry is admitted; what is evicted for it is
+    /// purged. Fails with `InternalError`, and changes nothing, if the write is not of the request's part; the write of a request
+    /// that began it here is.
     pub fn finish_miss_handler<R: Wait>(
         &self,
         rt: &R,

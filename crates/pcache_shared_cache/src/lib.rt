@@ -1,16 +1,16 @@
 #![tactic(auto)]
 //! A cache in parts, each behind a lock of its own, which threads call side by side. Each part keeps its own limits at all
-//! times, so that all of them together keep the whole.
+//! times, so that all of them together keep the whole limits.
 //!
 //! - `split`: how a limit is split among parts, and which part a key belongs to
 //! - `portion`: an eviction manager with its limits as numbers
 //! - `part`: one part behind its lock
-//! - `request`, `put`: a request, which has its part from its key, and a put
+//! - `request`, `put`: a request, whose part is that of its key, and a put
 //! - `permit`: a permit that goes from one request to another
-//! - `shared`: the cache, and what it tells of itself
+//! - `shared`: the cache, and its getters
 //! - `lists`: parts over recency lists
-//! - `look`, `fill`, `remove`, `locks`, `renew`: what a request does, each the call of `Cache` under the lock of its part
-//! - `feed`: what a put does, likewise
+//! - `look`, `fill`, `remove`, `locks`, `renew`: the calls of a request, each that of `Cache` under the lock of its part
+//! - `feed`: the calls of a put, likewise
 //! - `laws`: what follows for all parts together
 
 mod feed;

@@ -17,9 +17,9 @@ impl<K, const N: usize> SharedCache<Manager, K, N> {
     ghost use Rattle.pcache_base.specs.declared.error.ErrorType.TheVariants.{OutOfMemory};
     ghost use Rattle.pcache_shared_cache.specs.Portions.{portions, whole_weight};
 
-    /// A cache with nothing stored whose parts let the least recently used bodies go. The limit on the bytes of all bodies, and on
-    /// their number if one is given, is split evenly, and the first parts have one of the rest each. Permits age out after
-    /// `age_timeout`. It fails when memory runs out.
+    /// An empty cache whose parts evict the least recently used bodies. The limit on the bytes of all bodies, and on their number
+    /// if one is given, is split evenly; the first parts get one more each, for the remainder. Permits age out after
+    /// `age_timeout`. Fails when memory runs out.
     pub fn with_lists(
         alloc: Global,
         seed: Seed,
@@ -40,7 +40,7 @@ impl<K, const N: usize> SharedCache<Manager, K, N> {
     }
 }
 
-// The list of the part at a place, of so many.
+// The list of the part at a place, for so many parts.
 fn list_at(
     alloc: Global,
     seed: Seed,

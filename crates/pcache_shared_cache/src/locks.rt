@@ -1,4 +1,4 @@
-//! Waiting for others, and what they wait for.
+//! Waiting for the locks of other requests, and releasing one's own.
 use crate::permit::SharedPermit;
 use crate::request::SharedRequest;
 use crate::shared::SharedCache;
@@ -25,8 +25,8 @@ impl<M: EvictionManager, K, const N: usize> SharedCache<M, K, N> {
     ghost use Rattle.pcache_request.specs.Reports.{name_of, released_as};
     ghost use Rattle.pcache_shared_cache.specs.Shared.{InPart};
 
-    /// `Cache::cache_lock_wait`: whether the wait for the lock is over, and how it ended. Requires a read lock. It does not wait
-    /// itself.
+    /// `Cache::cache_lock_wait`: whether the wait for the lock is over, and how it ended. Requires a read lock. The call itself
+    /// does not wait.
     pub fn cache_lock_wait<R: Wait>(
         &self,
         rt: &R,
@@ -47,8 +47,8 @@ impl<M: EvictionManager, K, const N: usize> SharedCache<M, K, N> {
             .cache_lock_wait(&mut request.request, now)
     }
 
-    /// Asks up to so many times whether the wait for the lock is over. In between other threads have the processor, and nothing is
-    /// locked. It may be called as long as it answers that the wait goes on.
+    /// Asks up to so many times whether the wait for the lock is over. In between other threads can run, and nothing is locked.
+    /// It may be called again while it returns that the wait goes on.
     pub fn wait_in_turns<R: Wait>(
         &self,
         rt: &R,
@@ -70,7 +70,7 @@ impl<M: EvictionManager, K, const N: usize> SharedCache<M, K, N> {
         Ok(Poll::Pending)
     }
 
-    /// `Cache::release_write_lock`: releases the permit with what the reason tells the others. Ask `may_release` of the request.
+    /// `Cache::release_write_lock`: releases the permit with the status of the reason. Ask `may_release` of the request.
     pub fn release_write_lock<R: Wait>(
         &self,
         rt: &R,
@@ -87,7 +87,7 @@ impl<M: EvictionManager, K, const N: usize> SharedCache<M, K, N> {
     }
 
     /// `Cache::set_write_lock`: holds a permit that another request of the same part had; a lock that was held before is let go.
-    /// Answers the lock that was let go.
+    /// Returns the lock that was let go.
     pub fn set_write_lock<R: Wait>(
         &self,
         rt: &R,
@@ -104,7 +104,8 @@ impl<M: EvictionManager, K, const N: usize> SharedCache<M, K, N> {
         part.lock(rt).set_write_lock(&mut request.request, permit)
     }
 
-    /// `Cache::lock_publish_fill_tokens`: publishes what was found out about the fill, if the permit is held.
+    /// `Cache::lock_publish_fill_tokens`: publishes tokens of what was found out about the fill, if the
+    /// permit is held.
     pub fn lock_publish_fill_tokens<R: Wait>(
         &self,
         rt: &R,

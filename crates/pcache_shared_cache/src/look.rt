@@ -27,8 +27,8 @@ impl<M: EvictionManager, K, const N: usize> SharedCache<M, K, N> {
     ghost use Rattle.pcache_store.specs.Store.{left, read_of, reader_after};
     ghost use Rattle.pcache_shared_cache.specs.Shared.{InPart, MovesPart};
 
-    /// `Cache::cache_lookup` in the request's part: what its store has of the key; if nothing is handed on, the key's lock is asked
-    /// for. A pair that is handed on has to be taken by `cache_found` or let go.
+    /// `Cache::cache_lookup` in the request's part: what its store has for the key; if nothing is handed on, the key's lock is
+    /// asked for. A pair that is handed on has to be taken by `cache_found` or let go.
     /// Requires the phase CacheKey or Stale; ask `phase().may_look_up()` of `cache()`.
     pub fn cache_lookup<R: Wait>(
         &self,
@@ -51,7 +51,7 @@ impl<M: EvictionManager, K, const N: usize> SharedCache<M, K, N> {
             .cache_lookup(&mut request.request, now)
     }
 
-    /// `Cache::cache_found`: takes what a look-up found.
+    /// `Cache::cache_found`: takes the pair that a look-up found.
     /// Requires the phase CacheKey or Stale; ask `phase().may_look_up()` of `cache()`.
     pub fn cache_found<R: Wait>(
         &self,
@@ -75,7 +75,7 @@ impl<M: EvictionManager, K, const N: usize> SharedCache<M, K, N> {
             .cache_found(&mut request.request, meta, hit, status, now)
     }
 
-    /// `Cache::let_go`: lets go what a look-up of the request found.
+    /// `Cache::let_go`: lets go the reader that a look-up of the request found.
     pub fn let_go<R: Wait>(&self, rt: &R, request: &SharedRequest<K, N>, hit: MemHitHandler)
         ensures { MovesPart self.now request.now.place (λ p q. q ≡ record p { store = left p.store (reader_of hit) }) }
     {
@@ -84,8 +84,8 @@ impl<M: EvictionManager, K, const N: usize> SharedCache<M, K, N> {
         part.is_kept(); // for the prover
     }
 
-    /// `Cache::read_body`: reads on. Requires a reader. A request that follows a write is told that there is nothing yet, and may ask
-    /// again, or `read_in_turns`.
+    /// `Cache::read_body`: reads on. Requires a reader. A request that follows a write gets `Pending` if there is nothing yet,
+    /// and may ask again, or call `read_in_turns`.
     pub fn read_body<R: Wait>(
         &self,
         rt: &R,
@@ -106,8 +106,8 @@ impl<M: EvictionManager, K, const N: usize> SharedCache<M, K, N> {
             .read_body(&mut request.request)
     }
 
-    /// Reads on, and asks up to so many times as long as there is nothing yet. In between other threads have the processor, and
-    /// nothing is locked.
+    /// Reads on, and asks up to so many times while there is nothing yet. In between other threads can run, and nothing is
+    /// locked.
     /// Requires a reader; ask `has_body_reader()` of `cache()`.
     pub fn read_in_turns<R: Wait>(
         &self,

@@ -9,14 +9,15 @@ use std::marker::Model;
 use std::sync::{Mutex, MutexGuard, Wait};
 use std::time::Duration;
 
-// How often a lock is tried before its thread sleeps. A call has its part for about as long as so many tries take, and to wake
-// a thread that sleeps takes far longer.
+// How often a lock is tried before its thread sleeps. A call has its part for about the time of so many tries, and waking a
+// sleeping thread takes far longer.
 const TRIES: u32 = 300;
 
 // One part behind its lock. A contract sees the limits of the part.
 //
-// Of what a lock lends nothing is known but its type. So the limits stand beside the lock as well, and the part is lent only if
-// it has the same. It has at the first try: `new` puts one that has under the lock, and no call changes a manager's limits.
+// Of the value that a lock lends only the type is known. Therefore the limits are kept beside the lock too, and the part is
+// lent only if it has the same ones. It has them at the first try: `new` puts such a part under the lock, and no call changes a
+// manager's limits.
 #[derive(Drop)]
 pub(crate) struct PartLock<M: EvictionManager, K> {
     limit: usize,
@@ -33,13 +34,14 @@ impl<M: EvictionManager, K> Model for PartLock<M, K> {
 }
 
 impl<M: EvictionManager, K> PartLock<M, K> {
-    ghost use Rattle.std.specs.Prelude.{◌≡◌};
+    ghost use Rattle.std.specs.Prelude.{◌≡◌, IfSome};
     ghost use Rattle.std.specs.Sync.Mutex.{mutex_guard_value};
     ghost use Rattle.pcache_cache.specs.Parts.{IsKept};
     ghost use Rattle.pcache_store.specs.Totals.{slots, stored_bytes};
+    ghost use Rattle.pcache_shared_cache.specs.Managed.{managed};
     ghost use Rattle.pcache_shared_cache.specs.Shared.{Held};
 
-    // A part with nothing stored.
+    // An empty part.
     pub(crate) fn new(
         alloc: Global,
         seed: Seed,
@@ -57,12 +59,13 @@ impl<M: EvictionManager, K> PartLock<M, K> {
         }
     }
 
-    // The part, for the caller alone until the guard goes. It may wait.
+    // The part, for the caller alone until the guard is dropped. It waits while another thread has
+    // the part.
     pub(crate) fn lock<R: Wait>(&self, rt: &R) -> MutexGuard<'_, Cache<Portion<M>, K>>
         ensures limits { (mutex_guard_value result).limits ≡ self.now }
         ensures kept { IsKept (mutex_guard_value result).limits (mutex_guard_value result).tracked (mutex_guard_value result).store }
     {
-        // The first round returns (see the type); the test gives its contract.
+        // The first round returns (see the type); the test provides the clause of the contract.
         for _ in rt.forever() {
             let cache = self.take(rt);
             let portion = cache.manager();
@@ -83,6 +86,25 @@ impl<M: EvictionManager, K> PartLock<M, K> {
             spin_loop();
         }
         self.cache.lock(rt)
+    }
+
+    // The part's manager, if it has the limits that stand beside the lock (see the type): it has.
+    pub(crate) fn into_portion(self) -> Option<Portion<M>>
+        ensures { IfSome result (λ portion. Held self (λ p. portion ≡ managed p)) }
+    {
+        let PartLock {
+            limit,
+            watermark,
+            cache,
+        } = self;
+        let cache = cache.into_inner();
+        cache.is_kept();
+        let portion = cache.into_manager();
+        if portion.limit() == limit && portion.watermark() == watermark {
+            Some(portion)
+        } else {
+            None
+        }
     }
 
     // The lengths of the complete bodies, added up.

@@ -4,8 +4,8 @@ ghost use Rattle.std.specs.Prelude.{◌≡◌};
 use pcache_lock::lock::WritePermit;
 use std::marker::{Model, PhantomData};
 
-/// A permit that was taken out of a request of the cache in `N` parts with the mark `K`. It is of the lock table of that request's
-/// part, so another request of the same part may hold it. It must be spent by `SharedCache::set_write_lock`.
+/// A permit that was taken out of a request of the cache in `N` parts with the mark `K`. It belongs to the lock table of that
+/// request's part, so another request of the same part may hold it. It must be spent by `SharedCache::set_write_lock`.
 pub struct SharedPermit<K, const N: usize> {
     place: usize,
     permit: WritePermit,

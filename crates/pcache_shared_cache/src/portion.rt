@@ -7,7 +7,8 @@ use pcache_base::moment::Moment;
 use pcache_evict::eviction::{CacheEntryKey, EvictionManager};
 use std::marker::Model;
 
-/// An eviction manager, and beside it its limits as numbers, which a manager itself does not tell.
+/// An eviction manager, together with its limits as numbers, for which a manager itself has no
+/// getters.
 #[derive(Drop)]
 pub struct Portion<M: EvictionManager> {
     manager: M,
@@ -31,7 +32,7 @@ impl<M: EvictionManager> Model for Portion<M> {
 }
 
 impl<M: EvictionManager> Portion<M> {
-    /// A manager whose limits are these.
+    /// A manager, together with its limits.
     pub fn new(manager: M, limit: usize, watermark: Option<usize>) -> Portion<M>
         requires { M.limits manager ≡ limits_of limit watermark }
         ensures { result ≡ record { tracked = M.tracked manager; limits = limits_of limit watermark; evicted = M.evicted manager } }
@@ -43,7 +44,7 @@ impl<M: EvictionManager> Portion<M> {
         }
     }
 
-    /// The limit on the weight of what it tracks.
+    /// The limit on the sum of the weights of its entries.
     pub fn limit(&self) -> usize
         ensures { result ≡ self.now.limits.weight }
     {
@@ -57,6 +58,20 @@ impl<M: EvictionManager> Portion<M> {
         self.watermark
     }
 
+    /// The manager itself, of which nothing else is left.
+    pub fn into_manager(self) -> M
+        ensures tracked { M.tracked result ≡ self.tracked }
+        ensures limits { M.limits result ≡ self.limits }
+        ensures evicted { M.evicted result ≡ self.evicted }
+    {
+        let Portion {
+            manager,
+            limit: _,
+            watermark: _,
+        } = self;
+        manager
+    }
+
     /// The manager itself, to be asked or saved.
     pub fn manager(&self) -> &M
         ensures tracked { M.tracked result.now ≡ self.now.tracked }
@@ -67,7 +82,7 @@ impl<M: EvictionManager> Portion<M> {
     }
 }
 
-/// A call goes to the manager.
+/// Each call is forwarded to the manager.
 impl<M: EvictionManager> EvictionManager for Portion<M> {
     ghost tracked = { λ p. p.tracked };
 

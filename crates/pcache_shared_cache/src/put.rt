@@ -1,15 +1,17 @@
 //! A put of a cache in parts.
 use crate::split::place_of;
 use pcache_base::key::CacheKey;
-use pcache_cache::PendingPut;
+use pcache_base::moment::Moment;
+use pcache_cache::{LeftWrite, PendingPut};
 use pcache_put_ctx::context::CachePutCtx;
 use pcache_put_ctx::policy::CachePut;
+use pcache_put_ctx::reading::ReadPiece;
 use pcache_store::memory::MemCache;
 use std::alloc::Global;
 use std::marker::Model;
 
-/// A put of the cache in `N` parts with the mark `K`: a response that is pushed in, in pieces. It is made with its key, has its
-/// part from it as requests have, and keeps both. It must be spent by `SharedCache::end_put`.
+/// A put of the cache in `N` parts with the mark `K`: a response that is pushed in, in pieces. It is made with its key, which
+/// determines its part as for requests, and keeps both. It must be spent by `SharedCache::end_put`.
 pub struct SharedPut<C: CachePut, K, const N: usize> {
     place: usize,
     pub(crate) pending: PendingPut<C, K>,
@@ -27,10 +29,13 @@ impl<C: CachePut, K, const N: usize> Model for SharedPut<C, K, N> {
 }
 
 impl<C: CachePut, K, const N: usize> SharedPut<C, K, N> {
-    ghost use Rattle.std.specs.Prelude.{◌≡◌, ◌<◌, [], List, None, Some};
-    ghost use Rattle.pcache_put.specs.Progress.{AtHead};
+    ghost use Rattle.std.specs.Prelude.{◌≡◌, ◌<◌, ◌⊎◌, [], List, None, Some};
+    ghost use Rattle.pcache_put.specs.Progress.{AtHead, HasFailed};
     ghost use Rattle.pcache_put_ctx.specs.Puts.{Piece};
-    ghost use Rattle.pcache_put_ctx.specs.State.{InHead, HasTaken};
+    ghost use Rattle.pcache_put_ctx.specs.Readings.{IfUnread, IsReadAt, ReadsPiece};
+    ghost use Rattle.pcache_put_ctx.specs.State.{InHead, HasTaken, write_in};
+    ghost use Rattle.pcache_put_ctx.specs.Steps.{MayRefusePiece};
+    ghost use Rattle.pcache_store.specs.Store.{Store};
     ghost use Rattle.pcache_shared_cache.specs.Portions.{place_of};
 
     // A put of a key, in the key's part.
@@ -55,29 +60,40 @@ impl<C: CachePut, K, const N: usize> SharedPut<C, K, N> {
         self.place
     }
 
-    /// The put itself, to be asked.
+    /// The put itself, for its getters.
     pub fn put(&self) -> &CachePutCtx<C, MemCache>
         ensures { result.now ≡ self.now.put }
     {
         &self.pending.put
     }
 
-    /// `CachePutCtx::set_max_file_size_bytes`: the body may have at most so many bytes, none of which was counted yet: to be set
+    /// `CachePutCtx::set_max_file_size_bytes`: limits the number of the body's bytes, and sets their count to zero; to be called
     /// before the body begins.
     pub fn set_max_file_size_bytes(&mut self, max_file_size_bytes: usize)
         ensures put { self.new ≡ record self.old { put = record self.old.put { size = Some (record { bytes = 0; limit = max_file_size_bytes }) } } }
-        ensures taken { (pieces : List Piece) → self.old.put.stage ≡ InHead → HasTaken (C.says self.old.put.policy) self.old.put pieces None → HasTaken (C.says self.old.put.policy) self.new.put pieces None }
+        ensures taken { (pieces : List Piece) → self.old.put.stage ≡ InHead → HasTaken (C.says self.old.put.policy) self.old.put pieces None
+            → HasTaken (C.says self.old.put.policy) self.new.put pieces None }
     {
         self.pending
             .put
             .set_max_file_size_bytes(max_file_size_bytes);
     }
 
-    // The put of the part.
-    pub(crate) fn into_pending(self) -> PendingPut<C, K>
-        ensures { result.put ≡ self.put }
+    // What the put leaves of its part.
+    pub(crate) fn into_left(self) -> LeftWrite<K>
+        ensures { result ≡ write_in self.put.stage }
     {
         let SharedPut { place: _, pending } = self;
-        pending
+        pending.into_left()
+    }
+
+    // Reads the next piece, which needs no part.
+    pub(crate) fn read_piece(&mut self, piece: &[u8], now: Moment) -> ReadPiece
+        ensures read { ReadsPiece (C.says self.old.put.policy) self.old.put self.new.put (record { bytes = piece.now; now = now }) result }
+        ensures at { IsReadAt self.new.put.stage result }
+        ensures kind { IfUnread result (λ e. (s : Store) → MayRefusePiece self.old.put.stage s e ⊎ (self.old.put.parser ≡ HasFailed e)) }
+        ensures place { self.new.place ≡ self.old.place }
+    {
+        self.pending.put.read_piece(piece, now)
     }
 }

@@ -15,7 +15,7 @@ impl<M: EvictionManager, K, const N: usize> SharedCache<M, K, N> {
     ghost use Rattle.pcache_store.specs.Purge.{expire_answer, purge_answer};
     ghost use Rattle.pcache_shared_cache.specs.Shared.{InPart};
 
-    /// `Cache::purge`: removes what stands under the key, and takes its entry out of the manager. Returns whether anything was there.
+    /// `Cache::purge`: removes what is stored for the key, and its entry from the manager. Returns whether anything was stored.
     /// Requires the phase CacheKey; ask `phase().may_purge()` of `cache()`.
     pub fn purge<R: Wait>(&self, rt: &R, request: &mut SharedRequest<K, N>) -> Result<bool>
         requires { MayPurge request.old.cache.phase }
@@ -28,7 +28,7 @@ impl<M: EvictionManager, K, const N: usize> SharedCache<M, K, N> {
             .purge(&mut request.request)
     }
 
-    /// `Cache::spawn_async_purge`: the same in any phase in which there is a key. It is done at once, and the context is not read.
+    /// `Cache::spawn_async_purge`: the same in any phase with a key. It is done at once, and the context is not read.
     /// Requires a phase that is neither Disabled nor Uninit; ask `phase().may_spawn_purge()` of
     /// `cache()`.
     pub fn spawn_async_purge<R: Wait>(
@@ -47,7 +47,8 @@ impl<M: EvictionManager, K, const N: usize> SharedCache<M, K, N> {
             .spawn_async_purge(&mut request.request, context)
     }
 
-    /// `Cache::expire`: ends the freshness of what stands under the key. Returns whether a body was there.
+    /// `Cache::expire`: ends the freshness of what is stored for the key. Returns whether there was a
+    /// body.
     /// Requires the phase CacheKey; ask `phase().may_purge()` of `cache()`.
     pub fn expire<R: Wait>(
         &self,

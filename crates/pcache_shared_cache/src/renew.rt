@@ -1,4 +1,4 @@
-//! Stale bodies that are good, and what responses vary on.
+//! Stale bodies that are still valid, and what responses vary on.
 use crate::request::SharedRequest;
 use crate::shared::SharedCache;
 use pcache_base::error::Result;
@@ -22,8 +22,8 @@ impl<M: EvictionManager, K, const N: usize> SharedCache<M, K, N> {
     ghost use Rattle.pcache_request.specs.Variants.{released_by_variance, varied};
     ghost use Rattle.pcache_shared_cache.specs.Shared.{InPart};
 
-    /// `Cache::revalidate_cache_meta`: takes the meta of an answer that says that the stale body is good. Ask `may_revalidate` of the
-    /// request.
+    /// `Cache::revalidate_cache_meta`: takes the meta of a response that says that the stale body is still valid.
+    /// Ask `may_revalidate` of the request.
     pub fn revalidate_cache_meta<R: Wait>(
         &self,
         rt: &R,
@@ -42,7 +42,8 @@ impl<M: EvictionManager, K, const N: usize> SharedCache<M, K, N> {
             .revalidate_cache_meta(&mut request.request, meta)
     }
 
-    /// `Cache::revalidate_uncacheable`: serves the stale body with this header, and does not store the new answer.
+    /// `Cache::revalidate_uncacheable`: serves the stale body with this header, and does not store the new
+    /// response.
     /// Requires the phase Stale with a meta, and with a permit held a reason that its holder can
     /// have; ask `may_revalidate()` and `may_release(reason)` of `cache()`.
     pub fn revalidate_uncacheable<R: Wait>(

@@ -10,8 +10,8 @@ use pcache_store::memory::MemCache;
 use std::alloc::Global;
 use std::marker::Model;
 
-/// A request of the cache in `N` parts with the mark `K`. It is made with its key, has its part from it, and keeps both: no call
-/// sets another key, and a variance changes no part. It must be spent by `SharedCache::end`.
+/// A request of the cache in `N` parts with the mark `K`. It is made with its key, which determines its part, and keeps both: no
+/// call sets another key, and a variance does not change the part. It must be spent by `SharedCache::end`.
 pub struct SharedRequest<K, const N: usize> {
     place: usize,
     pub(crate) request: CacheRequest<K>,
@@ -62,7 +62,7 @@ impl<K, const N: usize> SharedRequest<K, N> {
         self.place
     }
 
-    /// The request itself, to be asked.
+    /// The request itself, for its getters.
     pub fn cache(&self) -> &HttpCache<MemCache>
         ensures { result.now ≡ self.now.cache }
     {
@@ -88,7 +88,7 @@ impl<K, const N: usize> SharedRequest<K, N> {
         self.request.cache.set_cache_meta(meta);
     }
 
-    /// `HttpCache::bypass`: passes the cache by.
+    /// `HttpCache::bypass`: bypasses the cache.
     /// Requires the phase CacheKey; ask `phase().may_bypass()` of `cache()`.
     pub fn bypass(&mut self)
         requires { MayBypass self.old.cache.phase }
@@ -106,7 +106,7 @@ impl<K, const N: usize> SharedRequest<K, N> {
         self.request.cache.set_stale_updating();
     }
 
-    /// `HttpCache::cache_vary_lookup`: sets the variance that the next look-up looks for.
+    /// `HttpCache::cache_vary_lookup`: sets the variance that the next look-up uses.
     /// Requires the phase CacheKey or Stale; ask `phase().may_look_up()` of `cache()`.
     pub fn cache_vary_lookup(&mut self, variance: HashBinary, meta: &CacheMeta) -> bool
         requires { MayLookUp self.old.cache.phase }
@@ -116,8 +116,9 @@ impl<K, const N: usize> SharedRequest<K, N> {
         self.request.cache.cache_vary_lookup(variance, meta)
     }
 
-    /// `HttpCache::seek`: has the reader give the body from `start` on, and before `end` if one is given, anew. It is refused as an
-    /// internal error if the reader follows a write, the body has no byte at `start` or `end` lies before it, and changes nothing then.
+    /// `HttpCache::seek`: moves the reader to `start`, from where it gives the body again, to before `end` if that is
+    /// given. Fails with `InternalError` if the reader follows a write, the body has no byte at `start` or `end` is before
+    /// it, and then changes nothing.
     pub fn seek(&mut self, start: usize, end: Option<usize>) -> Result<()>
         requires { IsSome self.old.cache.reader }
         ensures ok { OnOk result (self.new ≡ record self.old { cache = record self.old.cache { reader = option_and_then (λ r. sought r start end) self.old.cache.reader } }) }
@@ -129,7 +130,7 @@ impl<K, const N: usize> SharedRequest<K, N> {
         self.request.cache.seek(start, end)
     }
 
-    /// `HttpCache::set_max_file_size_bytes`: limits the number of the body's bytes, none of which was counted yet.
+    /// `HttpCache::set_max_file_size_bytes`: limits the number of the body's bytes, and sets their count to zero.
     pub fn set_max_file_size_bytes(&mut self, max_file_size_bytes: usize)
         requires { IsOn self.old.cache.phase }
         ensures { self.new ≡ record self.old { cache = with_limit max_file_size_bytes self.old.cache } }
@@ -147,8 +148,8 @@ impl<K, const N: usize> SharedRequest<K, N> {
         self.request.cache.max_file_size_bytes()
     }
 
-    /// `HttpCache::track_body_bytes_for_max_file_size`: counts so many bytes of the body, and answers whether all that were counted
-    /// are within the limit. Without a limit it counts nothing, and they are.
+    /// `HttpCache::track_body_bytes_for_max_file_size`: counts so many bytes of the body, and returns whether the count is
+    /// within the limit. Without a limit it counts nothing, and returns true.
     pub fn track_body_bytes_for_max_file_size(&mut self, bytes_len: usize) -> bool
         requires { WasEnabled self.old.cache.phase }
         ensures request { self.new ≡ record self.old { cache = with_bytes bytes_len self.old.cache } }
@@ -159,7 +160,7 @@ impl<K, const N: usize> SharedRequest<K, N> {
             .track_body_bytes_for_max_file_size(bytes_len)
     }
 
-    /// `HttpCache::exceeded_max_file_size`: whether the bytes that were counted are more than the limit.
+    /// `HttpCache::exceeded_max_file_size`: whether the counted bytes are more than the limit.
     pub fn exceeded_max_file_size(&self) -> bool
         requires { WasEnabled self.now.cache.phase }
         ensures { result ≡ not (is_within self.now.cache.size) }
@@ -167,7 +168,8 @@ impl<K, const N: usize> SharedRequest<K, N> {
         self.request.cache.exceeded_max_file_size()
     }
 
-    /// `HttpCache::take_write_lock`: takes the permit out, for another request of the same part to hold.
+    /// `HttpCache::take_write_lock`: takes the permit out, so that another request of the same part can
+    /// hold it.
     pub fn take_write_lock(&mut self) -> SharedPermit<K, N>
         requires { IsSome (permit_in self.old.cache.held) }
         ensures permit { Some result.permit ≡ permit_in self.old.cache.held }

@@ -1,11 +1,11 @@
-//! The cache, and what it tells of itself.
+//! The cache, and its getters.
 ghost use Rattle.std.specs.Prelude.{◌≡◌, ◌<◌};
 
 use crate::part::PartLock;
 use crate::portion::Portion;
 use crate::put::SharedPut;
 use crate::request::SharedRequest;
-use pcache_base::error::Result;
+use pcache_base::error::{Error, ErrorType, Result};
 use pcache_base::key::CacheKey;
 use pcache_base::seed::Seed;
 use pcache_evict::eviction::EvictionManager;
@@ -15,39 +15,42 @@ use std::marker::Model;
 use std::sync::Wait;
 use std::time::Duration;
 
-/// A cache in `N` parts, each a `Cache` behind a lock of its own. A key is in the part of its primary hash. Of each part holds at
-/// all times what holds of a `Cache`, with the part's own limits. A contract sees the limits of the parts.
+/// A cache in `N` parts, each a `Cache` behind a lock of its own. A key is in the part of its primary hash. Each part has at all
+/// times the invariant of a `Cache`, with the part's own limits. A contract sees the limits of the parts.
 ///
-/// `K` is a mark, a type of the caller's that nothing else uses: a request of one cache cannot be lent another's parts.
+/// `K` is a mark, a type of the caller's that nothing else uses: a request of one cache cannot be used with the parts
+/// of another.
 #[derive(Drop)]
 pub struct SharedCache<M: EvictionManager, K, const N: usize> {
     alloc: Global,
     parts: Vec<PartLock<M, K>>,
+    room: Vec<Portion<M>>,
 }
 
 impl<M: EvictionManager, K, const N: usize> Model for SharedCache<M, K, N> {
-    ghost use Rattle.std.specs.Prelude.{◌≡◌, ◌<◌, List, length};
+    ghost use Rattle.std.specs.Prelude.{◌≡◌, ◌<◌, ◌≤◌, [], List, length, vec_capacity};
     ghost use Rattle.pcache_evict.specs.Tracked.{Limits};
 
     ghost Value = { List Limits };
 
     ghost view = { λ c. c.parts.items };
 
-    ghost invariant = { λ c. (0 < N) × (length c.parts.items ≡ N) };
+    ghost invariant = { λ c. (0 < N) × (length c.parts.items ≡ N) × (c.room.items ≡ []) × (N ≤ vec_capacity c.room) };
 }
 
 impl<M: EvictionManager, K, const N: usize> SharedCache<M, K, N> {
     ghost use Rattle.std.specs.Prelude.{◌≡◌, ◌<◌, ◌≤◌, [], true, false, None, Some, IfErr, IfOk, IfSome, length, map, slice_get, sum_by};
-    ghost use Rattle.pcache_base.specs.declared.error.ErrorType.TheVariants.{OutOfMemory};
+    ghost use Rattle.pcache_base.specs.declared.error.ErrorType.TheVariants.{InternalError, OutOfMemory};
     ghost use Rattle.pcache_put.specs.Progress.{AtHead};
     ghost use Rattle.pcache_put_ctx.specs.State.{HasTaken, InHead};
     ghost use Rattle.pcache_request.specs.Requests.{enabled_with, new_request, with_key};
     ghost use Rattle.pcache_store.specs.Totals.{slots, stored_bytes};
+    ghost use Rattle.pcache_shared_cache.specs.Managed.{managed};
     ghost use Rattle.pcache_shared_cache.specs.Portions.{place_of, whole_watermark, whole_weight};
     ghost use Rattle.pcache_shared_cache.specs.Shared.{InParts};
 
-    /// A cache with nothing stored, with a part for each of `N` managers. Permits age out after `age_timeout`. The tables hash under
-    /// the seed, which no answer shows. It fails when memory runs out.
+    /// An empty cache with a part for each of `N` managers. Permits age out after `age_timeout`. The tables hash under the
+    /// seed, on which no result depends. Fails when memory runs out.
     pub fn new(
         alloc: Global,
         seed: Seed,
@@ -60,10 +63,33 @@ impl<M: EvictionManager, K, const N: usize> SharedCache<M, K, N> {
         ensures kind { IfErr result (λ e. e ≡ OutOfMemory) }
     {
         let mut parts = Vec::with_capacity(alloc, portions.len())?;
+        let room = Vec::with_capacity(alloc, portions.len())?;
         for portion in portions {
             parts.push_reserved(PartLock::new(alloc, seed, portion, age_timeout));
         }
-        Ok(SharedCache { alloc, parts })
+        Ok(SharedCache { alloc, parts, room })
+    }
+
+    /// Takes the cache apart, and hands out the managers of the parts, by place, each with its limits: to be saved, or for `new`. The
+    /// bodies are gone. It takes no memory and does not wait. It would fail as an internal error if a part's manager had not its
+    /// part's limits; it has, but what lies behind a lock no contract knows.
+    pub fn into_portions(self) -> Result<Vec<Portion<M>>>
+        ensures portions { IfOk result (λ v. InParts self (λ ps. v.items ≡ map managed ps)) }
+        ensures limits { IfOk result (λ v. map (λ p. p.limits) v.items ≡ self) }
+        ensures kind { IfErr result (λ e. e ≡ InternalError) }
+    {
+        let SharedCache {
+            alloc: _,
+            parts,
+            room: mut portions,
+        } = self;
+        for part in parts {
+            let Some(portion) = part.into_portion() else {
+                return Err(Error::new(ErrorType::InternalError));
+            };
+            portions.push_reserved(portion);
+        }
+        Ok(portions)
     }
 
     /// The allocator that the cache was made with, for the keys of its callers.
@@ -90,7 +116,7 @@ impl<M: EvictionManager, K, const N: usize> SharedCache<M, K, N> {
         SharedPut::new(self.alloc, policy, key)
     }
 
-    /// The lengths of the complete bodies, added up, each part asked in its turn: at most the whole limit.
+    /// The sum of the lengths of the complete bodies, each part asked in turn: at most the whole limit.
     pub fn stored_bytes<R: Wait>(&self, rt: &R) -> u128
         ensures value { InParts self.now (λ ps. result ≡ sum_by (λ p. stored_bytes p.store) ps) }
         ensures within { result ≤ whole_weight self.now }
@@ -102,7 +128,7 @@ impl<M: EvictionManager, K, const N: usize> SharedCache<M, K, N> {
         total
     }
 
-    /// The number of complete bodies, each part asked in its turn: at most the whole watermark, if each part has one.
+    /// The number of complete bodies, each part asked in turn: at most the whole watermark, if each part has one.
     pub fn slots<R: Wait>(&self, rt: &R) -> u128
         ensures value { InParts self.now (λ ps. result ≡ sum_by (λ p. slots p.store) ps) }
         ensures within { IfSome (whole_watermark self.now) (λ most. result ≤ most) }

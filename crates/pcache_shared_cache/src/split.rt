@@ -4,8 +4,8 @@ ghost use Rattle.pcache_shared_cache.specs.Portions.{place_of, portion};
 
 use pcache_base::key::{CacheHashKey, CacheKey};
 
-/// The part of a whole that the part at this place has, of so many: all have the same, and the first ones have one of the rest
-/// each. All of them together have the whole (`laws::portions_add_up`).
+/// The portion of a whole for the part at this place, of so many parts: all get the same, and the first ones get one more
+/// each, for the remainder. All portions sum to the whole (`laws::portions_add_up`).
 pub fn portion_of(whole: usize, parts: usize, place: usize) -> usize
     requires { 0 < parts }
     ensures { result ≡ portion whole parts place }
@@ -18,7 +18,7 @@ pub fn portion_of(whole: usize, parts: usize, place: usize) -> usize
     }
 }
 
-/// The same of a watermark, if there is one.
+/// The same for a watermark, if there is one.
 pub fn portion_of_watermark(whole: Option<usize>, parts: usize, place: usize) -> Option<usize>
     requires { 0 < parts }
     ensures { result ≡ option_map (λ w. portion w parts place) whole }
@@ -29,8 +29,8 @@ pub fn portion_of_watermark(whole: Option<usize>, parts: usize, place: usize) ->
     }
 }
 
-/// The place of the part that a key belongs to, of `N`. The variants of a key are in the same. Caches, and worlds that several
-/// locks guard, are parted by it.
+/// The place of the part that a key belongs to, of `N`. The variants of a key are in the same part. Caches in parts, and
+/// worlds behind several locks, are split by it.
 #[tactic(auto, unfolding(pcache_base::specs::Key::number_of))]
 pub fn place_of<const N: usize>(key: &CacheKey) -> usize
     requires { 0 < N }

@@ -19,7 +19,7 @@ concat_next ps i d lt = ap concat (take_more ps i d lt) ∙ concat_more (take i 
 pub length_next : (ps : List (List ℕ)) (i : ℕ) (d : List ℕ) → i < length ps → length (concat (take (i + 1) ps)) ≡ length (concat (take i ps)) + length (get_or ps i d)
 length_next ps i d lt = ap length (concat_next ps i d lt) ∙ length-append (concat (take i ps)) (get_or ps i d)
 
--- a text to which the pieces so far are put, and one more
+-- a text with the pieces so far, and one more
 pub put_next : (text : List ℕ) (ps : List (List ℕ)) (i : ℕ) (d now next : List ℕ) → i < length ps → now ≡ text ++ concat (take i ps) → next ≡ now ++ get_or ps i d → next ≡ text ++ concat (take (i + 1) ps)
 put_next text ps i d now next lt so_far more =
     more ∙ ap (λ x. x ++ get_or ps i d) so_far ∙ append_assoc text (concat (take i ps)) (get_or ps i d) ∙ ap (λ x. text ++ x) (sym (concat_next ps i d lt))
@@ -48,7 +48,7 @@ passed (x ∷ xs) ys (suc place) le =
 pub from_first : (p : List ℕ) (ps : List (List ℕ)) (tail : List ℕ) (skip : ℕ) → skip ≤ length p → (drop skip p ++ concat ps) ++ tail ≡ drop skip ((p ++ concat ps) ++ tail)
 from_first p ps tail skip le = append_assoc (drop skip p) (concat ps) tail ∙ sym (drop-append-le skip p (concat ps ++ tail) le) ∙ ap (drop skip) (sym (append_assoc p (concat ps) tail))
 
--- from a place within the pieces from one on
+-- from an index within the pieces from one on
 pub from_piece : (ps : List (List ℕ)) (tail : List ℕ) (at place start : ℕ) → start ≡ length (concat (take at ps)) → start ≤ place → drop (place - start) (concat (drop at ps) ++ tail) ≡ drop place (concat ps ++ tail)
 from_piece ps tail at place start is le =
     let below : length (concat (take at ps)) ≤ place = omega arith in
@@ -77,7 +77,7 @@ last_piece ps at d lt is =
     let le : length ps ≤ at + 1 = omega arith in
     sym (ap concat (take_all (at + 1) ps le)) ∙ concat_next ps at d lt
 
--- ---- the bytes from a place on
+-- ---- the bytes from an index on
 
 whole_rest : (ps : List (List ℕ)) (at : ℕ) → take (length ps - at) (drop at ps) ≡ drop at ps
 whole_rest ps at = let le : length (drop at ps) ≤ length ps - at = omega (arith, length-drop at ps) in take_all (length ps - at) (drop at ps) le
@@ -121,7 +121,7 @@ within ps p at place start lt p_is start_is inside =
     let len : length p ≡ length (get_or ps at p) = ap length p_is in
     omega arith
 
--- ---- a piece more
+-- ---- one more piece
 
 pub pushed : (ps mid new : List (List ℕ)) (tail none b : List ℕ) → concat mid ++ none ≡ concat ps ++ tail → none ≡ [] → new ≡ mid ++ b ∷ [] → concat new ++ none ≡ (concat ps ++ tail) ++ b
 pushed ps mid new tail none b same empty last =

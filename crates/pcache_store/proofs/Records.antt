@@ -94,7 +94,7 @@ past (m ∷ ms) (suc i) le = past ms i (omega (arith, le))
 get-of_shard : (ws : Map) (shard q : ℕ) → get (of_shard shard ws) q ≡ cond (is_of_shard shard (get ws q)) (get ws q) None
 get-of_shard ws shard q = get-retain_keys ws (λ n. is_of_shard shard (get ws n)) q (λ x e. ap (λ n. is_of_shard shard (get ws n)) (sym (exact_unsigned q x e)))
 
--- a value that may stand in a shard
+-- a value that may be in a shard
 abbrev MayStand : ℕ → Option Written → Type 0
 MayStand place None = Unit {0}
 MayStand place (Some w) = w.slot % 16 ≡ place
@@ -125,7 +125,7 @@ pub record Changed (ms : List Map) (place number : ℕ) (x after : Map) : Type 0
   pub own : (i : ℕ) → i < 16 → table_at (slice_set ms place x) i ≡ of_shard i after
   pub count : len after + held (get (all ms) number) ≡ len (all ms) + held (get x number)
 
--- the count before is at least what stands at a number
+-- the count before is at least that of a number's value
 held-fits : {ms : List Map} {count : ℕ} (number : ℕ) → AreRecords ms count → held (get (all ms) number) ≤ count
 held-fits {ms} number s =
     let less = remove_len (all ms) number in

@@ -52,7 +52,7 @@ module _ (ms : List Map) (key : ℕ) (d : Map) (long : length ms ≡ 16) (placed
   size : length (parts 0 ms) ≡ 16
   size = length-parts ms 0 ∙ long
 
-  -- what stands at a key stands in its table
+  -- the value of a key is in its table
   pub here : get (slice_index_or ms (key % 16) d) key ≡ get (joined (parts 0 ms)) key
   here = sym (get-joined 16 (parts 0 ms) key (part (0 + key % 16) (slice_index_or ms (key % 16) d)) placed at)
 
@@ -145,7 +145,7 @@ held-opened m key n = ap held (get-insert-at m key (opened_in (slot_or_new (get 
 pub held-removed : (m : Map) (key : ℕ) → held (get (remove m key) key) ≡ 0
 held-removed m key = ap held (get-remove-at m key)
 
--- the count before is at least what stood at a key
+-- the count before is at least that of a key's value
 pub held-fits : (ms : List Map) (key count : ℕ) (d : Map) → AreShards ms count → held (get (slice_index_or ms (key % 16) d) key) ≤ count
 held-fits ms key count d s =
     let less = remove_len (joined (parts 0 ms)) key in

@@ -8,7 +8,7 @@ use Rattle.pcache_store.specs.Shards.{held}
 use Rattle.pcache_store.proofs.Maps.{insert_same, remove-insert}
 use Rattle.pcache_store.specs.Store.{Slot, Stored, is_idle, with_slot, opened_in, opened, slot_or_new, shut_on, slot_without, write_gone_on, stored_on, with_meta, meta_changed_in, meta_changed_on}
 
--- what holds anyway holds if a call is refused
+-- what holds in any case holds if a call fails
 pub on_err : {A E P : Type 0} (r : Result A E) → P → OnErr r P
 on_err (Ok a) p = tt
 on_err (Err e) p = p
@@ -32,7 +32,7 @@ module _ (xs : FinMap nat_cmp Slot) (k : ℕ) (x v : Slot) (m : FinMap nat_cmp S
   pub lost_out : (n : ℕ) (r : FinMap nat_cmp Slot) → v ≡ slot_without n x → is_idle v ≡ true → r ≡ remove m k → r ≡ write_gone_on xs k n (get xs k)
   lost_out n r e idle out = out ∙ ap (λ y. remove y k) set ∙ remove-insert xs k v ∙ ap (λ b. cond b (remove xs k) (insert xs k v)) (sym idle) ∙ ap (with_slot xs k) e ∙ ap (write_gone_on xs k n) is
 
-  -- how many slots of the key there are, if it was changed where it stands, and if it was taken out then
+  -- how many slots of the key there are, if it was changed in place, and if it was removed then
   found : Some v ≡ get m k
   found = sym (ap (λ x. get x k) set ∙ get-insert-at xs k v)
 

@@ -42,7 +42,7 @@ module _ (ws : FinMap nat_cmp Written) (n : ℕ) (w v : Written) (m : FinMap nat
   found : Some v ≡ get m n
   found = sym (ap (λ x. get x n) set ∙ get-insert nat_cmp_total ws n v n ∙ ap (λ r. cond (is_eq r) (Some v) (get ws n)) (tied_itself nat_cmp_total n))
 
-  -- how many records of the number there are, if it was changed where it stands, and if it was taken out then
+  -- how many records of the number there are, if it was changed in place, and if it was removed then
   pub one_stays : held (get m n) + 0 ≡ held (get ws n)
   one_stays = rw (← is, ← found) refl
 
@@ -105,7 +105,7 @@ module _ (ws : FinMap nat_cmp Written) (n k : ℕ) (f : AreBefore ws n) where
   pub before_landed : AreBefore (grounded_on ws k (get ws k)) n
   before_landed = elim (get ws k) as (λ o. get ws k ≡ o → AreBefore (grounded_on ws k o) n) [ None ↦ λ e. f | Some w ↦ λ e. before_kept ws n k w (record w { flying = false }) f e ] refl
 
--- what follows either way of a call that answers
+-- what follows in either case of a call that returns
 pub on_both : {A E P Q C : Type 0} (r : Result A E) → (P → C) → (Q → C) → OnOk r P → OnErr r Q → C
 on_both (Ok a) f g p q = f p
 on_both (Err e) f g p q = g q

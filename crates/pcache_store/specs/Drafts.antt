@@ -1,4 +1,4 @@
--- What a store in memory keeps of its writes (own).
+-- How a store in memory keeps its writes (own).
 use Rattle.std.specs.Prelude.{ℕ, ◌≡◌, ◌≤◌, Option, None, Some, refl}
 use Rattle.std.specs.Ordering.{nat_cmp}
 use Rattle.std.specs.Coded.{Coded, code_by, coded×, coded_ℕ}

@@ -1,4 +1,4 @@
--- What the end of a write in memory answers (own): a new body of so many bytes.
+-- What the end of a write in memory returns (own): a new body of so many bytes.
 use Rattle.std.specs.Prelude.{ℕ}
 use Rattle.std.specs.FinMap.{get}
 use Rattle.pcache_store.specs.Store.{Store, written_size}

@@ -8,3 +8,4 @@ pub mod Store
 pub mod StoreCode
 pub mod Tag
 pub mod Totals
+pub mod Untouched

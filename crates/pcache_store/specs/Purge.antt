@@ -1,4 +1,4 @@
--- What a removal names, and what it answers (own).
+-- What a removal names, and what it returns (own).
 use Rattle.std.specs.Prelude.{ℕ, ◌≡◌, ◌⊎◌, ◌&&◌, Bool, Option, Some, None, is_some, cond}
 use Rattle.std.specs.FinMap.{get}
 use Rattle.pcache_base.specs.CompactKey.{compact_slot}
@@ -17,12 +17,12 @@ abbrev pub target_key : PurgeTarget → CompactCacheKey
 target_key (Active k) = k.now
 target_key (Exact e) = key_of e.now
 
--- the entry that a removal took out, which answered this number
+-- the entry that a removal removed, if it returned this number
 abbrev pub removed_entry : PurgeTarget → Option ℕ → CacheEntryKey
 removed_entry (Active k) n = entry_with k.now n
 removed_entry (Exact e) n = e.now
 
--- an exact target answers no number, or its own
+-- a removal of an exact target returns no number, or the target's own
 abbrev pub IsNumberOf : PurgeTarget → Option ℕ → Type 0
 IsNumberOf (Active k) n = Unit {0}
 IsNumberOf (Exact e) n = (n ≡ None) ⊎ (n ≡ id_of e.now)
@@ -31,7 +31,7 @@ IsNumberOf (Exact e) n = (n ≡ None) ⊎ (n ≡ id_of e.now)
 abbrev pub entry_given : Bool → ℕ → Option ℕ
 entry_given numbers w = cond numbers (Some w) None
 
--- the number of the entry of what a reader reads, if entries have numbers
+-- the number of the entry that a reader reads, if entries have numbers
 abbrev pub entry_read : Bool → Reader → Option ℕ
 entry_read numbers h = cond numbers (write_read h) None
 
@@ -39,61 +39,71 @@ entry_read numbers h = cond numbers (write_read h) None
 abbrev pub entry_of_body : Bool → Option Stored → Option ℕ
 entry_of_body numbers b = cond numbers (number_of_body b) None
 
--- A removal of a key takes all of its slot out, and answers the number of the complete body.
+-- A removal of a key removes its slot, and returns the number of the complete body.
 abbrev pub purged_at : Store → Option ℕ → Store
 purged_at s None = s
 purged_at s (Some k) = purged s k
 
+-- what a removal of a slot returns: the number of its complete body, if entries have numbers
 abbrev pub slot_answer : Bool → Option Slot → PurgeOutcome
 slot_answer numbers None = NotFound
 slot_answer numbers (Some x) = Purged (entry_of_body numbers x.body)
 
+-- what a removal of a key returns
 abbrev pub purge_answer : Bool → Store → Option ℕ → PurgeOutcome
 purge_answer numbers s None = NotFound
 purge_answer numbers s (Some k) = slot_answer numbers (get s.slots k)
 
--- A removal of an entry: of the key alone, all of its slot; with a number, the write that has it, if entries have numbers.
+-- A removal of an entry: without a number, the key's slot; with a number, the write with this number, if entries have
+-- numbers.
 abbrev pub entry_purged_in : Bool → Store → ℕ → Option ℕ → Store
 entry_purged_in numbers s k None = purged s k
 entry_purged_in numbers s k (Some n) = cond numbers (write_purged s k n) s
 
+-- a removal of an entry, by its key and its number
 abbrev pub entry_purged : Bool → Store → CacheEntryKey → Store
 entry_purged numbers s e = entry_purged_in numbers s (compact_slot (key_of e)) (id_of e)
 
+-- what a removal of an entry returns: its own number, if it has one
 abbrev pub entry_answer_in : Bool → Option Slot → Option ℕ → PurgeOutcome
 entry_answer_in numbers x None = cond (is_some x) (Purged None) NotFound
 entry_answer_in numbers x (Some n) = cond (numbers && has_write n x) (Purged (Some n)) NotFound
 
+-- what a removal of an entry returns, by its key and its number
 abbrev pub entry_answer : Bool → Store → CacheEntryKey → PurgeOutcome
 entry_answer numbers s e = entry_answer_in numbers (get s.slots (compact_slot (key_of e))) (id_of e)
 
--- what a target's removal takes out, and answers
+-- what a removal of a target removes, and what it returns
 abbrev pub target_purged : Bool → Store → PurgeTarget → Store
 target_purged numbers s (Active k) = purged_at s (Some (compact_slot k.now))
 target_purged numbers s (Exact e) = entry_purged numbers s e.now
 
+-- what a removal of a target returns
 abbrev pub target_answer : Bool → Store → PurgeTarget → PurgeOutcome
 target_answer numbers s (Active k) = purge_answer numbers s (Some (compact_slot k.now))
 target_answer numbers s (Exact e) = entry_answer numbers s e.now
 
--- An expiry ends the freshness of the complete body, and leaves writes alone.
+-- An expiry ends the freshness of the complete body, and does not change writes.
 abbrev pub expired_at : ℕ → Store → Option ℕ → Store
 expired_at now s None = s
 expired_at now s (Some k) = meta_changed (meta.expired_at now) s k
 
+-- what an expiry returns: whether there is a complete body
 abbrev pub expire_answer : Store → Option ℕ → PurgeOutcome
 expire_answer s None = NotFound
 expire_answer s (Some k) = cond (is_some (complete_body (get s.slots k))) Expired NotFound
 
--- the slot whose complete body an expiry of a target is for: that of its key, unless it names an entry by a number that the
--- complete body has not
+-- the slot whose complete body an expiry of a target is for: that of its key, unless it names an entry by a number that is
+-- not the complete body's
 abbrev pub slot_if : Bool → ℕ → Option ℕ
 slot_if is k = cond is (Some k) None
 
+-- the slot that an expiry of an entry is for
 abbrev pub entry_slot_expired : Bool → Store → ℕ → Option ℕ → Option ℕ
 entry_slot_expired numbers s k None = Some k
 entry_slot_expired numbers s k (Some n) = slot_if (numbers && has_body_of n (complete_body (get s.slots k))) k
 
+-- the slot that an expiry of a target is for
 abbrev pub slot_expired : Bool → Store → PurgeTarget → Option ℕ
 slot_expired numbers s (Active k) = Some (compact_slot k.now)
 slot_expired numbers s (Exact e) = entry_slot_expired numbers s (compact_slot (key_of e.now)) (id_of e.now)

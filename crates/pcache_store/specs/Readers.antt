@@ -1,4 +1,5 @@
--- What the readers and handlers of the store in memory mean, and what it promises of all its calls.
+-- The meaning of the readers and handlers of the store in memory, and what that store promises of all its calls
+-- (own).
 use Rattle.std.specs.Prelude.{true}
 use Rattle.pcache_store.specs.Store.{Reader, Whole, Part, Guarantees}
 use Rattle.pcache_store.specs.declared.memory.hit.MemHitHandler.{MemHitHandler}
@@ -8,6 +9,6 @@ abbrev pub reader_of : MemHitHandler → Reader
 reader_of (Complete h) = Whole h.id h.body h.start h.stop h.done
 reader_of (Partial p) = Part p.write p.place
 
--- removals always succeed, and entries have the numbers of their writes
+-- removals always succeed, and an entry has the number of its write
 abbrev pub in_memory : Guarantees
 in_memory = record { purges = true; numbers = true }

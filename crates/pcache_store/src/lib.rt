@@ -1,6 +1,6 @@
 #![tactic(auto)]
-//! The store of a cache: complete bodies and writes in flight, the traits that it is asked by, and a
-//! store in memory.
+//! The store of a cache: complete bodies and writes in flight, the traits through which it is
+//! called, and a store in memory.
 //!
 //! - `storage`: the traits `Storage`, `HandleHit` and `HandleMiss`, and the types of removals.
 //! - `memory`: `MemCache`, which keeps everything in memory.

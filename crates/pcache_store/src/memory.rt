@@ -21,6 +21,7 @@ mod hit;
 mod miss;
 mod slot_table;
 mod slots;
+mod untouched;
 
 use crate::storage::streaming_write::U64WriteId;
 use crate::storage::{MissFinishType, PurgeOutcome, PurgeTarget, PurgeType, Storage, StoreMeaning};
@@ -42,10 +43,11 @@ use std::marker::Model;
 
 /// A store that keeps bodies and writes in memory.
 ///
-/// A contract sees what stands under each key and each write that somebody names. Look-ups, writes
-/// and removals take a few look-ups of hash tables, however many keys and writes there are, and time
-/// in the logarithm of the number of writes that are in flight for the key alone. A complete body is
-/// shared by all that read it. Metas are kept as the bytes that spell them, and read back at look-ups.
+/// A contract sees the slot of each key, and each write that a handler or a reader names. Look-ups,
+/// writes and removals take a constant number of look-ups in hash tables, whatever the number of keys
+/// and writes, and time logarithmic in the number of writes in flight for the key alone. A complete
+/// body is shared by all its readers. Metas are kept as the bytes that spell them, and read back at
+/// look-ups.
 #[derive(Drop)]
 pub struct MemCache {
     alloc: Global,
@@ -65,7 +67,7 @@ impl Model for MemCache {
 }
 
 impl MemCache {
-    /// A store with nothing in it. Its tables hash under the seed, which no answer shows.
+    /// An empty store. Its tables hash under the seed, on which no result depends.
     pub fn new(alloc: Global, seed: Seed) -> MemCache
         ensures { result ≡ record { slots = map.empty; writes = map.empty; next = 0 } }
     {
@@ -76,7 +78,7 @@ impl MemCache {
         }
     }
 
-    /// A store with nothing in it, whose next write has this number, so that the last numbers can be tried.
+    /// An empty store whose next write has this number, so that the last numbers can be tried.
     pub fn starting_at(alloc: Global, seed: Seed, next: u64) -> MemCache
         ensures { result ≡ record { slots = map.empty; writes = map.empty; next = next } }
     {
@@ -87,7 +89,7 @@ impl MemCache {
         }
     }
 
-    /// The lengths of the complete bodies, added up.
+    /// The sum of the lengths of the complete bodies, in bytes.
     pub fn stored_bytes(&self) -> u128
         ensures { result ≡ stored_bytes self.now }
     {
@@ -101,9 +103,9 @@ impl MemCache {
         self.slots.bodies()
     }
 
-    /// The number of keys of a shard under which something stands: a complete body, or a write in
-    /// flight that met no removal. There are 16 shards, and the shard of a key is its combined hash
-    /// as a number, big end first, modulo 16.
+    /// The number of keys of a shard that have a complete body, or a write in flight that met no
+    /// removal. There are 16 shards, and the shard of a key is its combined hash as a number (high
+    /// byte first), modulo 16.
     pub fn shard_slots(&self, shard: usize) -> usize
         requires { shard < 16 }
         ensures { result ≡ map.len (part_of 16 shard self.now.slots) }
@@ -111,14 +113,15 @@ impl MemCache {
         self.slots.shard_len(shard)
     }
 
-    /// The number of writes that are kept: those that a handler or a reader names.
+    /// The number of records of writes: those that a handler or a reader names.
     pub fn write_records(&self) -> usize
         ensures { result ≡ map.len self.now.writes }
     {
         self.drafts.len()
     }
 
-    /// The number of writes of a shard's keys that are kept. A write is kept in the shard of its key.
+    /// The number of records of the writes of a shard's keys. A record is kept in the shard of its
+    /// key.
     pub fn shard_write_records(&self, shard: usize) -> usize
         requires { shard < 16 }
         ensures { result ≡ map.len (of_shard shard self.now.writes) }
@@ -126,7 +129,8 @@ impl MemCache {
         self.drafts.shard_len(shard)
     }
 
-    /// Whether a write with this number is kept, is of this key, and has a meta that names it.
+    /// Whether the write with this number has a record, is of this key, and has a meta that names
+    /// it.
     pub fn has_write(&self, key: &CacheKey, number: u64) -> bool
         ensures { result ≡ is_write_under (slot key.now) number (map.get self.now.writes number) }
     {
@@ -139,7 +143,7 @@ impl MemCache {
         }
     }
 
-    // The record of a write, which stands in the shard of its key's slot.
+    // The record of a write, which is in the shard of its key's slot.
     pub(crate) fn draft(&self, slot: u128, number: u128) -> Option<&Draft>
         ensures { option_copied result ≡ map.get self.now.writes number }
     {
@@ -148,7 +152,7 @@ impl MemCache {
 
     ghost use Rattle.pcache_store.specs.Readers.{reader_of};
 
-    // A reader more of a write, from its beginning, and its meta.
+    // Gives one more reader of a write, from its beginning, with its meta.
     fn follow(
         &mut self,
         alloc: Global,
@@ -230,7 +234,7 @@ impl MemCache {
 impl MemCache {
     ghost use Rattle.pcache_store.specs.Purge.{entry_answer, entry_purged, slot_expired};
 
-    // Removes what an entry names: all of its key, or the write that has its number.
+    // Removes what an entry names: everything of its key, or the write with its number.
     fn purge_entry(&mut self, entry: &CacheEntryKey) -> PurgeOutcome
         ensures answer { result ≡ entry_answer true self.old entry.now }
         ensures purged { self.new ≡ entry_purged true self.old entry.now }
@@ -249,7 +253,7 @@ impl MemCache {
         }
     }
 
-    // The slot whose complete body an expiry is for, if the target names what stands there.
+    // The slot whose complete body an expiry is for, if the target names that body.
     fn slot_to_expire(&self, target: PurgeTarget<'_>) -> Option<u128>
         ensures { result ≡ slot_expired true self.now target.entry }
     {
@@ -278,7 +282,7 @@ impl StoreMeaning for MemCache {
 
     ghost guarantees = { in_memory };
 
-    // The end of a reader is never refused.
+    // Ending a reader never fails.
     ghost ends_hit = { λ _ reader result. IsOk result };
 }
 
@@ -352,14 +356,14 @@ impl Storage for MemCache {
         let meta = SpelledMeta::with_entry_id(alloc, meta, Some(CacheEntryId::new(number)))?;
         let draft = Draft::new(alloc, slot, meta);
         self.drafts.begin(draft)?;
-        if let Err(refused) = self.slots.open(alloc, slot, number as u128) {
+        if let Err(refused) = self.slots.open(alloc, slot, number) {
             self.drafts.take_back(slot);
             return Err(refused);
         }
         Ok(MemMissHandler::new(slot, number))
     }
 
-    /// Takes no memory, so it is never refused.
+    /// Takes no memory, so it never fails.
     fn purge(&mut self, target: PurgeTarget<'_>, _purge_type: PurgeType) -> Result<PurgeOutcome> {
         let outcome = match target {
             PurgeTarget::Active(key) => match self.slots.remove(key.slot()) {

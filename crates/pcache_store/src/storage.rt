@@ -1,7 +1,7 @@
-//! What a store of bodies is asked, and what it gives.
+//! The traits of a store of bodies, and the types of its calls.
 //!
-//! A store is lent to each call of its handlers. What a call does is stated over what the store
-//! means (`Store`: its slots by key and its writes by number), whatever the store keeps.
+//! Each call of a handler borrows the store. The effect of a call is stated over the meaning of the
+//! store (`Store`: its slots by key and its writes by number), whatever its representation.
 ghost use Rattle.std.specs.Prelude.{◌≡◌, ◌<◌, ◌^◌, ℕ, Bool, false, true, Option, Some, None, Result, IfOk, OnOk, OnErr, IfErr, IsOk, IsTrue, IsSome, ◌↔◌, option_map, is_some, option_copied};
 ghost use Rattle.std.specs.FinMap as map;
 ghost use Rattle.pcache_base.specs.Key.{slot};
@@ -33,25 +33,25 @@ pub mod streaming_write;
 pub enum PurgeType {
     /// To make room.
     Eviction,
-    /// Because it is no longer good.
+    /// Because it is no longer valid.
     Invalidation,
 }
 
-/// What is done to something that is no longer good.
+/// What is done with something that is no longer valid.
 #[derive(Clone, Copy, Debug, PartialEq, Eq)]
 pub enum PurgeAction {
-    /// It is taken out.
+    /// It is removed.
     Delete,
-    /// It stays, and is stale.
+    /// It stays, and becomes stale.
     Expire,
 }
 
-/// What a removal goes for.
+/// What a removal is for.
 #[derive(Clone, Copy, Debug, PartialEq, Eq)]
 pub enum PurgeTarget<'a> {
-    /// Whatever stands under a key.
+    /// Everything that is stored for a key.
     Active(&'a CompactCacheKey),
-    /// One entry, and nothing if that is not what stands.
+    /// One entry, and nothing if that entry is not stored.
     Exact(&'a CacheEntryKey),
 }
 
@@ -66,7 +66,7 @@ impl<'a> PurgeTarget<'a> {
         }
     }
 
-    /// The entry that a removal of this target took out, if it answered this number.
+    /// The entry that a removal of this target removed, if it returned this number.
     pub fn removed_entry(self, id: Option<CacheEntryId>) -> CacheEntryKeyRef<'a>
         requires { IsNumberOf self id }
         ensures { referred result ≡ removed_entry self.entry id }
@@ -91,44 +91,44 @@ impl fmt::Display for PurgeTarget<'_> {
 /// What a removal found.
 #[derive(Clone, Copy, Debug, PartialEq, Eq)]
 pub enum PurgeOutcome {
-    /// Nothing was there.
+    /// Nothing was stored.
     NotFound,
-    /// It is gone. The number is that of the entry that went, if entries have numbers.
+    /// It was removed. The number is that of the removed entry, if entries have numbers.
     Purged(Option<CacheEntryId>),
-    /// It is still there, and stale.
+    /// It is still stored, and stale.
     Expired,
 }
 
 /// How a write ended.
 #[derive(Clone, Copy, Debug, PartialEq, Eq)]
 pub enum MissFinishType {
-    /// A new body stands, of this weight.
+    /// A new body was stored, of this weight.
     Created(usize),
     /// A body grew by the first weight; the second is the most that it may weigh.
     Appended(usize, Option<usize>),
 }
 
-/// What a store means.
+/// The meaning of a store, in contracts.
 pub trait StoreMeaning {
-    /// What it holds.
+    /// Its slots and writes.
     ghost state: { Self → Store };
 
     /// Whether a write can be read while it is made.
     ghost streams: { Self → Bool };
 
-    /// What the end of a write answers, if it succeeds.
+    /// What the end of a write returns, if it succeeds.
     ghost finishes: { Self → ℕ → MissFinishType };
 
-    /// Whether a removal always succeeds, and whether entries have the numbers of the writes that fill them.
+    /// Whether removals always succeed, and whether an entry has the number of the write that fills it.
     ghost guarantees: { Guarantees };
 
-    /// What the end of a reader answers: that it ended, or why that was refused.
+    /// What the end of a reader may return: success, or the error.
     ghost ends_hit: { Self → Reader → Result (Unit {0}) ErrorType → Type 0 };
 }
 
 /// A store of complete bodies, and of writes that fill it.
 ///
-/// A refused call changes nothing.
+/// A failed call changes nothing.
 pub trait Storage: StoreMeaning + Sized {
     /// The reader of a body or of a write.
     type Hit: HandleHit<Self>;
@@ -136,8 +136,8 @@ pub trait Storage: StoreMeaning + Sized {
     /// The handler of a write.
     type Miss: HandleMiss<Self>;
 
-    /// A reader of what stands under a key, and its meta: the earliest begun write in flight that met
-    /// no removal, else the complete body. It is refused only when memory runs out, and only if there
+    /// A reader of what is stored for a key, and its meta: the earliest begun write in flight that
+    /// met no removal, or else the complete body. Fails only when memory runs out, and only if there
     /// is something to read.
     fn lookup(&mut self, alloc: Global, key: &CacheKey) -> Result<Option<(CacheMeta, Self::Hit)>>
         ensures found { IfOk result (λ r. option_map (λ p. (p.0, Self.Hit.reader p.1)) r ≡ find (Self.state self.old) (slot key.now)) }
@@ -147,7 +147,7 @@ pub trait Storage: StoreMeaning + Sized {
         ensures err { OnErr result (Self.state self.new ≡ Self.state self.old) };
 
     /// A reader of the write that a tag names, if it is in flight and of the key, and its meta.
-    /// It is refused only when memory runs out, and only if there is such a write.
+    /// Fails only when memory runs out, and only if there is such a write.
     fn lookup_streaming_write(
         &mut self,
         alloc: Global,
@@ -160,8 +160,8 @@ pub trait Storage: StoreMeaning + Sized {
         ensures kind { IfErr result (λ e. e ≡ OutOfMemory) }
         ensures err { OnErr result (Self.state self.new ≡ Self.state self.old) };
 
-    /// Begins a write of a key. Its meta is kept with the write's number, whatever number it has. It is refused
-    /// when memory runs out, and exactly when all 64-bit numbers of writes are used.
+    /// Begins a write of a key. The meta is kept with the write's number, whatever number it had. Fails when
+    /// memory runs out, and exactly if all 64-bit numbers of writes are used.
     fn get_miss_handler(
         &mut self,
         alloc: Global,
@@ -175,9 +175,9 @@ pub trait Storage: StoreMeaning + Sized {
         ensures kind { IfErr result (λ e. MayRefuseWrite (Self.state self.old) e) }
         ensures err { OnErr result (Self.state self.new ≡ Self.state self.old) };
 
-    /// Removes what a target names: the complete body and every write in flight of its key; of an entry with a
-    /// number only the write that has this number, in flight or complete, whatever the user tag of the entry's key. It answers
-    /// the number of the complete body or write that went, and for an entry of a key alone none. It is refused only when
+    /// Removes what a target names: the complete body and every write in flight of its key; for an entry with a number
+    /// only the write with this number, in flight or complete, whatever the user tag of the entry's key. Returns the
+    /// number of the complete body or write that was removed, and none for an entry without a number. Fails only when
     /// memory runs out.
     fn purge(&mut self, target: PurgeTarget<'_>, purge_type: PurgeType) -> Result<PurgeOutcome>
         ensures answer { IfOk result (λ o. o ≡ target_answer Self.guarantees.numbers (Self.state self.old) target.entry) }
@@ -187,8 +187,7 @@ pub trait Storage: StoreMeaning + Sized {
         ensures err { OnErr result (Self.state self.new ≡ Self.state self.old) };
 
     /// Ends the freshness of the complete body that a target names, if it ends later than now. An entry with a number
-    /// names the body of the write that has it.
-    /// It is refused only when memory runs out, and only if there is one.
+    /// names the body of the write with this number. Fails only when memory runs out, and only if there is one.
     fn expire(
         &mut self,
         alloc: Global,
@@ -201,8 +200,8 @@ pub trait Storage: StoreMeaning + Sized {
         ensures kind { IfErr result (λ e. e ≡ OutOfMemory) }
         ensures err { OnErr result (Self.state self.new ≡ Self.state self.old) };
 
-    /// Sets the meta of a key's complete body, and answers whether there is one. The number of the write
-    /// that stored the body stays, whatever number the new meta has. It is refused only when memory runs out, and only if there is one.
+    /// Sets the meta of a key's complete body, and returns whether there is one. The body keeps the number of the write that
+    /// stored it, whatever number the new meta has. Fails only when memory runs out, and only if there is one.
     fn update_meta(&mut self, alloc: Global, key: &CacheKey, meta: &CacheMeta) -> Result<bool>
         ensures there { IfOk result (λ b. b ≡ is_some (complete_body (map.get (Self.state self.old).slots (slot key.now)))) }
         ensures ok { OnOk result (Self.state self.new ≡ meta_set meta.now (Self.state self.old) (slot key.now)) }
@@ -217,11 +216,11 @@ pub trait Storage: StoreMeaning + Sized {
 
 /// The reader of a complete body or of a write. It must be finished or let go.
 pub trait HandleHit<S: StoreMeaning> {
-    /// What it goes over, and how far it is.
+    /// What it reads, and how far it has read.
     ghost reader: { Self → Reader };
 
-    /// Reads on: a piece, the end (`None`), or `Pending` if more may come. It is refused only when
-    /// memory runs out, and only if there is a piece; the reader is as before then.
+    /// Reads on: a piece, the end (`None`), or `Pending` if more may come. Fails only when memory
+    /// runs out, and only if there is a piece; then the reader is unchanged.
     fn read_body(&mut self, alloc: Global, store: &mut S) -> Result<Poll<Option<Bytes>>>
         ensures read { IfOk result (λ p. p ≡ read_of (S.state store.old) (reader self.old)) }
         ensures ok { OnOk result (reader self.new ≡ reader_after (S.state store.old) (reader self.old)) }
@@ -230,7 +229,7 @@ pub trait HandleHit<S: StoreMeaning> {
         ensures err { OnErr result (reader self.new ≡ reader self.old) }
         ensures same { S.state store.new ≡ S.state store.old };
 
-    /// Ends the reader, also if that is refused, which it is only when memory runs out.
+    /// Ends the reader, even if this fails, which it does only when memory runs out.
     fn finish(self, store: &mut S) -> Result<()>
         ensures gone { S.state store.new ≡ left (S.state store.old) (reader self) }
         ensures kind { IfErr result (λ e. e ≡ OutOfMemory) }
@@ -240,7 +239,7 @@ pub trait HandleHit<S: StoreMeaning> {
     fn let_go(self, store: &mut S)
         ensures { S.state store.new ≡ left (S.state store.old) (reader self) };
 
-    /// Whether the reader can be sent to another range of the body.
+    /// Whether the reader can be moved to another range of the body.
     fn can_seek(&self) -> bool
         ensures { result ≡ can_seek (reader self.now) };
 
@@ -251,9 +250,9 @@ pub trait HandleHit<S: StoreMeaning> {
         self.can_seek()
     }
 
-    /// Sends the reader to the bytes from `start` to before `end`, or to the body's end if that is
-    /// `None` or earlier; they are read anew. It is refused if the reader can't seek, `start` is at or
-    /// past the body's length, or `end` is before `start`.
+    /// Moves the reader to the bytes from `start` to before `end` (to the body's end if `end` is
+    /// `None` or past it), which it then reads again. Fails if the reader can't seek, `start` is at
+    /// or past the body's length, or `end` is before `start`.
     fn seek(&mut self, start: usize, end: Option<usize>) -> Result<()>
         ensures ok { OnOk result (Some (reader self.new) ≡ sought (reader self.old) start end) }
         ensures refused { OnErr result (sought (reader self.old) start end ≡ None) }
@@ -274,7 +273,7 @@ pub trait HandleHit<S: StoreMeaning> {
     fn should_count_access(&self) -> bool
         ensures { result ≡ counts_access (reader self.now) };
 
-    /// The weight of the entry: the complete body's length, else 0.
+    /// The weight of the entry: the length of a complete body in bytes, and 0 for a write.
     fn get_eviction_weight(&self) -> usize
         ensures { result ≡ reader_weight (reader self.now) };
 
@@ -291,8 +290,8 @@ pub trait HandleMiss<S: StoreMeaning> {
     /// The number of its entry, if entries have numbers.
     ghost entry_number: { Self → Option ℕ };
 
-    /// Adds bytes to the write, and with `eof` says that they are the last. A write whose key was
-    /// removed is written as any other. It is refused only when memory runs out.
+    /// Adds bytes to the write, and with `eof` announces that they are the last. A write whose key
+    /// was removed is written like any other. Fails only when memory runs out.
     fn write_body(&mut self, store: &mut S, bytes: Bytes, eof: bool) -> Result<()>
         requires { is_told (map.get (S.state store.old).writes (write self.old)) ≡ false }
         ensures ok { OnOk result (S.state store.new ≡ wrote (S.state store.old) (write self.old) bytes eof) }
@@ -301,12 +300,12 @@ pub trait HandleMiss<S: StoreMeaning> {
         ensures same { write self.new ≡ write self.old }
         ensures entry { entry_number self.new ≡ entry_number self.old };
 
-    /// Whether the last bytes were said to be the last.
+    /// Whether the end was announced (`eof`).
     fn at_eof(&self, store: &S) -> bool
         ensures { result ≡ is_told (map.get (S.state store.now).writes (write self.now)) };
 
-    /// Ends the write: its body stands in place of an older one. It is refused when memory runs out,
-    /// and exactly when the key was removed since the write began; the write is dropped then.
+    /// Ends the write: its body replaces an older one. Fails when memory runs out, and exactly if
+    /// the key was removed since the write began; the write is dropped then.
     fn finish(self, store: &mut S) -> Result<MissFinishType>
         ensures answer { IfOk result (λ f. f ≡ S.finishes store.old (write self)) }
         ensures ok { OnOk result (S.state store.new ≡ finished (S.state store.old) (write self)) }
@@ -318,7 +317,7 @@ pub trait HandleMiss<S: StoreMeaning> {
     fn drop_write(self, store: &mut S)
         ensures { S.state store.new ≡ dropped (S.state store.old) (write self) };
 
-    /// What names the write to be read while it is made.
+    /// The tag that names the write, for readers of a write in flight.
     fn streaming_write_tag(&self) -> Option<&[u8]>
         ensures { named_by (option_copied result) ≡ Some (write self.now) };
 

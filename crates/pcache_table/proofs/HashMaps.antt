@@ -10,7 +10,7 @@ use Rattle.std.proofs.lemmas.Map.Lookups.{exact_unsigned}
 use Rattle.pcache_base.proofs.Maps.{get-made, made-insert, made-remove}
 use Rattle.pcache_base.proofs.Totals.{made-len}
 
--- equal numbers are those that the order does not tell apart
+-- equal numbers are those that the order does not distinguish
 same_at : (k q : ℕ) → nat_eq k q ≡ is_at (nat_cmp k) q
 same_at k q = unsigned_ties k q
 

@@ -1,4 +1,4 @@
--- The least key of a map is there, and no key is below it.
+-- The least key of a map is in the map, and no key is below it.
 use Rattle.std.proofs.Common.{◌≡◌, ℕ, ◌<◌, List, [], ◌∷◌, Bool, true, false, ◌&&◌, T, cond, Option, None, Some, unwrap_or, refl, ap, sym, subst, ◌∙◌, arith}
 use Rattle.std.specs.Option.{IsSome, IfSome, IfNone, is_some}
 use Rattle.std.specs.declared.cmp.Ordering.{Ordering}

@@ -32,7 +32,7 @@ module _ {V : Type 0} where
   own-put-either shards place key v c d (Ok a) is ok err own = subst (λ x. OwnKeys shards place x.entries) (sym ok) (own-put shards place key v c.entries c.cap is own)
   own-put-either shards place key v c d (Err b) is ok err own = subst (λ x. OwnKeys shards place x.entries) (sym err) own
 
-  -- a shard keeps its place, whether a key was put in or not, and if one was taken out
+  -- a shard keeps its place, whether a key was put in or not, and if one was removed
   pub in-place-either : {A B : Type 0} (shards place key : ℕ) (v : V) (p d : LruPart V) (r : Result A B) → key % shards ≡ place → OnOk r (d ≡ part_with key v p) → OnErr r (d ≡ p) → InPlace shards place p → InPlace shards place d
   in-place-either shards place key v p d (Ok a) is ok err old = subst (InPlace shards place) (sym ok) (old.0, own-put shards place key v p.entries p.cap is old.1)
   in-place-either shards place key v p d (Err b) is ok err old = subst (InPlace shards place) (sym err) old

@@ -126,7 +126,7 @@ module _ {X : Type 0} where
       subst (λ x. Placed shards x r) (sym same) (subst (Placed shards place) is one))
       (λ off. all i r (sym (set_off ps place i p (off_not i place off)) ∙ e))
 
-  -- what stands at a key once its shard was changed at that key alone
+  -- the value of a key after its shard was changed at that key alone
   changed-joined : (shards : ℕ) (ps : List (Part X)) (key q : ℕ) (p d : Part X) (o : Option X) → 0 < shards → length ps ≡ shards → AllPlaced shards ps → slice_get ps (key % shards) ≡ Some p → Placed shards (key % shards) d
       → get d.map q ≡ cond (eq_by_cmp nat_cmp q key) o (get p.map q) → get (joined (set ps (key % shards) d)) q ≡ cond (eq_by_cmp nat_cmp q key) o (get (joined ps) q)
   changed-joined shards ps key q p d o some len all at one h =
@@ -170,7 +170,7 @@ module _ {X : Type 0} where
   pub at_place : (shards : ℕ) (ps : List (Part X)) (key : ℕ) (r : Part X) → 0 < shards → length ps ≡ shards → slice_get ps (key % shards) ≡ Some (get_or ps (key % shards) r)
   at_place shards ps key r some len = slice_get-get_or ps (key % shards) r (omega arith)
 
-  -- it keeps its place, whether a key was put in or not, and if one was taken out
+  -- it keeps its place, whether a key was put in or not, and if one was removed
   pub placed-either : {A B : Type 0} (shards place key : ℕ) (v : X) (p d : Part X) (r : Result A B) → key % shards ≡ place → OnOk r (d ≡ record p { map = insert p.map key v }) → OnErr r (d ≡ p) → Placed shards place p → Placed shards place d
   placed-either shards place key v p d (Ok a) is ok err old = subst (Placed shards place) (sym ok) (record { at = old.at; own = belongs-insert shards place key v p.map is old.own })
   placed-either shards place key v p d (Err b) is ok err old = subst (Placed shards place) (sym err) old

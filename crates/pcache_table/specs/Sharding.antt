@@ -15,6 +15,7 @@ pub record Part (V : Type 0) : Type 0 where
   pub place : ℕ
   pub map : FinMap nat_cmp V
 
+-- the encoding of a shard, which the value of a model needs
 abbrev pub part_code : {V : Type 0} → Coded V → Coded (Part V)
 part_code {V} v = code_by (ℕ × FinMap nat_cmp V) (coded× coded_ℕ (code coded_ℕ v)) (λ p. (p.place, p.map)) (λ p. record { place = p.0; map = p.1 }) (λ _. refl)
 
@@ -22,19 +23,21 @@ part_code {V} v = code_by (ℕ × FinMap nat_cmp V) (coded× coded_ℕ (code cod
 abbrev pub Belongs : {V : Type 0} → ℕ → ℕ → FinMap nat_cmp V → Type 0
 Belongs shards place m = (key : ℕ) → (key % shards ≡ place → ⊥) → get m key ≡ None
 
--- each shard stands at its place, with keys of its own
+-- each shard is at its place, with only keys of its own
 pub record Placed {V : Type 0} (shards : ℕ) (place : ℕ) (p : Part V) : Type 0 where
   pub at : p.place ≡ place
   pub own : Belongs shards place p.map
 
+-- the same for a list of shards
 abbrev pub AllPlaced : {V : Type 0} → ℕ → List (Part V) → Type 0
 AllPlaced {V} shards ps = (place : ℕ) (p : Part V) → slice_get ps place ≡ Some p → Placed shards place p
 
--- all of them as one map
+-- the entries of all shards
 abbrev pub all_entries : {V : Type 0} → List (Part V) → List (ℕ × V)
 all_entries [] = []
 all_entries (p ∷ ps) = entries p.map ++ all_entries ps
 
+-- one map of the entries of all shards
 unfoldable pub joined : {V : Type 0} → List (Part V) → FinMap nat_cmp V
 joined ps = from_entries (all_entries ps)
 
@@ -42,13 +45,14 @@ joined ps = from_entries (all_entries ps)
 abbrev pub part_of : {V : Type 0} → ℕ → ℕ → FinMap nat_cmp V → FinMap nat_cmp V
 part_of shards place m = retain_keys m (λ key. (key % shards) == place)
 
--- what a contract sees of a shard that forgets: its place, how many keys it may have, and its
--- entries, the one used last first
+-- what a contract sees of an LRU shard: its place, how many keys it may have, and its entries, the one used last
+-- first
 pub record LruPart (V : Type 0) : Type 0 where
   pub place : ℕ
   pub cap : ℕ
   pub entries : List (ℕ × V)
 
+-- the encoding of an LRU shard
 abbrev pub lru_part_code : {V : Type 0} → Coded V → Coded (LruPart V)
 lru_part_code {V} v = code_by (ℕ × (ℕ × List (ℕ × V))) (coded× coded_ℕ (coded× coded_ℕ (coded_list (coded× coded_ℕ v)))) (λ p. (p.place, (p.cap, p.entries))) (λ p. record { place = p.0; cap = p.1.0; entries = p.1.1 }) (λ _. refl)
 
@@ -56,17 +60,18 @@ lru_part_code {V} v = code_by (ℕ × (ℕ × List (ℕ × V))) (coded× coded_�
 abbrev pub OwnKeys : {V : Type 0} → ℕ → ℕ → List (ℕ × V) → Type 0
 OwnKeys {V} shards place es = (e : ℕ × V) → Contains es e → e.0 % shards ≡ place
 
--- a key put in front with its value, the last one going from a full list; and a key taken out
+-- a shard with a key put in front (a full list drops its last key), and one with a key removed
 abbrev pub part_with : {V : Type 0} → ℕ → V → LruPart V → LruPart V
 part_with key value p = record p { entries = put_entries nat_eq (lru_cache p.entries p.cap) key value }
 
 abbrev pub part_without : {V : Type 0} → ℕ → LruPart V → LruPart V
 part_without key p = record p { entries = remove_entry (nat_eq key) p.entries }
 
--- each shard stands at its place, with keys of its own
+-- each shard is at its place, with only keys of its own
 abbrev pub InPlace : {V : Type 0} → ℕ → ℕ → LruPart V → Type 0
 InPlace shards place p = (p.place ≡ place) × OwnKeys shards place p.entries
 
+-- the same for a list of shards
 abbrev pub AllInPlace : {V : Type 0} → ℕ → List (LruPart V) → Type 0
 AllInPlace {V} shards ps = (place : ℕ) (p : LruPart V) → slice_get ps place ≡ Some p → InPlace shards place p
 
@@ -74,7 +79,7 @@ AllInPlace {V} shards ps = (place : ℕ) (p : LruPart V) → slice_get ps place 
 abbrev pub list_at : {V : Type 0} → List (LruPart V) → ℕ → LruPart V
 list_at ps place = slice_index_or ps place (record { place = place; cap = 1; entries = [] })
 
--- so many empty ones
+-- so many empty shards
 abbrev pub new_lists : {V : Type 0} → ℕ → ℕ → List (LruPart V)
 new_lists shards cap = map (λ place. record { place = place; cap = cap; entries = [] }) (range_with_len 0 shards)
 
@@ -83,7 +88,7 @@ pub record Seat : Type 0 where
   pub place : ℕ
   pub cap : ℕ
 
--- the locks of so many of them
+-- the locks of so many shards
 abbrev pub seats : ℕ → ℕ → List Seat
 seats shards cap = map (λ place. record { place = place; cap = cap }) (range_with_len 0 shards)
 
@@ -98,6 +103,6 @@ pub record CalledAtEntry {F V : Type 0} (g : Mut F (Bor ℕ × (Bor V × Unit {0
 abbrev pub Visits : {F V : Type 0} → Mut F (Bor ℕ × (Bor V × Unit {0})) (Unit {0}) → ℕ → F → Part V → F → Type 0
 Visits g shards f p f' = Belongs shards p.place p.map × FoldsTo (CalledAtEntry g) f (entries p.map) f'
 
--- and so one shard after another, in the order of their places
+-- and then one shard after another, in the order of their places
 abbrev pub VisitsEach : {F V : Type 0} → Mut F (Bor ℕ × (Bor V × Unit {0})) (Unit {0}) → ℕ → F → Type 0
 VisitsEach {F} {V} g shards f = (ps : List (Part V)) × (last : F) × (map (λ p. p.place) ps ≡ range_with_len 0 shards) × FoldsTo (Visits g shards) f ps last

@@ -73,7 +73,7 @@ impl<V, const N: usize> Shards<V, N> {
         &shards[(key % N as u128) as usize]
     }
 
-    /// The shard at a place, if there is one.
+    /// The shard at a place; `None` if there is no such place.
     pub fn get_shard_at_idx(&self, place: usize) -> Option<&Shard<V, N>>
         ensures found { IsSome result ↔ (place < N) }
         ensures part { IfSome result (λ shard. shard.now.map ≡ part_of N place self.now) }
@@ -95,7 +95,7 @@ impl<V, const N: usize> Shards<V, N> {
         shard.get(key)
     }
 
-    /// Sets the value at a key, and answers the one before.
+    /// Sets the value at a key, and returns the old one.
     pub fn insert(&mut self, key: u128, value: V) -> Result<Option<V>, AllocFailed<(u128, V)>>
         ensures before { IfOk result (λ old. old ≡ map.get self.old key) }
         ensures ok { OnOk result (self.new ≡ map.insert self.old key value) }
@@ -109,7 +109,7 @@ impl<V, const N: usize> Shards<V, N> {
         shard.insert(key, value)
     }
 
-    /// Takes a key out, and answers its value.
+    /// Removes a key, and returns its value.
     pub fn remove(&mut self, key: u128) -> Option<V>
         ensures before { result ≡ map.get self.old key }
         ensures removed { self.new ≡ map.remove self.old key }

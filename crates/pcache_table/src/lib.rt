@@ -1,5 +1,5 @@
 #![tactic(auto)]
-//! Tables of values by number, alone and in shards, also behind locks.
+//! Tables of values by number, in one piece and in shards, also with each shard behind a lock.
 //!
 //! - `hashtable`: a table in shards; `hashtable::table`: one table
 

@@ -1,4 +1,4 @@
--- What is said by default if fewer default lifetimes may be answered.
+-- The default decision if fewer default lifetimes are possible.
 use Rattle.std.proofs.Common.{◌≡◌, ℕ, Bool, true, false, Option, None, Some, Result, Ok, Err, IfOk, subst}
 use Rattle.std.specs.declared.time.Duration.{Duration}
 use Rattle.pcache_meta.specs.declared.header.ResponseHeader.{ResponseHeader}
@@ -28,7 +28,7 @@ says-more windows P Q header now answer more h = (
   ),
 )
 
--- the same of what is answered, if it is
+-- the same for the result, if there is one
 pub answered-more : (r : Result RespCacheable ErrorType) (given windows : ℕ × ℕ) (P Q : ℕ → Option Duration → Type 0) (header : ResponseHeader) (now : ℕ) → given ≡ windows → IfOk r (SaysByDefault given P header now) → ((s : ℕ) (d : Option Duration) → P s d → Q s d) → IfOk r (SaysByDefault windows Q header now)
 answered-more (Ok answer) given windows P Q header now same h more = says-more windows P Q header now answer more (subst (λ w. SaysByDefault w P header now answer) same h)
 answered-more (Err e) given windows P Q header now same h more = tt

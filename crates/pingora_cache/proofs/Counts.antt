@@ -1,4 +1,4 @@
--- How many readers a write has, once a request was set or taken out, and that a write which a request holds is in flight.
+-- How many readers a write has, once a request was set or removed, and that a write which a request holds is in flight.
 use Rattle.std.proofs.Common.{◌≡◌, ℕ, ◌+◌, ◌≤◌, ◌==◌, if◌then◌else◌, true, false, Some, List, refl, ap, subst, ◌∙◌, arith}
 use Rattle.std.specs.Ordering.{nat_cmp}
 use Rattle.std.specs.Cmp.{nat_cmp_total}

@@ -1,4 +1,4 @@
--- A call on files in a sound world: no request and no put moves, and no event tells of it.
+-- A call on files in a sound world: no request and no put changes, and it makes no event.
 use Rattle.std.proofs.Common.{◌≡◌, ℕ, ◌==◌, Bool, true, false, ◌&&◌, cond, if◌then◌else◌, Option, None, Some, IsSome, is_none, option_map, List, [], ◌∷◌, ◌++◌, reverse, refl, ap, sym, subst, ◌∙◌, inl, inr}
 use Rattle.std.proofs.lemmas.Bool.{both_ways}
 use Rattle.std.proofs.lemmas.List.{reverse-append}
@@ -104,7 +104,7 @@ module _ (limits : Limits) (start m : Tracked) (s : Store) (t : Locks) (all : Fi
   pub kept-sound : IsSound limits start m s t all (entry ∷ h)
   kept-sound = files-sound start m k.legal k.tracks
 
-  -- a load, before any other call: the history starts anew from what the manager holds
+  -- a load, before any other call: the history starts again from what the manager tracks
   pub loaded-sound : (m' : Tracked) → only_loads h ≡ true → IsSound limits m' m' s t all (entry ∷ h)
   loaded-sound m' early = files-sound m' m' (loads-start t.age_timeout limits start m' h k.legal early) (sym (ap (tracked m') (loads-silent t.age_timeout limits start h k.legal early)))
 
@@ -115,13 +115,15 @@ files-puts says all h n a told k are = record {
     record {
       stands = subst (λ p. StoodBy says p (pieces_of n h) (filled_of n h)) (are n) (stood-in says (get all n) (pieces_of n h) (filled_of n h) (k.taken n));
       closes = tt;
+      ignores = tt;
+      ends = tt;
     },
     k.told,
   );
   taken = λ r. elim (n == r) as (λ b. TakenIn says (get all r) (if b then pieces_of r h else pieces_of r h) (if b then filled_of r h else filled_of r h)) [ true ↦ k.taken r | false ↦ k.taken r ];
 }
 
--- ---- of a history that stands oldest first
+-- ---- for a history listed oldest first
 
 files-act : (act : Act) (a : FilesAct) → files_in act ≡ Some a → act ≡ C.Files a
 files-act (C.Files b) a is = let same : b ≡ a = cc in ap C.Files same
@@ -162,7 +164,7 @@ files-puts-step says all h h' call a told events k are is none grown =
     subst (PutsSound says all) (sym (turned h h' (noted call told events) grown))
     (subst (λ (e : Entry). PutsSound says all (e ∷ reverse h)) (entry-of call a told events is none) (files-puts says all (reverse h) call.request a told k are))
 
--- Whether all calls were loads: what the manager held is taken down by the first other call.
+-- Whether all calls were loads: what the manager tracked is recorded by the first other call.
 
 some-late : {V : Type 0} (o : Option V) → IsSome o → is_none o ≡ false
 some-late None some = absurd (both_ways false refl some)
@@ -197,7 +199,7 @@ pub load-start : {V G : Type 0} (f : V → List (CacheEntryKey × ℕ)) (o : Opt
 load-start f None left files put_in m m' reply answers loaded = loaded
 load-start f (Some v) left files put_in m m' reply answers loaded = subst (IsLoaded left files put_in (started (Some (f v)) m) (started (Some (f v)) m')) (sym answers) refl
 
--- a reply to such a call has no bytes, so it is told as it is
+-- a reply to such a call has no bytes, so its copy is equal
 pub told-files : (b : Bool) (a : FilesAct) (reply told : Reply) → AnswersFiles b a reply → IsCopy reply told → told ≡ reply
 told-files b a reply told answers (inl same) = same
 told-files b F.Save reply told answers (inr (refused, given)) = absurd (subst (AnswersFiles b F.Save) given.1 answers)
@@ -211,7 +213,7 @@ load-leaves f o left files put_in m m' first reply told answered answers loaded 
     subst (λ (x : Tracked). IsLoaded left files put_in x (started (option_map f o) m') answered) is
     (subst (IsLoaded left files put_in (started (option_map f o) m) (started (option_map f o) m')) (sym (told-files (is_none o) F.Load reply told answers copy) ∙ same) (load-start f o left files put_in m m' reply answers loaded))
 
--- what a load answers that has no files
+-- the reply to a load that has no files
 pub unloaded-answers : (b : Bool) (reply : Reply) → reply ≡ cond b (R.Refused Io) R.WrongCall → AnswersFiles b F.Load reply
 unloaded-answers true reply is = subst (AnswersFiles true F.Load) (sym is) tt
 unloaded-answers false reply is = is

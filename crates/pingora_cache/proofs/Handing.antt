@@ -183,7 +183,7 @@ module _ (limits : Limits) (start m : Tracked) (s : Store) (t : Locks) (all : Fi
   abbrev n : ℕ → ℕ
   n = read_locks all
 
-  -- the taker, once the permit is out of the giver's hands
+  -- the taker, after the giver no longer holds the permit
   at-taker : (b : Bool) → (from == to) ≡ b → cond b (option_map (on_request unheld) (get all to)) (get all to) ≡ Some y → cond b (Some x1) (get all to) ≡ Some y
   at-taker true same e = sym (ap (option_map (on_request unheld)) (ap (get all) (sym (eqb-true from to same)) ∙ giver)) ∙ e
   at-taker false other e = e
@@ -374,7 +374,7 @@ module _ (limits : Limits) (start m : Tracked) (s : Store) (t : Locks) (all : Fi
   pub handed-age : t'.age_timeout ≡ t.age_timeout
   handed-age = second.age
 
--- ---- a call that hands a permit over, or is a wrong one
+-- ---- a call that hands a permit over, or whose reply is WrongCall
 
 wrong-may : (f : Facts) (to : ℕ) (q : Option Held) → f.taker ≡ None → MayBe f (C.Give to) q → ⊥
 wrong-may f to None none may = absurd may
@@ -466,7 +466,7 @@ module _ (limits : Limits) (start m : Tracked) (s : Store) (t t' : Locks) (befor
         ap (λ (u : Locks). u.age_timeout) table ∙ handed-age limits start m s t all h from to k x y p giver plain holds taker may,
       )
 
-  -- by what it answers
+  -- by its reply
   by-taker : (told : Reply) → IsCopy R.Done told → reply ≡ R.Done → (x : Held) (p : Permit) (o : Option Held) → get all from ≡ Some x → x.put ≡ None → permit_in x.request.held ≡ Some p → taker_at from to (get all) ≡ o → MayTake o → events ≡ given_up (Some p) o → Ends told events
   by-taker told copy is x p None giver plain permit taker may noted = absurd may
   by-taker told copy is x p (Some y) giver plain permit taker may noted = subst (Ends told) (sym noted) (done-ends told copy x y p giver plain permit taker may (as-told R.Done (let_go_of (gone p y)) is noted))

@@ -1,5 +1,6 @@
 pub mod BySelf
 pub mod Counts
+pub mod Evicting
 pub mod FilesCalls
 pub mod Handing
 pub mod History

@@ -232,14 +232,14 @@ refused-keeps : (w : ℕ) (kind : ErrorType) (o : Option ℕ) → list_any keeps
 refused-keeps w WriteRemoved o = no-keep o
 refused-keeps w kind o = no-keep o
 
--- a body is stored, and one event more is noted
+-- a body is stored, and one more event is noted
 pub stored-locks : (r at : ℕ) (t u : Locks) (h last : Option Locked) (o : Option ℕ) (w : ℕ) (two : Event) (old mid events : List Event) → IsOfNoLock two → o ≡ permit_of h → old ≡ [] → mid ≡ old ++ E.Finish w true ∷ each E.Release o → events ≡ mid ++ two ∷ [] → last ≡ None → u ≡ settled Done h t
     → MovesLocks r (deeds_by r at (cond (list_any keeps events) Done TransientError) events) h t last u
 stored-locks r at t u h last o w two old mid events still permit none is all gone to =
     let kept : list_any keeps events ≡ true = ap (list_any keeps) (all ∙ ap (λ es. es ++ two ∷ []) (is ∙ ap (λ es. es ++ E.Finish w true ∷ each E.Release o) none)) in
     subst (λ s. MovesLocks r (deeds_by r at s events) h t last u) (sym (ap (λ b. cond b Done TransientError) kept)) (release-then r at Done t u h last o (E.Finish w true) two old mid events tt tt still permit none is all gone to)
 
--- its end is refused
+-- its end fails
 pub refused-locks : (r at : ℕ) (t u : Locks) (h last : Option Locked) (o : Option ℕ) (w : ℕ) (kind : ErrorType) (one : Event) (old events : List Event) → one ≡ refused_end w kind → o ≡ permit_of h → old ≡ [] → events ≡ old ++ one ∷ each E.Release o → last ≡ None → u ≡ settled TransientError h t
     → MovesLocks r (deeds_by r at (cond (list_any keeps events) Done TransientError) events) h t last u
 refused-locks r at t u h last o w kind one old events named permit none is gone to =

@@ -95,7 +95,7 @@ drop-ends : (s : LockStatus) → is_waiting (dropped_status s) ≡ false
 drop-ends status.Waiting = refl
 drop-ends s = refl
 
--- ---- one lock set or taken out
+-- ---- one lock set or removed
 
 pub changed-at : (xs ys : FinMap nat_cmp Core) (age : ℕ) (ds es : List Deed) (n m : ℕ → ℕ) (l : ℕ) (o : Option Core)
     → ((q : ℕ) → get ys q ≡ cond (l == q) o (get xs q)) → ((q : ℕ) → option_map plain (get xs q) ≡ lock_of age q (n q) ds)
@@ -114,7 +114,7 @@ get-kept t l d q =
       | false ↦ get-unset t.cores l q
     ]
 
--- what stands in a table besides its locks
+-- the content of a table besides its locks
 same-kept : (t : Locks) (l : ℕ) (d : Core) → ((kept t l d).next ≡ t.next) × ((kept t l d).age_timeout ≡ t.age_timeout)
 same-kept t l d =
     elim (is_named d) as (λ b. ((cond b (record t { cores = insert t.cores l d }) (record t { cores = remove t.cores l; standing = without_entry l d.slot t.standing })).next ≡ t.next)
@@ -155,7 +155,7 @@ lock-there age held s n None None e named there = absurd (cc)
 lock-there age held s n (Some a) None e named there =
     let f : ◌≡◌ {A = Option Core} None (Some (lock_as age held s n a)) = e ∙ ap (λ b. if b then Some (lock_as age held s n a) else None) named in absurd (cc)
 
--- a permit that is gone, with the status that it leaves: the lock stays as long as it is read
+-- a permit that is gone, with the status that it leaves: the lock stays while it is read
 spent-as : (age : ℕ) (held : Bool) (s end : LockStatus) (n : ℕ) (o : Option (ℕ × ℕ)) (c : Core) (f : LockStatus → LockStatus) → IsLock age held s n o c → f s ≡ end
     → option_map plain (cond (nat_lt 0 c.readers) (Some (spent c (f c.status))) None) ≡ locked age false end n o
 spent-as age held s end n o c f k is =
@@ -167,7 +167,7 @@ spent-as age held s end n o c f k is =
       | false ↦ refl
     ]
 
--- a read lock more, and one less
+-- one more read lock, and one less
 joined-as : (age : ℕ) (held : Bool) (s : LockStatus) (n m : ℕ) (o : Option (ℕ × ℕ)) (c : Core) → IsLock age held s n o c → m ≡ n + 1 → m < 2 ^ 128 → option_map plain (Some (with_reader c)) ≡ locked age held s m o
 joined-as age held s n m o c k more few =
     let readers : c.readers ≡ n = ap (λ x. x.readers) k.same in
@@ -212,13 +212,13 @@ table-none age = record {
 
 -- ---- what one deed makes of a table
 
--- the lock l stood in a table, with these publications
+-- the lock l was in a table, with these publications
 pub record WasThere (t : Locks) (l : ℕ) (ps : List (List ℕ)) : Type 0 where
   pub core : Core
   pub is : get t.cores l ≡ Some core
   pub same : core.publications ≡ ps
 
--- the table is what the new deeds say, and of the locks that stood it keeps the publications
+-- the table agrees with the new deeds, and keeps the publications of the locks that it had
 pub record Follows (es : List Deed) (m : ℕ → ℕ) (t u : Locks) : Type 0 where
   pub table : IsTable es m u
   pub age : u.age_timeout ≡ t.age_timeout
@@ -274,7 +274,7 @@ module _ (ds : List Deed) (n : ℕ → ℕ) (t : Locks) (k : IsTable ds n t) whe
         | false ↦ λ f. grind (arith, nat_tests)
       ] refl
 
-  -- one lock written back or taken out, by a deed that says nothing of publications
+  -- one lock written back or removed, by a deed that says nothing of publications
   written : (es : List Deed) (m : ℕ → ℕ) (u : Locks) (l : ℕ) (c : Core) (o : Option Core) → get t.cores l ≡ Some c → ((q : ℕ) → get u.cores q ≡ cond (l == q) o (get t.cores q)) → u.next ≡ t.next → u.age_timeout ≡ t.age_timeout
       → ((d : Core) → o ≡ Some d → d.publications ≡ c.publications) → option_map plain o ≡ lock_of t.age_timeout l (m l) es → ((q : ℕ) → (l == q) ≡ false → lock_of t.age_timeout q (m q) es ≡ lock_of t.age_timeout q (n q) ds)
       → ((q : ℕ) → ask_of q es ≡ ask_of q ds) → ((q : ℕ) → standing q es ≡ standing q ds) → ((q : ℕ) → 0 < m q → is_some (ask_of q ds) ≡ true)
@@ -369,7 +369,7 @@ module _ (ds : List Deed) (n : ℕ → ℕ) (t : Locks) (k : IsTable ds n t) whe
       (λ q f. rw f refl) (λ q. refl) (λ q. refl) k.known
       (λ q asked h. over-by (l == q) (who_holds q ds) (status_of q ds) (dropped_status (status_of q ds)) (drop-ends (status_of q ds)) (k.over q asked) h))
 
-  -- a read lock is let go, which no deed tells
+  -- a read lock is let go, which is no deed
   pub leaves : (m : ℕ → ℕ) (r : Reader) → ((q : ℕ) → n q ≡ m q + (if r.number == q then 1 else 0)) → Follows ds m t (let_go t (Read r))
   leaves m r more =
       let l = r.number in

@@ -1,4 +1,4 @@
--- What a poll answers is what the deeds say, and a reader stays what they say.
+-- The result of a poll is what the deeds say, and a reader continues to agree with them.
 use Rattle.std.proofs.Common.{◌≡◌, ◌≢◌, ℕ, ◌+◌, ◌-◌, ◌<◌, ◌==◌, Bool, true, false, ◌&&◌, ◌||◌, cond, if◌then◌else◌, Option, None, Some, is_some, List, [], ◌∷◌, ◌++◌, length, drop, refl, ap, sym, subst, ◌∙◌, arith, length-append}
 use Rattle.std.specs.Prelude.{slice_get, unwrap_or, nat_le}
 use Rattle.std.specs.Option.{option_or, option_map}
@@ -100,7 +100,7 @@ first-same : (p : List ℕ) (qs : List (List ℕ)) → qs ≢ [] → shown_first
 first-same p [] ne = absurd (ne refl)
 first-same p (q ∷ qs) ne = refl
 
--- what it was told once it looked: as it will be shown, and as a poll answers
+-- what it was told once it looked: as it will be shown, and as a poll returns
 told-looked : (ds : List Deed) (c : Core) (r l : ℕ) (fills : Option (List UnusableFill)) (w : Option Watch) → last_of c.publications ≡ standing l ds → IsWatch r l ds w c
     → (watched c (watch_at c fills w)).told ≡ first_told (watched c (watch_at c fills w)).fills (shown_first (standing l ds) (shown r l ds))
 told-looked ds c r l fills None said k =
@@ -172,7 +172,7 @@ pub watch-published : (r l : ℕ) (ds : List Deed) (w : Option Watch) (tokens : 
 watch-published r l ds None tokens c d read is k = shown-published r l tokens ds ∙ ap (shown_more tokens) k
 watch-published r l ds (Some w) tokens c d read is k = subst (IsWatching r l (Published l tokens ∷ ds) w) (sym is) (watching-more d.readers r l ds w tokens d.publications read k)
 
--- ---- what a poll answers
+-- ---- what a poll returns
 
 -- a poll by the parts of the lock
 abbrev poll_by : Bool → LockStatus → ℕ → ℕ → ℕ → Watch → Poll WaitOutcome

@@ -1,4 +1,4 @@
--- What a look-up tells is what its rule wants, and what it makes of its request is its row.
+-- What a look-up reports is what its rule requires, and its change of the request is its row.
 use Rattle.std.proofs.Common.{◌≡◌, ℕ, ◌&&◌, Bool, true, false, cond, Option, None, Some, IsSome, is_none, List, [], ◌∷◌, ◌++◌, refl, ap, sym, subst, ◌∙◌, inl, inr, ◌≤◌, ◌^◌, IsTrue, ◌⊎◌, option_map, Result, Ok, Err, IfOk, IfErr}
 use Rattle.pcache_base.specs.Key.{Key, slot}
 use Rattle.pcache_base.specs.declared.error.ErrorType.{ErrorType}
@@ -54,7 +54,7 @@ right_of reply other = refl
 pub find-at : (s : Store) (o : Option Key) (k : Key) (p : Option (Meta × Reader)) → o ≡ Some k → found_for s o ≡ p → p ≡ find s (slot k)
 find-at s o k p key found = sym found ∙ ap (found_for s) key
 
--- ---- what is told before anything comes of it
+-- ---- what is reported before anything else is done
 
 -- the note has a copy of what the store has
 pub heard : (p : Option (Meta × Reader)) (n m : LookNote) → HasHeard (λ (before : LookNote) (q : Meta × Reader) (after : LookNote). (after.slot ≡ before.slot) × (after.write ≡ before.write) × (pair_of after.answer ≡ Some q)) n p m → n.answer ≡ Nothing
@@ -62,7 +62,7 @@ pub heard : (p : Option (Meta × Reader)) (n m : LookNote) → HasHeard (λ (bef
 heard None n m h none = (ap (λ (z : LookNote). z.slot) h, ap (λ (z : LookNote). z.write) h, ap (λ (z : LookNote). pair_of z.answer) h ∙ ap pair_of none)
 heard (Some p) n m h none = h
 
--- a look-up that is refused: the store is as it was, or the pair that it has was let go
+-- a look-up that fails: the store is unchanged, or the pair that it has was let go
 still-moves : (s u : Store) (x y : Held) (events : List Event) → events ≡ [] → y ≡ x → u ≡ s → MovesStore (Some x) s events (Some y) u
 still-moves s u x y events none now to limits m =
     subst (λ (z : Held). Moves limits (Some x) s m events (Some z) u m) (sym now) (subst (λ (v : Store). Moves limits (Some x) s m events (Some x) v m) (sym to)
@@ -88,7 +88,7 @@ kept-as : (may : Key → Decision → Type 0) (p : Decision) → ((k : Key) (d :
 kept-as may p is true o d h = decided-as may p is o d (h refl)
 kept-as may p is false o d h = refl
 
--- it is what the decision that is carried says, if the policy that was lent is that
+-- it is what the decision that is carried says, if the policy that was passed is that one
 pub taken-decision : (s : Store) (x : Held) (y : Request) (a : Answer) (policy after : Decision) → pair_of a ≡ found_for s x.request.key → policy ≡ policy_in x.carried
     → (IsTrue (asks_policy s x.request) → Decides (λ (k : Key) (d : Decision). (d ≡ policy) × (after ≡ policy)) x.request.key y.digest.admission)
     → decision_taken s x.request y ≡ decides a x
@@ -97,7 +97,7 @@ taken-decision s x y a policy after is lent h =
     ∙ ap (λ p. kept_if (asks_policy s x.request) (Some p)) lent
     ∙ ap (λ o. kept_if (is_none o && observes x.request) (Some (policy_in x.carried))) (sym is)
 
--- a policy that defers was asked, so that nothing was there
+-- a policy that defers was asked, so nothing was found
 none-deferred : (o : Option (Meta × Reader)) (b : Bool) (d : Option Decision) → is_deferral (kept_if (is_none o && b) d) ≡ true → o ≡ None
 none-deferred None b d h = refl
 none-deferred (Some p) b d h = absurd (cc)
@@ -174,7 +174,7 @@ module _ (s : Store) (t : Locks) (x : Held) (k : Key) (a : Answer) (d : Option D
   abbrev pub with_own : Request
   with_own = with_decision d x.request
 
-  -- what it answers
+  -- its reply
   misses-told : (b : Result (Option AskedLock) ErrorType) → IfOk b (λ q. q ≡ asked_for_key t x.request) → IfErr b (λ e. IsTrue (asks_unseen s x.request) × MayRefuseLock t e) → Misses facts (slot k) a x.request (asked_answer b) (E.Look (slot k) a ∷ asking_if (slot k) b)
   misses-told (Ok q) ok err = misses-asked s t x.request k a q named ok
   misses-told (Err e) ok err = misses-refused s t x.request k a e (second-of (is_unseen_for s x.request) x.request.uses.lock err.0) err.1
@@ -195,7 +195,7 @@ module _ (s : Store) (t : Locks) (x : Held) (k : Key) (a : Answer) (d : Option D
       subst (λ z. Looks facts x z events) (sym told) (subst (λ es. Looks facts x (look_answer a l) es) (sym all)
       (inr (k, a, named, is, subst (λ o. LooksOn (is_deferral o) facts (slot k) a x.request (look_answer a l) (noted_look (slot k) a x.request.write l)) own (told-by l handed tells))))
 
-  -- what becomes of the request
+  -- the request after it
   going : (o : Option Decision) → is_deferral o ≡ false → looked_with o s t x.request ≡ cond (is_unseen_for s x.request) (with_key_lock t (with_decision o x.request)) (with_decision o x.request)
   going None h = refl
   going (Some (Ready n)) h = refl
@@ -320,7 +320,7 @@ module _ (s : Store) (t : Locks) (x : Held) (k : Key) (a : Answer) (d : Option D
       → z ≡ held_after_look l (record { request = y; pair = x.pair; carried = x.carried; put = x.put }) → KeepsKey (Some x) (Some z)
   look-keeps l y z handed tells ok err now = subst (KeepsIn x.request) (sym (ap (λ (w : Held). w.request) now ∙ request-after l _)) (keeps-by l y handed tells ok err)
 
-  -- what becomes of locks
+  -- the locks after it
   missed-decided : (o : Option Decision) (n at : ℕ) (y : Request) (v : Locks) (q : Option AskedLock) (events : List Event) → q ≡ asked_for_key t x.request → y ≡ with_key_lock t (with_decision o x.request) → v ≡ table_key_locked at x.request t → events ≡ E.Look (slot k) a ∷ asking (slot k) q
       → MovesLocks n (deeds_by n at TransientError events) x.request.held t y.held v
   missed-decided None n at y v q events ok now to all = missed-locks n at TransientError t v x.request y k a (slot k) q [] (E.Look (slot k) a ∷ []) events named refl ok now to refl refl all

@@ -44,7 +44,7 @@ use Rattle.pingora_cache.specs.Step.{IsAnswered, renewal_reply, renewing, asking
 use Rattle.pingora_cache.proofs.StateAnswers.{found-answer, read-past}
 use Rattle.pingora_cache.proofs.StateCalls.{begun-joins}
 
--- a lock that was just given is told by its kind and its number
+-- a lock that was just given is reported by its kind and its number
 same-lock-given : (t : Locks) (stale : Bool) (o : Option ℕ) → lock_of stale (is_permit (lock_given t stale o)) (number_of_lock (lock_given t stale o)) ≡ lock_given t stale o
 same-lock-given t stale None = refl
 same-lock-given t stale (Some n) = refl
@@ -89,11 +89,11 @@ asked-given false stale t o j x = refl
 pub key-asked : (t : Locks) (x : Request) (j : ℕ) → with_key_lock t x ≡ asked false (asking j (asked_for_key t x)) x
 key-asked t x j = asked-given x.uses.lock false t x.key j x
 
--- what a look-up that hands nothing on answers
+-- the reply to a look-up that hands nothing on
 pub misses-asked : (s : Store) (t : Locks) (x : Request) (k : Key) (answer : Answer) (a : Option AskedLock) → x.key ≡ Some k → a ≡ asked_for_key t x → Misses (facts_in s t x) (slot k) answer x (R.NotFound (kind_asked a)) (E.Look (slot k) answer ∷ asking (slot k) a)
 misses-asked s t x k answer a key is = inr (asking (slot k) a, kind_asked a, asks-if x.uses.lock false t k (slot k) x.held x.key a (kind_asked a) key refl is refl, refl, refl)
 
--- a lock is refused when memory runs out, or if it was asked for and all numbers were given
+-- a lock fails when memory runs out, or if it was asked for and all numbers are used
 pub lock-refused : (s : Store) (t : Locks) (x : Request) (asks : Bool) (e : ErrorType) → MayRefuseLock t e → (e ≡ NumbersExhausted → IsTrue asks) → IsLockRefusal (facts_in s t x) asks e
 lock-refused s t x asks OutOfMemory h why = inl refl
 lock-refused s t x asks NumbersExhausted h why = inr (refl, why refl, h)
@@ -102,7 +102,7 @@ lock-refused s t x asks e h why = absurd h
 pub misses-refused : (s : Store) (t : Locks) (x : Request) (k : Key) (answer : Answer) (e : ErrorType) → IsTrue x.uses.lock → MayRefuseLock t e → Misses (facts_in s t x) (slot k) answer x (R.Refused e) (E.Look (slot k) answer ∷ [])
 misses-refused s t x k answer e used why = inl (e, used, lock-refused s t x true e why (λ _. refl), refl, refl)
 
--- what is answered if a pair can't be taken
+-- the reply if a pair can't be taken
 pub takes-refused : (st : Store) (s : HitStatus) (t : Locks) (x : Request) (p : Meta × Reader) (k : Key) (e kind : ErrorType) (events : List Event) → x.key ≡ Some k → MayRefuseLock t e → (e ≡ NumbersExhausted → IsTrue (asks_for_hit s x)) → kind ≡ e → events ≡ accesses s k p.1 x
     → Takes (facts_in st t x) s x (Some p) (R.Refused kind) events
 takes-refused st s t x p k e kind events key why asked is all = inr (k, key, inl (e, lock-refused st t x (asks_for_hit s x) e why asked, ap R.Refused is, all))
@@ -113,7 +113,7 @@ locked-phase s t x = elim (asks_for_hit s x) as (λ b. (cond b (with_lock (asks_
 pub found-phase : (s : HitStatus) (m : Meta) (h : Reader) (t : Locks) (x : Request) → (found_row s m h t x).phase ≡ phase_found s x.phase
 found-phase s m h t x = ap (phase_found s) (locked-phase s t x)
 
--- what is answered if a pair is taken
+-- the reply if a pair is taken
 pub takes-found : (st : Store) (s : HitStatus) (t : Locks) (x : Request) (p : Meta × Reader) (k : Key) (j : ℕ) (a : Option AskedLock) (l : Option LockKind) (phase : CachePhase) (events : List Event) → x.key ≡ Some k → j ≡ slot k → a ≡ asked_by_found s t x → l ≡ kind_asked a
     → events ≡ accesses s k p.1 x ++ asking j a → phase ≡ phase_found s x.phase → Takes (facts_in st t x) s x (Some p) (R.Taken phase l) events
 takes-found st s t x p k j a l phase events key at is kind all now =
@@ -180,7 +180,7 @@ stored-entry o id k how f gave e key stored is some =
 
 -- ---- what is noted of a purge
 
--- what stands under a request's key, and what a removal finds of it
+-- what is stored for a request's key, and what a removal finds of it
 abbrev outcome_of : Option Slot → PurgeOutcome
 outcome_of x = slot_answer true x
 
@@ -228,7 +228,7 @@ pub expire-tracks : (s : Store) (uses : Bool) (o : Option Key) (m m' : Tracked) 
 expire-tracks s uses None m m' is = is
 expire-tracks s uses (Some k) m m' is = is ∙ elim (is_some (complete_body (map.get s.slots (slot k)))) as (λ b. tracked_gone uses (compact_of k) (cond b Expired NotFound) m ≡ m) [ true ↦ refl | false ↦ refl ]
 
--- whether a body was there
+-- whether there was a body
 pub expire-told : (s : Store) (o : Option Key) (b : Bool) → b ≡ is_removed_by (expire_answer s (option_map slot o)) → b ≡ complete_for s o
 expire-told s None b is = is
 expire-told s (Some k) b is = is ∙ elim (is_some (complete_body (map.get s.slots (slot k)))) as (λ b. is_removed_by (cond b Expired NotFound) ≡ b) [ true ↦ refl | false ↦ refl ]

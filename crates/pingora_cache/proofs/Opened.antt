@@ -13,12 +13,12 @@ use Rattle.pingora_cache.proofs.StateWrites.{get-set, get-unset}
 pub open-none : AreOpen [] empty
 open-none = λ r. ap (option_map untold) (get-empty nat_cmp r)
 
--- one request is set to what it is now, or goes
+-- one request is set to what it is now, or is removed
 pub get-set_to : (all : FinMap nat_cmp Held) (r : ℕ) (o : Option Held) (q : ℕ) → get (set_to all r o) q ≡ cond (r == q) o (get all q)
 get-set_to all r None q = get-unset all r q
 get-set_to all r (Some x) q = get-set all r x q
 
--- only the request that the call names moves, by its row, if nothing is handed over
+-- only the request that the call names changes, by its row, if nothing is handed over
 pub open-after : (h : List Entry) (all : FinMap nat_cmp Held) (e : Entry) (now : Option Held) → ((r : ℕ) (giver q : Option Held) → taken_over e.call.act (outcome e.reply) r giver q ≡ q) → AreOpen h all → option_map untold now ≡ row e.call.act e.reply e.events (request_of e.call.request h) → AreOpen (e ∷ h) (set_to all e.call.request now)
 open-after h all e now none are is = λ q.
     let n = e.call.request in

@@ -126,7 +126,7 @@ module _ (p : Taking) (s u : Store) (limits : Limits) (m m' : Tracked) (w : ℕ)
       (does limits (Some (held_put p)) (E.Dropped w) [] (at_call (Some (held_put p)) s m) (at_call None u m') (ap write_in stands-so)
       (stop limits (Some (held_put p)) (after_event (E.Dropped w) (at_call (Some (held_put p)) s m)) (at_call None u m') (record { count = λ v. refl; write = refl; owed = refl; store = to; tracked = same })))
 
-  -- what is answered
+  -- the reply
   abbrev pub facts : Locks → Facts
   facts t = facts_in s t x
 
@@ -146,7 +146,7 @@ module _ (p : Taking) (s u : Store) (limits : Limits) (m m' : Tracked) (w : ℕ)
   body-answers t (end.Withdrawn e) entry events told h is = inr (inl (h.untouched, is, ap R.Refused h.why))
   body-answers t (end.Dropped e) entry events told h is = dropped-answers t e events h.why is
 
--- ---- by where the put stands
+-- ---- by the stage of the put
 
 module _ (p : Taking) (s u : Store) (limits : Limits) (m m' : Tracked) (how : PutEnd) (entry : Option CacheEntryKey) (told : entry ≡ entry_told p.key p.stage how) (ends : EndsPut in_memory p.key p.parser (created s) limits p.stage how s u m m') where
   abbrev EndsAt : Stage → Type 0

@@ -1,5 +1,5 @@
 -- What a piece of a put does, by what its context promises.
-use Rattle.std.proofs.Common.{◌≡◌, ℕ, ◌≤◌, ◌^◌, ◌⊎◌, length, Option, None, Some, List, [], ◌∷◌, ◌++◌, refl, ap, sym, subst, ◌∙◌, inl, inr, option_map}
+use Rattle.std.proofs.Common.{◌≡◌, ◌↔◌, ℕ, ◌≤◌, ◌^◌, ◌⊎◌, true, length, Option, None, Some, IfSome, List, [], ◌∷◌, ◌++◌, refl, ap, sym, subst, ◌∙◌, inl, inr, option_map}
 use Rattle.pcache_base.specs.Key.{Key, slot}
 use Rattle.pcache_base.specs.declared.error.ErrorType.{ErrorType}
 use Rattle.pcache_base.specs.declared.error.ErrorType.TheVariants as error
@@ -11,8 +11,11 @@ use Rattle.pcache_put.specs.Parts.{left_behind}
 use Rattle.pcache_put.specs.Progress.{Parsed, AtBody, AtHead, HasFailed}
 use Rattle.pcache_put.specs.Counted.{Counted}
 use Rattle.pcache_put_ctx.specs.Puts.{Piece, Says, joined}
-use Rattle.pcache_put_ctx.specs.State.{Stage, InHead, InBody, HasDeclined, IsOver, Filled, TakenBy, limit_of, write_in}
-use Rattle.pcache_put_ctx.specs.Steps.{AnswersAgain, BeginsAtHead, EndsPiece, IfRefused, MayRefusePiece, filled_on, filled_wrote, stage_begun, store_after}
+use Rattle.pcache_put.specs.Response.{Response, is_whole}
+use Rattle.pcache_put.proofs.Unique.{one_response}
+use Rattle.pcache_put_ctx.specs.State.{BodyRead, Stage, InHead, InBody, HasDeclined, IsOver, Filled, TakenBy, limit_of, write_in}
+use Rattle.pcache_put_ctx.specs.Steps.{AnswersAgain, BeginsAtHead, EndsPiece, HasWholeBody, IfRefused, MayRefusePiece, filled_on, filled_wrote, is_done, stage_begun, store_after}
+use Rattle.pcache_put_ctx.proofs.Bodies.{done_whole}
 use Rattle.pcache_put_ctx.specs.declared.report.PieceEnd.{PieceEnd}
 use Rattle.pcache_put_ctx.specs.declared.report.PieceEnd.TheVariants as piece
 use Rattle.pcache_put_ctx.specs.declared.report.Written.{Written}
@@ -30,8 +33,8 @@ use Rattle.pingora_cache.specs.PartFacts.{facts_in}
 use Rattle.pcache_history.specs.Held.{Held, held_put, stage_noted}
 use Rattle.pingora_cache.specs.Untold.{untold, uncounted}
 use Rattle.pingora_cache.specs.Moved.{At, Moves, MovesBy, MovesStore, at_call}
-use Rattle.pcache_history.specs.PutHistory.{filled_by}
-use Rattle.pingora_cache.specs.PutsSound.{PutTurn}
+use Rattle.pcache_history.specs.PutHistory.{AreWhole, IgnoresAt, SayEnds, filled_by}
+use Rattle.pingora_cache.specs.PutsSound.{EndsWhole, PutTurn}
 use Rattle.pcache_history.specs.Rules.{Feeds, FeedsAt, IsFeedRefusal, began_noted, drop_of, piece_noted, wrote_noted}
 use Rattle.pingora_cache.specs.Step.{IsRow}
 use Rattle.pcache_history.specs.Taking.{Taking, counted_none}
@@ -115,7 +118,7 @@ module _ (p p' : Taking) (s s1 : Store) (began : Option Meta) (b : Option Writte
       subst (λ es. Moves limits (Some x) s m es (Some y) s1 m) (sym none)
       (stop limits (Some x) (at_call (Some x) s m) (at_call (Some y) s1 m) (record { count = λ v. refl; write = after-none ∙ sym (none-before p.stage began s.next begins before-none); owed = refl; store = to ∙ none-stored p.key p.stage began b s begins before-none; tracked = refl }))
 
-  -- it is refused, and the write is dropped
+  -- it fails, and the write is dropped
   pub refused-moves : (u : Store) (w : Option ℕ) (old mid events : List Event) → old ≡ [] → w ≡ write_in now → write_in p'.stage ≡ None → mid ≡ old ++ piece_noted j w began b → events ≡ mid ++ drop_of w → u ≡ dropped_by w s1 → MovesStore (Some x) s events (Some y) u
   refused-moves u w old mid events none has over one is left limits m =
       let first = behind limits (Some x) p.key (λ v. 0) s m refl p.stage began b in
@@ -186,17 +189,75 @@ head-filled says size parser pieces (InBody w id until) f t on none = none-some 
 head-filled says size parser pieces (HasDeclined reason) f t on none = t.1
 head-filled says size parser pieces (IsOver kind) f t on none = absurd (on kind refl)
 
+-- ---- the whole body
+
+-- a body is whole for its parser as it is for its pieces
+read-whole : (says : Says) (limit : Option ℕ) (parser : Parsed) (meta : Meta) (pieces : List Piece) (body : List ℕ) → BodyRead says limit parser meta pieces body → (is_done parser ≡ true) ↔ AreWhole pieces
+read-whole says limit parser meta pieces body h =
+    let same : is_done parser ≡ is_whole h.r.size h.r.behind = ap is_done h.stands ∙ done_whole h.r.size h.r.behind in (
+      λ is. (h.r, h.judged.response, sym same ∙ is),
+      λ w. same ∙ subst (λ (r : Response). is_whole r.size r.behind ≡ true) (one_response (joined pieces) w.0 h.r w.1 h.judged.response) w.2,
+    )
+
+taken-whole : (says : Says) (size : Option Counted) (parser : Parsed) (w : ℕ) (id : Option ℕ) (until : ℕ) (pieces : List Piece) (f : Option Filled) → TakenBy says size parser (InBody w id until) pieces f → (is_done parser ≡ true) ↔ AreWhole pieces
+taken-whole says size parser w id until pieces None t = absurd t
+taken-whole says size parser w id until pieces (Some f) t = read-whole says (limit_of size) parser f.meta pieces f.body t.0
+
+-- so a piece is ignored if it comes after the whole body
+whole-ignored : (says : Says) (size : Option Counted) (parser : Parsed) (stage : Stage) (pieces : List Piece) (f : Option Filled) (reply : Reply) (events : List Event) → TakenBy says size parser stage pieces f → (HasWholeBody stage parser → (reply ≡ R.Done) × (events ≡ [])) → IgnoresAt stage pieces reply events
+whole-ignored says size parser InHead pieces f reply events t ignored = tt
+whole-ignored says size parser (InBody w id until) pieces f reply events t ignored = λ whole. ignored ((taken-whole says size parser w id until pieces f t).1 whole)
+whole-ignored says size parser (HasDeclined reason) pieces f reply events t ignored = tt
+whole-ignored says size parser (IsOver kind) pieces f reply events t ignored = tt
+
+none-ignored : (stage : Stage) (pieces : List Piece) (reply : Reply) (events : List Event) → write_in stage ≡ None → IgnoresAt stage pieces reply events
+none-ignored InHead pieces reply events none = tt
+none-ignored (InBody w id until) pieces reply events none = none-some w none
+none-ignored (HasDeclined reason) pieces reply events none = tt
+none-ignored (IsOver kind) pieces reply events none = tt
+
+-- and the end is announced with the bytes that complete the body
+wrote-ends : (says : Says) (size : Option Counted) (parser : Parsed) (stage : Stage) (pieces : List Piece) (f : Option Filled) (b : Option Written) → TakenBy says size parser stage pieces f → IfSome b (λ (w : Written). w.eof ≡ is_done parser) → SayEnds pieces (wrote_noted (write_in stage) b)
+wrote-ends says size parser InHead pieces f b t last = tt
+wrote-ends says size parser (InBody w id until) pieces f None t last = tt
+wrote-ends says size parser (InBody w id until) pieces f (Some b) t last = let whole = taken-whole says size parser w id until pieces f t in ((λ is. whole.0 (sym last ∙ is), λ all. last ∙ whole.1 all), tt)
+wrote-ends says size parser (HasDeclined reason) pieces f b t last = tt
+wrote-ends says size parser (IsOver kind) pieces f b t last = tt
+
+piece-ends : (pieces : List Piece) (k : ℕ) (w : Option ℕ) (began : Option Meta) (b : Option Written) → SayEnds pieces (wrote_noted w b) → SayEnds pieces (piece_noted k w began b)
+piece-ends pieces k None began b ends = ends
+piece-ends pieces k (Some w) None b ends = ends
+piece-ends pieces k (Some w) (Some m) b ends = ends
+
+nothing-noted : (k : ℕ) (w : Option ℕ) (began : Option Meta) (b : Option Written) → (began ≡ None) × (b ≡ None) → piece_noted k w began b ≡ []
+nothing-noted k None began b none = refl
+nothing-noted k (Some w) None None none = refl
+nothing-noted k (Some w) (Some m) b none = none-some m none.0
+nothing-noted k (Some w) None (Some b) none = none-some b none.1
+
+-- what a call promises of a piece that comes after the whole body, and of the end that it announces
+abbrev pub Ignores : Taking → Option Meta → Option Written → Type 0
+Ignores p began b = HasWholeBody p.stage p.parser → (began ≡ None) × (b ≡ None)
+
+abbrev pub SaysLast : Says → Taking → Taking → Option Written → Type 0
+SaysLast says p p' b = (pieces : List Piece) (f : Option Filled) → TakenBy says p.size p.parser p.stage pieces f → IfSome b (λ (w : Written). w.eof ≡ is_done p'.parser)
+
 abbrev pub OnTaken : Says → Taking → Taking → Piece → Option Meta → Option Written → Type 0
 OnTaken says p p' q began b = (pieces : List Piece) (f : Option Filled) → TakenBy says p.size p.parser p.stage pieces f → TakenBy says p'.size p'.parser p'.stage (pieces ++ q ∷ []) (filled_on began b f)
 
 pub goes-puts : (says : Says) (p p' : Taking) (bytes : List ℕ) (t n j : ℕ) (began : Option Meta) (b : Option Written) (w : Option ℕ) (old events : List Event) → BeginsAtHead p.stage began → ((kind : ErrorType) → p.stage ≡ IsOver kind → ⊥) → OnTaken says p p' (record { bytes = bytes; now = t }) began b → old ≡ [] → w ≡ write_in p'.stage → p'.stage ≡ stage_begun p.stage began n (Some n)
-    → events ≡ old ++ piece_noted j w began b → PutTurn says (C.Feed bytes t) R.Done events (Some (held_put p)) (Some (held_put p'))
-goes-puts says p p' bytes t n j began b w old events begins on taken none has stands is = record {
+    → events ≡ old ++ piece_noted j w began b → Ignores p began b → SaysLast says p p' b → PutTurn says (C.Feed bytes t) R.Done events (Some (held_put p)) (Some (held_put p'))
+goes-puts says p p' bytes t n j began b w old events begins on taken none has stands is ignored last = record {
   taken = λ pieces f got.
       let noted-as : events ≡ piece_noted j (write_in (stage_begun p.stage began n (Some n))) began b = is ∙ (λ i. none i ++ piece_noted j ((has ∙ ap write_in stands) i) began b) in
       let same : filled_by events f ≡ filled_on began b f = ap (λ es. filled_by es f) noted-as ∙ begun-filled says p.size p.parser pieces j n p.stage began b f begins got (λ z. head-filled says p.size p.parser pieces p.stage f got on (none-before p.stage began n begins z)) in
       subst (TakenBy says p'.size p'.parser p'.stage (pieces ++ record { bytes = bytes; now = t } ∷ [])) (sym same) (taken pieces f got);
   closes = λ pieces f got. tt;
+  ignores = λ pieces f got. whole-ignored says p.size p.parser p.stage pieces f R.Done events got (λ whole. (refl, is ∙ (λ i. none i ++ nothing-noted j w began b (ignored whole) i)));
+  ends = λ pieces f got.
+      let more = pieces ++ record { bytes = bytes; now = t } ∷ [] in
+      subst (SayEnds more) (sym (is ∙ (λ i. none i ++ piece_noted j (has i) began b)))
+      (piece-ends more j (write_in p'.stage) began b (wrote-ends says p'.size p'.parser p'.stage more (filled_on began b f) b (taken pieces f got) (last pieces f got)));
 }
 
 declined-as : (says : Says) (size : Option Counted) (parser : Parsed) (stage : Stage) (reason : NoCacheReason) (pieces : List Piece) (f g : Option Filled) → stage ≡ HasDeclined reason → f ≡ None → TakenBy says size parser stage pieces g → TakenBy says size parser stage pieces f
@@ -210,19 +271,23 @@ declined-puts says p p' bytes t began b reason events on unwritten taken none st
       let nothing : f ≡ None = head-filled says p.size p.parser pieces p.stage f got on unwritten in
       declined-as says p'.size p'.parser p'.stage reason (pieces ++ record { bytes = bytes; now = t } ∷ []) (filled_by events f) (filled_on began b f) stands (ap (λ es. filled_by es f) none ∙ nothing) (taken pieces f got);
   closes = λ pieces f got. tt;
+  ignores = λ pieces f got. none-ignored p.stage pieces (R.NotCached reason) events unwritten;
+  ends = λ pieces f got. subst (SayEnds (pieces ++ record { bytes = bytes; now = t } ∷ [])) (sym none) tt;
 }
 
 over-as : (says : Says) (size : Option Counted) (parser : Parsed) (stage : Stage) (kind : ErrorType) (pieces : List Piece) (f g : Option Filled) → stage ≡ IsOver kind → TakenBy says size parser stage pieces g → TakenBy says size parser stage pieces f
 over-as says size parser stage kind pieces f g is t = subst (λ (z : Stage). TakenBy says size parser z pieces f) (sym is) (subst (λ (z : Stage). TakenBy says size parser z pieces g) is t)
 
 pub refused-puts : (says : Says) (p p' : Taking) (bytes : List ℕ) (t : ℕ) (began : Option Meta) (b : Option Written) (e kind : ErrorType) (events : List Event) → OnTaken says p p' (record { bytes = bytes; now = t }) began b → p'.stage ≡ IsOver e
-    → PutTurn says (C.Feed bytes t) (R.Refused kind) events (Some (held_put p)) (Some (held_put p'))
-refused-puts says p p' bytes t began b e kind events taken stands = record {
+    → (HasWholeBody p.stage p.parser → ⊥) → PutTurn says (C.Feed bytes t) (R.Refused kind) events (Some (held_put p)) (Some (held_put p'))
+refused-puts says p p' bytes t began b e kind events taken stands never = record {
   taken = λ pieces f got. over-as says p'.size p'.parser p'.stage e (pieces ++ record { bytes = bytes; now = t } ∷ []) (filled_by events f) (filled_on began b f) stands (taken pieces f got);
   closes = λ pieces f got. tt;
+  ignores = λ pieces f got. whole-ignored says p.size p.parser p.stage pieces f (R.Refused kind) events got (λ whole. absurd (never whole));
+  ends = λ pieces f got. tt;
 }
 
--- ---- what is answered
+-- ---- the reply
 
 module _ (s : Store) (t : Locks) where
   abbrev pub facts : Key → Stage → Facts
@@ -238,12 +303,12 @@ module _ (s : Store) (t : Locks) where
   head-refusal f error.NumbersExhausted is may = subst (λ n. 2 ^ 64 ≤ n) (sym is) may
   head-refusal f e is may = absurd may
 
-  body-refusal : (f : Facts) (w : ℕ) (id : Option ℕ) (until : ℕ) (e : ErrorType) → f.told ≡ is_told (get s.writes w) → MayRefusePiece (InBody w id until) s e → IsFeedRefusal f (InBody w id until) e
-  body-refusal f w id until error.OutOfMemory is may = tt
-  body-refusal f w id until error.InvalidHttpHeader is may = tt
-  body-refusal f w id until error.ResponseTooLarge is may = tt
-  body-refusal f w id until error.InternalError is may = is ∙ may
-  body-refusal f w id until e is may = absurd may
+  body-refusal : (f : Facts) (w : ℕ) (id : Option ℕ) (until : ℕ) (e : ErrorType) → (is_told (get s.writes w) ≡ true → ⊥) → MayRefusePiece (InBody w id until) s e → IsFeedRefusal f (InBody w id until) e
+  body-refusal f w id until error.OutOfMemory untold may = tt
+  body-refusal f w id until error.InvalidHttpHeader untold may = tt
+  body-refusal f w id until error.ResponseTooLarge untold may = tt
+  body-refusal f w id until error.InternalError untold may = absurd (untold may)
+  body-refusal f w id until e untold may = absurd may
 
   -- a parser that has failed takes in nothing more
   pub not-failed : (says : Says) (size : Option Counted) (parser : Parsed) (stage : Stage) (pieces : List Piece) (f : Option Filled) (e : ErrorType) → TakenBy says size parser stage pieces f → ((kind : ErrorType) → stage ≡ IsOver kind → ⊥) → ((reason : NoCacheReason) → stage ≡ HasDeclined reason → ⊥) → parser ≡ HasFailed e → ⊥
@@ -253,10 +318,10 @@ module _ (s : Store) (t : Locks) where
   not-failed says size parser (HasDeclined reason) pieces f e taken on off is = off reason refl
   not-failed says size parser (IsOver kind) pieces f e taken on off is = on kind refl
 
-module _ {M : Type 0} (s : Store) (t : Locks) where
-  pub not-over : (stage : Stage) (end : PieceEnd M) → AnswersAgain stage end → end ≡ piece.GoesOn → (kind : ErrorType) → stage ≡ IsOver kind → ⊥
-  not-over stage end again on kind is = let g : piece.GoesOn ≡ piece.Refused kind None = sym on ∙ subst (λ (z : Stage). AnswersAgain z end) is again in cc
+pub not-over : {M : Type 0} (stage : Stage) (end : PieceEnd M) → AnswersAgain stage end → end ≡ piece.GoesOn → (kind : ErrorType) → stage ≡ IsOver kind → ⊥
+not-over {M = M} stage end again on kind is = let g : ◌≡◌ {A = PieceEnd M} piece.GoesOn (piece.Refused kind None) = sym on ∙ subst (λ (z : Stage). AnswersAgain z end) is again in cc
 
+module _ {M : Type 0} (s : Store) (t : Locks) where
   pub goes-answers : (k : Key) (stage : Stage) (end : PieceEnd M) (began : Option Meta) (b : Option Written) (events : List Event) → AnswersAgain stage end → end ≡ piece.GoesOn → BeginsAtHead stage began → events ≡ piece_noted (slot k) (write_in (stage_begun stage began s.next (Some s.next))) began b → AtStage s t k stage R.Done events
   goes-answers k InHead end began b events again on begins is = (began, b, inl (refl, is))
   goes-answers k (InBody w id until) end None b events again on begins is = (b, inl (refl, is))
@@ -274,20 +339,21 @@ module _ {M : Type 0} (s : Store) (t : Locks) where
 
   pub refused-answers : (says : Says) (size : Option Counted) (parser : Parsed) (pieces : List Piece) (f : Option Filled) (k : Key) (stage : Stage) (end : PieceEnd M) (began : Option Meta) (b : Option Written) (e kind : ErrorType) (writer : Option M) (w : Option ℕ) (events : List Event)
       → TakenBy says size parser stage pieces f → AnswersAgain stage end → end ≡ piece.Refused e writer → kind ≡ e → BeginsAtHead stage began → MayRefusePiece stage s e ⊎ (parser ≡ HasFailed e) → w ≡ write_in (stage_begun stage began s.next (Some s.next)) → events ≡ piece_noted (slot k) w began b ++ drop_of w
-      → AtStage s t k stage (R.Refused kind) events
-  refused-answers says size parser pieces f k InHead end began b e kind writer w events taken again on same begins why has is =
+      → EndsWhole s (write_in stage) pieces → (HasWholeBody stage parser → ⊥) → AtStage s t k stage (R.Refused kind) events
+  refused-answers says size parser pieces f k InHead end began b e kind writer w events taken again on same begins why has is ended never =
       let may : MayRefusePiece InHead s e = elim why [ inl may ↦ may | inr failed ↦ absurd (not-failed s t says size parser InHead pieces f e taken (λ z h. absurd (cc)) (λ z h. absurd (cc)) failed) ] in
       (began, b, inr (inr (e, head-refusal s t (facts s t k InHead) e refl may, ap R.Refused same, is ∙ ap (λ o. piece_noted (slot k) o began b ++ drop_of o) has)))
-  refused-answers says size parser pieces f k (InBody v id until) end None b e kind writer w events taken again on same begins why has is =
+  refused-answers says size parser pieces f k (InBody v id until) end None b e kind writer w events taken again on same begins why has is ended never =
+      let untold : is_told (get s.writes v) ≡ true → ⊥ = λ told. never ((taken-whole says size parser v id until pieces f taken).1 (ended told)) in
       let may : MayRefusePiece (InBody v id until) s e = elim why [ inl may ↦ may | inr failed ↦ absurd (not-failed s t says size parser (InBody v id until) pieces f e taken (λ z h. absurd (cc)) (λ z h. absurd (cc)) failed) ] in
-      (b, inr (inr (e, body-refusal s t (facts s t k (InBody v id until)) v id until e refl may, ap R.Refused same, is ∙ ap (λ o. piece_noted (slot k) o None b ++ drop_of o) has)))
-  refused-answers says size parser pieces f k (InBody v id until) end (Some m) b e kind writer w events taken again on same begins why has is = none-some m begins
-  refused-answers says size parser pieces f k (HasDeclined reason) end began b e kind writer w events taken again on same begins why has is = absurd (let g : ◌≡◌ {A = PieceEnd M} (piece.Refused e writer) (piece.NotCached reason) = sym on ∙ again in cc)
-  refused-answers says size parser pieces f k (IsOver over) end None b e kind writer w events taken again on same begins why has is =
+      (b, inr (inr (e, body-refusal s t (facts s t k (InBody v id until)) v id until e untold may, ap R.Refused same, is ∙ ap (λ o. piece_noted (slot k) o None b ++ drop_of o) has)))
+  refused-answers says size parser pieces f k (InBody v id until) end (Some m) b e kind writer w events taken again on same begins why has is ended never = none-some m begins
+  refused-answers says size parser pieces f k (HasDeclined reason) end began b e kind writer w events taken again on same begins why has is ended never = absurd (let g : ◌≡◌ {A = PieceEnd M} (piece.Refused e writer) (piece.NotCached reason) = sym on ∙ again in cc)
+  refused-answers says size parser pieces f k (IsOver over) end None b e kind writer w events taken again on same begins why has is ended never =
       let g : ◌≡◌ {A = PieceEnd M} (piece.Refused e writer) (piece.Refused over None) = sym on ∙ again in
       let which : e ≡ over = cc in
       (ap R.Refused (same ∙ which), is ∙ ap (λ o. piece_noted (slot k) o None b ++ drop_of o) has)
-  refused-answers says size parser pieces f k (IsOver over) end (Some m) b e kind writer w events taken again on same begins why has is = none-some m begins
+  refused-answers says size parser pieces f k (IsOver over) end (Some m) b e kind writer w events taken again on same begins why has is ended never = none-some m begins
 
 -- ---- no lock is spoken of
 
@@ -326,6 +392,10 @@ ends-declined write end reason before after is ends = subst (λ z. EndsPiece wri
 pub ends-refused : {M : Type 0} (write : M → ℕ) (end : PieceEnd M) (e : ErrorType) (writer : Option M) (before after : Stage) → end ≡ piece.Refused e writer → EndsPiece write end before after → (after ≡ IsOver e) × (option_map write writer ≡ write_in before)
 ends-refused write end e writer before after is ends = subst (λ z. EndsPiece write z before after) is ends
 
+-- a piece that failed did not come after the whole body
+pub refused-never : {M : Type 0} (p : Taking) (end : PieceEnd M) (e : ErrorType) (writer : Option M) → end ≡ piece.Refused e writer → (HasWholeBody p.stage p.parser → end ≡ piece.GoesOn) → HasWholeBody p.stage p.parser → ⊥
+refused-never {M = M} p end e writer is ignored whole = let no : ◌≡◌ {A = PieceEnd M} (piece.Refused e writer) piece.GoesOn = sym is ∙ ignored whole in absurd (cc)
+
 pub noted-drop : (w v : Option ℕ) (mid events : List Event) → w ≡ v → events ≡ mid ++ drop_of v → events ≡ mid ++ drop_of w
 noted-drop w v mid events same is = is ∙ ap (λ o. mid ++ drop_of o) (sym same)
 
@@ -334,7 +404,7 @@ left-drop w v s u same is = is ∙ ap (λ o. dropped_by o s) (sym same)
 
 pub refused-answers-of : {M : Type 0} (s : Store) (t : Locks) (says : Says) (p : Taking) (pieces : List Piece) (f : Option Filled) (end : PieceEnd M) (began : Option Meta) (b : Option Written) (e kind : ErrorType) (writer : Option M) (w : Option ℕ) (j : ℕ) (old mid events : List Event)
     → TakenBy says p.size p.parser p.stage pieces f → AnswersAgain p.stage end → end ≡ piece.Refused e writer → kind ≡ e → BeginsAtHead p.stage began → IfRefused end (λ z. MayRefusePiece p.stage s z ⊎ (p.parser ≡ HasFailed z)) → w ≡ write_in (stage_begun p.stage began s.next (Some s.next)) → j ≡ slot p.key
-    → old ≡ [] → mid ≡ old ++ piece_noted j w began b → events ≡ mid ++ drop_of w → Feeds (facts_in s t (held_put p).request) (Some p) (R.Refused kind) events
-refused-answers-of s t says p pieces f end began b e kind writer w j old mid events taken again on same begins why has at none one is =
+    → old ≡ [] → mid ≡ old ++ piece_noted j w began b → events ≡ mid ++ drop_of w → EndsWhole s (write_in p.stage) pieces → (HasWholeBody p.stage p.parser → ⊥) → Feeds (facts_in s t (held_put p).request) (Some p) (R.Refused kind) events
+refused-answers-of s t says p pieces f end began b e kind writer w j old mid events taken again on same begins why has at none one is ended never =
     refused-answers s t says p.size p.parser pieces f p.key p.stage end began b e kind writer w events taken again on same begins
-    (subst (λ z. IfRefused z (λ y. MayRefusePiece p.stage s y ⊎ (p.parser ≡ HasFailed y))) on why) has (is ∙ ap (λ es. es ++ drop_of w) (one ∙ (λ i. none i ++ piece_noted (at i) w began b)))
+    (subst (λ z. IfRefused z (λ y. MayRefusePiece p.stage s y ⊎ (p.parser ≡ HasFailed y))) on why) has (is ∙ ap (λ es. es ++ drop_of w) (one ∙ (λ i. none i ++ piece_noted (at i) w began b))) ended never

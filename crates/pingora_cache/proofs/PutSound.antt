@@ -1,5 +1,5 @@
 -- A step of a sound world keeps what it keeps of its puts.
-use Rattle.std.proofs.Common.{◌≡◌, ℕ, ◌==◌, true, false, cond, if◌then◌else◌, Option, None, Some, List, [], ◌∷◌, refl, ap, sym, subst, ◌∙◌, inl, inr, option_map, reverse}
+use Rattle.std.proofs.Common.{◌≡◌, ℕ, ◌==◌, ◌||◌, nat_lt, true, false, cond, if◌then◌else◌, Option, None, Some, IsSome, List, [], ◌∷◌, refl, ap, sym, subst, ◌∙◌, inl, inr, option_map, reverse}
 use Rattle.std.proofs.lemmas.Bool.{eqb-true}
 use Rattle.std.specs.BTreeMap.{is_at}
 use Rattle.std.specs.Map.{lookup}
@@ -8,7 +8,13 @@ use Rattle.std.specs.FinMap.{FinMap, empty, from_entries, get, get-empty}
 use Rattle.pcache_put.specs.Counted.{Counted}
 use Rattle.pcache_base.specs.declared.error.ErrorType.TheVariants.{OutOfMemory}
 use Rattle.pcache_put_ctx.specs.Puts.{Piece, Says, IsResult}
-use Rattle.pcache_put_ctx.specs.State.{Filled, limit_of}
+use Rattle.pcache_put_ctx.specs.State.{Stage, InBody, Filled, limit_of}
+use Rattle.pcache_evict.specs.Tracked.{Tracked, Limits}
+use Rattle.pcache_lock.specs.Locks.{Locks}
+use Rattle.pcache_meta.specs.Meta.{Meta}
+use Rattle.pcache_store.specs.Store.{Store, is_told as store-told}
+use Rattle.pcache_history.specs.Events.{begin_of, body_of, in_flight, is_told}
+use Rattle.pcache_history.specs.History.{events_of}
 use Rattle.pcache_history.specs.declared.call.Act.{Act}
 use Rattle.pcache_history.specs.declared.call.Act.TheVariants as C
 use Rattle.pcache_history.specs.declared.call.Reply.{Reply}
@@ -18,15 +24,16 @@ use Rattle.pcache_history.specs.declared.entry.Event.{Event}
 use Rattle.pcache_request.specs.LockUse.{unheld}
 use Rattle.pcache_history.specs.Held.{Held, is_done, outcome, request_of, row, taken_over, turned_by}
 use Rattle.pingora_cache.specs.Untold.{untold, uncounted, untold_put}
-use Rattle.pcache_history.specs.PutHistory.{ClosesBy, StoodBy, Tells, TellsOf, filled_after, filled_of, pieces_of, pieces_on}
-use Rattle.pingora_cache.specs.PutsSound.{HasSome, PutTurn, PutsSound, TakenIn}
-use Rattle.pcache_history.specs.Rules.{IsCopy}
-use Rattle.pingora_cache.specs.Sound.{AreOpen}
+use Rattle.pcache_history.specs.PutHistory.{AreWhole, ClosesBy, EndsBy, IgnoresAt, IgnoresBy, IgnoresIn, IgnoresOf, StoodBy, Tells, TellsOf, filled_after, filled_of, pieces_of, pieces_on}
+use Rattle.pingora_cache.specs.PutsSound.{EndedIn, EndsWhole, HasEnded, HasSome, PutTurn, PutsSound, TakenIn}
+use Rattle.pcache_history.specs.Rules.{IsCopy, IsIdle}
+use Rattle.pingora_cache.specs.Sound.{AreOpen, IsSound, readers, record_of}
 use Rattle.pingora_cache.specs.Step.{IsRow}
 use Rattle.pcache_history.specs.Taking.{Taking}
 use Rattle.pcache_history.proofs.Copied.{outcome-copied, row-copied}
 use Rattle.pingora_cache.proofs.MovedState.{set_to}
 use Rattle.pingora_cache.proofs.Opened.{get-set_to}
+use Rattle.pcache_history.proofs.PutEnds.{told-whole}
 use Rattle.pcache_history.proofs.Taken.{taken_keeps}
 use Rattle.pingora_cache.proofs.Turned.{at-number, lookup-get}
 use Rattle.pingora_cache.proofs.Untold.{row-at}
@@ -37,7 +44,7 @@ puts-none says all h none new =
     subst (λ (es : List (ℕ × Held)). PutsSound says (from_entries {R = nat_cmp} es) (reverse h)) (sym none)
     (subst (λ (xs : List Entry). PutsSound says empty (reverse xs)) (sym new) (record { told = tt; taken = λ r. subst (λ q. TakenIn says q [] None) (sym (get-empty nat_cmp r)) tt }))
 
--- its history told otherwise
+-- its history in another form
 pub puts-same : (says : Says) (all : FinMap nat_cmp Held) (h h' : List Entry) → PutsSound says all (reverse h) → h' ≡ h → PutsSound says all (reverse h')
 puts-same says all h h' k is = subst (λ (xs : List Entry). PutsSound says all (reverse xs)) (sym is) k
 
@@ -57,7 +64,7 @@ pub stood-in : (says : Says) (q : Option Held) (pieces : List Piece) (f : Option
 stood-in says None pieces f t = tt
 stood-in says (Some x) pieces f t = stood says x pieces f t
 
--- a close is told by the history as by the code
+-- a close says the same by the history as by the code
 with_put : Held → Option Taking → Held
 with_put x p = record { request = x.request; pair = x.pair; carried = x.carried; put = p }
 
@@ -70,7 +77,7 @@ closes-untold says C.Close None pieces f reply c = c
 closes-untold says C.Close (Some x) pieces f reply c = tells-alike says x.put pieces f reply c
 closes-untold says act q pieces f reply c = tt
 
--- if memory is refused nothing is told
+-- if memory runs out nothing is said
 starved-tells : (says : Says) (p : Option Taking) (pieces : List Piece) (f : Option Filled) → TellsOf says p pieces f (R.Refused OutOfMemory)
 starved-tells says None pieces f = tt
 starved-tells says (Some p) pieces f = tt
@@ -84,7 +91,29 @@ copied-closes : (says : Says) (act : Act) (q : Option Held) (pieces : List Piece
 copied-closes says act q pieces f reply told (inl same) c = subst (ClosesBy says act q pieces f) (sym same) c
 copied-closes says act q pieces f reply told (inr (refused, given)) c = subst (ClosesBy says act q pieces f) (sym refused) (starved-closes says act q pieces f)
 
--- one call more
+-- the history says that a piece is ignored just if the code does
+copied-idle : (events : List Event) (reply told : Reply) → IsCopy reply told → IsIdle R.Done reply events → IsIdle R.Done told events
+copied-idle events reply told (inl same) i = (same ∙ i.0, i.1)
+copied-idle events reply told (inr (refused, given)) i = let no : R.Done ≡ R.Data given.0 = sym i.0 ∙ given.1 in absurd (cc)
+
+module _ (pieces : List Piece) (events : List Event) (reply told : Reply) (copy : IsCopy reply told) where
+  ignored-at : (stage : Stage) → IgnoresAt stage pieces reply events → IgnoresAt stage pieces told events
+  ignored-at (InBody w id until) ignores = λ whole. copied-idle events reply told copy (ignores whole)
+  ignored-at stage ignores = tt
+
+  ignored-of : (p : Option Taking) → IgnoresOf p pieces reply events → IgnoresOf (option_map untold_put p) pieces told events
+  ignored-of None ignores = tt
+  ignored-of (Some p) ignores = ignored-at p.stage ignores
+
+  ignored-in : (q : Option Held) → IgnoresIn q pieces reply events → IgnoresIn (option_map untold q) pieces told events
+  ignored-in None ignores = tt
+  ignored-in (Some x) ignores = ignored-of x.put ignores
+
+  ignored-by : (act : Act) (q : Option Held) → IgnoresBy act q pieces reply events → IgnoresBy act (option_map untold q) pieces told events
+  ignored-by (C.Feed bytes t) q ignores = ignored-in q ignores
+  ignored-by act q ignores = tt
+
+-- one more call
 pub puts-after : (says : Says) (all : FinMap nat_cmp Held) (h : List Entry) (n : ℕ) (act : Act) (reply told : Reply) (events : List Event) (q' : Option Held) → PutsSound says all h → AreOpen h all → PutTurn says act reply events (get all n) q' → IsRow act reply events (get all n) q' → IsCopy reply told
     → PutsSound says (set_to all n q') (record { call = record { request = n; act = act }; reply = told; events = events } ∷ h)
 puts-after says all h n act reply told events q' k are turn now copy =
@@ -100,6 +129,8 @@ puts-after says all h n act reply told events q' k are turn now copy =
         record {
           stands = subst (λ p. StoodBy says p (pieces_on act (outcome told) pieces) (filled_after act (outcome told) events f)) row-is (stood-in says q' (pieces_on act (outcome told) pieces) (filled_after act (outcome told) events f) taken);
           closes = subst (λ p. ClosesBy says act p pieces f told) (are n) (closes-untold says act q pieces f told (copied-closes says act q pieces f reply told copy (turn.closes pieces f (k.taken n))));
+          ignores = subst (λ p. IgnoresBy act p pieces told events) (are n) (ignored-by pieces events reply told copy act q (turn.ignores pieces f (k.taken n)));
+          ends = subst (λ o. EndsBy act o (pieces_on act o pieces) events) (sym same) (turn.ends pieces f (k.taken n));
         },
         k.told,
       );
@@ -122,6 +153,8 @@ puts-given says all new h from to reply told events k are moved = record {
     record {
       stands = row-given (λ q. StoodBy says q (pieces_of from h) (filled_of from h)) (λ x is. is) to told events (request_of from h) (subst (λ q. StoodBy says q (pieces_of from h) (filled_of from h)) (are from) (stood-in says (get all from) (pieces_of from h) (filled_of from h) (k.taken from)));
       closes = tt;
+      ignores = tt;
+      ends = tt;
     },
     k.told,
   );
@@ -135,6 +168,35 @@ puts-given says all new h from to reply told events k are moved = record {
       ] refl)));
 }
 
--- the put that a call names has taken in some pieces
-pub has-some : (says : Says) (all : List (ℕ × Held)) (h : List Entry) (n : ℕ) → PutsSound says (from_entries {R = nat_cmp} all) h → HasSome says (lookup (is_at (nat_cmp n)) all)
-has-some says all h n k = (pieces_of n h, filled_of n h, subst (λ q. TakenIn says q (pieces_of n h) (filled_of n h)) (sym (lookup-get all n)) (k.taken n))
+-- the record of a write has the mark of its end only if the history announced it
+record-told : (w n : ℕ) (es : List Event) → store-told (record_of w n es) ≡ true → is_told w es ≡ true
+record-told w n es =
+    elim (in_flight w es || nat_lt 0 n) as (λ b. store-told (if b then option_map (λ (p : ℕ × Meta). record { slot = p.0; meta = p.1; bytes = body_of w es; told = is_told w es; flying = in_flight w es; readers = n }) (begin_of w es) else None) ≡ true → is_told w es ≡ true) [
+      | true ↦ elim (begin_of w es) as (λ o. store-told (option_map (λ (p : ℕ × Meta). record { slot = p.0; meta = p.1; bytes = body_of w es; told = is_told w es; flying = in_flight w es; readers = n }) o) ≡ true → is_told w es ≡ true) [ None ↦ λ no. absurd (cc) | Some p ↦ λ is. is ]
+      | false ↦ λ no. absurd (cc)
+    ]
+
+-- the put that a call names has taken in some pieces, and its end was announced only with the whole body
+module _ (limits : Limits) (start m : Tracked) (s : Store) (t : Locks) (says : Says) (all : FinMap nat_cmp Held) (h : List Entry) (k : IsSound limits start m s t all h) (puts : PutsSound says all h) (n : ℕ) where
+  ended-at : (x : Held) (w : ℕ) → get all n ≡ Some x → IsSome (untold x).put → x.request.write ≡ Some w → store-told (get s.writes w) ≡ true → AreWhole (pieces_of n h)
+  ended-at x w is put write told =
+      told-whole t.age_timeout limits start says h n w (untold x) k.legal puts.told (sym (k.requests n) ∙ ap (option_map untold) is) put write
+      (record-told w (readers all w) (events_of h) (ap store-told (sym (k.state.writes w)) ∙ told))
+
+  ended-put : (x : Held) → get all n ≡ Some x → (p : Option Taking) → x.put ≡ p → HasEnded s x p (pieces_of n h)
+  ended-put x is None put = tt
+  ended-put x is (Some p) put = by x.request.write refl
+    where
+      by : (o : Option ℕ) → x.request.write ≡ o → EndsWhole s o (pieces_of n h)
+      by None write = tt
+      by (Some w) write = ended-at x w is (subst (λ o. IsSome (option_map untold_put o)) (sym put) refl) write
+
+  ended-in : (q : Option Held) → get all n ≡ q → EndedIn s q (pieces_of n h)
+  ended-in None is = tt
+  ended-in (Some x) is = ended-put x is x.put refl
+
+  has-some-at : HasSome says s (get all n)
+  has-some-at = (pieces_of n h, filled_of n h, puts.taken n, ended-in (get all n) refl)
+
+pub has-some : (limits : Limits) (start m : Tracked) (s : Store) (t : Locks) (says : Says) (all : List (ℕ × Held)) (h : List Entry) (n : ℕ) → IsSound limits start m s t (from_entries {R = nat_cmp} all) h → PutsSound says (from_entries {R = nat_cmp} all) h → HasSome says s (lookup (is_at (nat_cmp n)) all)
+has-some limits start m s t says all h n k puts = subst (HasSome says s) (sym (lookup-get all n)) (has-some-at limits start m s t says (from_entries {R = nat_cmp} all) h k puts n)

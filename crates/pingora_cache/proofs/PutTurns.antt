@@ -17,16 +17,16 @@ use Rattle.pcache_history.specs.Deeds.{deeds_in, held_in, status_left}
 use Rattle.pcache_history.specs.Due.{KeepsKey, IsOfWorldIn}
 use Rattle.pcache_history.specs.Facts.{Facts, request_in}
 use Rattle.pingora_cache.specs.PartFacts.{facts_in, no_facts}
-use Rattle.pcache_history.specs.Held.{Held, IsHeldPut, was_wrong, held_put, is_done, is_wrong, outcome, row}
+use Rattle.pcache_history.specs.Held.{Held, IsHeldPut, Outcome, was_wrong, held_put, is_done, is_wrong, outcome, row}
 use Rattle.pingora_cache.specs.Handing.{open_at}
 use Rattle.pingora_cache.specs.Moved.{Moves, MovesRequest, MovesStore}
-use Rattle.pcache_history.specs.PutHistory.{ClosesBy, filled_after, pieces_on}
+use Rattle.pcache_history.specs.PutHistory.{ClosesBy, EndsBy, IgnoresBy, IgnoresIn, IgnoresOf, filled_after, pieces_on}
 use Rattle.pingora_cache.specs.PutsSound.{HasSome, PutTurn, TakenIn}
 use Rattle.pcache_history.specs.Rules.{Feeds, FindsKind, IsIdle, IsOfKind, IsOther, MayBe, Replies}
 use Rattle.pingora_cache.specs.Step.{IsRow, IsRowed, Turn}
 use Rattle.pcache_history.specs.Taking.{Taking, new_put}
 use Rattle.pcache_history.specs.Waiting.{AreOfNoLock}
-use Rattle.pcache_history.proofs.PutShape.{wrong-filled}
+use Rattle.pcache_history.proofs.PutShape.{wrong-filled, wrong-pieces}
 use Rattle.pingora_cache.proofs.LockSteps.{no_locks_move, quiet-deeds}
 use Rattle.pingora_cache.proofs.TurnOf.{row-at}
 
@@ -39,18 +39,24 @@ no-close : (says : Says) (act : Act) (x : Held) (pieces : List Piece) (f : Optio
 no-close says C.Close x pieces f reply none = subst (λ p. ClosesBy says C.Close (Some (record { request = x.request; pair = x.pair; carried = x.carried; put = p })) pieces f reply) (sym none) tt
 no-close says act x pieces f reply none = tt
 
+no-ignoring : (act : Act) (x : Held) (pieces : List Piece) (reply : Reply) (events : List Event) → x.put ≡ None → IgnoresBy act (Some x) pieces reply events
+no-ignoring (C.Feed bytes t) x pieces reply events none = subst (λ p. IgnoresOf p pieces reply events) (sym none) tt
+no-ignoring act x pieces reply events none = tt
+
+-- a call that announces no end of a put's body
+abbrev pub SaysNoEnd : Act → Type 0
+SaysNoEnd act = (o : Outcome) (pieces : List Piece) (events : List Event) → EndsBy act o pieces events
+
 -- of a request nothing is said
-pub puts-plain : (says : Says) (act : Act) (reply : Reply) (events : List Event) (q q' : Option Held) (x y : Held) → q ≡ Some x → q' ≡ Some y → x.put ≡ None → y.put ≡ None → PutTurn says act reply events q q'
-puts-plain says act reply events q q' x y is now before after =
+pub puts-plain : (says : Says) (act : Act) (reply : Reply) (events : List Event) (q q' : Option Held) (x y : Held) → q ≡ Some x → q' ≡ Some y → x.put ≡ None → y.put ≡ None → SaysNoEnd act → PutTurn says act reply events q q'
+puts-plain says act reply events q q' x y is now before after none =
     subst (λ (p : Option Held). PutTurn says act reply events p q') (sym is)
     (subst (λ (p : Option Held). PutTurn says act reply events (Some x) p) (sym now) (record {
       taken = λ pieces f _. no-put says y (pieces_on act (outcome reply) pieces) (filled_after act (outcome reply) events f) after;
       closes = λ pieces f _. no-close says act x pieces f reply before;
+      ignores = λ pieces f _. no-ignoring act x pieces reply events before;
+      ends = λ pieces f _. none (outcome reply) (pieces_on act (outcome reply) pieces) events;
     }))
-
-wrong-pieces : (act : Act) (pieces : List Piece) → pieces_on act was_wrong pieces ≡ pieces
-wrong-pieces (C.Put k limit) pieces = refl
-wrong-pieces act pieces = refl
 
 none-told : (says : Says) (p : Option Held) (pieces : List Piece) (f : Option Filled) → ClosesBy says C.Close p pieces f R.WrongCall
 none-told says None pieces f = tt
@@ -60,14 +66,31 @@ wrong-closes : (says : Says) (act : Act) (q : Option Held) (pieces : List Piece)
 wrong-closes says C.Close q pieces f = none-told says q pieces f
 wrong-closes says act q pieces f = tt
 
+wrong-ends : (act : Act) (pieces : List Piece) → EndsBy act was_wrong pieces []
+wrong-ends (C.Feed bytes t) pieces = tt
+wrong-ends act pieces = tt
+
+-- no piece is ignored where no put is open
+abbrev pub IgnoresNone : Act → Option Held → Type 0
+IgnoresNone act q = (pieces : List Piece) → IgnoresBy act q pieces R.WrongCall []
+
+pub ignores-nowhere : (act : Act) (q : Option Held) → q ≡ None → IgnoresNone act q
+ignores-nowhere (C.Feed bytes t) q none pieces = subst (λ p. IgnoresIn p pieces R.WrongCall []) (sym none) tt
+ignores-nowhere act q none pieces = tt
+
+pub ignores-plain : (act : Act) (q : Option Held) (x : Held) → q ≡ Some x → x.put ≡ None → IgnoresNone act q
+ignores-plain act q x is none pieces = subst (λ p. IgnoresBy act p pieces R.WrongCall []) (sym is) (no-ignoring act x pieces R.WrongCall [] none)
+
 -- a wrong call leaves what was taken in
-pub puts-wrong : (says : Says) (act : Act) (reply : Reply) (events : List Event) (q q' : Option Held) → IsIdle R.WrongCall reply events → q' ≡ q → PutTurn says act reply events q q'
-puts-wrong says act reply events q q' idle now =
+pub puts-wrong : (says : Says) (act : Act) (reply : Reply) (events : List Event) (q q' : Option Held) → IsIdle R.WrongCall reply events → q' ≡ q → IgnoresNone act q → PutTurn says act reply events q q'
+puts-wrong says act reply events q q' idle now never =
     subst (λ (z : Reply). PutTurn says act z events q q') (sym idle.0)
     (subst (λ (es : List Event). PutTurn says act R.WrongCall es q q') (sym idle.1)
     (subst (λ (p : Option Held). PutTurn says act R.WrongCall [] q p) (sym now) (record {
       taken = λ pieces f t. subst (λ xs. TakenIn says q xs (filled_after act was_wrong [] f)) (sym (wrong-pieces act pieces)) (subst (TakenIn says q pieces) (sym (wrong-filled act f)) t);
       closes = λ pieces f t. wrong-closes says act q pieces f;
+      ignores = λ pieces f t. never pieces;
+      ends = λ pieces f t. wrong-ends act (pieces_on act was_wrong pieces);
     })))
 
 cond-taken : (says : Says) (b : Bool) (q r : Option Held) (pieces : List Piece) (f : Option Filled) → TakenIn says q pieces f → TakenIn says r pieces f → TakenIn says (cond b q r) pieces f
@@ -77,19 +100,19 @@ cond-taken says false q r pieces f a b = b
 -- what is opened or ended
 pub puts-opened : (says : Says) (options : Option CacheOptionOverrides) (reply : Reply) (events : List Event) (q q' : Option Held) → q' ≡ row (C.Open options) reply [] q → PutTurn says (C.Open options) reply events q q'
 puts-opened says options reply events q q' now =
-    subst (λ (p : Option Held). PutTurn says (C.Open options) reply events q p) (sym now) (record { taken = λ pieces f t. cond-taken says (is_done (outcome reply)) _ q pieces f tt t; closes = λ pieces f t. tt })
+    subst (λ (p : Option Held). PutTurn says (C.Open options) reply events q p) (sym now) (record { taken = λ pieces f t. cond-taken says (is_done (outcome reply)) _ q pieces f tt t; closes = λ pieces f t. tt; ignores = λ pieces f t. tt; ends = λ pieces f t. tt })
 
 pub puts-ended : (says : Says) (reply : Reply) (events : List Event) (q q' : Option Held) → q' ≡ row C.End reply events q → PutTurn says C.End reply events q q'
 puts-ended says reply events q q' now =
-    subst (λ (p : Option Held). PutTurn says C.End reply events q p) (sym now) (record { taken = λ pieces f t. cond-taken says (is_done (outcome reply)) None q pieces f tt t; closes = λ pieces f t. tt })
+    subst (λ (p : Option Held). PutTurn says C.End reply events q p) (sym now) (record { taken = λ pieces f t. cond-taken says (is_done (outcome reply)) None q pieces f tt t; closes = λ pieces f t. tt; ignores = λ pieces f t. tt; ends = λ pieces f t. tt })
 
 pub puts-dropped : (says : Says) (reply : Reply) (events : List Event) (q q' : Option Held) → q' ≡ row C.Drop reply events q → PutTurn says C.Drop reply events q q'
 puts-dropped says reply events q q' now =
-    subst (λ (p : Option Held). PutTurn says C.Drop reply events q p) (sym now) (record { taken = λ pieces f t. cond-taken says (is_done (outcome reply)) None q pieces f tt t; closes = λ pieces f t. tt })
+    subst (λ (p : Option Held). PutTurn says C.Drop reply events q p) (sym now) (record { taken = λ pieces f t. cond-taken says (is_done (outcome reply)) None q pieces f tt t; closes = λ pieces f t. tt; ignores = λ pieces f t. tt; ends = λ pieces f t. tt })
 
 pub puts-closed : (says : Says) (reply : Reply) (events : List Event) (q q' : Option Held) → q' ≡ row C.Close reply events q → ((pieces : List Piece) (f : Option Filled) → TakenIn says q pieces f → ClosesBy says C.Close q pieces f reply) → PutTurn says C.Close reply events q q'
 puts-closed says reply events q q' now closes =
-    subst (λ (p : Option Held). PutTurn says C.Close reply events q p) (sym now) (record { taken = λ pieces f t. cond-taken says (is_wrong (outcome reply)) q None pieces f t tt; closes = closes })
+    subst (λ (p : Option Held). PutTurn says C.Close reply events q p) (sym now) (record { taken = λ pieces f t. cond-taken says (is_wrong (outcome reply)) q None pieces f t tt; closes = closes; ignores = λ pieces f t. tt; ends = λ pieces f t. tt })
 
 pub puts-pushed : (says : Says) (k : Key) (limit : Option ℕ) (reply : Reply) (events : List Event) (q q' : Option Held) → q' ≡ row (C.Put k limit) reply [] q → events ≡ [] → PutTurn says (C.Put k limit) reply [] q (row (C.Put k limit) reply [] q) → PutTurn says (C.Put k limit) reply events q q'
 puts-pushed says k limit reply events q q' now none turn =
@@ -114,11 +137,11 @@ by-row limits n act all all' s s' m m' t t' reply events replies moves keeps row
     })
 
 -- a put that is fed, which is x before and y after
-pub fed-turn : (limits : Limits) (says : Says) (n : ℕ) (bytes : List ℕ) (at : ℕ) (q q' : Option Held) (x y : Held) (s s' : Store) (m : Tracked) (t : Locks) (reply : Reply) (events : List Event) → HasSome says q → q ≡ Some x → q' ≡ Some y → IsHeldPut x → IsHeldPut y
-    → (HasSome says (Some x) → Replies (facts_in s t x.request) (C.Feed bytes at) (Some x) reply events) → MovesStore (Some x) s events (Some y) s' → KeepsKey (Some x) (Some y) → IsRow (C.Feed bytes at) reply events (Some x) (Some y) → AreOfNoLock events
+pub fed-turn : (limits : Limits) (says : Says) (n : ℕ) (bytes : List ℕ) (at : ℕ) (q q' : Option Held) (x y : Held) (s s' : Store) (m : Tracked) (t : Locks) (reply : Reply) (events : List Event) → HasSome says s q → q ≡ Some x → q' ≡ Some y → IsHeldPut x → IsHeldPut y
+    → (HasSome says s (Some x) → Replies (facts_in s t x.request) (C.Feed bytes at) (Some x) reply events) → MovesStore (Some x) s events (Some y) s' → KeepsKey (Some x) (Some y) → IsRow (C.Feed bytes at) reply events (Some x) (Some y) → AreOfNoLock events
     → Turn limits n (C.Feed bytes at) q s m t reply events q' s' m t
 fed-turn limits says n bytes at q q' x y s s' m t reply events some is now old new answered moves keeps same quiet =
-    let replies = answered (subst (HasSome says) is some) in
+    let replies = answered (subst (HasSome says s) is some) in
     let none = quiet-deeds n 0 (status_left (C.Feed bytes at) events) events quiet in
     subst (λ (p : Option Held). Turn limits n (C.Feed bytes at) p s m t reply events q' s' m t) (sym is)
     (subst (λ (p : Option Held). Turn limits n (C.Feed bytes at) (Some x) s m t reply events p s' m t) (sym now) (record {
@@ -129,7 +152,7 @@ fed-turn limits says n bytes at q q' x y s s' m t reply events some is now old n
       locks = no_locks_move n (deeds_in n (C.Feed bytes at) (outcome reply) events (Some x)) x.request.held y.request.held t t none (ap (λ (z : Held). z.request.held) new.1 ∙ sym (ap (λ (z : Held). z.request.held) old.1)) refl;
     }))
 
--- a call of requests where a put stands, and of puts where a request does, or nothing
+-- a call of requests where a put is open, and of puts where a request is, or nothing
 pub none-answered : (f : Facts) (act : Act) (q : Option Held) → q ≡ None → (MayBe f act None → ⊥) → Replies f act q R.WrongCall []
 none-answered f act q is fails = subst (λ (p : Option Held). Replies f act p R.WrongCall []) (sym is) (inl (tt, inr (fails, (refl, refl))))
 
@@ -177,9 +200,9 @@ drop-turn limits n all all' s s' m t reply events replies moves keeps rowed quie
     let q = open_at n all in
     by-row limits n C.Drop all all' s s' m m t t reply events (drop-replies no_facts (facts_in s t (request_in q)) q reply events replies) (moves limits m) keeps rowed (quiet-deeds n 0 (status_left C.Drop events) events quiet) held refl
 
-pub close-turn : (limits : Limits) (n : ℕ) (all all' : List (ℕ × Held)) (says : Says) (s s' : Store) (m m' : Tracked) (t t' : Locks) (reply : Reply) (events : List Event) → IsOfWorldIn (open_at n all) → HasSome says (open_at n all)
-    → (HasSome says (open_at n all) → Replies (facts_in s t (request_in (open_at n all))) C.Close (open_at n all) reply events)
-    → (IsOfWorldIn (open_at n all) → HasSome says (open_at n all) → Moves limits (open_at n all) s m events (row C.Close reply events (open_at n all)) s' m') → KeepsKey (open_at n all) (row C.Close reply events (open_at n all))
+pub close-turn : (limits : Limits) (n : ℕ) (all all' : List (ℕ × Held)) (says : Says) (s s' : Store) (m m' : Tracked) (t t' : Locks) (reply : Reply) (events : List Event) → IsOfWorldIn (open_at n all) → HasSome says s (open_at n all)
+    → (HasSome says s (open_at n all) → Replies (facts_in s t (request_in (open_at n all))) C.Close (open_at n all) reply events)
+    → (IsOfWorldIn (open_at n all) → HasSome says s (open_at n all) → Moves limits (open_at n all) s m events (row C.Close reply events (open_at n all)) s' m') → KeepsKey (open_at n all) (row C.Close reply events (open_at n all))
     → IsRowed n C.Close reply events all all' → AreOfNoLock events → held_in (row C.Close reply events (open_at n all)) ≡ held_in (open_at n all) → t' ≡ t → Turn limits n C.Close (open_at n all) s m t reply events (open_at n all') s' m' t'
 close-turn limits n all all' says s s' m m' t t' reply events world some replies moves keeps rowed quiet held locks =
     by-row limits n C.Close all all' s s' m m' t t' reply events (replies some) (moves world some) keeps rowed (quiet-deeds n 0 (status_left C.Close events) events quiet) held locks

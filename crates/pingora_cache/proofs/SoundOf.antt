@@ -1,4 +1,4 @@
--- A legal history, and parts that are as it says, are a sound world: the rest follows from these.
+-- A legal history, and parts that agree with it, make a sound world: the rest follows from these.
 use Rattle.std.proofs.Common.{◌≡◌, ℕ, ◌+◌, Bool, true, false, cond, ◌==◌, if◌then◌else◌, Option, None, Some, List, refl, ap, sym, ◌∙◌, arith, option_map}
 use Rattle.std.specs.Ordering.{nat_cmp, eq_by_cmp}
 use Rattle.std.specs.Cmp.{nat_cmp_total}

@@ -1,4 +1,4 @@
--- What a store answers is what the events say, if it is what they say.
+-- The results of a store are what the events say, if the store agrees with them.
 use Rattle.std.proofs.Common.{◌≡◌, ℕ, ◌+◌, ◌-◌, ◌<◌, ◌≤◌, ◌==◌, Bool, true, false, not, cond, ◌&&◌, T, if◌then◌else◌, Option, None, Some, is_some, is_none, List, [], ◌∷◌, length, drop, refl, ap, sym, subst, ◌∙◌, arith, inl, inr, length-drop, ltb-true, ne_eqb}
 use Rattle.std.specs.Prelude.{nat_lt, IsSome}
 use Rattle.std.specs.Option.{option_map}
@@ -76,7 +76,7 @@ module _ {X : Type 0} where
   least-empty : (m : FinMap nat_cmp X) → least m ≡ None → len m ≡ 0
   least-empty m e = len-entries m ∙ ap length (no-first (entries m) e)
 
--- ---- every look-up has an answer
+-- ---- every look-up has a result
 
 answer-part : (w : ℕ) (o : Option Written) → (a : Answer) × (pair_of a ≡ found_part w o)
 answer-part w None = (A.Nothing, refl)

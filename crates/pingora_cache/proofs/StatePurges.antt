@@ -52,11 +52,11 @@ purged-none es n s st = record {
   known = st.known;
 }
 
--- a test that answers the same
+-- a test with the same results
 purged-same : (p r : ℕ → ℕ → Bool) (es : List Event) (n : ℕ → ℕ) (s : Store) → ((k w : ℕ) → r k w ≡ p k w) → IsPurged p es n s → IsPurged r es n s
 purged-same p r es n s h st = subst (λ f. IsPurged f es n s) (λ i k w. sym (h k w) i) st
 
--- all of a key more
+-- all writes of one more key
 gone-all : (f : ℕ → Bool) (b : Bool) (o : Option ℕ) (c : Option Stored) → (o ≡ None → c ≡ None) → cond b None (if option_any f o then None else c) ≡ (if option_any (λ w. f w || b) o then None else c)
 gone-all f true None c none = sym (none refl)
 gone-all f false None c none = refl
@@ -84,7 +84,7 @@ purged-more p es n s j st =
     under true o = refl
     under false o = refl
 
--- One write of a key more.
+-- One more write of a key.
 
 -- a slot without a write
 abbrev lost_of : ℕ → Option Slot → Option Slot

@@ -32,7 +32,7 @@ busy-key x w h =
     let apart : (len x.untouched == 0) ≡ false = false_from_ne_true _ (λ e. both_ways _ (no-keys x.untouched e w) h) in
     ap (λ b. is_none x.body && b) apart ∙ and_right (is_none x.body) false refl
 
--- a slot as it stays: taken out if it holds nothing
+-- a slot as it stays: removed if it holds nothing
 abbrev pub tidied : Slot → Option Slot
 tidied y = cond (is_idle y) None (Some y)
 
@@ -101,7 +101,7 @@ bodies-at xs ys at o set same k =
 
 -- ---- the end of a write
 
--- a write that ended is open no more
+-- a write that ended is no longer open
 ended-open : (es : List Event) (w k q : ℕ) → is_open k q (Dropped w ∷ es) ≡ cond (w == q) false (is_open k q es)
 ended-open es w k q = inner (is_of k q es) (is_some (begin_of q es)) (has_ended q es) (is_removed q es) (w == q)
   where
@@ -168,7 +168,7 @@ state-refused es n s w fly st =
     let d = state-dropped es n s w fly st in
     record { next = d.next; writes = d.writes; untouched = d.untouched; bodies = d.bodies; filled = d.filled; known = d.known }
 
--- the slot of a write that stands is there
+-- the slot of a write that stands exists
 standing-slot : (o : Option Slot) (w : ℕ) → is_untouched_in w o ≡ true → (x : Slot) × (o ≡ Some x)
 standing-slot None w h = absurd (cc)
 standing-slot (Some x) w h = (x, refl)
@@ -212,7 +212,7 @@ module _ (es : List Event) (n : ℕ → ℕ) (s : Store) (k : ℕ) (m : Meta) (t
   first-number : ev.begun es ≤ s.next
   first-number = let e = st.next in omega arith
 
-  -- nobody reads a write that was not begun
+  -- no reader reads a write that was not begun
   unread : n s.next ≡ 0
   unread = elim (cases_lt 0 (n s.next)) [ inl lt ↦ absurd (both_ways _ (ap is_some (tidy.unbegun s.next first-number)) (st.known s.next lt)) | inr le ↦ omega arith ]
 

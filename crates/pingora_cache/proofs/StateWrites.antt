@@ -1,4 +1,4 @@
--- The records of writes: after a reader more or less, and after more bytes.
+-- The records of writes: after one reader more or less, and after more bytes.
 use Rattle.std.proofs.Common.{◌≡◌, ℕ, ◌+◌, ◌-◌, ◌<◌, ◌==◌, Bool, true, false, cond, ◌||◌, if◌then◌else◌, Option, None, Some, is_some, List, refl, ap, sym, subst, ◌∙◌, arith, lt-ltb}
 use Rattle.std.specs.Prelude.{nat_lt}
 use Rattle.std.specs.Option.{option_map}
@@ -17,7 +17,7 @@ use Rattle.pingora_cache.proofs.States.{state-same}
 use Rattle.pcache_history.proofs.Steps.{flies}
 use Rattle.pcache_history.proofs.Sums.{cmp_same, same-number}
 
--- ---- one write set or taken out
+-- ---- one write set or removed
 
 pub get-set : {X : Type 0} (m : FinMap nat_cmp X) (w : ℕ) (v : X) (q : ℕ) → get (insert m w v) q ≡ cond (w == q) (Some v) (get m q)
 get-set m w v q = get-insert nat_cmp_total m w v q ∙ ap (λ b. cond b (Some v) (get m q)) (cmp_same q w)
@@ -110,7 +110,7 @@ module _ (es : List Event) (n : ℕ → ℕ) (s : Store) (st : IsState es n s) (
 
 -- ---- readers
 
--- a reader more
+-- one more reader
 module _ (es : List Event) (n m : ℕ → ℕ) (s : Store) (w : ℕ) (there : is_some (get s.writes w) ≡ true) (count : (q : ℕ) → m q ≡ n q + (if w == q then 1 else 0)) (st : IsState es n s) where
   one_more : m w ≡ n w + 1
   one_more = count w ∙ ap (λ b. n w + (if b then 1 else 0)) (same-number w)
@@ -138,7 +138,7 @@ module _ (es : List Event) (n m : ℕ → ℕ) (s : Store) (w : ℕ) (there : is
     ] refl;
   }
 
--- a reader less
+-- one reader less
 module _ (es : List Event) (n m : ℕ → ℕ) (s : Store) (w place : ℕ) (count : (q : ℕ) → n q ≡ m q + (if w == q then 1 else 0)) (st : IsState es n s) where
   one_fewer : n w ≡ m w + 1
   one_fewer = count w ∙ ap (λ b. m w + (if b then 1 else 0)) (same-number w)

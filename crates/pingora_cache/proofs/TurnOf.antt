@@ -54,7 +54,7 @@ turn-of limits r act q q' x y s s' m m' t t' reply events is now answers moves k
 at-self : (n : ℕ) → is_at (nat_cmp n) n ≡ true
 at-self n = grind (arith, nat_tests)
 
--- what stands under the number of a call, if it moves by its row
+-- what is open under the number of a call, if it changes by its row
 pub row-at : (n : ℕ) (act : Act) (reply : Reply) (events : List Event) (all all' : List (ℕ × Held)) → IsRowed n act reply events all all' → open_at n all' ≡ row act reply events (open_at n all)
 row-at n act reply events all all' is = is n ∙ ap (λ b. cond b (row act reply events (open_at n all)) (open_at n all)) (at-self n)
 
@@ -91,10 +91,10 @@ wrong-turned limits r act q q' s m t reply events replies now wrong none = wrong
 
 -- as one call of one request or put
 pub acts-as : (limits : Limits) (says : Says) (call : Call) (act : Act) (all all' : List (ℕ × Held)) (s s' : Store) (m m' : Tracked) (t t' : Locks) (reply : Reply) (events : List Event) → call.act ≡ act → IsOfOne act
-    → (IsOfWorldIn (open_at call.request all) → HasSome says (open_at call.request all) → Turn limits call.request act (open_at call.request all) s m t reply events (open_at call.request all') s' m' t') → PutTurn says act reply events (open_at call.request all) (open_at call.request all') → IsMoved call.request all all' → Acts limits says call all s m t reply events all' s' m' t'
+    → (IsOfWorldIn (open_at call.request all) → HasSome says s (open_at call.request all) → Turn limits call.request act (open_at call.request all) s m t reply events (open_at call.request all') s' m' t') → PutTurn says act reply events (open_at call.request all) (open_at call.request all') → IsMoved call.request all all' → Acts limits says call all s m t reply events all' s' m' t'
 acts-as limits says call act all all' s s' m m' t t' reply events is one turn puts moved =
     of_one (subst IsOfOne (sym is) one)
-    (subst (λ (a : Act). IsOfWorldIn (open_at call.request all) → HasSome says (open_at call.request all) → Turn limits call.request a (open_at call.request all) s m t reply events (open_at call.request all') s' m' t') (sym is) turn)
+    (subst (λ (a : Act). IsOfWorldIn (open_at call.request all) → HasSome says s (open_at call.request all) → Turn limits call.request a (open_at call.request all) s m t reply events (open_at call.request all') s' m' t') (sym is) turn)
     (subst (λ (a : Act). PutTurn says a reply events (open_at call.request all) (open_at call.request all')) (sym is) puts) moved
 
 end-answers : (f g : Facts) (q : Option Held) (reply : Reply) (events : List Event) → Replies f C.End q reply events → Replies g C.End q reply events
@@ -105,7 +105,7 @@ open-answers : (f g : Facts) (options : Option CacheOptionOverrides) (q : Option
 open-answers f g options None reply events a = a
 open-answers f g options (Some x) reply events a = a
 
--- a request that comes to be holds no lock
+-- a request that was just made holds no lock
 open-held : (f : Facts) (options : Option CacheOptionOverrides) (q : Option Held) (reply : Reply) (events : List Event) → Replies f (C.Open options) q reply events → held_in (row (C.Open options) reply events q) ≡ held_in q
 open-held f options None reply events a = elim (is_done (outcome reply)) as (λ b. held_in (cond b (Some (opened options)) None) ≡ None) [ true ↦ refl | false ↦ refl ]
 open-held f options (Some x) reply events (inl (finds, inl a)) = absurd a.0

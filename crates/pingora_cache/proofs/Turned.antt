@@ -41,7 +41,7 @@ at-number r q = grind (arith, nat_tests)
 pub set-at : (all : FinMap nat_cmp Held) (r : ℕ) (o : Option Held) (q : ℕ) → get (set_to all r o) q ≡ cond (is_at (nat_cmp r) q) o (get all q)
 set-at all r o q = get-set_to all r o q ∙ ap (λ b. cond b o (get all q)) (at-number r q)
 
--- if only what stands under one number moves, the entries are the requests with what that is then
+-- if only what is open under one number changes, the entries are the requests with that change
 pub entries-after : (before after : List (ℕ × Held)) (n : ℕ) → IsMoved n before after → from_entries {R = nat_cmp} after ≡ set_to (from_entries {R = nat_cmp} before) n (lookup (is_at (nat_cmp n)) after)
 entries-after before after n is =
     let now = lookup (is_at (nat_cmp n)) after in
@@ -52,6 +52,12 @@ entries-after before after n is =
 pub of-world : (q : Option Held) → IsOfWorldIn (option_map untold q) → IsOfWorldIn q
 of-world None h = h
 of-world (Some x) h = world-told x.request h
+
+-- what a call names is a request of a world
+pub named-world : (limits : Limits) (start m : Tracked) (s : Store) (t : Locks) (before : List (ℕ × Held)) (h : List Entry) → IsSound limits start m s t (from_entries {R = nat_cmp} before) h → (n : ℕ) → IsOfWorldIn (lookup (is_at (nat_cmp n)) before)
+named-world limits start m s t before h k n =
+    let all = from_entries {R = nat_cmp} before in
+    subst IsOfWorldIn (sym (lookup-get before n)) (of-world (get all n) (subst IsOfWorldIn (sym (k.requests n)) (legal_world t.age_timeout limits start h k.legal n)))
 
 -- what a call of a sound world is, by the requests as a map
 module _ (limits : Limits) (start m m' : Tracked) (s s' : Store) (t t' : Locks) (before after : List (ℕ × Held)) (h : List Entry) (call : Call) (reply : Reply) (events : List Event) (k : IsSound limits start m s t (from_entries {R = nat_cmp} before) h) (small : length before < 2 ^ 64)
@@ -70,10 +76,10 @@ module _ (limits : Limits) (start m m' : Tracked) (s s' : Store) (t t' : Locks) 
 
   pub made : Turn limits call.request call.act (get all n) s m t reply events q' s' m' t'
   made =
-      let world : IsOfWorldIn (lookup (is_at (nat_cmp n)) before) = subst IsOfWorldIn (sym (lookup-get before n)) (of-world (get all n) (subst IsOfWorldIn (sym (k.requests n)) (legal_world t.age_timeout limits start h k.legal n))) in
+      let world : IsOfWorldIn (lookup (is_at (nat_cmp n)) before) = named-world limits start m s t before h k n in
       subst (λ o. Turn limits call.request call.act o s m t reply events q' s' m' t') (lookup-get before n) (turn world)
 
-  -- it leaves the world sound, with an entry more in its history; its reply is told as it is copied
+  -- it leaves the world sound, with one more entry in its history; its reply is recorded as it is copied
   pub step_sound : (told : Reply) → IsMoved call.request before after → IsCopy reply told → IsSound limits start m' s' t' (from_entries {R = nat_cmp} after) (record { call = call; reply = told; events = events } ∷ h)
   step_sound told moved copy =
       subst (λ (x : FinMap nat_cmp Held). IsSound limits start m' s' t' x (record { call = call; reply = told; events = events } ∷ h)) (sym (entries-after before after call.request moved))

@@ -101,7 +101,7 @@ asked-untold : (stale : Bool) (es : List Event) (x : Request) → untold_request
 asked-untold stale [] x = refl
 asked-untold stale (e ∷ es) x = asked-untold stale es (with_given stale e x) ∙ ap (asked stale es) (given-untold stale e x)
 
--- if a test tells which it is
+-- if a test decides which it is
 either-held : (b : Bool) (x y u v : Held) → untold x ≡ u → untold y ≡ v → untold (cond b x y) ≡ cond b u v
 either-held true x y u v e f = e
 either-held false x y u v e f = f
@@ -170,7 +170,7 @@ waited_by-untold : (o : Outcome) (now : ℕ) (x : Request) → untold_request (w
 waited_by-untold (was_waited answer) now x = wait-untold answer now x.held x
 waited_by-untold o now x = refl
 
--- of an open request, and if a reply tells that it changes
+-- of an open request, and if a reply says that it changes
 over : (f : Held → Held) → ((x : Held) → untold (f x) ≡ f (untold x)) → (q : Option Held) → option_map untold (option_map f q) ≡ option_map f (option_map untold q)
 over f alike None = refl
 over f alike (Some x) = ap Some (alike x)
@@ -195,7 +195,7 @@ shut-untold why x = ap {A = Request} {B = Held} (λ r. record { request = record
 turned-untold : (f : Request → Request) (leaves_pair : Bool) (x : Held) → untold_request (f x.request) ≡ f (untold_request x.request) → untold (turned_by f leaves_pair x) ≡ turned_by f leaves_pair (untold x)
 turned-untold f leaves_pair x alike = ap {A = Request} {B = Held} (λ r. record { request = record r { reader = x.request.reader }; pair = cond leaves_pair None x.pair; carried = x.carried; put = option_map untold_put x.put }) alike
 
--- a put that comes to be, and one that is fed
+-- a put that was just made, and one that is fed
 none-counted : (limit : Option ℕ) → option_map uncounted (option_map counted_none limit) ≡ option_map counted_none limit
 none-counted None = refl
 none-counted (Some n) = refl
@@ -421,7 +421,7 @@ told-replies f act q reply events (inr (finds_not, is)) = inr ((λ m. finds_not 
 
 -- ---- facts
 
--- all facts but what a wait answers and whether it finds the permit too old
+-- all facts but what a wait returns and whether it finds the permit too old
 pub record AreFacts (f g : Facts) : Type 0 where
   pub next : g.next ≡ f.next
   pub found : g.found ≡ f.found

@@ -33,7 +33,7 @@ use Rattle.pingora_cache.specs.Untold.{untold_request}
 use Rattle.pingora_cache.proofs.MovesOf.{AreQuiet}
 use Rattle.pingora_cache.proofs.Untold.{waited-untold}
 
--- if a wait is refused
+-- if a wait fails
 
 refused-first : (A X : Type 0) (w : Option Watch) (e : X) → (IsSome w → IsOk {T = A} {E = X} (Err e)) → is_some w ≡ false
 refused-first A X None e f = refl
@@ -58,7 +58,7 @@ aged-noted b (Some (Read rd)) l old events same some none is =
     let name : l ≡ name_of (Read rd) = cc in
     is ∙ (λ i. none i ++ (if b then E.Aged (name i).number ∷ [] else []))
 
--- by what the wait tells
+-- by what the wait reports
 pub aged-by : (old-by : Bool) (held : Option Locked) (b : Bool) (l : LockName) (old events : List Event) → b ≡ old-by → Some l ≡ option_map name_of held → IsSome (read_in held) → old ≡ [] → events ≡ old ++ (if b then E.Aged l.number ∷ [] else []) → events ≡ (if old-by then each E.Aged (number_read held) else [])
 aged-by old-by held b l old events so same some none is = aged-noted b held l old events same some none is ∙ ap (λ c. if c then each E.Aged (number_read held) else []) so
 

@@ -383,7 +383,7 @@ call-steps r act o events q mine last t u k reached =
 
 -- ---- histories
 
--- a table that moved by the events of a call is what the longer history says
+-- a table that changed by the events of a call agrees with the longer history
 pub locked-after : (es events : List Event) (t u : Locks) → IsLocked es t → Steps t events u → IsLocked (reverse events ++ es) u
 locked-after es events t u k moves =
     let m = moves k.reached in

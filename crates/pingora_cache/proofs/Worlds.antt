@@ -1,10 +1,10 @@
--- A world at its start, and after one call more.
+-- A world at its start, and after one more call.
 use Rattle.std.proofs.Common.{◌≡◌, ℕ, ◌<◌, ◌^◌, length, Option, None, Some, List, [], ◌∷◌, ◌++◌, refl, ap, sym, subst, ◌∙◌, inl, reverse, false, is_some, IsSome, option_map}
 use Rattle.std.proofs.lemmas.Bool.{both_ways}
 use Rattle.std.proofs.lemmas.List.{reverse-append}
 use Rattle.std.specs.Ordering.{nat_cmp}
 use Rattle.std.specs.FinMap.{FinMap, empty, from_entries, get-empty}
-use Rattle.pcache_evict.specs.Tracked.{Tracked, Limits}
+use Rattle.pcache_evict.specs.Tracked.{Evicted, Tracked, Limits}
 use Rattle.pcache_evict.specs.declared.eviction.entry_key.CacheEntryKey.{CacheEntryKey}
 use Rattle.pcache_lock.specs.Locks.{Locks, no_locks}
 use Rattle.pcache_store.specs.Store.{Store}
@@ -15,7 +15,12 @@ use Rattle.pcache_history.specs.declared.call.Reply.{Reply}
 use Rattle.pcache_history.specs.declared.entry.Entry.{Entry}
 use Rattle.pcache_history.specs.declared.entry.Event.{Event}
 use Rattle.pcache_put_ctx.specs.Puts.{Says}
-use Rattle.pingora_cache.specs.Handing.{Acts, of_one, of_two, open_at}
+use Rattle.pcache_history.specs.Events.{evicted_by, tracked}
+use Rattle.pcache_history.specs.Facts.{request_in}
+use Rattle.pcache_history.specs.History.{events_of}
+use Rattle.pingora_cache.specs.Evicting.{AddsEvicted}
+use Rattle.pingora_cache.specs.PartFacts.{facts_for, facts_in}
+use Rattle.pingora_cache.specs.Handing.{Acts, of_one, of_two, open_at, taker_at}
 use Rattle.pcache_history.specs.Held.{Held}
 use Rattle.pingora_cache.specs.LockTable.{IsTable, read_locks}
 use Rattle.pcache_history.specs.Log.{started}
@@ -23,6 +28,7 @@ use Rattle.pcache_history.specs.Rules.{IsCopy}
 use Rattle.pingora_cache.specs.PutsSound.{HasSome, PutTurn, PutsSound}
 use Rattle.pingora_cache.specs.Sound.{IsSound, readers}
 use Rattle.pingora_cache.proofs.Counts.{readers-none}
+use Rattle.pingora_cache.proofs.Evicting.{added}
 use Rattle.pingora_cache.proofs.Handing.{give_age, give_sound, hands-by-map}
 use Rattle.pingora_cache.proofs.LockTable.{table-none}
 use Rattle.pingora_cache.proofs.Opened.{open-none}
@@ -30,7 +36,7 @@ use Rattle.pingora_cache.proofs.PutSound.{has-some, puts-after, puts-given}
 use Rattle.pingora_cache.proofs.ReadLocks.{locks-none}
 use Rattle.pingora_cache.proofs.SoundOf.{sound-of}
 use Rattle.pingora_cache.proofs.States.{state-none, state-same}
-use Rattle.pingora_cache.proofs.Turned.{entries-after, lookup-get, made, step_age, step_sound}
+use Rattle.pingora_cache.proofs.Turned.{entries-after, lookup-get, made, named-world, step_age, step_sound}
 use Rattle.pingora_cache.proofs.Waiting.{locked-none}
 
 -- with an empty history, no requests and an empty store a world is sound, whatever the manager holds
@@ -48,7 +54,7 @@ sound-new limits start s t age all h is unlocked none new =
     subst (λ (es : List (ℕ × Held)). IsSound limits start start s t (from_entries {R = nat_cmp} es) (reverse h)) (sym none)
     (subst (λ (xs : List Entry). IsSound limits start start s t empty (reverse xs)) (sym new) (sound-empty limits start s t age is unlocked))
 
--- the same parts, whose start and history are told otherwise
+-- the same parts, whose start and history are in another form
 pub sound-same : (limits : Limits) (start start' m : Tracked) (s : Store) (t : Locks) (all : FinMap nat_cmp Held) (h h' : List Entry) → IsSound limits start m s t all (reverse h) → start' ≡ start → h' ≡ h → IsSound limits start' m s t all (reverse h')
 sound-same limits start start' m s t all h h' k first is = subst (λ (first : Tracked). IsSound limits first m s t all (reverse h')) (sym first) (subst (λ (xs : List Entry). IsSound limits start m s t all (reverse xs)) (sym is) k)
 
@@ -60,11 +66,11 @@ started-once f (Some all) m n some = refl
 pub not-both : {V A : Type 0} (o : Option V) → o ≡ None → IsSome o → A
 not-both o none some = absurd (both_ways (is_some o) (ap is_some none) some)
 
--- one call more, of one request or put, or of two requests, whose reply is told as it is copied
+-- one more call, of one request or put, or of two requests, whose reply is recorded as it is copied
 module _ (limits : Limits) (says : Says) (start m m' : Tracked) (s s' : Store) (t t' : Locks) (before after : List (ℕ × Held)) (h : List Entry) (call : Call) (reply told : Reply) (events : List Event) (k : IsSound limits start m s t (from_entries {R = nat_cmp} before) h) (puts : PutsSound says (from_entries {R = nat_cmp} before) h)
     (small : length before < 2 ^ 64) (copy : IsCopy reply told) where
-  some : HasSome says (open_at call.request before)
-  some = has-some says before h call.request puts
+  some : HasSome says s (open_at call.request before)
+  some = has-some limits start m s t says before h call.request k puts
 
   acts-sound : Acts limits says call before s m t reply events after s' m' t' → IsSound limits start m' s' t' (from_entries {R = nat_cmp} after) (record { call = call; reply = told; events = events } ∷ h)
   acts-sound (of_one one turn put moved) = step_sound limits start m m' s s' t t' before after h call reply events k small one (λ w. turn w some) told moved copy
@@ -85,6 +91,17 @@ module _ (limits : Limits) (says : Says) (start m m' : Tracked) (s s' : Store) (
   acts-puts (of_two to is hands same kept) =
       subst (λ (c : Act). PutsSound says (from_entries {R = nat_cmp} after) (record { call = record { request = call.request; act = c }; reply = told; events = events } ∷ h)) (sym is)
       (puts-given says (from_entries {R = nat_cmp} before) (from_entries {R = nat_cmp} after) h call.request to reply told events puts k.requests (hands-by-map limits start m s t t' before after h call.request to reply events k small hands).requests)
+
+  -- and the totals grow by what it evicted
+  acts-evicted : (v v' : Evicted) → Acts limits says call before s m t reply events after s' m' t' → AddsEvicted call.act (open_at call.request before) m v events v' → v' ≡ evicted_by m v events
+  acts-evicted v v' (of_one one turn put moved) adds =
+      let n = call.request in
+      let world = named-world limits start m s t before h k n in
+      added m v (facts_in s t (request_in (open_at n before))) call.act (open_at n before) reply events v' world (turn world some).answers adds
+  acts-evicted v v' (of_two to is hands same kept) adds =
+      let n = call.request in
+      let q = open_at n before in
+      added m v (facts_for s t (request_in q) (taker_at n to (λ r. open_at r before))) (C.Give to) q reply events v' (named-world limits start m s t before h k n) (hands.answers s) (subst (λ (a : Act). AddsEvicted a q m v events v') is adds)
 
   acts-age : Acts limits says call before s m t reply events after s' m' t' → t'.age_timeout ≡ t.age_timeout
   acts-age (of_one one turn put moved) = step_age limits start m m' s s' t t' before after h call reply events k small one (λ w. turn w some)
@@ -112,6 +129,13 @@ puts-step limits says start m m' s s' t t' before after h h' call reply told eve
     let entry : Entry = record { call = call; reply = told; events = events } in
     let turned : reverse h' ≡ entry ∷ reverse h = ap reverse is ∙ reverse-append h (entry ∷ []) in
     subst (λ (xs : List Entry). PutsSound says (from_entries {R = nat_cmp} after) xs) (sym turned) (acts-puts limits says start m m' s s' t t' before after (reverse h) call reply told events k puts small copy acts)
+
+-- the events say what was evicted in all
+pub evicted-step : (limits : Limits) (says : Says) (start m m' : Tracked) (s s' : Store) (t t' : Locks) (before after : List (ℕ × Held)) (h : List Entry) (call : Call) (reply : Reply) (events : List Event) (v v' : Evicted)
+    → IsSound limits start m s t (from_entries {R = nat_cmp} before) (reverse h) → PutsSound says (from_entries {R = nat_cmp} before) (reverse h) → length before < 2 ^ 64
+    → Acts limits says call before s m t reply events after s' m' t' → AddsEvicted call.act (open_at call.request before) m v events v' → v' ≡ evicted_by (tracked start (events_of (reverse h))) v events
+evicted-step limits says start m m' s s' t t' before after h call reply events v v' k puts small acts adds =
+    acts-evicted limits says start m m' s s' t t' before after (reverse h) call reply reply events k puts small (inl refl) v v' acts adds ∙ ap (λ x. evicted_by x v events) k.tracks
 
 -- after how long permits are too old stays as it is
 pub same-age : (limits : Limits) (says : Says) (start m m' : Tracked) (s s' : Store) (t t' : Locks) (before after : List (ℕ × Held)) (h : List Entry) (call : Call) (reply : Reply) (events : List Event)

@@ -1,4 +1,5 @@
--- What one call does to the lock table and to the lock that its request holds (own): one definition a kind of move.
+-- What one call does to the lock table and to the lock that its request holds (own): one definition for each kind of
+-- move.
 use Rattle.std.specs.Prelude.{◌≡◌, ℕ, Bool, true, Option, None, Some, List, [], ◌∷◌}
 use Rattle.std.specs.Option.{option_map}
 use Rattle.std.specs.FinMap.{get}
@@ -19,9 +20,9 @@ use Rattle.pcache_history.specs.Rules.{number_read, permit_of}
 pub data LockMove : Type 0 where
   -- nothing is done to locks
   rests : LockMove
-  -- the lock of a key is asked for, and the one that was held is let go
+  -- the lock of a key is asked for, and the one held before is let go
   asks : (slot : ℕ) (stale : Bool) (at : ℕ) → LockMove
-  -- what is held is released, or let go
+  -- the held lock is released, or let go
   settles : (status : LockStatus) → LockMove
   lets_go : LockMove
   -- tokens are published if a permit is held
@@ -30,6 +31,7 @@ pub data LockMove : Type 0 where
   polls : (fills : Option (List UnusableFill)) (at : ℕ) → LockMove
   ages : (fills : Option (List UnusableFill)) (at : ℕ) → LockMove
 
+-- the deed of a number, if there is one
 abbrev pub each_deed : (ℕ → Deed) → Option ℕ → List Deed
 each_deed d None = []
 each_deed d (Some n) = d n ∷ []
@@ -50,6 +52,7 @@ table_polled at None t = t
 table_polled at (Some (Write p)) t = t
 table_polled at (Some (Read rd)) t = after_poll t at rd.number (get t.cores rd.number)
 
+-- the lock table after a move, given the lock that the request holds
 abbrev pub table_moved : LockMove → Option Locked → Locks → Locks
 table_moved rests mine t = t
 table_moved (asks k stale at) mine t = let_go_by mine (after_request t k stale at (holder t k))
@@ -59,11 +62,12 @@ table_moved (publishes tokens) mine t = published_by tokens mine t
 table_moved (polls fills at) mine t = t
 table_moved (ages fills at) mine t = let_go_by mine (table_polled at mine t)
 
--- the lock that is held then
+-- the lock that is held after that
 abbrev pub held_polled : Option (List UnusableFill) → ℕ → Locks → Locked → Locked
 held_polled fills at t (Write p) = Write p
 held_polled fills at t (Read rd) = Read (reader_polled at fills rd (get t.cores rd.number))
 
+-- what the request holds after a move
 abbrev pub held_moved : LockMove → Option Locked → Locks → Option Locked
 held_moved rests mine t = mine
 held_moved (asks k stale at) mine t = Some (lock_given t stale (holder t k))
@@ -73,12 +77,14 @@ held_moved (publishes tokens) mine t = mine
 held_moved (polls fills at) mine t = option_map (held_polled fills at t) mine
 held_moved (ages fills at) mine t = None
 
--- when it may be made: a permit is released with a status of a reason; a read lock that is held is polled, with this outcome
+-- when a move may be made: a permit is released with a status that is a reason; a held read lock is polled, with this
+-- outcome
 abbrev pub IsPolled : Option (List UnusableFill) → ℕ → Locks → Option Locked → Type 0
 IsPolled fills at t None = ⊥
 IsPolled fills at t (Some (Write p)) = ⊥
 IsPolled fills at t (Some (Read rd)) = polled at fills rd.watch (get t.cores rd.number) ≡ Pending
 
+-- a move may be made
 abbrev pub MayMove : LockMove → Option Locked → Locks → Type 0
 MayMove (settles s) mine t = IsReason s
 MayMove (polls fills at) mine t = IsPolled fills at t mine

@@ -1,4 +1,4 @@
--- The lock table, and the locks that requests hold, are what the deeds say (own).
+-- The lock table, and the locks that requests hold, agree with the deeds (own).
 use Rattle.std.specs.Prelude.{◌≡◌, ◌≢◌, ℕ, ◌-◌, ◌<◌, ◌≤◌, ◌==◌, nat_lt, ◌||◌, Bool, true, false, if◌then◌else◌, Option, None, Some, is_some, List, [], length, drop, slice_get, unwrap_or}
 use Rattle.std.specs.Option.{option_map, option_or}
 use Rattle.std.specs.Ordering.{nat_cmp}
@@ -21,16 +21,19 @@ locks_read l None = 0
 locks_read l (Some (Write p)) = 0
 locks_read l (Some (Read rd)) = if rd.number == l then 1 else 0
 
+-- the same for an open request
 abbrev pub locks_read_in : ℕ → Held → ℕ
 locks_read_in l x = locks_read l x.request.held
 
+-- how many read locks of a lock are held by all
 abbrev pub read_locks : FinMap nat_cmp Held → ℕ → ℕ
 read_locks all l = total (locks_read_in l) all
 
--- a lock but for what no answer depends on, and for its publications, which stand apart
+-- a lock without the field on which no result depends, and without its publications, which are treated separately
 abbrev pub plain : Core → Core
 plain c = record c { stale_writer = false; publications = [] }
 
+-- a lock as the table keeps it, by what the deeds say of it
 abbrev pub lock_as : ℕ → Bool → LockStatus → ℕ → ℕ × ℕ → Core
 lock_as age held status n a = record { slot = Some a.0; status = status; start = a.1; age_timeout = age; stale_writer = false; held = held; readers = n; publications = [] }
 
@@ -45,7 +48,7 @@ lock_of age l n ds =
 abbrev pub last_of : List (List ℕ) → List ℕ
 last_of ps = unwrap_or (slice_get ps (length ps - 1)) []
 
--- with n read locks on each lock
+-- the table agrees with the deeds, with n read locks on each lock
 pub record IsTable (ds : List Deed) (n : ℕ → ℕ) (t : Locks) : Type 0 where
   -- numbers are given in order
   pub unasked : (l : ℕ) → t.next ≤ l → ask_of l ds ≡ None
@@ -54,15 +57,17 @@ pub record IsTable (ds : List Deed) (n : ℕ → ℕ) (t : Locks) : Type 0 where
   pub known : (l : ℕ) → 0 < n l → is_some (ask_of l ds) ≡ true
   -- a permit that is over does not wait
   pub over : (l : ℕ) → is_some (ask_of l ds) ≡ true → is_held l ds ≡ false → is_waiting (status_of l ds) ≡ false
-  -- the publication that stands is the last one that is kept
+  -- the current publication is the last one that is kept
   pub said : (l : ℕ) (c : Core) → get t.cores l ≡ Some c → last_of c.publications ≡ standing l ds
 
--- a reader of the request r that was not polled is shown nothing; one that was is told, once it looks, of what it is shown
+-- a reader of the request r that was not polled has looked at nothing; one that was polled is told, at its next poll, by
+-- the publications that it has to look at
 pub record IsWatching (r l : ℕ) (ds : List Deed) (w : Watch) (ps : List (List ℕ)) : Type 0 where
   pub seen : w.seen ≤ length ps
   pub some : shown r l ds ≢ []
   pub told : option_or w.told (first_told w.fills (drop w.seen ps)) ≡ first_told w.fills (shown r l ds)
 
+-- the same, of a reader that was not polled or was
 abbrev pub IsWatch : ℕ → ℕ → List Deed → Option Watch → Core → Type 0
 IsWatch r l ds None c = shown r l ds ≡ []
 IsWatch r l ds (Some w) c = IsWatching r l ds w c.publications

@@ -1,4 +1,4 @@
--- What is open under a number, as the code keeps it: a request, or a put.
+-- What is open under a number, as the code keeps it: a request, or a put (own).
 use Rattle.pingora_cache.specs.declared.world.open.Kind.{Kind}
 use Rattle.pingora_cache.specs.declared.world.open.Kind.TheVariants as kind
 use Rattle.pcache_history.specs.Held.{Held}

@@ -1,4 +1,4 @@
--- How the end of a put is noted and answered, as the code makes it (own).
+-- The events of and the reply to the end of a put, as the code makes them (own).
 use Rattle.std.specs.Prelude.{ℕ, true, Option, None, Some, IsSome, List, [], ◌∷◌, length}
 use Rattle.pcache_evict.specs.declared.eviction.entry_key.CacheEntryKey.{CacheEntryKey}
 use Rattle.pcache_put_ctx.specs.declared.report.PutEnd.{PutEnd}
@@ -9,13 +9,13 @@ use Rattle.pcache_history.specs.declared.entry.Event.{Event}
 use Rattle.pcache_history.specs.declared.entry.Event.TheVariants as E
 use Rattle.pingora_cache.specs.Step.{refused_end}
 
--- of a put that made no write
+-- the end of a put that made no write
 abbrev pub IsUnwritten : PutEnd → Type 0
 IsUnwritten (end.NotCached reason) = Unit {0}
 IsUnwritten (end.Refused e) = Unit {0}
 IsUnwritten how = ⊥
 
--- of a put's write; a stored body has an entry
+-- the end of a put's write; a stored body has an entry
 abbrev pub IsWritten : PutEnd → Option CacheEntryKey → Type 0
 IsWritten (end.Stored f) entry = IsSome entry
 IsWritten (end.Dropped e) entry = Unit {0}

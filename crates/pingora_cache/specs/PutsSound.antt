@@ -1,15 +1,16 @@
--- For the prover: where a put stands by its pieces, as the code keeps it (own).
-use Rattle.std.specs.Prelude.{ℕ, Option, None, Some, List}
+-- For the prover: the stage of a put after its pieces, as the code keeps it (own).
+use Rattle.std.specs.Prelude.{◌≡◌, ℕ, true, Option, None, Some, List}
 use Rattle.std.specs.Ordering.{nat_cmp}
 use Rattle.std.specs.FinMap as map
 use Rattle.pcache_put_ctx.specs.Puts.{Piece, Says}
 use Rattle.pcache_put_ctx.specs.State.{Filled, TakenBy}
+use Rattle.pcache_store.specs.Store.{Store, is_told}
 use Rattle.pcache_history.specs.declared.call.Act.{Act}
 use Rattle.pcache_history.specs.declared.call.Reply.{Reply}
 use Rattle.pcache_history.specs.declared.entry.Entry.{Entry}
 use Rattle.pcache_history.specs.declared.entry.Event.{Event}
 use Rattle.pcache_history.specs.Held.{Held, outcome}
-use Rattle.pcache_history.specs.PutHistory.{AreTold, ClosesBy, filled_after, filled_of, pieces_of, pieces_on}
+use Rattle.pcache_history.specs.PutHistory.{AreTold, AreWhole, ClosesBy, EndsBy, IgnoresBy, filled_after, filled_of, pieces_of, pieces_on}
 use Rattle.pcache_history.specs.Taking.{Taking}
 
 abbrev pub HasTakenIn : Says → Option Taking → List Piece → Option Filled → Type 0
@@ -24,12 +25,27 @@ TakenIn says (Some x) pieces f = HasTakenIn says x.put pieces f
 pub record PutTurn (says : Says) (act : Act) (reply : Reply) (events : List Event) (q q' : Option Held) : Type 0 where
   pub taken : (pieces : List Piece) (f : Option Filled) → TakenIn says q pieces f → TakenIn says q' (pieces_on act (outcome reply) pieces) (filled_after act (outcome reply) events f)
   pub closes : (pieces : List Piece) (f : Option Filled) → TakenIn says q pieces f → ClosesBy says act q pieces f reply
+  pub ignores : (pieces : List Piece) (f : Option Filled) → TakenIn says q pieces f → IgnoresBy act q pieces reply events
+  pub ends : (pieces : List Piece) (f : Option Filled) → TakenIn says q pieces f → EndsBy act (outcome reply) (pieces_on act (outcome reply) pieces) events
 
--- a put that has taken in some pieces
-abbrev pub HasSome : Says → Option Held → Type 0
-HasSome says q = (pieces : List Piece) × (f : Option Filled) × TakenIn says q pieces f
+-- the end of this write was announced in the store only if these pieces are whole
+abbrev pub EndsWhole : Store → Option ℕ → List Piece → Type 0
+EndsWhole s None pieces = Unit {0}
+EndsWhole s (Some w) pieces = is_told (map.get s.writes w) ≡ true → AreWhole pieces
 
--- what a world keeps of its puts
+abbrev pub HasEnded : Store → Held → Option Taking → List Piece → Type 0
+HasEnded s x None pieces = Unit {0}
+HasEnded s x (Some p) pieces = EndsWhole s x.request.write pieces
+
+abbrev pub EndedIn : Store → Option Held → List Piece → Type 0
+EndedIn s None pieces = Unit {0}
+EndedIn s (Some x) pieces = HasEnded s x x.put pieces
+
+-- a put that has taken in some pieces, and whose end was announced only with the whole body
+abbrev pub HasSome : Says → Store → Option Held → Type 0
+HasSome says s q = (pieces : List Piece) × (f : Option Filled) × TakenIn says q pieces f × EndedIn s q pieces
+
+-- the invariant of a world's puts
 pub record PutsSound (says : Says) (all : map.FinMap nat_cmp Held) (h : List Entry) : Type 0 where
   pub told : AreTold says h
   pub taken : (r : ℕ) → TakenIn says (map.get all r) (pieces_of r h) (filled_of r h)

@@ -1,4 +1,4 @@
--- For the prover: what a world keeps. Its history is legal, and its parts are what the history says (own).
+-- For the prover: the invariant of a world. Its history is legal, and its parts agree with the history (own).
 use Rattle.std.specs.Prelude.{◌≡◌, ℕ, ◌+◌, ◌<◌, ◌==◌, ◌||◌, nat_lt, true, false, if◌then◌else◌, Option, None, Some, is_some, List}
 use Rattle.std.specs.Option.{option_map}
 use Rattle.std.specs.Ordering.{nat_cmp}
@@ -26,9 +26,11 @@ follows w None = 0
 follows w (Some (Whole id body start stop done)) = 0
 follows w (Some (Part x place)) = if x == w then 1 else 0
 
+-- how many readers of a write a request has, its own and that of its pair
 abbrev pub readers_in : ℕ → Held → ℕ
 readers_in w x = follows w x.request.reader + follows w (pair_reader x.pair)
 
+-- how many readers of a write there are in all
 abbrev pub readers : map.FinMap nat_cmp Held → ℕ → ℕ
 readers all w = total (readers_in w) all
 
@@ -36,6 +38,7 @@ readers all w = total (readers_in w) all
 abbrev pub writers_in : ℕ → Held → ℕ
 writers_in w x = if ev.option_any (λ q. q == w) x.request.write then 1 else 0
 
+-- how many requests hold a write in all
 abbrev pub writers : map.FinMap nat_cmp Held → ℕ → ℕ
 writers all w = total (writers_in w) all
 
@@ -46,7 +49,7 @@ record_of w n es =
     then option_map (λ b. record { slot = b.0; meta = b.1; bytes = ev.body_of w es; told = is_told w es; flying = in_flight w es; readers = n }) (begin_of w es)
     else None
 
--- the store is what the events say, with n readers of each write
+-- the store agrees with the events, with n readers of each write
 pub record IsState (es : List Event) (n : ℕ → ℕ) (s : Store) : Type 0 where
   pub next : s.next ≡ begun es
   pub writes : (w : ℕ) → map.get s.writes w ≡ record_of w (n w) es
@@ -56,11 +59,11 @@ pub record IsState (es : List Event) (n : ℕ → ℕ) (s : Store) : Type 0 wher
   -- only a write that was begun is read
   pub known : (w : ℕ) → 0 < n w → is_some (begin_of w es) ≡ true
 
--- each open request is what the entries that name it leave, but for what its read lock was told
+-- each open request is as the entries that name it leave it, except for what its read lock was told
 abbrev pub AreOpen : List Entry → map.FinMap nat_cmp Held → Type 0
 AreOpen h all = (r : ℕ) → option_map untold (map.get all r) ≡ request_of r h
 
--- each open request holds what the deeds say
+-- the lock that each open request holds agrees with the deeds
 abbrev pub AllHold : List Deed → Locks → map.FinMap nat_cmp Held → Type 0
 AllHold ds t all = (r : ℕ) (x : Held) → map.get all r ≡ Some x → Holds r ds t x.request.held
 
@@ -68,6 +71,7 @@ AllHold ds t all = (r : ℕ) (x : Held) → map.get all r ≡ Some x → Holds r
 abbrev pub AreHeld : List Event → map.FinMap nat_cmp Held → Type 0
 AreHeld es all = (w : ℕ) → writers all w ≡ (if in_flight w es then 1 else 0)
 
+-- the invariant
 pub record IsSound (limits : Limits) (start : Tracked) (now : Tracked) (s : Store) (t : Locks) (all : map.FinMap nat_cmp Held) (h : List Entry) : Type 0 where
   pub legal : IsLegal t.age_timeout limits start h
   pub tidy : IsTidy (events_of h)

@@ -39,7 +39,7 @@ use Rattle.pingora_cache.specs.PartFacts.{facts_in}
 use Rattle.pingora_cache.specs.Untold.{untold}
 use Rattle.pcache_history.specs.Rules.{Replies, drop_of, each, kind_of, look_reply, renew_of, update_reply}
 
--- a pair that a look-up may answer
+-- a pair that a look-up may give
 abbrev pub IsAnswered : Meta → Reader → Type 0
 IsAnswered m reader = (a : Answer) × (pair_of a ≡ Some (m, reader))
 
@@ -53,39 +53,41 @@ abbrev pub permit_released : Option ReleasedLock → Option ℕ
 permit_released None = None
 permit_released (Some r) = permit_in (Some r.lock)
 
--- what is noted and answered of the lock that was asked for, if one was; a permit that it replaced was let go
+-- the events of the lock that was asked for, if one was, with the permit that it replaced; and the reply
 abbrev pub asking : ℕ → Option AskedLock → List Event
 asking k None = []
 asking k (Some a) = E.Ask k a.given.number a.given.is_permit ∷ each E.LetGo (permit_in a.replaced)
 
+-- the kind of the lock that was asked for
 abbrev pub kind_asked : Option AskedLock → Option LockKind
 kind_asked None = None
 kind_asked (Some a) = Some (kind_of a.given.is_permit)
 
--- what is noted of the use of an entry, if one was
+-- the events of an access, if one was recorded
 abbrev pub noting : Option Access → List Event
 noting None = []
 noting (Some a) = E.Access a.entry a.weight ∷ []
 
--- what is noted of the entry that went with a purge, if one did
+-- the events of the entry that was removed with a purge, if one was
 abbrev pub untracking : Option CacheEntryKey → List Event
 untracking None = []
 untracking (Some e) = E.Untrack e ∷ []
 
--- what is noted of a write whose end was refused: its key was removed since it began, or it was dropped
+-- the event of a write whose end failed: its key was removed since it began, or it was dropped
 abbrev pub refused_end : ℕ → ErrorType → Event
 refused_end w WriteRemoved = E.Finish w false
 refused_end w _ = E.Dropped w
 
--- the request is given back: its pair, its write, its reader
+-- the store after all that a request holds is given back: its pair, its write, its reader
 abbrev pub store_ended : Held → Store → Store
 store_ended x s = left_by x.request.reader (dropped_by x.request.write (left_by (pair_reader x.pair) s))
 
--- a request before and after a call is as the row of the call has it, but for what its read lock was told
+-- the request before and after a call agrees with the row of the call, except for what its read lock was told
 abbrev pub IsRow : Act → Reply → List Event → Option Held → Option Held → Type 0
 IsRow act reply events q q' = option_map untold q' ≡ option_map untold (row act reply events q)
 
--- one call of the request r over the parts: what it answers and does is what the parts give, and they move by its events
+-- one call of the request r over the parts: its reply and its events are those that the parts give, and the parts change
+-- by its events
 pub record Turn (limits : Limits) (r : ℕ) (act : Act) (q : Option Held) (s : Store) (m : Tracked) (t : Locks) (reply : Reply) (events : List Event) (q' : Option Held) (s' : Store) (m' : Tracked) (t' : Locks) : Type 0 where
   pub answers : Replies (facts_in s t (request_in q)) act q reply events
   pub moves : Moves limits q s m events q' s' m'
@@ -93,66 +95,72 @@ pub record Turn (limits : Limits) (r : ℕ) (act : Act) (q : Option Held) (s : S
   pub now : IsRow act reply events q q'
   pub locks : MovesLocks r (deeds_in r act (outcome reply) events q) (held_in q) t (held_in q') t'
 
--- only what stands under this number moves
+-- only what is open under this number changes
 abbrev pub IsMoved : ℕ → List (ℕ × Held) → List (ℕ × Held) → Type 0
 IsMoved n all all' = (q : ℕ) → lookup (is_at (nat_cmp q)) all' ≡ cond (is_at (nat_cmp n) q) (lookup (is_at (nat_cmp n)) all') (lookup (is_at (nat_cmp q)) all)
 
--- the same by its row
+-- the same, by its row
 abbrev pub IsRowed : ℕ → Act → Reply → List Event → List (ℕ × Held) → List (ℕ × Held) → Type 0
 IsRowed n act reply events all all' = (q : ℕ) → lookup (is_at (nat_cmp q)) all' ≡ cond (is_at (nat_cmp n) q) (row act reply events (lookup (is_at (nat_cmp n)) all)) (lookup (is_at (nat_cmp q)) all)
 
--- what is noted and answered of the lock that a look-up asked for, if that was not refused
+-- the events and the reply of the lock that a look-up asked for, if that did not fail
 abbrev pub asking_if : ℕ → Result (Option AskedLock) ErrorType → List Event
 asking_if k (Ok a) = asking k a
 asking_if k (Err e) = []
 
+-- the reply of a look-up that found nothing
 abbrev pub asked_answer : Result (Option AskedLock) ErrorType → Reply
 asked_answer (Ok a) = R.NotFound (kind_asked a)
 asked_answer (Err e) = R.Refused e
 
--- what is noted and answered of a look-up of a slot, of what the store has there and of the write of before, by what it told
+-- the events and the reply of a look-up of a slot, given what the store has there, the write that the request had before,
+-- and what the look-up reported
 abbrev pub noted_after_look : ℕ → Option ℕ → LookUp MemHitHandler → List Event
 noted_after_look k w (Found m h) = []
 noted_after_look k w (NotFound asked) = asking_if k asked
 noted_after_look k w (Deferred released) = each E.Release (permit_in released) ++ drop_of w
 
+-- the events of a look-up
 abbrev pub noted_look : ℕ → Answer → Option ℕ → LookUp MemHitHandler → List Event
 noted_look k a w l = E.Look k a ∷ noted_after_look k w l
 
+-- the reply of a look-up
 abbrev pub look_answer : Answer → LookUp MemHitHandler → Reply
 look_answer a (Found m h) = look_reply a None
 look_answer a (NotFound asked) = asked_answer asked
 look_answer a (Deferred released) = R.NotFound None
 
--- what is held then: the pair that is handed on; a request that is turned off carries no decision
+-- what is held after it: the pair that is handed on; a request that is turned off carries no decision
 abbrev pub held_after_look : LookUp MemHitHandler → Held → Held
 held_after_look (Found m h) x = record { request = x.request; pair = Some (m, reader_of h); carried = x.carried; put = x.put }
 held_after_look (NotFound asked) x = record { request = x.request; pair = None; carried = x.carried; put = x.put }
 held_after_look (Deferred released) x = record { request = x.request; pair = None; carried = None; put = x.put }
 
--- what is noted and answered of a stale body that was found good: its new meta, if the store set it
+-- the events and the reply of a stale body that is still valid: its new meta, if the store set it
 abbrev pub renewing : ℕ → Meta → Result Bool ErrorType → List Event
 renewing k m (Ok there) = renew_of there k m
 renewing k m (Err e) = []
 
+-- the reply to a revalidation
 abbrev pub renewal_reply : Result Bool ErrorType → Reply
 renewal_reply (Ok there) = update_reply there
 renewal_reply (Err e) = R.Refused e
 
--- the copies that a call needs of what it brings
+-- the copies that a call needs of its arguments
 abbrev pub spare_of : Act → Option (Meta × Meta)
 spare_of (C.Request (Q.Revalidate m)) = Some (m, m)
 spare_of _ = None
 
--- a request, or a put, stands under a number
+-- a request, or a put, is open under a number
 abbrev pub IsRequestIn : Option Held → Type 0
 IsRequestIn None = ⊥
 IsRequestIn (Some x) = x.put ≡ None
 
+-- a put is open under a number
 abbrev pub IsPutIn : Option Held → Type 0
 IsPutIn None = ⊥
 IsPutIn (Some x) = IsSome x.put
 
--- what stood under a number was taken out, and the rest stays
+-- what was open under a number is removed, and the rest is unchanged
 abbrev pub IsTakenOut : ℕ → List (ℕ × Held) → List (ℕ × Held) → Type 0
 IsTakenOut n all all' = (q : ℕ) → lookup (is_at (nat_cmp q)) all' ≡ cond (is_at (nat_cmp n) q) None (lookup (is_at (nat_cmp q)) all)

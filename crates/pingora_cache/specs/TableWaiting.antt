@@ -16,12 +16,12 @@ pub record IsReached (t : Locks) : Type 0 where
   pub led : LeadsAll calls (no_locks age_timeout) t
   pub unlocks : NoneUnlocks calls
 
--- the table is what the events say
+-- the table agrees with the events
 pub record IsLocked (es : List Event) (t : Locks) : Type 0 where
   pub reached : IsReached t
   pub waiting : waiting_of t ≡ waiting_in es
 
--- a call moved the table as its events say, and gave the locks that it asked for
+-- a call changed the table as its events say, and gave the locks that it asked for
 pub record LocksMoved (t : Locks) (events : List Event) (t' : Locks) : Type 0 where
   pub reached : IsReached t'
   pub given : AreGiven (waiting_of t) events

@@ -1,5 +1,5 @@
--- For the prover: a request but for what its read lock was told, and a put but for what its bytes left in it, which the replies to
--- their calls do not tell (own). A reader that was polled still has the fills that it watches for.
+-- For the prover: a request without what its read lock was told, and a put without the state of its parser and its counter, which
+-- the replies to their calls do not show (own). A reader that was polled still has the fills that it watches for.
 use Rattle.std.specs.Prelude.{None, []}
 use Rattle.std.specs.Option.{option_map}
 use Rattle.pcache_lock.specs.Permits.{Reader, Watch}
@@ -11,26 +11,31 @@ use Rattle.pcache_request.specs.Requests.{Request}
 use Rattle.pcache_history.specs.Held.{Held}
 use Rattle.pcache_history.specs.Taking.{Taking, counted_none}
 
+-- the watch as it was before it saw a publication
 abbrev pub untold_watch : Watch → Watch
 untold_watch w = record { fills = w.fills; seen = 0; told = None }
 
+-- a read lock with such a watch
 abbrev pub untold_reader : Reader → Reader
 untold_reader rd = record { number = rd.number; watch = option_map untold_watch rd.watch }
 
+-- a lock without what its reader was told
 abbrev pub untold_lock : Locked → Locked
 untold_lock (Write p) = Write p
 untold_lock (Read rd) = Read (untold_reader rd)
 
+-- a request without it
 abbrev pub untold_request : Request → Request
 untold_request x = record x { held = option_map untold_lock x.held }
 
+-- a counter that counted nothing yet, with the same limit
 abbrev pub uncounted : Counted → Counted
 uncounted c = counted_none c.limit
 
--- but for what its bytes left in the parser and the counter
+-- a put without the state of its parser and its counter
 abbrev pub untold_put : Taking → Taking
 untold_put p = record { key = p.key; size = option_map uncounted p.size; parser = AtHead []; stage = p.stage }
 
--- but for what its read lock was told, and what a put's bytes left in it
+-- a request or a put without either
 abbrev pub untold : Held → Held
 untold x = record { request = untold_request x.request; pair = x.pair; carried = x.carried; put = option_map untold_put x.put }

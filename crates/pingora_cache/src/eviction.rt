@@ -1,4 +1,4 @@
-//! Eviction managers, and what becomes of them in files.
+//! Eviction managers, and their files.
 
 pub use pcache_evict::eviction::{
     CacheEntryId, CacheEntryKey, CacheEntryKeyRef, EvictionManager, sharded_lru, simple_lru,

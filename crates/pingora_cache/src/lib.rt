@@ -1,7 +1,7 @@
 #![tactic(auto)]
 //! A cache for HTTP proxies, and a world of requests with its history.
 //!
-//! - `world`: requests over one store, with the history of what was asked
+//! - `world`: requests and puts over one store, with the history of their calls
 //! - `eviction`, `lock`, `meta`, `put`, `prelude`: items of several crates under one name
 //!
 //! The crates below are re-exported under the names of their modules.

@@ -1,1 +1,1 @@
-//! Nothing yet: what most callers need stands at the root.
+//! Nothing yet: the items that most callers need are at the root.

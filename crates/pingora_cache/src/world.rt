@@ -1,5 +1,5 @@
 //! Requests and puts over one store, one eviction manager and one lock table, with the history of
-//! what was asked.
+//! their calls.
 
 mod fill;
 mod give;

@@ -1,10 +1,12 @@
 #![tactic(auto)]
-//! Tests as rows of text: a call on the left of an arrow, and on the right what it tells.
+//! Tests as rows of text: a call on the left of an arrow, and on the right its expected result.
 //!
-//! A row of text costs nothing to prove, and the functions after the calls are proved once for all rows. What tells has
-//! no `?`: `Told` takes each result, also a refused one, and if memory was wanting no row is told as it should be.
+//! A row of text costs nothing to prove, and the functions after the calls are proved once for all rows. The functions
+//! that write results have no `?`: `Told` takes each result, also an error, and if memory ran out no row has the
+//! expected text.
 //!
-//! Only crates of tests use this crate. No function of it promises anything: a test sees what was told.
+//! Only crates of tests use this crate. No function of it promises anything: a test compares the text
+//! that was written.
 
 mod rows;
 mod spelled;

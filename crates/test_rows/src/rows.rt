@@ -1,14 +1,14 @@
-//! Rows: a call on the left of an arrow, and on the right what it tells.
+//! Rows: a call on the left of an arrow, and on the right its expected result.
 use crate::told::Told;
 
-/// What makes the calls of rows.
+/// Makes the calls of rows.
 pub trait Desk {
-    /// Makes a call, and tells what it answered.
+    /// Makes a call, and writes its result into `told`.
     fn tell(&mut self, call: &'static str, told: &mut Told);
 }
 
-/// The first row that is not told as it should be, if there is one; what it told is in `told`. A row that begins with `#`
-/// says what those after it are about. One without an arrow should tell `ok`.
+/// The first row whose result is not the expected one, if there is one; its result is in `told`. A row that begins with
+/// `#` says what those after it are about. One without an arrow expects `ok`.
 pub fn first_wrong<D: Desk>(
     desk: &mut D,
     told: &mut Told,
@@ -30,7 +30,7 @@ fn is_told<D: Desk>(desk: &mut D, told: &mut Told, row: &'static str) -> bool {
     told.is(wanted)
 }
 
-/// The call of a row, without what it should tell.
+/// The call of a row, without its expected result.
 pub fn asked_of(row: &'static str) -> &'static str {
     match row.split_once(" -> ") {
         Some((asked, _wanted)) => asked,

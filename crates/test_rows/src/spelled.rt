@@ -1,7 +1,7 @@
 //! Bytes that a text spells.
 
-/// Puts the bytes that a text means in place of what is there, and answers whether they had room. After a `\`, `r` and
-/// `n` end a line, `t` is a tab, a digit is the byte of that number, and `d` and `f` are the bytes 127 and 255.
+/// Replaces the bytes by those that a text means, and returns whether they had room. After a `\`, `r` and `n` end a
+/// line, `t` is a tab, a digit is the byte of that number, and `d` and `f` are the bytes 127 and 255.
 pub fn unescape(text: &'static str, bytes: &mut Vec<u8>) -> bool {
     bytes.clear();
     let mut escaped = false;
@@ -31,7 +31,7 @@ fn meant(byte: u8) -> u8 {
     }
 }
 
-/// Puts the bytes of pairs of hexadecimal digits in place of what is there, and answers whether they had room.
+/// Replaces the bytes by those of pairs of hexadecimal digits, and returns whether they had room.
 pub fn unhex(text: &'static str, bytes: &mut Vec<u8>) -> bool {
     bytes.clear();
     let mut first = None;

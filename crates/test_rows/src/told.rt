@@ -1,10 +1,10 @@
-//! What a call told, as text.
+//! The result of a call, as text.
 use pcache_base::error::{Error, Result};
 use pcache_base::key::HashBinary;
 use std::alloc::Global;
 use std::fmt::{Debug, Display, Write};
 
-/// What a call told.
+/// The result of a call, as text.
 #[derive(Drop)]
 pub struct Told {
     text: String,
@@ -12,7 +12,7 @@ pub struct Told {
 }
 
 impl Told {
-    /// Nothing yet.
+    /// An empty text.
     pub fn new(alloc: Global) -> Told {
         Told {
             text: String::new(alloc),
@@ -20,40 +20,40 @@ impl Told {
         }
     }
 
-    /// Tells a text.
+    /// Adds a text.
     pub fn say(&mut self, text: &str) {
         if self.text.push_str(text).is_err() {
             self.is_whole = false;
         }
     }
 
-    /// Tells `yes` or `no`.
+    /// Adds `yes` or `no`.
     pub fn yes_or_no(&mut self, fact: bool) {
         self.say(if fact { "yes" } else { "no" });
     }
 
-    /// Tells a number.
+    /// Adds a number.
     pub fn number(&mut self, number: u64) {
         if write!(self.text, "{number}").is_err() {
             self.is_whole = false;
         }
     }
 
-    /// Tells what prints itself.
+    /// Adds a value that can be displayed.
     pub fn shown<T: Display>(&mut self, it: &T) {
         if write!(self.text, "{it}").is_err() {
             self.is_whole = false;
         }
     }
 
-    /// Tells the name of a variant.
+    /// Adds the name of a variant.
     pub fn named<T: Debug>(&mut self, it: &T) {
         if write!(self.text, "{it:?}").is_err() {
             self.is_whole = false;
         }
     }
 
-    /// Tells each number after a space.
+    /// Adds each number after a space.
     pub fn numbers(&mut self, numbers: &[u64]) {
         for number in numbers {
             self.say(" ");
@@ -61,7 +61,7 @@ impl Told {
         }
     }
 
-    /// Tells bytes in pairs of hexadecimal digits.
+    /// Adds bytes as pairs of hexadecimal digits.
     pub fn hex(&mut self, bytes: &[u8]) {
         for byte in bytes {
             if write!(self.text, "{byte:02x}").is_err() {
@@ -70,7 +70,7 @@ impl Told {
         }
     }
 
-    /// Tells a hash in hexadecimal digits, or that there is none.
+    /// Adds a hash in hexadecimal digits, or that there is none.
     pub fn hash(&mut self, hash: Option<HashBinary>) {
         match hash {
             Some(hash) => self.hex(hash.as_slice()),
@@ -78,7 +78,7 @@ impl Told {
         }
     }
 
-    /// Tells bytes as letters of the same numbers, and the ends of lines as `unescape` reads them.
+    /// Adds bytes as letters with the same numbers, and the ends of lines as `unescape` reads them.
     pub fn bytes(&mut self, bytes: &[u8]) {
         for byte in bytes {
             match *byte {
@@ -90,19 +90,19 @@ impl Told {
         }
     }
 
-    /// Tells a letter.
+    /// Adds a letter.
     pub fn letter(&mut self, letter: char) {
         if self.text.push(letter).is_err() {
             self.is_whole = false;
         }
     }
 
-    /// Tells the kind of a refusal.
+    /// Adds the kind of an error.
     pub fn refused(&mut self, refused: &Error) {
         self.say(refused.etype().as_str());
     }
 
-    /// Tells that a call was done.
+    /// Adds that a call was done, or its error.
     pub fn done(&mut self, done: Result<()>) {
         match done {
             Ok(()) => self.say("ok"),
@@ -110,7 +110,7 @@ impl Told {
         }
     }
 
-    /// Tells a text that may be refused.
+    /// Adds a text, or the error in its place.
     pub fn text(&mut self, text: Result<String>) {
         match text {
             Ok(text) => self.say(text.as_str()),
@@ -118,22 +118,22 @@ impl Told {
         }
     }
 
-    /// Whether a letter was told.
+    /// Whether the text has a letter.
     pub fn has(&self, letter: char) -> bool {
         self.text.contains(letter)
     }
 
-    /// Whether this was told.
+    /// Whether the text is this.
     pub fn is(&self, wanted: &str) -> bool {
         self.is_whole && self.text.as_str().trim() == wanted
     }
 
-    /// What was told so far.
+    /// The text so far.
     pub fn as_str(&self) -> &str {
         self.text.as_str()
     }
 
-    /// Forgets what was told.
+    /// Empties the text.
     pub fn clear(&mut self) {
         self.text.clear();
     }

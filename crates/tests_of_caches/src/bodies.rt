@@ -1,4 +1,4 @@
-//! A body is stored, found and purged, and the one that was used least recently goes.
+//! A body is stored, found and purged, and the least recently used one is evicted.
 use crate::requests::{List, fill, finds, list_of, purges};
 use pcache_base::error::Result;
 
@@ -15,7 +15,7 @@ fn stored_and_found(cache: &mut List) -> bool {
         && matches!(finds(cache, "b", b"hi"), Ok(false))
 }
 
-// Of three bodies of two bytes, of which four bytes may be stored, the one that was used least recently goes.
+// Of three bodies of two bytes, of which four bytes may be stored, the least recently used one is evicted.
 #[test]
 fn what_is_stored_stays_within_the_limit(rt: HostRuntime) -> Result<()> {
     let mut cache = list_of(rt.alloc(), 4)?;

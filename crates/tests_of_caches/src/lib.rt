@@ -1,6 +1,6 @@
 #![tactic(auto)]
-//! Tests of a cache as one value, which a proxy's request goes through.
-//! Expected values are hand-computed from the definitions.
+//! Tests of a cache as one value, through which the requests of a proxy go. Expected values are
+//! hand-computed from the definitions.
 
 #[cfg(test)]
 mod bodies;

@@ -1,4 +1,5 @@
-//! A cache over a manager that was loaded: what it tracks has no bodies yet, and goes as room is wanted.
+//! A cache over a manager that was loaded: its entries have no bodies yet, and are evicted when room is
+//! needed.
 use crate::requests::{List, OfTest, fill, finds};
 use pcache_base::error::Result;
 use pcache_base::key::CacheKey;
@@ -46,7 +47,7 @@ fn is_empty(cache: &List) -> bool {
         && totals.evicted_items == 0
 }
 
-// The first body is stored, and the entry that was used least recently goes: three and two bytes are within the limit.
+// The first body is stored, and the least recently used entry is evicted: three and two bytes are within the limit.
 fn makes_room(cache: &mut List) -> bool {
     matches!(finds(cache, "a", b"hi"), Ok(false))
         && matches!(fill(cache, "c", b"hi"), Ok(true))

@@ -1,8 +1,8 @@
-//! Caches over each manager, by rows that do not depend on which entries go first: the limits, and then the calls, each a
-//! fill of a key with a body, a search for it, or a purge.
+//! Caches over each manager, by rows that do not depend on which entries are evicted first: the limits, and then the
+//! calls, each a fill of a key with a body, a search for it, or a purge.
 //!
-//! What is told is what each call answered, then what is stored, what is tracked and what went. Bodies of one length go in
-//! the same number whichever they are, and what came in last, if it has room, is there.
+//! The result is that of each call, then what is stored, what is tracked and what was evicted. Of bodies of one length the
+//! same number is evicted, whichever they are, and the body that was added last, if it has room, is stored.
 use crate::requests::{OfTest, fill, finds, purges};
 use pcache_base::error::Result;
 use pcache_base::seed::Seed;

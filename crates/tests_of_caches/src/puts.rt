@@ -1,8 +1,8 @@
 //! Puts of a cache over each manager, by rows: the limit, and then the calls. A put names its key and has the pieces of its
 //! response, with a bar between two; a search or a purge names a key, as in the rows of requests.
 //!
-//! What is told is what came of each call, then what is stored and what is tracked. Every response is fresh for a second
-//! unless it says something else.
+//! The result is that of each call, then what is stored and what is tracked. Every response is fresh for a second unless
+//! it says something else.
 use crate::requests::{OfTest, finds, list_of, purges};
 use http::StatusCode;
 use pcache_base::error::Result;
@@ -107,7 +107,7 @@ fn tell_put<M: EvictionManager + Drop>(
     }
 }
 
-// The pieces of a call: what stands after the colon.
+// The pieces of a call: the text after the colon.
 fn pieces_of(call: &'static str) -> &'static str {
     match call.split_once(": ") {
         Some((_name, pieces)) => pieces,

@@ -51,7 +51,7 @@ pub fn request_for(alloc: Global, name: &str) -> Result<Request>
     Ok(request)
 }
 
-/// Looks a key up and fills it with this body if nothing is there. Returns whether it did.
+/// Looks a key up and fills it with this body if nothing is found. Returns whether it did.
 pub fn fill<M: EvictionManager>(
     cache: &mut Cache<M, OfTest>,
     name: &str,
@@ -118,7 +118,7 @@ fn find_in<M: EvictionManager>(
     Ok(matches!(read, Poll::Ready(Some(bytes)) if bytes.as_slice() == body))
 }
 
-/// Purges a key, and returns whether anything was there.
+/// Purges a key, and returns whether anything was stored.
 pub fn purges<M: EvictionManager>(cache: &mut Cache<M, OfTest>, name: &str) -> Result<bool> {
     let mut request = request_for(cache.alloc(), name)?;
     let was_there = cache.purge(&mut request);

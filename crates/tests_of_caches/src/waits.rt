@@ -1,4 +1,4 @@
-//! Requests of a cache that wait for one another, by rows: each row names a request, its call, and what was answered.
+//! Requests of a cache that wait for one another, by rows: each row names a request, its call, and the result.
 use crate::requests::{List, OfTest, Request, list_of, meta_of};
 use bytes::Bytes;
 use pcache_base::error::Result;
@@ -173,7 +173,7 @@ fn key_with(alloc: Global, token: Option<u64>) -> Result<CacheKey> {
     Ok(key)
 }
 
-// Looks the key up, and tells what is held then.
+// Looks the key up, and writes which lock is held then.
 fn ask(cache: &mut List, request: &mut Request, now: Moment, told: &mut Told) {
     if !request.cache.phase().may_look_up() {
         return told.say("wrong");
@@ -196,7 +196,7 @@ fn tell_held(request: &Request, told: &mut Told) {
     }
 }
 
-// Ends a request; a new one stands in its place.
+// Ends a request, and replaces it by a new one.
 fn end(cache: &mut List, request: &mut Request) -> Option<LockName> {
     let ended = std::mem::replace(request, CacheRequest::new(cache.alloc()));
     cache.end(ended)

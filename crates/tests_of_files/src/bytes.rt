@@ -11,7 +11,7 @@ use std::alloc::Global;
 use std::process::Abort;
 use std::test::*;
 
-// Whether loading these bytes into a manager with `z` answers this and leaves this list.
+// Whether loading these bytes into a manager with `z` returns this and leaves this list.
 fn loads(alloc: Global, bytes: &[u8], answer: &str, wanted: &str) -> Result<bool> {
     let mut manager = with_z(alloc)?;
     let result = deserialize(alloc, &mut manager, bytes);
@@ -27,7 +27,7 @@ fn shard_with_z(alloc: Global) -> Result<sharded_lru::Manager<1>> {
     Ok(manager)
 }
 
-// Whether loading these bytes into a shard with `z` answers this and leaves this list.
+// Whether loading these bytes into a shard with `z` returns this and leaves this list.
 fn shard_loads(alloc: Global, bytes: &[u8], answer: &str, wanted: &str) -> Result<bool> {
     let mut manager = shard_with_z(alloc)?;
     let result = deserialize_shard(alloc, &mut manager, bytes);
@@ -179,7 +179,7 @@ fn other_forms_are_read(rt: HostRuntime) -> std::result::Result<(), Fail> {
 fn other_bytes_are_refused(rt: HostRuntime) -> std::result::Result<(), Fail> {
     let alloc = rt.alloc();
     let rows = [
-        // no room is made for a number of nodes that is only stated
+        // no room is reserved for a number of nodes that is only stated
         other_refused(alloc, &[0xDD, 0xFF, 0xFF, 0xFF, 0xFF], false, &[])?,
         other_refused(alloc, &[0xDD, 0xFF, 0xFF, 0xFF, 0xFF, 0x92], true, &[3])?,
         // no number, another number of items, a byte after it
@@ -245,7 +245,7 @@ fn stating(alloc: Global, stated: u32, nodes: u16) -> Result<Vec<u8>> {
     Ok(bytes)
 }
 
-// Whether loading such a file answers this and leaves this many entries.
+// Whether loading such a file returns this and leaves this many entries.
 fn long_file(alloc: Global, stated: u32, nodes: u16, answer: &str, items: usize) -> Result<bool> {
     let bytes = stating(alloc, stated, nodes)?;
     let mut manager = simple_lru::Manager::new(alloc, Seed::fixed(), 4)?;
@@ -257,7 +257,8 @@ fn long_file(alloc: Global, stated: u32, nodes: u16, answer: &str, items: usize)
     )
 }
 
-// Room is made by the bytes that are there, and never for a number of nodes that no memory could hold.
+// Room is reserved by the bytes that are left, and never for a number of nodes that no memory could
+// hold.
 #[test]
 fn long_files(rt: HostRuntime) -> std::result::Result<(), Fail> {
     let alloc = rt.alloc();

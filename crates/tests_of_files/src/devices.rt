@@ -110,7 +110,7 @@ fn read_succeeds(alloc: Global, good_calls: u64) -> Result<bool> {
     )
 }
 
-// Whether a save answers this after so many good calls, and the writer has taken so many bytes.
+// Whether a save returns this after so many good calls, and the writer has taken so many bytes.
 fn writes(alloc: Global, good_calls: u64, answer: &str, taken: usize) -> Result<bool> {
     let manager = with_aa(alloc)?;
     let mut writer = FailingWriter {

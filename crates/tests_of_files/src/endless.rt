@@ -1,4 +1,4 @@
-//! Files that are none and never end: they are left at the piece that shows it.
+//! Endless input that is no file: reading stops at the piece that shows it.
 ghost use Rattle.std.specs.Prelude.{◌≡◌};
 
 use crate::parts::{AA, answered, holds, with_z};
@@ -37,7 +37,7 @@ impl<'a> CountedRead for Endless<'a> {
     }
 }
 
-// Whether a load of such a file is refused after at most so many reads, and changes nothing.
+// Whether a load of such a file fails after at most so many reads, and changes nothing.
 fn is_left(alloc: Global, front: &[u8], byte: u8, most: u64) -> Result<bool> {
     let mut manager = with_z(alloc)?;
     let mut reader = Endless {

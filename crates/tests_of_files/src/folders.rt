@@ -10,7 +10,7 @@ use std::fs::Files;
 use std::sync::atomic::AtomicU64;
 use std::test::*;
 
-// What a load answers: how many files were skipped, or the kind of its refusal.
+// The result of a load: how many files were skipped, or the kind of its error.
 fn load_tells<R: Files, M: SavedManager>(
     alloc: Global,
     files: &R,
@@ -46,7 +46,7 @@ fn has(rt: &HostRuntime, path: &str, wanted: &[u8]) -> bool {
     }
 }
 
-// Whether a load of a folder into a manager with `z` answers this and leaves this list.
+// Whether a load of a folder into a manager with `z` returns this and leaves this list.
 fn z_loads<R: Files>(
     alloc: Global,
     files: &R,
@@ -58,7 +58,7 @@ fn z_loads<R: Files>(
     Ok(load_tells(alloc, files, &mut manager, dir, answer)? && holds(alloc, &manager, wanted)?)
 }
 
-// Whether a load of a folder is refused for a failed device, and leaves the manager as it was.
+// Whether a load of a folder fails with `Io`, and leaves the manager unchanged.
 fn refuses_to_load<R: Files>(alloc: Global, files: &R, dir: &str) -> Result<bool> {
     z_loads(alloc, files, dir, "Io", " z1")
 }
@@ -84,7 +84,7 @@ fn a_list_in_a_folder(rt: HostRuntime) -> std::result::Result<(), Fail> {
     Ok(())
 }
 
-// What stands under a temporary name is never written to: the next suffix is taken.
+// An existing file with a temporary name is never written to: the next suffix is used.
 #[test]
 fn a_temporary_name_that_is_taken(rt: HostRuntime) -> std::result::Result<(), Fail> {
     let alloc = rt.alloc();
@@ -111,7 +111,7 @@ fn take_suffixes<R: Files>(alloc: Global, files: &R, last: u32) -> Result<bool> 
     Ok(true)
 }
 
-// After 64 suffixes a save is refused, and the older file stays.
+// After 64 suffixes a save fails, and the older file stays.
 #[test]
 fn all_temporary_names_are_taken(rt: HostRuntime) -> std::result::Result<(), Fail> {
     let alloc = rt.alloc();
@@ -129,13 +129,14 @@ fn all_temporary_names_are_taken(rt: HostRuntime) -> std::result::Result<(), Fai
     Ok(())
 }
 
-// Whether a save in a folder is refused for a failed device.
+// Whether a save in a folder fails with `Io`.
 fn z_is_not_saved<R: Files>(alloc: Global, files: &R, dir: &str, suffix: u32) -> Result<bool> {
     let manager = with_z(alloc)?;
     Ok(refuses_to_save(alloc, files, &manager, dir, suffix))
 }
 
-// Whether no call succeeds on a folder without the file, or where a file stands in place of the folder.
+// Whether no call succeeds on a folder without the file, or where there is a file in place of the
+// folder.
 fn are_blocked<R: Files>(alloc: Global, files: &R) -> Result<bool> {
     Ok(
         refuses_to_load(alloc, files, "blocked/empty")?
@@ -158,13 +159,13 @@ fn folders_that_cannot_be_opened(rt: HostRuntime) -> std::result::Result<(), Fai
     Ok(())
 }
 
-// Whether a save is refused if the call on files after so many good ones fails.
+// Whether a save fails if the call on files after so many good ones fails.
 fn save_fails<R: Files>(alloc: Global, files: &R, dir: &str, good_calls: u64) -> Result<bool> {
     let left = AtomicU64::new(good_calls);
     z_is_not_saved(alloc, &Failing::new(files, &left), dir, 1)
 }
 
-// The same of a load, which leaves the manager as it was.
+// The same of a load, which leaves the manager unchanged.
 fn load_fails<R: Files>(alloc: Global, files: &R, dir: &str, good_calls: u64) -> Result<bool> {
     let left = AtomicU64::new(good_calls);
     refuses_to_load(alloc, &Failing::new(files, &left), dir)
@@ -206,7 +207,7 @@ fn two_shards(alloc: Global) -> Result<sharded_lru::Manager<2>> {
     Ok(manager)
 }
 
-// Whether new shards that load a folder answer this and hold these.
+// Whether new shards that load a folder return this and have these entries.
 fn shards_load<R: Files>(
     alloc: Global,
     files: &R,
@@ -233,7 +234,7 @@ fn shards_in_a_folder(rt: HostRuntime) -> std::result::Result<(), Fail> {
     Ok(())
 }
 
-// A file that is not there is skipped, and so is each file of a folder that is not there.
+// A missing file is skipped, and so is each file of a missing folder.
 #[test]
 fn shards_that_are_not_there(rt: HostRuntime) -> std::result::Result<(), Fail> {
     let alloc = rt.alloc();
@@ -248,7 +249,7 @@ fn shards_that_are_not_there(rt: HostRuntime) -> std::result::Result<(), Fail> {
     Ok(())
 }
 
-// Whether a save of two shards is refused for a failed device.
+// Whether a save of two shards fails with `Io`.
 fn shards_are_not_saved<R: Files>(
     alloc: Global,
     files: &R,
@@ -265,7 +266,8 @@ fn shards_fail<R: Files>(alloc: Global, files: &R, dir: &str, good_calls: u64) -
     shards_are_not_saved(alloc, &Failing::new(files, &left), dir, 1)
 }
 
-// Whether new shards that load a folder answer this and hold these, if the call on files after so many good ones fails.
+// Whether new shards that load a folder return this and have these entries, if the call on files after so many good
+// ones fails.
 fn shards_skip<R: Files>(
     alloc: Global,
     files: &R,
@@ -296,8 +298,8 @@ fn is_absent<R: Files>(files: &R, path: &str) -> bool {
     }
 }
 
-// A save opens, writes, flushes and renames for each shard. A shard that was refused keeps its older file, those before
-// it are saved.
+// A save opens, writes, flushes and renames for each shard. A shard whose save failed keeps its older file; those
+// before it are saved.
 #[test]
 fn each_call_on_files_of_shards_fails_in_turn(rt: HostRuntime) -> std::result::Result<(), Fail> {
     let alloc = rt.alloc();

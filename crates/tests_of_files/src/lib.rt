@@ -1,7 +1,7 @@
 #![tactic(auto)]
-//! Tests of the files of eviction managers: their bytes, devices that fail, and folders.
-//! They stand apart from the library, which is so proved once.
-//! Expected bytes are hand-computed from the form in docs/FORMATS.md.
+//! Tests of the files of eviction managers: their bytes, devices that fail, and folders. They are a
+//! crate of their own, so that the library is proved once. Expected bytes are hand-computed from
+//! the form in docs/FORMATS.md.
 
 #[cfg(test)]
 mod bytes;

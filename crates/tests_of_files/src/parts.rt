@@ -88,7 +88,7 @@ pub fn with_aa(alloc: Global) -> Result<simple_lru::Manager> {
     Ok(manager)
 }
 
-/// What a call answered: `ok`, or the kind of its refusal.
+/// The result of a call: `ok`, or the kind of its error.
 pub fn answered(call: &Result<()>) -> &'static str {
     match call {
         Ok(()) => "ok",
@@ -96,7 +96,7 @@ pub fn answered(call: &Result<()>) -> &'static str {
     }
 }
 
-/// Whether a call was refused for a device that failed.
+/// Whether a call failed with `Io`.
 pub fn is_io(call: &Result<()>) -> bool {
     match call {
         Ok(()) => false,

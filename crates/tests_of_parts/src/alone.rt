@@ -1,7 +1,12 @@
 //! What one thread sees of a cache in parts.
 use crate::requests::{Lists, fill, finds, lists_of, place_of, purges};
 use pcache_base::error::Result;
+use pcache_base::seed::Seed;
+use pcache_evict::eviction::EvictionManager;
+use pcache_evict::eviction::simple_lru::Manager;
+use pcache_shared_cache::{Portion, SharedCache};
 use std::sync::Wait;
+use std::time::Duration;
 
 #[test]
 fn a_body_is_stored_found_and_purged(rt: HostRuntime) -> Result<()> {
@@ -22,7 +27,8 @@ fn stored_and_found<R: Wait>(rt: &R, cache: &Lists) -> bool {
         && cache.stored_bytes(rt) == 0
 }
 
-// The numbers were told by another program: the first eight bytes of BLAKE2b with 16 bytes out, modulo four.
+// The numbers were computed by another program: the first eight bytes of BLAKE2b with 16 bytes out, modulo
+// four.
 #[test]
 fn a_key_has_its_part_from_its_hash(rt: HostRuntime) -> Result<()> {
     let cache = lists_of(rt.alloc(), 16)?;
@@ -57,4 +63,49 @@ fn keeps_portions<R: Wait>(rt: &R, cache: &Lists) -> bool {
         && matches!(fill(rt, cache, "two", b"ab"), Ok(true))
         && matches!(finds(rt, cache, "c", b"abc"), Ok(false))
         && cache.stored_bytes(rt) == 4
+}
+
+// What each part's manager tracks is handed out by place, and a cache is made of it anew, with nothing stored.
+#[test]
+fn managers_are_handed_out_by_place(rt: HostRuntime) -> Result<()> {
+    let cache = lists_of(rt.alloc(), 9)?;
+    let is_filled = stores_two(&rt, &cache);
+    let portions = cache.into_portions()?;
+    let track = track_both(portions.as_slice());
+    let again: Lists = SharedCache::new(
+        rt.alloc(),
+        Seed::fixed(),
+        portions,
+        Duration::from_secs(10),
+    )?;
+    let is_anew = starts_anew(&rt, &again);
+    assert!(rt; is_filled && track && is_anew);
+    Ok(())
+}
+
+fn stores_two<R: Wait>(rt: &R, cache: &Lists) -> bool {
+    matches!(fill(rt, cache, "a", b"hi"), Ok(true))
+        && matches!(fill(rt, cache, "c", b"abc"), Ok(true))
+}
+
+// Of nine bytes the first part has three and the others two each.
+fn track_both(portions: &[Portion<Manager>]) -> bool {
+    tracks(portions, 0, 3, 3)
+        && tracks(portions, 1, 2, 0)
+        && tracks(portions, 2, 2, 0)
+        && tracks(portions, 3, 2, 2)
+}
+
+fn tracks(portions: &[Portion<Manager>], place: usize, limit: usize, weight: usize) -> bool {
+    match portions.get(place) {
+        Some(portion) => portion.limit() == limit && portion.manager().total_size() == weight,
+        None => false,
+    }
+}
+
+fn starts_anew<R: Wait>(rt: &R, cache: &Lists) -> bool {
+    cache.stored_bytes(rt) == 0
+        && matches!(finds(rt, cache, "a", b"hi"), Ok(false))
+        && matches!(fill(rt, cache, "a", b"ho"), Ok(true))
+        && matches!(finds(rt, cache, "a", b"ho"), Ok(true))
 }

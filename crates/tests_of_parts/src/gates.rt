@@ -14,38 +14,52 @@ use std::thread;
 use std::thread::Threads;
 use std::time::Duration;
 
-// How often anyone looks before it gives up.
+// How often a worker looks before it gives up.
 const TURNS: u64 = 1_000_000;
 
 /// Holds the first who comes, until it was opened so often or for so many turns.
 #[derive(Drop)]
 pub struct Gate {
+    wanted: u64,
     is_held: AtomicU64,
     opened: AtomicU64,
     is_late: AtomicU64,
 }
 
 impl Gate {
-    fn new() -> Gate {
+    /// A gate that lets the first who comes through once it was opened so often.
+    pub fn new(wanted: u64) -> Gate {
         Gate {
+            wanted,
             is_held: AtomicU64::new(0),
             opened: AtomicU64::new(0),
             is_late: AtomicU64::new(0),
         }
     }
 
-    // Holds the first who comes until two have opened it. Nobody else is held.
-    fn pass(&self) {
+    /// Holds the first who comes. Nobody else is held.
+    pub fn pass(&self) {
         if self.is_held.swap(1, Ordering::SeqCst) == 1 {
             return;
         }
-        if !reaches(&self.opened, 2) {
+        if !reaches(&self.opened, self.wanted) {
             self.is_late.store(1, Ordering::SeqCst);
         }
     }
 
-    fn open(&self) {
+    /// Opens it once.
+    pub fn open(&self) {
         self.opened.fetch_add(1, Ordering::SeqCst);
+    }
+
+    /// Waits until somebody is held. Answers whether somebody was, within so many turns.
+    pub fn is_reached(&self) -> bool {
+        reaches(&self.is_held, 1)
+    }
+
+    /// Whether whoever was held gave up.
+    pub fn is_late(&self) -> bool {
+        self.is_late.load(Ordering::SeqCst) == 1
     }
 }
 
@@ -155,7 +169,7 @@ fn work<R: Wait>(rt: &R, cache: &Parts<Gated<Manager>>, gate: &Gate, worker: usi
 }
 
 fn beside<R: Wait>(rt: &R, cache: &Parts<Gated<Manager>>, gate: &Gate, name: &str) -> bool {
-    let is_beside = reaches(&gate.is_held, 1)
+    let is_beside = gate.is_reached()
         && matches!(fill(rt, cache, name, b"two"), Ok(true))
         && matches!(finds(rt, cache, name, b"two"), Ok(true));
     gate.open();
@@ -163,7 +177,7 @@ fn beside<R: Wait>(rt: &R, cache: &Parts<Gated<Manager>>, gate: &Gate, name: &st
 }
 
 fn all_work<R: Threads + Wait + Sync>(rt: &R, alloc: Global) -> Result<bool> {
-    let gate = Arc::new(alloc, Gate::new())?;
+    let gate = Arc::new(alloc, Gate::new(2))?;
     let cache = parts_of(alloc, &gate)?;
     let mut done = [false; 3];
     thread::for_each_mut(
@@ -174,11 +188,7 @@ fn all_work<R: Threads + Wait + Sync>(rt: &R, alloc: Global) -> Result<bool> {
             *done = work(rt, &cache, &gate, worker);
         },
     );
-    Ok(
-        done == [true; 3]
-            && gate.is_late.load(Ordering::SeqCst) == 0
-            && matches!(finds(rt, &cache, "a", b"one"), Ok(true)),
-    )
+    Ok(done == [true; 3] && !gate.is_late() && matches!(finds(rt, &cache, "a", b"one"), Ok(true)))
 }
 
 #[test]

@@ -7,4 +7,6 @@ mod gates;
 #[cfg(test)]
 mod many;
 #[cfg(test)]
+mod puts;
+#[cfg(test)]
 mod requests;

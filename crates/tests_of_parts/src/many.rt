@@ -24,7 +24,7 @@ const LOOKS: u32 = 1_000;
 
 const TURNS: u32 = 1_000;
 
-// A request until it is served with the whole body. Answers whether it was.
+// A request until it is served with the whole body. Returns whether it was.
 fn serve<R: Wait>(rt: &R, cache: &Lists, fetches: &AtomicU64) -> Result<bool> {
     for _ in 0..LOOKS {
         let mut request = request_for(cache, "a")?;

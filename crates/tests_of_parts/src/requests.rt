@@ -19,6 +19,7 @@ use std::alloc::Global;
 use std::sync::Wait;
 use std::time::Duration;
 
+/// The moment of all calls.
 pub const NOW: Moment = Moment::EPOCH;
 
 /// Names the cache of a test.
@@ -59,12 +60,13 @@ pub fn place_of<M: EvictionManager, R: Wait>(
     Ok(place)
 }
 
+/// The meta of a response that is fresh for a minute.
 pub fn meta_of(alloc: Global) -> CacheMeta {
     let header = ResponseHeader::build(alloc, StatusCode::OK);
     CacheMeta::new(Moment::from_secs(60), NOW, 0, 0, header)
 }
 
-/// Looks a key up and fills it with this body if nothing is there. Returns whether it did.
+/// Looks a key up and fills it with this body if nothing is found. Returns whether it did.
 pub fn fill<M: EvictionManager, R: Wait>(
     rt: &R,
     cache: &Parts<M>,
@@ -128,7 +130,7 @@ fn find_in<M: EvictionManager, R: Wait>(
     Ok(matches!(read, Poll::Ready(Some(bytes)) if bytes.as_slice() == body))
 }
 
-/// Purges a key, and returns whether anything was there.
+/// Purges a key, and returns whether anything was stored.
 pub fn purges<M: EvictionManager, R: Wait>(rt: &R, cache: &Parts<M>, name: &str) -> Result<bool> {
     let mut request = request_for(cache, name)?;
     let was_there = cache.purge(rt, &mut request);

@@ -14,8 +14,8 @@ use std::io::ErrorKind;
 use std::process::Abort;
 use std::test::Fail;
 
-// Runs the calls of a row, in which a reply stands after each call that has one, and compares the
-// replies, the status and what is said of errors.
+// Runs the calls of a row, in which a reply follows each call that has one, and compares the
+// replies, the status and the error output.
 fn check<R: Abort + Files>(
     rt: &R,
     alloc: Global,

@@ -1,8 +1,7 @@
 #![tactic(auto)]
-//! Tests of managers that follow other policies, and of simulations.
-//! They stand apart from the libraries, which are so proved once.
-//! Which requests are hits, and what went, is what the caches of `bench/simulators.py` answered, which were written
-//! from the papers; the other expected values are hand-computed.
+//! Tests of managers that follow other policies, and of simulations. They are a crate of their own, so that
+//! the libraries are proved once. Which requests are hits, and what was evicted, was computed by the caches of
+//! `bench/simulators.py`, which were written from the papers; the other expected values are hand-computed.
 
 #[cfg(test)]
 mod managers;

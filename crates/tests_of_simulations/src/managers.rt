@@ -18,7 +18,7 @@ fn entry(alloc: Global, name: u8) -> CacheEntryKey {
     })
 }
 
-// Whether exactly this entry went, or none.
+// Whether exactly this entry was evicted, or none.
 fn is_gone(gone: Result<Vec<CacheEntryKey>>, entry: Option<&CacheEntryKey>) -> bool {
     match gone {
         Ok(gone) => gone.first() == entry && gone.len() < 2,
@@ -36,7 +36,7 @@ fn takes_both<E: EvictionManager>(manager: &mut E, a: &CacheEntryKey, b: &CacheE
         && manager.peek(b)
 }
 
-// Whether the older one goes when the other's weight is raised from 1 to 4.
+// Whether the older one is evicted when the other's weight is raised from 1 to 4.
 fn is_raised<E: EvictionManager>(manager: &mut E, a: &CacheEntryKey, b: &CacheEntryKey) -> bool {
     is_gone(manager.increment_weight(b, 3, None), Some(a))
         && manager.total_size() == 4

@@ -1,7 +1,8 @@
 //! Runs of each policy by rows: the policy, the limit, what becomes of larger bodies and for how many seconds a body is
 //! fresh, and then requests, each with a key, a size and a second.
 //!
-//! What is told is `+` for a hit and `-` for a miss, then the counts, what went and what is tracked.
+//! The result is `+` for a hit and `-` for a miss, then the counts, what was evicted and what is
+//! tracked.
 use crate::rows::{Desk, Told, number, other_seed, play, size, some_number, word};
 use cache_simulation::run::{Request, Run};
 use pcache_base::error::Result;

@@ -92,7 +92,7 @@ fn hash_alike(it: &Entries) -> bool {
         && hash_of(&it.only) != hash_of(&it.seventh)
 }
 
-// The entries of a key stand by their numbers, and one without a number comes first.
+// The entries of a key are ordered by their numbers, and one without a number comes first.
 fn stand_in_order(alloc: Global, it: &Entries) -> bool {
     match entry(alloc, "aa", Some(CacheEntryId::new(8))) {
         Ok(eighth) => it.seventh < eighth && stand_before(it),

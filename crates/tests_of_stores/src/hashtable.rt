@@ -24,7 +24,7 @@ fn has_both(shards: &Shards<u64, 16>) -> bool {
     shards.value(3) == Some(&31) && shards.value(4).is_none()
 }
 
-// Keys 3 and 19 stand in shard 3.
+// Keys 3 and 19 are in shard 3.
 fn has_both_in_shard_3(shards: &Shards<u64, 16>) -> bool {
     shards.get(19).place() == 3
         && shards.get(3).get(19) == Some(&190)
@@ -282,7 +282,7 @@ impl Pair {
         }
     }
 
-    // Each of these makes a call on both, and tells whether they answered alike.
+    // Each of these makes a call on both, and writes whether they returned the same.
 
     fn insert(&mut self, number: u128, value: u64) -> bool {
         match self.hashed.insert(number, value) {

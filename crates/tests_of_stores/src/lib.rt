@@ -1,12 +1,14 @@
 #![tactic(auto)]
-//! Tests of what holds entries: tables, managers, locks, the store in memory, and a request over them.
-//! They stand apart from the libraries, so that each library is proved once, and a test of its own does not prove it again.
-//! Expected values are hand-computed from the definitions; a file that has them from elsewhere says so.
+//! Tests of the containers of entries: tables, managers, locks, the store in memory, and a request over them. They are a
+//! crate of their own, so that each library is proved once, and not again with its tests. Expected values are hand-computed
+//! from the definitions; a file that has them from elsewhere says so.
 
 #[cfg(test)]
 mod entry_key;
 #[cfg(test)]
 mod hashtable;
+#[cfg(test)]
+mod lifetimes;
 #[cfg(test)]
 mod lock;
 #[cfg(test)]

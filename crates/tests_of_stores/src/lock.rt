@@ -272,7 +272,8 @@ fn tells_readers(
     );
     holds(rt, first.publish(alloc, lock, &[9, 7]).is_ok());
     holds(rt, lock.publish(alloc, &first, &[]).is_ok());
-    // It was told by the publication that stood in between, and by the first fill of its list.
+    // It was told by the publication that was current in between, and by the first fill of its
+    // list.
     holds(
         rt,
         poll(rt, lock, alloc, &mut early, None, at(1))

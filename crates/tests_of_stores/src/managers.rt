@@ -1,6 +1,6 @@
 //! Managers by rows: the limits, and then the calls, each of an entry by its letter.
 //!
-//! What is told are the entries that went, whether an entry that was used or looked for was there, then the list,
+//! The result is the evicted entries, whether an entry that was used or looked for was tracked, then the list,
 //! then the totals.
 use crate::rows::{Desk, Told, other_seed, play, size, some_size, word};
 use pcache_base::error::Result;
@@ -12,6 +12,7 @@ use pcache_evict::eviction::{CacheEntryKey, EvictionManager, sharded_lru, simple
 use std::alloc::Global;
 use std::process::Abort;
 
+/// The end of freshness that managers do not read.
 pub const NEVER_READ: Moment = Moment::EPOCH;
 
 /// The key whose primary hash repeats this byte.
@@ -35,7 +36,7 @@ pub fn entry_of(alloc: Global, call: &'static str) -> Result<CacheEntryKey> {
     entry(alloc, name, tag)
 }
 
-/// Makes a call through the trait, and tells what went.
+/// Makes a call through the trait, and writes what was evicted.
 pub fn take<E: EvictionManager>(
     alloc: Global,
     manager: &mut E,
@@ -223,7 +224,7 @@ pub fn run(rt: &impl Abort, alloc: Global, in_shards: bool, rows: &'static str) 
     }
 }
 
-/// Rows that both managers answer alike.
+/// Rows for which both managers return the same.
 pub const EVICTED: &str = "
     limit 4: admit a 1, admit b 2, admit c 1, admit d 2 -> ab | d2 c1 | 2 of 3, 2 of 3 went
     # what was used stays
@@ -243,7 +244,7 @@ pub const EVICTED: &str = "
     # a purge of what is only being written
     limit 9: remove k -> | | 0 of 0, 0 of 0 went";
 
-/// Rows of weights and numbers that both managers answer alike.
+/// Rows of weights and numbers for which both managers return the same.
 pub const COUNTED: &str = "
     limit 1000 watermark 4: admit a 1, admit b 1, admit c 1, admit d 1, admit e 1, admit f 1, peek c, peek b -> ab+- | f1 e1 d1 c1 | 4 of 4, 2 of 2 went
     limit 4: raise a 2, raise b 100 3, raise b 100 2 -> a | b3 | 1 of 3, 1 of 2 went

@@ -32,7 +32,8 @@ fn slots(alloc: Global) -> Result<usize> {
     Ok(store.slots())
 }
 
-// Begins so many writes, each inside the one before, and tells how many the store knows then.
+// Begins so many writes, each inside the one before, and writes how many records the store has
+// then.
 fn records_inside(alloc: Global, store: &mut MemCache, depth: u32) -> Result<usize> {
     if depth == 0 {
         return Ok(store.write_records());

@@ -20,11 +20,13 @@ use std::process::Abort;
 mod handlers;
 mod pieces;
 
+/// The key with these primary bytes.
 pub fn key_of(alloc: Global, name: &str) -> Result<CacheKey> {
     let primary = name.as_bytes().to_vec(alloc)?;
     Ok(CacheKey::new(primary, String::from_str(alloc, "1")?))
 }
 
+/// The meta of a response that is fresh until this second.
 pub fn meta_until(alloc: Global, fresh_until: u64) -> CacheMeta {
     let header = ResponseHeader::build(alloc, StatusCode::OK);
     let until = Moment::from_secs(fresh_until);
@@ -460,7 +462,7 @@ fn totals(store: &MemCache, told: &mut Told) {
     told.say(" writes");
 }
 
-// Plays the rows over two stores of their own, under two seeds, which answer alike.
+// Plays the rows over two stores of their own, under two seeds, which return the same.
 fn run(rt: &impl Abort, alloc: Global, rows: &'static str) {
     run_under(rt, alloc, Seed::fixed(), rows);
     run_under(rt, alloc, other_seed(), rows);

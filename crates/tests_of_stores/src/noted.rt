@@ -1,5 +1,5 @@
-//! What requests and puts hand on to their parts, which no contract sees: a manager, a storage, a lock table and a policy
-//! of a put note what they were handed, or what was called.
+//! The arguments that requests and puts pass to their parts, which no contract sees: a manager, a storage, a lock table
+//! and a policy of a put record what they got, or what was called.
 use crate::memory::{key_of, meta_until};
 use crate::whole_store::WholeStore;
 use bytes::Bytes;
@@ -20,7 +20,7 @@ mod readers;
 mod uses;
 mod waits;
 
-// A manager that notes until when the entries that it was handed last are fresh.
+// A manager that records until when the entries that it got last are fresh.
 #[derive(Drop)]
 struct Noting<M: EvictionManager> {
     list: M,
@@ -88,7 +88,7 @@ impl<M: EvictionManager> EvictionManager for Noting<M> {
     }
 }
 
-// What requests and puts are lent.
+// The parts that requests and puts borrow.
 #[derive(Drop)]
 struct Parts<M: EvictionManager> {
     alloc: Global,
@@ -215,7 +215,7 @@ fn stores<M: EvictionManager>(parts: &mut Parts<M>, name: &str, second: u64) -> 
     stored
 }
 
-// Finds what stands under a key, as this, and ends the request.
+// Finds what is stored for a key, takes it with this status, and ends the request.
 fn finds<M: EvictionManager>(parts: &mut Parts<M>, name: &str, status: HitStatus) -> Result<()> {
     let mut request = request_of(parts.alloc, name)?;
     let found = takes(parts, &mut request, status);

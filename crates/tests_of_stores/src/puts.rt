@@ -1,4 +1,8 @@
 //! Puts: responses that are pushed into a store in memory, in pieces.
+ghost use Rattle.pcache_put_ctx.specs.Policies.{SaysByDefault};
+ghost use Rattle.tests_of_stores.specs.Lifetimes.{IsSeconds};
+
+use crate::lifetimes::{by_seconds, one_second};
 use crate::rows::{Desk, Told, number, play, size, unescape};
 use bytes::Bytes;
 use http::StatusCode;
@@ -13,30 +17,20 @@ use pcache_evict::eviction::EvictionManager;
 use pcache_evict::eviction::simple_lru::Manager;
 use pcache_meta::header::ResponseHeader;
 use pcache_put_ctx::context::CachePutCtx;
-use pcache_put_ctx::policy::{ByDefaults, CachePut, default_cacheable};
+use pcache_put_ctx::policy::{ByDefaults, CachePut};
 use pcache_put_ctx::report::{PieceEnd, PieceReport, PutEnd, PutOutcome, PutReport, Written};
 use pcache_store::memory::{MemCache, MemHitHandler, MemMissHandler};
 use pcache_store::storage::{HandleHit, HandleMiss, PurgeTarget, PurgeType, Storage};
 use std::alloc::Global;
 use std::fmt::Write;
 use std::process::Abort;
-use std::time::Duration;
 
-// Every status is fresh for a second.
-fn one_second(_status: StatusCode) -> Option<Duration> {
-    Some(Duration::from_secs(1))
-}
-
-fn defaults() -> CacheMetaDefaults {
-    CacheMetaDefaults::new(one_second, 0, 0)
-}
-
-// A policy that goes by these defaults, and promises nothing.
+// A policy that goes by defaults under which every status is fresh for a second.
 #[derive(Drop)]
 struct OneSecond;
 
 impl CachePut for OneSecond {
-    ghost says = { λ p header now answer. Unit {0} };
+    ghost says = { λ p. SaysByDefault (0, 0) (IsSeconds 1) };
 
     fn cacheable(
         &self,
@@ -44,14 +38,15 @@ impl CachePut for OneSecond {
         header: ResponseHeader,
         now: Moment,
     ) -> Result<RespCacheable> {
-        default_cacheable(alloc, header, &defaults(), now)
+        let defaults = CacheMetaDefaults::new(one_second, 0, 0);
+        by_seconds(alloc, header, &defaults, now, 1)
     }
 }
 
 // Whether a response that says nothing of its lifetime is stored by the policy that goes by these defaults.
 fn is_stored_by_defaults(alloc: Global) -> bool {
     let policy = ByDefaults {
-        defaults: defaults(),
+        defaults: CacheMetaDefaults::new(one_second, 0, 0),
     };
     let header = ResponseHeader::build(alloc, StatusCode::OK);
     is_cacheable(policy.cacheable(alloc, header, Moment::EPOCH))
@@ -66,7 +61,7 @@ fn defaults_decide(rt: HostRuntime) {
     assert!(rt; is_stored_by_defaults(rt.alloc()));
 }
 
-// What puts are lent, the key of them all, and the bytes of a piece.
+// The parts that puts borrow, the key of them all, and the bytes of a piece.
 #[derive(Drop)]
 struct Parts {
     alloc: Global,
@@ -220,7 +215,7 @@ fn tell_finished(outcome: Result<PutOutcome>, told: &mut Told) {
     }
 }
 
-// Whether the put is stored at its end, and its entry told.
+// Whether the put is stored at its end, and its entry reported.
 fn tell_end(report: PutReport, told: &mut Told) {
     let PutReport { end, entry, .. } = report;
     let is_stored = matches!(end, PutEnd::Stored(_)) && entry.is_some();
@@ -251,7 +246,7 @@ fn totals(parts: &Parts, told: &mut Told) {
     told.say(" writes");
 }
 
-// Reads the key twice, if it is there.
+// Reads the key twice, if it is found.
 fn read(parts: &mut Parts, told: &mut Told) {
     match parts.store.lookup(parts.alloc, &parts.key) {
         Ok(Some((_meta, hit))) => read_twice(parts, hit, told),
@@ -283,7 +278,8 @@ fn tell_read(read: Result<Poll<Option<Bytes>>>, told: &mut Told) {
     }
 }
 
-// How many bytes a piece wrote, and whether they were the last; whether it began a write; and whether the put goes on.
+// How many bytes a piece wrote, and whether they were announced as the last; whether it began a write; and whether the
+// put goes on.
 fn tell_taken(store: &mut MemCache, report: PieceReport<MemMissHandler>, told: &mut Told) {
     let PieceReport { began, wrote, end } = report;
     tell_wrote(wrote, told);

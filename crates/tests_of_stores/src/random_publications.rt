@@ -71,7 +71,8 @@ fn publish(
     permit.publish(alloc, lock, tokens.as_slice()).is_ok() && published.push(tokens).is_ok()
 }
 
-// A reader polls, and is told between publications what a plain look finds from its first poll on.
+// A reader polls, and is told, between publications, what a plain search finds from its first poll
+// on.
 fn follows(
     alloc: Global,
     lock: &mut CacheLock,
@@ -98,7 +99,7 @@ fn follows(
     agrees
 }
 
-// A reader more comes and goes.
+// One more reader is made and ended.
 fn a_reader_agrees(
     alloc: Global,
     lock: &mut CacheLock,

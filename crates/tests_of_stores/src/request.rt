@@ -1,4 +1,4 @@
-//! Requests over a store, a manager and a lock table, call by call: a row names a request, its call, and what was answered.
+//! Requests over a store, a manager and a lock table, call by call: a row names a request, its call, and the result.
 use crate::rows::{Desk, Told, number, play, word};
 use http::StatusCode;
 use pcache_base::error::Result;
@@ -60,7 +60,7 @@ impl AdmissionPolicy for SecondTime {
     }
 }
 
-// What requests are lent, and what second it is.
+// The parts that requests borrow, and the current second.
 #[derive(Drop)]
 struct Parts {
     alloc: Global,
@@ -142,7 +142,7 @@ fn end_one(parts: &mut Parts, request: Request) {
     let _let_go = request.end(&mut parts.store, &mut parts.lock);
 }
 
-// What a call answers: a word, and perhaps a number.
+// The result of a call: a word, and perhaps a number.
 #[derive(Clone, Copy)]
 struct Said {
     word: &'static str,
@@ -197,7 +197,7 @@ impl Desk for Room {
     }
 }
 
-// What a request tells of itself, or what comes of a call that it makes.
+// What the getters of a request return, or the result of a call that it makes.
 fn tell_of(parts: &mut Parts, cache: &mut Request, call: &'static str, told: &mut Told) {
     if !asks::tell(parts, cache, call, told) {
         tell_said(make(parts, cache, call), told);
@@ -334,7 +334,7 @@ fn a_body_is_stored_read_and_purged(rt: HostRuntime) {
     run(&rt, rt.alloc(), STORED_READ_AND_PURGED);
 }
 
-// Each call tells of the locks and of the entry.
+// Each call reports the locks and the entry.
 const TOLD: &str = "
     1 enable
     1 key

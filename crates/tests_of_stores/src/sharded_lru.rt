@@ -18,7 +18,7 @@ fn one_shard_counts_as_the_simple_manager(rt: HostRuntime) {
     run(&rt, rt.alloc(), true, COUNTED);
 }
 
-// Whether an entry is there exactly when it was not told to go.
+// Whether an entry is tracked exactly when it was not evicted.
 fn stands(alloc: Global, manager: &Manager<2>, told: &Told, name: u8) -> bool {
     match entry(alloc, name, "1") {
         Ok(entry) => manager.peek(&entry) != told.has(char::from(name)),
@@ -158,7 +158,7 @@ fn admit(manager: &mut Manager<1>, entry: &CacheEntryKey) -> Result<Vec<CacheEnt
     manager.admit(entry.copied()?, 1, NEVER_READ)
 }
 
-// Whether exactly this entry went, or none.
+// Whether exactly this entry was evicted, or none.
 fn is_gone(gone: Result<Vec<CacheEntryKey>>, entry: Option<&CacheEntryKey>) -> bool {
     match gone {
         Ok(gone) => gone.first() == entry && gone.len() < 2,
@@ -166,7 +166,8 @@ fn is_gone(gone: Result<Vec<CacheEntryKey>>, entry: Option<&CacheEntryKey>) -> b
     }
 }
 
-// Whether exactly the first went at the second call, and the second is the last of its shard.
+// Whether exactly the first was evicted at the second call, and the second is the last of its
+// shard.
 fn second_evicts_first(it: &mut Two) -> bool {
     is_gone(admit(&mut it.manager, &it.first), None)
         && is_gone(admit(&mut it.manager, &it.second), Some(&it.first))

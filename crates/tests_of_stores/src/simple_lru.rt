@@ -40,7 +40,7 @@ fn admit(manager: &mut Manager, entry: &CacheEntryKey) -> Result<Vec<CacheEntryK
     manager.admit(entry.copied()?, 1, NEVER_READ)
 }
 
-// Whether exactly this entry went, or none.
+// Whether exactly this entry was evicted, or none.
 fn is_gone(gone: Result<Vec<CacheEntryKey>>, entry: Option<&CacheEntryKey>) -> bool {
     match gone {
         Ok(gone) => gone.first() == entry && gone.len() < 2,
@@ -56,7 +56,7 @@ struct Two {
     second: CacheEntryKey,
 }
 
-// Admits both, and answers whether exactly the first went, at the second call.
+// Admits both, and returns whether exactly the first was evicted, at the second call.
 fn second_evicts_first(it: &mut Two) -> bool {
     is_gone(admit(&mut it.manager, &it.first), None)
         && is_gone(admit(&mut it.manager, &it.second), Some(&it.first))
@@ -123,7 +123,7 @@ fn takes_both(boxed: &mut Boxed, a: &CacheEntryKey, b: &CacheEntryKey) -> bool {
         && boxed.peek(b)
 }
 
-// Whether the one goes when the other's weight is raised.
+// Whether the one is evicted when the other's weight is raised.
 fn is_raised(boxed: &mut Boxed, a: &CacheEntryKey, b: &CacheEntryKey) -> bool {
     is_gone(boxed.increment_weight(b, 3, None), Some(a))
         && boxed.total_size() == 4

@@ -75,7 +75,7 @@ impl StoreMeaning for WholeStore {
     ghost ends_hit = { λ _ reader result. IsOk result };
 }
 
-// A look-up's answer, with the reader of this storage.
+// The result of a look-up, with the reader of this storage.
 fn wrapped(found: Option<(CacheMeta, MemHitHandler)>) -> Option<(CacheMeta, WholeHit)>
     ensures { option_map {U = Meta × Reader} (λ p. (p.0, reader_of p.1.hit)) result ≡ option_map {U = Meta × Reader} (λ p. (p.0, reader_of p.1)) found }
 {
@@ -234,7 +234,7 @@ impl HandleMiss<WholeStore> for WholeMiss {
     }
 }
 
-// Stores nothing more than an empty body, and answers whether the write says a number of its entry.
+// Stores nothing more than an empty body, and returns whether the write says a number of its entry.
 fn is_numbered<S: Storage>(alloc: Global, store: &mut S, key: &CacheKey) -> Result<bool> {
     let meta = crate::memory::meta_until(alloc, 300);
     let writer = store.get_miss_handler(alloc, key, &meta)?;

@@ -11,6 +11,7 @@ use pcache_evict::eviction::simple_lru::Manager;
 use pcache_meta::header::ResponseHeader;
 use pcache_meta::meta::CacheMeta;
 use pcache_shared::{Opening, SharedWorld};
+use pcache_shared_cache::place_of;
 use pingora_cache::HitStatus;
 use pingora_cache::world::World;
 use pingora_cache::world::boxed::Boxed;
@@ -35,6 +36,11 @@ const NOW: Moment = Moment::EPOCH;
 fn key_of(alloc: Global, name: &str) -> Result<CacheKey> {
     let primary = name.as_bytes().to_vec(alloc)?;
     Ok(CacheKey::new(primary, String::from_str(alloc, "1")?))
+}
+
+/// Which of two worlds a key with this primary part belongs to.
+pub fn place_in_two(alloc: Global, name: &str) -> Result<usize> {
+    Ok(place_of::<2>(&key_of(alloc, name)?))
 }
 
 fn meta_of(alloc: Global) -> CacheMeta {

@@ -10,16 +10,16 @@ use std::marker::Brand;
 use std::sync::Wait;
 use std::test::Fail;
 
-// Calls with their replies, a line each. The text stands in a type of its own: if a call picks
-// what a mark stands for, the signature of what it calls has no `&str`.
+// Calls with their replies, a line each. The text has a type of its own: if a call chooses what a
+// mark names, the signature of the function that it calls has no `&str`.
 #[derive(Clone, Copy)]
 struct Table {
     text: &'static str,
 }
 
-// A reader follows a write that is purged on its way. In front of the arrows stand the calls, those
-// at even places by the first share and the others by the second, and after them the replies. At the
-// end stand the receipts of each share: a place of the history, and the request that is named there.
+// A reader follows a write that is purged on its way. Before the arrows are the calls, those with
+// even indices by the first share and the others by the second, and after them the replies. At the
+// end are the receipts of each share: a place of the history, and the request that is named there.
 const TEXT: &str = "\
     open 1 -> Done\n\
     key 1 k -> Done\n\
@@ -55,7 +55,7 @@ fn tell(alloc: Global, told: &mut String, call: &str, reply: &Reply) -> Result<(
     Ok(())
 }
 
-// Makes the calls of a table, and tells what they answered.
+// Makes the calls of a table, and writes the replies.
 fn ask<K: Mark, R: Wait>(
     rt: &R,
     alloc: Global,
@@ -105,7 +105,7 @@ fn tell_end(
     Ok(())
 }
 
-// The same, and tells of the shares only that there are as many.
+// The same, and states of the shares only that there are as many.
 fn ask_all<K: Mark, R: Wait>(
     rt: &R,
     alloc: Global,
@@ -139,7 +139,7 @@ fn play<R: Wait>(rt: &R, alloc: Global, table: Table, told: &mut String) -> Resu
     play_named::<Brand, R>(rt, alloc, opening, table, told)
 }
 
-// Makes the calls of a table with nobody else, and tells what they answered.
+// Makes the calls of a table with nobody else, and writes the replies.
 fn play_alone(alloc: Global, table: Table, told: &mut String) -> Result<()> {
     let mut world = world_of(alloc)?;
     for line in table.text.lines() {
@@ -172,7 +172,7 @@ fn followed_to_the_end_by_two_shares(rt: HostRuntime) -> std::result::Result<(),
     Ok(())
 }
 
-// One world that is not shared answers the same.
+// One world that is not shared gives the same replies.
 #[test]
 fn followed_to_the_end_alone(rt: HostRuntime) -> std::result::Result<(), Fail> {
     let mut told = String::new(rt.alloc());

@@ -7,6 +7,8 @@ mod calls;
 #[cfg(test)]
 mod gates;
 #[cfg(test)]
+mod in_parts;
+#[cfg(test)]
 mod in_turn;
 #[cfg(test)]
 mod workers;

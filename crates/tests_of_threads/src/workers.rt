@@ -2,7 +2,7 @@
 ghost use Rattle.std.specs.Prelude.{◌≡◌, length};
 
 use crate::calls::{ListOpening, ListWorld, SharedList, opening_of, read_script};
-use crate::gates::{Held, Open};
+use crate::gates::{Between, Held, Noted, Open};
 use pcache_base::error::Result;
 use pcache_shared::{Gate, Mark, Receipt, Share, run_workers};
 use pingora_cache::world::call::Call;
@@ -13,9 +13,10 @@ use std::sync::Wait;
 use std::test::Fail;
 use std::thread::Threads;
 
-type Ended = (ListWorld, Vec<Vec<Receipt>>);
+/// A world that was shared, and the receipts of each share.
+pub type Ended = (ListWorld, Vec<Vec<Receipt>>);
 
-// Runs the scripts, and tells of the shares only that there are as many.
+// Runs the scripts, and states of the shares only that there are as many.
 fn work<K: Mark + Send + Sync, G: Gate + Sync, R: Threads + Wait + Sync>(
     rt: &R,
     shared: &SharedList<K>,
@@ -30,7 +31,8 @@ fn work<K: Mark + Send + Sync, G: Gate + Sync, R: Threads + Wait + Sync>(
     Ok(())
 }
 
-fn run_named<K: Mark + Send + Sync, G: Gate + Sync, R: Threads + Wait + Sync>(
+/// Runs a script a share, each in a thread of its own.
+pub fn run_named<K: Mark + Send + Sync, G: Gate + Sync, R: Threads + Wait + Sync>(
     rt: &R,
     alloc: Global,
     opening: ListOpening,
@@ -104,8 +106,8 @@ fn stand(alloc: Global, history: &[Entry], receipts: &[Vec<Receipt>]) -> Result<
     Ok(true)
 }
 
-// Whether the receipts are those of the entries, each once, and there are so many.
-fn are_exact(
+/// Whether the receipts are those of the entries, each once, and there are so many.
+pub fn are_exact(
     alloc: Global,
     history: &[Entry],
     receipts: &[Vec<Receipt>],
@@ -124,7 +126,7 @@ fn receipt(receipts: &[Vec<Receipt>], (worker, index): (usize, usize)) -> Option
     receipts.get(worker)?.get(index)
 }
 
-// Whether the call that the gate held stands after the one that it waited for, and was answered so.
+// Whether the call that the gate delayed comes after the one that it waited for, with this reply.
 fn came_behind(alloc: Global, receipts: &[Vec<Receipt>], gate: &Held, reply: &str) -> Result<bool> {
     let held = receipt(receipts, gate.held());
     let awaited = receipt(receipts, gate.awaited());
@@ -137,7 +139,7 @@ fn came_behind(alloc: Global, receipts: &[Vec<Receipt>], gate: &Held, reply: &st
     }
 }
 
-// Runs two scripts of so many calls together, which nobody holds back.
+// Runs two scripts of so many calls together, which nothing delays.
 fn runs_freely<R: Threads + Wait + Sync>(
     rt: &R,
     alloc: Global,
@@ -165,8 +167,8 @@ fn ended_behind(
     )
 }
 
-// Runs two scripts of so many calls together, of which a gate holds one call back. Answers whether
-// that call came after the one that it waited for, in time, and was answered so.
+// Runs two scripts of so many calls together, of which a gate delays one call. Returns whether that
+// call came after the one that it waited for, in time, with this reply.
 fn runs_held<R: Threads + Wait + Sync>(
     rt: &R,
     alloc: Global,
@@ -185,6 +187,71 @@ fn runs_held<R: Threads + Wait + Sync>(
         gate,
         reply,
     )
+}
+
+// Whether the first of two calls stands before the second.
+fn are_in_order(receipts: &[Vec<Receipt>], first: (usize, usize), second: (usize, usize)) -> bool {
+    match (receipt(receipts, first), receipt(receipts, second)) {
+        (Some(first), Some(second)) => first.place < second.place,
+        _ => false,
+    }
+}
+
+// Runs two scripts of so many calls together with a gate that notes them.
+fn runs_noted<R: Threads + Wait + Sync>(
+    rt: &R,
+    alloc: Global,
+    first: &'static str,
+    second: &'static str,
+    count: usize,
+    gate: &Noted,
+) -> Result<bool> {
+    let (world, receipts) = run(rt, alloc, first, second, gate)?;
+    are_exact(alloc, world.history(), receipts.as_slice(), count)
+}
+
+// Runs two scripts of so many calls together, whose first worker is held back after a call. Answers whether
+// that call stands before the one that it waits for.
+fn runs_between<R: Threads + Wait + Sync>(
+    rt: &R,
+    alloc: Global,
+    first: &'static str,
+    second: &'static str,
+    count: usize,
+    gate: &Between,
+) -> Result<bool> {
+    let (world, receipts) = run(rt, alloc, first, second, gate)?;
+    let are_exact = are_exact(alloc, world.history(), receipts.as_slice(), count)?;
+    Ok(
+        are_exact
+            && !gate.is_late()
+            && are_in_order(receipts.as_slice(), gate.held(), gate.awaited()),
+    )
+}
+
+// Each call is entered and left by its gate, once and in its turn.
+#[test]
+fn a_gate_is_told_of_each_call(rt: HostRuntime) -> std::result::Result<(), Fail> {
+    let first = "open 1\nkey 1 k\nlook 1";
+    let second = "open 2\nkey 2 k";
+    let gate = Noted::new();
+    let are_exact = runs_noted(&rt, rt.alloc(), first, second, 5, &gate)?;
+    assert!(rt; are_exact && gate.are_whole(3, 2));
+    Ok(())
+}
+
+// A worker that its gate holds back after a call has made that call and lets the other go on: it holds no
+// lock then.
+#[test]
+fn a_gate_holds_back_after_a_call(rt: HostRuntime) -> std::result::Result<(), Fail> {
+    let first = "open 1\nkey 1 k\nlook 1";
+    let second = "open 2\nkey 2 k\nlook 2";
+    for (held, other) in [(0usize, 1usize), (1, 0)] {
+        let gate = Between::new((held, 1), (other, 1));
+        let is_between = runs_between(&rt, rt.alloc(), first, second, 6, &gate)?;
+        assert!(rt; is_between, "{held}");
+    }
+    Ok(())
 }
 
 #[test]
@@ -207,8 +274,8 @@ fn a_hit_behind_the_finish(rt: HostRuntime) -> std::result::Result<(), Fail> {
     Ok(())
 }
 
-// A worker's first call waits for the other's second, which can only be answered if the scripts run
-// at the same time: run one after the other, in any order, one of the two waits in vain.
+// A worker's first call waits for the other's second, which can only be made if the scripts run at
+// the same time: run one after the other, in any order, one of the two waits in vain.
 #[test]
 fn scripts_run_at_the_same_time(rt: HostRuntime) -> std::result::Result<(), Fail> {
     let first = "open 1\nkey 1 k\nlook 1";

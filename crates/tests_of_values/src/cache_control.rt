@@ -1,6 +1,5 @@
-//! Lines of Cache-Control: worked rows. A row's lines stand between bars.
-//! They are hand-computed from RFC 9111 (1.2.2, 4.2.1, 5.2), RFC 5861 and RFC 9110 (5.6.1, 5.6.4), some after
-//! upstream's tests.
+//! Lines of Cache-Control: worked rows. A row's lines are between bars. They are hand-computed from RFC 9111
+//! (1.2.2, 4.2.1, 5.2), RFC 5861 and RFC 9110 (5.6.1, 5.6.4), some after upstream's tests.
 use crate::heads::append;
 use crate::rows::{Desk, Told, play, rest, unescape, word};
 use http::StatusCode;
@@ -147,7 +146,7 @@ fn tell_seconds(told: &mut Told, time: Option<Duration>) {
     }
 }
 
-// Whether the directive that the call names after a colon is there.
+// Whether the directive that the call names after a colon is present.
 fn has(cc: &CacheControl, what: &str, told: &mut Told) {
     match what.split_once(':') {
         Some((_verb, name)) => told.yes_or_no(cc.has_key(name)),
@@ -204,7 +203,7 @@ fn tell_of_text(alloc: Global, text: &[u8], what: &str, told: &mut Told) {
     }
 }
 
-// Whole seconds and seconds whose parts are cut off, or the items, or what stands between quotes.
+// Whole seconds and seconds whose parts are cut off, or the items, or the text between quotes.
 fn tell_value(value: &DirectiveValue, what: &str, told: &mut Told) {
     match what {
         "items" => join(Some(ListValueIter::from(value)), told),

@@ -32,7 +32,7 @@ fn nothing(_status: StatusCode) -> Option<Duration> {
     None
 }
 
-// Rows of responses: after the call stand the status, the line of Cache-Control and each of Expires, between bars.
+// Rows of responses: after the call come the status, the line of Cache-Control and each of Expires, between bars.
 #[derive(Drop)]
 struct Answers {
     alloc: Global,
@@ -94,7 +94,7 @@ fn set(alloc: Global, headers: &mut HeaderMap, name: &str, text: &str) -> bool {
     text.is_empty() || append(alloc, headers, name, text.as_bytes())
 }
 
-// What becomes of the response at second 1,000.
+// Whether the response is stored at second 1,000.
 fn outcome(
     alloc: Global,
     header: ResponseHeader,

@@ -12,7 +12,7 @@ use pcache_meta::meta::CacheMeta;
 use std::alloc::Global;
 use std::fmt::Write;
 
-// A request and a text, which each call writes anew, and what is stored.
+// A request and a text, which each call writes again, and the stored meta.
 #[derive(Drop)]
 struct Full {
     alloc: Global,
@@ -91,7 +91,8 @@ fn has_etag_and_date(alloc: Global, kept: &mut HeaderMap) -> bool {
         )
 }
 
-// What comes of asking whether what is stored is still good, and how many names the request has then.
+// The result of asking whether the stored response is still valid, and how many names the request has
+// then.
 fn ask(request: &mut RequestHeader, meta: &CacheMeta, told: &mut Told) {
     told.done(request_filter(request, Some(meta)));
     tell_names(&request.headers, told);

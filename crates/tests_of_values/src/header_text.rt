@@ -81,7 +81,7 @@ fn tell_of_text(alloc: Global, bytes: &[u8], verb: &str, told: &mut Told) {
     }
 }
 
-// What is read of the bytes, which are told to be a head's text exactly when they are read.
+// What is read of the bytes, which count as a head's text exactly when they can be read.
 fn tell_deserialized(read: Result<ResponseHeader>, is_one: bool, told: &mut Told) {
     if is_one != read.is_ok() {
         told.say("either read or told: ");
@@ -128,7 +128,7 @@ fn tell_field(name: &str, value: &HeaderValue, told: &mut Told) {
     told.bytes(value.as_bytes());
 }
 
-// Whether a text with so many names is told to be a head's, with one line more.
+// Whether a text with so many names, and one more line, counts as a head's.
 fn are_told(text: String, call: &'static str, told: &mut Told) {
     let mut text = text;
     if many_names(&mut text, number(call, 1), word(call, 2)) {

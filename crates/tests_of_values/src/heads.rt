@@ -2,7 +2,7 @@
 use http_header::{HeaderMap, HeaderName, HeaderValue};
 use std::alloc::Global;
 
-/// Appends a field, and answers whether it was taken.
+/// Appends a field, and returns whether it was taken.
 pub fn append(alloc: Global, headers: &mut HeaderMap, name: &str, value: &[u8]) -> bool {
     let Ok(name) = HeaderName::from_bytes(alloc, name.as_bytes()) else {
         return false;

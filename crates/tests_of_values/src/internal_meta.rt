@@ -1,5 +1,5 @@
-//! What metas say beside their header: worked rows, and upstream's tests of the versions.
-//! The bytes are hand-computed from the layout in docs/FORMATS.md.
+//! What metas say beside their head: worked rows, and upstream's tests of the versions. The bytes
+//! are hand-computed from the layout in docs/FORMATS.md.
 use crate::rows::{Desk, Told, number, play, rest, some_byte, some_number, unhex, word};
 use pcache_base::entry_id::CacheEntryId;
 use pcache_base::error::Result;
@@ -35,7 +35,7 @@ impl Desk for Spelled {
     }
 }
 
-// What is made of an older version, and what is there by default.
+// What an older version becomes, and the defaults.
 fn tell_made(alloc: Global, call: &'static str, told: &mut Told) {
     match word(call, 0) {
         "from-0" => tell_meta(&InternalMetaV3::from(old(call)), told),
@@ -69,7 +69,7 @@ fn written(bytes: Result<Vec<u8>>, told: &mut Told) {
     }
 }
 
-/// What was read of a meta, or why it was refused.
+/// What was read of a meta, or the error.
 pub fn tell_read(read: Result<InternalMetaV3>, told: &mut Told) {
     match read {
         Ok(meta) => tell_meta(&meta, told),

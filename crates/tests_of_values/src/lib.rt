@@ -1,7 +1,7 @@
 #![tactic(auto)]
-//! Tests of what is made and read as a value: keys, hashes, metas, directives, predictions, puts.
-//! Expected values come from outside: the standards, worked rows of the formats, and upstream's tests in our own words.
-//! They stand apart from the libraries, so that each library is proved once, and a test of its own does not prove it again.
+//! Tests of values: keys, hashes, metas, directives, predictions, puts. Expected values come from outside: the standards,
+//! worked rows of the formats, and upstream's tests in our own words. They are a crate of their own, so that each library
+//! is proved once, and not again with its tests.
 
 #[cfg(test)]
 mod admission;

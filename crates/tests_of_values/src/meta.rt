@@ -261,7 +261,8 @@ fn is_refused(alloc: Global, internal: &[u8], header: &[u8]) -> bool {
     }
 }
 
-// Whether each shorter beginning of one of the strings is refused, and the whole of them is not.
+// Whether reading fails for each proper prefix of one of the strings, and not for the whole
+// strings.
 fn refuses_beginnings(alloc: Global, internal: &[u8], header: &[u8]) -> bool {
     for end in 0..internal.len() {
         if !is_refused(alloc, &internal[..end], header) {

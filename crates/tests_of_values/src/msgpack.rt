@@ -164,7 +164,7 @@ fn numbers_arrays_texts_hashes_and_marks(rt: HostRuntime) {
     play(&rt, rt.alloc(), &mut Spelled { bytes }, FORMS);
 }
 
-// Whether an array that is too long is refused, and what stands before it is left.
+// Whether an array that is too long fails, and the bytes before it are unchanged.
 fn is_refused(out: &mut Vec<u8>) -> bool {
     let len = out.len();
     let refused = put_array(out, 1 << 32);

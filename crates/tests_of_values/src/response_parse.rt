@@ -343,7 +343,7 @@ fn a_head_that_never_ends(rt: HostRuntime) {
 
 const WHOLE: &[u8] = b"HTTP/1.1 200 OK\r\nContent-Length: 4\r\n\r\nrustXX";
 
-// Feeds these bytes, and answers whether they were taken.
+// Feeds these bytes, and returns whether they were taken.
 fn is_fed(parses: &mut Parses, piece: &[u8]) -> bool {
     match parses.parser.inject_data(piece) {
         Ok(parts) => see(&mut parses.seen, parts),

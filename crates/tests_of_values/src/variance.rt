@@ -30,7 +30,7 @@ fn tell_hash(told: &mut Told, varies: bool, hash: Option<HashBinary>) {
     }
 }
 
-// Adds each pair of a name and a value, and answers whether they had room.
+// Adds each pair of a name and a value, and returns whether they had room.
 fn add_all(alloc: Global, builder: &mut VarianceBuilder<'static>, call: &'static str) -> bool {
     for pair in rest(call).split(' ') {
         if let Some((name, value)) = pair.split_once('=')

@@ -31,8 +31,8 @@ const PURGED: &str = "open 1 -> Done\n\
     end 2 -> Done\n\
     end 3 -> Done\n";
 
-// Makes the call of a line while the lock is held, and tells of it. What is promised of the history
-// is known whenever the lock is held.
+// Makes the call of a line while the lock is held, and writes its reply. The promises of the
+// history are known whenever the lock is held.
 fn ask(
     rt: &impl Wait,
     alloc: Global,

@@ -1,7 +1,7 @@
 #![tactic(auto)]
-//! Tests of worlds, by texts of calls with their replies.
-//! They stand apart from the library, so that it is proved once, and a test of its own does not prove it again.
-//! Expected replies are hand-computed from the definitions; a file that has them from elsewhere says so.
+//! Tests of worlds, by texts of calls with their replies. They are a crate of their own, so that the library
+//! is proved once, and not again with its tests. Expected replies are hand-computed from the definitions; a
+//! file that has them from elsewhere says so.
 //!
 //! - `script`: a line of a text as a call
 //! - `play`: a text on a world

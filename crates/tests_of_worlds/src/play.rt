@@ -68,8 +68,8 @@ pub fn sharded_world_of<const N: usize>(
 }
 
 /// Plays two texts on a new world, all calls of a text in one run, and on another world, under
-/// another seed, one by one. What is told is the text each time. Both worlds go with what is still
-/// open in them.
+/// another seed, one by one. The result is the text each time. Both worlds are dropped with what is
+/// still open in them.
 pub fn play(
     rt: &impl Abort,
     alloc: Global,
@@ -130,8 +130,8 @@ pub fn play_on_policies(
     play_together(rt, alloc, &mut world, first, text)
 }
 
-/// Makes the calls of each text in one run. What is told of the replies is the text, and each call
-/// is in the history, in order, with the reply that was answered.
+/// Makes the calls of each text in one run. The replies make the text, and each call is in the
+/// history, in order, with the reply that was returned.
 pub fn play_together<M: EvictionManager>(
     rt: &impl Abort,
     alloc: Global,
@@ -146,7 +146,7 @@ pub fn play_together<M: EvictionManager>(
     Ok(())
 }
 
-// Makes the calls of each text one by one. What is told of them is the text.
+// Makes the calls of each text one by one. Their replies make the text.
 fn play_apart<M: EvictionManager>(
     rt: &impl Abort,
     alloc: Global,
@@ -178,7 +178,7 @@ fn add_calls(alloc: Global, text: &'static str, calls: &mut Vec<Call>) -> Result
     Ok(())
 }
 
-/// The call of a line, if it is one. A line that tells the time sets the clock.
+/// The call of a line, if it is one. A line with a time sets the clock.
 pub fn next_call(alloc: Global, asked: &'static str, clock: &mut Clock) -> Result<Option<Call>> {
     match line_of(asked) {
         Line::Call => call_of(alloc, asked, clock.next()),
@@ -201,7 +201,7 @@ fn told_together<M: EvictionManager>(
     tell_all(alloc, world, before, replies.as_slice(), text)
 }
 
-// What is told of replies. After them it is said where the history has others.
+// The text of replies. After them it says where the history has others.
 fn tell_all<M: EvictionManager>(
     alloc: Global,
     world: &World<M, BySelf>,
@@ -253,7 +253,8 @@ fn told_apart<M: EvictionManager>(
     Ok(told)
 }
 
-// Makes the call of a line, and tells of it. Of a wrong one it is told where it changed a number.
+// Makes the call of a line, and writes its reply. For a wrong one it writes where it changed a
+// number.
 fn step<M: EvictionManager>(
     alloc: Global,
     world: &mut World<M, BySelf>,

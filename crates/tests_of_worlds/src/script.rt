@@ -1,7 +1,7 @@
 //! Reading the lines of a text: each is a call, with the reply that is wanted after ` -> `.
 //!
-//! A line `at S` says that it is second `S` from then on; as long as there is none, each call comes
-//! three seconds after the one before. A line `stat`, after the calls, asks for the numbers.
+//! A line `at S` says that it is second `S` from then on; without one, each call comes three
+//! seconds after the one before. A line `stat`, after the calls, asks for the counts.
 
 use bytes::Bytes;
 use http::StatusCode;
@@ -22,8 +22,8 @@ pub use test_rows::asked_of;
 // The variance of a key that has one.
 const VARIANCE: HashBinary = [0; 16];
 
-// So many seconds lie between two calls of a text: it soon goes past the age of ten seconds at which
-// a permit is too old.
+// How many seconds lie between two calls of a text: it soon passes the age of ten seconds at which a
+// permit is too old.
 const BETWEEN: u64 = 3;
 
 /// What time it is in a text.
@@ -78,13 +78,18 @@ pub fn line_of(asked: &str) -> Line {
     }
 }
 
-/// The words of a call: which it is, of which request, and more. Those that are not there are empty.
+/// The words of a call: which it is, of which request, and more. Missing ones are empty.
 #[derive(Clone, Copy)]
 pub struct Words {
+    /// Which call it is.
     pub call: &'static str,
+    /// The number of its request.
     pub request: u64,
+    /// The first further word.
     pub first: &'static str,
+    /// The second further word.
     pub second: &'static str,
+    /// The third further word.
     pub third: &'static str,
 }
 
@@ -244,7 +249,7 @@ fn limit_of(word: &str) -> Option<usize> {
     word.parse::<usize>().ok()
 }
 
-// `feed R PIECE`: a head by its name, or bytes as they stand.
+// `feed R PIECE`: a head by its name, or bytes as they are.
 fn piece_of(word: &'static str) -> &'static str {
     match word {
         "head" => "HTTP/1.1 200 OK\r\nCache-Control: max-age=60\r\nContent-Length: 4\r\n\r\n",

@@ -120,7 +120,7 @@ pub mod trace {
     };
 }
 
-/// What stands at upstream's root or in other crates of its framework, or is this crate's own.
+/// Items that are at upstream's root or in other crates of its framework, or are this crate's own.
 pub mod own {
     pub use pingora_cache::cache::{Renewal, WriteEnd};
     pub use pingora_cache::error::{Error, ErrorType, Result};

@@ -102,7 +102,7 @@ fn calls_behind_the_key(rt: HostRuntime) -> Result<(), Fail> {
     play(&rt, rt.alloc(), Limits::weight(9), "", rows)
 }
 
-// A key is passed by before anything was found under it, and its request goes on as a miss.
+// The cache is bypassed before anything was found for the key, and the request goes on as a miss.
 #[test]
 fn a_key_is_passed_by(rt: HostRuntime) -> Result<(), Fail> {
     let rows = "phase 1 -> WrongCall\n\
@@ -366,7 +366,7 @@ fn a_reader_follows_a_purged_write(rt: HostRuntime) -> Result<(), Fail> {
     play_on_both(&rt, rt.alloc(), Limits::weight(9), "", rows)
 }
 
-// Two bodies of 2 are more than 3: the older goes, and is no longer found.
+// Two bodies of 2 are more than 3: the older is evicted, and is no longer found.
 #[test]
 fn the_older_body_goes(rt: HostRuntime) -> Result<(), Fail> {
     let rows = "open 2 -> Done\n\

@@ -15,7 +15,7 @@ use pcache_base::error::{Error, ErrorType, Result};
 use pcache_meta::header::RequestHeader;
 use pcache_meta::meta::CacheMeta;
 
-// An answer to HEAD has no body to store.
+// Sends HEAD as GET, since a response to HEAD has no body to store.
 fn send_as_get(method: &mut Method)
     ensures { method.new ≡ sent_method method.old }
 {
@@ -24,18 +24,18 @@ fn send_as_get(method: &mut Method)
     }
 }
 
-// Takes a field out.
+// Removes a field.
 fn take_out(headers: &mut HeaderMap, name: &HeaderName)
     ensures out { headers.new ≡ remove headers.old name.now }
     ensures gone { get_all headers.new name.now ≡ [] }
     ensures others { (other : List ℕ) → name.now ≢ other → get_all headers.new other ≡ get_all headers.old other }
 {
-    // What is true of each map.
+    // For the prover: its contract says what holds of each map.
     let _names = headers.keys_len();
     let _removed = headers.remove(name);
 }
 
-// Preconditions and ranges of the client's are removed.
+// Removes the client's preconditions and ranges.
 #[tactic(auto, unfolding(crate::specs::Requests::without_conditions))]
 fn remove_conditions(headers: &mut HeaderMap)
     ensures all { headers.new ≡ without_conditions headers.old }
@@ -50,7 +50,7 @@ fn remove_conditions(headers: &mut HeaderMap)
     take_out(headers, &RANGE);
 }
 
-// Whether no further name fits.
+// Whether the map has no room for another name.
 fn is_full(headers: &HeaderMap) -> bool
     ensures full { IsTrue result ↔ IsFullOfNames headers.now }
     ensures map { IsHeaderMap headers.now }
@@ -68,8 +68,8 @@ fn refusal(error: HeaderMapError) -> Error
     }
 }
 
-// The first value under one name of the stored fields is put under another, which is absent, if
-// there is one. A map that is full is found out before anything grows.
+// Copies the first value under one name of the stored fields, if there is one, to another name,
+// which is absent. A full map is detected before anything grows.
 fn copy_field(
     stored: &HeaderMap,
     from: &HeaderName,
@@ -85,7 +85,7 @@ fn copy_field(
     ensures map { OnOk result (IsHeaderMap headers.new) }
 {
     let Some(value) = stored.get(from) else {
-        // What is true of each map.
+        // For the prover: its contract says what holds of each map.
         let _names = headers.keys_len();
         return Ok(());
     };
@@ -95,14 +95,14 @@ fn copy_field(
     let value = value.clone()?;
     match headers.insert(to, value) {
         Ok(_) => {
-            // What is true of each map.
+            // For the prover: its contract says what holds of each map.
             let _names = headers.keys_len();
             Ok(())
         }
         Err(error) => Err(refusal(error)),
     }
 }
-// If-Modified-Since is the stored Last-Modified, if there is one.
+// Sets If-Modified-Since to the stored Last-Modified, if there is one.
 fn ask_since(headers: &mut HeaderMap, meta: &CacheMeta) -> Result<()>
     ensures asks { OnOk result (AsksSince headers.old meta.now.header.fields headers.new) }
     ensures err { OnErr result (headers.new ≡ headers.old) }
@@ -115,7 +115,7 @@ fn ask_since(headers: &mut HeaderMap, meta: &CacheMeta) -> Result<()>
     copy_field(meta.headers(), &LAST_MODIFIED, headers, IF_MODIFIED_SINCE)
 }
 
-// If-None-Match is the stored ETag, if there is one.
+// Sets If-None-Match to the stored ETag, if there is one.
 fn ask_unlike(headers: &mut HeaderMap, meta: &CacheMeta) -> Result<()>
     ensures asks { OnOk result (AsksUnlike headers.old meta.now.header.fields headers.new) }
     ensures err { OnErr result (headers.new ≡ headers.old) }
@@ -128,8 +128,8 @@ fn ask_unlike(headers: &mut HeaderMap, meta: &CacheMeta) -> Result<()>
     copy_field(meta.headers(), &ETAG, headers, IF_NONE_MATCH)
 }
 
-// The request, in which neither field stands, asks for the response only if the stored one is no
-// longer current.
+// Makes the request, which has neither field, conditional: it asks for the response only if the
+// stored one is no longer current.
 fn ask(headers: &mut HeaderMap, meta: &CacheMeta) -> Result<()>
     requires since { get_all headers.old (codes "if-modified-since") ≡ [] }
     requires unlike { get_all headers.old (codes "if-none-match") ≡ [] }
@@ -141,19 +141,20 @@ fn ask(headers: &mut HeaderMap, meta: &CacheMeta) -> Result<()>
     ensures no_room { LacksRoom headers.old meta.now.header.fields → IsErr result }
     ensures nothing { HasNoValidator meta.now.header.fields → IsOk result }
 {
-    // What is true of each map.
+    // For the prover: its contract says what holds of each map.
     let _names = headers.keys_len();
     ask_since(headers, meta)?;
     ask_unlike(headers, meta)
 }
 
-/// Makes a client's request one whose answer can be stored: HEAD becomes GET, and preconditions and
-/// ranges are removed. With the meta of a stored response it asks for the response only if that
-/// changed: If-Modified-Since is the stored Last-Modified, and If-None-Match the stored ETag.
+/// Changes a client's request into one whose response can be stored: HEAD becomes GET, and
+/// preconditions and ranges are removed. With the meta of a stored response it asks for the
+/// response only if that changed: If-Modified-Since is the stored Last-Modified, and If-None-Match
+/// the stored ETag.
 ///
-/// It is refused as `InternalError` if the request has no room for another field, and as
-/// `OutOfMemory` only if it has. The method is then changed and the removals are done, and of the
-/// two fields those that were still to be set are absent.
+/// Fails with `InternalError` if the request has no room for another field, and with `OutOfMemory`
+/// only if it has. In both cases the method is changed and the removals are done, and of the two
+/// fields those that were not set yet are absent.
 pub fn request_filter(req: &mut RequestHeader, meta: Option<&CacheMeta>) -> Result<()>
     ensures method { req.new.method ≡ sent_method req.old.method }
     ensures target { req.new.target ≡ req.old.target }

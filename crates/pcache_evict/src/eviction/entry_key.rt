@@ -13,8 +13,8 @@ use std::cmp::Ordering;
 use std::fmt;
 use std::hash::{Hash, Hasher};
 
-/// The key of an entry of an eviction manager: a stored key alone, or one with the number of one
-/// of its entries. Entries with different numbers, or with and without one, are different.
+/// The key of an entry of an eviction manager: a stored key alone, or a stored key with the number
+/// of one of its entries. Entries with different numbers, or with and without one, are different.
 #[derive(Debug, Drop)]
 pub enum CacheEntryKey {
     /// The only entry of its key.
@@ -36,8 +36,8 @@ fn number(hash: HashBinary) -> u128
     u128::from_be_bytes(hash)
 }
 
-// Feeds a hasher an entry's key and its number in as few steps as there are parts: each step of a hash under a seed
-// has its price, and what is not there is not fed.
+// Feeds a hasher with an entry's key and number in as few steps as there are parts: each step of a hash under a
+// seed has a cost, and absent parts are not fed.
 #[inline(always)]
 fn feed<H: Hasher>(key: &CompactCacheKey, id: Option<CacheEntryId>, state: &mut H)
     ensures { state.new ≡ fold H.write state.old (compact_writes key.now ++ id_writes id) }
@@ -55,7 +55,7 @@ fn feed<H: Hasher>(key: &CompactCacheKey, id: Option<CacheEntryId>, state: &mut 
 impl CacheEntryKey {
     ghost use Rattle.pcache_evict.specs.Entry.{entry_with, key_of, id_of};
 
-    /// The entry of a key with this number, or the key's only entry if there is none.
+    /// The entry of a key with this number; the key's only entry if there is no number.
     pub fn from_entry_id(key: CompactCacheKey, id: Option<CacheEntryId>) -> CacheEntryKey
         ensures { result ≡ entry_with key id }
     {
@@ -72,7 +72,7 @@ impl CacheEntryKey {
         CacheEntryKey::from_entry_id(key, None)
     }
 
-    /// The entry of a key that has this number.
+    /// The entry of a key with this number.
     pub fn identified(key: CompactCacheKey, id: CacheEntryId) -> CacheEntryKey
         ensures { result ≡ entry_with key (Some id) }
     {
@@ -109,7 +109,7 @@ impl CacheEntryKey {
         }
     }
 
-    /// A second key, equal to this one. It is refused only when memory runs out.
+    /// A copy of this key. Fails only when memory runs out.
     pub fn copied(&self) -> Result<CacheEntryKey>
         ensures ok { IfOk result (λ copy. copy ≡ self.now) }
         ensures kind { IfErr result (λ e. e ≡ OutOfMemory) }
@@ -142,7 +142,7 @@ impl Eq for CacheEntryKey {
     ghost laws = { entry_equiv };
 }
 
-/// Fed as the key and then the number, so that a `CacheEntryKeyRef` is fed alike.
+/// Hashes the key and then the number, so that a `CacheEntryKeyRef` hashes alike.
 impl Hash for CacheEntryKey {
     ghost use Rattle.pcache_evict.specs.Entry.{entry_writes, entry_alike};
 
@@ -167,7 +167,7 @@ impl PartialOrd for CacheEntryKey {
     }
 }
 
-/// Entries without a number stand before those with one; then the keys decide, then the numbers.
+/// Entries without a number come before those with one; then the keys decide, then the numbers.
 impl Ord for CacheEntryKey {
     ghost use Rattle.pcache_evict.specs.Entry.{entry_cmp, entries_total, entry_ties};
 
@@ -195,8 +195,8 @@ impl fmt::Display for CacheEntryKey {
     }
 }
 
-/// The key of an entry, with the stored key by reference: what a look-up needs that has no key of
-/// its own to give away.
+/// The key of an entry, with the stored key by reference: for look-ups by a caller that has no
+/// owned key.
 #[derive(Clone, Copy, Debug)]
 pub enum CacheEntryKeyRef<'a> {
     /// The only entry of its key.
@@ -214,7 +214,7 @@ impl<'a> CacheEntryKeyRef<'a> {
     ghost use Rattle.pcache_evict.specs.Entry.{entry_with, key_of, id_of};
     ghost use Rattle.pcache_evict.specs.EntryRef.{referred};
 
-    /// The entry of a key with this number, or the key's only entry if there is none.
+    /// The entry of a key with this number; the key's only entry if there is no number.
     pub fn from_entry_id(key: &'a CompactCacheKey, id: Option<CacheEntryId>) -> CacheEntryKeyRef<'a>
         ensures { referred result ≡ entry_with key.now id }
     {
@@ -231,7 +231,7 @@ impl<'a> CacheEntryKeyRef<'a> {
         CacheEntryKeyRef::from_entry_id(key, None)
     }
 
-    /// The entry of a key that has this number.
+    /// The entry of a key with this number.
     pub fn identified(key: &'a CompactCacheKey, id: CacheEntryId) -> CacheEntryKeyRef<'a>
         ensures { referred result ≡ entry_with key.now (Some id) }
     {
@@ -258,7 +258,7 @@ impl<'a> CacheEntryKeyRef<'a> {
         }
     }
 
-    /// An owned key of the same entry. It is refused only when memory runs out.
+    /// An owned key of the same entry. Fails only when memory runs out.
     pub fn copied(&self) -> Result<CacheEntryKey>
         ensures ok { IfOk result (λ copy. copy ≡ referred self.now) }
         ensures kind { IfErr result (λ e. e ≡ OutOfMemory) }
@@ -272,7 +272,7 @@ impl<'a> CacheEntryKeyRef<'a> {
         }
     }
 
-    // The parts, of a borrowed reference.
+    // The key and the number, of a borrowed reference.
     fn parts(&self) -> (&CompactCacheKey, Option<CacheEntryId>)
         ensures key { result.0.now ≡ key_of (referred self.now) }
         ensures id { result.1 ≡ id_of (referred self.now) }
@@ -304,7 +304,7 @@ impl<'a> Eq for CacheEntryKeyRef<'a> {
     ghost laws = { referred_equiv };
 }
 
-/// Fed as the entry that it refers to.
+/// Hashes like the entry that it refers to.
 impl<'a> Hash for CacheEntryKeyRef<'a> {
     ghost use Rattle.pcache_evict.specs.EntryRef.{referred_writes, referred_alike};
 

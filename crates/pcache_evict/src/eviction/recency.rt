@@ -19,7 +19,7 @@ use std::marker::Model;
 
 /// Entries with their weights, most recent first. A contract sees the list.
 ///
-/// Each move takes one look-up. No entry stands twice.
+/// Each move takes one look-up. No entry occurs twice.
 #[derive(Drop)]
 pub(super) struct RecencyList {
     cache: Weights,
@@ -42,7 +42,7 @@ impl Model for RecencyList {
 }
 
 impl RecencyList {
-    /// An empty list. Under which seed it hashes no answer shows.
+    /// An empty list. No result depends on the seed.
     pub(super) fn new(alloc: Global, seed: Seed) -> Result<RecencyList>
         ensures ok { IfOk result (λ list. list ≡ []) }
         ensures kind { IfErr result (λ e. e ≡ OutOfMemory) }
@@ -62,7 +62,7 @@ impl RecencyList {
         self.cache.len()
     }
 
-    /// The weights of the entries, added up.
+    /// The sum of the entries' weights.
     pub(super) fn weight(&self) -> u128
         ensures value { result ≡ weight self.now }
         ensures once { IsOnce self.now }
@@ -70,7 +70,7 @@ impl RecencyList {
         self.weight
     }
 
-    /// The weight of an entry that is there.
+    /// The weight of an entry; `None` if the list does not have it.
     pub(super) fn weight_of(&self, item: &CacheEntryKey) -> Option<usize>
         ensures value { result ≡ weight_of item.now self.now }
         ensures once { IsOnce self.now }
@@ -91,8 +91,8 @@ impl RecencyList {
         Ok(())
     }
 
-    /// Raises the weight of an entry and moves it to the front, which takes no memory, and answers
-    /// whether it is there.
+    /// Raises the weight of an entry and moves it to the front, which takes no memory. Returns
+    /// whether the list has the entry.
     pub(super) fn raise(
         &mut self,
         item: &CacheEntryKey,
@@ -113,8 +113,8 @@ impl RecencyList {
         true
     }
 
-    /// Sets the weight of an entry that is there and moves it to the front, which takes no memory;
-    /// the caller knows what the other entries weigh.
+    /// Sets the weight of an entry of the list and moves it to the front, which takes no memory;
+    /// `rest` is the sum of the other entries' weights.
     pub(super) fn reweigh(&mut self, item: &CacheEntryKey, size: usize, rest: u128)
         requires there { IsSome (weight_of item.now self.old) }
         requires sum { rest ≡ weight (others item.now self.old) }
@@ -127,8 +127,8 @@ impl RecencyList {
         self.weight = rest + size as u128;
     }
 
-    /// Sets the weight of an entry that is there, which stays where it is and takes no memory; the
-    /// caller knows what the other entries weigh.
+    /// Sets the weight of an entry of the list, which keeps its position and takes no memory;
+    /// `rest` is the sum of the other entries' weights.
     pub(super) fn reweigh_in_place(&mut self, item: &CacheEntryKey, size: usize, rest: u128)
         requires there { IsSome (weight_of item.now self.old) }
         requires sum { rest ≡ weight (others item.now self.old) }
@@ -150,7 +150,7 @@ impl RecencyList {
         }
     }
 
-    /// Moves an entry to the front, if it is there.
+    /// Moves an entry to the front, if the list has it. Returns whether it does.
     pub(super) fn promote(&mut self, item: &CacheEntryKey) -> bool
         ensures was { result ≡ is_some (weight_of item.now self.old) }
         ensures there { IfSome (weight_of item.now self.old) (λ w. self.new
@@ -162,7 +162,7 @@ impl RecencyList {
         was
     }
 
-    /// Takes an entry out.
+    /// Removes an entry.
     pub(super) fn remove(&mut self, item: &CacheEntryKey)
         ensures { self.new ≡ others item.now self.old }
     {
@@ -170,7 +170,7 @@ impl RecencyList {
         self.weight -= gone as u128;
     }
 
-    /// Takes the last entry out.
+    /// Removes the last entry, and returns it with its weight.
     pub(super) fn pop_last(&mut self) -> Option<(CacheEntryKey, usize)>
         ensures last { IfSome result (λ entry. self.old ≡ self.new ++ entry ∷ []) }
         ensures empty { IfNone result (self.old ≡ []) }
@@ -194,8 +194,8 @@ impl RecencyList {
         Ok(())
     }
 
-    /// Puts in an entry that was read from a file: a new one at the back, one that is there at the
-    /// front with the new weight.
+    /// Adds an entry that was read from a file: a new one at the back; one that the list has moves
+    /// to the front, with the new weight.
     pub(super) fn load(&mut self, item: CacheEntryKey, size: usize) -> Result<()>
         ensures ok { OnOk result (self.new ≡ loaded item size self.old) }
         ensures kind { IfErr result (λ e. e ≡ OutOfMemory) }
@@ -207,8 +207,8 @@ impl RecencyList {
         self.push_last(item, size)
     }
 
-    /// Puts in entries that were read from a file, one after the other. If it is refused, some of
-    /// them are in.
+    /// Adds entries that were read from a file, one after the other. A failed call leaves some of
+    /// them added.
     pub(super) fn load_all(&mut self, entries: Vec<(CacheEntryKey, usize)>) -> Result<()>
         ensures ok { OnOk result (self.new ≡ loaded_all entries.items self.old) }
         ensures kind { IfErr result (λ e. e ≡ OutOfMemory) }
@@ -219,7 +219,7 @@ impl RecencyList {
         Ok(())
     }
 
-    /// A second list, equal to this one.
+    /// A copy of this list.
     pub(super) fn copied(&self, alloc: Global) -> Result<RecencyList>
         ensures ok { IfOk result (λ copy. copy ≡ self.now) }
         ensures kind { IfErr result (λ e. e ≡ OutOfMemory) }
@@ -263,8 +263,8 @@ impl RecencyList {
         Ok(())
     }
 
-    /// Whether the limits hold for every list that weighs at most so much more and has at most so
-    /// many entries more.
+    /// Whether the limits hold for every list whose weight and number of entries are larger by at
+    /// most so much.
     pub(super) fn allows(
         &self,
         size: usize,
@@ -285,8 +285,8 @@ impl RecencyList {
         )
     }
 
-    /// Whether the limits hold once this entry is put; the caller knows what the other entries
-    /// weigh and how many there are.
+    /// Whether the limits hold once this entry is put; `rest` is the weight and the number of the
+    /// other entries.
     pub(super) fn fits(
         &self,
         item: &CacheEntryKey,
@@ -305,7 +305,8 @@ impl RecencyList {
         !exceeds(rest.0 + size as u128, rest.1 + 1, limit, watermark)
     }
 
-    /// How many entries go at most when this one is put and the limits are then kept.
+    /// How many entries go at most when this one is put and the list is then brought within the
+    /// limits.
     pub(super) fn room_for(
         &self,
         item: &CacheEntryKey,
@@ -338,8 +339,8 @@ impl RecencyList {
         room
     }
 
-    /// How many entries go at most when this one is put and the limits are then kept, without
-    /// looking whether it is there: some more if it is.
+    /// How many entries go at most when this one is put and the list is then brought within the
+    /// limits, without looking up whether the list has it; if it does, the number may be too large.
     pub(super) fn room_at_most(
         &self,
         item: &CacheEntryKey,
@@ -357,8 +358,8 @@ impl RecencyList {
         self.walk(item, limit, watermark, start).room + 1
     }
 
-    /// Walks over the list from its end as long as the limits do not hold for what it did not pass.
-    /// One entry is neither passed nor counted.
+    /// Walks over the list from its end while the limits do not hold for what it did not pass. One
+    /// entry is neither passed nor counted.
     pub(super) fn walk(
         &self,
         item: &CacheEntryKey,
@@ -389,8 +390,8 @@ impl RecencyList {
         Walk { sum, count, room }
     }
 
-    /// Takes the last entries out until the limits hold, adds them to `out`, and answers what they
-    /// weighed (the largest `usize` if it is more).
+    /// Removes the last entries until the limits hold, adds their keys to `out`, and returns the
+    /// sum of their weights (the largest `usize` if it is larger).
     pub(super) fn evict(
         &mut self,
         limit: usize,
@@ -426,18 +427,18 @@ impl RecencyList {
     }
 }
 
-/// Where a walk stands that makes room for what goes.
+/// The state of a walk that counts the entries that will go.
 #[derive(Clone, Copy, Debug)]
 pub(super) struct Walk {
-    /// What the entries weigh that it did not pass.
+    /// The weight of the entries that it has not passed.
     pub(super) sum: u128,
-    /// How many these are.
+    /// How many entries it has not passed.
     pub(super) count: usize,
-    /// How many it passed.
+    /// How many entries it has passed, for which room is reserved.
     pub(super) room: usize,
 }
 
-/// Sets the weight of an entry that is there, and moves it to the front.
+/// Sets the weight of an entry of the list, and moves it to the front.
 fn set_weight(cache: &mut Weights, item: &CacheEntryKey, size: usize)
     requires { IsSome (weight_of item.now cache.old.entries) }
     ensures { cache.new ≡ lru_cache (put_entries entry_eq cache.old item.now size) cache.old.cap }
@@ -448,9 +449,9 @@ fn set_weight(cache: &mut Weights, item: &CacheEntryKey, size: usize)
     *weight = size;
 }
 
-/// Raises the weight of an entry, and moves it to the front: its weight before and after, if it is
-/// there.
-/// It is a function over the cache alone, since a weight is changed through a lend of it: so one lemma is enough.
+/// Raises the weight of an entry, and moves it to the front. Returns its weight before and after, if the list has
+/// it. This is a function over the cache alone, since the weight is changed through a borrow of it: so one lemma
+/// suffices.
 fn raise_in(
     cache: &mut Weights,
     item: &CacheEntryKey,
@@ -480,7 +481,7 @@ fn push_copy(all: &mut Vec<(CacheEntryKey, usize)>, key: &CacheEntryKey, size: u
     Ok(())
 }
 
-/// Sets the weight of an entry that is there, where it stands.
+/// Sets the weight of an entry of the list in place.
 fn write_weight(cache: &mut Weights, item: &CacheEntryKey, size: usize)
     requires { IsSome (weight_of item.now cache.old.entries) }
     ensures { cache.new ≡ lru_cache (reweighed item.now size cache.old.entries) cache.old.cap }

@@ -1,5 +1,5 @@
-//! An eviction manager that keeps its entries in shards, and in each lets the least recently used
-//! go.
+//! An eviction manager that keeps its entries in shards, and evicts the least recently used ones of
+//! each.
 ghost use Rattle.std.specs.Prelude.{◌≡◌, ◌-◌, ◌^◌, ◌<◌, [], None, is_some, length, OnOk, OnErr, IfOk, IfErr, IsOk, IsSome, IsTrue, min, option_copied};
 ghost use Rattle.std.specs.Vec.{vec_capacity};
 ghost use Rattle.pcache_base.specs.declared.error.ErrorType.TheVariants.{OutOfMemory};
@@ -23,9 +23,9 @@ use std::marker::Model;
 /// their last use; and limits on the sum of all weights and on the number of all entries.
 ///
 /// A contract sees the lists, most recent first, with the limits and the totals of evictions. If
-/// the limits do not hold, the lists give up their last entries, and which list does is not
-/// promised. Each call takes a fixed number of look-ups, two steps for each entry that it evicts,
-/// and one for each empty list that it meets then.
+/// the limits do not hold, the last entries of lists are evicted; which list loses one is not
+/// promised. Each call takes a constant number of look-ups, two steps for each entry that it
+/// evicts, and one for each empty list that it meets while evicting.
 #[derive(Drop)]
 pub struct Manager<const N: usize> {
     alloc: Global,
@@ -49,9 +49,9 @@ impl<const N: usize> Model for Manager<N> {
 }
 
 impl<const N: usize> Manager<N> {
-    /// An empty manager whose entries weigh at most `limit` once it has evicted. The number of
-    /// entries that is expected in a shard promises nothing: the lists grow as they are filled. Their
-    /// tables hash under the seed, which no answer shows.
+    /// An empty manager whose entries weigh at most `limit` after each eviction. The expected number
+    /// of entries in a shard has no effect: the lists grow as they are filled. Their tables hash
+    /// under the seed, on which no result depends.
     pub fn with_capacity(
         alloc: Global,
         seed: Seed,
@@ -65,7 +65,7 @@ impl<const N: usize> Manager<N> {
         Manager::with_capacity_and_watermark(alloc, seed, limit, capacity, None)
     }
 
-    /// An empty manager whose entries weigh at most `limit` once it has evicted, and are at most
+    /// An empty manager whose entries weigh at most `limit` after each eviction, and number at most
     /// `watermark` if that is given.
     pub fn with_capacity_and_watermark(
         alloc: Global,
@@ -88,7 +88,7 @@ impl<const N: usize> Manager<N> {
         })
     }
 
-    /// The most that the entries may weigh once it has evicted.
+    /// The most that the entries may weigh after an eviction.
     pub fn weight_limit(&self) -> usize
         ensures { result ≡ self.now.limits.weight }
     {
@@ -111,7 +111,7 @@ impl<const N: usize> Manager<N> {
         N
     }
 
-    /// The weights of the entries of a shard, added up; the largest `usize` if they are more.
+    /// The sum of the weights of a shard's entries; the largest `usize` if it is larger.
     pub fn shard_weight(&self, shard: usize) -> usize
         requires { shard < N }
         ensures { result ≡ min (weight (list_at self.now.shards shard)) (2 ^ 64 - 1) }
@@ -129,8 +129,8 @@ impl<const N: usize> Manager<N> {
         list.len()
     }
 
-    /// The shard of an entry: the combined hash of its key as a number, big end first, modulo the
-    /// number of shards.
+    /// The shard of an entry: the combined hash of its key as a number (high byte first), modulo
+    /// the number of shards.
     pub fn get_shard_for_key(&self, key: &CacheEntryKey) -> usize
         ensures value { result ≡ shard_of N key.now }
         ensures in_range { result < N }
@@ -138,7 +138,8 @@ impl<const N: usize> Manager<N> {
         self.shards.place_of(key)
     }
 
-    /// The least recently used entry of a shard, if it has one. That does not count as a use.
+    /// The least recently used entry of a shard; `None` if the shard is empty. That does not count
+    /// as a use.
     pub fn peek_lru(&self, shard: usize) -> Option<&CacheEntryKey>
         requires { shard < N }
         ensures { option_copied result ≡ last_key (list_at self.now.shards shard) }
@@ -147,7 +148,7 @@ impl<const N: usize> Manager<N> {
         list.last()
     }
 
-    /// The weight of an entry, if it is there. That does not count as a use.
+    /// The weight of an entry; `None` if it is not tracked. That does not count as a use.
     pub fn peek_weight(&self, item: &CacheEntryKey) -> Option<usize>
         ensures value { result ≡ weight_of item.now (list_at self.now.shards (shard_of N item.now)) }
         ensures placed { ArePlaced N self.now.shards }
@@ -157,7 +158,7 @@ impl<const N: usize> Manager<N> {
         list.weight_of(item)
     }
 
-    /// The weights of all entries, added up; the largest `usize` if they are more.
+    /// The sum of all entries' weights; the largest `usize` if it is larger.
     pub fn total_size(&self) -> usize
         ensures value { result ≡ min (weight (all self.now.shards)) (2 ^ 64 - 1) }
         ensures placed { ArePlaced N self.now.shards }
@@ -173,14 +174,14 @@ impl<const N: usize> Manager<N> {
         self.shards.len()
     }
 
-    /// The weight of all that was evicted so far; the largest `usize` if it is more.
+    /// The sum of the weights of all entries evicted so far; the largest `usize` if it is larger.
     pub fn evicted_size(&self) -> usize
         ensures { result ≡ self.now.evicted.weight }
     {
         self.evicted_size
     }
 
-    /// The number of entries that were evicted so far; the largest `usize` if they are more.
+    /// The number of entries evicted so far; the largest `usize` if it is larger.
     pub fn evicted_items(&self) -> usize
         ensures { result ≡ self.now.evicted.count }
     {
@@ -196,7 +197,7 @@ impl<const N: usize> Manager<N> {
         self.shards.entries(self.alloc)
     }
 
-    /// Whether an entry is there. It stays where it is.
+    /// Whether an entry is tracked. That does not count as a use.
     pub fn peek(&self, item: &CacheEntryKey) -> bool
         ensures value { result ≡ is_some (weight_of item.now (list_at self.now.shards (shard_of N item.now))) }
         ensures placed { ArePlaced N self.now.shards }
@@ -204,8 +205,9 @@ impl<const N: usize> Manager<N> {
         self.peek_weight(item).is_some()
     }
 
-    /// Sets the weight of an entry and moves it to the front of its list; then last entries go as
-    /// long as the limits do not hold. Answers what went. `fresh_until` is not read.
+    /// Sets the weight of an entry and moves it to the front of its list; then last entries are
+    /// evicted while the limits do not hold. Returns the evicted entries. `fresh_until` is not
+    /// read.
     pub fn admit(
         &mut self,
         item: CacheEntryKey,
@@ -222,9 +224,9 @@ impl<const N: usize> Manager<N> {
     }
 
     /// Adds to the weight of an entry, up to `max_weight` (the largest `usize` if that is `None`),
-    /// and then evicts as `admit` does. A weight never falls, and the entry stays where it stands; a
-    /// missing one comes in at the front with what is added, at least 1. It is not refused if the
-    /// entry is there and nothing is evicted.
+    /// and then evicts as `admit` does. A weight never decreases, and the entry keeps its position;
+    /// one that is not tracked is added at the front with this weight, at least 1. Does not fail if
+    /// the entry is tracked and nothing is evicted.
     pub fn increment_weight(
         &mut self,
         item: &CacheEntryKey,
@@ -249,7 +251,7 @@ impl<const N: usize> Manager<N> {
         self.put_and_evict(copy, size)
     }
 
-    /// Takes an entry out, if it is there. That is no eviction.
+    /// Removes an entry, if it is tracked. That is no eviction.
     pub fn remove(&mut self, item: &CacheEntryKey)
         ensures ok { self.new ≡ record self.old { shards = in_shard N item.now (others item.now) self.old.shards } }
         ensures placed { ArePlaced N self.old.shards }
@@ -258,9 +260,9 @@ impl<const N: usize> Manager<N> {
         self.shards.remove(item);
     }
 
-    /// Moves an entry to the front of its list and leaves its weight, or adds it there with this
-    /// one. Answers whether it was there. Nothing is evicted; `fresh_until` is not read. It is not
-    /// refused if the entry is there.
+    /// Moves an entry to the front of its list, with its weight unchanged, or adds it there with
+    /// this weight. Returns whether it was tracked. Nothing is evicted; `fresh_until` is not read.
+    /// Does not fail if the entry is tracked.
     pub fn access(
         &mut self,
         item: &CacheEntryKey,
@@ -284,9 +286,9 @@ impl<const N: usize> Manager<N> {
         Ok(false)
     }
 
-    /// Puts in entries that were read from a file, one after the other: a new one at the back of its
-    /// list, and one that is there is left alone. Nothing is evicted, and a refusal changes nothing
-    /// (own).
+    /// Adds entries that were read from a file, one after the other: a new one at the back of its
+    /// list; one that is tracked is unchanged. Nothing is evicted, and a failed call changes
+    /// nothing (own).
     pub fn load_entries(&mut self, entries: Vec<(CacheEntryKey, usize)>) -> Result<()>
         ensures ok { OnOk result (self.new
             ≡ record self.old { shards = joined_all N entries.items self.old.shards }) }
@@ -307,7 +309,7 @@ impl<const N: usize> Manager<N> {
         list.iter()
     }
 
-    // The room for what goes is made first, so that a refusal leaves all as it was.
+    // The room for the evicted entries is reserved first, so that a failed call changes nothing.
     fn put_and_evict(&mut self, item: CacheEntryKey, size: usize) -> Result<Vec<CacheEntryKey>>
         ensures ok { IfOk result (λ out. Runs N self.old
             (in_shard N item (moved item size) self.old.shards) self.new out.items) }
@@ -326,7 +328,7 @@ impl<const N: usize> Manager<N> {
         Ok(self.keep_limits(place, out))
     }
 
-    // The same for the weight of an entry that is there.
+    // The same for the weight of a tracked entry.
     fn set_and_evict(&mut self, item: &CacheEntryKey, size: usize) -> Result<Vec<CacheEntryKey>>
         requires there { IsSome (weight_of item.now (list_at self.old.shards (shard_of N item.now))) }
         ensures ok { IfOk result (λ out. Runs N self.old
@@ -355,7 +357,7 @@ impl<const N: usize> Manager<N> {
         Ok(self.keep_limits(place, out))
     }
 
-    // Evicts into a list that has the room for what goes.
+    // Evicts into a vector that has room for all evicted entries.
     fn keep_limits(&mut self, place: usize, mut out: Vec<CacheEntryKey>) -> Vec<CacheEntryKey>
         requires within { place < N }
         requires none { out.items ≡ [] }

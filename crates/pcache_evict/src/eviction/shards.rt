@@ -16,7 +16,7 @@ use pcache_base::seed::Seed;
 use std::alloc::Global;
 use std::marker::Model;
 
-/// The most entries that all shards may have together, as many as one list may have.
+/// The most entries that all shards may have together, which is the most that one list may have.
 const MOST_ENTRIES: usize = (1 << 63) - 1;
 
 /// `N` lists of entries with their weights, each entry in the list of its key's shard. A contract
@@ -43,7 +43,7 @@ impl<const N: usize> Model for RecencyShards<N> {
 }
 
 impl<const N: usize> RecencyShards<N> {
-    /// `N` empty lists. Under which seed they hash no answer shows.
+    /// `N` empty lists. No result depends on the seed.
     pub(super) fn new(alloc: Global, seed: Seed) -> Result<RecencyShards<N>>
         requires { 0 < N }
         ensures ok { IfOk result (λ shards. shards ≡ no_entries N) }
@@ -60,7 +60,7 @@ impl<const N: usize> RecencyShards<N> {
         })
     }
 
-    /// The place of the list that an entry stands in.
+    /// The place of the list that an entry belongs to.
     pub(super) fn place_of(&self, item: &CacheEntryKey) -> usize
         ensures value { result ≡ shard_of N item.now }
         ensures in_range { result < N }
@@ -86,7 +86,7 @@ impl<const N: usize> RecencyShards<N> {
         self.items
     }
 
-    /// The weights of the entries, added up.
+    /// The sum of the entries' weights.
     pub(super) fn weight(&self) -> u128
         ensures value { result ≡ weight (all self.now) }
         ensures placed { ArePlaced N self.now }
@@ -129,8 +129,8 @@ impl<const N: usize> RecencyShards<N> {
         Ok(())
     }
 
-    /// Sets the weight of an entry that is there, which stays where it is and takes no memory; the
-    /// caller knows what the other entries weigh.
+    /// Sets the weight of a tracked entry, which keeps its position and takes no memory; `rest` is
+    /// the sum of the other entries' weights.
     pub(super) fn reweigh(&mut self, item: &CacheEntryKey, size: usize, rest: u128)
         requires there { IsSome (weight_of item.now (list_at self.old (shard_of N item.now))) }
         requires sum { rest ≡ weight (others item.now (all self.old)) }
@@ -144,7 +144,7 @@ impl<const N: usize> RecencyShards<N> {
         self.weight = rest + size as u128;
     }
 
-    /// Moves an entry to the front of its list, if it is there.
+    /// Moves an entry to the front of its list, if it is tracked. Returns whether it is.
     pub(super) fn promote(&mut self, item: &CacheEntryKey) -> bool
         ensures was { result ≡ is_some (weight_of item.now (list_at self.old (shard_of N item.now))) }
         ensures there { IfSome (weight_of item.now (list_at self.old (shard_of N item.now))) (λ w. self.new
@@ -156,7 +156,7 @@ impl<const N: usize> RecencyShards<N> {
         list.promote(item)
     }
 
-    /// Takes an entry out.
+    /// Removes an entry.
     pub(super) fn remove(&mut self, item: &CacheEntryKey)
         ensures { self.new ≡ in_shard N item.now (others item.now) self.old }
     {
@@ -168,9 +168,9 @@ impl<const N: usize> RecencyShards<N> {
         self.items = rest.1;
     }
 
-    /// Puts in entries that were read from a file, one after the other, each at the back of its list;
-    /// one that is there is left alone. A refusal changes nothing: what was added at the back of the
-    /// lists is taken off again, which takes no memory.
+    /// Adds entries that were read from a file, one after the other, each at the back of its list;
+    /// one that is tracked is unchanged. A failed call changes nothing: the entries that were added
+    /// at the back of the lists are removed again, which takes no memory.
     pub(super) fn join_all(
         &mut self,
         alloc: Global,
@@ -200,7 +200,7 @@ impl<const N: usize> RecencyShards<N> {
         Ok(lens)
     }
 
-    /// Puts in entries until one is refused.
+    /// Adds entries until an addition fails.
     fn join_each(&mut self, entries: Vec<(CacheEntryKey, usize)>) -> Result<()>
         ensures ok { OnOk result (self.new ≡ joined_all N entries.items self.old) }
         ensures kind { IfErr result (λ e. e ≡ OutOfMemory) }
@@ -212,7 +212,7 @@ impl<const N: usize> RecencyShards<N> {
         Ok(())
     }
 
-    /// Puts in an entry at the back of its list, or leaves it alone if it is there.
+    /// Adds an entry at the back of its list; one that is tracked is unchanged.
     fn join(&mut self, item: CacheEntryKey, size: usize) -> Result<()>
         ensures ok { OnOk result (self.new ≡ in_shard N item (joined item size) self.old) }
         ensures kind { IfErr result (λ e. e ≡ OutOfMemory) }
@@ -245,7 +245,7 @@ impl<const N: usize> RecencyShards<N> {
         Ok(())
     }
 
-    /// Takes entries off the back of the lists until they have so many.
+    /// Removes entries from the back of the lists until they have these lengths.
     fn cut(&mut self, lens: &[usize])
         requires { length lens.now ≡ N }
         ensures { (shards : List Recency) → AreLengths N lens.now shards → AreLonger shards self.old
@@ -258,7 +258,7 @@ impl<const N: usize> RecencyShards<N> {
         self.len(); // for the prover: once it is asked, the invariant is known
     }
 
-    /// Takes entries off the back of a list until it has at most so many.
+    /// Removes entries from the back of a list until it has at most so many.
     fn truncate(&mut self, place: usize, len: usize)
         requires { place < N }
         ensures { self.new ≡ slice_set self.old place (take len (list_at self.old place)) }
@@ -270,7 +270,7 @@ impl<const N: usize> RecencyShards<N> {
         self.len(); // for the prover: once it is asked, the invariant is known
     }
 
-    /// Takes out the last entry of a list.
+    /// Removes the last entry of a list.
     fn pop(&mut self, place: usize)
         requires within { place < N }
         requires some { 0 < length (list_at self.old place) }
@@ -297,8 +297,8 @@ impl<const N: usize> RecencyShards<N> {
         Ok(entries)
     }
 
-    /// Whether the limits hold once the weight of an entry that is there is set; the caller knows
-    /// what the other entries weigh and how many there are.
+    /// Whether the limits hold once the weight of a tracked entry is set; the caller passes the
+    /// weight and the number of the other entries.
     pub(super) fn fits(
         &self,
         item: &CacheEntryKey,
@@ -319,9 +319,9 @@ impl<const N: usize> RecencyShards<N> {
         !exceeds(rest.0 + size as u128, rest.1 + 1, limit, watermark)
     }
 
-    /// How many entries go at most when this one is put, or if it is there its weight is set, and
-    /// the limits are then kept; the caller knows what the other entries weigh and how many there
-    /// are.
+    /// How many entries go at most when this one is put, or its weight is set if it is tracked, and
+    /// the lists are then brought within the limits; the caller passes the weight and the number of
+    /// the other entries.
     pub(super) fn room_for(
         &self,
         item: &CacheEntryKey,
@@ -382,9 +382,9 @@ impl<const N: usize> RecencyShards<N> {
         walk
     }
 
-    /// Takes entries out, each the last one of a list, until the limits hold, adds them to `out`,
-    /// and answers what they weighed (the largest `usize` if it is more). The lists give up
-    /// their entries in turn: first the one after this place, last the one at it.
+    /// Removes entries, each the last one of a list, until the limits hold, adds their keys to
+    /// `out`, and returns the sum of their weights (the largest `usize` if it is larger). The lists
+    /// lose their entries in turn: first the one after this place, last the one at it.
     pub(super) fn evict(
         &mut self,
         place: usize,
@@ -408,7 +408,7 @@ impl<const N: usize> RecencyShards<N> {
         usize::try_from(before - self.weight()).unwrap_or(usize::MAX)
     }
 
-    /// Takes out the last entry of the first list in turn that has one.
+    /// Removes the last entry of the first list in turn that has one.
     fn pop_first(&mut self, place: usize) -> Option<CacheEntryKey>
         requires { place < N }
         ensures some { IfSome result (λ k. Pops N place self.old k self.new) }

@@ -1,4 +1,4 @@
-//! An eviction manager that lets the least recently used entries go.
+//! An eviction manager that evicts the least recently used entries.
 ghost use Rattle.std.specs.Prelude.{◌≡◌, ◌-◌, ◌^◌, [], None, is_some, length, OnOk, OnErr, IfOk, IfErr, IsOk, IsSome, min};
 ghost use Rattle.std.specs.Vec.{vec_capacity};
 ghost use Rattle.pcache_base.specs.declared.error.ErrorType.TheVariants.{OutOfMemory};
@@ -18,7 +18,7 @@ use std::marker::Model;
 /// on the number of entries.
 ///
 /// A contract sees the list, most recent first, with the limits and the totals of evictions. Each
-/// call takes a fixed number of look-ups, and two steps for each entry that it evicts.
+/// call takes a constant number of look-ups, and two steps for each entry that it evicts.
 #[derive(Drop)]
 pub struct Manager {
     alloc: Global,
@@ -42,8 +42,8 @@ impl Model for Manager {
 }
 
 impl Manager {
-    /// An empty manager whose entries weigh at most `limit` once it has evicted. Its table of entries
-    /// hashes under the seed, which no answer shows.
+    /// An empty manager whose entries weigh at most `limit` after each eviction. Its table of entries
+    /// hashes under the seed, on which no result depends.
     pub fn new(alloc: Global, seed: Seed, limit: usize) -> Result<Manager>
         ensures ok { IfOk result (λ m. m ≡ empty_list limit None) }
         ensures kind { IfErr result (λ e. e ≡ OutOfMemory) }
@@ -51,7 +51,7 @@ impl Manager {
         Manager::new_with_watermark(alloc, seed, limit, None)
     }
 
-    /// An empty manager whose entries weigh at most `limit` once it has evicted, and are at most
+    /// An empty manager whose entries weigh at most `limit` after each eviction, and number at most
     /// `items_watermark` if that is given.
     pub fn new_with_watermark(
         alloc: Global,
@@ -72,7 +72,7 @@ impl Manager {
         })
     }
 
-    /// The weights of the entries, added up; the largest `usize` if they are more.
+    /// The sum of the entries' weights; the largest `usize` if it is larger.
     pub fn total_size(&self) -> usize
         ensures value { result ≡ min (weight self.now.entries) (2 ^ 64 - 1) }
         ensures once { IsOnce self.now.entries }
@@ -88,14 +88,14 @@ impl Manager {
         self.list.len()
     }
 
-    /// The weight of all that was evicted so far; the largest `usize` if it is more.
+    /// The sum of the weights of all entries evicted so far; the largest `usize` if it is larger.
     pub fn evicted_size(&self) -> usize
         ensures { result ≡ self.now.evicted.weight }
     {
         self.evicted_size
     }
 
-    /// The number of entries that were evicted so far; the largest `usize` if they are more.
+    /// The number of entries evicted so far; the largest `usize` if it is larger.
     pub fn evicted_items(&self) -> usize
         ensures { result ≡ self.now.evicted.count }
     {
@@ -111,15 +111,16 @@ impl Manager {
         self.list.entries(self.alloc)
     }
 
-    /// Whether an entry is there. It stays where it is.
+    /// Whether an entry is tracked. That does not count as a use.
     pub fn peek(&self, item: &CacheEntryKey) -> bool
         ensures { result ≡ is_some (weight_of item.now self.now.entries) }
     {
         self.list.weight_of(item).is_some()
     }
 
-    /// Sets the weight of an entry and moves it to the front; then the last entry goes as long as
-    /// the limits do not hold. Answers what went, least recent first. `fresh_until` is not read.
+    /// Sets the weight of an entry and moves it to the front; then the last entry is evicted while
+    /// the limits do not hold. Returns the evicted entries, the least recently used first.
+    /// `fresh_until` is not read.
     pub fn admit(
         &mut self,
         item: CacheEntryKey,
@@ -134,9 +135,9 @@ impl Manager {
         self.put_and_evict(item, size)
     }
 
-    /// Adds to the weight of an entry, up to `max_weight` (the largest `usize` if that is
-    /// `None`), and then does as `admit`. A weight never falls; a missing entry comes in with what
-    /// is added, at least 1. It is not refused if the entry is there and nothing is evicted.
+    /// Adds to the weight of an entry, up to `max_weight` (the largest `usize` if that is `None`),
+    /// and then does as `admit`. A weight never decreases; an entry that is not tracked is added
+    /// with this weight, at least 1. Does not fail if the entry is tracked and nothing is evicted.
     pub fn increment_weight(
         &mut self,
         item: &CacheEntryKey,
@@ -170,16 +171,16 @@ impl Manager {
         self.put_and_evict(copy, size)
     }
 
-    /// Takes an entry out, if it is there. That is no eviction.
+    /// Removes an entry, if it is tracked. That is no eviction.
     pub fn remove(&mut self, item: &CacheEntryKey)
         ensures { self.new ≡ record self.old { entries = others item.now self.old.entries } }
     {
         self.list.remove(item);
     }
 
-    /// Moves an entry to the front and leaves its weight, or adds it there with this one. Answers
-    /// whether it was there. Nothing is evicted; `fresh_until` is not read. It is not refused if
-    /// the entry is there.
+    /// Moves an entry to the front, with its weight unchanged, or adds it there with this weight.
+    /// Returns whether it was tracked. Nothing is evicted; `fresh_until` is not read. Does not fail
+    /// if the entry is tracked.
     pub fn access(
         &mut self,
         item: &CacheEntryKey,
@@ -201,8 +202,8 @@ impl Manager {
         Ok(false)
     }
 
-    /// Puts in an entry that was read from a file: a new one at the back, one that is there at the
-    /// front with the new weight. Nothing is evicted (own).
+    /// Adds an entry that was read from a file: a new one at the back; one that is tracked moves to
+    /// the front, with the new weight. Nothing is evicted (own).
     pub fn load_entry(&mut self, item: CacheEntryKey, size: usize) -> Result<()>
         ensures ok { OnOk result (self.new
             ≡ record self.old { entries = loaded item size self.old.entries }) }
@@ -215,9 +216,9 @@ impl Manager {
         self.list.push_last(item, size)
     }
 
-    /// Puts in entries that were read from a file, one after the other, each as `load_entry` does.
-    /// They go into a list beside this one, which then takes its place: a refusal changes nothing
-    /// (own).
+    /// Adds entries that were read from a file, one after the other, each as `load_entry` does.
+    /// They are added to a copy of the list, which then replaces it, so that a failed call changes
+    /// nothing (own).
     pub fn load_entries(&mut self, entries: Vec<(CacheEntryKey, usize)>) -> Result<()>
         ensures ok { OnOk result (self.new
             ≡ record self.old { entries = loaded_all entries.items self.old.entries }) }
@@ -238,7 +239,7 @@ impl Manager {
         self.list.iter()
     }
 
-    // The room for what goes is made first, so that a refusal leaves all as it was.
+    // The room for the evicted entries is reserved first, so that a failed call changes nothing.
     fn put_and_evict(&mut self, item: CacheEntryKey, size: usize) -> Result<Vec<CacheEntryKey>>
         ensures ok { IfOk result (λ out. Moves self.old
             (moved item size self.old.entries) self.new out.items) }
@@ -260,7 +261,8 @@ impl Manager {
         Ok(self.keep_limits(out))
     }
 
-    // Room for what goes when this entry is put and the limits are then kept, and for no more.
+    // A vector with room for exactly the entries that go when this one is put and the list is then
+    // brought within the limits.
     fn exact_room(&self, item: &CacheEntryKey, size: usize) -> Result<Vec<CacheEntryKey>>
         ensures ok { IfOk result (λ out. (out.items ≡ [])
             × IsEnough self.now.limits (moved item.now size self.now.entries) (vec_capacity out)) }
@@ -273,9 +275,9 @@ impl Manager {
         Ok(Vec::with_capacity(self.alloc, room)?)
     }
 
-    // Evicts into a list that has the room for what goes. It stands in line: a list that it handed
-    // back through memory was read only once all writes before were done, also those to entries
-    // that the processor still waited for, which took a quarter of `increment_weight`.
+    // Evicts into a vector that has room for all evicted entries. It is inlined: a vector that it
+    // returned through memory was read only once all writes before were done, also those to entries
+    // for which the processor still waited, which took a quarter of the time of `increment_weight`.
     #[inline(always)]
     fn keep_limits(&mut self, mut out: Vec<CacheEntryKey>) -> Vec<CacheEntryKey>
         requires none { out.items ≡ [] }

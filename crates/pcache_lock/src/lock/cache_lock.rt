@@ -31,7 +31,7 @@ const N_SHARDS: usize = 16;
 pub struct CacheLock {
     cores: Table<LockCore>,
     standing: Shards<u64, N_SHARDS>,
-    // Wide, so that it can stand after the last number.
+    // The next number; wider than a number, so that it can be past the last one.
     next: u128,
     age_timeout: Duration,
 }
@@ -58,7 +58,7 @@ fn set_entry(standing: &mut Shards<u64, N_SHARDS>, slot: u128, number: u64)
     };
 }
 
-// Takes out the entry of a lock, if it stands under its key.
+// Removes the entry of a lock, if it is the current one of its key.
 fn leave_entry(standing: &mut Shards<u64, N_SHARDS>, place: u128, slot: Option<u128>)
     ensures { standing.new ≡ without_entry place slot standing.old }
 {
@@ -71,7 +71,7 @@ fn leave_entry(standing: &mut Shards<u64, N_SHARDS>, place: u128, slot: Option<u
     }
 }
 
-// A read lock more on a lock.
+// Counts one more read lock on a lock.
 fn add_reader(cores: &mut Table<LockCore>, place: u128)
     ensures { cores.new ≡ changed with_reader cores.old place (map.get cores.old place) }
 {
@@ -81,7 +81,7 @@ fn add_reader(cores: &mut Table<LockCore>, place: u128)
     core.add_reader();
 }
 
-// A read lock less.
+// Counts one read lock less.
 fn forget_reader(cores: &mut Table<LockCore>, place: u128)
     ensures { cores.new ≡ changed without_reader cores.old place (map.get cores.old place) }
 {
@@ -91,7 +91,7 @@ fn forget_reader(cores: &mut Table<LockCore>, place: u128)
     core.forget_reader();
 }
 
-// The permit is gone.
+// Records that the permit is gone.
 fn spend(cores: &mut Table<LockCore>, place: u128, status: LockStatus)
     ensures { cores.new ≡ changed (λ c. spent c status) cores.old place (map.get cores.old place) }
 {
@@ -101,7 +101,7 @@ fn spend(cores: &mut Table<LockCore>, place: u128, status: LockStatus)
     core.spend(status);
 }
 
-// The permit's holder tells where the fill ended.
+// Sets the status with which the fill ended, while the permit is still held.
 fn unlock(cores: &mut Table<LockCore>, place: u128, reason: LockStatus)
     requires { IsReason reason }
     ensures { cores.new ≡ changed (ended reason) cores.old place (map.get cores.old place) }
@@ -112,7 +112,7 @@ fn unlock(cores: &mut Table<LockCore>, place: u128, reason: LockStatus)
     core.unlock(reason);
 }
 
-// The permit was found too old.
+// Records that the permit is too old.
 fn age(cores: &mut Table<LockCore>, place: u128)
     ensures { cores.new ≡ changed aged cores.old place (map.get cores.old place) }
 {
@@ -122,7 +122,7 @@ fn age(cores: &mut Table<LockCore>, place: u128)
     core.age();
 }
 
-// A publication in place of the one that stood.
+// Replaces the current publication.
 fn publish(alloc: Global, cores: &mut Table<LockCore>, place: u128, tokens: &[u64]) -> Result<()>
     ensures ok { OnOk result (cores.new ≡ changed (with_publication tokens.now) cores.old place (map.get cores.old place)) }
     ensures clears { tokens.now ≡ [] → IsOk result }
@@ -136,7 +136,7 @@ fn publish(alloc: Global, cores: &mut Table<LockCore>, place: u128, tokens: &[u6
 }
 
 impl CacheLock {
-    /// A table with no lock, whose permits are too old after this time.
+    /// A table with no lock, whose permits are too old after `age_timeout`.
     pub fn new(alloc: Global, age_timeout: Duration) -> CacheLock
         ensures { result ≡ no_locks (as_nanos age_timeout) }
     {
@@ -148,7 +148,7 @@ impl CacheLock {
         }
     }
 
-    /// A table with no lock whose next permit has this number, so that a caller sees how the last numbers are given.
+    /// A table with no lock whose next permit has this number, so that a caller can try the last numbers.
     pub fn starting_at(alloc: Global, age_timeout: Duration, next: u128) -> CacheLock
         ensures { result ≡ no_locks_from next (as_nanos age_timeout) }
     {
@@ -160,7 +160,7 @@ impl CacheLock {
         }
     }
 
-    /// A table with no lock, in a box. It is refused only when memory runs out.
+    /// A table with no lock, in a box. Fails only when memory runs out.
     pub fn new_boxed(alloc: Global, age_timeout: Duration) -> Result<Box<CacheLock>>
         ensures made { IfOk result (λ b. b.value ≡ no_locks (as_nanos age_timeout)) }
         ensures kind { IfErr result (λ e. e ≡ OutOfMemory) }
@@ -175,7 +175,7 @@ impl CacheLock {
         self.cores.get(u128::from(number))
     }
 
-    /// The entry that stands under a key.
+    /// The current entry of a key.
     pub fn stub(&self, key: &CacheKey) -> Option<LockStub>
         ensures { result ≡ map.get self.now.standing (slot key.now) }
     {
@@ -183,10 +183,10 @@ impl CacheLock {
         Some(LockStub::new(*number))
     }
 
-    /// A permit under no key, with an age limit of its own.
+    /// A permit for no key, with an age limit of its own.
     ///
-    /// It is refused when memory runs out, or if all 64-bit numbers of locks are used, and then
-    /// changes nothing.
+    /// Fails when memory runs out, or if all 64-bit numbers of locks are used, and then changes
+    /// nothing.
     pub fn new_permit(
         &mut self,
         alloc: Global,
@@ -221,7 +221,7 @@ impl CacheLock {
         }
     }
 
-    // A read lock more on a lock.
+    // Gives one more read lock on a lock.
     pub(super) fn read_lock(&mut self, number: u64) -> ReadLock
         ensures reader { result ≡ record { number = number; watch = None } }
         ensures table { self.new ≡ with_read_lock self.old number (map.get self.old.cores number) }
@@ -230,7 +230,7 @@ impl CacheLock {
         ReadLock::new(number)
     }
 
-    // Says with which status a lock ended.
+    // Sets the status with which a lock ended.
     pub(super) fn unlock(&mut self, number: u64, reason: LockStatus)
         requires { IsReason reason }
         ensures { self.new ≡ unlocked self.old number reason }
@@ -238,7 +238,7 @@ impl CacheLock {
         unlock(&mut self.cores, u128::from(number), reason);
     }
 
-    // The lock on which a request for the key would wait.
+    // The lock that a request for the key would wait for.
     fn holder(&self, slot: u128) -> Option<u64>
         ensures { result ≡ holder self.now slot }
     {
@@ -251,7 +251,7 @@ impl CacheLock {
         }
     }
 
-    // A new lock under a key, in the place of the key's entry.
+    // Adds a new lock of a key, which becomes the key's current entry.
     fn add_core(&mut self, number: u64, slot: u128, core: LockCore) -> Result<()>
         requires { number ≡ self.old.next }
         ensures ok { OnOk result (self.new ≡ with_core self.old slot core) }
@@ -273,7 +273,7 @@ impl CacheLock {
         Ok(())
     }
 
-    // Takes out a lock that nobody names any more, and its entry.
+    // Removes a lock that nothing names any more, and its entry.
     fn forget(&mut self, place: u128, slot: Option<u128>)
         ensures { self.new ≡ record self.old { cores = map.remove self.old.cores place; standing = without_entry place slot self.old.standing } }
     {

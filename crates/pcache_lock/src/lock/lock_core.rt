@@ -17,7 +17,7 @@ use std::alloc::Global;
 use std::marker::Model;
 use std::time::Duration;
 
-/// What a table knows of a lock: since when its permit is held, where it stands, and who names it.
+/// What a table knows of a lock: since when its permit is held, its status, and how many name it.
 #[derive(Drop)]
 pub struct LockCore {
     slot: Option<u128>,
@@ -49,7 +49,7 @@ impl Model for LockCore {
 }
 
 impl LockCore {
-    /// A lock whose permit is given now, under no key.
+    /// A lock whose permit is given now, for no key.
     pub fn new(alloc: Global, age_timeout: Duration, stale_writer: bool, now: Moment) -> LockCore
         ensures { result ≡ new_core None (as_nanos age_timeout) stale_writer now }
     {
@@ -65,7 +65,7 @@ impl LockCore {
         }
     }
 
-    // The same, under a key.
+    // The same, for a key.
     pub(super) fn under(
         alloc: Global,
         slot: u128,
@@ -94,7 +94,7 @@ impl LockCore {
         self.held && matches!(self.status, LockStatus::Waiting | LockStatus::AgeTimeout)
     }
 
-    /// Says with which status it ended.
+    /// Sets the status with which it ended.
     pub fn unlock(&mut self, reason: LockStatus)
         requires { IsReason reason }
         ensures { self.new ≡ ended reason self.old }
@@ -102,7 +102,7 @@ impl LockCore {
         self.status = reason;
     }
 
-    /// Where it stands.
+    /// Its status.
     pub fn lock_status(&self) -> LockStatus
         ensures { result ≡ self.now.status }
     {
@@ -130,7 +130,7 @@ impl LockCore {
         self.age_timeout
     }
 
-    // The key that it was asked for under.
+    // The slot of the key for which it was given.
     pub(super) fn slot(&self) -> Option<u128>
         ensures { result ≡ self.now.slot }
     {
@@ -151,7 +151,7 @@ impl LockCore {
         self.held || self.readers.saturating_sub(1) > 0
     }
 
-    // Where it stands once the permit is let go.
+    // Its status once the permit is let go.
     pub(super) fn dropped_status(&self) -> LockStatus
         ensures { result ≡ dropped_status self.now.status }
     {
@@ -162,21 +162,21 @@ impl LockCore {
         }
     }
 
-    // A read lock more.
+    // Counts one more read lock.
     pub(super) fn add_reader(&mut self)
         ensures { self.new ≡ with_reader self.old }
     {
         self.readers = self.readers.saturating_add(1);
     }
 
-    // A read lock less.
+    // Counts one read lock less.
     pub(super) fn forget_reader(&mut self)
         ensures { self.new ≡ without_reader self.old }
     {
         self.readers = self.readers.saturating_sub(1);
     }
 
-    // The permit is gone.
+    // Records that the permit is gone.
     pub(super) fn spend(&mut self, status: LockStatus)
         ensures { self.new ≡ spent self.old status }
     {
@@ -184,7 +184,7 @@ impl LockCore {
         self.status = status;
     }
 
-    // Where its permit is at this moment.
+    // The stage of its permit at this moment.
     pub(super) fn stage(&self, now: Moment) -> Stage
         ensures { result ≡ stage_of now self.now }
     {
@@ -204,7 +204,7 @@ impl LockCore {
         now.since(self.start).as_nanos() >= self.age_timeout.as_nanos()
     }
 
-    // Where it stands for a reader at this moment.
+    // Its status for a reader at this moment.
     pub(super) fn status_at(&self, now: Moment) -> LockStatus
         ensures { result ≡ status_at now self.now }
     {
@@ -215,7 +215,7 @@ impl LockCore {
         }
     }
 
-    // Its permit was found too old.
+    // Records that its permit is too old.
     pub(super) fn age(&mut self)
         ensures { self.new ≡ aged self.old }
     {
@@ -229,14 +229,14 @@ impl LockCore {
         self.publications.len()
     }
 
-    // What a reader is told by the publications from one on.
+    // The fill that a reader is told of by the publications from one on.
     pub(super) fn first_told(&self, fills: &UnusableFills, from: usize) -> Option<UnusableFill>
         ensures { result ≡ first_told fills.now (drop from self.now.publications) }
     {
         self.publications.first_told(fills, from)
     }
 
-    // Puts a publication in the place of the one that stood.
+    // Replaces the current publication.
     pub(super) fn publish(&mut self, alloc: Global, tokens: &[u64]) -> Result<()>
         ensures ok { OnOk result (self.new ≡ with_publication tokens.now self.old) }
         ensures clears { tokens.now ≡ [] → IsOk result }

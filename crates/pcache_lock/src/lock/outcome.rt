@@ -1,4 +1,4 @@
-//! What a wait answers.
+//! What a wait returns.
 ghost use Rattle.std.specs.Prelude.{◌≡◌};
 ghost use Rattle.pcache_lock.specs.Outcomes.{status_of_outcome};
 
@@ -6,7 +6,7 @@ use crate::lock::status::LockStatus;
 use pcache_base::fills::UnusableFill;
 use pcache_base::reason::NoCacheReason;
 
-/// What a poll of a read lock answers.
+/// What a poll of a read lock returns.
 #[derive(Clone, Copy, Debug, PartialEq, Eq)]
 pub enum WaitOutcome {
     /// The permit is over: released, unlocked or let go. The lock's status says how.
@@ -24,9 +24,9 @@ pub enum LockWaitOutcome {
     Done,
     /// The fill failed, and another request may try.
     TransientError,
-    /// The permit was let go without a word.
+    /// The permit was let go without a status.
     Dangling,
-    /// The reader waited for as long as it was ready to.
+    /// The reader waited for as long as its timeout allows.
     WaitTimeout,
     /// The permit was held for too long.
     AgeTimeout,
@@ -57,7 +57,7 @@ impl LockWaitOutcome {
     }
 }
 
-/// Where a lock's permit is when a reader asks.
+/// The stage of a lock's permit when a reader polls.
 #[derive(Clone, Copy, Debug, PartialEq, Eq)]
 pub enum Stage {
     /// It was released, unlocked or let go.

@@ -1,4 +1,4 @@
-//! The linear values that a table of locks gives: each has to be spent.
+//! The linear values that a table of locks gives. Each has to be spent.
 ghost use Rattle.std.specs.Prelude.{◌≡◌, [], IfErr, IfOk, IsOk, IsSome, None, OnErr, OnOk, Some, is_some, option_copied, unwrap_or};
 ghost use Rattle.pcache_base.specs.declared.error.ErrorType.TheVariants.{OutOfMemory};
 ghost use Rattle.pcache_lock.specs.Locks.{is_permit, number_of_lock};
@@ -59,7 +59,7 @@ impl WritePermit {
     }
 }
 
-// What a reader watches for since its first poll.
+// What a reader watches for from its first poll on.
 #[derive(Drop)]
 struct Watch {
     // The fills that it cannot use.
@@ -79,7 +79,7 @@ impl Model for Watch {
 }
 
 impl Watch {
-    // What a reader that has not been told watches for from now on.
+    // What a reader that was not told of a fill watches for from now on.
     fn first(alloc: Global, core: &LockCore, fills: Option<&UnusableFills>) -> Result<Watch>
         ensures made { IfOk result (λ w. w ≡ first_watch core.now (unwrap_or (option_copied fills.entry) [])) }
         ensures kind { IfErr result (λ e. e ≡ OutOfMemory) }
@@ -96,7 +96,7 @@ impl Watch {
         })
     }
 
-    // Looks at what was published since.
+    // Looks at the publications since the last look.
     fn look(&mut self, core: &LockCore) -> Option<UnusableFill>
         ensures watch { self.new ≡ watched core.now self.old }
         ensures told { result ≡ self.new.told }
@@ -109,7 +109,7 @@ impl Watch {
     }
 }
 
-/// The wait for another request's permit. It is spent by `drop_lock`.
+/// A read lock: the wait for another request's permit. It is spent by `drop_lock`.
 pub struct ReadLock {
     number: u64,
     watch: Option<Watch>,
@@ -140,15 +140,15 @@ impl ReadLock {
         self.number
     }
 
-    /// Whether a poll answered that it has to wait.
+    /// Whether a poll returned that it has to wait.
     pub fn was_polled(&self) -> bool
         ensures { result ≡ is_some self.now.watch }
     {
         self.watch.is_some()
     }
 
-    // Looks, as a poll does, at what the writer published. The first time it takes down the fills
-    // that the reader cannot use, and that alone takes memory.
+    // Looks, as a poll does, at what the writer published. The first time it records the fills that
+    // the reader cannot use, and only that takes memory.
     pub(super) fn look(
         &mut self,
         alloc: Global,
@@ -206,7 +206,7 @@ impl Locked {
     }
 }
 
-/// What stands for a lock under its key.
+/// The entry of a key, which names its current lock.
 #[derive(Clone, Copy, Debug, PartialEq, Eq)]
 pub struct LockStub {
     number: u64,
@@ -229,7 +229,7 @@ impl LockStub {
         LockStub { number }
     }
 
-    /// The number of the lock that it stands for.
+    /// The number of the lock that it names.
     pub fn number(&self) -> u64
         ensures { result ≡ self.now }
     {

@@ -1,4 +1,4 @@
-//! Calls of permits, read locks and stubs that are lent their table.
+//! Calls of permits, read locks and stubs that borrow their table.
 ghost use Rattle.std.specs.Prelude.{◌≡◌, [], IfErr, IfOk, IsOk, None, OnErr, OnOk, Some};
 ghost use Rattle.std.specs.FinMap.{get};
 ghost use Rattle.pcache_base.specs.declared.error.ErrorType.TheVariants.{OutOfMemory};
@@ -18,7 +18,7 @@ use pcache_base::poll::Poll;
 use std::alloc::Global;
 
 impl WritePermit {
-    /// Says with which status the fill ended, before the permit itself is spent.
+    /// Sets the status with which the fill ended, before the permit itself is spent.
     pub fn unlock(&mut self, lock: &mut CacheLock, reason: LockStatus)
         requires { IsReason reason }
         ensures table { lock.new ≡ unlocked lock.old self.old.number reason }
@@ -27,7 +27,7 @@ impl WritePermit {
         lock.unlock(self.number(), reason);
     }
 
-    /// Where its lock stands.
+    /// The status of its lock.
     pub fn lock_status(&self, lock: &CacheLock) -> LockStatus
         ensures { result ≡ status_kept (get lock.now.cores self.now.number) }
     {
@@ -37,10 +37,11 @@ impl WritePermit {
         }
     }
 
-    /// Publishes what its holder found out about the fill, in place of what stood.
+    /// Publishes tokens of what its holder found out about the fill. They replace the current
+    /// publication.
     ///
-    /// It is refused only when memory runs out, and then changes nothing. No tokens clear what
-    /// stood, which is never refused.
+    /// Fails only when memory runs out, and then changes nothing. An empty list clears the
+    /// publication, which never fails.
     pub fn publish<L: CacheKeyLock>(
         &self,
         alloc: Global,
@@ -57,7 +58,7 @@ impl WritePermit {
 }
 
 impl ReadLock {
-    /// Asks whether the wait is over, whatever its writer publishes.
+    /// Asks whether the wait is over, without regard to publications.
     pub fn wait<L: CacheKeyLock>(
         &mut self,
         alloc: Global,
@@ -74,9 +75,9 @@ impl ReadLock {
         }
     }
 
-    /// Asks whether the wait is over, or its writer published a fill that is of no use.
+    /// Asks whether the wait is over, or its writer published a fill that the reader cannot use.
     ///
-    /// It is refused only when memory runs out, and then changes nothing.
+    /// Fails only when memory runs out, and then changes nothing.
     pub fn wait_unless_published<L: CacheKeyLock>(
         &mut self,
         alloc: Global,
@@ -94,7 +95,7 @@ impl ReadLock {
         lock.poll_wait(alloc, self, Some(unusable), now)
     }
 
-    /// Whether the permit that it waits on is still held, and was not unlocked.
+    /// Whether the permit that it waits for is still held, and was not unlocked.
     pub fn locked(&self, lock: &CacheLock) -> bool
         ensures { result ≡ locked_at (get lock.now.cores self.now.number) }
     {
@@ -104,7 +105,8 @@ impl ReadLock {
         }
     }
 
-    /// Whether that permit has been held for too long at this moment, found so by a poll or not.
+    /// Whether that permit has been held for too long at this moment, whether or not a poll found
+    /// that.
     pub fn expired(&self, lock: &CacheLock, now: Moment) -> bool
         ensures { result ≡ expired_at now (get lock.now.cores self.now.number) }
     {
@@ -114,7 +116,7 @@ impl ReadLock {
         }
     }
 
-    /// Where the lock stands: too old as soon as that moment has come.
+    /// The status of the lock: too old as soon as that moment has come.
     pub fn lock_status<L: CacheKeyLock>(&self, lock: &L, now: Moment) -> LockStatus
         ensures { result ≡ status_seen now (get (L.table lock.now).cores self.now.number) }
     {
@@ -123,7 +125,7 @@ impl ReadLock {
 }
 
 impl LockStub {
-    /// A read lock more on its lock.
+    /// One more read lock on its lock.
     pub fn read_lock(&self, lock: &mut CacheLock) -> ReadLock
         ensures reader { result ≡ record { number = self.now; watch = None } }
         ensures table { lock.new ≡ with_read_lock lock.old self.now (get lock.old.cores self.now) }

@@ -1,7 +1,7 @@
 //! What the holder of a permit published, found by its tokens.
 //!
-//! A reader looks for the first publication that has one of its fills. Beside the publications stands an index of their
-//! tokens, so that a look costs what the reader's own fills cost, however much was published.
+//! A reader looks for the first publication that has one of its fills. An index of the tokens is kept beside the
+//! publications, so that a look takes time for each of the reader's own fills, however much was published.
 ghost use Rattle.std.specs.Prelude.{◌≡◌, ◌<◌, ◌≤◌, ◌-◌, ◌==◌, ◌||◌, ◌&&◌, ◌++◌, ◌∷◌, ◌^◌, not, ℕ, [], IfErr, IsOk, OnErr, OnOk, drop, false, length, slice_get, true};
 ghost use Rattle.std.specs.BTreeSet.{contains};
 ghost use Rattle.std.specs.Ordering.{nat_cmp};
@@ -37,17 +37,17 @@ impl Publication {
     }
 }
 
-// As many places as a token can have.
+// How many positions a token can have.
 const PLACES: u128 = 0x1_0000_0000_0000_0000;
 
-// What stands in the index for a token that was published at this place.
+// The index entry of a token in the publication at this position.
 fn entry(token: u64, place: usize) -> u128
     ensures { result ≡ entry_of token place }
 {
     u128::from(token) * PLACES + place as u128
 }
 
-// Puts the tokens of a publication at this place into the index.
+// Adds the tokens of the publication at this position to the index.
 fn mark(index: &mut BTreeSet<u128>, place: usize, tokens: &[u64]) -> Result<()>
     requires { (q : ℕ) → stands_for place tokens.now q ≡ true → contains nat_cmp index.old q ≡ false }
     ensures ok { OnOk result ((q : ℕ) → contains nat_cmp index.new q ≡ (contains nat_cmp index.old q || stands_for place tokens.now q)) }
@@ -63,7 +63,7 @@ fn mark(index: &mut BTreeSet<u128>, place: usize, tokens: &[u64]) -> Result<()>
     Ok(())
 }
 
-// Takes them out.
+// Removes them from the index.
 fn unmark(index: &mut BTreeSet<u128>, place: usize, tokens: &[u64])
     ensures { (q : ℕ) → contains nat_cmp index.new q ≡ (contains nat_cmp index.old q && not (stands_for place tokens.now q)) }
 {
@@ -72,11 +72,11 @@ fn unmark(index: &mut BTreeSet<u128>, place: usize, tokens: &[u64])
     }
 }
 
-// The publications of a permit, in their order: the one that stands is the last.
+// The publications of a permit, in their order: the current one is the last.
 #[derive(Drop)]
 pub(super) struct Publications {
     kept: Vec<Publication>,
-    // An entry for each token of each of them.
+    // An index entry for each token of each publication.
     index: BTreeSet<u128>,
 }
 
@@ -88,7 +88,7 @@ impl Model for Publications {
 
     ghost Value = { List (List ℕ) };
 
-    // What stands published can be cleared without memory.
+    // The current publication can be cleared without memory.
     ghost invariant = { λ p. HasRoom p.kept.items (vec_capacity p.kept) × IsIndex p.index p.kept.items };
 
     ghost view = { λ p. p.kept.items };
@@ -105,14 +105,14 @@ impl Publications {
         }
     }
 
-    // How many there are.
+    // The number of publications.
     pub(super) fn len(&self) -> usize
         ensures { result ≡ length self.now }
     {
         self.kept.len()
     }
 
-    // Whether no token stands published.
+    // Whether the current publication has no token.
     fn says_nothing(&self) -> bool
         ensures { result ≡ says_nothing (slice_get self.now (length self.now - 1)) }
     {
@@ -122,7 +122,7 @@ impl Publications {
         }
     }
 
-    // The first place of a token from one place to before another.
+    // The first position of a token from one position to before another.
     fn first_place(&self, token: u64, from: usize, before: usize) -> Option<usize>
         requires { from ≤ before }
         ensures { IsFirstPlace self.now token from before result }
@@ -135,8 +135,8 @@ impl Publications {
         }
     }
 
-    // What a reader is told by the publications from one on. Each fill is looked for only before the place of those that were
-    // found, so the first fill of the first place is left.
+    // The fill that a reader is told of by the publications from one on. Each fill is looked for only before the position of
+    // those that were found, so the first fill of the first position remains.
     pub(super) fn first_told(&self, fills: &UnusableFills, from: usize) -> Option<UnusableFill>
         ensures { result ≡ first_told fills.now (drop from self.now) }
     {
@@ -154,7 +154,7 @@ impl Publications {
         told
     }
 
-    // Puts a publication in the place of the one that stood. The earlier ones are kept only if a read lock may look at them.
+    // Replaces the current publication. The earlier ones are kept only if a read lock may look at them.
     pub(super) fn publish(&mut self, alloc: Global, readers: u128, tokens: &[u64]) -> Result<()>
         ensures ok { OnOk result (self.new ≡ publications_with readers tokens.now self.old) }
         ensures clears { tokens.now ≡ [] → IsOk result }
@@ -168,7 +168,7 @@ impl Publications {
         self.say(alloc, readers, tokens)
     }
 
-    // Puts an empty publication in the place of one that says something.
+    // Replaces a publication that has tokens by an empty one.
     fn clear(&mut self, alloc: Global, readers: u128)
         ensures { self.new ≡ publications_with readers [] self.old }
     {
@@ -184,7 +184,7 @@ impl Publications {
         });
     }
 
-    // Puts a publication that says something in the place of the one that stood.
+    // Replaces the current publication by one that has tokens.
     fn say(&mut self, alloc: Global, readers: u128, tokens: &[u64]) -> Result<()>
         requires { (length tokens.now == 0) ≡ false }
         ensures ok { OnOk result (self.new ≡ publications_with readers tokens.now self.old) }
@@ -200,7 +200,7 @@ impl Publications {
         Ok(())
     }
 
-    // Puts a publication behind the others, with room to clear it.
+    // Adds a publication after the others, with room to clear it.
     fn add(&mut self, alloc: Global, tokens: &[u64]) -> Result<()>
         ensures ok { OnOk result (self.new ≡ self.old ++ tokens.now ∷ []) }
         ensures err { OnErr result (self.new ≡ self.old) }

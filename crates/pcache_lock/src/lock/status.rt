@@ -1,10 +1,10 @@
-//! Where a lock stands.
+//! The status of a lock.
 ghost use Rattle.std.specs.Prelude.{◌≡◌, ◌↔◌, IsTrue};
 ghost use Rattle.std.specs.Prelude.{unwrap_or};
 ghost use Rattle.pcache_lock.specs.Statuses.{IsReason, is_free, name_of_status, number_of_status, status_of_number};
 ghost use Rattle.pcache_lock.specs.declared.lock.status.LockStatus.TheVariants.{GiveUp};
 
-/// Where a lock stands.
+/// The status of a lock.
 #[derive(Clone, Copy, Debug, PartialEq, Eq)]
 pub enum LockStatus {
     /// Its permit is held, and the key is being filled.
@@ -15,16 +15,16 @@ pub enum LockStatus {
     TransientError = 2,
     /// The response is not to be cached.
     GiveUp = 3,
-    /// The permit was let go without a word.
+    /// The permit was let go without a status.
     Dangling = 4,
-    /// A reader waited for as long as it was ready to. No permit is released with it.
+    /// A reader waited for as long as its timeout allows. No permit is released with this status.
     WaitTimeout = 5,
     /// The permit was held for too long.
     AgeTimeout = 6,
 }
 
 impl LockStatus {
-    /// Whether a request may take the lock's place.
+    /// Whether the next request may get a permit of its own.
     pub fn is_free(self) -> bool
         ensures { result ≡ is_free self }
     {
@@ -38,7 +38,7 @@ impl LockStatus {
         !matches!(self, LockStatus::Waiting | LockStatus::WaitTimeout)
     }
 
-    /// The status of a number, if there is one.
+    /// The status with this number; `None` if there is none.
     pub fn from_repr(number: u8) -> Option<LockStatus>
         ensures { result ≡ status_of_number number }
     {
@@ -78,7 +78,7 @@ impl From<LockStatus> for u8 {
     }
 }
 
-/// A number of no status is read as `GiveUp`.
+/// A number that no status has is read as `GiveUp`.
 impl From<u8> for LockStatus {
     ghost from_gives = { λ number status. status ≡ unwrap_or (status_of_number number) GiveUp };
 

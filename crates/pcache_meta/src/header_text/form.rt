@@ -1,4 +1,4 @@
-//! Whether bytes are the text of a head, told without taking memory.
+//! Whether bytes are the text of a head, decided without taking memory.
 ghost use Rattle.std.specs.Prelude.{◌≡◌, ◌↔◌, IsTrue, map};
 ghost use Rattle.http_header.specs.FieldName.{IsHeaderName};
 ghost use Rattle.http_header.specs.FieldValue.{IsFieldValue};
@@ -12,10 +12,10 @@ use crate::msgpack::reader::unreadable;
 use http_header::{MAX_HEADER_NAME_LEN, is_token};
 use pcache_base::error::Result;
 
-// No map of header fields has more names.
+// The most names that a map of header fields can have.
 const MAX_NAMES: usize = 24576;
 
-// How many names are looked for in one pass.
+// How many names one pass over the lines looks for.
 const AT_ONCE: usize = 64;
 
 // Whether no byte is a letter in upper case.
@@ -25,7 +25,7 @@ fn is_lowercase(bytes: &[u8]) -> bool
     bytes.iter().all(|byte| byte.to_ascii_lowercase() == *byte)
 }
 
-// Whether the byte may stand in a field's value.
+// Whether the byte may occur in a field's value.
 fn is_value_byte(byte: u8) -> bool
     ensures { result ≡ is_value_byte byte }
 {
@@ -137,8 +137,9 @@ fn has_any(bytes: &[u8], names: &[&[u8]]) -> bool
     false
 }
 
-// Whether the lines have no more names than a map holds, and those of one name stand together. There
-// is no memory to keep all names in: the lines after each few of them are looked through for them.
+// Whether the lines have no more names than a map holds, and those of one name are adjacent. There
+// is no memory to keep all names in, so the names are taken a few at a time, and the lines after
+// them are searched for these.
 fn are_grouped(bytes: &[u8]) -> bool
     ensures { result ≡ are_grouped 24576 (lines_at bytes.now) }
 {
@@ -174,8 +175,8 @@ fn are_lines(bytes: &[u8]) -> bool
     are_fields(bytes) && are_grouped(bytes)
 }
 
-/// Whether all of the bytes are the text of a head. It takes no memory, and so more time than to read
-/// the head if its lines have many names.
+/// Whether all of the bytes are the text of a head. It takes no memory, and therefore more time than
+/// reading the head if its lines have many names.
 pub fn is_header_text(bytes: &[u8]) -> bool
     ensures { IsTrue result ↔ IsHeaderText bytes.now }
 {

@@ -1,7 +1,7 @@
-//! What is promised of the text of every head.
+//! Laws of the texts of all heads.
 ghost use Rattle.pcache_meta.specs.HeaderText.{IsOneToOne};
 
-/// A head has one text and a text one head, so that to read and to write undo one another.
+/// A head has one text, and a text one head, so that reading and writing are inverse to each other.
 pub fn reading_and_writing_are_inverse()
     ensures { IsOneToOne }
 {}

@@ -1,4 +1,4 @@
-//! Whether the lines of a head stand by name, in the order of the map that they make.
+//! Whether the lines of a head are grouped by name, in the order of the map that they make.
 ghost use Rattle.std.specs.Prelude.{◌≡◌, ◌++◌, List, ℕ, IfNone, IfSome, bytes_eq};
 ghost use Rattle.http_header.specs.HeaderMap.{pairs};
 ghost use Rattle.pcache_meta.specs.Header.{shown_fields};

@@ -45,7 +45,7 @@ pub(super) fn split_name(bytes: &[u8]) -> Result<(&[u8], &[u8])>
     Err(unreadable())
 }
 
-// The version that stands before a space.
+// The version, of the bytes before the first space.
 #[tactic(auto, unfolding(crate::specs::HeaderReading::version_at))]
 fn version_of(text: &[u8]) -> Result<HttpVersion>
     ensures { Gives (λ v. v) result (version_at text.now) }
@@ -71,7 +71,7 @@ fn status_of(text: &[u8]) -> Result<StatusCode>
 {
     match StatusCode::from_bytes(text) {
         Ok(code) => {
-            // What is true of each status.
+            // For the prover: its contract says what holds of each status.
             let _number = code.as_u16();
             Ok(code)
         }
@@ -98,7 +98,7 @@ fn name_of(alloc: Global, bytes: &[u8]) -> Result<HeaderName>
 {
     match HeaderName::from_lowercase(alloc, bytes) {
         Ok(name) => {
-            // What is true of each name.
+            // For the prover: its contract says what holds of each name.
             let _bytes = name.as_bytes();
             Ok(name)
         }
@@ -112,7 +112,7 @@ fn value_of(alloc: Global, bytes: &[u8]) -> Result<HeaderValue>
 {
     match HeaderValue::from_bytes(alloc, bytes) {
         Ok(value) => {
-            // What is true of each value.
+            // For the prover: its contract says what holds of each value.
             let _bytes = value.as_bytes();
             Ok(value)
         }
@@ -144,14 +144,15 @@ pub(super) fn behind_space(bytes: &[u8]) -> Result<&[u8]>
     }
 }
 
-// Adds a value to a map. A full one is unreadable, also if memory is short.
+// Adds a value to a map. If the map is full, fails as for bytes that can't be read, even when
+// memory runs out.
 fn append_field(headers: &mut HeaderMap, name: HeaderName, value: HeaderValue) -> Result<()>
     ensures reads { GivesOrWants (λ _. shown_fields headers.new) result (append_at (shown_fields headers.old) (name, value.bytes)) }
     ensures full { RefusesAppend headers.old name → IsErrOf result InternalError }
 {
     match headers.append(name, value) {
         Ok(_) => {
-            // What is true of each map.
+            // For the prover: its contract says what holds of each map.
             let _values = headers.len();
             Ok(())
         }
@@ -160,7 +161,7 @@ fn append_field(headers: &mut HeaderMap, name: HeaderName, value: HeaderValue) -
     }
 }
 
-// The map that all of the lines make, up to the empty one.
+// The map that the lines make, up to the empty line.
 fn read_fields(alloc: Global, bytes: &[u8]) -> Result<HeaderMap>
     ensures { GivesOrWants (λ m. shown_fields m) result (fields_at [] bytes.now) }
 {
@@ -181,7 +182,7 @@ fn read_fields(alloc: Global, bytes: &[u8]) -> Result<HeaderMap>
     }
 }
 
-// Refuses lines that stand in another order than that of the map that they made.
+// Fails if the lines are in another order than that of the map that they made.
 #[tactic(auto, unfolding(crate::specs::HeaderReading::ordered_at))]
 fn in_order(bytes: &[u8], headers: &HeaderMap) -> Result<()>
     ensures { Gives (λ _. shown_fields headers.now) result (ordered_at bytes.now (shown_fields headers.now)) }
@@ -209,9 +210,9 @@ fn read_header(alloc: Global, bytes: &[u8]) -> Result<ResponseHeader>
     })
 }
 
-/// The head that all of the bytes are the text of: its lines stand by name, in the order in which the
-/// names first come. It is refused when memory runs out only if they are: what was read when memory
-/// was refused says nothing of the rest, so the bytes are then looked through without memory.
+/// The head whose text all of the bytes are: its lines are grouped by name, in the order in which the
+/// names first occur. Fails with `OutOfMemory` only if they are such a text: what was read before
+/// memory ran out says nothing of the rest, so the bytes are then checked without memory.
 pub fn header_deserialize(alloc: Global, bytes: &[u8]) -> Result<ResponseHeader>
     ensures found { IfOk result (λ h. SpellsHeader bytes.now (shown h)) }
     ensures same { (h : Header) → SpellsHeader bytes.now h → IfOk result (λ found. shown found ≡ h) }

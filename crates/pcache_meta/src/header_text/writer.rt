@@ -57,7 +57,7 @@ fn put_status_line(out: &mut Vec<u8>, version: HttpVersion, status: StatusCode) 
     ensures valid { OnOk result (IsStatusCode status) }
     ensures kind { IfErr result (λ e. e ≡ OutOfMemory) }
 {
-    // What is true of each status.
+    // For the prover: its contract says what holds of each status.
     let _number = status.as_u16();
     out.extend_from_slice(version_text(version))?;
     out.extend_from_slice(b" ")?;
@@ -66,7 +66,7 @@ fn put_status_line(out: &mut Vec<u8>, version: HttpVersion, status: StatusCode) 
     Ok(())
 }
 
-// How many bytes the text of a head has, so that its room is made at once and none is left over.
+// How many bytes the text of a head has, so that exactly this room is reserved once.
 fn text_len(headers: &HeaderMap) -> usize {
     let mut len = b"HTTP/1.1 200\r\n\r\n".len();
     for (name, value) in headers.iter() {
@@ -86,7 +86,7 @@ fn write_header(alloc: Global, header: &ResponseHeader) -> Result<Vec<u8>>
     ensures map { OnOk result (IsHeaderMap header.now.headers) }
     ensures kind { IfErr result (λ e. e ≡ OutOfMemory) }
 {
-    // What is true of each map.
+    // For the prover: its contract says what holds of each map.
     let _values = header.headers.len();
     let mut out = Vec::with_capacity(alloc, text_len(&header.headers))?;
     put_status_line(&mut out, header.version, header.status)?;

@@ -1,4 +1,4 @@
-//! Metas as bytes: what they say beside their header, in MessagePack, and the text of their header.
+//! Metas as bytes: what they say beside their head, in MessagePack, and the text of their head.
 ghost use Rattle.std.specs.Prelude.{◌≡◌, ◌≤◌, ◌<◌, ◌^◌, ◌++◌, [], length, OnOk, OnErr, IfOk, IfErr, IfSome, IsErrOf, ◌⊎◌};
 ghost use Rattle.pcache_meta.specs.HeaderText.{header_written};
 ghost use Rattle.pcache_meta.specs.Internal.{Internal, of_version2, upgraded};
@@ -24,10 +24,10 @@ use pcache_base::key::HashBinary;
 use pcache_base::moment::Moment;
 use std::alloc::Global;
 
-// No meta is shorter.
+// The fewest bytes that a meta has.
 const MIN_SIZE: usize = 10;
 
-// Enough bytes for nearly every meta, so that room is made once.
+// Enough bytes for nearly every meta, so that room is reserved once.
 const USUAL_SIZE: usize = 96;
 
 // ---- reading
@@ -45,7 +45,7 @@ fn read_moment(reader: &mut Reader<'_>) -> Result<Moment>
     }
 }
 
-// An item that may be left out.
+// An item that older versions leave out: `present` says whether it follows.
 #[tactic(auto, unfolding(crate::specs::MetaReading::item_at))]
 fn read_hash_item(reader: &mut Reader<'_>, present: bool) -> Result<Option<HashBinary>>
     ensures { Gives (λ hash. (hash, reader.new)) result (item_at present hash_at reader.old) }
@@ -56,7 +56,7 @@ fn read_hash_item(reader: &mut Reader<'_>, present: bool) -> Result<Option<HashB
     reader.optional_hash()
 }
 
-// An item that may be left out.
+// An item that older versions leave out: `present` says whether it follows.
 #[tactic(auto, unfolding(crate::specs::Reading::optional_at, crate::specs::MetaReading::item_at))]
 fn read_moment_item(reader: &mut Reader<'_>, present: bool) -> Result<Option<Moment>>
     ensures { Gives (λ m. (m, reader.new)) result (item_at present moment_at reader.old) }
@@ -67,7 +67,7 @@ fn read_moment_item(reader: &mut Reader<'_>, present: bool) -> Result<Option<Mom
     Ok(Some(read_moment(reader)?))
 }
 
-// An item that may be left out.
+// An item that older versions leave out: `present` says whether it follows.
 #[tactic(auto, unfolding(crate::specs::Reading::optional_at, crate::specs::MetaReading::item_at))]
 fn read_number_item(reader: &mut Reader<'_>, present: bool) -> Result<Option<CacheEntryId>>
     ensures { Gives (λ id. (id, reader.new)) result (item_at present number_at reader.old) }
@@ -78,7 +78,7 @@ fn read_number_item(reader: &mut Reader<'_>, present: bool) -> Result<Option<Cac
     Ok(Some(CacheEntryId::new(reader.number()?)))
 }
 
-// Version 0, after the head.
+// Version 0, after the array's head.
 #[tactic(auto, unfolding(crate::specs::MetaReading::old_internal_at))]
 fn read_version0(reader: &mut Reader<'_>) -> Result<InternalMetaV0>
     ensures { Gives (λ m. (m, reader.new)) result (old_internal_at reader.old) }
@@ -95,7 +95,7 @@ fn read_version0(reader: &mut Reader<'_>) -> Result<InternalMetaV0>
     })
 }
 
-// Version 1, after the head and the version.
+// Version 1, after the array's head and the version.
 #[tactic(auto, unfolding(crate::specs::MetaReading::old_internal_at))]
 fn read_version1(reader: &mut Reader<'_>) -> Result<InternalMetaV1>
     ensures { Gives (λ m. (m, reader.new)) result (old_internal_at reader.old) }
@@ -112,7 +112,8 @@ fn read_version1(reader: &mut Reader<'_>) -> Result<InternalMetaV1>
     })
 }
 
-// Versions 2 and 3, after the head and the version, with so many of the items that may be left out.
+// Versions 2 and 3, after the array's head and the version, with the first `extra` of the items
+// that may be left out.
 #[tactic(auto, unfolding(crate::specs::MetaReading::new_internal_at))]
 fn read_items(reader: &mut Reader<'_>, extra: u64) -> Result<InternalMetaV3>
     ensures { Gives (λ m. (m, reader.new)) result (new_internal_at extra reader.old) }
@@ -130,7 +131,7 @@ fn read_items(reader: &mut Reader<'_>, extra: u64) -> Result<InternalMetaV3>
     })
 }
 
-// The version that the number of items tells.
+// The version that the number of items shows.
 #[tactic(auto, unfolding(crate::specs::MetaReading::versioned_at, crate::specs::MetaReading::upgraded_at))]
 fn read_versioned(reader: &mut Reader<'_>, count: u64) -> Result<InternalMetaV3>
     ensures { Gives (λ m. (m, reader.new)) result (versioned_at count reader.old) }
@@ -153,7 +154,7 @@ fn read_versioned(reader: &mut Reader<'_>, count: u64) -> Result<InternalMetaV3>
     }
 }
 
-// What all of the bytes say, read from left to right.
+// The meta, without its head, that all of the bytes spell, read from left to right.
 #[tactic(auto, unfolding(crate::specs::MetaReading::internal_at))]
 fn read_internal(bytes: &[u8]) -> Result<InternalMetaV3>
     ensures { Gives (λ m. m) result (internal_at bytes.now) }
@@ -170,7 +171,7 @@ fn read_internal(bytes: &[u8]) -> Result<InternalMetaV3>
     Ok(meta)
 }
 
-/// What all of the bytes say, in any version.
+/// The meta, without its head, that all of the bytes spell, in any version.
 pub fn deserialize_internal(bytes: &[u8]) -> Result<InternalMetaV3>
     ensures found { IfOk result (λ m. SpellsInternal bytes.now m) }
     ensures same { (m : Internal) → SpellsInternal bytes.now m → IfOk result (λ found. found ≡ m) }
@@ -250,7 +251,7 @@ fn put_items(out: &mut Vec<u8>, meta: &InternalMetaV3) -> Result<()>
     Ok(())
 }
 
-// Version 3.
+// Writes version 3.
 #[tactic(auto, unfolding(crate::specs::MetaWriting::internal_written))]
 fn write_internal(alloc: Global, meta: &InternalMetaV3) -> Result<Vec<u8>>
     ensures written { IfOk result (λ v. v.items ≡ internal_written meta.now) }
@@ -266,7 +267,7 @@ fn write_internal(alloc: Global, meta: &InternalMetaV3) -> Result<Vec<u8>>
     Ok(out)
 }
 
-// Version 2.
+// Writes version 2.
 #[tactic(auto, unfolding(crate::specs::MetaWriting::version2_written))]
 fn write_version2(alloc: Global, meta: &InternalMetaV2) -> Result<Vec<u8>>
     ensures written { IfOk result (λ v. v.items ≡ version2_written meta.now) }
@@ -282,7 +283,7 @@ fn write_version2(alloc: Global, meta: &InternalMetaV2) -> Result<Vec<u8>>
     Ok(out)
 }
 
-// What versions 0 and 1 say, after the head and the version.
+// Writes what versions 0 and 1 say, after the array's head and the version.
 #[tactic(auto, unfolding(crate::specs::MetaWriting::old_written))]
 fn put_old(
     out: &mut Vec<u8>,
@@ -312,7 +313,7 @@ fn put_old(
     Ok(())
 }
 
-// Version 0.
+// Writes version 0.
 #[tactic(auto, unfolding(crate::specs::MetaWriting::version0_written))]
 fn write_version0(alloc: Global, meta: &InternalMetaV0) -> Result<Vec<u8>>
     ensures written { IfOk result (λ v. v.items ≡ version0_written meta.now) }
@@ -331,7 +332,7 @@ fn write_version0(alloc: Global, meta: &InternalMetaV0) -> Result<Vec<u8>>
     Ok(out)
 }
 
-// Version 1.
+// Writes version 1.
 #[tactic(auto, unfolding(crate::specs::MetaWriting::version1_written))]
 fn write_version1(alloc: Global, meta: &InternalMetaV1) -> Result<Vec<u8>>
     ensures written { IfOk result (λ v. v.items ≡ version1_written meta.now) }
@@ -352,7 +353,7 @@ fn write_version1(alloc: Global, meta: &InternalMetaV1) -> Result<Vec<u8>>
 }
 
 impl InternalMetaV0 {
-    /// The bytes of version 0. Nothing reads them if they are fewer than ten.
+    /// The bytes of version 0. If they are fewer than ten, no reader accepts them.
     pub fn serialize(&self, alloc: Global) -> Result<Vec<u8>>
         ensures written { IfOk result (λ v. v.items ≡ version0_written self.now) }
         ensures spelled { IfOk result (λ v. InternalThen v.items (upgraded self.now) []) }
@@ -398,8 +399,8 @@ impl InternalMetaV3 {
 // ---- metas
 
 impl CacheMeta {
-    /// The meta as two byte strings: what it says beside its header, in version 3, and the text of
-    /// its header. Both read back as this meta. It is refused only when memory runs out.
+    /// The meta as two byte strings: what it says beside its head, in version 3, and the text of
+    /// its head. The two read back as this meta. Fails only when memory runs out.
     pub fn serialize(&self, alloc: Global) -> Result<(Vec<u8>, Vec<u8>)>
         ensures written_internal { IfOk result (λ p. p.0.items ≡ internal_written self.now.internal) }
         ensures written_header { IfOk result (λ p. p.1.items ≡ header_written self.now.header) }
@@ -411,8 +412,8 @@ impl CacheMeta {
         Ok((internal, header))
     }
 
-    /// The meta that two byte strings spell, in any version. It is refused when memory runs out only if
-    /// they spell one, and else as bytes that can't be read.
+    /// The meta that two byte strings spell, in any version. Fails with `OutOfMemory` only if they
+    /// spell one, and otherwise with `InternalError`.
     pub fn deserialize(alloc: Global, internal: &[u8], header: &[u8]) -> Result<CacheMeta>
         ensures found { IfOk result (λ m. SpellsMeta internal.now header.now m) }
         ensures same { (m : Meta) → SpellsMeta internal.now header.now m

@@ -1,4 +1,4 @@
-//! What a meta says beside its header, in each version of the format.
+//! What a meta says beside its head, in each version of the format.
 ghost use Rattle.std.specs.Prelude.{◌≡◌};
 ghost use Rattle.pcache_meta.specs.Internal.{in_version2, of_the_epoch, of_version2, upgraded};
 
@@ -13,9 +13,13 @@ pub type InternalMetaLatest = InternalMetaV3;
 /// What a meta of version 0 says. It names no version.
 #[derive(Clone, Copy, Debug, PartialEq, Eq)]
 pub struct InternalMetaV0 {
+    /// Until when the response is fresh.
     pub fresh_until: Moment,
+    /// When the response was first stored.
     pub created: Moment,
+    /// For how many seconds a stale response may be served while it is revalidated.
     pub stale_while_revalidate_sec: u32,
+    /// For how many seconds a stale response may be served after an error.
     pub stale_if_error_sec: u32,
 }
 
@@ -42,9 +46,13 @@ impl Model for InternalMetaV0 {
 /// What a meta of version 1 says.
 #[derive(Clone, Copy, Debug, PartialEq, Eq)]
 pub struct InternalMetaV1 {
+    /// Until when the response is fresh.
     pub fresh_until: Moment,
+    /// When the response was first stored.
     pub created: Moment,
+    /// For how many seconds a stale response may be served while it is revalidated.
     pub stale_while_revalidate_sec: u32,
+    /// For how many seconds a stale response may be served after an error.
     pub stale_if_error_sec: u32,
 }
 
@@ -69,23 +77,33 @@ impl Model for InternalMetaV1 {
 }
 
 impl InternalMetaV1 {
+    /// The number of this version in the format.
     pub const VERSION: u8 = 1;
 }
 
-/// What a meta of version 2 says. That it is version 2 its type says, so no field does.
+/// What a meta of version 2 says. Its type says that it is version 2, so no field does.
 #[derive(Clone, Copy, Debug, PartialEq, Eq)]
 pub struct InternalMetaV2 {
+    /// Until when the response is fresh.
     pub fresh_until: Moment,
+    /// When the response was first stored.
     pub created: Moment,
+    /// When the response was last revalidated.
     pub updated: Moment,
+    /// For how many seconds a stale response may be served while it is revalidated.
     pub stale_while_revalidate_sec: u32,
+    /// For how many seconds a stale response may be served after an error.
     pub stale_if_error_sec: u32,
+    /// The hash of what the response varies on, if there is one.
     pub variance: Option<HashBinary>,
+    /// The moment from which ages count, if it is not `updated`.
     pub epoch_override: Option<Moment>,
+    /// When the body was fetched, if that is not `created`.
     pub provenance: Option<Moment>,
 }
 
 impl InternalMetaV2 {
+    /// The number of this version in the format.
     pub const VERSION: u8 = 2;
 }
 
@@ -106,7 +124,7 @@ impl Default for InternalMetaV2 {
 impl From<InternalMetaV0> for InternalMetaV2 {
     ghost from_gives = { λ old new. new ≡ in_version2 old };
 
-    /// Updated when it was created.
+    /// The older meta, last updated when it was created.
     fn from(v0: InternalMetaV0) -> InternalMetaV2 {
         InternalMetaV2 {
             fresh_until: v0.fresh_until,
@@ -124,7 +142,7 @@ impl From<InternalMetaV0> for InternalMetaV2 {
 impl From<InternalMetaV1> for InternalMetaV2 {
     ghost from_gives = { λ old new. new ≡ in_version2 old };
 
-    /// Updated when it was created.
+    /// The older meta, last updated when it was created.
     fn from(v1: InternalMetaV1) -> InternalMetaV2 {
         InternalMetaV2::from(InternalMetaV0 {
             fresh_until: v1.fresh_until,
@@ -138,19 +156,28 @@ impl From<InternalMetaV1> for InternalMetaV2 {
 /// What a meta of version 3 says, the one that is written.
 #[derive(Clone, Copy, Debug, PartialEq, Eq)]
 pub struct InternalMetaV3 {
+    /// Until when the response is fresh.
     pub fresh_until: Moment,
+    /// When the response was first stored.
     pub created: Moment,
+    /// When the response was last revalidated.
     pub updated: Moment,
+    /// For how many seconds a stale response may be served while it is revalidated.
     pub stale_while_revalidate_sec: u32,
+    /// For how many seconds a stale response may be served after an error.
     pub stale_if_error_sec: u32,
+    /// The hash of what the response varies on, if there is one.
     pub variance: Option<HashBinary>,
+    /// The moment from which ages count, if it is not `updated`.
     pub epoch_override: Option<Moment>,
+    /// When the body was fetched, if that is not `created`.
     pub provenance: Option<Moment>,
     /// The number of the write that stored the body, if a storage gave one.
     pub entry_id: Option<CacheEntryId>,
 }
 
 impl InternalMetaV3 {
+    /// The number of this version in the format.
     pub const VERSION: u8 = 3;
 }
 
@@ -166,7 +193,7 @@ impl Default for InternalMetaV3 {
 impl From<InternalMetaV0> for InternalMetaV3 {
     ghost from_gives = { λ old new. new ≡ upgraded old };
 
-    /// Updated when it was created.
+    /// The older meta, last updated when it was created.
     fn from(v0: InternalMetaV0) -> InternalMetaV3 {
         InternalMetaV3::from(InternalMetaV2::from(v0))
     }
@@ -175,7 +202,7 @@ impl From<InternalMetaV0> for InternalMetaV3 {
 impl From<InternalMetaV1> for InternalMetaV3 {
     ghost from_gives = { λ old new. new ≡ upgraded old };
 
-    /// Updated when it was created.
+    /// The older meta, last updated when it was created.
     fn from(v1: InternalMetaV1) -> InternalMetaV3 {
         InternalMetaV3::from(InternalMetaV2::from(v1))
     }
@@ -184,7 +211,7 @@ impl From<InternalMetaV1> for InternalMetaV3 {
 impl From<InternalMetaV2> for InternalMetaV3 {
     ghost from_gives = { λ old new. new ≡ of_version2 old };
 
-    /// The same, with no number.
+    /// The same, with no number of a write.
     fn from(v2: InternalMetaV2) -> InternalMetaV3 {
         InternalMetaV3 {
             fresh_until: v2.fresh_until,

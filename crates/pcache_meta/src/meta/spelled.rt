@@ -36,7 +36,7 @@ impl Model for SpelledMeta {
 }
 
 impl SpelledMeta {
-    /// Keeps what is written of a meta. It is refused only when memory runs out.
+    /// Keeps the byte strings of a meta. Fails only when memory runs out.
     pub fn new(alloc: Global, meta: &CacheMeta) -> Result<SpelledMeta>
         ensures ok { IfOk result (λ kept. kept ≡ meta.now) }
         ensures kind { IfErr result (λ e. e ≡ OutOfMemory) }
@@ -44,8 +44,8 @@ impl SpelledMeta {
         SpelledMeta::with_entry_id(alloc, meta, meta.entry_id())
     }
 
-    /// Keeps what is written of a meta as that of the write with this number, whatever number the meta has. It is refused
-    /// only when memory runs out.
+    /// Keeps the byte strings of a meta with this number of a write, whatever number the meta has. Fails only when
+    /// memory runs out.
     pub fn with_entry_id(
         alloc: Global,
         meta: &CacheMeta,
@@ -73,7 +73,7 @@ impl SpelledMeta {
         }
     }
 
-    /// The two byte strings: what the meta says beside its header, and the text of its header.
+    /// The two byte strings: what the meta says beside its head, and the text of its head.
     pub fn strings(&self) -> (&[u8], &[u8])
         ensures internal { result.0.now ≡ internal_written self.now.internal }
         ensures header { result.1.now ≡ header_written self.now.header }
@@ -82,7 +82,7 @@ impl SpelledMeta {
         (self.internal.as_slice(), self.header.as_slice())
     }
 
-    /// The meta, read back. It is refused only when memory runs out.
+    /// The meta, read back. Fails only when memory runs out.
     pub fn meta(&self, alloc: Global) -> Result<CacheMeta>
         ensures ok { IfOk result (λ m. m ≡ self.now) }
         ensures kind { IfErr result (λ e. e ≡ OutOfMemory) }
@@ -90,7 +90,7 @@ impl SpelledMeta {
         CacheMeta::deserialize(alloc, self.internal.as_slice(), self.header.as_slice())
     }
 
-    /// A second one of the same meta. It is refused only when memory runs out.
+    /// A copy of the same meta. Fails only when memory runs out.
     pub fn copied(&self, alloc: Global) -> Result<SpelledMeta>
         ensures ok { IfOk result (λ copy. copy ≡ self.now) }
         ensures kind { IfErr result (λ e. e ≡ OutOfMemory) }

@@ -1,4 +1,4 @@
-//! What is promised of every spelling: none is shorter than the one that is written.
+//! Laws of all spellings: none is shorter than the one that is written.
 ghost use Rattle.pcache_meta.specs.Shortest.{ArraysAreShortest, HashesAreShortest, MomentsAreShortest, NumbersAreShortest, TextsAreShortest};
 
 /// No spelling of a number is shorter than the one that is written.

@@ -1,7 +1,7 @@
 //! Reading values from the front of a slice.
 //!
-//! No reader takes memory, so each refusal says that the bytes spell no such value: it is an
-//! `InternalError`. A reader that refuses has read nothing.
+//! No reader takes memory, so each failure says that the bytes spell no such value: it is an
+//! `InternalError`. A reader that fails has read nothing.
 ghost use Rattle.std.specs.Prelude.{◌≡◌, ◌<◌, ◌==◌, length, drop, IfOk, OnErr, if◌then◌else◌};
 ghost use Rattle.std.specs.Int.{w8, w16, w32, w64};
 ghost use Rattle.pcache_meta.specs.Reading.{Gives, array_at, hash_at, bytes_at, items_at, mark_at, number_at, number_below_at, optional_at, small_numbers_at, starts_with_nil, text_at, text_head_at, utf8_of, wide_at};
@@ -41,8 +41,8 @@ impl<'a> Reader<'a> {
         self.rest.is_empty()
     }
 
-    /// How many bytes are still to be read. A reader of a list reserves by this number, and never
-    /// by the one that the bytes state.
+    /// How many bytes are still to be read. A reader of a list reserves room by this number, and
+    /// never by the number that the bytes state.
     pub fn remaining(&self) -> usize
         ensures { result ≡ length self.now }
     {
@@ -156,7 +156,7 @@ impl<'a> Reader<'a> {
         Ok(n)
     }
 
-    /// How many items an array has, in any width. They are what is read next.
+    /// How many items an array has, in any width. The items follow.
     pub fn array(&mut self) -> Result<u64>
         ensures value { Gives (λ n. (n, self.new)) result (array_at self.old) }
         ensures unread { OnErr result (self.new ≡ self.old) }
@@ -188,7 +188,7 @@ impl<'a> Reader<'a> {
         }
     }
 
-    /// The head of an array of just `count` items.
+    /// The head of an array of exactly `count` items.
     pub fn items(&mut self, count: u64) -> Result<()>
         ensures value { Gives (λ _. self.new) result (items_at count self.old) }
         ensures unread { OnErr result (self.new ≡ self.old) }
@@ -232,7 +232,7 @@ impl<'a> Reader<'a> {
         }
     }
 
-    /// A text, as it lies in the bytes.
+    /// A text, as a slice of the bytes.
     pub fn text(&mut self) -> Result<&'a str>
         ensures value { Gives (λ t. (t.now, self.new)) result (text_at self.old) }
         ensures unread { OnErr result (self.new ≡ self.old) }
@@ -302,7 +302,7 @@ impl<'a> Reader<'a> {
         Ok(Some(self.hash()?))
     }
 
-    /// Takes nil, if it comes next.
+    /// Reads nil, if it comes next. Returns whether it did.
     pub fn skip_nil(&mut self) -> bool
         ensures value { result ≡ starts_with_nil self.old }
         ensures after { self.new ≡ (if starts_with_nil self.old then drop 1 self.old else self.old) }
@@ -316,7 +316,7 @@ impl<'a> Reader<'a> {
         }
     }
 
-    /// Takes this one byte.
+    /// Reads exactly this byte.
     #[tactic(auto, unfolding(crate::specs::Reading::mark_at))]
     pub fn mark(&mut self, mark: u8) -> Result<()>
         ensures value { Gives (λ _. self.new) result (mark_at mark self.old) }
@@ -343,7 +343,7 @@ fn utf8_of(bytes: &[u8]) -> Result<&str>
     }
 }
 
-/// The refusal of bytes that spell no such value.
+/// The error for bytes that spell no such value.
 pub(crate) fn unreadable() -> Error
     ensures { result ≡ InternalError }
 {

@@ -1,5 +1,5 @@
-//! Writing values after what a buffer holds, each in its shortest form. Of a value that is refused
-//! nothing is written.
+//! Writing values at the end of a buffer, each in its shortest form. A value for which a writer
+//! fails is not written at all.
 ghost use Rattle.std.specs.Prelude.{◌≡◌, ◌<◌, ◌≤◌, ◌^◌, ◌++◌, ◌↔◌, ◌⊎◌, ◌∷◌, [], length, take, OnOk, OnErr, IfErr, IfSome, IsErrOf};
 ghost use Rattle.pcache_meta.specs.Writing.{IsHash, number_written, array_written, text_head_written, text_written, hash_written, optional_written};
 ghost use Rattle.pcache_base.specs.declared.error.ErrorType.TheVariants.{OutOfMemory, InternalError};
@@ -31,7 +31,8 @@ pub fn put_number(out: &mut Vec<u8>, n: u64) -> Result<()>
     Ok(())
 }
 
-/// Writes the head of an array of `n` items, which are to follow. No form holds 2^32 of them.
+/// Writes the head of an array of `n` items, which are to follow. Fails with `InternalError` for
+/// 2^32 items or more, which no form holds.
 #[tactic(auto, unfolding(crate::specs::Writing::array_written))]
 pub fn put_array(out: &mut Vec<u8>, n: usize) -> Result<()>
     ensures written { OnOk result (out.new.items ≡ out.old.items ++ array_written n) }
@@ -77,7 +78,7 @@ fn put_text_head(out: &mut Vec<u8>, n: usize) -> Result<()>
     Ok(())
 }
 
-/// Writes a text. No form holds one of 2^32 bytes.
+/// Writes a text. Fails with `InternalError` for 2^32 bytes or more, which no form holds.
 #[tactic(auto, unfolding(crate::specs::Writing::text_written))]
 pub fn put_text(out: &mut Vec<u8>, text: &str) -> Result<()>
     ensures written { OnOk result (out.new.items ≡ out.old.items ++ text_written text.now) }
@@ -94,7 +95,7 @@ pub fn put_text(out: &mut Vec<u8>, text: &str) -> Result<()>
     Ok(())
 }
 
-// Writes the bytes of a hash, or, if memory is refused, some of them.
+// Writes the bytes of a hash; if memory runs out, only some of them.
 #[tactic(auto, unfolding(crate::specs::Writing::hash_written))]
 fn put_each(out: &mut Vec<u8>, hash: &HashBinary) -> Result<()>
     ensures written { OnOk result (out.new.items ≡ out.old.items ++ hash_written hash.now) }

@@ -1,4 +1,5 @@
-//! A policy that decides of a key that is not stored whether its response is to be stored yet.
+//! The admission policy, which decides whether the response of a key that has no body is to be
+//! stored yet.
 use super::{HttpCache, LockName};
 use crate::phase::CachePhase;
 use pcache_base::reason::NoCacheReason;
@@ -17,7 +18,7 @@ impl<S: Storage> HttpCache<S> {
     ghost use Rattle.pcache_request.specs.declared.phase.CachePhase.TheVariants.{CacheKey};
     ghost use Rattle.pcache_request.specs.Reports.{name_of};
 
-    /// Takes an admission policy into use, which look-ups with one are lent.
+    /// Takes an admission policy into use. Look-ups with a policy borrow it.
     /// Requires the phase Uninit or CacheKey; ask `phase().may_take_key()`.
     pub fn set_admission_policy(&mut self)
         requires { MayTakeKey self.old.phase }
@@ -26,15 +27,15 @@ impl<S: Storage> HttpCache<S> {
         self.has_policy = true;
     }
 
-    /// What the policy decided of the request, if it was asked.
+    /// What the policy decided on the request, if it was asked.
     pub fn admission_decision(&self) -> Option<Decision>
         ensures { result ≡ self.now.digest.admission }
     {
         self.digest.admission
     }
 
-    /// Whether a look-up that finds nothing asks the policy: one is in use, the request found nothing
-    /// yet, and it has no decision.
+    /// Whether a look-up that finds nothing asks the policy: a policy is in use, the request has
+    /// found nothing yet, and it has no decision.
     pub fn observes(&self) -> bool
         ensures test { result ≡ observes self.now }
         ensures key { IsTrue result → self.now.phase ≡ CacheKey }
@@ -44,7 +45,7 @@ impl<S: Storage> HttpCache<S> {
             && self.digest.admission.is_none()
     }
 
-    // Asks the policy, which counts the key as asked for once more, and keeps its decision.
+    // Asks the policy, which counts one more request for the key, and keeps its decision.
     fn observe<A: AdmissionPolicy>(&mut self, policy: &mut A) -> Decision
         requires { IsTrue (observes self.old) }
         ensures decides { Decides (λ k d. A.decides policy.old k d policy.new) self.old.key (Some result) }
@@ -75,7 +76,7 @@ impl<S: Storage> HttpCache<S> {
         Some(self.observe(policy))
     }
 
-    // Turns caching off as deferred. Returns the lock that was released.
+    // Turns caching off with the reason Deferred. Returns the lock that was released.
     pub(super) fn defer<L: CacheKeyLock>(
         &mut self,
         storage: &mut S,

@@ -1,4 +1,4 @@
-//! Turning caching off, or passing it by.
+//! Turning caching off, or bypassing it.
 ghost use Rattle.std.specs.Prelude.{◌≡◌, ◌↔◌, IsTrue};
 ghost use Rattle.pcache_lock.specs.Statuses.{IsReason};
 ghost use Rattle.pcache_request.specs.Releasing.{IsHoldersReason, IsDisableReason, status_for};
@@ -9,7 +9,7 @@ use pcache_base::reason::NoCacheReason;
 use pcache_lock::lock::{CacheKeyLock, LockStatus, Locked};
 use pcache_store::storage::{HandleHit, HandleMiss, Storage};
 
-// Whether the holder of a permit can have this reason.
+// Whether this can be a reason of a permit's holder.
 fn is_holders_reason(reason: NoCacheReason) -> bool
     ensures { IsTrue result ↔ IsHoldersReason reason }
 {
@@ -29,7 +29,7 @@ fn is_disable_reason(reason: NoCacheReason) -> bool
     !matches!(reason, NoCacheReason::NeverEnabled)
 }
 
-// What the others are told when a permit is released for this reason.
+// The status that a permit is released with for this reason, which its readers get.
 pub(super) fn status_for<L: CacheKeyLock>(lock: &L, reason: NoCacheReason) -> LockStatus
     ensures value { result ≡ status_for (L.custom_status lock.now) reason }
     ensures reason { IsReason result }
@@ -58,7 +58,7 @@ impl<S: Storage> HttpCache<S> {
     ghost use Rattle.pcache_request.specs.Reports.{name_of};
     ghost use Rattle.pcache_request.specs.Requests.{HoldsNothing, settled, left_by, dropped_by};
 
-    /// Passes the cache by. The key is kept, and what is held.
+    /// Bypasses the cache. The key and all that is held are kept.
     /// Requires the phase CacheKey; ask `phase().may_bypass()`.
     pub fn bypass(&mut self)
         requires { MayBypass self.old.phase }
@@ -67,8 +67,8 @@ impl<S: Storage> HttpCache<S> {
         self.phase = CachePhase::Bypass;
     }
 
-    /// Whether the lock that is held may be given up for this reason: that of a reader, or that
-    /// caching was never turned on, is no reason to release a permit.
+    /// Whether the held lock may be given up for this reason. A permit may not be given up for a
+    /// reason of readers, nor because caching was never turned on.
     pub fn may_release(&self, reason: NoCacheReason) -> bool
         ensures { IsTrue result ↔ MayRelease reason self.now.held }
     {
@@ -85,9 +85,9 @@ impl<S: Storage> HttpCache<S> {
         is_disable_reason(reason) && self.may_release(reason)
     }
 
-    /// Turns caching off. The write is dropped, a permit is released with what the reason tells the
-    /// others, and the rest is let go; the key stays. If caching was never turned on, nothing
-    /// changes. Answers the lock that was released.
+    /// Turns caching off. The write is dropped, a permit is released with the status of the reason,
+    /// and the rest is let go; the key is kept. If caching was never turned on, nothing changes.
+    /// Returns the lock that was released.
     /// Requires a reason other than NeverEnabled, and with a permit held one that its holder can
     /// have; ask `may_disable(reason)`.
     pub fn disable<L: CacheKeyLock>(

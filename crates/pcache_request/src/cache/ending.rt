@@ -1,5 +1,5 @@
-//! The end of a write, in any call that has one: its entry and key are made, the storage stores the body, the manager
-//! takes the entry in, and what is evicted for it is purged.
+//! The end of a write, in any call that ends one: its entry and key are made, the storage stores the body, the
+//! manager admits the entry, and what is evicted for it is purged.
 ghost use Rattle.std.specs.Prelude.{◌≡◌, true, false, IfOk, IfErr, ◌⊎◌, OnErr, OnOk, Some, cond};
 ghost use Rattle.pcache_base.specs.declared.error.ErrorType.TheVariants.{OutOfMemory};
 ghost use Rattle.pcache_base.specs.CompactKey.{compact_of};
@@ -24,13 +24,13 @@ use std::alloc::Global;
 /// How a write ended.
 #[derive(Debug, Drop)]
 pub struct EndedWrite {
-    /// What became of it.
+    /// The outcome.
     pub end: WriteEnd,
-    /// The entry of the body, if one was stored for good.
+    /// The entry of the body, if it was stored and not withdrawn.
     pub entry: Option<CacheEntryKey>,
 }
 
-// Purges an entry, and tells whether that was refused.
+// Purges an entry, and returns whether that failed.
 fn is_purge_refused<S: Storage>(storage: &mut S, entry: &CacheEntryKey) -> bool
     ensures refused { result ≡ true → S.state storage.new ≡ S.state storage.old }
     ensures purged { result ≡ false → S.state storage.new ≡ entry_purged S.guarantees.numbers (S.state storage.old) entry.now }
@@ -41,7 +41,7 @@ fn is_purge_refused<S: Storage>(storage: &mut S, entry: &CacheEntryKey) -> bool
         .is_err()
 }
 
-// Purges each entry in order, and counts those that were refused.
+// Purges each entry in order, and returns for how many that failed.
 fn purge_all<S: Storage>(storage: &mut S, entries: &[CacheEntryKey]) -> usize
     ensures purges { PurgesAll S.guarantees.numbers (S.state storage.old) entries.now result (S.state storage.new) }
     ensures sure { S.guarantees.purges ≡ true → result ≡ 0 }
@@ -55,7 +55,7 @@ fn purge_all<S: Storage>(storage: &mut S, entries: &[CacheEntryKey]) -> usize
     failed
 }
 
-// Admits the entry of a write that ended so, if a manager is in use.
+// Admits the entry of a write with this outcome, if a manager is in use.
 fn admit<E: EvictionManager>(
     alloc: Global,
     is_used: bool,
@@ -110,7 +110,7 @@ fn admit_and_purge<S: Storage, E: EvictionManager>(
     })
 }
 
-// The entry of a key, and the key itself to purge it by.
+// The entry of a key, and the key itself, for a purge.
 fn entry_and_key(
     key: &CacheKey,
     id: Option<CacheEntryId>,
@@ -123,7 +123,8 @@ fn entry_and_key(
     Ok((entry, compact))
 }
 
-// Makes the entry and the key of a write, and then finishes it. Refused, the write is dropped.
+// Makes the entry and the key of a write, and then finishes it. If that fails, the write is
+// dropped.
 fn finish_writer<S: Storage>(
     storage: &mut S,
     key: &CacheKey,
@@ -158,8 +159,8 @@ fn told_size(kind: MissFinishType) -> usize
 }
 
 /// Ends the write of a key and stores its body. Its entry is admitted if a manager is in use, and what is evicted for
-/// it is purged, in order. A write that is refused is dropped, and a body whose admission is refused is purged again.
-/// The entry and the key are made first, so that a lack of memory for them drops the write.
+/// it is purged, in order. If the end of the write fails, it is dropped; if the admission fails, the body is purged
+/// again. The entry and the key are made first, so that a lack of memory for them drops the write.
 pub fn end_writer<S: Storage, E: EvictionManager>(
     alloc: Global,
     is_used: bool,

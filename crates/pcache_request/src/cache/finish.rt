@@ -11,31 +11,31 @@ use pcache_evict::eviction::{CacheEntryKey, EvictionManager};
 use pcache_lock::lock::{CacheKeyLock, LockStatus};
 use pcache_store::storage::Storage;
 
-/// What the end of a write gave.
+/// What the end of a write did.
 #[derive(Debug, Drop)]
 pub struct FinishReport {
-    /// The size that the storage answered.
+    /// The size that the storage returned.
     pub size: usize,
-    /// What was evicted, in order.
+    /// The entries that were evicted, in order.
     pub evicted: Vec<CacheEntryKey>,
-    /// How many of these the storage refused to purge.
+    /// For how many of these the purge failed.
     pub failed_purges: usize,
 }
 
-/// How the end of a request's write went.
+/// The outcome of the end of a request's write.
 #[derive(Debug, Drop)]
 pub enum WriteEnd {
     /// There was no write.
     Nothing,
     /// The body is stored.
     Stored(FinishReport),
-    /// The write was refused and dropped.
+    /// The end failed, and the write was dropped.
     Dropped(Error),
-    /// The body was stored, its admission was refused, and its key was purged again.
+    /// The body was stored, but its admission failed, and its key was purged again.
     Withdrawn(Error),
 }
 
-// The status that a permit is released with when its write ended.
+// The status that a permit is released with after its write ended.
 fn status_after(end: &WriteEnd) -> LockStatus
     ensures status { result ≡ status_after end.now }
     ensures reason { IsReason result }
@@ -56,7 +56,8 @@ impl<S: Storage> HttpCache<S> {
     ghost use Rattle.pcache_request.specs.WriteEnds.{Ends, EndsAs, finishes_of, evicted_after};
     ghost use Rattle.pcache_request.specs.Reports.{name_of, entry_stored};
 
-    // Releases what the request holds, with a status, and answers what it was.
+    // Releases the lock that the request holds, a permit with a status, and returns which lock it
+    // was.
     fn settle_held<L: CacheKeyLock>(&mut self, lock: &mut L, status: LockStatus) -> Option<LockName>
         requires { IsReason status }
         ensures released { result ≡ option_map name_of self.old.held }
@@ -67,8 +68,9 @@ impl<S: Storage> HttpCache<S> {
     }
 
     /// Ends the write and stores the body. Its entry is admitted, and what is evicted for it is
-    /// purged, in order. A write that is refused is dropped, and the permit is released with
-    /// that; a body whose admission is refused is purged again. Without a write, `None`.
+    /// purged, in order. If the end of the write fails, the write is dropped and the permit is
+    /// released accordingly; if the admission fails, the body is purged again. Returns `None`
+    /// without a write.
     /// Requires the phase Miss or Expired; ask `phase().is_filling()`.
     pub fn finish_miss_handler<L: CacheKeyLock, E: EvictionManager>(
         &mut self,
@@ -82,7 +84,7 @@ impl<S: Storage> HttpCache<S> {
         ensures evicted { EndsAs result (λ end. E.evicted eviction.new ≡ evicted_after self.old self.old.key (finishes_of (S.finishes storage.old) self.old.write) (E.tracked eviction.old) (E.evicted eviction.old) end) }
         ensures limits { E.limits eviction.new ≡ E.limits eviction.old }
 
-        // If the admission was refused, the key has no body in the store after the call.
+        // If the admission failed, the key has no body in the store after the call.
         ensures withdrawn { IsTrue S.guarantees.purges → OnErr result (LeavesNone self.old.key self.old.write (S.state storage.old) (S.state storage.new)) }
     {
         let WriteReport {
@@ -98,7 +100,7 @@ impl<S: Storage> HttpCache<S> {
         }
     }
 
-    /// What `finish_miss_handler` does, told apart by how far it came.
+    /// `finish_miss_handler` with a result that says how far it came.
     /// Requires the phase Miss or Expired; ask `phase().is_filling()`.
     pub fn end_write<L: CacheKeyLock, E: EvictionManager>(
         &mut self,

@@ -1,4 +1,4 @@
-//! Taking what a look-up found.
+//! Taking the pair that a look-up found.
 ghost use Rattle.std.specs.Prelude.{◌≡◌, IfOk, IfErr, OnOk, OnErr, Some, None, cond, not, ◌&&◌, true, false};
 ghost use Rattle.pcache_base.specs.declared.error.ErrorType.TheVariants.{OutOfMemory};
 ghost use Rattle.pcache_store.specs.Purge.{entry_read};
@@ -17,7 +17,8 @@ use pcache_lock::lock::CacheKeyLock;
 use pcache_meta::meta::CacheMeta;
 use pcache_store::storage::{HandleHit, Storage};
 
-// Notes the use of a body that counts and is not passed over, and returns what was noted.
+// Records the use of a body that counts as accessed and is not treated as a miss. Returns the
+// access, if it was recorded.
 fn note_access<S: Storage, E: EvictionManager>(
     eviction: &mut E,
     key: &CacheKey,
@@ -43,7 +44,7 @@ fn note_access<S: Storage, E: EvictionManager>(
     Ok(Some(Access { entry, weight }))
 }
 
-// The phase that what was found brings.
+// The phase after a found pair with this status.
 fn phase_found(status: HitStatus, phase: CachePhase) -> CachePhase
     ensures { result ≡ phase_found status phase }
 {
@@ -66,8 +67,8 @@ impl<S: Storage> HttpCache<S> {
     ghost use Rattle.pcache_request.specs.Requests.{found_row, asks_for_hit, counts_found, store_found, table_found, tracked_found};
     ghost use Rattle.pcache_request.specs.Reports.{asked_by_found, access_by_found};
 
-    // Notes the use of what a look-up found, if a manager is in use and the hit counts and is not
-    // passed over. Returns the entry whose use was noted.
+    // Records the use of the found entry with the manager, if one is in use and the hit counts and
+    // is not treated as a miss. Returns the access.
     fn note_found<E: EvictionManager>(
         &self,
         eviction: &mut E,
@@ -92,8 +93,8 @@ impl<S: Storage> HttpCache<S> {
         note_access::<S, E>(eviction, key, meta, hit, status)
     }
 
-    // Takes what a look-up found, whose use was noted. Returns the lock that was asked for. Refused,
-    // it lets the hit go.
+    // Takes the pair that a look-up found, whose use was recorded. Returns the lock that was asked
+    // for. If that fails, the hit is let go.
     fn place_found<L: CacheKeyLock>(
         &mut self,
         storage: &mut S,
@@ -146,11 +147,11 @@ impl<S: Storage> HttpCache<S> {
         Ok(asked)
     }
 
-    /// Takes what a look-up found. Its use is noted, if a manager is in use and the hit counts and is
-    /// not passed over. A fresh hit is served; a stale one may be renewed, and one that is treated as
-    /// a miss is let go: both ask for the lock if one is in use. A manager is left wholly as it was
-    /// where no use is noted. Refused, it lets the hit go; an access noted before stays, if the lock
-    /// was refused. It is refused only if a use is noted or the lock asked for.
+    /// Takes the pair that a look-up found. Its use is recorded, if a manager is in use and the hit
+    /// counts and is not treated as a miss; otherwise the manager is unchanged. A fresh hit is
+    /// served; a stale one may be renewed, and one that is treated as a miss is let go: both ask for
+    /// the lock if one is in use. Fails only if a use is recorded or the lock asked for. If it fails,
+    /// the hit is let go; an access recorded before remains if it was the lock that failed.
     /// Requires the phase CacheKey or Stale; ask `phase().may_look_up()`.
     pub fn cache_found<L: CacheKeyLock, E: EvictionManager>(
         &mut self,
@@ -188,8 +189,8 @@ impl<S: Storage> HttpCache<S> {
         }
     }
 
-    /// What `cache_found` does, told apart by how far it came: refused, it only let the hit go; else
-    /// its use was noted, also if the lock was refused, and the hit was let go then.
+    /// `cache_found` with a result that says how far it came: if it fails, it only let the hit go;
+    /// otherwise the use was recorded, even if the lock failed and the hit was let go.
     /// Requires the phase CacheKey or Stale; ask `phase().may_look_up()`.
     pub fn take_found<L: CacheKeyLock, E: EvictionManager>(
         &mut self,
@@ -209,7 +210,7 @@ impl<S: Storage> HttpCache<S> {
         ensures store { IfOk result (λ f. OnOk f.asked (S.state storage.new ≡ store_found status (S.Hit.reader hit) self.old (S.state storage.old))) }
         ensures table { IfOk result (λ f. OnOk f.asked (L.table lock.new ≡ table_found status now self.old (L.table lock.old))) }
 
-        // The lock was refused.
+        // The lock failed.
         ensures unlocked_request { IfOk result (λ f. OnErr f.asked (self.new ≡ self.old)) }
         ensures unlocked_store { IfOk result (λ f. OnErr f.asked (S.state storage.new ≡ left (S.state storage.old) (S.Hit.reader hit))) }
         ensures unlocked_table { IfOk result (λ f. OnErr f.asked (L.table lock.new ≡ L.table lock.old)) }

@@ -1,4 +1,4 @@
-//! Whether a request uses a lock, and what becomes of a permit that it holds.
+//! Whether a request uses a lock, and what it does with a permit that it holds.
 ghost use Rattle.std.specs.Prelude.{◌≡◌, None, Some};
 
 use super::disable::status_for;
@@ -15,7 +15,7 @@ use std::time::Duration;
 pub struct CacheOptionOverrides {
     /// For how long the request waits for locks, over all its waits, if that is limited.
     pub wait_timeout: Option<Duration>,
-    /// How often it is to look again after a wait, if that is limited. Its caller counts.
+    /// How often it may look up again after a wait, if that is limited. The caller counts.
     pub max_lock_retries: Option<usize>,
 }
 
@@ -24,7 +24,7 @@ pub struct CacheOptionOverrides {
 pub struct LockCtx {
     /// For how long it waits, over all its waits, if that is limited.
     pub wait_timeout: Option<Duration>,
-    /// How often it is to look again after a wait, if that is limited. Its caller counts.
+    /// How often it may look up again after a wait, if that is limited. The caller counts.
     pub max_retries: Option<usize>,
 }
 
@@ -69,8 +69,8 @@ impl<S: Storage> HttpCache<S> {
     ghost use Rattle.pcache_request.specs.Reports.{name_of, released_as};
     ghost use Rattle.pcache_request.specs.Requests.{HoldsNothing, settled};
 
-    /// Turns caching on, with these parts in use and these options of its lock, and all else but the
-    /// digest as in a new request. A disabled request holds nothing, so that nothing is lost.
+    /// Turns caching on, with these parts in use and these options of its lock. All else but the
+    /// digest is as in a new request. A disabled request holds nothing, so nothing is lost.
     /// Requires the phase Disabled; ask `phase().is_disabled()`.
     pub fn enable_with(&mut self, uses: InUse, overrides: Option<CacheOptionOverrides>)
         requires { IsDisabled self.old.phase }
@@ -81,7 +81,8 @@ impl<S: Storage> HttpCache<S> {
         self.lock_ctx = LockCtx::of(uses.lock, overrides);
     }
 
-    /// Whether `set_cache_lock` may be called: no lock is held, and the key was not missed yet.
+    /// Whether `set_cache_lock` may be called: the phase is CacheKey, Stale or Hit, and no lock is
+    /// held.
     pub fn may_set_cache_lock(&self) -> bool
         ensures { IsTrue result ↔ MaySetLock self.now }
     {
@@ -127,7 +128,7 @@ impl<S: Storage> HttpCache<S> {
         matches!(&self.held, Some(Locked::Write(_)))
     }
 
-    /// How often the request is to look again after a wait, if that is limited.
+    /// How often the request may look up again after a wait, if that is limited.
     /// Requires that caching is on; ask `phase().is_on()`.
     pub fn cache_lock_max_retries(&self) -> Option<usize>
         requires { IsOn self.now.phase }
@@ -136,7 +137,7 @@ impl<S: Storage> HttpCache<S> {
         self.lock_ctx.max_retries
     }
 
-    /// Takes the permit out, for another request to hold.
+    /// Takes the permit out, so that another request can hold it.
     /// Requires that the permit is held; ask `is_cache_lock_writer()`.
     pub fn take_write_lock(&mut self) -> WritePermit
         requires { IsSome (permit_in self.old.held) }
@@ -152,8 +153,8 @@ impl<S: Storage> HttpCache<S> {
         permit
     }
 
-    /// Holds a permit that another request had; a lock that was held before is let go. Without a
-    /// lock in use the permit itself is let go. Answers the lock that was let go.
+    /// Holds a permit that another request had; a lock held before is let go. If no lock is in use,
+    /// the permit itself is let go. Returns the lock that was let go.
     /// Requires that caching is on; ask `phase().is_on()`.
     pub fn set_write_lock<L: CacheKeyLock>(
         &mut self,
@@ -178,8 +179,8 @@ impl<S: Storage> HttpCache<S> {
         name
     }
 
-    /// Releases the permit with what the reason tells the others; a read lock is let go, whatever
-    /// the reason. Answers what was released.
+    /// Releases the permit with the status of the reason; a read lock is let go, whatever the
+    /// reason. Returns the lock that was released.
     /// Requires with a permit held a reason that its holder can have; ask `may_release(reason)`.
     pub fn release_write_lock<L: CacheKeyLock>(
         &mut self,
@@ -196,9 +197,10 @@ impl<S: Storage> HttpCache<S> {
         Some(ReleasedLock { lock, status })
     }
 
-    /// Publishes what was found out about the fill, if the permit is held: readers that cannot
-    /// use such a fill need not wait for it. Answers the permit for which it was published. It is
-    /// refused only when memory runs out, and changes nothing then; no tokens are never refused.
+    /// Publishes tokens of what was found out about the fill, if the permit is held: readers that
+    /// cannot use such a fill need not wait for it. Returns the permit for which they were
+    /// published. Fails only when memory runs out, and then changes nothing; an empty list never
+    /// fails.
     pub fn lock_publish_fill_tokens<L: CacheKeyLock>(
         &self,
         lock: &mut L,
@@ -221,7 +223,7 @@ impl<S: Storage> HttpCache<S> {
         }))
     }
 
-    /// Tags the request as one of another. As all tags it has no effect.
+    /// Tags the request as a subrequest. Like all tags this has no effect.
     /// Requires that caching is on; ask `phase().is_on()`.
     pub fn tag_as_subrequest(&mut self)
         requires { IsOn self.old.phase }

@@ -22,7 +22,7 @@ use pcache_store::storage::Storage;
 use std::alloc::Global;
 use std::time::Duration;
 
-// The outcome of the name of a status.
+// The outcome with the name of a status.
 fn outcome_of(status: LockStatus) -> LockWaitOutcome
     ensures { result ≡ outcome_of_status status }
 {
@@ -36,7 +36,7 @@ fn outcome_of(status: LockStatus) -> LockWaitOutcome
     }
 }
 
-// Whether a wait took what earlier waits left of the timeout.
+// Whether a wait took all the time that earlier waits left of the timeout.
 fn has_waited(timeout: Option<Duration>, before: Option<Duration>, waited: Duration) -> bool
     ensures { result ≡ has_waited (option_map as_nanos timeout) (option_map as_nanos before) (as_nanos waited) }
 {
@@ -50,7 +50,7 @@ fn has_waited(timeout: Option<Duration>, before: Option<Duration>, waited: Durat
     waited.as_nanos() >= rest
 }
 
-// How a wait goes on, by what the lock's table answered.
+// How a wait goes on after what the lock table returned.
 fn answer_by(status: LockStatus, is_late: bool, polled: Poll<WaitOutcome>) -> Poll<LockWaitOutcome>
     ensures { result ≡ answer_by status is_late polled }
 {
@@ -81,7 +81,7 @@ fn unusable_in(key: &Option<CacheKey>) -> Option<&UnusableFills>
     key.unusable.as_ref()
 }
 
-// Polls a read lock, and says how the wait goes on.
+// Polls a read lock, and returns how the wait goes on.
 #[tactic(auto, using(crate::proofs::Polled::number_polled))]
 fn poll_read<L: CacheKeyLock>(
     alloc: Global,
@@ -116,7 +116,7 @@ fn poll_read<L: CacheKeyLock>(
     })
 }
 
-// The moment of the first poll of a read lock, which is now if it was not polled before.
+// The moment of the first poll of a read lock: `now`, if it was not polled before.
 fn first_poll(read: &ReadLock, waits_since: Option<Moment>, now: Moment) -> Moment
     ensures { result ≡ since_of now read.now.watch waits_since }
 {
@@ -126,7 +126,8 @@ fn first_poll(read: &ReadLock, waits_since: Option<Moment>, now: Moment) -> Mome
     }
 }
 
-// Holds a read lock again, if the wait goes on, and else has the table trace the wait and lets it go.
+// Holds the read lock again if the wait goes on; otherwise has the table trace the wait, and lets the
+// lock go.
 fn end_poll<L: CacheKeyLock>(
     lock: &mut L,
     traces: &CacheTraceCTX,
@@ -150,7 +151,7 @@ fn end_poll<L: CacheKeyLock>(
     *waits_since = Some(since);
 }
 
-// Notes a wait that ended.
+// Records a wait that ended in the digest.
 fn end_wait(digest: &mut HttpCacheDigest, answer: Poll<LockWaitOutcome>, waited: Duration)
     ensures { digest.new ≡ digest_after answer (as_nanos waited) digest.old }
 {
@@ -163,7 +164,7 @@ fn end_wait(digest: &mut HttpCacheDigest, answer: Poll<LockWaitOutcome>, waited:
     }
 }
 
-// Polls a read lock that is not held at its place, and puts it there again if the wait goes on.
+// Polls a read lock that was taken out of the request, and puts it back if the wait goes on.
 fn wait_on<L: CacheKeyLock>(
     alloc: Global,
     lock: &mut L,
@@ -226,13 +227,13 @@ impl<S: Storage> HttpCache<S> {
     }
 
     /// Whether the wait for the lock is over, and how it ended: the permit was released or let go;
-    /// or else it has been held for too long, which the table keeps; or else a fill was published
+    /// or else it has been held for too long, which the table records; or else a fill was published
     /// that the request cannot use; or else it waited for as long as it may, over all its waits. A
-    /// wait that is over is traced by the table and lets the read lock go, and its time is in the
-    /// digest.
+    /// wait that is over is traced by the table, its read lock is let go, and its time is added to
+    /// the digest.
     ///
-    /// It is refused only when memory runs out, only at the first poll of a read lock, and only if
-    /// the key names fills that the request cannot use; nothing has changed then.
+    /// Fails only when memory runs out, only at the first poll of a read lock, and only if the key
+    /// names fills that the request cannot use; then nothing has changed.
     /// Requires a read lock; ask `is_cache_locked()`.
     pub fn cache_lock_wait<L: CacheKeyLock>(
         &mut self,
@@ -252,8 +253,8 @@ impl<S: Storage> HttpCache<S> {
         Ok(self.wait(lock, now)?.answer)
     }
 
-    /// What `cache_lock_wait` does, with the lock that was waited on, and whether its permit was
-    /// found too old.
+    /// `cache_lock_wait` with a result that also names the lock that was waited for, and says
+    /// whether its permit was found too old.
     /// Requires a read lock; ask `is_cache_locked()`.
     pub fn wait<L: CacheKeyLock>(&mut self, lock: &mut L, now: Moment) -> Result<WaitReport>
         requires { IsSome (read_in self.old.held) }
@@ -296,7 +297,7 @@ impl<S: Storage> HttpCache<S> {
         self.digest.lock_duration
     }
 
-    /// The fill that a wait was told of last.
+    /// The last fill that ended a wait.
     pub fn lock_abandon(&self) -> Option<LockAbandon>
         ensures { result ≡ self.now.digest.abandoned }
     {

@@ -1,4 +1,4 @@
-//! What is foretold of a key's response, and what is told of it.
+//! What a predictor says of a key's response, and what it is told about it.
 use super::HttpCache;
 use crate::phase::CachePhase;
 use pcache_base::error::Result;
@@ -14,8 +14,8 @@ impl<S: Storage> HttpCache<S> {
     ghost use Rattle.pcache_request.specs.Predictions.{expects_cacheable, foretold, bypassed_for};
     ghost use Rattle.pcache_request.specs.Shown.{shown_key};
 
-    /// Passes the cache by, and keeps the reason for which a predictor in use expects that the response
-    /// cannot be cached. The key is kept, and what is held.
+    /// Bypasses the cache, and keeps the reason for which a predictor in use expects that the response
+    /// cannot be cached. The key and all that is held are kept.
     /// Requires the phase CacheKey; ask `phase().may_bypass()`.
     pub fn bypass_with<P: CacheablePredictor>(&mut self, predictor: &P)
         requires { MayBypass self.old.phase }
@@ -30,7 +30,7 @@ impl<S: Storage> HttpCache<S> {
         self.phase = CachePhase::Bypass;
     }
 
-    /// Why the response was expected not to be cacheable, if the cache was passed by with a
+    /// Why the response was expected not to be cacheable, if the cache was bypassed with a
     /// predictor in use that knew a reason.
     pub fn predicted_uncacheable_reason(&self) -> Option<NoCacheReason>
         ensures { result ≡ self.now.predicted }
@@ -38,7 +38,7 @@ impl<S: Storage> HttpCache<S> {
         self.predicted
     }
 
-    /// Whether the response is expected to be cacheable: so it is without a predictor in use.
+    /// Whether the response is expected to be cacheable, as it always is if no predictor is in use.
     /// Requires a key, and that caching was enabled; ask `maybe_cache_key()`.
     pub fn cacheable_prediction<P: CacheablePredictor>(&self, predictor: &P) -> bool
         requires { IsSome (shown_key self.now) }
@@ -50,8 +50,8 @@ impl<S: Storage> HttpCache<S> {
         predictor.cacheable_prediction(self.cache_key())
     }
 
-    /// Tells a predictor in use that the response was cacheable. Answers what the predictor answers,
-    /// whether that was expected, and `None` without one in use, which is not touched then.
+    /// Tells a predictor in use that the response was cacheable. Returns what the predictor returns,
+    /// whether that was expected; and `None` if no predictor is in use, which is not touched then.
     /// Requires a key, and that caching was enabled; ask `maybe_cache_key()`.
     pub fn response_became_cacheable<P: CacheablePredictor>(
         &self,
@@ -68,10 +68,10 @@ impl<S: Storage> HttpCache<S> {
         Some(predictor.mark_cacheable(self.cache_key()))
     }
 
-    /// Tells a predictor in use that the response was not cacheable, for this reason. Answers what the
-    /// predictor answers: whether the contrary was expected, or `None` for a reason that does not
-    /// count; `None` also without one in use, which is not touched then. It is refused only when
-    /// memory runs out, for a reason that may count, and changes nothing then.
+    /// Tells a predictor in use that the response was not cacheable, for this reason. Returns what the
+    /// predictor returns: whether the contrary was expected, or `None` for a reason that does not
+    /// count; and `None` if no predictor is in use, which is not touched then. Fails only when memory
+    /// runs out, for a reason that may count, and then changes nothing.
     /// Requires a key, and that caching was enabled; ask `maybe_cache_key()`.
     pub fn response_became_uncacheable<P: CacheablePredictor>(
         &self,

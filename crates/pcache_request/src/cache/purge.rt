@@ -1,4 +1,4 @@
-//! Removing and expiring what stands under a request's key.
+//! Removing and expiring what is stored for a request's key.
 ghost use Rattle.std.specs.Prelude.{◌≡◌, IfErr, IfOk, OnErr, OnOk, Some};
 ghost use Rattle.pcache_base.specs.CompactKey.{compact_of};
 ghost use Rattle.pcache_base.specs.Key.{slot};
@@ -14,7 +14,8 @@ use pcache_base::moment::Moment;
 use pcache_evict::eviction::{CacheEntryKey, EvictionManager};
 use pcache_store::storage::{PurgeOutcome, PurgeTarget, PurgeType, Storage};
 
-// Takes what a removal took out of the storage out of a manager in use too, and answers it.
+// Removes the entry that a removal removed from the storage from a manager in use too, and returns
+// it.
 fn untrack<E: EvictionManager>(
     eviction: &mut E,
     is_used: bool,
@@ -39,7 +40,7 @@ fn untrack<E: EvictionManager>(
     }
 }
 
-// Removes what stands under a key, and takes the entry that went out of a manager in use.
+// Removes what is stored for a key, and its entry from a manager in use.
 fn remove_key<S: Storage, E: EvictionManager>(
     storage: &mut S,
     eviction: &mut E,
@@ -71,8 +72,8 @@ impl<S: Storage> HttpCache<S> {
     ghost use Rattle.pcache_request.specs.Reports.{untracked_for};
     ghost use Rattle.pcache_request.specs.Requests.{tracked_gone_for, is_removed_by};
 
-    /// Removes what stands under the key, and takes the entry that went out of the manager. Answers
-    /// whether anything was there.
+    /// Removes what is stored for the key, and its entry from the manager. Returns whether anything
+    /// was stored.
     /// Requires the phase CacheKey; ask `phase().may_purge()`.
     pub fn purge<E: EvictionManager>(&mut self, storage: &mut S, eviction: &mut E) -> Result<bool>
         requires { MayPurge self.old.phase }
@@ -89,7 +90,8 @@ impl<S: Storage> HttpCache<S> {
         Ok(self.purge_key(storage, eviction)?.was_there())
     }
 
-    /// What `purge` does, with what the storage found and the entry that was taken out.
+    /// `purge` with a result that also says what the storage found, and which entry was removed
+    /// from the manager.
     /// Requires the phase CacheKey; ask `phase().may_purge()`.
     pub fn purge_key<E: EvictionManager>(
         &mut self,
@@ -112,8 +114,8 @@ impl<S: Storage> HttpCache<S> {
         remove_key(storage, eviction, self.uses.eviction, key)
     }
 
-    /// Removes what stands under the key, as `purge` does, in any phase in which there is one. It is
-    /// done at once, and the context, which the Rust notes if that fails, is not read.
+    /// Removes what is stored for the key, as `purge` does, in any phase with a key. It is done at
+    /// once, and the context, which the Rust logs if that fails, is not read.
     /// Requires a phase that is neither Disabled nor Uninit; ask `phase().may_spawn_purge()`.
     pub fn spawn_async_purge<E: EvictionManager>(
         &mut self,
@@ -135,7 +137,8 @@ impl<S: Storage> HttpCache<S> {
         Ok(self.spawn_purge(storage, eviction)?.was_there())
     }
 
-    /// What `spawn_async_purge` does, with what the storage found and the entry that was taken out.
+    /// `spawn_async_purge` with a result that also says what the storage found, and which entry was
+    /// removed from the manager.
     /// Requires a phase that is neither Disabled nor Uninit; ask `phase().may_spawn_purge()`.
     pub fn spawn_purge<E: EvictionManager>(
         &mut self,
@@ -158,7 +161,7 @@ impl<S: Storage> HttpCache<S> {
         remove_key(storage, eviction, self.uses.eviction, key)
     }
 
-    /// Ends the freshness of what stands under the key. Answers whether a body was there.
+    /// Ends the freshness of what is stored for the key. Returns whether there was a body.
     /// Requires the phase CacheKey; ask `phase().may_purge()`.
     pub fn expire<E: EvictionManager>(
         &mut self,
@@ -180,7 +183,8 @@ impl<S: Storage> HttpCache<S> {
         Ok(self.expire_key(storage, eviction, now)?.was_there())
     }
 
-    /// What `expire` does, with what the storage found and an entry that went all the same.
+    /// `expire` with a result that also says what the storage found, and the entry if it was
+    /// removed all the same.
     /// Requires the phase CacheKey; ask `phase().may_purge()`.
     pub fn expire_key<E: EvictionManager>(
         &mut self,

@@ -1,4 +1,4 @@
-//! What calls tell of what they did, for callers who keep a history.
+//! Reports of calls on what they did, for callers that keep a history.
 //!
 //! A report takes no memory of its own: an entry in it was made for the call itself.
 ghost use Rattle.std.specs.Prelude.{◌≡◌};
@@ -37,63 +37,63 @@ impl LockName {
 /// A lock that was asked for.
 #[derive(Clone, Copy, Debug, PartialEq, Eq)]
 pub struct AskedLock {
-    /// What was given, which is held now.
+    /// The lock that was given, which is held now.
     pub given: LockName,
-    /// What was held before, which was let go.
+    /// The lock that was held before, which was let go.
     pub replaced: Option<LockName>,
 }
 
 /// A lock that was released.
 #[derive(Clone, Copy, Debug, PartialEq, Eq)]
 pub struct ReleasedLock {
-    /// What was held, and is gone.
+    /// The lock that was held.
     pub lock: LockName,
-    /// The status that the permit was released with. Its readers are told that, or that it was too
-    /// old if it was found so before. A read lock was let go, and told nobody.
+    /// The status that the permit was released with. Its readers get this status, or that it was
+    /// too old if it was found so before. A read lock was let go, without a status for others.
     pub status: LockStatus,
 }
 
-/// What a wait gave.
+/// What a poll of a wait did.
 #[derive(Clone, Copy, Debug, PartialEq, Eq)]
 pub struct WaitReport {
-    /// How it ended, and the read lock was let go; or that it goes on. The fills that count are those
-    /// of the key at the first poll.
+    /// How the wait ended, and the read lock was let go; or that it goes on. The fills that count are
+    /// those of the key at the first poll.
     pub answer: Poll<LockWaitOutcome>,
-    /// The lock that was waited on.
+    /// The lock that was waited for.
     pub lock: LockName,
-    /// Whether its permit was found too old, which the lock's table keeps.
+    /// Whether its permit was found too old, which the lock table records.
     pub is_too_old: bool,
 }
 
-/// The use of an entry that a manager was told of.
+/// The use of an entry that a manager recorded.
 #[derive(Debug, Drop)]
 pub struct Access {
     /// The entry.
     pub entry: CacheEntryKey,
-    /// The weight that it came in with, if it was missing.
+    /// The weight that it is added with, if it was not tracked.
     pub weight: usize,
 }
 
-/// What a look-up gave.
+/// What a look-up did.
 pub enum LookUp<H> {
-    /// What it hands on: the meta, and the reader, which has to be taken or let go.
+    /// The pair that it hands on: the meta, and the reader, which has to be taken or let go.
     Found(CacheMeta, H),
-    /// It hands nothing on: the lock that it asked for, if it did, or why that was refused.
+    /// It hands nothing on: the lock that it asked for, if it did, or why that failed.
     NotFound(Result<Option<AskedLock>, Error>),
     /// The policy deferred, and caching is off: the lock that was released.
     Deferred(Option<LockName>),
 }
 
-/// What the taking of a found pair gave.
+/// What taking a found pair did.
 #[derive(Debug, Drop)]
 pub struct FoundReport {
-    /// The entry whose use was noted.
+    /// The access that was recorded, if one was.
     pub access: Option<Access>,
-    /// The lock that was asked for, if it was, or why that was refused.
+    /// The lock that was asked for, if one was, or why that failed.
     pub asked: Result<Option<AskedLock>, Error>,
 }
 
-/// What the begin of a write gave.
+/// What the begin of a write did.
 #[derive(Debug, Drop)]
 pub struct WriteBegin {
     /// The lock that was released.
@@ -102,32 +102,32 @@ pub struct WriteBegin {
     pub joined: Result<(), Error>,
 }
 
-/// What a revalidation gave.
+/// What a revalidation did.
 #[derive(Debug, Drop)]
 pub struct Renewal {
-    /// Whether a complete body stood under the key, whose meta was set, or why it was not set.
+    /// Whether there was a complete body for the key, whose meta was set; or why it was not set.
     pub updated: Result<bool, Error>,
     /// The lock that was released.
     pub released: Option<LockName>,
 }
 
-/// What the end of a write gave.
+/// What the end of a write did.
 #[derive(Debug, Drop)]
 pub struct WriteReport {
-    /// How it went.
+    /// The outcome.
     pub end: WriteEnd,
-    /// The entry of the body, if one was stored for good.
+    /// The entry of the body, if it was stored and not withdrawn.
     pub entry: Option<CacheEntryKey>,
     /// The lock that was released.
     pub released: Option<LockName>,
 }
 
-/// What a removal gave.
+/// What a removal did.
 #[derive(Debug, Drop)]
 pub struct Removal {
     /// What the storage found.
     pub outcome: PurgeOutcome,
-    /// The entry that was taken out of the manager.
+    /// The entry that was removed from the manager.
     pub untracked: Option<CacheEntryKey>,
 }
 
@@ -148,7 +148,7 @@ impl WriteReport {
 }
 
 impl Removal {
-    /// Whether anything was there.
+    /// Whether anything was removed or expired.
     pub fn was_there(&self) -> bool
         ensures { result ≡ is_removed_by self.now.outcome }
     {

@@ -1,4 +1,4 @@
-//! A stale response of which the origin said that it is good.
+//! A stale response that the origin confirmed as valid.
 ghost use Rattle.std.specs.Prelude.{◌≡◌, ◌⊎◌, IsTrue, IfErr, OnOk, Some};
 ghost use Rattle.http_header.specs.FieldName.{is_field_name};
 ghost use Rattle.http_header.specs.HeaderMap.{RefusesAppend, RefusesInsert, append, get_all, insert};
@@ -17,7 +17,8 @@ use pcache_meta::header::{RespHeader, ResponseHeader};
 use pcache_meta::meta::CacheMeta;
 use pcache_store::storage::Storage;
 
-// The new meta of an old body: it was created, and its body came, when that of the old one was.
+// Gives the new meta of an old body the creation of the old meta, and the moment from which the old
+// body came.
 fn renew(meta: &mut CacheMeta, old: &CacheMeta)
     ensures { meta.new ≡ renewed_by meta.old (Some old.now) }
 {
@@ -35,7 +36,7 @@ fn refusal(error: HeaderMapError) -> Error
     }
 }
 
-// Puts a value in place of all those under a name.
+// Replaces all values under a name by one.
 fn set_field(headers: &mut HeaderMap, name: &'static str, value: &HeaderValue) -> Result<()>
     requires { IsTrue (is_field_name name.now) }
     ensures ok { OnOk result (headers.new ≡ insert headers.old (lowercase name.now) value.now) }
@@ -79,7 +80,8 @@ fn add_fields(
     Ok(())
 }
 
-// Puts the values that an answer has under a name in place of those that were there.
+// Replaces the values under a name by those that the new response has; if it has none, nothing
+// changes.
 #[tactic(auto, using(crate::proofs::Fields::renewed_none, crate::proofs::Fields::renewed_some, crate::proofs::Fields::lacks_first, crate::proofs::Fields::lacks_rest))]
 fn renew_field(headers: &mut HeaderMap, answer: &HeaderMap, name: &'static str) -> Result<()>
     requires { IsTrue (is_field_name name.now) }
@@ -95,7 +97,7 @@ fn renew_field(headers: &mut HeaderMap, answer: &HeaderMap, name: &'static str) 
     add_fields(headers, name, values)
 }
 
-// The same for each field that an answer renews.
+// The same for each field that the new response renews.
 fn renew_fields(headers: &mut HeaderMap, answer: &HeaderMap) -> Result<()>
     ensures ok { OnOk result (shown_fields headers.new ≡ fields_renewed (shown_fields answer.now) (shown_fields headers.old)) }
     ensures full { IfErr result (λ e. e ≡ InternalError → LacksRoom (shown_fields answer.now) (shown_fields headers.old) renewed_names) }
@@ -118,10 +120,11 @@ impl<S: Storage> HttpCache<S> {
     ghost use Rattle.pcache_request.specs.Requests.{settled};
     ghost use Rattle.pcache_request.specs.Stale.{MayRevalidate};
 
-    /// Takes the meta of an answer that says that the stale body is good. It was created, and its body
-    /// came, when that of the old meta was. The store sets it for the complete body under the key, and
-    /// the permit is released as done. Answers whether there was such a body. The request goes on as
-    /// revalidated, with the new meta, also if the store refuses to set it, since memory ran out.
+    /// Takes the meta of a response that says that the stale body is still valid. The meta gets the
+    /// creation of the old meta, and the moment from which its body came. The store sets it for the
+    /// complete body of the key, and the permit is released as done. Returns whether there was such a
+    /// body. The request goes on as revalidated, with the new meta, even if the store could not set it
+    /// because memory ran out.
     /// Requires the phase Stale, and a meta; ask `may_revalidate()`.
     pub fn revalidate_cache_meta<L: CacheKeyLock>(
         &mut self,
@@ -145,7 +148,7 @@ impl<S: Storage> HttpCache<S> {
         updated
     }
 
-    /// What `revalidate_cache_meta` does, with the lock that was released.
+    /// `revalidate_cache_meta` with a result that also names the lock that was released.
     /// Requires the phase Stale, and a meta; ask `may_revalidate()`.
     pub fn renew_meta<L: CacheKeyLock>(
         &mut self,
@@ -181,10 +184,10 @@ impl<S: Storage> HttpCache<S> {
         self.phase = CachePhase::Revalidated;
         Renewal { updated, released }
     }
-    /// The head of the stale response with the fields that an answer renews: Cache-Control, Expires,
-    /// Cache-Tag, CDN-Cache-Control and ETag, each with the answer's values if it has any. It is
-    /// refused when memory runs out, and as `InternalError` only if the head has no room for one of the
-    /// answer's values.
+    /// The head of the stale response with the fields that the new response renews: Cache-Control,
+    /// Expires, Cache-Tag, CDN-Cache-Control and ETag, each with the new response's values if it has
+    /// any. Fails with `OutOfMemory` when memory runs out, and with `InternalError` only if the head
+    /// has no room for one of these values.
     /// Requires the phase Stale, and a meta; ask `may_revalidate()`.
     pub fn revalidate_merge_header(&self, resp: &RespHeader) -> Result<ResponseHeader>
         requires { MayRevalidate self.now }

@@ -1,8 +1,8 @@
-//! Looking a key up: what the store has, what is hidden of it, the policy that decides of a key that
-//! is not stored, and the key's lock.
+//! Looking a key up: what the store has, what is hidden of it, the policy for a key that has no
+//! body, and the key's lock.
 //!
-//! There is one way, `search`: `cache_lookup` has no policy to ask, `cache_lookup_with` has one, and
-//! `look_up` has a witness besides and tells what it did.
+//! All look-ups are made by `search`: `cache_lookup` has no policy to ask, `cache_lookup_with` has
+//! one, and `look_up` also has a witness and reports what it did.
 use super::{AskedLock, HttpCache, LookUp, NoWitness, Witness, take_lock_if};
 use pcache_base::error::Result;
 use pcache_base::moment::Moment;
@@ -23,8 +23,8 @@ impl<S: Storage> HttpCache<S> {
     ghost use Rattle.pcache_request.specs.Variants.{is_hidden, visible, seen_for, hides_for, searched, with_key_lock, table_key_locked, asked_for_key, asks_unseen, looked_for, table_looked_for};
     ghost use Rattle.pcache_request.specs.Witnesses.{HasHeard, passed_over};
 
-    /// What the store has for the key, also if that is hidden: the meta, and a reader that has to be
-    /// taken or let go. It is refused only when memory runs out, and changes nothing then.
+    /// What the store has for the key, even if it is hidden: the meta, and a reader that has to be
+    /// taken or let go. Fails only when memory runs out, and then changes nothing.
     /// Requires the phase CacheKey or Stale; ask `phase().may_look_up()`.
     pub fn find(&self, storage: &mut S) -> Result<Option<(CacheMeta, S::Hit)>>
         requires { MayLookUp self.now.phase }
@@ -38,7 +38,7 @@ impl<S: Storage> HttpCache<S> {
         storage.lookup(self.alloc, key)
     }
 
-    /// Whether a look-up hides what has this meta: it was created before the moment from which
+    /// Whether a look-up hides a pair with this meta: it was created before the moment from which
     /// variants of the key count (`cache_vary_lookup`).
     pub fn hides(&self, meta: &CacheMeta) -> bool
         ensures { result ≡ is_hidden self.now.valid_after meta.now.created }
@@ -49,8 +49,8 @@ impl<S: Storage> HttpCache<S> {
         }
     }
 
-    // Asks for the key's lock, if one is in use, and lets an older one go once the new one was
-    // given. Returns the lock that was asked for.
+    // Asks for the key's lock, if one is in use, and lets a lock held before go once the new one
+    // was given. Returns the lock that was asked for.
     fn ask_for_key<L: CacheKeyLock>(
         &mut self,
         lock: &mut L,
@@ -78,8 +78,8 @@ impl<S: Storage> HttpCache<S> {
         )
     }
 
-    // What the store has for the key, of which the witness was told. If it refuses that, the pair is
-    // let go.
+    // What the store has for the key. The witness was shown the pair; if the witness fails, the pair
+    // is let go.
     fn find_told<W: Witness<S>>(
         &self,
         storage: &mut S,
@@ -102,8 +102,7 @@ impl<S: Storage> HttpCache<S> {
         Ok(Some((meta, hit)))
     }
 
-    // Looks the key up, with a policy to ask if the request asks any, or with none, and tells what
-    // it did.
+    // Looks the key up, with or without a policy, and reports what it did.
     fn search<L: CacheKeyLock, A: AdmissionPolicy, W: Witness<S>>(
         &mut self,
         storage: &mut S,
@@ -123,7 +122,7 @@ impl<S: Storage> HttpCache<S> {
         ensures table { IfOk result (λ l. OnLooked l (L.table lock.new ≡ table_looked_with (decision_of_any has_policy (S.state storage.old) self.old self.new) (S.state storage.old) now self.old (L.table lock.old))) }
         ensures store { OnOk result (S.state storage.new ≡ store_looked_with (decision_of_any has_policy (S.state storage.old) self.old self.new) self.old (S.state storage.old)) }
 
-        // The lock was refused.
+        // The lock failed.
         ensures unlocked_request { IfOk result (λ l. OnUnlocked l (self.new ≡ with_decision (decision_of_any has_policy (S.state storage.old) self.old self.new) self.old)) }
         ensures unlocked_table { IfOk result (λ l. OnUnlocked l (L.table lock.new ≡ L.table lock.old)) }
         ensures unlocked_store { IfOk result (λ l. OnUnlocked l (hides_for (S.state storage.old) self.old ≡ false → S.state storage.new ≡ S.state storage.old)) }
@@ -146,10 +145,10 @@ impl<S: Storage> HttpCache<S> {
         Ok(LookUp::NotFound(self.ask_for_key(lock, now)))
     }
 
-    /// Looks for the key in the store, hides what was created before the moment from which variants
+    /// Looks the key up in the store, hides what was created before the moment from which variants
     /// count, and asks for the key's lock if it hands nothing on and a lock is in use. It asks no
-    /// policy (`cache_lookup_with` does). Refused, the request and the lock table are as before; if
-    /// the lock was refused, a hidden pair was let go.
+    /// policy (`cache_lookup_with` does). If it fails, the request and the lock table are
+    /// unchanged; if it was the lock that failed, a hidden pair was let go.
     /// Requires the phase CacheKey or Stale; ask `phase().may_look_up()`.
     pub fn cache_lookup<L: CacheKeyLock>(
         &mut self,
@@ -179,10 +178,11 @@ impl<S: Storage> HttpCache<S> {
         }
     }
 
-    /// Looks the key up as `cache_lookup` does, and if the store has nothing and a policy in use has
-    /// not decided yet, asks the policy first. If it defers, caching is turned off as deferred, and no
-    /// lock is asked for. Its decision is kept. Refused, the request is as before but for a decision, and
-    /// the lock table is as before; if the lock was refused, a hidden pair was let go.
+    /// Looks the key up as `cache_lookup` does. If the store has nothing and a policy in use has not
+    /// decided yet, it asks the policy first, and keeps its decision. If the policy defers, caching is
+    /// turned off as deferred, and no lock is asked for. If the call fails, the request is unchanged but
+    /// for a decision, and the lock table is unchanged; if it was the lock that failed, a hidden pair was
+    /// let go.
     /// Requires the phase CacheKey or Stale; ask `phase().may_look_up()`.
     pub fn cache_lookup_with<L: CacheKeyLock, A: AdmissionPolicy>(
         &mut self,
@@ -214,10 +214,10 @@ impl<S: Storage> HttpCache<S> {
         }
     }
 
-    /// What `cache_lookup_with` does, told apart by how far it came: a witness is told what the store
-    /// has, also if that is hidden, before anything comes of it. Refused, the store refused to look, or
-    /// the witness did; the request, the lock table and the policy are as before then, and what was
-    /// found was let go.
+    /// `cache_lookup_with` with a result that says how far it came. Before anything else a witness is
+    /// shown what the store has, even if it is hidden. If the call fails, the store's look-up failed or
+    /// the witness did; then the request, the lock table and the policy are unchanged, and the found
+    /// pair was let go.
     /// Requires the phase CacheKey or Stale; ask `phase().may_look_up()`.
     pub fn look_up<L: CacheKeyLock, A: AdmissionPolicy, W: Witness<S>>(
         &mut self,
@@ -237,7 +237,7 @@ impl<S: Storage> HttpCache<S> {
         ensures table { IfOk result (λ l. OnLooked l (L.table lock.new ≡ table_looked_with (decision_taken (S.state storage.old) self.old self.new) (S.state storage.old) now self.old (L.table lock.old))) }
         ensures store { OnOk result (S.state storage.new ≡ store_looked_with (decision_taken (S.state storage.old) self.old self.new) self.old (S.state storage.old)) }
 
-        // The lock was refused.
+        // The lock failed.
         ensures unlocked_request { IfOk result (λ l. OnUnlocked l (self.new ≡ with_decision (decision_taken (S.state storage.old) self.old self.new) self.old)) }
         ensures unlocked_table { IfOk result (λ l. OnUnlocked l (L.table lock.new ≡ L.table lock.old)) }
         ensures unlocked_store { IfOk result (λ l. OnUnlocked l (hides_for (S.state storage.old) self.old ≡ false → S.state storage.new ≡ S.state storage.old)) }

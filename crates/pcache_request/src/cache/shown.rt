@@ -1,4 +1,4 @@
-//! What a request shows of itself.
+//! The getters of a request, by its phase.
 use super::HttpCache;
 use crate::phase::CachePhase;
 use pcache_base::key::CacheKey;
@@ -16,14 +16,14 @@ impl<S: Storage> HttpCache<S> {
     ghost use Rattle.pcache_request.specs.Shown.{is_enabled, is_bypassing, has_used_upstream, shown_key, shown_meta, read_meta, stale_meta, ServesAfterError, ServesWhileUpdating};
     ghost use Rattle.pcache_request.specs.Phases.{is_on};
 
-    /// Whether the cache is on, and not passed by.
+    /// Whether the cache is on, and not bypassed.
     pub fn enabled(&self) -> bool
         ensures { result ≡ is_enabled self.now.phase }
     {
         !matches!(self.phase, CachePhase::Disabled(_) | CachePhase::Bypass)
     }
 
-    /// Whether the cache is passed by.
+    /// Whether the cache is bypassed.
     pub fn bypassing(&self) -> bool
         ensures { result ≡ is_bypassing self.now.phase }
     {
@@ -67,7 +67,7 @@ impl<S: Storage> HttpCache<S> {
         key
     }
 
-    /// The meta of what was found or is to be stored.
+    /// The meta of the response that was found or is to be stored.
     pub fn maybe_cache_meta(&self) -> Option<&CacheMeta>
         ensures { option_copied result ≡ shown_meta self.now }
     {
@@ -93,7 +93,7 @@ impl<S: Storage> HttpCache<S> {
         self.maybe_cache_meta()
     }
 
-    /// Whether `cache_meta` may be asked: there is a meta, and of a miss also a reader.
+    /// Whether `cache_meta` may be called: there is a meta, and in Miss also a reader.
     pub fn has_cache_meta(&self) -> bool
         ensures { IsTrue result ↔ IsSome (read_meta self.now) }
     {
@@ -142,7 +142,7 @@ impl<S: Storage> HttpCache<S> {
         meta.serve_stale_while_revalidate(now)
     }
 
-    /// Takes this span for all of the request's calls, if caching is on.
+    /// Uses this span for all of the request's calls, if caching is on.
     pub fn enable_tracing(&mut self, cache_span: Span)
         ensures { self.new ≡ self.old }
     {
@@ -181,14 +181,14 @@ impl<S: Storage> HttpCache<S> {
         Some(self.traces.get_hit_span())
     }
 
-    /// Adds what a look-up took, as the caller measured it.
+    /// Adds the time that a look-up took, as the caller measured it.
     pub fn record_lookup_duration(&mut self, duration: Duration)
         ensures { self.new ≡ with_look_up_time (as_nanos duration) self.old }
     {
         self.digest.add_lookup_duration(duration);
     }
 
-    /// What the look-ups took so far, if that was recorded.
+    /// The time that the look-ups took so far, if it was recorded.
     pub fn lookup_duration(&self) -> Option<Duration>
         ensures { option_map as_nanos result ≡ self.now.digest.look_ups }
     {

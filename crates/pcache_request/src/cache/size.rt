@@ -8,7 +8,7 @@ impl<S: Storage> HttpCache<S> {
     ghost use Rattle.pcache_request.specs.Phases.{IsOn, WasEnabled};
     ghost use Rattle.pcache_request.specs.Sizes.{with_limit, limit_of, with_bytes, is_within};
 
-    /// Limits the number of the body's bytes, none of which was counted yet.
+    /// Limits the number of the body's bytes, and sets their count to zero.
     /// Requires that caching is on; ask `phase().is_on()`.
     pub fn set_max_file_size_bytes(&mut self, max_file_size_bytes: usize)
         requires { IsOn self.old.phase }
@@ -27,9 +27,9 @@ impl<S: Storage> HttpCache<S> {
         Some(size.max_file_size_bytes())
     }
 
-    /// Counts so many bytes of the body, up to the largest number there is, and answers whether all
-    /// that were counted are within the limit. Without a limit it counts nothing, and they are. It may
-    /// also be called once caching was turned off.
+    /// Counts so many bytes of the body, up to the largest `usize`, and returns whether the count is
+    /// within the limit. Without a limit it counts nothing, and returns true. It may also be called
+    /// after caching was turned off.
     /// Requires that caching was enabled once; ask `phase().was_enabled()`.
     pub fn track_body_bytes_for_max_file_size(&mut self, bytes_len: usize) -> bool
         requires { WasEnabled self.old.phase }
@@ -42,7 +42,7 @@ impl<S: Storage> HttpCache<S> {
         }
     }
 
-    /// Whether the bytes that were counted are more than the limit.
+    /// Whether the counted bytes are more than the limit.
     /// Requires that caching was enabled once; ask `phase().was_enabled()`.
     pub fn exceeded_max_file_size(&self) -> bool
         requires { WasEnabled self.now.phase }

@@ -1,4 +1,4 @@
-//! What becomes of a stale body.
+//! What a request does with a stale body.
 use super::disable::status_for;
 use super::{HttpCache, LockName, settle};
 use crate::phase::CachePhase;
@@ -25,16 +25,16 @@ impl<S: Storage> HttpCache<S> {
         self.phase = CachePhase::StaleUpdating;
     }
 
-    /// Whether a stale body was found, and its meta is there.
+    /// Whether a stale body was found, with its meta.
     pub fn may_revalidate(&self) -> bool
         ensures { IsTrue result ↔ MayRevalidate self.now }
     {
         matches!(self.phase, CachePhase::Stale) && self.meta.is_some()
     }
 
-    /// Serves the stale body, of which the origin said that it is good, with this header. The new
-    /// answer is not stored, for this reason, and a permit is released with what that tells the
-    /// others. Answers the lock that was released.
+    /// Serves the stale body, which the origin confirmed as valid, with this header. The new
+    /// response is not stored, for this reason, and a permit is released with the status of the
+    /// reason. Returns the lock that was released.
     /// Requires the phase Stale with a meta, and with a permit held a reason that its holder can
     /// have; ask `may_revalidate()` and `may_release(reason)`.
     pub fn revalidate_uncacheable<L: CacheKeyLock>(

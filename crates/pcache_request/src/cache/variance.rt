@@ -1,4 +1,4 @@
-//! Variants of a key: which of them is looked for, and which one is filled.
+//! Variants of a key: which one is looked up, and which one is filled.
 ghost use Rattle.std.specs.Prelude.{◌≡◌};
 ghost use Rattle.pcache_request.specs.Variants.{same_variance, meta_varied, key_for_variance, first_variance};
 
@@ -9,7 +9,7 @@ use pcache_lock::lock::{CacheKeyLock, LockStatus};
 use pcache_meta::meta::CacheMeta;
 use pcache_store::storage::Storage;
 
-// Whether two variances are the same.
+// Whether two variances are equal.
 fn is_same(variance: Option<HashBinary>, other: Option<HashBinary>) -> bool
     ensures { result ≡ same_variance variance other }
 {
@@ -20,7 +20,7 @@ fn is_same(variance: Option<HashBinary>, other: Option<HashBinary>) -> bool
     }
 }
 
-// The variance of the key, else that of the stale meta.
+// The variance of the key, or else that of the stale meta.
 fn first_of(variance: Option<HashBinary>, stale: Option<HashBinary>) -> Option<HashBinary>
     ensures { result ≡ first_variance variance stale }
 {
@@ -30,7 +30,7 @@ fn first_of(variance: Option<HashBinary>, stale: Option<HashBinary>) -> Option<H
     }
 }
 
-// The key takes the variance, unless it names none and the body that was found is its own.
+// Sets the variance of the key, unless the key has none and the found body is the key's own.
 fn look_for(key: &mut CacheKey, variance: HashBinary, is_same: bool)
     ensures { key.new ≡ key_for_variance variance is_same key.old }
 {
@@ -39,7 +39,8 @@ fn look_for(key: &mut CacheKey, variance: HashBinary, is_same: bool)
     }
 }
 
-// The meta takes the variance; the first of new variants came when it was created.
+// Sets the variance of the meta. The body of the first of new variants came when its meta was
+// created.
 fn vary(meta: &mut CacheMeta, variance: Option<HashBinary>, begins_variants: bool)
     ensures { meta.new ≡ meta_varied variance begins_variants meta.old }
 {
@@ -58,10 +59,10 @@ impl<S: Storage> HttpCache<S> {
     ghost use Rattle.pcache_request.specs.Requests.{MayWrite};
     ghost use Rattle.pcache_request.specs.Variants.{same_variance, looks_for_variance, varied, table_varied, released_by_variance};
 
-    /// Sets the variance that the next look-up looks for, by the meta that was found under the key.
-    /// That look-up hides what was created before the meta's body came. Answers whether the meta is of
-    /// this variance: then, if the key named none, the body is the key's own, and the key names none
-    /// on.
+    /// Sets the variance that the next look-up uses, given the meta that was found for the key. That
+    /// look-up hides what was created before the meta's body came. Returns whether the meta has this
+    /// variance. If it has and the key has none, the body is the key's own, and the key still has
+    /// none.
     /// Requires the phase CacheKey or Stale; ask `phase().may_look_up()`.
     pub fn cache_vary_lookup(&mut self, variance: HashBinary, meta: &CacheMeta) -> bool
         requires { MayLookUp self.old.phase }
@@ -77,10 +78,10 @@ impl<S: Storage> HttpCache<S> {
         matches
     }
 
-    /// Sets what the response varies on, before its write begins. A response that is fetched anew with
+    /// Sets what the response varies on, before its write begins. A response that is fetched again with
     /// another variance than before is the first of its variants, and its body came when it was
-    /// created. A key that names another variance gives it up: the permit is released as done, since it
-    /// was asked for under that variance, and the response will stand under the key itself. Answers the
+    /// created. A key with another variance loses it: the permit is released as done, since it was
+    /// asked for with that variance, and the response will be stored for the key itself. Returns the
     /// lock that was released.
     /// Requires a phase that fills, a meta, and no write; ask `may_write()`.
     pub fn update_variance<L: CacheKeyLock>(

@@ -1,9 +1,9 @@
-//! Who is told of what a look-up finds.
+//! Observers of what a look-up finds.
 use pcache_base::error::Result;
 use pcache_meta::meta::CacheMeta;
 use pcache_store::storage::{HandleHit, Storage};
 
-/// Is told what a look-up finds, before anything comes of it.
+/// Is shown what a look-up finds, before the look-up acts on it.
 pub trait Witness<S: Storage> {
     ghost use Rattle.std.specs.Prelude.{OnOk, IfErr};
     ghost use Rattle.pcache_base.specs.declared.error.ErrorType.{ErrorType};
@@ -11,21 +11,21 @@ pub trait Witness<S: Storage> {
     ghost use Rattle.pcache_store.specs.Store.{Reader};
     ghost use Rattle.pcache_request.specs.Witnesses.{IsFound};
 
-    /// What being told of a pair makes of it. By default nothing is claimed.
+    /// The witness after it was shown a pair. By default nothing is stated.
     ghost hears: { Self → Meta × Reader → Self → Type 0 } = { λ _ _ _. Unit {0} };
 
-    /// For what it may refuse a pair: by default for anything.
+    /// The errors with which it may fail: by default any.
     ghost may_refuse: { ErrorType → Type 0 } = { λ _. Unit {0} };
 
-    /// Takes note of a pair that the store has, also if the look-up hides it. If that is refused, the
-    /// look-up is over, and lets the pair go.
+    /// Takes note of a pair that the store has, even if the look-up hides it. If this fails, the
+    /// look-up fails, and lets the pair go.
     fn found(&mut self, meta: &CacheMeta, hit: &S::Hit) -> Result<()>
         requires { IsFound (meta.now, S.Hit.reader hit.now) }
         ensures hears { OnOk result (hears self.old (meta.now, S.Hit.reader hit.now) self.new) }
         ensures kind { IfErr result may_refuse };
 }
 
-/// Takes note of nothing, and refuses nothing.
+/// A witness that takes note of nothing, and never fails.
 #[derive(Clone, Copy, Debug)]
 pub struct NoWitness;
 

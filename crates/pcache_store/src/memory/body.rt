@@ -1,4 +1,4 @@
-//! What stands under a key.
+//! The slot of a key.
 ghost use Rattle.std.specs.Prelude.{◌≡◌, ◌<◌, ◌^◌, ℕ, Option, Some, None, List, IfOk, IfErr, OnOk, OnErr, length, option_map, is_some, is_none, true};
 ghost use Rattle.std.specs.FinMap as map;
 ghost use Rattle.pcache_base.specs.declared.error.ErrorType.TheVariants.{OutOfMemory};
@@ -6,13 +6,13 @@ ghost use Rattle.pcache_meta.specs.Meta as meta_of;
 ghost use Rattle.pcache_table.specs.Numbers.{least};
 ghost use Rattle.pcache_store.specs.Store.{opened_in, is_idle, with_meta, has_write, number_of_body, body_with, slot_without};
 
+use crate::memory::untouched::Untouched;
 use bytes::Bytes;
 use pcache_base::entry_id::CacheEntryId;
 use pcache_base::error::Result;
 use pcache_base::moment::Moment;
 use pcache_meta::meta::CacheMeta;
 use pcache_meta::meta::spelled::SpelledMeta;
-use pcache_table::hashtable::Table;
 use std::alloc::Global;
 use std::marker::Model;
 
@@ -48,7 +48,7 @@ impl Body {
         self.bytes.len()
     }
 
-    // The meta, read back, and the same bytes.
+    // The meta, read back, and the bytes, which are shared.
     pub(crate) fn shared(&self, alloc: Global) -> Result<(CacheMeta, Bytes)>
         ensures ok { IfOk result (λ p. p ≡ (self.now.meta, self.now.bytes)) }
         ensures kind { IfErr result (λ e. e ≡ OutOfMemory) }
@@ -71,7 +71,7 @@ impl Body {
         self.meta = meta;
     }
 
-    // Ends the freshness, in bytes that are written anew.
+    // Ends the freshness: the bytes of the meta are written again.
     pub(crate) fn expire_at(&mut self, alloc: Global, now: Moment) -> Result<()>
         ensures ok { OnOk result (self.new ≡ record self.old { meta = meta_of.expired_at now self.old.meta }) }
         ensures kind { IfErr result (λ e. e ≡ OutOfMemory) }
@@ -84,12 +84,12 @@ impl Body {
     }
 }
 
-/// What stands under a key: a complete body, and the numbers of the writes in flight that met no
+/// The slot of a key: its complete body, and the numbers of its writes in flight that met no
 /// removal.
 #[derive(Drop)]
 pub(crate) struct KeySlot {
     body: Option<Body>,
-    untouched: Table<()>,
+    untouched: Untouched,
 }
 
 impl Model for KeySlot {
@@ -109,7 +109,7 @@ impl KeySlot {
     {
         KeySlot {
             body: None,
-            untouched: Table::new(alloc),
+            untouched: Untouched::new(alloc),
         }
     }
 
@@ -137,13 +137,12 @@ impl KeySlot {
         self.body.is_none() && self.untouched.is_empty()
     }
 
-    pub(crate) fn open(&mut self, number: u128) -> Result<()>
+    pub(crate) fn open(&mut self, number: u64) -> Result<()>
         ensures ok { OnOk result (self.new ≡ opened_in self.old number) }
         ensures kind { IfErr result (λ e. e ≡ OutOfMemory) }
         ensures err { OnErr result (self.new ≡ self.old) }
     {
-        self.untouched.insert(number, ())?;
-        Ok(())
+        self.untouched.insert(number)
     }
 
     pub(crate) fn shut(&mut self, number: u128)
@@ -152,7 +151,7 @@ impl KeySlot {
         self.untouched.remove(number);
     }
 
-    // Puts a body in place of the one that is answered.
+    // Stores a body, and returns the one that it replaces.
     pub(crate) fn store(&mut self, number: u128, body: Body) -> Option<Body>
         ensures before { result ≡ self.old.body }
         ensures after { self.new ≡ record { body = Some body; untouched = map.remove self.old.untouched number } }
@@ -161,7 +160,7 @@ impl KeySlot {
         self.body.replace(body)
     }
 
-    // Sets the body's meta, and answers whether there is a body.
+    // Sets the body's meta, and returns whether there is a body.
     pub(crate) fn set_meta(&mut self, meta: SpelledMeta) -> bool
         ensures there { result ≡ is_some self.old.body }
         ensures slot { self.new ≡ with_meta (λ _. meta) self.old self.old.body }
@@ -173,7 +172,7 @@ impl KeySlot {
         true
     }
 
-    // Ends the body's freshness, and answers whether there is a body.
+    // Ends the body's freshness, and returns whether there is a body.
     pub(crate) fn expire(&mut self, alloc: Global, now: Moment) -> Result<bool>
         ensures there { IfOk result (λ b. b ≡ is_some self.old.body) }
         ensures slot { OnOk result (self.new ≡ with_meta (meta_of.expired_at now) self.old self.old.body) }
@@ -202,7 +201,7 @@ impl KeySlot {
         self.untouched.contains(id.get() as u128) || self.entry_id() == Some(id)
     }
 
-    // Takes a write out, and answers its body if it is complete.
+    // Removes a write, and returns its body if it is complete.
     pub(crate) fn remove_write(&mut self, id: CacheEntryId) -> Option<Body>
         ensures body { result ≡ body_with id self.old.body }
         ensures after { self.new ≡ slot_without id self.old }

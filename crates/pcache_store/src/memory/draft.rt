@@ -1,4 +1,4 @@
-//! A write as it is kept.
+//! The record of a write.
 ghost use Rattle.std.specs.Prelude.{◌≡◌, ◌<◌, ◌≤◌, ◌+◌, ◌-◌, ◌^◌, ◌++◌, ◌&&◌, not, ℕ, Option, Some, None, List, IfOk, IfErr, OnOk, OnErr, length, drop, true, false};
 ghost use Rattle.pcache_base.specs.declared.error.ErrorType.TheVariants.{OutOfMemory};
 ghost use Rattle.pcache_store.specs.Store.{new_write, is_named};
@@ -13,7 +13,8 @@ use pcache_meta::meta::spelled::SpelledMeta;
 use std::alloc::Global;
 use std::marker::Model;
 
-/// A write, as long as its handler or a reader names it. Its meta is kept as the bytes that spell it.
+/// The record of a write, kept while its handler or a reader names it. Its meta is kept as the bytes
+/// that spell it.
 #[derive(Drop)]
 pub(crate) struct Draft {
     slot: u128,
@@ -93,7 +94,7 @@ impl Draft {
         self.flying || self.readers > 0
     }
 
-    // The bytes from a place on.
+    // The bytes from an index on.
     pub(crate) fn rest(&self, alloc: Global, place: usize) -> Result<Bytes>
         requires { place ≤ length self.now.bytes }
         ensures ok { IfOk result (λ b. b ≡ drop place self.now.bytes) }
@@ -112,8 +113,8 @@ impl Draft {
         Ok(())
     }
 
-    // Counts a reader more, and answers the meta, read back. The readers of one write, each of which is kept
-    // somewhere, never come to 2^64; if they did there would be no memory for one more.
+    // Counts one more reader, and returns the meta, read back. The number of readers of one write, each of
+    // which is kept somewhere, never reaches 2^64; before that memory would run out.
     pub(crate) fn join(&mut self, alloc: Global) -> Result<CacheMeta>
         ensures meta { IfOk result (λ m. m ≡ self.old.meta) }
         ensures ok { OnOk result (self.new ≡ record self.old { readers = self.old.readers + 1 }) }
@@ -140,7 +141,7 @@ impl Draft {
         self.flying = false;
     }
 
-    // The write as a complete body, whose bytes it shares from now on.
+    // The write as a complete body, with which it shares its bytes from now on.
     pub(crate) fn to_body(&mut self, alloc: Global) -> Result<Body>
         ensures ok { IfOk result (λ b. b ≡ record { meta = self.old.meta; bytes = self.old.bytes }) }
         ensures kind { IfErr result (λ e. e ≡ OutOfMemory) }
@@ -151,7 +152,7 @@ impl Draft {
         Ok(Body::new(meta, bytes))
     }
 
-    // The write as a complete body, if nobody reads it any more.
+    // The write as a complete body, for a write without readers.
     pub(crate) fn into_body(self, alloc: Global) -> Result<Body>
         ensures ok { IfOk result (λ b. b ≡ record { meta = self.meta; bytes = self.bytes }) }
         ensures kind { IfErr result (λ e. e ≡ OutOfMemory) }

@@ -17,15 +17,16 @@ use pcache_table::hashtable::HashedTable;
 use std::alloc::Global;
 use std::marker::Model;
 
-/// The most records that all shards may have together, as many as one table may have.
+/// The most records that all shards may have together, which is the most that one table may have.
 const MOST_RECORDS: usize = (1 << 63) - 1;
 
 /// The records of writes by number, each in the shard of its key, of which there are 16. A contract
 /// sees one map.
 ///
-/// A call is handed a slot besides the number: the record is looked for in that slot's shard, and in
-/// the others only if it is not there. So whoever names the slot of the write's key takes one look-up
-/// of a hash table, however many records there are, and with another slot the same record is found.
+/// Each call gets a slot besides the number: the record is looked up in that slot's shard, and in the
+/// other shards only if it is not there. So a caller that passes the slot of the write's key needs
+/// one look-up in a hash table, however many records there are; with another slot the same record is
+/// found.
 #[derive(Drop)]
 pub(crate) struct DraftTable {
     shards: [HashedTable<Draft>; 16],
@@ -51,7 +52,7 @@ impl Model for DraftTable {
 }
 
 impl DraftTable {
-    // No record yet. Under which seed the tables hash no answer shows.
+    // A table with no record. No result depends on the seed.
     pub(crate) fn new(alloc: Global, seed: Seed) -> DraftTable
         ensures { result ≡ map.empty }
     {
@@ -91,7 +92,7 @@ impl DraftTable {
         table.get(number)
     }
 
-    // The record of a new write.
+    // Adds the record of a new write.
     pub(crate) fn insert(&mut self, number: u128, draft: Draft) -> Result<()>
         requires { map.get self.old number ≡ None }
         ensures ok { OnOk result (self.new ≡ map.insert self.old number draft) }
@@ -108,7 +109,7 @@ impl DraftTable {
         Ok(())
     }
 
-    // Takes a record out.
+    // Removes a record.
     pub(crate) fn remove(&mut self, slot: u128, number: u128)
         ensures { self.new ≡ map.remove self.old number }
     {
@@ -134,7 +135,7 @@ impl DraftTable {
         write_in(table, alloc, number, bytes, eof)
     }
 
-    // Counts a reader more of a write, and answers its meta.
+    // Counts one more reader of a write, and returns its meta.
     pub(crate) fn join(
         &mut self,
         alloc: Global,
@@ -152,7 +153,7 @@ impl DraftTable {
         join_in(table, alloc, number)
     }
 
-    // Counts a reader less.
+    // Counts one reader less.
     pub(crate) fn leave(&mut self, slot: u128, number: u128)
         ensures { self.new ≡ left_on self.old number (map.get self.old number) }
     {
@@ -161,7 +162,7 @@ impl DraftTable {
         self.count -= leave_in(table, number);
     }
 
-    // A write whose handler is gone.
+    // Records that the handler of a write is gone.
     pub(crate) fn land(&mut self, slot: u128, number: u128)
         ensures { self.new ≡ grounded_on self.old number (map.get self.old number) }
     {
@@ -170,7 +171,7 @@ impl DraftTable {
         self.count -= land_in(table, number);
     }
 
-    // A write whose handler is gone, and its body, which shares its bytes.
+    // Ends a write: its handler is gone. Returns its body, which shares its bytes.
     pub(crate) fn end(&mut self, alloc: Global, slot: u128, number: u128) -> Result<Body>
         requires { IsSome (map.get self.old number) }
         ensures body { IfOk result (λ b. IsBodyOf (map.get self.old number) b) }
@@ -185,7 +186,7 @@ impl DraftTable {
     }
 }
 
-// The place of the shard that has a number, if one has it. That of the slot comes first.
+// The place of the shard that has a number, if one has it. The shard of the slot is tried first.
 fn place_of(shards: &[HashedTable<Draft>; 16], slot: u128, number: u128) -> usize
     ensures within { result < 16 }
     ensures place { IsPlaceOf shards.now number result }
@@ -216,8 +217,8 @@ fn place_with(shards: &[HashedTable<Draft>; 16], number: u128) -> Option<usize>
     None
 }
 
-// What follows changes one table. Each method above lends the table of a number to one of these functions, so that
-// the change has one clause over one table, and one lemma says what it makes of all tables together.
+// The functions below change one table. Each method above lends the table of a number to one of them, so that the
+// change has one clause over one table, and one lemma says how all tables together change.
 fn write_in(
     writes: &mut HashedTable<Draft>,
     alloc: Global,
@@ -255,7 +256,7 @@ fn join_in(
     }
 }
 
-// Answers how many records went.
+// Returns how many records were removed.
 fn leave_in(writes: &mut HashedTable<Draft>, number: u128) -> usize
     ensures after { writes.new ≡ left_on writes.old number (map.get writes.old number) }
     ensures gone { held (map.get writes.new number) + result ≡ held (map.get writes.old number) }
@@ -271,7 +272,7 @@ fn leave_in(writes: &mut HashedTable<Draft>, number: u128) -> usize
     1
 }
 
-// Answers how many records went.
+// Returns how many records were removed.
 fn land_in(writes: &mut HashedTable<Draft>, number: u128) -> usize
     ensures after { writes.new ≡ grounded_on writes.old number (map.get writes.old number) }
     ensures gone { held (map.get writes.new number) + result ≡ held (map.get writes.old number) }
@@ -287,8 +288,8 @@ fn land_in(writes: &mut HashedTable<Draft>, number: u128) -> usize
     1
 }
 
-// If nobody reads the write, its meta and bytes move into the body; else the body shares them. Answers also how many
-// records went.
+// If the write has no reader, its meta and bytes move into the body; otherwise the body shares them. Also returns
+// how many records were removed.
 fn end_in(writes: &mut HashedTable<Draft>, alloc: Global, number: u128) -> (Result<Body>, usize)
     requires { IsSome (map.get writes.old number) }
     ensures body { IfOk result.0 (λ b. IsBodyOf (map.get writes.old number) b) }

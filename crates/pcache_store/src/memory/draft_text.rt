@@ -9,17 +9,17 @@ use std::alloc::Global;
 use std::marker::Model;
 use std::mem;
 
-/// Pieces of fewer bytes are gathered: there a piece would take more than its bytes.
+/// Pieces of fewer bytes are gathered: such a piece would take more memory than its bytes.
 const SMALL: usize = 1024;
 
-/// The bytes of a write. A piece is kept as it was handed over, and shared with those who read it. Small
-/// pieces are gathered behind it. At the end all is joined once, if it came in several pieces.
+/// The bytes of a write. A piece is kept as it was passed in, and shared with its readers. Small pieces
+/// are gathered after the others. At the end all is joined once, if it came in several pieces.
 #[derive(Drop)]
 pub(crate) struct DraftText {
     pieces: Vec<Bytes>,
-    // What came in small pieces, behind the others.
+    // The bytes of small pieces, which come after the others.
     tail: Vec<u8>,
-    // The bytes of all of it.
+    // The number of all bytes.
     len: usize,
 }
 
@@ -34,7 +34,7 @@ impl Model for DraftText {
     ghost invariant = { λ t. t.len ≡ length (concat t.pieces.items ++ t.tail.items) };
 }
 
-// Puts the bytes of pieces behind a text.
+// Appends the bytes of pieces to a text.
 fn append(text: &mut Vec<u8>, pieces: &[Bytes]) -> Result<()>
     ensures ok { OnOk result (text.new.items ≡ text.old.items ++ concat pieces.now) }
     ensures kind { IfErr result (λ e. e ≡ OutOfMemory) }
@@ -45,7 +45,7 @@ fn append(text: &mut Vec<u8>, pieces: &[Bytes]) -> Result<()>
     Ok(())
 }
 
-// Makes a piece of what was gathered. No byte is copied.
+// Makes a piece of the gathered bytes. No byte is copied.
 fn settle(alloc: Global, pieces: &mut Vec<Bytes>, tail: &mut Vec<u8>) -> Result<()>
     ensures same { concat pieces.new.items ++ tail.new.items ≡ concat pieces.old.items ++ tail.old.items }
     ensures ok { OnOk result (tail.new.items ≡ []) }
@@ -67,7 +67,7 @@ fn settle(alloc: Global, pieces: &mut Vec<Bytes>, tail: &mut Vec<u8>) -> Result<
     }
 }
 
-// Makes one piece of several, which have so many bytes.
+// Makes one piece of several, which have `len` bytes together.
 fn join(alloc: Global, pieces: &mut Vec<Bytes>, len: usize) -> Result<()>
     ensures same { concat pieces.new.items ≡ concat pieces.old.items }
     ensures ok { OnOk result (length pieces.new.items ≤ 1) }
@@ -84,7 +84,8 @@ fn join(alloc: Global, pieces: &mut Vec<Bytes>, len: usize) -> Result<()>
     Ok(())
 }
 
-// The piece that has the byte at a place, and the place at which it begins. They have `end` bytes together.
+// The piece that has the byte at an index, and the index at which the piece begins. The pieces have `end`
+// bytes together.
 fn piece_at(pieces: &[Bytes], end: usize, place: usize) -> (usize, usize)
     requires end { end ≡ length (concat pieces.now) }
     requires place { place < end }
@@ -102,7 +103,8 @@ fn piece_at(pieces: &[Bytes], end: usize, place: usize) -> (usize, usize)
     (count, start)
 }
 
-// The bytes of pieces from a place within the first on, and those behind them, in one.
+// A copy, in one piece, of the bytes of pieces from an index within the first one on, and of the
+// bytes after them.
 fn copied(
     alloc: Global,
     pieces: &[Bytes],
@@ -139,7 +141,7 @@ impl DraftText {
         self.len
     }
 
-    // Adds a piece. If it is all that comes, it is kept as it is, however small.
+    // Adds a piece. If it is the only one, it is kept as it is, however small.
     pub(crate) fn extend(&mut self, alloc: Global, bytes: Bytes, eof: bool) -> Result<()>
         ensures ok { OnOk result (self.new ≡ self.old ++ bytes) }
         ensures kind { IfErr result (λ e. e ≡ OutOfMemory) }
@@ -159,7 +161,7 @@ impl DraftText {
         Ok(())
     }
 
-    // The bytes from a place on: shared if they stand in one piece, else copied.
+    // The bytes from an index on: shared if they are in one piece, else copied.
     pub(crate) fn rest(&self, alloc: Global, place: usize) -> Result<Bytes>
         requires { place ≤ length self.now }
         ensures ok { IfOk result (λ b. b ≡ drop place self.now) }

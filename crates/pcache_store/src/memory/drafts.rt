@@ -16,7 +16,7 @@ use pcache_meta::meta::CacheMeta;
 use std::alloc::Global;
 use std::marker::Model;
 
-/// The writes that somebody names, by number. A number is given once.
+/// The writes that a handler or a reader names, by number. Each number is given once.
 #[derive(Drop)]
 pub(crate) struct Drafts {
     writes: DraftTable,
@@ -43,7 +43,7 @@ impl Drafts {
         Drafts::starting_at(alloc, seed, 0)
     }
 
-    // No write yet, and the next one has this number.
+    // No write yet; the next one has this number.
     pub(crate) fn starting_at(alloc: Global, seed: Seed, next: u64) -> Drafts
         ensures { result ≡ record { writes = map.empty; next = next } }
     {
@@ -93,7 +93,7 @@ impl Drafts {
         Ok(())
     }
 
-    // Takes the last begun write back, as if it had not begun.
+    // Undoes the begin of the last write.
     pub(crate) fn take_back(&mut self, slot: u128)
         requires { 0 < self.old.next }
         ensures { self.new ≡ record { writes = map.remove self.old.writes (self.old.next - 1); next = self.old.next - 1 } }
@@ -117,7 +117,7 @@ impl Drafts {
         self.writes.write(alloc, slot, number, bytes, eof)
     }
 
-    // Counts a reader more of a write, and answers its meta.
+    // Counts one more reader of a write, and returns its meta.
     pub(crate) fn join(
         &mut self,
         alloc: Global,
@@ -134,21 +134,21 @@ impl Drafts {
         self.writes.join(alloc, slot, number)
     }
 
-    // Counts a reader less.
+    // Counts one reader less.
     pub(crate) fn leave(&mut self, slot: u128, number: u128)
         ensures { self.new ≡ record self.old { writes = left_on self.old.writes number (map.get self.old.writes number) } }
     {
         self.writes.leave(slot, number);
     }
 
-    // A write whose handler is gone.
+    // Records that the handler of a write is gone.
     pub(crate) fn land(&mut self, slot: u128, number: u128)
         ensures { self.new ≡ record self.old { writes = grounded_on self.old.writes number (map.get self.old.writes number) } }
     {
         self.writes.land(slot, number);
     }
 
-    // A write whose handler is gone, and its body, which shares its bytes.
+    // Ends a write: its handler is gone. Returns its body, which shares its bytes.
     pub(crate) fn end(&mut self, alloc: Global, slot: u128, number: u128) -> Result<Body>
         requires { IsSome (map.get self.old.writes number) }
         ensures body { IfOk result (λ b. IsBodyOf (map.get self.old.writes number) b) }

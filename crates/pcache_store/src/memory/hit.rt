@@ -90,8 +90,8 @@ impl CompleteHit {
     }
 }
 
-/// A reader of a write, also of one whose handler is gone: it gives all that is unread, and the end
-/// once nothing more can come.
+/// A reader of a write, also of one whose handler is gone: it gives all unread bytes, and the end
+/// once no more can come.
 pub struct PartialHit {
     write: u64,
     slot: u128,
@@ -187,7 +187,7 @@ impl HandleHit<MemCache> for MemHitHandler {
         }
     }
 
-    /// Is never refused.
+    /// Never fails.
     fn finish(self, store: &mut MemCache) -> Result<()>
         ensures gone { store.new ≡ left store.old (reader_of self) }
         ensures ok { IsOk result }

@@ -20,7 +20,7 @@ use std::marker::Model;
 /// How many shards there are. The shard of a key is the key modulo their number.
 pub(crate) const SHARDS: u128 = 16;
 
-/// The most keys that all shards may have together, as many as one table may have.
+/// The most keys that all shards may have together, which is the most that one table may have.
 const MOST_KEYS: usize = (1 << 63) - 1;
 
 /// The slots by key, in 16 shards. A contract sees one map.
@@ -49,7 +49,7 @@ impl Model for SlotTable {
 }
 
 impl SlotTable {
-    // No key yet. Under which seed the tables hash no answer shows.
+    // A table with no key. No result depends on the seed.
     pub(crate) fn new(alloc: Global, seed: Seed) -> SlotTable
         ensures { result ≡ map.empty }
     {
@@ -89,8 +89,8 @@ impl SlotTable {
         table.get(key)
     }
 
-    // A write of the key begins.
-    pub(crate) fn open(&mut self, alloc: Global, key: u128, number: u128) -> Result<()>
+    // Records that a write of the key begins.
+    pub(crate) fn open(&mut self, alloc: Global, key: u128, number: u64) -> Result<()>
         ensures ok { OnOk result (self.new ≡ opened self.old key number) }
         ensures kind { IfErr result (λ e. e ≡ OutOfMemory) }
         ensures err { OnErr result (self.new ≡ self.old) }
@@ -105,7 +105,7 @@ impl SlotTable {
         Ok(())
     }
 
-    // A write of the key ends, and nothing is stored.
+    // Records that a write of the key ends, and nothing is stored.
     pub(crate) fn shut(&mut self, key: u128, number: u128)
         ensures { self.new ≡ shut_on self.old key number (map.get self.old key) }
     {
@@ -115,7 +115,7 @@ impl SlotTable {
         self.count -= shut_in(table, key, number);
     }
 
-    // A write of the key ends, and its body stands in place of an older one, which is answered.
+    // Records that a write of the key ends. Its body replaces an older one, which is returned.
     pub(crate) fn store(&mut self, key: u128, number: u128, body: Body) -> Option<Body>
         requires { IsSome (map.get self.old key) }
         ensures older { result ≡ complete_body (map.get self.old key) }
@@ -127,7 +127,7 @@ impl SlotTable {
         store_in(table, key, number, body)
     }
 
-    // Takes a slot out.
+    // Removes a slot, and returns it.
     pub(crate) fn remove(&mut self, key: u128) -> Option<KeySlot>
         ensures before { result ≡ map.get self.old key }
         ensures removed { self.new ≡ map.remove self.old key }
@@ -140,7 +140,7 @@ impl SlotTable {
         slot
     }
 
-    // Takes a write out, in flight or complete, and answers whether it was there, and its body if it is complete.
+    // Removes a write, in flight or complete. Returns whether the slot had it, and its body if it is complete.
     pub(crate) fn remove_write(&mut self, key: u128, id: CacheEntryId) -> (bool, Option<Body>)
         ensures there { result.0 ≡ has_write id (map.get self.old key) }
         ensures body { result.1 ≡ body_with id (complete_body (map.get self.old key)) }
@@ -154,7 +154,7 @@ impl SlotTable {
         (there, body)
     }
 
-    // Sets the meta of the complete body, and answers whether there is one.
+    // Sets the meta of the complete body, and returns whether there is one.
     pub(crate) fn set_meta(&mut self, key: u128, meta: SpelledMeta) -> bool
         ensures there { result ≡ is_some (complete_body (map.get self.old key)) }
         ensures slots { self.new ≡ meta_changed_on (λ _. meta) self.old key (map.get self.old key) }
@@ -165,7 +165,7 @@ impl SlotTable {
         set_meta_in(table, key, meta)
     }
 
-    // Ends the freshness of the complete body, and answers whether there is one.
+    // Ends the freshness of the complete body, and returns whether there is one.
     pub(crate) fn expire(&mut self, alloc: Global, key: u128, now: Moment) -> Result<bool>
         ensures there { IfOk result (λ b. b ≡ is_some (complete_body (map.get self.old key))) }
         ensures slots { OnOk result (self.new ≡ meta_changed_on (meta_of.expired_at now) self.old key (map.get self.old key)) }
@@ -180,23 +180,18 @@ impl SlotTable {
     }
 }
 
-// One if something is so, else none.
+// One if the condition holds, else zero.
 pub(crate) fn one_if(is_so: bool) -> usize
     ensures { result ≡ cond is_so 1 0 }
 {
     if is_so { 1 } else { 0 }
 }
 
-// What follows changes one table. Each method above lends the table of a key to one of these functions, so that
-// the change has one clause over one table, and one lemma says what it makes of all tables together.
+// The functions below change one table. Each method above lends the table of a key to one of them, so that the
+// change has one clause over one table, and one lemma says how all tables together change.
 //
-// Answers how many keys came in, which is one or none.
-fn open_in(
-    slots: &mut HashedTable<KeySlot>,
-    alloc: Global,
-    key: u128,
-    number: u128,
-) -> Result<usize>
+// Returns how many keys were added, which is one or zero.
+fn open_in(slots: &mut HashedTable<KeySlot>, alloc: Global, key: u128, number: u64) -> Result<usize>
     ensures ok { OnOk result (slots.new ≡ opened slots.old key number) }
     ensures more { IfOk result (λ n. held (map.get slots.old key) + n ≡ 1) }
     ensures kind { IfErr result (λ e. e ≡ OutOfMemory) }
@@ -212,7 +207,7 @@ fn open_in(
     Ok(1)
 }
 
-// Answers how many keys went.
+// Returns how many keys were removed.
 fn shut_in(slots: &mut HashedTable<KeySlot>, key: u128, number: u128) -> usize
     ensures after { slots.new ≡ shut_on slots.old key number (map.get slots.old key) }
     ensures gone { held (map.get slots.new key) + result ≡ held (map.get slots.old key) }
@@ -228,7 +223,7 @@ fn shut_in(slots: &mut HashedTable<KeySlot>, key: u128, number: u128) -> usize
     0
 }
 
-// Answers the older body.
+// Returns the older body.
 fn store_in(slots: &mut HashedTable<KeySlot>, key: u128, number: u128, body: Body) -> Option<Body>
     requires { IsSome (map.get slots.old key) }
     ensures older { result ≡ complete_body (map.get slots.old key) }
@@ -240,7 +235,8 @@ fn store_in(slots: &mut HashedTable<KeySlot>, key: u128, number: u128, body: Bod
     slot.store(number, body)
 }
 
-// Answers whether the write was there, its body if it is complete, and how many keys went.
+// Returns whether the slot had the write, its body if it is complete, and how many keys were
+// removed.
 fn remove_write_in(
     slots: &mut HashedTable<KeySlot>,
     key: u128,

@@ -18,7 +18,7 @@ use pcache_meta::meta::spelled::SpelledMeta;
 use std::alloc::Global;
 use std::marker::Model;
 
-/// The slots by key, with how much stands complete in them.
+/// The slots by key, with the number and the total length of their complete bodies.
 #[derive(Drop)]
 pub(crate) struct Slots {
     slots: SlotTable,
@@ -54,7 +54,7 @@ impl Slots {
         }
     }
 
-    // The number of keys of a shard under which something stands.
+    // The number of keys of a shard that have a slot.
     pub(crate) fn shard_len(&self, shard: usize) -> usize
         requires { shard < 16 }
         ensures { result ≡ map.len (part_of 16 shard self.now) }
@@ -69,7 +69,7 @@ impl Slots {
         self.bodies
     }
 
-    // The lengths of the complete bodies, added up.
+    // The sum of the lengths of the complete bodies.
     pub(crate) fn stored_bytes(&self) -> u128
         ensures { result ≡ total body_size self.now }
     {
@@ -99,8 +99,8 @@ impl Slots {
         self.slots.get(key)?.body()
     }
 
-    // A write of the key begins.
-    pub(crate) fn open(&mut self, alloc: Global, key: u128, number: u128) -> Result<()>
+    // Records that a write of the key begins.
+    pub(crate) fn open(&mut self, alloc: Global, key: u128, number: u64) -> Result<()>
         ensures ok { OnOk result (self.new ≡ opened self.old key number) }
         ensures kind { IfErr result (λ e. e ≡ OutOfMemory) }
         ensures err { OnErr result (self.new ≡ self.old) }
@@ -108,14 +108,14 @@ impl Slots {
         self.slots.open(alloc, key, number)
     }
 
-    // A write of the key ends, and nothing is stored.
+    // Records that a write of the key ends, and nothing is stored.
     pub(crate) fn shut(&mut self, key: u128, number: u128)
         ensures { self.new ≡ shut_on self.old key number (map.get self.old key) }
     {
         self.slots.shut(key, number);
     }
 
-    // A write of the key ends, and its body stands in place of an older one.
+    // Records that a write of the key ends. Its body replaces an older one.
     pub(crate) fn store(&mut self, key: u128, number: u128, body: Body)
         requires { IsSome (map.get self.old key) }
         ensures { self.new ≡ stored_on self.old key number body (map.get self.old key) }
@@ -128,7 +128,7 @@ impl Slots {
         self.stored = self.stored - less + size;
     }
 
-    // Takes a slot out, and answers the number of its complete body, if there was one, if the slot was there.
+    // Removes a slot. If there was one, returns the number of its complete body, if it had one.
     pub(crate) fn remove(&mut self, key: u128) -> Option<Option<CacheEntryId>>
         ensures there { result ≡ option_map (λ x. number_of_body x.body) (map.get self.old key) }
         ensures removed { self.new ≡ map.remove self.old key }
@@ -143,7 +143,7 @@ impl Slots {
         Some(id)
     }
 
-    // Takes a write out, in flight or complete, and answers whether it was there.
+    // Removes a write, in flight or complete, and returns whether the slot had it.
     pub(crate) fn remove_write(&mut self, key: u128, id: CacheEntryId) -> bool
         ensures there { result ≡ has_write id (map.get self.old key) }
         ensures removed { self.new ≡ write_gone_on self.old key id (map.get self.old key) }
@@ -167,7 +167,7 @@ impl Slots {
         }
     }
 
-    // Sets the meta of the complete body, and answers whether there is one.
+    // Sets the meta of the complete body, and returns whether there is one.
     pub(crate) fn set_meta(&mut self, key: u128, meta: SpelledMeta) -> bool
         ensures there { result ≡ is_some (complete_body (map.get self.old key)) }
         ensures slots { self.new ≡ meta_changed_on (λ _. meta) self.old key (map.get self.old key) }
@@ -175,7 +175,7 @@ impl Slots {
         self.slots.set_meta(key, meta)
     }
 
-    // Ends the freshness of the complete body, and answers whether there is one.
+    // Ends the freshness of the complete body, and returns whether there is one.
     pub(crate) fn expire(&mut self, alloc: Global, key: u128, now: Moment) -> Result<bool>
         ensures there { IfOk result (λ b. b ≡ is_some (complete_body (map.get self.old key))) }
         ensures slots { OnOk result (self.new ≡ meta_changed_on (meta_of.expired_at now) self.old key (map.get self.old key)) }
@@ -187,7 +187,7 @@ impl Slots {
     }
 }
 
-// How many bodies, and how many bytes.
+// How many bodies (one or zero), and how many bytes.
 fn count(body: Option<Body>) -> (usize, u128)
     ensures bodies { result.0 ≡ share one body }
     ensures bytes { result.1 ≡ share body_len body }

@@ -6,7 +6,7 @@ ghost use Rattle.pcache_base.specs.declared.error.ErrorType.TheVariants.{Interna
 use pcache_base::error::{Error, ErrorType};
 use std::marker::Model;
 
-/// The eight bytes of a number, big end first. A contract sees the bytes.
+/// The eight bytes of a number, high byte first. A contract sees the bytes.
 #[derive(Clone, Copy, Debug, PartialEq, Eq)]
 pub struct U64WriteId {
     bytes: [u8; 8],
@@ -48,7 +48,7 @@ impl From<U64WriteId> for u64 {
     }
 }
 
-/// Bytes of another length are refused.
+/// Fails for bytes of another length.
 impl TryFrom<&[u8]> for U64WriteId {
     type Error = Error;
 
@@ -66,7 +66,7 @@ impl TryFrom<&[u8]> for U64WriteId {
     }
 }
 
-/// The four bytes of a number, big end first. A contract sees the bytes.
+/// The four bytes of a number, high byte first. A contract sees the bytes.
 #[derive(Clone, Copy, Debug, PartialEq, Eq)]
 pub struct U32WriteId {
     bytes: [u8; 4],
@@ -108,7 +108,7 @@ impl From<U32WriteId> for u32 {
     }
 }
 
-/// Bytes of another length are refused.
+/// Fails for bytes of another length.
 impl TryFrom<&[u8]> for U32WriteId {
     type Error = Error;
 

@@ -17,7 +17,7 @@ use std::marker::{Model, PhantomData};
 use std::sync::{RwLockReadGuard, Wait};
 
 /// A table in `N` shards, which threads read and write side by side. A contract sees the places of
-/// its locks; the type of a shard keeps that it has no keys but its own.
+/// its locks; the type of a shard guarantees that all keys in it are its own.
 #[derive(Drop)]
 pub struct ConcurrentHashTable<V, const N: usize> {
     tables: [ShardLock<V, N>; N],
@@ -72,14 +72,14 @@ impl<V, const N: usize> ConcurrentHashTable<V, N> {
         }
     }
 
-    /// The shard of a key, to be read. It may wait.
+    /// The shard of a key, for reading. It waits while another thread writes it.
     pub fn read<R: Wait>(&self, rt: &R, key: u128) -> RwLockReadGuard<'_, Shard<V, N>>
         ensures { (read_guard_value result).place ≡ key % N }
     {
         self.get(key).read(rt)
     }
 
-    /// The shard of a key, to be written. It may wait.
+    /// The shard of a key, for writing. It waits while another thread reads or writes it.
     pub fn write<R: Wait>(&self, rt: &R, key: u128) -> WriteGuard<'_, Shard<V, N>>
         ensures { result.place ≡ key % N }
     {
@@ -87,7 +87,7 @@ impl<V, const N: usize> ConcurrentHashTable<V, N> {
     }
 
     /// Calls `f` with each key and its value: shard by shard in the order of their places, and in a
-    /// shard in the order of its keys. It may wait.
+    /// shard in the order of its keys. It may wait for each shard.
     pub fn for_each<R: Wait, F: FnMut(&u128, &V) + Drop>(&self, rt: &R, mut f: F)
         requires { F.IsAlwaysCallable f }
         ensures { VisitsEach F.FnMut N f }
@@ -100,7 +100,7 @@ impl<V, const N: usize> ConcurrentHashTable<V, N> {
     }
 }
 
-/// Calls `f` with each entry of a shard, and gives it back.
+/// Calls `f` with each entry of a shard, and returns `f`.
 fn visit<V, const N: usize, F: FnMut(&u128, &V)>(shard: &Shard<V, N>, mut f: F) -> F
     requires { F.IsAlwaysCallable f }
     ensures called { Visits F.FnMut N f shard.now result }
@@ -112,7 +112,7 @@ fn visit<V, const N: usize, F: FnMut(&u128, &V)>(shard: &Shard<V, N>, mut f: F) 
     f
 }
 
-/// A table in `N` shards that forget what was used longest ago, which threads read and write side
+/// A table in `N` shards that drop the least recently used keys, which threads read and write side
 /// by side. A contract sees how many keys each shard may have.
 #[derive(Drop)]
 pub struct ConcurrentLruCache<V, const N: usize> {
@@ -133,9 +133,9 @@ impl<V, const N: usize> Model for ConcurrentLruCache<V, N> {
 
 impl<V: Drop, const N: usize> ConcurrentLruCache<V, N> {
     /// `N` empty shards, each at its place and for as many keys as the capacity. A capacity of 0
-    /// counts as 1. Under which seed they hash no answer shows.
+    /// counts as 1. No result depends on the seed.
     ///
-    /// It is refused only when memory runs out.
+    /// Fails only when memory runs out.
     pub fn new(alloc: Global, seed: Seed, shard_capacity: usize) -> Result<ConcurrentLruCache<V, N>>
         requires { 0 < N }
         ensures made { IfOk result (λ t. t ≡ max shard_capacity 1) }
@@ -157,7 +157,7 @@ impl<V: Drop, const N: usize> ConcurrentLruCache<V, N> {
         &lrus[(key % N as u128) as usize]
     }
 
-    /// The shard of a key, to be read. It may wait.
+    /// The shard of a key, for reading. It waits while another thread writes it.
     pub fn read<R: Wait>(&self, rt: &R, key: u128) -> RwLockReadGuard<'_, LruShard<V, N>>
         ensures place { (read_guard_value result).place ≡ key % N }
         ensures capacity { (read_guard_value result).cap ≡ self.now }
@@ -166,7 +166,7 @@ impl<V: Drop, const N: usize> ConcurrentLruCache<V, N> {
         lock.read(rt)
     }
 
-    /// The shard of a key, to be written. It may wait.
+    /// The shard of a key, for writing. It waits while another thread reads or writes it.
     pub fn write<R: Wait>(&self, rt: &R, key: u128) -> WriteGuard<'_, LruShard<V, N>>
         ensures place { result.place ≡ key % N }
         ensures capacity { result.cap ≡ self.now }

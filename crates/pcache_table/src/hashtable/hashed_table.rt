@@ -1,4 +1,4 @@
-//! A map from numbers to values that keeps no order, which contracts see as a finite map.
+//! A map from numbers to values without an order. Contracts see it as a finite map.
 ghost use Rattle.std.specs.Prelude.{◌≡◌, ◌<◌, ◌^◌, None, IfOk, OnOk, OnErr, option_copied, IfErr, OnSome, ◌==◌};
 ghost use Rattle.std.specs.Ordering.{nat_cmp};
 ghost use Rattle.std.specs.FinMap as map;
@@ -12,9 +12,9 @@ use std::alloc::{AllocFailed, Global};
 use std::collections::HashMap;
 use std::marker::Model;
 
-/// Values by number, found by a hash of the number. Each call takes the same number of steps whatever
-/// the number of entries, on average over the seeds, as long as whoever chooses the numbers does not
-/// know the seed; what asks for an order is a `Table`.
+/// Values by number, found by a hash of the number. On average over the seeds each call takes a
+/// constant number of steps, provided that whoever chooses the numbers does not know the seed. Use a
+/// `Table` where an order is needed.
 #[derive(Drop)]
 pub struct HashedTable<V> {
     entries: HashMap<u128, V, Seed>,
@@ -33,7 +33,7 @@ impl<V> Model for HashedTable<V> {
 }
 
 impl<V> HashedTable<V> {
-    /// A table with no entries. Under which seed it hashes no answer shows.
+    /// A table with no entries. No result depends on the seed.
     pub fn new(alloc: Global, seed: Seed) -> Self
         ensures { result ≡ map.empty }
     {
@@ -71,8 +71,8 @@ impl<V> HashedTable<V> {
         self.entries.get(&number)
     }
 
-    /// Sets the value of a number, and answers the one before. Memory may be refused for a new number
-    /// alone; nothing is changed then, and the pair comes back.
+    /// Sets the value of a number, and returns the old one. Fails only when memory runs out, and only
+    /// for a new number; then nothing is changed, and the pair is returned.
     pub fn insert(&mut self, number: u128, value: V) -> Result<Option<V>, AllocFailed<(u128, V)>>
         ensures before { IfOk result (λ old. old ≡ map.get self.old number) }
         ensures ok { OnOk result (self.new ≡ map.insert self.old number value) }
@@ -83,7 +83,7 @@ impl<V> HashedTable<V> {
         self.entries.insert(number, value)
     }
 
-    /// Lends the value of a number.
+    /// The value of a number, mutably.
     pub fn get_mut(&mut self, number: u128) -> Option<&mut V>
         ensures* writes_back { sem 𝓛 (LendsSo (the_row V.row) V.row self.entry result (λ n w. OnSome result (n ≡ map.insert self.old number w)) (λ n. n ≡ self.old)) }
         ensures value { option_copied_mut result ≡ map.get self.old number }
@@ -91,7 +91,7 @@ impl<V> HashedTable<V> {
         self.entries.get_mut(&number)
     }
 
-    /// Takes the value of a number out.
+    /// Removes a number, and returns its value.
     pub fn remove(&mut self, number: u128) -> Option<V>
         ensures before { result ≡ map.get self.old number }
         ensures removed { self.new ≡ map.remove self.old number }

@@ -1,4 +1,4 @@
-//! One shard that forgets, behind a lock.
+//! One LRU shard behind a lock.
 ghost use Rattle.std.specs.Prelude.{◌≡◌, ◌<◌, IfErr, IfOk, max};
 ghost use Rattle.std.specs.Sync.RwLock.{read_guard_value};
 ghost use Rattle.pcache_base.specs.declared.error.ErrorType.TheVariants.{OutOfMemory};
@@ -13,10 +13,10 @@ use std::sync::{RwLock, RwLockReadGuard, Wait};
 
 /// The lock of one of `N` shards. A contract sees the place and the capacity of its shard.
 ///
-/// Of what a lock lends nothing is known but its type. So both stand beside the lock as well, and
-/// a shard is lent only if it says the same itself. It does so at the first try: `at` puts one
-/// that does under the lock, and nobody can put another there, since `write` lends the calls of a
-/// shard and never the shard to be changed.
+/// Of the value that a lock lends only the type is known. Therefore the place and the capacity are
+/// kept beside the lock too, and a shard is lent only if it has the same ones itself. It has them
+/// at the first try: `at` puts such a shard under the lock, and nobody can put another one there,
+/// since `write` lends the calls of a shard and never the shard itself.
 #[derive(Drop)]
 pub struct LruLock<V, const N: usize> {
     place: usize,
@@ -38,7 +38,7 @@ impl<V, const N: usize> Model for LruLock<V, N> {
 impl<V: Drop, const N: usize> LruLock<V, N> {
     // The lock of an empty shard at a place. A capacity of 0 counts as 1.
     //
-    // It is refused only when memory runs out.
+    // Fails only when memory runs out.
     pub(crate) fn at(
         alloc: Global,
         seed: Seed,
@@ -72,12 +72,12 @@ impl<V: Drop, const N: usize> LruLock<V, N> {
         self.capacity
     }
 
-    /// Its shard, to be read. It may wait for one who writes.
+    /// Its shard, for reading. It waits while another thread writes.
     pub fn read<R: Wait>(&self, rt: &R) -> RwLockReadGuard<'_, LruShard<V, N>>
         ensures place { (read_guard_value result).place ≡ self.now.place }
         ensures capacity { (read_guard_value result).cap ≡ self.now.cap }
     {
-        // The first round returns (see the type); the test gives its contract.
+        // The first round returns (see the type); the test provides the clause of the contract.
         for _ in rt.forever() {
             let shard = self.shard.read(rt);
             if shard.place() == self.place && shard.capacity() == self.capacity {
@@ -87,12 +87,12 @@ impl<V: Drop, const N: usize> LruLock<V, N> {
         unreachable!()
     }
 
-    /// Its shard, to be read and written. It may wait for those who read or write.
+    /// Its shard, for reading and writing. It waits while other threads read or write.
     pub fn write<R: Wait>(&self, rt: &R) -> WriteGuard<'_, LruShard<V, N>>
         ensures place { result.place ≡ self.now.place }
         ensures capacity { result.cap ≡ self.now.cap }
     {
-        // The first round returns (see the type); the test gives its contract.
+        // The first round returns (see the type); the test provides the clause of the contract.
         for _ in rt.forever() {
             let shard = WriteGuard::over(self.shard.write(rt));
             if shard.place() == self.place && shard.capacity() == self.capacity {

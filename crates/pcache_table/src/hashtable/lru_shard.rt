@@ -1,4 +1,4 @@
-//! One shard of a table that forgets what was used longest ago.
+//! One shard of a table that drops the least recently used keys.
 ghost use Rattle.std.specs.Prelude.{◌≡◌, ◌↔◌, ◌<◌, ◌%◌, IfErr, IfOk, IsTrue, OnErr, OnOk, [], is_some, length, max, nat_eq, option_copied};
 ghost use Rattle.std.specs.Map.{lookup};
 ghost use Rattle.pcache_base.specs.declared.error.ErrorType.TheVariants.{OutOfMemory};
@@ -11,10 +11,10 @@ use std::alloc::{AllocFailed, Global};
 use std::marker::{Model, PhantomData};
 use std::num::NonZeroUsize;
 
-/// One of `N` shards, which has no keys but its own, and as many as its capacity.
-/// A contract sees its place, its capacity and its entries, the one used last first.
+/// One of `N` shards, which has only keys of its own, and at most as many as its capacity. A
+/// contract sees its place, its capacity and its entries, the one used last first.
 ///
-/// It is made and changed by its table alone (`LruShards`), or through the guard that its lock lends.
+/// Only its table (`LruShards`) makes and changes it, or the guard that its lock lends.
 #[derive(Drop)]
 pub struct LruShard<V, const N: usize> {
     place: usize,
@@ -35,10 +35,10 @@ impl<V, const N: usize> Model for LruShard<V, N> {
 }
 
 impl<V: Drop, const N: usize> LruShard<V, N> {
-    // An empty shard at a place. A capacity of 0 counts as 1. Nobody outside makes one, so none comes
-    // under the lock of another.
+    // An empty shard at a place. A capacity of 0 counts as 1. Only this crate makes shards, so none
+    // comes under the lock of another.
     //
-    // It is refused only when memory runs out.
+    // Fails only when memory runs out.
     pub(crate) fn at(
         alloc: Global,
         seed: Seed,
@@ -53,7 +53,8 @@ impl<V: Drop, const N: usize> LruShard<V, N> {
         let Some(capacity) = NonZeroUsize::new(capacity) else {
             unreachable!()
         };
-        // No room is taken for the capacity, which may be far more than there will be keys.
+        // No room is reserved for the capacity, which may be far more than the number of keys will
+        // be.
         let mut cache = LruCache::unbounded_with_hasher(alloc, seed)?;
         cache.resize(capacity);
         Ok(LruShard { place, cache })
@@ -89,22 +90,22 @@ impl<V: Drop, const N: usize> LruShard<V, N> {
         self.cache.len()
     }
 
-    /// The value at a key, which counts as no use.
+    /// The value at a key. That does not count as a use.
     pub fn peek(&self, key: u128) -> Option<&V>
         ensures { option_copied result ≡ lookup (nat_eq key) self.now.entries }
     {
         self.cache.peek(&key)
     }
 
-    /// Whether it has a key, which counts as no use.
+    /// Whether it has a key. That does not count as a use.
     pub fn contains(&self, key: u128) -> bool
         ensures { result ≡ is_some (lookup (nat_eq key) self.now.entries) }
     {
         self.cache.contains(&key)
     }
 
-    // Sets the value at a key of its own and puts it in front; of a full shard the last key goes.
-    // It answers the value before.
+    // Sets the value at a key of its own and puts it in front; a full shard drops its last key.
+    // Returns the old value.
     pub(crate) fn put(
         &mut self,
         key: u128,
@@ -119,7 +120,7 @@ impl<V: Drop, const N: usize> LruShard<V, N> {
         self.cache.put(key, value)
     }
 
-    // Takes a key out, and answers its value.
+    // Removes a key, and returns its value.
     pub(crate) fn pop(&mut self, key: u128) -> Option<V>
         ensures before { result ≡ lookup (nat_eq key) self.old.entries }
         ensures gone { self.new ≡ part_without key self.old }

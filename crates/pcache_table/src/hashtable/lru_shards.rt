@@ -1,4 +1,4 @@
-//! Tables in shards that forget what was used longest ago.
+//! Tables in shards that drop the least recently used keys.
 ghost use Rattle.std.specs.Prelude.{◌≡◌, ◌<◌, ◌%◌, IfErr, IfOk, OnErr, OnOk, max, nat_eq, option_copied, slice_set};
 ghost use Rattle.std.specs.Map.{lookup};
 ghost use Rattle.pcache_base.specs.declared.error.ErrorType.TheVariants.{OutOfMemory};
@@ -10,7 +10,7 @@ use pcache_base::seed::Seed;
 use std::alloc::{AllocFailed, Global};
 use std::marker::Model;
 
-/// `N` shards, each of which forgets what was used longest ago. A contract sees the list of them.
+/// `N` shards, each of which drops its least recently used keys. A contract sees the list of them.
 #[derive(Drop)]
 pub struct LruShards<V, const N: usize> {
     shards: Vec<LruShard<V, N>>,
@@ -28,10 +28,10 @@ impl<V, const N: usize> Model for LruShards<V, N> {
 }
 
 impl<V: Drop, const N: usize> LruShards<V, N> {
-    /// `N` empty shards, each for as many keys as the capacity. A capacity of 0 counts as 1. Under
-    /// which seed they hash no answer shows.
+    /// `N` empty shards, each for as many keys as the capacity. A capacity of 0 counts as 1. No
+    /// result depends on the seed.
     ///
-    /// It is refused only when memory runs out.
+    /// Fails only when memory runs out.
     pub fn new(alloc: Global, seed: Seed, shard_capacity: usize) -> Result<LruShards<V, N>>
         requires { 0 < N }
         ensures made { IfOk result (λ s. s ≡ new_lists N (max shard_capacity 1)) }
@@ -52,15 +52,15 @@ impl<V: Drop, const N: usize> LruShards<V, N> {
         &shards[(key % N as u128) as usize]
     }
 
-    /// The value at a key, which counts as no use.
+    /// The value at a key. That does not count as a use.
     pub fn peek(&self, key: u128) -> Option<&V>
         ensures { option_copied result ≡ lookup (nat_eq key) (list_at self.now (key % N)).entries }
     {
         self.get(key).peek(key)
     }
 
-    /// Sets the value at a key and puts it in front of its shard; of a full shard the last key
-    /// goes. It answers the value before.
+    /// Sets the value at a key and puts it in front of its shard; a full shard drops its last key.
+    /// Returns the old value.
     pub fn put(
         &mut self,
         key: u128,
@@ -77,7 +77,7 @@ impl<V: Drop, const N: usize> LruShards<V, N> {
         shard.put(key, value)
     }
 
-    /// Takes a key out, and answers its value.
+    /// Removes a key, and returns its value.
     pub fn pop(&mut self, key: u128) -> Option<V>
         ensures before { result ≡ lookup (nat_eq key) (list_at self.old (key % N)).entries }
         ensures gone { self.new ≡ slice_set self.old (key % N) (part_without key (list_at self.old (key % N))) }

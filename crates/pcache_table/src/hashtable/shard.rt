@@ -8,9 +8,10 @@ use std::alloc::{AllocFailed, Global};
 use std::collections::btree_map::Iter;
 use std::marker::{Model, PhantomData};
 
-/// One of `N` shards of a table, which has no keys but its own. A contract sees its place and its map.
+/// One of `N` shards of a table, which has only keys of its own. A contract sees its place and its
+/// map.
 ///
-/// It is made and changed by its table alone (`Shards`), or through the guard that its lock lends.
+/// Only its table (`Shards`) makes and changes it, or the guard that its lock lends.
 #[derive(Drop)]
 pub struct Shard<V, const N: usize> {
     place: usize,
@@ -31,7 +32,8 @@ impl<V, const N: usize> Model for Shard<V, N> {
 }
 
 impl<V, const N: usize> Shard<V, N> {
-    // An empty shard at a place. Nobody outside makes one, so none comes under the lock of another.
+    // An empty shard at a place. Only this crate makes shards, so none comes under the lock of
+    // another.
     pub(crate) fn at(alloc: Global, place: usize, _like: PhantomData<Shard<V, N>>) -> Shard<V, N>
         requires { place < N }
         ensures { result ≡ record { place = place; map = map.empty } }
@@ -73,7 +75,7 @@ impl<V, const N: usize> Shard<V, N> {
         self.table.iter()
     }
 
-    // Sets the value at a key of its own, and answers the one before.
+    // Sets the value at a key of its own, and returns the old one.
     pub(crate) fn insert(
         &mut self,
         key: u128,
@@ -89,7 +91,7 @@ impl<V, const N: usize> Shard<V, N> {
         self.table.insert(key, value)
     }
 
-    // Takes a key out, and answers its value.
+    // Removes a key, and returns its value.
     pub(crate) fn remove(&mut self, key: u128) -> Option<V>
         ensures before { result ≡ map.get self.old.map key }
         ensures removed { self.new ≡ record self.old { map = map.remove self.old.map key } }

@@ -10,10 +10,10 @@ use std::sync::{RwLock, RwLockReadGuard, Wait};
 
 /// The lock of one of `N` shards. A contract sees the place of its shard.
 ///
-/// Of what a lock lends nothing is known but its type. So the place stands beside the lock as well,
-/// and a shard is lent only if it says that place itself. It does so at the first try: `at` puts
-/// one that does under the lock, and nobody can put another there, since `write` lends the calls of
-/// a shard and never the shard to be changed.
+/// Of the value that a lock lends only the type is known. Therefore the place is kept beside the
+/// lock too, and a shard is lent only if it has the same place itself. It has it at the first try:
+/// `at` puts such a shard under the lock, and nobody can put another one there, since `write` lends
+/// the calls of a shard and never the shard itself.
 #[derive(Drop)]
 pub struct ShardLock<V, const N: usize> {
     place: usize,
@@ -50,11 +50,11 @@ impl<V, const N: usize> ShardLock<V, N> {
         self.place
     }
 
-    /// Its shard, to be read. It may wait for one who writes.
+    /// Its shard, for reading. It waits while another thread writes.
     pub fn read<R: Wait>(&self, rt: &R) -> RwLockReadGuard<'_, Shard<V, N>>
         ensures { (read_guard_value result).place ≡ self.now }
     {
-        // The first round returns (see the type); the test gives its contract.
+        // The first round returns (see the type); the test provides the clause of the contract.
         for _ in rt.forever() {
             let shard = self.shard.read(rt);
             if shard.place() == self.place {
@@ -64,11 +64,11 @@ impl<V, const N: usize> ShardLock<V, N> {
         unreachable!()
     }
 
-    /// Its shard, to be read and written. It may wait for those who read or write.
+    /// Its shard, for reading and writing. It waits while other threads read or write.
     pub fn write<R: Wait>(&self, rt: &R) -> WriteGuard<'_, Shard<V, N>>
         ensures { result.place ≡ self.now }
     {
-        // The first round returns (see the type); the test gives its contract.
+        // The first round returns (see the type); the test provides the clause of the contract.
         for _ in rt.forever() {
             let shard = WriteGuard::over(self.shard.write(rt));
             if shard.place() == self.place {

@@ -1,4 +1,4 @@
-//! A map from numbers to values, which contracts see as a finite map.
+//! A map from numbers to values. Contracts see it as a finite map.
 ghost use Rattle.std.specs.Prelude.{◌≡◌, ◌<◌, ◌^◌, ℕ, None, IsSome, IfSome, IfNone, IfOk, OnOk, OnErr, option_copied, IfErr, OnSome, IsTrue, ◌==◌};
 ghost use Rattle.std.specs.Ordering.{nat_cmp};
 ghost use Rattle.std.specs.FinMap as map;
@@ -13,8 +13,8 @@ use std::collections::BTreeMap;
 use std::collections::btree_map::Iter;
 use std::marker::Model;
 
-/// Values by number. Each call goes down a tree once, so it takes time in the logarithm of the number
-/// of entries.
+/// Values by number. Each call descends a tree once, so it takes time logarithmic in the number of
+/// entries.
 #[derive(Drop)]
 pub struct Table<V> {
     tree: BTreeMap<u128, V>,
@@ -91,8 +91,8 @@ impl<V> Table<V> {
         self.tree.iter()
     }
 
-    /// Sets the value of a number, and answers the one before. Memory may be refused for a new number
-    /// alone; nothing is changed then, and the pair comes back.
+    /// Sets the value of a number, and returns the old one. Fails only when memory runs out, and only
+    /// for a new number; then nothing is changed, and the pair is returned.
     pub fn insert(&mut self, number: u128, value: V) -> Result<Option<V>, AllocFailed<(u128, V)>>
         ensures before { IfOk result (λ old. old ≡ map.get self.old number) }
         ensures ok { OnOk result (self.new ≡ map.insert self.old number value) }
@@ -103,7 +103,7 @@ impl<V> Table<V> {
         self.tree.insert(number, value)
     }
 
-    /// Lends the value of a number.
+    /// The value of a number, mutably.
     pub fn get_mut(&mut self, number: u128) -> Option<&mut V>
         ensures* writes_back { sem 𝓛 (LendsSo (the_row V.row) V.row self.entry result (λ n w. OnSome result (n ≡ map.insert self.old number w)) (λ n. n ≡ self.old)) }
         ensures value { option_copied_mut result ≡ map.get self.old number }
@@ -111,7 +111,7 @@ impl<V> Table<V> {
         self.tree.get_mut(&number)
     }
 
-    /// Takes the value of a number out.
+    /// Removes a number, and returns its value.
     pub fn remove(&mut self, number: u128) -> Option<V>
         ensures before { result ≡ map.get self.old number }
         ensures removed { self.new ≡ map.remove self.old number }

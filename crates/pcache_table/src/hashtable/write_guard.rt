@@ -1,4 +1,4 @@
-//! What a lock of a shard lends to one who writes.
+//! The guard that a shard's lock lends for writing.
 ghost use Rattle.std.specs.Prelude.{◌≡◌, ◌%◌, IfErr, IfOk, OnErr, OnOk, OnSome, nat_eq, option_copied};
 ghost use Rattle.std.specs.FinMap as map;
 ghost use Rattle.std.specs.Map.{lookup};
@@ -12,10 +12,11 @@ use std::marker::Model;
 use std::ops::Deref;
 use std::sync::RwLockWriteGuard;
 
-/// A shard while nobody else reads or writes it, until the guard goes. A contract sees the shard.
+/// A shard that no other thread reads or writes until the guard is dropped. A contract sees the
+/// shard.
 ///
-/// It lends the shard to be read, and has the calls that change one. The shard itself it never
-/// lends to be changed: whoever had that of two locks could swap their shards.
+/// It lends the shard for reading, and has the calls that change it. It never lends the shard
+/// mutably: whoever had two of them could swap the shards of two locks.
 #[derive(Drop)]
 pub struct WriteGuard<'a, S> {
     shard: RwLockWriteGuard<'a, S>,
@@ -32,7 +33,7 @@ impl<'a, S> Model for WriteGuard<'a, S> {
 }
 
 impl<'a, S> WriteGuard<'a, S> {
-    /// The guard over that of the lock.
+    /// The guard around that of the lock.
     pub(crate) fn over(shard: RwLockWriteGuard<'a, S>) -> WriteGuard<'a, S>
         ensures { result ≡ write_guard_value shard.entry }
     {
@@ -51,7 +52,7 @@ impl<S> Deref for WriteGuard<'_, S> {
 }
 
 impl<V, const N: usize> WriteGuard<'_, Shard<V, N>> {
-    /// Sets the value at a key of the shard's own, and answers the one before.
+    /// Sets the value at a key of the shard's own, and returns the old one.
     pub fn insert(&mut self, key: u128, value: V) -> Result<Option<V>, AllocFailed<(u128, V)>>
         requires { key % N ≡ self.old.place }
         ensures before { IfOk result (λ old. old ≡ map.get self.old.map key) }
@@ -63,7 +64,7 @@ impl<V, const N: usize> WriteGuard<'_, Shard<V, N>> {
         self.shard.insert(key, value)
     }
 
-    /// Takes a key out, and answers its value.
+    /// Removes a key, and returns its value.
     pub fn remove(&mut self, key: u128) -> Option<V>
         ensures before { result ≡ map.get self.old.map key }
         ensures removed { self.new ≡ record self.old { map = map.remove self.old.map key } }
@@ -73,8 +74,8 @@ impl<V, const N: usize> WriteGuard<'_, Shard<V, N>> {
 }
 
 impl<V: Drop, const N: usize> WriteGuard<'_, LruShard<V, N>> {
-    /// Sets the value at a key of the shard's own and puts it in front; of a full shard the last key
-    /// goes. It answers the value before.
+    /// Sets the value at a key of the shard's own and puts it in front; a full shard drops its last
+    /// key. Returns the old value.
     pub fn put(&mut self, key: u128, value: V) -> Result<Option<V>, AllocFailed<(u128, V)>>
         requires { key % N ≡ self.old.place }
         ensures before { IfOk result (λ old. old ≡ lookup (nat_eq key) self.old.entries) }
@@ -85,7 +86,7 @@ impl<V: Drop, const N: usize> WriteGuard<'_, LruShard<V, N>> {
         self.shard.put(key, value)
     }
 
-    /// Takes a key out, and answers its value.
+    /// Removes a key, and returns its value.
     pub fn pop(&mut self, key: u128) -> Option<V>
         ensures before { result ≡ lookup (nat_eq key) self.old.entries }
         ensures gone { self.new ≡ part_without key self.old }

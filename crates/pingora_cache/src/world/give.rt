@@ -39,7 +39,7 @@ pub(crate) fn give<P: PutPolicy>(
     Reply::Done
 }
 
-// Whether a request of this number is open, and on.
+// Whether a request with this number is open, with caching on.
 fn takes<P: PutPolicy>(requests: &BTreeMap<u64, Open<P>>, number: u64) -> bool
     ensures { IsTrue result ↔ MayTake (open_at number requests.now.entries) }
 {
@@ -49,7 +49,7 @@ fn takes<P: PutPolicy>(requests: &BTreeMap<u64, Open<P>>, number: u64) -> bool
     }
 }
 
-// The permit of a request, which holds none then.
+// Takes the permit out of a request, if it holds one.
 fn take<P: PutPolicy>(requests: &mut BTreeMap<u64, Open<P>>, number: u64) -> Option<WritePermit>
     ensures permit { result ≡ permit_held (open_at number requests.old.entries) }
     ensures plain { IfSome result (λ _. IsRequestIn (open_at number requests.old.entries)) }
@@ -59,7 +59,8 @@ fn take<P: PutPolicy>(requests: &mut BTreeMap<u64, Open<P>>, number: u64) -> Opt
     open.take_permit()
 }
 
-// Hands a permit to a request that is open, and on. Answers the number of a permit that is let go.
+// Hands a permit to a request that is open, with caching on. Returns the number of a permit that is
+// let go.
 fn hand<P: PutPolicy>(
     requests: &mut BTreeMap<u64, Open<P>>,
     lock: &mut CacheLock,

@@ -48,7 +48,7 @@ pub(crate) fn set_lock(request: &mut OpenRequest, is_used: bool) -> Reply
     Reply::Done
 }
 
-/// Waits on the read lock that is held.
+/// Polls the read lock that is held.
 #[tactic(auto, using(crate::proofs::LockSteps::none_noted))]
 pub(crate) fn wait(
     request: &mut OpenRequest,
@@ -70,7 +70,7 @@ pub(crate) fn wait(
     wait_on(&mut request.cache, lock, events, now)
 }
 
-// Waits on the read lock, and notes if its permit is too old.
+// Polls the read lock, and adds an event if its permit is too old.
 #[tactic(auto, using(crate::proofs::LockSteps::none_noted))]
 fn wait_on(
     cache: &mut HttpCache<MemCache>,
@@ -96,7 +96,7 @@ fn wait_on(
     reply_of(report.answer)
 }
 
-// Notes a permit that was found too old.
+// Adds the event of a permit that was found too old, if it was.
 fn note_aged(is_too_old: bool, lock: u64, events: &mut Vec<Event>)
     requires { vec_len events.old + 1 ≤ vec_capacity events.old }
     ensures { events.new.items ≡ events.old.items ++ (if is_too_old then Aged lock ∷ [] else []) }
@@ -106,7 +106,7 @@ fn note_aged(is_too_old: bool, lock: u64, events: &mut Vec<Event>)
     }
 }
 
-// What a wait answers.
+// The reply to a wait.
 fn reply_of(answer: Poll<LockWaitOutcome>) -> Reply
     ensures { result ≡ wait_reply answer }
 {
@@ -116,7 +116,7 @@ fn reply_of(answer: Poll<LockWaitOutcome>) -> Reply
     }
 }
 
-/// Publishes what was found out about the fill.
+/// Publishes tokens of what was found out about the fill.
 pub(crate) fn publish(request: &OpenRequest, lock: &mut CacheLock, tokens: &Tokens) -> Reply
     ensures answers { Answers no_facts (acts.Request (asks.Publish tokens.now)) (Some request.now) result [] }
     ensures moves { MovesRequest (Some request.now) (Some request.now) }
@@ -131,7 +131,7 @@ pub(crate) fn publish(request: &OpenRequest, lock: &mut CacheLock, tokens: &Toke
     }
 }
 
-/// Releases what is held.
+/// Releases the lock that is held.
 #[tactic(auto, using(crate::proofs::LockSteps::none_noted))]
 pub(crate) fn release(
     request: &mut OpenRequest,
@@ -155,7 +155,7 @@ pub(crate) fn release(
     Reply::Done
 }
 
-/// Serves the stale body with another header, and releases what is held.
+/// Serves the stale body with another header, and releases the lock that is held.
 #[tactic(auto, using(crate::proofs::LockSteps::none_noted))]
 pub(crate) fn uncacheable(
     request: &mut OpenRequest,

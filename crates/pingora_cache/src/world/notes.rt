@@ -1,4 +1,4 @@
-//! What several calls note.
+//! Events that several calls add.
 ghost use Rattle.std.specs.Prelude.{◌≡◌, ◌+◌, ◌≤◌, ◌∷◌, ◌++◌, vec_len};
 ghost use Rattle.std.specs.Vec.{vec_capacity};
 ghost use Rattle.pcache_history.specs.Rules.{drop_of, each};
@@ -6,7 +6,7 @@ ghost use Rattle.pcache_history.specs.declared.entry.Event.TheVariants.{Release}
 
 use pcache_history::entry::Event;
 
-/// Notes an event, and the release of the permit that was held.
+/// Adds an event, and that of the release of the permit that was held.
 pub(crate) fn note_with_release(event: Event, permit: Option<u64>, events: &mut Vec<Event>)
     requires { vec_len events.old + 2 ≤ vec_capacity events.old }
     ensures events { events.new.items ≡ events.old.items ++ event ∷ each Release permit }
@@ -17,7 +17,7 @@ pub(crate) fn note_with_release(event: Event, permit: Option<u64>, events: &mut 
     note_release(permit, events);
 }
 
-/// Notes the release of a permit, if one was.
+/// Adds the event of the release of a permit, if one was released.
 pub(crate) fn note_release(permit: Option<u64>, events: &mut Vec<Event>)
     requires { vec_len events.old + 1 ≤ vec_capacity events.old }
     ensures events { events.new.items ≡ events.old.items ++ each Release permit }
@@ -29,7 +29,7 @@ pub(crate) fn note_release(permit: Option<u64>, events: &mut Vec<Event>)
     }
 }
 
-// Notes the drop of a write, if one was.
+// Adds the event of the drop of a write, if one was dropped.
 fn note_drop(write: Option<u128>, events: &mut Vec<Event>)
     requires { vec_len events.old + 1 ≤ vec_capacity events.old }
     ensures { events.new.items ≡ events.old.items ++ drop_of write }
@@ -39,7 +39,7 @@ fn note_drop(write: Option<u128>, events: &mut Vec<Event>)
     }
 }
 
-/// Notes the release of the permit and the drop of the write that were held.
+/// Adds the events of the release of the permit and the drop of the write that were held.
 pub(crate) fn note_shut(permit: Option<u64>, write: Option<u128>, events: &mut Vec<Event>)
     requires { vec_len events.old + 2 ≤ vec_capacity events.old }
     ensures { events.new.items ≡ events.old.items ++ each Release permit ++ drop_of write }

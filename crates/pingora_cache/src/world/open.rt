@@ -1,4 +1,4 @@
-//! What stands under a number of a world: a request or a put.
+//! What is open under a number of a world: a request or a put.
 ghost use Rattle.std.specs.Prelude.{◌≡◌, ◌↔◌, None, Some, IfSome, IsSome, IsTrue, is_some};
 ghost use Rattle.pingora_cache.specs.Handing.{table_given, without_permit};
 ghost use Rattle.pcache_history.specs.Held.{handed_by, permit_held};
@@ -14,7 +14,9 @@ use std::marker::Model;
 
 /// A request or a put.
 pub enum Kind<P: PutPolicy> {
+    /// A request.
     Request(OpenRequest),
+    /// A put.
     Put(OpenPut<P>),
 }
 
@@ -67,7 +69,7 @@ impl<P: PutPolicy> Open<P> {
         }
     }
 
-    /// Whether this is a request that is on.
+    /// Whether this is a request with caching on.
     pub(crate) fn is_on(&self) -> bool
         ensures { IsTrue result ↔ MayTake (Some self.now) }
     {
@@ -83,7 +85,7 @@ impl<P: PutPolicy> Open<P> {
         }
     }
 
-    /// The permit of a request, which holds none then. A put has none.
+    /// Takes the permit out of a request, if it holds one. A put holds none.
     pub(crate) fn take_permit(&mut self) -> Option<WritePermit>
         ensures permit { result ≡ permit_held (Some self.old) }
         ensures plain { IfSome result (λ _. self.old.put ≡ None) }
@@ -98,7 +100,7 @@ impl<P: PutPolicy> Open<P> {
         }
     }
 
-    /// Hands a permit to a request that is on. Answers the number of a permit that is let go.
+    /// Hands a permit to a request with caching on. Returns the number of a permit that is let go.
     pub(crate) fn put_permit(&mut self, lock: &mut CacheLock, permit: WritePermit) -> Option<u64>
         requires { MayTake (Some self.old) }
         ensures let_go { each LetGo result ≡ given_up (Some permit) (Some self.old) }

@@ -16,24 +16,24 @@ use std::alloc::Global;
 use std::marker::PhantomData;
 use std::time::Duration;
 
-/// Decides whether a response that is pushed into a world is stored. All puts of a world go by one
+/// Decides whether a response that is pushed into a world is stored. All puts of a world follow one
 /// policy, which its type names.
 pub trait PutPolicy {
     ghost use Rattle.std.specs.Prelude.{ℕ};
     ghost use Rattle.pcache_control.specs.declared.response.RespCacheable.{RespCacheable};
     ghost use Rattle.pcache_meta.specs.declared.header.ResponseHeader.{ResponseHeader};
 
-    /// What it may answer of a head at a moment. Nothing else decides.
+    /// What it may decide on a head at a moment. Nothing else matters.
     ghost says: { ResponseHeader → ℕ → RespCacheable → Type 0 };
 
-    /// Whether the response with this head is stored, and with what meta. Most answer by
-    /// `default_cacheable`. It is refused only when memory runs out.
+    /// Whether the response with this head is stored, and with what meta. Most policies use
+    /// `default_cacheable`. Fails only when memory runs out.
     fn cacheable(alloc: Global, header: ResponseHeader, now: Moment) -> Result<RespCacheable>
         ensures says { IfOk result (says header now) }
         ensures kind { IfErr result (λ e. e ≡ OutOfMemory) };
 }
 
-/// The policy of a world, as its puts carry it.
+/// The policy of a world, as a value that its puts have.
 #[derive(Drop)]
 pub struct ByType<P> {
     of: PhantomData<P>,
@@ -58,8 +58,8 @@ impl<P: PutPolicy> CachePut for ByType<P> {
     }
 }
 
-/// The policy that goes by what a response says of itself alone: none is fresh by default, or served
-/// stale.
+/// The policy that goes only by what a response says of itself: by default it is not fresh, and not
+/// served stale.
 pub struct BySelf;
 
 // No status has a default lifetime.
@@ -69,7 +69,7 @@ fn no_default(_status: StatusCode) -> Option<Duration>
     None
 }
 
-// What is said of a response by defaults that give no lifetime and no window.
+// The decision on a response by defaults that give no lifetime and no window.
 fn by_none(
     alloc: Global,
     header: ResponseHeader,

@@ -7,6 +7,7 @@ ghost use Rattle.pcache_put_ctx.specs.State.{Filled, entry_in, write_in};
 ghost use Rattle.pcache_request.specs.Requests.{dropped_by};
 ghost use Rattle.pcache_history.specs.Due.{IsOfWorld, KeepsKey};
 ghost use Rattle.pingora_cache.specs.PartFacts.{facts_in};
+ghost use Rattle.pcache_history.specs.Events.{evicted_by};
 ghost use Rattle.pcache_history.specs.Held.{IsHeldPut, held_put};
 ghost use Rattle.pingora_cache.specs.Moved.{Moves, MovesStore};
 ghost use Rattle.pcache_history.specs.PutHistory.{ClosesBy};
@@ -51,7 +52,7 @@ impl<P: PutPolicy> Model for OpenPut<P> {
 }
 
 impl<P: PutPolicy> OpenPut<P> {
-    /// A put of a key, whose body may have so many bytes if there is a limit.
+    /// A put of a key, perhaps with a limit on the number of the body's bytes.
     pub(crate) fn new(alloc: Global, key: CacheKey, limit: Option<usize>) -> OpenPut<P>
         ensures put { result ≡ held_put (new_put key limit) }
         ensures taken { TakenIn P.says (Some result) [] None }
@@ -63,7 +64,7 @@ impl<P: PutPolicy> OpenPut<P> {
         OpenPut { ctx }
     }
 
-    /// This is a put. It does nothing.
+    /// For the prover: states that this is a put. It does nothing.
     pub(crate) fn is_held(&self)
         ensures held { IsHeldPut self.now }
         ensures some { IsSome self.now.put }
@@ -80,7 +81,7 @@ impl<P: PutPolicy> OpenPut<P> {
     }
 }
 
-// The number of the write of a put, if one is in flight; it is that of the write's entry too.
+// The number of the write of a put, if one is in flight; the write's entry has the same number.
 fn write_of<P: PutPolicy>(ctx: &CachePutCtx<ByType<P>, MemCache>) -> Option<u128>
     ensures write { result ≡ write_in ctx.now.stage }
     ensures entry { result ≡ entry_in ctx.now.stage }
@@ -91,7 +92,7 @@ fn write_of<P: PutPolicy>(ctx: &CachePutCtx<ByType<P>, MemCache>) -> Option<u128
     }
 }
 
-// The number of a write that was handed out, if one was.
+// The number of a write that was returned, if one was.
 fn number_in(writer: &Option<MemMissHandler>) -> Option<u128>
     ensures { result ≡ option_map (λ w. w.number) writer.now }
 {
@@ -111,7 +112,7 @@ pub(crate) fn feed<P: PutPolicy>(
 ) -> Reply
     requires none { events.old.items ≡ [] }
     requires room { 3 ≤ vec_capacity events.old }
-    ensures answers { (t : Locks) → HasSome P.says (Some put.old) → Feeds (facts_in store.old t put.old.request) put.old.put result events.new.items }
+    ensures answers { (t : Locks) → HasSome P.says store.old (Some put.old) → Feeds (facts_in store.old t put.old.request) put.old.put result events.new.items }
     ensures other { IsOther result }
     ensures moves { MovesStore (Some put.old) store.old events.new.items (Some put.new) store.new }
     ensures keeps { KeepsKey (Some put.old) (Some put.new) }
@@ -122,8 +123,8 @@ pub(crate) fn feed<P: PutPolicy>(
     feed_in(&mut put.ctx, store, events, bytes, now)
 }
 
-// Takes in a piece of the response that a context takes in.
-// It is the second half of `feed`: a function over the context alone, whose clauses those of `feed` are found from.
+// Takes in a piece of the response that a context takes in. It is the second half of `feed`: a function over the
+// context alone, from whose clauses those of `feed` follow.
 fn feed_in<P: PutPolicy>(
     ctx: &mut CachePutCtx<ByType<P>, MemCache>,
     store: &mut MemCache,
@@ -133,7 +134,7 @@ fn feed_in<P: PutPolicy>(
 ) -> Reply
     requires none { events.old.items ≡ [] }
     requires room { 3 ≤ vec_capacity events.old }
-    ensures answers { (t : Locks) → HasSome P.says (Some (held_put (taking ctx.old))) → Feeds (facts_in store.old t (held_put (taking ctx.old)).request) (Some (taking ctx.old)) result events.new.items }
+    ensures answers { (t : Locks) → HasSome P.says store.old (Some (held_put (taking ctx.old))) → Feeds (facts_in store.old t (held_put (taking ctx.old)).request) (Some (taking ctx.old)) result events.new.items }
     ensures other { IsOther result }
     ensures moves { MovesStore (Some (held_put (taking ctx.old))) store.old events.new.items (Some (held_put (taking ctx.new))) store.new }
     ensures keeps { KeepsKey (Some (held_put (taking ctx.old))) (Some (held_put (taking ctx.new))) }
@@ -157,7 +158,7 @@ fn feed_in<P: PutPolicy>(
     }
 }
 
-// Notes what a piece did to the write that is in flight.
+// Adds the events of what a piece did to the write that is in flight.
 fn note_piece(
     slot: u128,
     write: Option<u128>,
@@ -181,7 +182,7 @@ fn note_piece(
     }
 }
 
-// Drops a write, if there is one, and notes that.
+// Drops a write, if there is one, and adds the event of that.
 fn drop_write(writer: Option<MemMissHandler>, store: &mut MemCache, events: &mut Vec<Event>)
     requires { vec_len events.old + 1 ≤ vec_capacity events.old }
     ensures events { events.new.items ≡ events.old.items ++ drop_of (option_map (λ w. w.number) writer) }
@@ -217,21 +218,21 @@ pub(crate) fn close_put<M: EvictionManager, P: PutPolicy>(
 ) -> Reply
     requires none { events.old.items ≡ [] }
     requires room { 3 ≤ vec_capacity events.old }
-    ensures answers { HasSome P.says (Some put) → Closes (facts_in parts.old.store parts.old.lock put.request) put.put result events.new.items }
+    ensures answers { HasSome P.says parts.old.store (Some put) → Closes (facts_in parts.old.store parts.old.lock put.request) put.put result events.new.items }
     ensures other { IsOther result }
-    ensures moves { IsOfWorld put.request → HasSome P.says (Some put) → Moves (M.limits parts.old.manager) (Some put) parts.old.store (M.tracked parts.old.manager) events.new.items None parts.new.store (M.tracked parts.new.manager) }
+    ensures moves { IsOfWorld put.request → HasSome P.says parts.old.store (Some put) → Moves (M.limits parts.old.manager) (Some put) parts.old.store (M.tracked parts.old.manager) events.new.items None parts.new.store (M.tracked parts.new.manager) }
     ensures closes { (pieces : List Piece) (f : Option Filled) → TakenIn P.says (Some put) pieces f → ClosesBy P.says acts.Close (Some put) pieces f result }
     ensures quiet { AreOfNoLock events.new.items }
     ensures lock { parts.new.lock ≡ parts.old.lock }
     ensures limits { M.limits parts.new.manager ≡ M.limits parts.old.manager }
+    ensures evicted { M.evicted parts.new.manager ≡ evicted_by (M.tracked parts.old.manager) (M.evicted parts.old.manager) events.new.items }
 {
     let OpenPut { ctx } = put;
     close_in(ctx, parts, events)
 }
 
-// Ends the put of a context.
-// It is the second half of a close: a function over the context alone, whose clauses those of the call are found
-// from.
+// Ends the put of a context. It is the second half of a close: a function over the context alone, from
+// whose clauses those of the call follow.
 fn close_in<M: EvictionManager, P: PutPolicy>(
     ctx: CachePutCtx<ByType<P>, MemCache>,
     parts: &mut Parts<M>,
@@ -239,13 +240,14 @@ fn close_in<M: EvictionManager, P: PutPolicy>(
 ) -> Reply
     requires none { events.old.items ≡ [] }
     requires room { 3 ≤ vec_capacity events.old }
-    ensures answers { HasSome P.says (Some (held_put (taking ctx))) → Closes (facts_in parts.old.store parts.old.lock (held_put (taking ctx)).request) (Some (taking ctx)) result events.new.items }
+    ensures answers { HasSome P.says parts.old.store (Some (held_put (taking ctx))) → Closes (facts_in parts.old.store parts.old.lock (held_put (taking ctx)).request) (Some (taking ctx)) result events.new.items }
     ensures other { IsOther result }
-    ensures moves { IsOfWorld (held_put (taking ctx)).request → HasSome P.says (Some (held_put (taking ctx))) → Moves (M.limits parts.old.manager) (Some (held_put (taking ctx))) parts.old.store (M.tracked parts.old.manager) events.new.items None parts.new.store (M.tracked parts.new.manager) }
+    ensures moves { IsOfWorld (held_put (taking ctx)).request → HasSome P.says parts.old.store (Some (held_put (taking ctx))) → Moves (M.limits parts.old.manager) (Some (held_put (taking ctx))) parts.old.store (M.tracked parts.old.manager) events.new.items None parts.new.store (M.tracked parts.new.manager) }
     ensures closes { (pieces : List Piece) (f : Option Filled) → TakenIn P.says (Some (held_put (taking ctx))) pieces f → ClosesBy P.says acts.Close (Some (held_put (taking ctx))) pieces f result }
     ensures quiet { AreOfNoLock events.new.items }
     ensures lock { parts.new.lock ≡ parts.old.lock }
     ensures limits { M.limits parts.new.manager ≡ M.limits parts.old.manager }
+    ensures evicted { M.evicted parts.new.manager ≡ evicted_by (M.tracked parts.old.manager) (M.evicted parts.old.manager) events.new.items }
 {
     let mut ctx = ctx;
     let write = write_of(&ctx);
@@ -258,7 +260,7 @@ fn close_in<M: EvictionManager, P: PutPolicy>(
     }
 }
 
-// What is answered at the end of a put that made no write.
+// The reply at the end of a put that made no write.
 fn end_unwritten(end: PutEnd) -> Reply
     requires { IsUnwritten end }
     ensures { result ≡ end_reply end }
@@ -270,7 +272,7 @@ fn end_unwritten(end: PutEnd) -> Reply
     }
 }
 
-// What is noted and answered at the end of a put's write.
+// The events and the reply at the end of a put's write.
 fn end_written(
     write: u128,
     slot: u128,

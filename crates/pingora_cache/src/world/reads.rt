@@ -51,7 +51,7 @@ pub(crate) fn read(
     reply
 }
 
-// What a read answers. The bytes went by also if their copy is refused.
+// The reply to a read. The bytes count as read even if copying them fails.
 fn reply_of(answer: &Poll<Option<Bytes>>) -> Reply
     ensures reply { (result ≡ read_reply answer.now) ⊎ ((gives_piece answer.now ≡ true) × (result ≡ replies.Refused OutOfMemory)) }
     ensures other { IsOther result }
@@ -66,7 +66,7 @@ fn reply_of(answer: &Poll<Option<Bytes>>) -> Reply
     }
 }
 
-/// Sends the reader to another range.
+/// Moves the reader to another range.
 pub(crate) fn seek(request: &mut OpenRequest, start: usize, end: Option<usize>) -> Reply
     ensures answers { Answers no_facts (acts.Request (asks.Seek start end)) (Some request.old) result [] }
     ensures moves { MovesRequest (Some request.old) (Some request.new) }
@@ -80,8 +80,7 @@ pub(crate) fn seek(request: &mut OpenRequest, start: usize, end: Option<usize>) 
     seek_in(&mut request.cache, start, end)
 }
 
-// The second half of `seek`, once its condition was tested: it has clauses of its own, from which those of
-// `seek` are found.
+// The second half of `seek`, after its condition was tested. From its clauses those of `seek` follow.
 fn seek_in(cache: &mut HttpCache<MemCache>, start: usize, end: Option<usize>) -> Reply
     requires { IsSome cache.old.reader }
     ensures reply { result ≡ seek_reply (sought_in start end cache.old.reader) }
@@ -94,7 +93,7 @@ fn seek_in(cache: &mut HttpCache<MemCache>, start: usize, end: Option<usize>) ->
     Reply::Done
 }
 
-/// Ends the reader, also if that is refused.
+/// Ends the reader, even if that fails.
 pub(crate) fn done(request: &mut OpenRequest, store: &mut MemCache) -> Reply
     ensures answers { Answers no_facts (acts.Request asks.Done) (Some request.old) result [] }
     ensures moves { MovesStore (Some request.old) store.old [] (Some request.new) store.new }

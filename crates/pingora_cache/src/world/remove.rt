@@ -1,4 +1,4 @@
-//! Calls that remove or expire what stands under a request's key.
+//! Calls that remove or expire what is stored for a request's key.
 ghost use Rattle.std.specs.Prelude.{◌≡◌, ◌+◌, ◌≤◌, ◌∷◌, ◌++◌, Some, [], vec_len, ℕ};
 ghost use Rattle.std.specs.Vec.{vec_capacity};
 ghost use Rattle.pcache_request.specs.Requests.{is_removed_by};
@@ -23,7 +23,7 @@ use pcache_history::call::Reply;
 use pcache_history::entry::Event;
 use pcache_request::cache::Removal;
 
-/// Removes what stands under the request's key.
+/// Removes what is stored for the request's key.
 #[tactic(auto, using(crate::proofs::LockSteps::none_noted))]
 pub(crate) fn purge<M: EvictionManager>(
     request: &mut OpenRequest,
@@ -38,6 +38,7 @@ pub(crate) fn purge<M: EvictionManager>(
     ensures same { request.new ≡ request.old }
     ensures locks { (r : ℕ) → MovesLocks r (deeds_by r 0 Done events.new.items) request.old.request.held parts.old.lock request.new.request.held parts.new.lock }
     ensures limits { M.limits parts.new.manager ≡ M.limits parts.old.manager }
+    ensures evicted { M.evicted parts.new.manager ≡ M.evicted parts.old.manager }
 {
     if !request.cache.phase().may_purge() {
         return Reply::WrongCall;
@@ -55,7 +56,7 @@ pub(crate) fn purge<M: EvictionManager>(
     }
 }
 
-// Notes that a key was purged, and the entry that was taken out of the manager with it.
+// Adds the events of a purged key, and of the entry that was removed from the manager with it.
 fn note_removal(slot: u128, removal: Removal, events: &mut Vec<Event>) -> Reply
     requires { vec_len events.old + 2 ≤ vec_capacity events.old }
     ensures reply { result ≡ purge_reply (is_removed_by removal.outcome) }
@@ -73,7 +74,7 @@ fn note_removal(slot: u128, removal: Removal, events: &mut Vec<Event>) -> Reply
     }
 }
 
-/// Ends the freshness of what stands under the request's key.
+/// Ends the freshness of what is stored for the request's key.
 #[tactic(auto, using(crate::proofs::LockSteps::none_noted))]
 pub(crate) fn expire<M: EvictionManager>(
     request: &mut OpenRequest,
@@ -89,6 +90,7 @@ pub(crate) fn expire<M: EvictionManager>(
     ensures same { request.new ≡ request.old }
     ensures locks { (r : ℕ) → MovesLocks r (deeds_by r 0 Done events.new.items) request.old.request.held parts.old.lock request.new.request.held parts.new.lock }
     ensures limits { M.limits parts.new.manager ≡ M.limits parts.old.manager }
+    ensures evicted { M.evicted parts.new.manager ≡ M.evicted parts.old.manager }
 {
     if !request.cache.phase().may_purge() {
         return Reply::WrongCall;
@@ -109,7 +111,7 @@ pub(crate) fn expire<M: EvictionManager>(
     }
 }
 
-// What an expiry answers.
+// The reply to an expiry.
 fn reply_of(was_there: bool) -> Reply
     ensures { result ≡ expire_reply was_there }
 {

@@ -1,4 +1,4 @@
-//! An open request, with what its last look-up gave.
+//! An open request, with the pair that its last look-up gave.
 ghost use Rattle.std.specs.Prelude.{◌≡◌, None, Some, option_map};
 ghost use Rattle.pcache_store.specs.Readers.{reader_of};
 ghost use Rattle.pcache_request.specs.Phases.{IsOn};
@@ -18,7 +18,7 @@ use pcache_store::memory::{MemCache, MemHitHandler};
 use pcache_store::storage::HandleHit;
 use std::marker::Model;
 
-/// What a look-up gave: a meta, and the reader of the body or write.
+/// The pair that a look-up gave: a meta, and the reader of the body or write.
 pub(crate) type Pair = (CacheMeta, MemHitHandler);
 
 /// An open request. The pair that its last look-up gave is held until it is taken, or the request
@@ -51,14 +51,14 @@ impl OpenRequest {
         }
     }
 
-    /// This is no put. It does nothing.
+    /// For the prover: states that this is no put. It does nothing.
     pub(crate) fn is_plain(&self)
         ensures { self.now.put ≡ None }
     {
         let _ = &self.carried; // for the prover: once a field is used, the invariant is known
     }
 
-    /// The permit that is held, which is held no more then.
+    /// Takes the permit out, if one is held.
     pub(crate) fn take_permit(&mut self) -> Option<WritePermit>
         ensures permit { result ≡ permit_held (Some self.old) }
         ensures plain { self.old.put ≡ None }
@@ -70,7 +70,7 @@ impl OpenRequest {
         Some(self.cache.take_write_lock())
     }
 
-    /// Takes a permit, if it is on. Answers the number of a permit that is let go.
+    /// Takes a permit; caching is on. Returns the number of a permit that is let go.
     pub(crate) fn put_permit(&mut self, lock: &mut CacheLock, permit: WritePermit) -> Option<u64>
         requires { IsOn self.old.request.phase }
         ensures let_go { each LetGo result ≡ given_up (Some permit) (Some self.old) }
@@ -80,7 +80,7 @@ impl OpenRequest {
         permit_in(self.cache.set_write_lock(lock, permit))
     }
 
-    /// Gives back all that is held, and answers the number of a permit that is let go.
+    /// Gives back all that is held, and returns the number of a permit that is let go.
     pub(crate) fn end(self, store: &mut MemCache, lock: &mut CacheLock) -> Option<u64>
         ensures let_go { result ≡ permit_of self.request.held }
         ensures store { store.new ≡ store_ended self store.old }
@@ -108,7 +108,8 @@ pub(crate) fn world_use() -> InUse
     }
 }
 
-/// The number of the write that a request holds, if one is; it is that of the write's entry too.
+/// The number of the write that a request holds, if it holds one; the write's entry has the same
+/// number.
 pub(crate) fn write_number(cache: &HttpCache<MemCache>) -> Option<u128>
     ensures write { result ≡ cache.now.write }
     ensures entry { result ≡ cache.now.entry }
@@ -119,7 +120,7 @@ pub(crate) fn write_number(cache: &HttpCache<MemCache>) -> Option<u128>
     }
 }
 
-/// Holds a pair, or none, in place of the one before, which is let go.
+/// Replaces the held pair, perhaps by none. The old one is let go.
 pub(crate) fn hold(place: &mut Option<Pair>, pair: Option<Pair>, store: &mut MemCache)
     ensures place { place.new ≡ pair }
     ensures store { store.new ≡ left_by (pair_reader (option_map (λ p. (p.0, reader_of p.1)) place.old)) store.old }

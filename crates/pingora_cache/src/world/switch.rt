@@ -37,7 +37,7 @@ pub(crate) fn enable(request: &mut OpenRequest, options: Option<CacheOptionOverr
     Reply::Done
 }
 
-/// Turns caching off, and gives back what is held.
+/// Turns caching off, and gives back all that is held.
 #[tactic(auto, using(crate::proofs::LockSteps::none_noted))]
 pub(crate) fn disable(
     request: &mut OpenRequest,

@@ -1,4 +1,4 @@
-//! Calls about the variants of a key, and the meta of a stale body that is good.
+//! Calls about the variants of a key, and the meta of a stale body that is still valid.
 ghost use Rattle.std.specs.Prelude.{◌≡◌, ◌+◌, ◌≤◌, ◌++◌, [], IfOk, IfErr, Option, Some, vec_len, ℕ};
 ghost use Rattle.std.specs.Vec.{vec_capacity};
 ghost use Rattle.pcache_base.specs.declared.error.ErrorType.TheVariants.{OutOfMemory};
@@ -31,7 +31,7 @@ use pcache_put_ctx::boxed::Boxed;
 use pcache_request::cache::{HttpCache, Renewal};
 use pcache_store::memory::MemCache;
 
-/// Has the next look-up look for a variance.
+/// Has the next look-up look for this variance.
 pub(crate) fn vary(request: &mut OpenRequest, variance: HashBinary) -> Reply
     ensures answers { Answers no_facts (acts.Request (asks.Vary variance)) (Some request.old) result [] }
     ensures moves { MovesRequest (Some request.old) (Some request.new) }
@@ -76,11 +76,10 @@ pub(crate) fn variance(
     Reply::Done
 }
 
-/// Copies of what a call brings that it hands on: the meta of a revalidation, for the request and for
-/// what is noted.
+/// Copies of what a call passes on: the meta of a revalidation, for the request and for its event.
 pub(crate) type Spare = (CacheMeta, Boxed<CacheMeta>);
 
-/// The copies that a call needs. They are made before it, since it is not to be refused half way.
+/// The copies that a call needs. They are made before the call, which then cannot fail half way.
 pub(crate) fn spare_of(act: &Act) -> Result<Option<Spare>>
     ensures ok { IfOk result (λ spare. spare ≡ spare_of act.now) }
     ensures kind { IfErr result (λ e. e ≡ OutOfMemory) }
@@ -95,7 +94,7 @@ pub(crate) fn spare_of(act: &Act) -> Result<Option<Spare>>
     }
 }
 
-/// Takes the meta of an answer that says that the stale body is good.
+/// Takes the meta of a response that says that the stale body is still valid.
 #[tactic(auto, using(crate::proofs::LockSteps::none_noted))]
 pub(crate) fn revalidate(
     request: &mut OpenRequest,
@@ -123,7 +122,7 @@ pub(crate) fn revalidate(
     renew(&mut request.cache, store, lock, events, own, noted)
 }
 
-// Takes the new meta, of which one copy is for the request and one for what is noted.
+// Takes the new meta, of which one copy is for the request and one for the event.
 fn renew(
     cache: &mut HttpCache<MemCache>,
     store: &mut MemCache,
@@ -157,7 +156,7 @@ fn renew(
     reply
 }
 
-// Notes the new meta, if the store set it.
+// Adds the event of the new meta, if the store set it.
 fn note_renewal(
     slot: u128,
     meta: Boxed<CacheMeta>,

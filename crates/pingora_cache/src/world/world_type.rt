@@ -28,23 +28,27 @@ use std::fs::Files;
 use std::marker::Model;
 use std::time::Duration;
 
-// How many events a call has at the most.
+// The most events that a call makes.
 const MOST_EVENTS: usize = 3;
 
 /// The totals that an eviction manager reports.
 #[derive(Clone, Copy, Debug, PartialEq, Eq)]
 pub struct Totals {
+    /// The sum of the weights of the tracked entries.
     pub weight: usize,
+    /// The number of tracked entries.
     pub items: usize,
+    /// The sum of the weights of all evicted entries.
     pub evicted_weight: usize,
+    /// The number of all evicted entries.
     pub evicted_items: usize,
 }
 
-/// Requests and puts over one store, one eviction manager and one lock table, with the history of what
-/// was asked. Each call is whole: it is asked, answered and noted before the next.
+/// Requests and puts over one store, one eviction manager and one lock table, with the history of
+/// their calls. Each call is atomic: it is made and recorded before the next.
 ///
-/// The history is legal at all times: each entry is one that the entries before it give. All puts go by
-/// the policy `P`.
+/// The history is legal at all times: each entry is one that the entries before it give. All puts
+/// follow the policy `P`.
 pub struct World<M: EvictionManager, P: PutPolicy> {
     alloc: Global,
     parts: Parts<M>,
@@ -89,8 +93,9 @@ impl<M: EvictionManager, P: PutPolicy> World<M, P> {
     ghost use Rattle.pcache_history.specs.Headline.{EvictsNothingWithin, FindsUntouched, FinishesUntouched, GivesWhereNoneWaits, HandsOnUnhidden, HitsTheLast, IsWithinAlways};
     ghost use Rattle.pcache_history.specs.Settling.{SettlesAlways};
 
-    /// A world with no requests, nothing stored and an empty history. Permits age out after
-    /// `age_timeout`. The store's tables hash under the seed, which no reply and no event shows.
+    /// A world with no requests, an empty store and an empty history. Permits age out after
+    /// `age_timeout`. The store's tables hash under the seed, on which no reply and no event
+    /// depends.
     pub fn new(alloc: Global, seed: Seed, manager: M, age_timeout: Duration) -> World<M, P>
         ensures { result ≡ record { history = []; start = M.tracked manager; limits = M.limits manager; evicted = M.evicted manager; age = as_nanos age_timeout } }
     {
@@ -107,7 +112,7 @@ impl<M: EvictionManager, P: PutPolicy> World<M, P> {
         }
     }
 
-    /// What was asked, answered and done, in order.
+    /// The calls with their replies and events, in order.
     pub fn history(&self) -> &[Entry]
         ensures entries { result.now ≡ self.now.history }
         ensures legal { HasLegal self.now }
@@ -116,14 +121,15 @@ impl<M: EvictionManager, P: PutPolicy> World<M, P> {
         self.history.as_slice()
     }
 
-    /// What is promised of the history, whatever calls were made: a look-up finds a key exactly when
-    /// a write of it, in flight or finished, met no removal since it began, and hands on what it finds
-    /// unless a variant hides it; the finish of a write
-    /// succeeds exactly when it met none; a complete hit reads the body that was finished last; the
-    /// complete bodies sum to at most the limit; nothing is evicted within the limits; a request for
-    /// a lock is given the permit exactly when no permit waits under its key.
+    /// Promises of the history, whatever calls were made: a look-up finds a key exactly when a write
+    /// of it, in flight or finished, met no removal since it began, and hands on what it finds unless
+    /// a variant hides it; the finish of a write succeeds exactly when it met no removal; a complete
+    /// hit reads the body that was finished last; the complete bodies sum to at most the limit;
+    /// nothing is evicted within the limits; a request for a lock is given the permit exactly when no
+    /// permit waits for its key.
     ///
-    /// It does nothing. Who calls it has these facts of the world at that moment, also behind a lock.
+    /// The call does nothing. Its caller has these facts about the world at that moment, also behind
+    /// a lock.
     pub fn headline(&self)
         ensures finds { FindsUntouched self.now }
         ensures hands_on { HandsOnUnhidden self.now }
@@ -133,11 +139,12 @@ impl<M: EvictionManager, P: PutPolicy> World<M, P> {
         ensures evicts { EvictsNothingWithin self.now }
         ensures locks { GivesWhereNoneWaits self.now }
     {
-        // For the prover: the call tells what is promised of the history.
+        // For the prover: the contract of the call says what is promised of the history.
         let _history = self.history();
     }
 
-    /// What the manager held before the first call that is no load, in no order; nothing before that call.
+    /// The entries that the manager tracked before the first call that is no load, in no particular order;
+    /// empty before that call.
     pub fn start(&self) -> &[(CacheEntryKey, usize)]
         ensures { (map.from_entries result.now ≡ self.now.start) ⊎ ((result.now ≡ []) × (only_loads (reverse self.now.history) ≡ true)) }
     {
@@ -147,7 +154,8 @@ impl<M: EvictionManager, P: PutPolicy> World<M, P> {
         }
     }
 
-    /// The lengths of the complete bodies, added up: at most the manager's limit on weight.
+    /// The sum of the lengths of the complete bodies, in bytes: at most the manager's limit on
+    /// weight.
     pub fn stored_bytes(&self) -> u128
         ensures value { result ≡ stored (events_in self.now) }
         ensures within { result ≤ self.now.limits.weight }
@@ -163,7 +171,7 @@ impl<M: EvictionManager, P: PutPolicy> World<M, P> {
         self.parts.store.slots()
     }
 
-    /// The number of writes of which the store keeps a record, since they are in flight or are read: none if
+    /// The number of writes of which the store keeps a record, since they are in flight or are read: zero if
     /// no request and no put is open.
     pub fn write_records(&self) -> usize
         ensures { ((r : ℕ) → request_of r (reverse self.now.history) ≡ None) → result ≡ 0 }
@@ -186,9 +194,9 @@ impl<M: EvictionManager, P: PutPolicy> World<M, P> {
         }
     }
 
-    /// Makes one call and notes it. Refused when memory runs out, it changes nothing and notes
-    /// nothing; a refusal inside the call is its reply. It is lent no files: a save, or a load before
-    /// any other call, is refused as by a device that is not there. `save` and `load` make these calls.
+    /// Makes one call and records it. Fails when memory runs out, and then changes and records nothing;
+    /// an error inside the call is its reply. The call has no files: a save, or a load before any other
+    /// call, fails as if the device failed. `save` and `load` make these calls.
     pub fn step(&mut self, call: Call) -> Result<Reply>
         ensures ok { IfOk result (λ reply. Adds self.old call reply self.new) }
         ensures files { IfOk result (λ reply. HasNoFiles (files_in call.act) reply) }
@@ -213,7 +221,7 @@ impl<M: EvictionManager, P: PutPolicy> World<M, P> {
         ensures err { OnErr result (self.new ≡ self.old) }
         ensures kind { IfErr result (λ e. e ≡ OutOfMemory) }
     {
-        // That the requests are fewer than their numbers bounds their read locks.
+        // For the prover: the number of requests is bounded, and so is that of their read locks.
         let _open = self.requests.len();
         let mut events = Vec::with_capacity(self.alloc, MOST_EVENTS)?;
         let mut spare = spare_of(&call.act)?;
@@ -279,7 +287,7 @@ impl<M: EvictionManager, P: PutPolicy> World<M, P> {
     /// Makes one call as `step` does, and says what holds whichever requests for memory are refused: the
     /// complete bodies sum to at most the manager's limit on weight, and are at most as many as its
     /// watermark, after this call as after each before it; a body that was stored is admitted in the
-    /// call that finished it, or its key is purged there. A refused call leaves all as it was, and no
+    /// call that finished it, or its key is purged there. A failed call changes nothing, and adds no
     /// entry.
     pub fn bounded_step(&mut self, call: Call) -> Result<Reply>
         ensures within { IsWithinAlways self.new }
@@ -292,8 +300,8 @@ impl<M: EvictionManager, P: PutPolicy> World<M, P> {
         self.step(call)
     }
 
-    /// Makes the calls in order, and answers their replies. Refused when memory runs out, it made
-    /// those of a beginning of the list.
+    /// Makes the calls in order, and returns their replies. Fails when memory runs out; then the
+    /// calls of a prefix of the list were made.
     pub fn run(&mut self, calls: Vec<Call>) -> Result<Vec<Reply>>
         ensures ok { IfOk result (λ replies. AddsAll self.old calls.items replies.items self.new) }
         ensures legal { HasLegal self.new }
@@ -318,10 +326,10 @@ impl<M: SavedManager, P: PutPolicy> World<M, P> {
     ghost use Rattle.pcache_history.specs.declared.entry.Event.{Event};
     ghost use Rattle.pingora_cache.specs.FilesCalls.{IsLoaded};
 
-    /// Saves what the manager holds in a folder, which is made with its parents if it is missing, as a
-    /// call with an entry of its own: what it answers is the manager's. Each file is written under a
-    /// temporary name, which ends in the suffix, and then renamed. Refused when memory for the entry
-    /// runs out, it saves nothing and notes nothing.
+    /// Saves the manager's entries in a folder, which is made, with its parents, if it is missing, as
+    /// a call with an entry of its own: the reply is that of the manager. Each file is written under a
+    /// temporary name, which ends in the suffix, and then renamed. Fails when memory for the entry
+    /// runs out, and then saves and records nothing.
     pub fn save<R: Files>(&mut self, files: &R, dir: &str, suffix: u32) -> Result<Reply>
         ensures ok { IfOk result (λ reply. Adds self.old (record { request = 0; act = acts.Files Save }) reply self.new) }
         ensures replies { IfOk result (λ reply. IsFilesReply Save reply) }
@@ -343,11 +351,12 @@ impl<M: SavedManager, P: PutPolicy> World<M, P> {
         Ok(answered)
     }
 
-    /// Puts in what was saved in a folder, as a call with an entry of its own: a wrong call once another
-    /// call than a load was made. The history starts from what the manager holds after the loads. Done, it
-    /// answers how many of several files were skipped, and what the manager holds is what it held with the
-    /// lists of the others put in; refused, the manager is as it was. Nothing is evicted. Refused when
-    /// memory for the entry runs out, it loads nothing and notes nothing.
+    /// Loads what was saved in a folder, as a call with an entry of its own. The reply is WrongCall if a
+    /// call other than a load was made before. The history starts from what the manager tracks after the
+    /// loads. If the load is done, the reply says how many of several files were skipped, and the manager
+    /// tracks what it tracked before with the lists of the others loaded; if it fails, the manager is
+    /// unchanged. Nothing is evicted. The call fails when memory for the entry runs out, and then loads
+    /// and records nothing.
     pub fn load<R: Files>(&mut self, files: &R, dir: &str) -> Result<Reply>
         ensures history { IfOk result (λ reply. self.new.history ≡ self.old.history ++ record { call = record { request = 0; act = acts.Files Load }; reply = reply; events = [] } ∷ []) }
         ensures loaded { IfOk result (λ reply. IsLoaded R.File.remaining M.file_count M.put_in self.old.start self.new.start reply) }
@@ -375,7 +384,7 @@ impl<M: SavedManager, P: PutPolicy> World<M, P> {
 }
 
 impl<M: EvictionManager, P: PutPolicy> Drop for World<M, P> {
-    // Ends what is open.
+    // Ends all open requests and puts.
     fn drop(self) {
         let World {
             alloc: _,
@@ -397,7 +406,7 @@ impl<M: EvictionManager, P: PutPolicy> Drop for World<M, P> {
     }
 }
 
-// Makes room for one entry more, and before the first call takes down what the manager holds.
+// Makes room for one more entry, and before the first call records what the manager tracks.
 fn make_ready<M: EvictionManager>(
     history: &mut Vec<Entry>,
     start: &mut Option<Vec<(CacheEntryKey, usize)>>,
@@ -417,7 +426,7 @@ fn make_ready<M: EvictionManager>(
     Ok(())
 }
 
-// What a load with no files answers, if only loads came before it or not.
+// The reply to a load with no files; `is_early` says whether only loads came before it.
 fn unloaded(is_early: bool) -> Reply
     ensures { result ≡ cond is_early (Refused Io) WrongCall }
 {
@@ -428,7 +437,7 @@ fn unloaded(is_early: bool) -> Reply
     }
 }
 
-// What a save answers.
+// The reply to a save.
 fn saved_reply(saved: Result<()>) -> Reply
     requires { IfErr saved (λ e. (e ≡ OutOfMemory) ⊎ (e ≡ InternalError) ⊎ (e ≡ Io)) }
     ensures { IsFilesReply Save result }
@@ -439,7 +448,7 @@ fn saved_reply(saved: Result<()>) -> Reply
     }
 }
 
-// Puts in what was saved, if only loads came before.
+// Loads what was saved, if only loads came before.
 fn load_if<M: SavedManager, R: Files>(
     alloc: Global,
     manager: &mut M,
@@ -462,7 +471,7 @@ fn load_if<M: SavedManager, R: Files>(
     }
 }
 
-// A reply for the history and one to be answered. If the copy is refused, that is the reply.
+// A reply for the history, and one to return. If the copy fails, that error is the reply.
 fn doubled(reply: Reply) -> (Reply, Reply)
     ensures same { result.0 ≡ result.1 }
     ensures copy { IsCopy reply result.0 }
@@ -476,8 +485,8 @@ fn doubled(reply: Reply) -> (Reply, Reply)
     }
 }
 
-// The same events in a list of just their size, if there is memory for one. A list that is cut down
-// in place leaves a hole behind it that the next call's list does not fit in.
+// The same events in a vector of exactly their size, if there is memory for one. A vector that is
+// shrunk in place leaves a gap behind it that is too small for the next call's vector.
 fn fitted(alloc: Global, mut events: Vec<Event>) -> Vec<Event>
     ensures { result.items ≡ events.items }
 {

@@ -72,7 +72,7 @@ fn a_manager_is_loaded_before_the_first_call(rt: HostRuntime) -> Result<(), Fail
     Ok(())
 }
 
-// A save is a call, and so is a load: only loads may come before one, also refused ones, and a late load is a wrong call
+// A save is a call, and so is a load: only loads may come before one, also failed ones, and a late load is a wrong call
 // and no bad line.
 #[test]
 fn a_load_after_a_save_is_a_wrong_call(rt: HostRuntime) -> Result<(), Fail> {
@@ -94,7 +94,8 @@ fn a_load_after_a_save_is_a_wrong_call(rt: HostRuntime) -> Result<(), Fail> {
     Ok(())
 }
 
-// An entry that was saved without a number names no write, so all of its key goes with it.
+// An entry that was saved without a number names no write, so everything of its key is removed with
+// it.
 #[test]
 fn a_loaded_entry_of_a_key_alone_removes_all_of_the_key(rt: HostRuntime) -> Result<(), Fail> {
     let _ = fs::remove_dir_all(&rt, "loaded_key_alone");

@@ -1,4 +1,4 @@
-//! Rows of phases: what is passed by, forced, stale, sought in, and turned off.
+//! Rows of phases: bypassing, forced freshness, stale bodies, seeking, and turning caching off.
 
 use super::check;
 use std::test::Fail;

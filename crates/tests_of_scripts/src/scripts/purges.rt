@@ -138,7 +138,7 @@ fn an_eviction_leaves_the_other_write(rt: HostRuntime) -> Result<(), Fail> {
     check(&rt, rt.alloc(), &["3"], row, 0, "")
 }
 
-// The entry of a body that another took the place of goes alone, and the body that stands stays.
+// The entry of a replaced body is removed alone, and the body that replaced it stays.
 #[test]
 fn an_overwritten_entry_is_evicted_by_itself(rt: HostRuntime) -> Result<(), Fail> {
     let row = "open 1 -> ok\n\

@@ -6,8 +6,8 @@ use std::fs::Files;
 use std::process::Abort;
 use std::test::Fail;
 
-// A response that is pushed in: the line that begins its put, its bytes, how many of them are told
-// `ok`, what is told of the others, and what is told at the end.
+// A response that is pushed in: the line that begins its put, its bytes, for how many of them the
+// reply is `ok`, the replies to the others, and the reply at the end.
 #[derive(Drop)]
 struct Pushed {
     put: &'static str,

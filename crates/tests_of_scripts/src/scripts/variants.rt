@@ -3,7 +3,7 @@
 use super::check;
 use std::test::Fail;
 
-// A key with a variance stands in a slot of its own; the fills that a key cannot use are no part of it.
+// A key with a variance has a slot of its own; the fills that a key cannot use are not part of it.
 #[test]
 fn keys_with_options(rt: HostRuntime) -> Result<(), Fail> {
     let row = "open 1 -> ok\n\

@@ -125,7 +125,7 @@ fn the_wait_timeout_is_counted_over_two_look_ups(rt: HostRuntime) -> Result<(), 
     check(&rt, rt.alloc(), &["9"], row, 0, "")
 }
 
-// A request that is enabled again waits anew, but what it waited before counts.
+// A request that is enabled again waits again, but the time that it waited before counts.
 #[test]
 fn an_enabled_request_waits_for_so_long(rt: HostRuntime) -> Result<(), Fail> {
     let row = "open 1 -> ok\n\
@@ -175,7 +175,7 @@ fn a_permit_handed_to_a_request_without_a_lock_in_use(rt: HostRuntime) -> Result
     check(&rt, rt.alloc(), &["9"], row, 0, "")
 }
 
-// It is out of its giver's hands before it is taken, so nothing of it is let go.
+// The giver no longer holds it when it is taken, so it is not let go.
 #[test]
 fn a_permit_handed_to_its_holder(rt: HostRuntime) -> Result<(), Fail> {
     let row = "give 1 1 -> wrong call\n\

@@ -139,7 +139,7 @@ fn a_meta_reads_back_equal(rt: HostRuntime) {
     assert!(rt; holds(plain_and_varied(rt.alloc()), "comes-back"));
 }
 
-// By any store, if its writers are those of the store that is lent.
+// For any store whose writers are those of the store that is passed.
 fn is_streamed<S: Storage>(alloc: Global, store: &mut S, key: &CacheKey) -> Result<bool> {
     let meta = meta_until(alloc, 300);
     let writer = store.get_miss_handler(alloc, key, &meta)?;
@@ -176,7 +176,7 @@ fn store_nothing(alloc: Global, store: &mut MemCache, key: &CacheKey) -> bool {
     }
 }
 
-// Whether so many slots stand in shard 14, and none in another.
+// Whether so many slots are in shard 14, and none in another.
 fn shards_have(store: &MemCache, slots: usize) -> bool {
     for shard in 0..16usize {
         let wanted = if shard == 14 { slots } else { 0 };
@@ -224,7 +224,7 @@ fn records_are(store: &MemCache, records: usize) -> bool {
     true
 }
 
-// A write of the plain key and one of the varied are kept in their shard, the first as long as its
+// A write of the plain key and one of the varied are kept in their shard, the first while its
 // reader names it.
 fn records_stand(it: &mut Two) -> Result<bool> {
     let meta = meta_until(it.alloc, 300);
@@ -241,7 +241,7 @@ fn records_stand(it: &mut Two) -> Result<bool> {
     }
 }
 
-// Whether a write of the varied key stands beside what the reader names, and then alone.
+// Whether a write of the varied key is kept beside what the reader names, and then alone.
 fn is_left(it: &mut Two, reader: MemHitHandler) -> Result<bool> {
     let meta = meta_until(it.alloc, 300);
     let second = it.store.get_miss_handler(it.alloc, &it.second, &meta);
@@ -322,7 +322,7 @@ fn is_exhausted(alloc: Global, store: &mut MemCache, key: &CacheKey) -> bool {
     }
 }
 
-// The last number is that of a body, and a write more is refused, each time, with nothing changed.
+// The last number is that of a body, and one more write fails, each time, with nothing changed.
 fn last_is_given_once(alloc: Global) -> Result<bool> {
     let key = key_of(alloc, "aa")?;
     let mut store = MemCache::starting_at(alloc, Seed::fixed(), u64::MAX);

@@ -3,7 +3,7 @@ use super::*;
 use rand::rngs::StdRng;
 use rand::{RngExt, SeedableRng};
 
-// A store, and a write of it beside the plain text of what it was handed.
+// A store, and a write of it beside the plain text of the bytes that it got.
 #[derive(Drop)]
 struct Plain {
     alloc: Global,

@@ -1,12 +1,16 @@
 //! Ends of freshness, why something is purged, and heads that were read.
+ghost use Rattle.pcache_put_ctx.specs.Policies.{SaysByDefault};
+ghost use Rattle.tests_of_stores.specs.Lifetimes.{IsSeconds};
+
 use super::*;
+use crate::lifetimes::{by_seconds, twenty_seconds};
 use http::StatusCode;
 use pcache_base::error::{Error, ErrorType};
 use pcache_control::{CacheMetaDefaults, RespCacheable};
 use pcache_evict::eviction::simple_lru::Manager;
 use pcache_meta::header::ResponseHeader;
 use pcache_put_ctx::context::CachePutCtx;
-use pcache_put_ctx::policy::{CachePut, default_cacheable};
+use pcache_put_ctx::policy::CachePut;
 use pcache_store::storage::PurgeType;
 use std::cell::Cell;
 
@@ -16,12 +20,8 @@ struct Twenty<'a> {
     shown: &'a Cell<u32>,
 }
 
-fn twenty_seconds(_status: StatusCode) -> Option<Duration> {
-    Some(Duration::from_secs(20))
-}
-
 impl CachePut for Twenty<'_> {
-    ghost says = { λ p header now answer. Unit {0} };
+    ghost says = { λ p. SaysByDefault (0, 0) (IsSeconds 20) };
 
     fn cacheable(
         &self,
@@ -29,12 +29,8 @@ impl CachePut for Twenty<'_> {
         header: ResponseHeader,
         now: Moment,
     ) -> Result<RespCacheable> {
-        default_cacheable(
-            alloc,
-            header,
-            &CacheMetaDefaults::new(twenty_seconds, 0, 0),
-            now,
-        )
+        let defaults = CacheMetaDefaults::new(twenty_seconds, 0, 0);
+        by_seconds(alloc, header, &defaults, now, 20)
     }
 
     fn trace_header(&self, header: &ResponseHeader) {
@@ -46,7 +42,7 @@ impl CachePut for Twenty<'_> {
 
 const RESPONSE: &[u8] = b"HTTP/1.1 200 OK\r\n\r\nfresh";
 
-// Pushes a response at this second, and tells how many heads its policy was shown.
+// Pushes a response at this second, and writes how many heads its policy was shown.
 fn pushes(parts: &mut Parts<Manager>, name: &str, second: u64) -> Result<u32> {
     let shown = Cell::new(0u32);
     let key = key_of(parts.alloc, name)?;
@@ -62,7 +58,7 @@ fn pushes(parts: &mut Parts<Manager>, name: &str, second: u64) -> Result<u32> {
     }
 }
 
-// Whether the manager is handed the end of freshness with each admission, the storage that it is an eviction, and the
+// Whether the manager gets the end of freshness with each admission, the storage that it is an eviction, and the
 // policy the head, once.
 fn are_told_of_puts(parts: &mut Parts<Manager>) -> Result<bool> {
     let shown = pushes(parts, "a", 100)?;
@@ -89,7 +85,7 @@ fn is_purged(parts: &mut Parts<Manager>, name: &str) -> Result<bool> {
     Ok(matches!(parts.store.purged(), Some(PurgeType::Invalidation)))
 }
 
-// Whether the manager is handed the end of freshness with a use and with the admission of a request's own, and the
+// Whether the manager gets the end of freshness with a use and with the admission of a request's own, and the
 // storage that a purge is an invalidation.
 fn are_told_of_requests(parts: &mut Parts<Manager>) -> Result<bool> {
     finds(parts, "b", HitStatus::Fresh)?;

@@ -2,8 +2,8 @@
 use super::*;
 use pcache_evict::eviction::simple_lru::Manager;
 
-// Finds a body twice, so that the second reader stands in place of the first, and ends the second. Tells how many were
-// finished and let go before the end and after it.
+// Finds a body twice, so that the second reader replaces the first, and ends the second. Writes how many were finished
+// and let go before the end and after it.
 fn reads(parts: &mut Parts<Manager>, request: &mut Request) -> Result<[(u32, u32); 2]> {
     takes(parts, request, HitStatus::Expired)?;
     takes(parts, request, HitStatus::Expired)?;

@@ -1,4 +1,5 @@
-//! Which entry goes once one of two was found: a hit is a use of its entry, and a hit that is treated as a miss is none.
+//! Which entry is evicted after one of two was found: a hit is a use of its entry, and a hit that is treated as a miss
+//! is not.
 use super::*;
 use pcache_evict::eviction::{sharded_lru, simple_lru};
 use pcache_policies::sieve;
@@ -9,7 +10,8 @@ fn is_tracked<M: EvictionManager>(parts: &Parts<M>, name: &str) -> Result<bool> 
     Ok(parts.manager.peek(&entry))
 }
 
-// Stores `a` and `b`, finds `a` as this, and stores `c`, of which two fit: tells which of the three stay.
+// Stores `a` and `b`, takes `a` with this status, and stores `c`, where two fit: writes which of the
+// three stay.
 fn stay<M: EvictionManager>(alloc: Global, list: M, status: HitStatus) -> Result<[bool; 3]> {
     let mut parts = parts_of(alloc, list);
     stores(&mut parts, "a", 200)?;

@@ -1,4 +1,4 @@
-//! A table of locks is told how a wait ended, once.
+//! A table of locks gets the outcome of a wait once.
 ghost use Rattle.pcache_lock.specs.declared.lock.status.LockStatus.TheVariants.{GiveUp};
 
 use super::*;
@@ -87,7 +87,7 @@ fn look(shared: &mut Shared, request: &mut Request) -> Result<()> {
     Ok(())
 }
 
-// Waits, if there is something to wait for, and tells whether the wait goes on.
+// Waits, if there is something to wait for, and writes whether the wait goes on.
 fn goes_on(shared: &mut Shared, request: &mut Request) -> Result<bool> {
     if !request.phase().is_on() || !request.is_cache_locked() {
         return Ok(false);

@@ -12,7 +12,7 @@ use pcache_table::hashtable::Table;
 use std::alloc::Global;
 use std::marker::Model;
 
-/// The writes that somebody names, and the number of the next one.
+/// The writes that a handler or a reader names, and the number of the next one.
 #[derive(Drop)]
 pub struct PlainWrites {
     writes: Table<PlainWrite>,
@@ -33,6 +33,7 @@ impl Model for PlainWrites {
 }
 
 impl PlainWrites {
+    /// No write yet.
     pub fn new(alloc: Global) -> PlainWrites
         ensures { result ≡ record { writes = map.empty; next = 0 } }
     {
@@ -42,6 +43,7 @@ impl PlainWrites {
         }
     }
 
+    /// The write with a number.
     pub fn get(&self, number: u128) -> Option<&PlainWrite>
         ensures { option_copied result ≡ map.get self.now.writes number }
     {
@@ -56,6 +58,7 @@ impl PlainWrites {
         u64::try_from(self.next).ok()
     }
 
+    /// Begins a write.
     pub fn begin(&mut self, draft: PlainWrite) -> Result<()>
         requires { self.old.next < 2 ^ 64 }
         ensures unused { map.get self.old.writes self.old.next ≡ None }
@@ -68,7 +71,7 @@ impl PlainWrites {
         Ok(())
     }
 
-    /// Takes the last begun write back, as if it had not begun.
+    /// Undoes the begin of the last write.
     pub fn take_back(&mut self)
         requires { 0 < self.old.next }
         ensures { self.new ≡ record { writes = map.remove self.old.writes (self.old.next - 1); next = self.old.next - 1 } }
@@ -77,6 +80,7 @@ impl PlainWrites {
         self.writes.remove(self.next);
     }
 
+    /// Adds bytes to a write.
     pub fn write(&mut self, number: u128, bytes: &Bytes, eof: bool) -> Result<()>
         ensures ok { OnOk result (self.new ≡ record self.old { writes = wrote_on self.old.writes number bytes.now eof (map.get self.old.writes number) }) }
         ensures kind { IfErr result (λ e. e ≡ OutOfMemory) }
@@ -85,7 +89,7 @@ impl PlainWrites {
         write(&mut self.writes, number, bytes, eof)
     }
 
-    /// A reader more of a write, and its meta.
+    /// One more reader of a write, and its meta.
     pub fn join(&mut self, alloc: Global, number: u128) -> Result<Option<CacheMeta>>
         ensures meta { IfOk result (λ m. m ≡ option_map (λ w. w.meta) (map.get self.old.writes number)) }
         ensures ok { OnOk result (self.new ≡ record self.old { writes = joined_on self.old.writes number (map.get self.old.writes number) }) }
@@ -96,7 +100,7 @@ impl PlainWrites {
         join(&mut self.writes, alloc, number)
     }
 
-    /// A reader less.
+    /// One reader less.
     pub fn leave(&mut self, number: u128)
         ensures { self.new ≡ record self.old { writes = left_on self.old.writes number (map.get self.old.writes number) } }
     {

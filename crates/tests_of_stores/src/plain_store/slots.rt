@@ -1,4 +1,4 @@
-//! What stands under a key, in a plain map.
+//! The slots of keys, in a plain map.
 ghost use Rattle.std.specs.Prelude.{◌≡◌, Option, Some, None, IsSome, IfOk, IfErr, OnOk, OnErr, length, option_map, is_some, true};
 ghost use Rattle.std.specs.FinMap as map;
 ghost use Rattle.pcache_base.specs.declared.error.ErrorType.TheVariants.{OutOfMemory};
@@ -31,7 +31,7 @@ impl Model for PlainBody {
     ghost view = { λ b. record { meta = b.meta; bytes = b.bytes } };
 }
 
-/// What stands under a key: a complete body, and the numbers of the writes in flight that met no removal.
+/// The slot of a key: its complete body, and the numbers of its writes in flight that met no removal.
 #[derive(Drop)]
 pub struct PlainSlot {
     pub(super) body: Option<PlainBody>,
@@ -145,7 +145,7 @@ pub fn shut(slots: &mut Table<PlainSlot>, key: u128, number: u128)
     }
 }
 
-/// A write of the key ends, and its body stands.
+/// A write of the key ends, and its body is stored.
 pub fn store(slots: &mut Table<PlainSlot>, key: u128, number: u128, body: PlainBody)
     ensures { slots.new ≡ stored_on slots.old key number body (map.get slots.old key) }
 {

@@ -63,7 +63,7 @@ fn one_body_a_key<S: Storage>(alloc: Global, store: &mut S) -> Result<bool> {
     Ok(!numbered && first && second && gone && again && none)
 }
 
-// Entries with a number name nothing, and those of a key alone what is there.
+// Entries with a number name nothing, and those without one name what is stored for the key.
 fn one_entry_a_key<S: Storage>(alloc: Global, store: &mut S) -> Result<bool> {
     let key = key_of(alloc, "bb")?;
     stores(alloc, store, &key, b"hi")?;

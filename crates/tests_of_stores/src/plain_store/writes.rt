@@ -13,7 +13,7 @@ use pcache_table::hashtable::Table;
 use std::alloc::Global;
 use std::marker::Model;
 
-/// A write, as long as its handler or a reader names it.
+/// A write, while its handler or a reader names it.
 #[derive(Drop)]
 pub struct PlainWrite {
     slot: u128,
@@ -36,6 +36,7 @@ impl Model for PlainWrite {
 }
 
 impl PlainWrite {
+    /// A new write of a slot.
     pub fn new(alloc: Global, slot: u128, meta: SpelledMeta) -> PlainWrite
         ensures { result ≡ new_write slot meta }
     {
@@ -49,24 +50,28 @@ impl PlainWrite {
         }
     }
 
+    /// The slot of its key.
     pub fn slot(&self) -> u128
         ensures { result ≡ self.now.slot }
     {
         self.slot
     }
 
+    /// The number of its bytes.
     pub fn len(&self) -> usize
         ensures { result ≡ length self.now.bytes }
     {
         self.text.len()
     }
 
+    /// Whether its end was announced (`eof`).
     pub fn is_told(&self) -> bool
         ensures { result ≡ self.now.told }
     {
         self.told
     }
 
+    /// Whether it is in flight.
     pub fn is_flying(&self) -> bool
         ensures { result ≡ self.now.flying }
     {

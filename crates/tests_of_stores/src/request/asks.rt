@@ -1,4 +1,4 @@
-//! What requests tell of themselves.
+//! The getters of requests.
 use super::*;
 use crate::rows::word;
 use bytes::Bytes;
@@ -9,7 +9,7 @@ use pcache_meta::header_text::reader::header_deserialize;
 use pcache_meta::header_text::writer::header_serialize;
 use pcache_store::storage::HandleHit;
 
-// Tells what is asked for, and answers whether anything is.
+/// Writes what the row asks for, and returns whether it asks for anything.
 pub fn tell(parts: &mut Parts, cache: &mut Request, call: &'static str, told: &mut Told) -> bool {
     match word(call, 1) {
         "may" => told.yes_or_no(may(cache, word(call, 2))),
@@ -95,7 +95,7 @@ fn is_named(cache: &Request) -> bool {
     cache.maybe_cache_key().is_some() && cache.cache_key().primary_key() == b"k".as_slice()
 }
 
-// What is told by a word or a number.
+// What the getters return that is a word or a number.
 fn shows(parts: &Parts, cache: &mut Request, what: &str, told: &mut Told) -> bool {
     match what {
         "word" => told.say(cache.phase().as_str()),
@@ -141,6 +141,7 @@ fn seconds(told: &mut Told, time: Option<Duration>) {
     }
 }
 
+/// The lock that a request holds, in a word.
 pub fn held(cache: &Request) -> &'static str {
     match cache.held() {
         Some(held) if held.is_write() => "permit",
@@ -259,12 +260,12 @@ fn waits(parts: &mut Parts, cache: &mut Request) -> bool {
         )
 }
 
-// Looks the key up, and tells what that told of itself.
+// Looks the key up, and writes the report of that.
 fn asked(parts: &mut Parts, cache: &mut Request, told: &mut Told) {
     look_before(parts, cache, &mut NoWitness, told);
 }
 
-// The same before a witness, of which it tells too.
+// The same with a witness, whose record it writes too.
 fn witnessed(parts: &mut Parts, cache: &mut Request, refuses: bool, told: &mut Told) {
     let mut witness = Weighing {
         weight: None,
@@ -277,7 +278,7 @@ fn witnessed(parts: &mut Parts, cache: &mut Request, refuses: bool, told: &mut T
     }
 }
 
-// Takes note of the weight of what a look-up finds, or refuses to.
+// Records the weight of what a look-up finds, or fails.
 #[derive(Drop)]
 struct Weighing {
     weight: Option<usize>,
@@ -380,7 +381,7 @@ fn is_text(text: Result<Vec<u8>>, wanted: &[u8]) -> bool {
     }
 }
 
-// Looks the key up, and tells the times of the meta that it finds.
+// Looks the key up, and writes the times of the meta that it finds.
 fn found_times(parts: &mut Parts, cache: &mut Request, told: &mut Told) {
     if !cache.phase().may_look_up() {
         return told.say("wrong");

@@ -8,6 +8,7 @@ use pcache_meta::trace::Span;
 use pcache_request::CacheOptionOverrides;
 use pcache_store::storage::HandleMiss;
 
+/// Makes the call of a row.
 pub fn make(parts: &mut Parts, cache: &mut Request, call: &'static str) -> Result<Said> {
     match word(call, 1) {
         "miss" => Ok(miss(cache)),
@@ -187,7 +188,7 @@ fn begin(parts: &mut Parts, cache: &mut Request) -> Result<Said> {
     Ok(made(may))
 }
 
-// Begins a write, and answers the lock that was released.
+// Begins a write, and returns the lock that was released.
 fn begin_telling(parts: &mut Parts, cache: &mut Request) -> Result<Said> {
     if !cache.may_write() {
         return Ok(word_of("wrong"));
@@ -230,7 +231,7 @@ fn finish(parts: &mut Parts, cache: &mut Request) -> Result<Said> {
     Ok(counted("stored", report.size as u64))
 }
 
-// Ends a write, and answers the lock that was released, or whether there was a write.
+// Ends a write, and returns the lock that was released, or whether there was a write.
 fn end_write(parts: &mut Parts, cache: &mut Request) -> Said {
     if !cache.phase().is_filling() {
         return word_of("wrong");
@@ -263,7 +264,7 @@ fn purge(parts: &mut Parts, cache: &mut Request) -> Result<Said> {
     Ok(there(was_there))
 }
 
-// What is removed goes from the manager, too.
+// What is removed is removed from the manager, too.
 fn removed(removal: Removal) -> Said {
     if removal.was_there() == removal.untracked.is_some() {
         there(removal.was_there())
@@ -347,7 +348,7 @@ fn hand(parts: &mut Parts, cache: &mut Request, permit: WritePermit) -> Said {
     gone(cache.set_write_lock(&mut parts.lock, permit))
 }
 
-// One request gives its permit to another.
+/// One request gives its permit to another.
 pub fn give(room: &mut Room, from: u64, to: u64) -> Said {
     let (_parts, cache) = room.at(from);
     match take_permit(cache) {
@@ -380,7 +381,7 @@ fn tag(cache: &mut Request) -> Said {
     made(may)
 }
 
-// Ends a request; a new one stands in its place.
+// Ends a request, and replaces it by a new one.
 fn end_request(parts: &mut Parts, cache: &mut Request) -> Said {
     let ended = std::mem::replace(cache, HttpCache::new(parts.alloc));
     gone(ended.end(&mut parts.store, &mut parts.lock))
@@ -418,7 +419,7 @@ fn updating(cache: &mut Request) -> Said {
     made(may)
 }
 
-// A new answer says that the body is good, and is not to be stored; the lock is released.
+// A new answer says that the body is still valid, and is not stored; the lock is released.
 fn uncacheable(parts: &mut Parts, cache: &mut Request, reason: NoCacheReason) -> Said {
     if !cache.may_revalidate() || !cache.may_release(reason) {
         return word_of("wrong");
@@ -479,7 +480,7 @@ fn became_cacheable(parts: &mut Parts, cache: &Request) -> Said {
     marked(cache.response_became_cacheable(&mut parts.predictor))
 }
 
-// The third request looks the key up, the second one renews the meta, and then the third takes what it found.
+/// The third request looks the key up, the second one renews the meta, and then the third takes what it found.
 pub fn renew_between(room: &mut Room, call: &'static str) -> Result<Said> {
     let parts = &mut room.parts;
     if !room.three.phase().may_look_up() {

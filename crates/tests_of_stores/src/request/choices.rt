@@ -97,13 +97,16 @@ fn sizes_predictions_and_decisions(rt: HostRuntime) {
     run(&rt, rt.alloc(), CHOICES);
 }
 
-// The head that was stored, the answer that says that the body is good, and the head that they make:
-// what the answer has stands in place, what it has not stays, and what it varies on is left alone.
+/// The head that was stored. With the answer that says that the body is still valid it makes a merged
+/// head: the fields that the answer has replace the old ones, the others stay, and what the response
+/// varies on is unchanged.
 pub const STORED: &str =
     "HTTP/1.1 200\r\netag: old\r\nvary: accept\r\ncache-control: max-age=1\r\n\r\n";
 
+/// The answer that says that the body is still valid.
 pub const ANSWER: &str =
     "HTTP/1.1 304\r\ncache-control: public\r\ncache-control: max-age=9\r\nvary: origin\r\ncache-tag: a\r\n\r\n";
 
+/// The head that the two make.
 pub const MERGED: &str =
     "HTTP/1.1 200\r\netag: old\r\nvary: accept\r\ncache-control: public\r\ncache-control: max-age=9\r\ncache-tag: a\r\n\r\n";

@@ -3,7 +3,7 @@ use super::*;
 use crate::rows::{size, some_byte, word};
 use pcache_store::storage::{HandleHit, Storage};
 
-// Makes the call, if it is one of these.
+/// Makes the call, if it is one of these.
 pub fn make(parts: &mut Parts, cache: &mut Request, call: &'static str) -> Result<Option<Said>> {
     let said = match word(call, 1) {
         "look" => look(parts, cache)?,
@@ -20,6 +20,7 @@ pub fn make(parts: &mut Parts, cache: &mut Request, call: &'static str) -> Resul
     Ok(Some(said))
 }
 
+/// The reader of the store in memory.
 pub type Hit = <MemCache as Storage>::Hit;
 
 // Lets go what was found.
@@ -40,7 +41,7 @@ fn look(parts: &mut Parts, cache: &mut Request) -> Result<Said> {
     Ok(found(parts, it))
 }
 
-// Looks the key up, and answers which lock is held if nothing is found.
+// Looks the key up, and returns which lock is held if nothing is found.
 fn ask(parts: &mut Parts, cache: &mut Request) -> Result<Said> {
     let said = look(parts, cache)?;
     Ok(if said.word == "none" {
@@ -107,6 +108,7 @@ fn take(parts: &mut Parts, cache: &mut Request, status: HitStatus) -> Result<Sai
     Ok(word_of("ok"))
 }
 
+/// Takes a found pair, or lets it go if the phase forbids that.
 pub fn take_pair(
     parts: &mut Parts,
     cache: &mut Request,

@@ -123,8 +123,8 @@ fn a_request_shows_a_stale_body(rt: HostRuntime) {
     run(&rt, rt.alloc(), SHOWN);
 }
 
-// The reader of a body of two bytes is sent to its second byte, and not past its end. Spans are there once
-// caching is on.
+// The reader of a body of two bytes is moved to its second byte, and not past its end. There are spans
+// once caching is on.
 const SOUGHT: &str = "
     1 enable
     1 key

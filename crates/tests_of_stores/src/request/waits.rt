@@ -121,7 +121,7 @@ fn requests_wait_for_one_another(rt: HostRuntime) {
     run(&rt, rt.alloc(), WAITS);
 }
 
-// A reader that was told tells so; another one waits on.
+// A reader that was told of a fill returns that; another one goes on waiting.
 const TOLD_OF: &str = "
     1 open
     1 ask -> permit

@@ -1,4 +1,5 @@
-//! A step whose contract says what holds whichever requests for memory are refused: it answers as a step does.
+//! A step whose contract says what holds whichever requests for memory are refused: its replies are those of a
+//! step.
 use crate::play::{Limits, next_call, tell_reply, world_of};
 use crate::script::{Clock, asked_of};
 use pcache_base::error;
@@ -10,7 +11,7 @@ use std::alloc::Global;
 use std::process::Abort;
 use std::test::Fail;
 
-// What is told of the calls of a text, each made by a bounded step.
+// The result of the calls of a text, each made by a bounded step.
 fn told(
     alloc: Global,
     world: &mut World<Manager, BySelf>,

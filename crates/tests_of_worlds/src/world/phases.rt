@@ -12,7 +12,8 @@ use pingora_cache::world::policy::BySelf;
 use std::alloc::Global;
 use std::test::Fail;
 
-// What another request calls before, to store a body under the key `k`. Nothing stands under `l`.
+// The calls that another request makes before, to store a body for the key `k`. Nothing is stored
+// for `l`.
 const STORING: &str = "open 2\n\
     key 2 k\n\
     look 2\n\
@@ -23,10 +24,10 @@ const STORING: &str = "open 2\n\
     finish 2\n\
     end 2\n";
 
-// Where a request stands, by the calls that lead there, with its phase: not open, disabled, new,
-// passed by, with its key, with a pair that a look-up gave, a hit, a miss, a miss with its meta, with
-// its write, stale, stale while another updates, expired, and revalidated, without a cacheable answer
-// and with one.
+// The states of a request, by the calls that lead there, with its phase: not open, disabled, new,
+// bypassed, with its key, with a pair that a look-up gave, a hit, a miss, a miss with its meta,
+// with its write, stale, stale while another updates, expired, and revalidated, without a cacheable
+// answer and with one.
 const STATES: &str = " -> WrongCall\n\
     open 1, disable 1 -> Phase(Disabled(InternalError))\n\
     open 1 -> Phase(Uninit)\n\
@@ -43,10 +44,10 @@ const STATES: &str = " -> WrongCall\n\
     open 1, key 1 k, look 1, found 1 expired, uncacheable 1 -> Phase(RevalidatedNoCache(InternalError))\n\
     open 1, key 1 k, look 1, found 1 expired, revalidate 1 -> Phase(Revalidated)\n";
 
-// For each call, what it answers in each of these states, in their order: `-` that it is a wrong
-// call, `+` that it is done, and a letter for another reply (`mark_of`). Written by hand from the
-// phase table. No other request holds the permit of its key, so none waits; if a look-up found
-// nothing, or what was found is stale, it holds the permit itself.
+// For each call, its reply in each of these states, in their order: `-` that it is a wrong call,
+// `+` that it is done, and a letter for another reply (`mark_of`). Written by hand from the phase
+// table. No other request holds the permit of its key, so none waits; if a look-up found nothing,
+// or what was found is stale, it holds the permit itself.
 const ROWS: &str = "+-------------- open 1\n\
     -+------------- enable 1\n\
     -++++++++++++++ disable 1\n\
@@ -123,7 +124,7 @@ fn lead(
     add(alloc, calls, call)
 }
 
-// What a new world answers to the last of these calls.
+// The reply of a new world to the last of these calls.
 fn last_reply(
     alloc: Global,
     state: &'static str,
@@ -145,7 +146,7 @@ fn last_reply_of(
     Ok(replies.pop())
 }
 
-// Tells what a call answers in each state.
+// Writes the reply to a call in each state.
 fn tell_row(alloc: Global, call: &'static str, told: &mut String) -> error::Result<()> {
     for state in STATES.lines() {
         let mark = match last_reply(alloc, state, call)? {

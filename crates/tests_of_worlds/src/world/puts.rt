@@ -6,7 +6,8 @@ use std::test::Fail;
 
 const NONE: &str = "";
 
-// What is pushed in is found as it comes, and at its end it stands as what a request filled does.
+// A response that is pushed in is found as it comes, and at its end it is stored like one that a
+// request filled.
 #[test]
 fn found_while_it_comes(rt: HostRuntime) -> Result<(), Fail> {
     let rows = "put 9 k -> Done\n\

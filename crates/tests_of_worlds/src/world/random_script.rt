@@ -43,7 +43,7 @@ enum Reader {
     Write(usize, usize),
 }
 
-// Where a request stands, as far as the calls of the script lead.
+// The state of a request, as far as the calls of the script lead.
 #[derive(Clone, Copy)]
 enum Phase {
     NotOpen,
@@ -73,7 +73,7 @@ impl Phase {
     }
 }
 
-// A request as its calls tell.
+// A request, as its calls show it.
 #[derive(Clone, Copy)]
 struct Asked {
     phase: Phase,
@@ -212,7 +212,7 @@ impl Past {
         false
     }
 
-    // The lengths of the standing bodies, added up, and how many there are.
+    // The sum of the lengths of the stored bodies, and how many there are.
     fn stored(&self) -> (u128, usize) {
         let mut stored = 0u128;
         let mut slots = 0usize;
@@ -226,7 +226,7 @@ impl Past {
         (stored, slots)
     }
 
-    // The earliest begun write of the key in flight that met no removal, else the standing body.
+    // The earliest begun write of the key in flight that met no removal, or else the stored body.
     fn find(&self, key: &str) -> Option<Reader> {
         for write in 0..self.began() {
             if self.is_untouched(write, key) && self.is_in_flight(write) {
@@ -256,7 +256,7 @@ impl Past {
         }
     }
 
-    // The permit goes to a request whose key has none; an older one is let go then.
+    // The permit goes to a request whose key has none; a lock held before is let go then.
     fn ask(&mut self, one: &mut Asked) -> Result<&'static str> {
         let is_taken = self.is_permitted(one.key);
         self.let_go(one.permit)?;
@@ -469,7 +469,7 @@ impl Past {
         }
     }
 
-    // Tells what a call answers.
+    // Writes the reply to a call.
     fn answer(&mut self, one: &mut Asked, step: Words, told: &mut String) -> Result<()> {
         if !self.may(one, step.call) {
             return tell(&["WrongCall"], told);
@@ -487,7 +487,7 @@ impl Past {
         }
     }
 
-    // Makes a call that answers nothing.
+    // Makes a call without a reply.
     fn do_it(&mut self, one: &mut Asked, step: Words) -> Result<()> {
         match step.call {
             "begin" => return self.begin(one),
@@ -576,7 +576,7 @@ impl Dice {
         high.checked_rem(count).unwrap_or(0)
     }
 
-    // One of these words, which stand between spaces.
+    // One of these words, which are separated by spaces.
     fn word(&mut self, of: &'static str) -> &'static str {
         let place = self.below(of.split(' ').count());
         of.split(' ').nth(place).unwrap_or("")
@@ -634,7 +634,7 @@ fn likely_to_fill(has_meta: bool, has_write: bool) -> &'static str {
     }
 }
 
-// Makes a call, which answers what the past says.
+// Makes a call, whose reply is what the past says.
 fn ask(
     rt: &impl Abort,
     world: &mut World<Manager, BySelf>,

@@ -1,4 +1,4 @@
-//! What the store keeps of writes goes with the requests and puts that name it.
+//! The store's records of writes are removed with the requests and puts that name them.
 use crate::play::{Limits, calls_of, world_of};
 use pcache_base::error;
 use pcache_base::seed::Seed;

@@ -1,5 +1,5 @@
-//! Worlds over the manager in shards. One shard leaves no choice of what goes, so its world answers
-//! as that over the simple manager does.
+//! Worlds over the manager in shards. One shard leaves no choice of what is evicted, so its world
+//! gives the same replies as that over the simple manager.
 use crate::play::{
     Limits, calls_of, play, play_on_both, play_on_policies, play_sharded, sharded_world_of,
 };
@@ -174,7 +174,7 @@ fn the_watermark(rt: HostRuntime) -> Result<(), Fail> {
     play_on_both(&rt, rt.alloc(), Limits::with_watermark(1000, 4), "", rows)
 }
 
-// The key `aa` and its variant stand in one shard of 16, of the store as of the manager: a purge of
+// The key `aa` and its variant are in one shard of 16, of the store and of the manager: a purge of
 // the one leaves the other.
 #[test]
 fn two_keys_of_one_shard(rt: HostRuntime) -> Result<(), Fail> {
@@ -260,7 +260,7 @@ fn true_look_ups(part: &[Entry], history: &[Entry]) -> usize {
     look_ups
 }
 
-// Makes the calls of a text, whatever they answer.
+// Makes the calls of a text, whatever the replies.
 fn make(
     alloc: Global,
     world: &mut World<Manager<2>, BySelf>,

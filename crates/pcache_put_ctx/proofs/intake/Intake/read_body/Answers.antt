@@ -2,7 +2,7 @@ use Rattle.std.proofs.Common.{Option, Result, Ok, ap, ◌∙◌}
 use Rattle.std.proofs.lemmas.Result.{err_from_is_err_and}
 use Rattle.pcache_base.specs.declared.error.ErrorType.{ErrorType}
 use Rattle.pcache_put_ctx.proofs.Bodies.{next_due, no_head, nothing_after, whole_at}
-use Rattle.pcache_put_ctx.specs.declared.brought.BodyPart.{BodyPart}
+use Rattle.pcache_put_ctx.specs.declared.reading.BodyPart.{BodyPart}
 use Rattle.pcache_put_ctx.specs.declared.brought.Brought.{Brought}
 use Rattle.pcache_put_ctx.specs.State.{limit_of}
 use Rattle.pcache_put_ctx.proofs.intake.Intake.read_body.Goals as goal

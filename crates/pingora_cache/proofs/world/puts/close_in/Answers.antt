@@ -3,6 +3,7 @@ use Rattle.pcache_base.specs.Key.{slot}
 use Rattle.pingora_cache.specs.PartFacts.{facts_in}
 use Rattle.pcache_history.specs.Held.{held_put}
 use Rattle.pcache_history.specs.Taking.{taking}
+use Rattle.pingora_cache.proofs.Evicting.{close-evicts, unwritten-evicts}
 use Rattle.pingora_cache.proofs.PutClosed.{quiet-end, unwritten-answers-as, unwritten-moves-as, written-answers-as, written-moves-as, tells-as-answered}
 use Rattle.pingora_cache.proofs.world.puts.close_in.Goals as goal
 
@@ -38,3 +39,13 @@ pub returns-in-None-clause-closes : goal.returns-in-None-clause-closes
 returns-in-None-clause-closes g c pieces f taken =
     tells-as-answered (taking c.args.ctx) c.args.parts.now.store c.end_put-end.new.storage (g.M.EvictionManager.limits c.args.parts.now.manager) (g.M.EvictionManager.tracked c.args.parts.now.manager) (g.M.EvictionManager.tracked c.end_put-end.new.eviction) c.end_put-end.result.end c.end_put-end.result.entry c.end_put-end.ensures.entry c.end_put-end.ensures.ends
     g.P.PutPolicy.says pieces f c.end_unwritten.result c.end_unwritten.ensures (c.end_put-end.ensures.tells pieces f taken)
+
+pub returns-in-Some-clause-evicted : goal.returns-in-Some-clause-evicted
+returns-in-Some-clause-evicted g c =
+    close-evicts (g.M.EvictionManager.tracked c.args.parts.now.manager) _ (g.M.EvictionManager.limits c.args.parts.now.manager) c.args.ctx.key c.args.ctx.parser c.args.parts.now.store c.end_put-end.new.storage (g.M.EvictionManager.tracked c.end_put-end.new.eviction) _ c.args.ctx.stage c.in-Some.write c.slot-slot.result c.end_put-end.result.end c.end_put-end.result.entry c.end_written.new.events.items
+    (sym c.write_of-write.ensures.write ∙ c.in-Some.is) c.end_put-end.ensures.ends c.end_put-end.ensures.entry c.end_put-end.ensures.evicted c.end_written.ensures.noted
+
+pub returns-in-None-clause-evicted : goal.returns-in-None-clause-evicted
+returns-in-None-clause-evicted g c =
+    unwritten-evicts (g.M.EvictionManager.tracked c.args.parts.now.manager) _ (g.M.EvictionManager.limits c.args.parts.now.manager) c.args.ctx.key c.args.ctx.parser c.args.parts.now.store c.end_put-end.new.storage (g.M.EvictionManager.tracked c.end_put-end.new.eviction) _ c.args.ctx.stage c.end_put-end.result.end c.args.events.now.items
+    (sym c.write_of-write.ensures.write ∙ c.in-None.is) c.end_put-end.ensures.evicted c.requires.none

@@ -1,7 +1,7 @@
 use Rattle.std.proofs.Common.{rules, refl}
 use Rattle.pcache_history.specs.declared.call.Act.TheVariants.{Feed}
 use Rattle.pingora_cache.specs.PartFacts.{facts_in}
-use Rattle.pingora_cache.proofs.PutTurns.{fed-turn, feeds-answered, none-answered, none-is-there, other-answered, puts-wrong}
+use Rattle.pingora_cache.proofs.PutTurns.{fed-turn, feeds-answered, ignores-nowhere, ignores-plain, none-answered, none-is-there, other-answered, puts-wrong}
 use Rattle.pingora_cache.proofs.TurnOf.{wrong-turned}
 use Rattle.pingora_cache.proofs.world.turn.feed.Goals as goal
 
@@ -10,14 +10,14 @@ returns-in_default-clause-turn g c world some =
     wrong-turned _ _ (Feed c.args.bytes.now c.args.now) _ _ _ _ _ _ _ (λ f. none-answered f (Feed c.args.bytes.now c.args.now) _ (search rules) (λ may. may)) (search rules) refl c.requires.none
 
 pub returns-in_default-clause-puts : goal.returns-in_default-clause-puts
-returns-in_default-clause-puts g c = puts-wrong _ (Feed c.args.bytes.now c.args.now) _ _ _ _ (refl, c.requires.none) (search rules)
+returns-in_default-clause-puts g c = puts-wrong _ (Feed c.args.bytes.now c.args.now) _ _ _ _ (refl, c.requires.none) (search rules) (ignores-nowhere (Feed c.args.bytes.now c.args.now) _ (search rules))
 
 pub returns-in-Request-clause-turn : goal.returns-in-Request-clause-turn
 returns-in-Request-clause-turn g c world some =
     wrong-turned _ _ (Feed c.args.bytes.now c.args.now) _ _ _ _ _ _ _ (λ f. other-answered f (Feed c.args.bytes.now c.args.now) _ c.in-Request.request (search rules) (none-is-there c.in-Request.request c.is_plain.ensures)) (search rules) refl c.requires.none
 
 pub returns-in-Request-clause-puts : goal.returns-in-Request-clause-puts
-returns-in-Request-clause-puts g c = puts-wrong _ (Feed c.args.bytes.now c.args.now) _ _ _ _ (refl, c.requires.none) (search rules)
+returns-in-Request-clause-puts g c = puts-wrong _ (Feed c.args.bytes.now c.args.now) _ _ _ _ (refl, c.requires.none) (search rules) (ignores-plain (Feed c.args.bytes.now c.args.now) _ c.in-Request.request (search rules) c.is_plain.ensures)
 
 pub returns-in-Put-clause-turn : goal.returns-in-Put-clause-turn
 returns-in-Put-clause-turn g c world some =

@@ -43,6 +43,7 @@ returns-clause-ok g c = record {
   start = search rules;
   limits = search rules;
   age = ap (λ (l : Log). l.age) c.self.view_is;
+  evicted = ap (λ (l : Log). l.evicted) c.self.view_is;
 }
 
 pub returns-clause-replies : goal.returns-clause-replies

@@ -1,10 +1,11 @@
-use Rattle.std.proofs.Common.{rules, ◌++◌, ◌∷◌, [], ◌∙◌, ap, sym, reverse, is_none}
+use Rattle.std.proofs.Common.{◌≡◌, subst, rules, ◌++◌, ◌∷◌, [], ◌∙◌, ap, sym, reverse, is_none}
 use Rattle.pcache_history.specs.Files.{only_loads}
-use Rattle.pcache_history.specs.Log.{Log}
+use Rattle.pcache_history.specs.Events.{evicted_by, tracked}
+use Rattle.pcache_history.specs.Log.{Log, events_in}
 use Rattle.pcache_history.proofs.LoadsLaw.{no-load}
 use Rattle.pingora_cache.proofs.FilesCalls.{other-late}
 use Rattle.pingora_cache.proofs.PutSound.{puts-same}
-use Rattle.pingora_cache.proofs.Worlds.{puts-step, same-age, sound-same, sound-step, started-once}
+use Rattle.pingora_cache.proofs.Worlds.{evicted-step, puts-step, same-age, sound-same, sound-step, started-once}
 use Rattle.pingora_cache.proofs.world.world_type.World.step_over_parts.Goals as goal
 
 pub invariant_of-self : goal.invariant_of-self
@@ -38,4 +39,6 @@ returns-clause-ok g c = record {
   start = search rules;
   limits = search rules;
   age = same-age _ _ _ _ _ _ _ _ _ _ _ c.self.inside.history.items c.args.call _ _ c.self.invariant.0 c.self.invariant.2 (search rules) c.act-reply.ensures.acts ∙ ap (λ (l : Log). l.age) c.self.view_is;
+  evicted = subst (λ (l : Log). g.M.EvictionManager.evicted c.act-reply.new.parts.manager ≡ evicted_by (tracked l.start (events_in l)) l.evicted c.act-reply.new.events.items) c.self.view_is
+      (evicted-step _ _ _ _ _ _ _ _ _ _ _ c.self.inside.history.items c.args.call _ _ _ _ c.self.invariant.0 c.self.invariant.2 (search rules) c.act-reply.ensures.acts c.act-reply.ensures.evicted);
 }

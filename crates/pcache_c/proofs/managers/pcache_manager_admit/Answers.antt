@@ -1,0 +1,13 @@
+use Rattle.pcache_evict.specs.declared.eviction.entry_key.CacheEntryKey.{CacheEntryKey}
+use Rattle.pcache_c.specs.Handles.{ChangesOf}
+use Rattle.pcache_c.specs.Managers.{Admits, as_manager}
+use Rattle.pcache_c.proofs.Changed.{changed, good}
+use Rattle.pcache_c.proofs.Given.{entry_good}
+use Rattle.pcache_c.proofs.managers.pcache_manager_admit.Goals as goal
+
+pub returns : goal.returns
+returns c =
+    good c.moment_of.result c.in-Some.fresh_until _ _ _ _ c.in-Some.is c.moment_of.ensures
+    (entry_good c.args.tag.now c.args.entry.now c.entry_from.result c.in-Ok.item c.admit-code.result _
+    (λ (k : CacheEntryKey). ChangesOf as_manager c.args.manager.now c.put.new.self c.admit-code.result (λ m n. Admits k c.args.weight m n c.admit-code.result)) c.in-Ok.is
+    (changed (λ o. o.value) c.take.result c.in-Some-take.object _ _ _ _ _ _ c.take.ensures.taken c.in-Some-take.is c.deref_mut.ensures.value c.put.ensures c.admit-code.ensures) _ _ c.entry_from.ensures)

@@ -1,0 +1,18 @@
+use Rattle.std.proofs.Common.{rules, refl}
+use Rattle.pcache_c.proofs.Outcomes.{outcome_done}
+use Rattle.pcache_c.proofs.requests.finish.Goals as goal
+
+pub returns-in-Ok-Some : goal.returns-in-Ok-Some
+returns-in-Ok-Some c =
+    outcome_done _ _ _ _ _ (search rules) (
+      c.in-Ok-Some.report,
+      refl,
+      search rules,
+      record {
+        request = c.finish_miss_handler.ensures.request;
+        end = rw c.in-Ok-Some.field-0-is at c.in-Ok-Some.ensures.end;
+        evicted = rw c.in-Ok-Some.field-0-is at c.in-Ok-Some.ensures.evicted;
+        limits = c.finish_miss_handler.ensures.limits;
+        rest = (refl, refl, refl);
+      },
+    )

@@ -1,0 +1,45 @@
+-- What the calls on a cache as a whole do (own).
+use Rattle.std.specs.Prelude.{◌≡◌, ◌⊎◌, ◌-◌, ◌^◌, ◌≤◌, ℕ, List, Option, None, Some, min}
+use Rattle.std.specs.FinMap.{len}
+use Rattle.pcache_base.specs.Key.{Key}
+use Rattle.pcache_cache.specs.Parts.{Parts}
+use Rattle.pcache_evict.specs.Listed.{empty_list}
+use Rattle.pcache_evict.specs.Tracked.{weight}
+use Rattle.pcache_meta.specs.Meta.{Meta}
+use Rattle.pcache_store.specs.Totals.{slots, stored_bytes}
+use Rattle.pcache_c.specs.Codes.{no_memory, nothing}
+use Rattle.pcache_c.specs.Handles.{Fills, IsSame}
+use Rattle.pcache_c.specs.Opening.{new_cache}
+use Rattle.pcache_c.specs.Seats.{request_at}
+use Rattle.pcache_c.specs.declared.caches.PcacheCacheCounts.{PcacheCacheCounts}
+use Rattle.pcache_c.specs.declared.handle.PcacheHandle.{PcacheHandle}
+use Rattle.pcache_c.specs.declared.object.Object.TheVariants as object
+use Rattle.pcache_c.specs.declared.served.Served.{Served}
+
+-- a key of these bytes, for the user with this tag
+abbrev pub key_with : List ℕ → List ℕ → Key
+key_with primary tag = record { primary = primary; primary_override = None; variance = None; user_tag = tag; unusable = None }
+
+-- a cache in which nothing is stored, and of which no request is open
+pub record IsNewCache (limit : ℕ) (watermark : Option ℕ) (age : ℕ) (s : Served) : Type 0 where
+  pub parts : s.cache ≡ new_cache (empty_list limit watermark) age
+  pub none : (number : ℕ) → request_at s.seats number ≡ None
+
+-- a handle gets a new cache, or there was no memory for its manager
+abbrev pub MakesCache : ℕ → Option ℕ → ℕ → PcacheHandle → PcacheHandle → ℕ → Type 0
+MakesCache limit watermark age old new code = ((code ≡ no_memory) × IsSame old new) ⊎ ((s : Served) × IsNewCache limit watermark age s × Fills (object.Cache s) old new code)
+
+pub record SaysCounts (c : Parts) (out : PcacheCacheCounts) : Type 0 where
+  pub stored : out.stored_bytes ≡ min (stored_bytes c.store) (2 ^ 64 - 1)
+  -- within the limit, at all times
+  pub within : stored_bytes c.store ≤ c.limits.weight
+  pub bodies : out.bodies ≡ slots c.store
+  pub weight : out.weight ≡ min (weight c.tracked) (2 ^ 64 - 1)
+  pub entries : out.entries ≡ len c.tracked
+  pub evicted_weight : out.evicted_weight ≡ c.evicted.weight
+  pub evicted_entries : out.evicted_entries ≡ c.evicted.count
+
+-- a handle gets a copy of a meta, if there is one
+abbrev pub CopiesMeta : Option Meta → PcacheHandle → PcacheHandle → ℕ → Type 0
+CopiesMeta None old new code = (code ≡ nothing) × IsSame old new
+CopiesMeta (Some m) old new code = ((code ≡ no_memory) × IsSame old new) ⊎ Fills (object.Meta m) old new code

@@ -1,0 +1,53 @@
+-- How requests of a cache are opened and ended (own).
+use Rattle.std.specs.Prelude.{◌≡◌, ◌⊎◌, ℕ, List, [], Option, None, Some, true, false}
+use Rattle.std.specs.FinMap.{empty}
+use Rattle.pcache_base.specs.Key.{Key}
+use Rattle.pcache_cache.specs.Parts.{Parts}
+use Rattle.pcache_evict.specs.Listed.{Listed, map_of}
+use Rattle.pcache_lock.specs.Locks.{no_locks}
+use Rattle.pcache_request.specs.Requests.{dropped_by, enabled_with, left_by, let_go_by, new_request, with_key}
+use Rattle.pcache_c.specs.Codes.{bad_handle, no_memory, ok, wrong_kind}
+use Rattle.pcache_c.specs.Requests.{KeepsManager, left_found, pair_found}
+use Rattle.pcache_c.specs.Seats.{AreSame, IsGone, IsSet, request_at}
+use Rattle.pcache_c.specs.declared.object.Object.{Object}
+use Rattle.pcache_c.specs.declared.object.Object.TheVariants as object
+use Rattle.pcache_c.specs.declared.served.Open.{Open}
+use Rattle.pcache_c.specs.declared.served.Served.{Served}
+
+-- a cache over a manager with one list, with nothing stored, whose permits age out after so many nanoseconds
+abbrev pub new_cache : Listed → ℕ → Parts
+new_cache m age = record { store = record { slots = empty; writes = empty; next = 0 }; tracked = map_of m.entries; limits = m.limits; evicted = m.evicted; locks = no_locks age }
+
+-- a request of a key before its look-up
+pub record IsNew (key : Key) (o : Open) : Type 0 where
+  pub request : o.request.cache ≡ with_key key (enabled_with (record { eviction = true; predictor = false; lock = true }) new_request)
+  pub found : o.found ≡ None
+  pub piece : o.piece ≡ []
+
+-- a request of a key is open under a number that none had, or there was no memory for it
+pub record OpensRequest (key : Key) (s t : Served) (number code : ℕ) : Type 0 where
+  pub cache : t.cache ≡ s.cache
+  pub how : ((code ≡ ok) × (request_at s.seats number ≡ None) × (o : Open) × IsNew key o × IsSet number o s.seats t.seats) ⊎ ((code ≡ no_memory) × AreSame s.seats t.seats)
+
+abbrev pub Opens : Key → Object → Object → ℕ → ℕ → Type 0
+Opens key (object.Cache s) new number code = (t : Served) × (new ≡ object.Cache t) × OpensRequest key s t number code
+Opens key old new number code = (code ≡ wrong_kind) × (new ≡ old)
+
+-- a request gives back what it holds: what a look-up found, its write, its reader and its lock
+pub record EndsRequest (c d : Parts) (o : Open) : Type 0 where
+  pub store : d.store ≡ left_by o.request.cache.reader (dropped_by o.request.cache.write (left_found (pair_found o) c.store))
+  pub table : d.locks ≡ let_go_by o.request.cache.held c.locks
+  pub parts : KeepsManager c d
+
+-- the request of a number is ended, if there is one
+abbrev pub EndsOpen : Option Open → Parts → Parts → ℕ → Type 0
+EndsOpen None c d code = (code ≡ bad_handle) × (d ≡ c)
+EndsOpen (Some o) c d code = (code ≡ ok) × EndsRequest c d o
+
+pub record EndsNumber (number : ℕ) (s t : Served) (code : ℕ) : Type 0 where
+  pub cache : EndsOpen (request_at s.seats number) s.cache t.cache code
+  pub gone : IsGone number s.seats t.seats
+
+abbrev pub Ends : ℕ → Object → Object → ℕ → Type 0
+Ends number (object.Cache s) new code = (t : Served) × (new ≡ object.Cache t) × EndsNumber number s t code
+Ends number old new code = (code ≡ wrong_kind) × (new ≡ old)

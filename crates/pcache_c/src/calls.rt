@@ -1,0 +1,324 @@
+//! The calls on a request, for C.
+ghost use Rattle.std.specs.Prelude.{◌≡◌, Option};
+ghost use Rattle.pcache_base.specs.declared.reason.NoCacheReason.{NoCacheReason};
+ghost use Rattle.pcache_request.specs.declared.phase.HitStatus.{HitStatus};
+ghost use Rattle.pcache_c.specs.Codes.{OnGood, is_flag, moment_at, nonempty, variance_at};
+ghost use Rattle.pcache_c.specs.Handles.{IsSame};
+ghost use Rattle.pcache_c.specs.Numbers.{IsNumber, reason_number, status_number};
+ghost use Rattle.pcache_c.specs.Reached.{OnRequest};
+ghost use Rattle.pcache_c.specs.Requests.{Adds, Begins, EndsHit, Expires, Finishes, Looks, Misses, Passes, Purges, Reads, Releases, Takes, TurnsOff, Varies, Waits};
+
+use crate::codes::{BAD_HANDLE, BAD_VALUE};
+use crate::handle::PcacheHandle;
+use crate::hashes::variance_from;
+use crate::metas::moment_of;
+use crate::{reached, requests};
+use std::alloc::Global;
+
+/// Asks the store at a moment, and the lock table if nothing is handed on. Says whether something was
+/// found, 1 or 0: that stays with the request until it is taken or passed.
+#[unsafe(no_mangle)]
+pub extern "C" fn pcache_request_look(
+    alloc: Global,
+    cache: &mut PcacheHandle,
+    request: u64,
+    now_secs: u64,
+    now_nanos: u32,
+    found: &mut u32,
+) -> u32
+    ensures { OnGood (moment_at now_secs now_nanos) result (IsSame cache.old cache.new) (λ now.
+        OnRequest request cache.old cache.new result (λ c d o p. Looks now c d o p found.new result)) }
+{
+    let Some(now) = moment_of(now_secs, now_nanos) else {
+        return BAD_VALUE;
+    };
+    let Some(mut object) = cache.take(alloc) else {
+        return BAD_HANDLE;
+    };
+    let code = reached::look(&mut *object, request, now, found);
+    cache.put(object);
+    code
+}
+
+/// Takes what a look-up found, as what it is worth by the number that the header has.
+#[unsafe(no_mangle)]
+pub extern "C" fn pcache_request_take(
+    alloc: Global,
+    cache: &mut PcacheHandle,
+    request: u64,
+    status: u32,
+    now_secs: u64,
+    now_nanos: u32,
+) -> u32
+    ensures { OnGood (moment_at now_secs now_nanos) result (IsSame cache.old cache.new) (λ now.
+        (s : Option HitStatus) × IsNumber status_number 7 status s × OnGood s result (IsSame cache.old cache.new) (λ worth.
+        OnRequest request cache.old cache.new result (λ c d o p. Takes worth now c d o p result))) }
+{
+    let Some(now) = moment_of(now_secs, now_nanos) else {
+        return BAD_VALUE;
+    };
+    let Some(status) = requests::status_of(status) else {
+        return BAD_VALUE;
+    };
+    let Some(mut object) = cache.take(alloc) else {
+        return BAD_HANDLE;
+    };
+    let code = reached::take(&mut *object, request, status, now);
+    cache.put(object);
+    code
+}
+
+/// Lets go what a look-up found.
+#[unsafe(no_mangle)]
+pub extern "C" fn pcache_request_pass(alloc: Global, cache: &mut PcacheHandle, request: u64) -> u32
+    ensures { OnRequest request cache.old cache.new result (λ c d o p. Passes c d o p result) }
+{
+    let Some(mut object) = cache.take(alloc) else {
+        return BAD_HANDLE;
+    };
+    let code = reached::pass(&mut *object, request);
+    cache.put(object);
+    code
+}
+
+/// Goes on as a miss.
+#[unsafe(no_mangle)]
+pub extern "C" fn pcache_request_miss(alloc: Global, cache: &mut PcacheHandle, request: u64) -> u32
+    ensures { OnRequest request cache.old cache.new result (λ c d o p. (d ≡ c) × Misses o p result) }
+{
+    let Some(mut object) = cache.take(alloc) else {
+        return BAD_HANDLE;
+    };
+    let code = reached::miss(&mut *object, request);
+    cache.put(object);
+    code
+}
+
+/// Sets what the response varies on: a hash of 16 bytes, or of none for nothing.
+#[unsafe(no_mangle)]
+pub extern "C" fn pcache_request_vary(
+    alloc: Global,
+    cache: &mut PcacheHandle,
+    request: u64,
+    variance: &[u8],
+) -> u32
+    ensures { OnGood (variance_at variance.now) result (IsSame cache.old cache.new) (λ v.
+        OnRequest request cache.old cache.new result (λ c d o p. Varies v c d o p result)) }
+{
+    let variance = match variance_from(variance) {
+        Ok(variance) => variance,
+        Err(code) => return code,
+    };
+    let Some(mut object) = cache.take(alloc) else {
+        return BAD_HANDLE;
+    };
+    let code = reached::vary(&mut *object, request, variance);
+    cache.put(object);
+    code
+}
+
+/// Begins the write. From here on others read the body while it comes.
+#[unsafe(no_mangle)]
+pub extern "C" fn pcache_request_begin(alloc: Global, cache: &mut PcacheHandle, request: u64) -> u32
+    ensures { OnRequest request cache.old cache.new result (λ c d o p. Begins c d o p result) }
+{
+    let Some(mut object) = cache.take(alloc) else {
+        return BAD_HANDLE;
+    };
+    let code = reached::begin(&mut *object, request);
+    cache.put(object);
+    code
+}
+
+/// Adds bytes to the write, and says whether they are the last.
+#[unsafe(no_mangle)]
+pub extern "C" fn pcache_request_write(
+    alloc: Global,
+    cache: &mut PcacheHandle,
+    request: u64,
+    bytes: &[u8],
+    eof: u32,
+) -> u32
+    ensures { OnRequest request cache.old cache.new result (λ c d o p. Adds bytes.now (is_flag eof) c d o p result) }
+{
+    let Some(mut object) = cache.take(alloc) else {
+        return BAD_HANDLE;
+    };
+    let code = reached::write(&mut *object, request, alloc, bytes, eof != 0);
+    cache.put(object);
+    code
+}
+
+/// Ends the write and stores the body. Says how many bytes it has, and how many entries were evicted
+/// for it, whose bodies are gone. There is nothing to end without a write.
+#[unsafe(no_mangle)]
+pub extern "C" fn pcache_request_finish(
+    alloc: Global,
+    cache: &mut PcacheHandle,
+    request: u64,
+    stored: &mut usize,
+    evicted: &mut usize,
+) -> u32
+    ensures { OnRequest request cache.old cache.new result (λ c d o p. Finishes stored.new evicted.new c d o p result) }
+{
+    let Some(mut object) = cache.take(alloc) else {
+        return BAD_HANDLE;
+    };
+    let code = reached::finish(&mut *object, request, stored, evicted);
+    cache.put(object);
+    code
+}
+
+/// Reads on, to a buffer that has room for a byte at least. Says how many bytes it wrote, and what is
+/// to come: 1 if it wrote some, 0 at the end, 2 if nothing is there yet.
+#[unsafe(no_mangle)]
+pub extern "C" fn pcache_request_read(
+    alloc: Global,
+    cache: &mut PcacheHandle,
+    request: u64,
+    out: &mut [u8],
+    len: &mut usize,
+    more: &mut u32,
+) -> u32
+    ensures { OnGood (nonempty out.old) result (IsSame cache.old cache.new × (out.new ≡ out.old)) (λ room.
+        OnRequest request cache.old cache.new result (λ c d o p. Reads room out.new len.new more.new c d o p result)) }
+{
+    if out.is_empty() {
+        return BAD_VALUE;
+    }
+    let Some(mut object) = cache.take(alloc) else {
+        return BAD_HANDLE;
+    };
+    let code = reached::read(&mut *object, request, out, len, more);
+    cache.put(object);
+    code
+}
+
+/// Ends the reader.
+#[unsafe(no_mangle)]
+pub extern "C" fn pcache_request_finish_hit(
+    alloc: Global,
+    cache: &mut PcacheHandle,
+    request: u64,
+) -> u32
+    ensures { OnRequest request cache.old cache.new result (λ c d o p. EndsHit c d o p result) }
+{
+    let Some(mut object) = cache.take(alloc) else {
+        return BAD_HANDLE;
+    };
+    let code = reached::finish_hit(&mut *object, request);
+    cache.put(object);
+    code
+}
+
+/// Whether the wait for the lock is over at a moment: 0 if it is not, else how it ended by the number
+/// that the header has.
+#[unsafe(no_mangle)]
+pub extern "C" fn pcache_request_wait(
+    alloc: Global,
+    cache: &mut PcacheHandle,
+    request: u64,
+    now_secs: u64,
+    now_nanos: u32,
+    outcome: &mut u32,
+) -> u32
+    ensures { OnGood (moment_at now_secs now_nanos) result (IsSame cache.old cache.new) (λ now.
+        OnRequest request cache.old cache.new result (λ c d o p. Waits now outcome.new c d o p result)) }
+{
+    let Some(now) = moment_of(now_secs, now_nanos) else {
+        return BAD_VALUE;
+    };
+    let Some(mut object) = cache.take(alloc) else {
+        return BAD_HANDLE;
+    };
+    let code = reached::wait(&mut *object, request, now, outcome);
+    cache.put(object);
+    code
+}
+
+/// Releases the permit, with what the reason tells those who wait.
+#[unsafe(no_mangle)]
+pub extern "C" fn pcache_request_release(
+    alloc: Global,
+    cache: &mut PcacheHandle,
+    request: u64,
+    reason: u32,
+) -> u32
+    ensures { (r : Option NoCacheReason) × IsNumber reason_number 13 reason r × OnGood r result (IsSame cache.old cache.new) (λ why.
+        OnRequest request cache.old cache.new result (λ c d o p. Releases why c d o p result)) }
+{
+    let Some(reason) = requests::reason_of(reason) else {
+        return BAD_VALUE;
+    };
+    let Some(mut object) = cache.take(alloc) else {
+        return BAD_HANDLE;
+    };
+    let code = reached::release(&mut *object, request, reason);
+    cache.put(object);
+    code
+}
+
+/// Turns caching off for a request, and gives back all that it holds.
+#[unsafe(no_mangle)]
+pub extern "C" fn pcache_request_disable(
+    alloc: Global,
+    cache: &mut PcacheHandle,
+    request: u64,
+    reason: u32,
+) -> u32
+    ensures { (r : Option NoCacheReason) × IsNumber reason_number 13 reason r × OnGood r result (IsSame cache.old cache.new) (λ why.
+        OnRequest request cache.old cache.new result (λ c d o p. TurnsOff why c d o p result)) }
+{
+    let Some(reason) = requests::reason_of(reason) else {
+        return BAD_VALUE;
+    };
+    let Some(mut object) = cache.take(alloc) else {
+        return BAD_HANDLE;
+    };
+    let code = reached::disable(&mut *object, request, reason);
+    cache.put(object);
+    code
+}
+
+/// Removes what stands under a request's key: the body, and what is being written. Says whether
+/// anything was there, 1 or 0.
+#[unsafe(no_mangle)]
+pub extern "C" fn pcache_request_purge(
+    alloc: Global,
+    cache: &mut PcacheHandle,
+    request: u64,
+    was: &mut u32,
+) -> u32
+    ensures { OnRequest request cache.old cache.new result (λ c d o p. Purges was.new c d o p result) }
+{
+    let Some(mut object) = cache.take(alloc) else {
+        return BAD_HANDLE;
+    };
+    let code = reached::purge(&mut *object, request, was);
+    cache.put(object);
+    code
+}
+
+/// Ends the freshness of what stands under a request's key. Says whether a body was there, 1 or 0.
+#[unsafe(no_mangle)]
+pub extern "C" fn pcache_request_expire(
+    alloc: Global,
+    cache: &mut PcacheHandle,
+    request: u64,
+    now_secs: u64,
+    now_nanos: u32,
+    was: &mut u32,
+) -> u32
+    ensures { OnGood (moment_at now_secs now_nanos) result (IsSame cache.old cache.new) (λ now.
+        OnRequest request cache.old cache.new result (λ c d o p. Expires now was.new c d o p result)) }
+{
+    let Some(now) = moment_of(now_secs, now_nanos) else {
+        return BAD_VALUE;
+    };
+    let Some(mut object) = cache.take(alloc) else {
+        return BAD_HANDLE;
+    };
+    let code = reached::expire(&mut *object, request, now, was);
+    cache.put(object);
+    code
+}

@@ -1,0 +1,311 @@
+//! The calls on a request, by its number in the cache of an object.
+ghost use Rattle.std.specs.Prelude.{◌≡◌};
+ghost use Rattle.pcache_c.specs.Codes.{code_in};
+ghost use Rattle.pcache_c.specs.Numbers.{held_number, phase_number};
+ghost use Rattle.pcache_c.specs.Opening.{Ends, Opens};
+ghost use Rattle.pcache_c.specs.Reached.{OnNumber};
+ghost use Rattle.pcache_c.specs.Requests.{Adds, Begins, CopyOf, EndsHit, Expires, Finishes, IsUnchanged, Looks, Misses, Passes, Purges, Reads, Releases, Renews, SetsMeta, Takes, TurnsOff, Varies, Waits, meta_shown};
+
+use crate::codes::{BAD_HANDLE, OK, WRONG_KIND};
+use crate::object::Object;
+use crate::requests;
+use crate::served::Served;
+use pcache_base::key::{CacheKey, HashBinary};
+use pcache_base::moment::Moment;
+use pcache_base::reason::NoCacheReason;
+use pcache_meta::meta::CacheMeta;
+use pcache_request::phase::HitStatus;
+use std::alloc::Global;
+
+/// Opens a request of a key, and says its number.
+pub(crate) fn open(object: &mut Object, alloc: Global, key: CacheKey, number: &mut u64) -> u32
+    ensures { Opens key object.old object.new number.new result }
+{
+    match object {
+        Object::Cache(served) => served.open(alloc, key, number),
+        _ => WRONG_KIND,
+    }
+}
+
+/// Ends a request.
+pub(crate) fn end(object: &mut Object, number: u64) -> u32
+    ensures { Ends number object.old object.new result }
+{
+    match object {
+        Object::Cache(served) => served.end(number),
+        _ => WRONG_KIND,
+    }
+}
+
+/// The number of where the request stands.
+pub(crate) fn phase(object: &mut Object, number: u64, out: &mut u32) -> u32
+    ensures { OnNumber number object.old object.new result (λ c d o p. IsUnchanged c d o p × (result ≡ 0) × (out.new ≡ phase_number o.request.cache.phase)) }
+{
+    let Object::Cache(Served { cache: _, seats }) = object else {
+        return WRONG_KIND;
+    };
+    let Some(request) = seats.find(number) else {
+        return BAD_HANDLE;
+    };
+    *out = requests::number_of_phase(request.request.cache.phase());
+    OK
+}
+
+/// The number of what the request holds of its lock.
+pub(crate) fn held(object: &mut Object, number: u64, out: &mut u32) -> u32
+    ensures { OnNumber number object.old object.new result (λ c d o p. IsUnchanged c d o p × (result ≡ 0) × (out.new ≡ held_number o.request.cache.held)) }
+{
+    let Object::Cache(Served { cache: _, seats }) = object else {
+        return WRONG_KIND;
+    };
+    let Some(request) = seats.find(number) else {
+        return BAD_HANDLE;
+    };
+    *out = requests::number_of_held(request);
+    OK
+}
+
+/// Asks the store.
+pub(crate) fn look(object: &mut Object, number: u64, now: Moment, found: &mut u32) -> u32
+    ensures { OnNumber number object.old object.new result (λ c d o p. Looks now c d o p found.new result) }
+{
+    let Object::Cache(served) = object else {
+        return WRONG_KIND;
+    };
+    let Some(request) = served.seats.find(number) else {
+        return BAD_HANDLE;
+    };
+    requests::look(&mut served.cache, request, now, found)
+}
+
+/// Takes what a look-up found.
+pub(crate) fn take(object: &mut Object, number: u64, status: HitStatus, now: Moment) -> u32
+    ensures { OnNumber number object.old object.new result (λ c d o p. Takes status now c d o p result) }
+{
+    let Object::Cache(served) = object else {
+        return WRONG_KIND;
+    };
+    let Some(request) = served.seats.find(number) else {
+        return BAD_HANDLE;
+    };
+    requests::take(&mut served.cache, request, status, now)
+}
+
+/// Lets go what a look-up found.
+pub(crate) fn pass(object: &mut Object, number: u64) -> u32
+    ensures { OnNumber number object.old object.new result (λ c d o p. Passes c d o p result) }
+{
+    let Object::Cache(served) = object else {
+        return WRONG_KIND;
+    };
+    let Some(request) = served.seats.find(number) else {
+        return BAD_HANDLE;
+    };
+    requests::pass(&mut served.cache, request)
+}
+
+/// Goes on as a miss.
+pub(crate) fn miss(object: &mut Object, number: u64) -> u32
+    ensures { OnNumber number object.old object.new result (λ c d o p. (d ≡ c) × Misses o p result) }
+{
+    let Object::Cache(Served { cache: _, seats }) = object else {
+        return WRONG_KIND;
+    };
+    let Some(request) = seats.find(number) else {
+        return BAD_HANDLE;
+    };
+    requests::miss(request)
+}
+
+/// Takes a copy of a meta for what is to be stored.
+pub(crate) fn set_meta(object: &mut Object, number: u64, meta: &CacheMeta) -> u32
+    ensures { OnNumber number object.old object.new result (λ c d o p. (d ≡ c) × SetsMeta meta.now o p result) }
+{
+    let Object::Cache(Served { cache: _, seats }) = object else {
+        return WRONG_KIND;
+    };
+    let Some(request) = seats.find(number) else {
+        return BAD_HANDLE;
+    };
+    requests::set_meta(request, meta)
+}
+
+/// Renews a stale body.
+pub(crate) fn renew(object: &mut Object, number: u64, meta: &CacheMeta) -> u32
+    ensures { OnNumber number object.old object.new result (λ c d o p. Renews meta.now c d o p result) }
+{
+    let Object::Cache(served) = object else {
+        return WRONG_KIND;
+    };
+    let Some(request) = served.seats.find(number) else {
+        return BAD_HANDLE;
+    };
+    requests::renew(&mut served.cache, request, meta)
+}
+
+/// Sets what the response varies on.
+pub(crate) fn vary(object: &mut Object, number: u64, variance: Option<HashBinary>) -> u32
+    ensures { OnNumber number object.old object.new result (λ c d o p. Varies variance c d o p result) }
+{
+    let Object::Cache(served) = object else {
+        return WRONG_KIND;
+    };
+    let Some(request) = served.seats.find(number) else {
+        return BAD_HANDLE;
+    };
+    requests::vary(&mut served.cache, request, variance)
+}
+
+/// Begins the write.
+pub(crate) fn begin(object: &mut Object, number: u64) -> u32
+    ensures { OnNumber number object.old object.new result (λ c d o p. Begins c d o p result) }
+{
+    let Object::Cache(served) = object else {
+        return WRONG_KIND;
+    };
+    let Some(request) = served.seats.find(number) else {
+        return BAD_HANDLE;
+    };
+    requests::begin(&mut served.cache, request)
+}
+
+/// Adds bytes to the write.
+pub(crate) fn write(object: &mut Object, number: u64, alloc: Global, bytes: &[u8], eof: bool) -> u32
+    ensures { OnNumber number object.old object.new result (λ c d o p. Adds bytes.now eof c d o p result) }
+{
+    let Object::Cache(served) = object else {
+        return WRONG_KIND;
+    };
+    let Some(request) = served.seats.find(number) else {
+        return BAD_HANDLE;
+    };
+    requests::write(alloc, &mut served.cache, request, bytes, eof)
+}
+
+/// Ends the write.
+pub(crate) fn finish(
+    object: &mut Object,
+    number: u64,
+    stored: &mut usize,
+    evicted: &mut usize,
+) -> u32
+    ensures { OnNumber number object.old object.new result (λ c d o p. Finishes stored.new evicted.new c d o p result) }
+{
+    let Object::Cache(served) = object else {
+        return WRONG_KIND;
+    };
+    let Some(request) = served.seats.find(number) else {
+        return BAD_HANDLE;
+    };
+    requests::finish(&mut served.cache, request, stored, evicted)
+}
+
+/// Reads on.
+pub(crate) fn read(
+    object: &mut Object,
+    number: u64,
+    out: &mut [u8],
+    len: &mut usize,
+    more: &mut u32,
+) -> u32
+    ensures { OnNumber number object.old object.new result (λ c d o p. Reads out.old out.new len.new more.new c d o p result) }
+{
+    let Object::Cache(served) = object else {
+        return WRONG_KIND;
+    };
+    let Some(request) = served.seats.find(number) else {
+        return BAD_HANDLE;
+    };
+    requests::read(&mut served.cache, request, out, len, more)
+}
+
+/// Ends the reader.
+pub(crate) fn finish_hit(object: &mut Object, number: u64) -> u32
+    ensures { OnNumber number object.old object.new result (λ c d o p. EndsHit c d o p result) }
+{
+    let Object::Cache(served) = object else {
+        return WRONG_KIND;
+    };
+    let Some(request) = served.seats.find(number) else {
+        return BAD_HANDLE;
+    };
+    requests::finish_hit(&mut served.cache, request)
+}
+
+/// Whether the wait is over.
+pub(crate) fn wait(object: &mut Object, number: u64, now: Moment, outcome: &mut u32) -> u32
+    ensures { OnNumber number object.old object.new result (λ c d o p. Waits now outcome.new c d o p result) }
+{
+    let Object::Cache(served) = object else {
+        return WRONG_KIND;
+    };
+    let Some(request) = served.seats.find(number) else {
+        return BAD_HANDLE;
+    };
+    requests::wait(&mut served.cache, request, now, outcome)
+}
+
+/// Releases the permit.
+pub(crate) fn release(object: &mut Object, number: u64, reason: NoCacheReason) -> u32
+    ensures { OnNumber number object.old object.new result (λ c d o p. Releases reason c d o p result) }
+{
+    let Object::Cache(served) = object else {
+        return WRONG_KIND;
+    };
+    let Some(request) = served.seats.find(number) else {
+        return BAD_HANDLE;
+    };
+    requests::release(&mut served.cache, request, reason)
+}
+
+/// Turns caching off.
+pub(crate) fn disable(object: &mut Object, number: u64, reason: NoCacheReason) -> u32
+    ensures { OnNumber number object.old object.new result (λ c d o p. TurnsOff reason c d o p result) }
+{
+    let Object::Cache(served) = object else {
+        return WRONG_KIND;
+    };
+    let Some(request) = served.seats.find(number) else {
+        return BAD_HANDLE;
+    };
+    requests::disable(&mut served.cache, request, reason)
+}
+
+/// Removes what stands under the key.
+pub(crate) fn purge(object: &mut Object, number: u64, was: &mut u32) -> u32
+    ensures { OnNumber number object.old object.new result (λ c d o p. Purges was.new c d o p result) }
+{
+    let Object::Cache(served) = object else {
+        return WRONG_KIND;
+    };
+    let Some(request) = served.seats.find(number) else {
+        return BAD_HANDLE;
+    };
+    requests::purge(&mut served.cache, request, was)
+}
+
+/// Ends the freshness of what stands under the key.
+pub(crate) fn expire(object: &mut Object, number: u64, now: Moment, was: &mut u32) -> u32
+    ensures { OnNumber number object.old object.new result (λ c d o p. Expires now was.new c d o p result) }
+{
+    let Object::Cache(served) = object else {
+        return WRONG_KIND;
+    };
+    let Some(request) = served.seats.find(number) else {
+        return BAD_HANDLE;
+    };
+    requests::expire(&mut served.cache, request, now, was)
+}
+
+/// A copy of the meta of what a look-up found, else of the request's own.
+pub(crate) fn meta_of(object: &mut Object, number: u64) -> Result<CacheMeta, u32>
+    ensures { OnNumber number object.old object.new (code_in result) (λ c d o p. IsUnchanged c d o p × CopyOf (meta_shown o) result) }
+{
+    let Object::Cache(Served { cache: _, seats }) = object else {
+        return Err(WRONG_KIND);
+    };
+    let Some(request) = seats.find(number) else {
+        return Err(BAD_HANDLE);
+    };
+    requests::meta_of(request)
+}

@@ -1,0 +1,10 @@
+use Rattle.std.proofs.Common.{◌∙◌, ap}
+use Rattle.pcache_cache.proofs.Kept.{kept_dropped}
+use Rattle.pcache_request.specs.Requests.{dropped_by}
+use Rattle.pcache_cache.proofs.cache.Cache.drop_left.Goals as goal
+
+pub invariant_of-self : goal.invariant_of-self
+invariant_of-self g c =
+    let limits = g.M.EvictionManager.limits c.self.inside.manager in
+    let tracked = g.M.EvictionManager.tracked c.self.inside.manager in
+    kept_dropped limits tracked c.self.inside.store c.drop_writer.new.store c.args.left (c.drop_writer.ensures ∙ ap (λ w. dropped_by w c.self.inside.store) c.into_writer.ensures) c.self.invariant
