@@ -5,12 +5,12 @@
 //! - `torment`: runs one whose calls may fail, and writes all that each call did
 //! - `script`: a line as a call
 //! - `reply`: a reply as a line
-//! - `told`: an entry of a history as lines
+//! - `entry`: an entry of a history as lines
 //! - `policy`: which of the responses that a script puts are stored
 
+mod entry;
 mod policy;
 pub mod replay;
 mod reply;
 mod script;
-mod told;
 pub mod torment;

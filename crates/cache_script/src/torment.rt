@@ -5,11 +5,11 @@
 //! the definitions.
 ghost use Rattle.std.specs.Prelude.{◌≤◌};
 
+use crate::entry::write_entry;
 use crate::policy::OneSecond;
 use crate::replay::{AGE_TIMEOUT_SECS, Limits, Stop, read_limits, read_line};
 use crate::reply::{write_reply, write_stat};
 use crate::script::{Line, Unread, read};
-use crate::told::write_entry;
 use pingora_cache::eviction::{EvictionManager, sharded_lru, simple_lru};
 use pingora_cache::moment::Moment;
 use pingora_cache::seed::Seed;

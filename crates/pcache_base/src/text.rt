@@ -26,7 +26,7 @@ const SHORT: usize = 16;
 
 // Where the bytes of a text are.
 #[derive(Drop)]
-pub(crate) enum Place {
+pub(crate) enum Kept {
     // In the value: at most 16 of them.
     Inside(ArrayString<16>),
     // On the heap.
@@ -36,7 +36,7 @@ pub(crate) enum Place {
 /// An owned text. A contract sees the list of its bytes.
 #[derive(Drop)]
 pub struct Text {
-    place: Place,
+    place: Kept,
 }
 
 impl Model for Text {
@@ -55,13 +55,13 @@ impl Text {
     {
         if text.len() > SHORT {
             return Text {
-                place: Place::Outside(text),
+                place: Kept::Outside(text),
             };
         }
         let mut short = ArrayString::new();
         short.push_str(text.as_str());
         Text {
-            place: Place::Inside(short),
+            place: Kept::Inside(short),
         }
     }
 
@@ -70,8 +70,8 @@ impl Text {
         ensures { result.now ≡ self.now }
     {
         match &self.place {
-            Place::Inside(text) => text.as_str(),
-            Place::Outside(text) => text.as_str(),
+            Kept::Inside(text) => text.as_str(),
+            Kept::Outside(text) => text.as_str(),
         }
     }
 
@@ -97,8 +97,8 @@ impl Clone for Text {
 
     fn clone(&self) -> std::result::Result<Text, AllocError> {
         let place = match &self.place {
-            Place::Inside(text) => Place::Inside(*text),
-            Place::Outside(text) => Place::Outside(text.clone()?),
+            Kept::Inside(text) => Kept::Inside(*text),
+            Kept::Outside(text) => Kept::Outside(text.clone()?),
         };
         Ok(Text { place })
     }

@@ -8,6 +8,6 @@ use Rattle.pcache_c.specs.declared.object.Object.{Object}
 use Rattle.pcache_c.specs.contracts.object.Object.{the_row}
 
 -- The memory at the pointer: that of the object with its block, or none (own).
-abbrev pub held_at : Ptr → Option Object → Fml
-held_at p None = ftrue
-held_at p (Some v) = box_owns (ghosts.dealloc_token (record { memory = record { seal = tt } })) the_row p v
+abbrev pub object_at : Ptr → Option Object → Fml
+object_at p None = ftrue
+object_at p (Some v) = box_owns (ghosts.dealloc_token (record { memory = record { seal = tt } })) the_row p v

@@ -9,7 +9,7 @@ use Rattle.pcache_base.specs.declared.key.CompactCacheKey.{CompactCacheKey}
 use Rattle.pcache_evict.specs.Entry.{entry_with, id_of, key_of}
 use Rattle.pcache_evict.specs.Listed.{Listed, empty_list, map_of}
 use Rattle.pcache_evict.specs.Recency.{Recency, loaded_all}
-use Rattle.pcache_evict.specs.Shards.{Sharded, all, empty_shards, joined_all, list_at}
+use Rattle.pcache_evict.specs.Shards.{Sharded, all, empty_shards, added_last_all, list_at}
 use Rattle.pcache_evict.specs.Tracked.{Evicted, IsFair, IsWithin, Limits, Tracked, added, evicted_with, incremented, weight, without}
 use Rattle.pcache_evict.specs.declared.eviction.entry_key.CacheEntryKey.{CacheEntryKey}
 use Rattle.pcache_files.specs.FileSpelling.{SpellsFile}
@@ -184,7 +184,7 @@ abbrev pub with_list : Managed Listed → Recency → Managed Listed
 with_list m l = record m { manager = record m.manager { entries = loaded_all l m.manager.entries } }
 
 abbrev pub with_shards : Managed Sharded → Recency → Managed Sharded
-with_shards m l = record m { manager = record m.manager { shards = joined_all 16 l m.manager.shards } }
+with_shards m l = record m { manager = record m.manager { shards = added_last_all 16 l m.manager.shards } }
 
 abbrev pub Loads : Object → Object → List ℕ → ℕ → Type 0
 Loads (object.Simple m) b bytes code = (n : Managed Listed) × (b ≡ object.Simple n) × LoadsInto (with_list m) m n bytes code

@@ -8,12 +8,12 @@ use Rattle.pcache_base.specs.declared.poll.Poll.{Poll}
 use Rattle.pcache_base.specs.declared.poll.Poll.TheVariants.{Pending, Ready}
 use Rattle.pcache_base.specs.declared.reason.NoCacheReason.{NoCacheReason}
 use Rattle.pcache_cache.specs.Parts.{MayEnd, Parts, takes_bytes, written_by}
-use Rattle.pcache_lock.specs.Locks.{MayRefuseLock}
+use Rattle.pcache_lock.specs.Locks.{MayFailLock}
 use Rattle.pcache_lock.specs.declared.lock.status.LockStatus.TheVariants.{Done, GiveUp}
 use Rattle.pcache_meta.specs.Meta.{Meta}
 use Rattle.pcache_request.specs.Finishing.{after_finish}
 use Rattle.pcache_request.specs.LockUse.{read_in, unheld}
-use Rattle.pcache_request.specs.LockWaits.{table_waited, unusable_in, wait_answer, waited}
+use Rattle.pcache_request.specs.LockWaits.{table_waited, unusable_in, wait_result, waited}
 use Rattle.pcache_request.specs.Phases.{IsDisabled, IsFilling, IsOn, MayFinishHit, MayLookUp, MayMiss, MayPurge}
 use Rattle.pcache_request.specs.Releasing.{MayDisable, MayRelease, disabled_for, status_for}
 use Rattle.pcache_request.specs.Renewals.{has_body, renewed, renewed_by, with_meta_of}
@@ -24,9 +24,9 @@ use Rattle.pcache_request.specs.WriteEnds.{Ends, EndsAs, evicted_after, finishes
 use Rattle.pcache_request.specs.declared.cache.finish.FinishReport.{FinishReport}
 use Rattle.pcache_request.specs.declared.phase.HitStatus.{HitStatus}
 use Rattle.pcache_store.specs.Finishes.{created}
-use Rattle.pcache_store.specs.Purge.{expire_answer, expired_at, purge_answer, purged_at}
+use Rattle.pcache_store.specs.Purge.{expire_outcome, expired_at, purge_outcome, purged_at}
 use Rattle.pcache_store.specs.Readers.{in_memory, reader_of}
-use Rattle.pcache_store.specs.Refusals.{MayRefuseWrite}
+use Rattle.pcache_store.specs.Refusals.{MayFailWrite}
 use Rattle.pcache_store.specs.Store.{Reader, Store, gives_piece, left, read_of, reader_after, write_read}
 use Rattle.pcache_c.specs.Codes.{Outcome, code_of, no_memory, nothing, ok, wrong_call}
 use Rattle.pcache_c.specs.Numbers.{held_number, outcome_number, phase_number}
@@ -39,7 +39,7 @@ pub record IsUnchanged (c d : Parts) (o p : Open) : Type 0 where
 
 -- of the request, all but the cache's own part of it is as it was
 abbrev pub KeepsFound : Open → Open → Type 0
-KeepsFound o p = (p.found ≡ o.found) × (p.piece ≡ o.piece) × (p.place ≡ o.place)
+KeepsFound o p = (p.found ≡ o.found) × (p.piece ≡ o.piece) × (p.next_byte ≡ o.next_byte)
 
 -- of the cache, all but its store and its locks, or one of these, is as it was
 abbrev pub KeepsManager : Parts → Parts → Type 0
@@ -67,10 +67,10 @@ pub record Looked (now : ℕ) (c d : Parts) (o p : Open) (found : ℕ) : Type 0 
   pub store : d.store ≡ searched c.store o.request.cache
   pub table : d.locks ≡ table_looked_for c.store now o.request.cache c.locks
   pub parts : KeepsManager c d
-  pub rest : (p.piece ≡ o.piece) × (p.place ≡ o.place)
+  pub rest : (p.piece ≡ o.piece) × (p.next_byte ≡ o.next_byte)
 
 pub record RefusesLook (c d : Parts) (o p : Open) (e : ErrorType) : Type 0 where
-  pub kind : MayRefuseLock c.locks e
+  pub kind : MayFailLock c.locks e
   pub numbers : e ≡ NumbersExhausted → IsTrue (asks_unseen c.store o.request.cache)
   pub request : p.request.cache ≡ o.request.cache
   pub rest : KeepsFound o p
@@ -94,7 +94,7 @@ pub record TakesPair (status : HitStatus) (now : ℕ) (m : Meta) (h : Reader) (c
   pub piece : p.piece ≡ []
 
 pub record RefusesPair (status : HitStatus) (h : Reader) (c d : Parts) (o p : Open) (e : ErrorType) : Type 0 where
-  pub kind : MayRefuseLock c.locks e
+  pub kind : MayFailLock c.locks e
   pub numbers : e ≡ NumbersExhausted → IsTrue (asks_for_hit status o.request.cache)
   pub request : p.request.cache ≡ o.request.cache
   pub store : d.store ≡ left c.store h
@@ -102,7 +102,7 @@ pub record RefusesPair (status : HitStatus) (h : Reader) (c d : Parts) (o p : Op
   pub tracked : (d.tracked ≡ c.tracked) ⊎ (d.tracked ≡ tracked_found status h (write_read h) o.request.cache c.tracked)
   pub rest : (d.limits ≡ c.limits) × (d.evicted ≡ c.evicted)
   pub none : p.found ≡ None
-  pub piece : (p.piece ≡ o.piece) × (p.place ≡ o.place)
+  pub piece : (p.piece ≡ o.piece) × (p.next_byte ≡ o.next_byte)
 
 -- what follows of a pair that is there
 abbrev pub OnPair : Option (Meta × Reader) → (Meta → Reader → Type 0) → Type 0
@@ -204,7 +204,7 @@ pub record HalfBegun (c d : Parts) (o p : Open) : Type 0 where
   pub rest : KeepsFound o p
 
 pub record NotBegun (c d : Parts) (o p : Open) (e : ErrorType) : Type 0 where
-  pub why : MayRefuseWrite c.store e
+  pub why : MayFailWrite c.store e
   pub request : p.request.cache ≡ o.request.cache
   pub store : d.store ≡ c.store
   pub table : d.locks ≡ c.locks
@@ -254,7 +254,7 @@ Finishes size evicted c d o p code = Outcome (MayEndWrite c o) (Stored size evic
 
 -- what was read, and is to be handed over
 abbrev pub rest_of : Open → List ℕ
-rest_of o = drop o.place o.piece
+rest_of o = drop o.next_byte o.piece
 
 -- what is handed over next, if there is something to read from
 abbrev pub next_from : Store → Option Reader → List ℕ → Option (Poll (Option (List ℕ)))
@@ -322,7 +322,7 @@ abbrev pub MayWait : Open → Type 0
 MayWait o = IsOn o.request.cache.phase × IsSome (read_in o.request.cache.held)
 
 pub record Waited (now : ℕ) (c d : Parts) (o p : Open) (outcome : ℕ) : Type 0 where
-  pub says : outcome ≡ outcome_number (wait_answer c.locks now o.request.cache.held o.request.cache)
+  pub says : outcome ≡ outcome_number (wait_result c.locks now o.request.cache.held o.request.cache)
   pub request : p.request.cache ≡ waited c.locks now o.request.cache.held o.request.cache
   pub table : d.locks ≡ table_waited c.locks now o.request.cache.held o.request.cache
   pub parts : KeepsButLocks c d
@@ -376,17 +376,17 @@ abbrev pub slot_in : Open → Option ℕ
 slot_in o = option_map slot o.request.cache.key
 
 pub record Purged (c d : Parts) (o p : Open) (was : ℕ) : Type 0 where
-  pub says : was ≡ from_bool (is_removed_by (purge_answer true c.store (slot_in o)))
+  pub says : was ≡ from_bool (is_removed_by (purge_outcome true c.store (slot_in o)))
   pub store : d.store ≡ purged_at c.store (slot_in o)
-  pub tracked : d.tracked ≡ tracked_gone_for o.request.cache.uses.eviction o.request.cache.key (purge_answer true c.store (slot_in o)) c.tracked
+  pub tracked : d.tracked ≡ tracked_gone_for o.request.cache.uses.eviction o.request.cache.key (purge_outcome true c.store (slot_in o)) c.tracked
   pub rest : (d.limits ≡ c.limits) × (d.evicted ≡ c.evicted) × (d.locks ≡ c.locks)
   pub request : p.request.cache ≡ o.request.cache
   pub found : KeepsFound o p
 
 pub record Expired (now : ℕ) (c d : Parts) (o p : Open) (was : ℕ) : Type 0 where
-  pub says : was ≡ from_bool (is_removed_by (expire_answer c.store (slot_in o)))
+  pub says : was ≡ from_bool (is_removed_by (expire_outcome c.store (slot_in o)))
   pub store : d.store ≡ expired_at now c.store (slot_in o)
-  pub tracked : d.tracked ≡ tracked_gone_for o.request.cache.uses.eviction o.request.cache.key (expire_answer c.store (slot_in o)) c.tracked
+  pub tracked : d.tracked ≡ tracked_gone_for o.request.cache.uses.eviction o.request.cache.key (expire_outcome c.store (slot_in o)) c.tracked
   pub rest : (d.limits ≡ c.limits) × (d.evicted ≡ c.evicted) × (d.locks ≡ c.locks)
   pub request : p.request.cache ≡ o.request.cache
   pub found : KeepsFound o p

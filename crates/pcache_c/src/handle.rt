@@ -3,7 +3,7 @@ ghost use Rattle.std.specs.Prelude.{◌≡◌, Option, None, Some, IsTrue, is_so
 ghost use Rattle.std.specs.Coded.{coded_option};
 ghost use Rattle.pcache_c.specs.contracts.object.Object.{the_row};
 ghost use Rattle.pcache_c.specs.declared.object.Object.{Object};
-ghost use Rattle.pcache_c.specs.Handle.{held_at};
+ghost use Rattle.pcache_c.specs.Handle.{object_at};
 
 use crate::codes::{BAD_HANDLE, NO_MEMORY, OK};
 use crate::loose::Loose;
@@ -15,32 +15,32 @@ use std::{mem, ptr};
 /// The pointer to an object's box, under a type that C can have, or no object.
 #[repr(C)]
 #[derive(Drop)]
-pub struct Held {
+pub struct ObjectPtr {
     at: *mut u8,
     /// The object.
     pub ghost value: { Option Object } by { coded_option the_row.coded },
 }
 
-impl Model for Held {
-    ghost also_owns = { λ h. held_at h.at h.value };
+impl Model for ObjectPtr {
+    ghost also_owns = { λ h. object_at h.at h.value };
 }
 
-impl Held {
+impl ObjectPtr {
     /// No object.
-    pub(crate) fn none() -> Held
+    pub(crate) fn none() -> ObjectPtr
         ensures { result.value ≡ None }
     {
-        Held {
+        ObjectPtr {
             at: ptr::null_mut(),
         }
     }
 
     /// The pointer of a box.
-    pub(crate) fn of(loose: Loose<Object, Global>) -> Held
+    pub(crate) fn of(loose: Loose<Object, Global>) -> ObjectPtr
         ensures { result.value ≡ Some loose.value }
     {
         let Loose { at, alloc: _ } = loose;
-        Held { at: at as *mut u8 }
+        ObjectPtr { at: at as *mut u8 }
     }
 
     /// The box of a pointer.
@@ -48,7 +48,7 @@ impl Held {
         requires { IsTrue (is_some self.value) }
         ensures { Some result.value ≡ self.value }
     {
-        let Held { at } = self;
+        let ObjectPtr { at } = self;
         Loose {
             at: at as *mut Object,
             alloc,
@@ -65,7 +65,7 @@ const TAG: u64 = 0x5043_4143_4845_3031;
 pub struct PcacheHandle {
     tag: u64,
     /// The object.
-    pub held: Held,
+    pub held: ObjectPtr,
     ghost tied: { tag ≡ 5783538103704956977 → IsTrue (is_some held.value) },
 }
 
@@ -89,7 +89,7 @@ impl PcacheHandle {
             return None;
         }
         self.tag = 0;
-        let held = mem::replace(&mut self.held, Held::none());
+        let held = mem::replace(&mut self.held, ObjectPtr::none());
         Some(held.into_loose(alloc).into_box())
     }
 
@@ -113,7 +113,7 @@ impl PcacheHandle {
     pub(crate) fn put(&mut self, object: Box<Object>)
         ensures { object_of self.new ≡ Some object.value }
     {
-        self.held = Held::of(Loose::of(object));
+        self.held = ObjectPtr::of(Loose::of(object));
         self.tag = TAG;
     }
 }

@@ -117,7 +117,7 @@ fn forget_piece(open: &mut Open)
     ensures found { open.new.found ≡ open.old.found }
 {
     open.piece = Bytes::new();
-    open.place = 0;
+    open.next_byte = 0;
 }
 
 /// Takes the pair that a look-up found. Bytes that were read before are no longer returned.
@@ -295,7 +295,7 @@ pub(crate) fn read(
 ) -> u32
     ensures { Reads out.old out.new len.new more.new cache.old cache.new open.old open.new result }
 {
-    if open.place >= open.piece.len() {
+    if open.next_byte >= open.piece.len() {
         return read_on(cache, open, out, len, more);
     }
     *len = hand_over(open, out);
@@ -320,7 +320,7 @@ fn read_on(
     match cache.read_body(&mut open.request) {
         Ok(Poll::Ready(Some(piece))) => {
             open.piece = piece;
-            open.place = 0;
+            open.next_byte = 0;
             *len = hand_over(open, out);
             *more = 1;
         }
@@ -334,14 +334,14 @@ fn read_on(
 // Copies what has room, and returns how much.
 fn hand_over(open: &mut Open, out: &mut [u8]) -> usize
     ensures bytes { HandsOver (rest_of open.old) out.old out.new (rest_of open.new) result }
-    ensures rest { open.new ≡ record open.old { place = open.new.place } }
+    ensures rest { open.new ≡ record open.old { next_byte = open.new.next_byte } }
 {
-    let Some(rest) = open.piece.as_slice().get(open.place..) else {
+    let Some(rest) = open.piece.as_slice().get(open.next_byte..) else {
         return 0;
     };
     let count = rest.len().min(out.len());
     out[..count].copy_from_slice(&rest[..count]);
-    open.place += count;
+    open.next_byte += count;
     count
 }
 

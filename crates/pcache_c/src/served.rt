@@ -31,7 +31,7 @@ pub(crate) struct Open {
     pub(crate) found: Option<(CacheMeta, MemHitHandler)>,
     pub(crate) piece: Bytes,
     // The index of the first byte of the piece that was not returned.
-    pub(crate) place: usize,
+    pub(crate) next_byte: usize,
 }
 
 impl Open {
@@ -43,7 +43,7 @@ impl Open {
             request,
             found,
             piece,
-            place: _,
+            next_byte: _,
         } = self;
         drop(piece);
         let_go(cache, found);
@@ -117,7 +117,7 @@ fn new_open(alloc: Global, key: CacheKey) -> Open
         request,
         found: None,
         piece: Bytes::new(),
-        place: 0,
+        next_byte: 0,
     }
 }
 

@@ -18,12 +18,12 @@ use Rattle.pcache_predict.specs.declared.admission.Decision.{Decision}
 use Rattle.pcache_request.specs.Admissions.{is_deferral, store_looked_with}
 use Rattle.pcache_request.specs.Finishing.{entry_slot}
 use Rattle.pcache_request.specs.Renewals.{with_meta_of}
-use Rattle.pcache_request.specs.Requests.{Request, begun_for, counts_found, dropped_by, entry_of, found_for, joined_for, left_by, store_found, store_writing, tracked_found, tracked_found_at, tracked_gone, tracked_gone_for}
+use Rattle.pcache_request.specs.Requests.{Request, begun_for, counts_found, dropped_by, entry_of, found_for, followed_for, left_by, store_found, store_writing, tracked_found, tracked_found_at, tracked_gone, tracked_gone_for}
 use Rattle.pcache_request.specs.Phases.{is_treated_as_miss}
 use Rattle.pcache_request.specs.Variants.{is_hidden, searched, without_hidden}
 use Rattle.pcache_request.specs.declared.phase.HitStatus.{HitStatus}
 use Rattle.pcache_store.specs.Purge as purge
-use Rattle.pcache_store.specs.Purge.{purge_answer, purged_at, expire_answer, slot_answer}
+use Rattle.pcache_store.specs.Purge.{purge_outcome, purged_at, expire_outcome, slot_outcome}
 use Rattle.pcache_store.specs.Store.{Store, Slot, Reader, complete_body, followed, left, meta_changed, purged, reader_weight, number_of_body}
 use Rattle.pcache_store.specs.declared.storage.PurgeOutcome.TheVariants.{NotFound, Expired}
 use Rattle.pcache_cache.specs.Parts.{IsKept}
@@ -161,8 +161,8 @@ kept_ended limits m s t o w is k = kept_left limits m (dropped_by w s) t o is (k
 
 -- ---- a write begins
 
-slots-writing : (streams : Bool) (n : ℕ) (r : Request) (t : Store) → (cond streams (left_by r.reader (followed t (joined_for r.key n t))) t).slots ≡ t.slots
-slots-writing true n r t = slots-left_by (followed t (joined_for r.key n t)) r.reader ∙ slots-followed t (joined_for r.key n t)
+slots-writing : (streams : Bool) (n : ℕ) (r : Request) (t : Store) → (cond streams (left_by r.reader (followed t (followed_for r.key n t))) t).slots ≡ t.slots
+slots-writing true n r t = slots-left_by (followed t (followed_for r.key n t)) r.reader ∙ slots-followed t (followed_for r.key n t)
 slots-writing false n r t = refl
 
 pub kept_writing : (limits : Limits) (m : Tracked) (s t : Store) (streams : Bool) (n : ℕ) (r : Request) → t ≡ store_writing streams n r s → IsKept limits m s → IsKept limits m t
@@ -215,18 +215,18 @@ entry-of-slot k None = refl
 entry-of-slot k (Some n) = refl
 
 -- the outcome of a purge, by what was there
-kept-gone : (limits : Limits) (m : Tracked) (s : Store) (uses : Bool) (k : Key) (x : Option Slot) → IsKept limits m s → IsKept limits (tracked_gone uses (compact_of k) (slot_answer true x) m) (purged s (slot k))
+kept-gone : (limits : Limits) (m : Tracked) (s : Store) (uses : Bool) (k : Key) (x : Option Slot) → IsKept limits m s → IsKept limits (tracked_gone uses (compact_of k) (slot_outcome true x) m) (purged s (slot k))
 kept-gone limits m s true k (Some x) kept = kept_purged limits m s (slot k) (entry_of k (number_of_body x.body)) (entry-of-slot k (number_of_body x.body)) kept
 kept-gone limits m s false k (Some x) kept = kept_fewer limits m s (purged s (slot k)) (fewer-purged_at s (Some (slot k))) kept
 kept-gone limits m s uses k None kept = kept_fewer limits m s (purged s (slot k)) (fewer-purged_at s (Some (slot k))) kept
 
 kept-gone_for : (limits : Limits) (m : Tracked) (s : Store) (uses : Bool) (key : Option Key) → IsKept limits m s
-    → IsKept limits (tracked_gone_for uses key (purge_answer true s (option_map slot key)) m) (purged_at s (option_map slot key))
+    → IsKept limits (tracked_gone_for uses key (purge_outcome true s (option_map slot key)) m) (purged_at s (option_map slot key))
 kept-gone_for limits m s uses None kept = kept
 kept-gone_for limits m s uses (Some k) kept = kept-gone limits m s uses k (get s.slots (slot k)) kept
 
 pub kept_removed : {A : Type 0} (limits : Limits) (m n : Tracked) (s t : Store) (uses : Bool) (key : Option Key) (result : Result A ErrorType)
-    → OnOk result (t ≡ purged_at s (option_map slot key)) → OnOk result (n ≡ tracked_gone_for uses key (purge_answer true s (option_map slot key)) m) → OnErr result (t ≡ s) → OnErr result (n ≡ m) → IsKept limits m s → IsKept limits n t
+    → OnOk result (t ≡ purged_at s (option_map slot key)) → OnOk result (n ≡ tracked_gone_for uses key (purge_outcome true s (option_map slot key)) m) → OnErr result (t ≡ s) → OnErr result (n ≡ m) → IsKept limits m s → IsKept limits n t
 kept_removed limits m n s t uses key (Ok a) store tracked same_store same_tracked kept =
     subst (IsKept limits n) (sym store) (subst (λ x. IsKept limits x (purged_at s (option_map slot key))) (sym tracked) (kept-gone_for limits m s uses key kept))
 kept_removed limits m n s t uses key (Err e) store tracked same_store same_tracked kept =
@@ -238,12 +238,12 @@ kept-stale limits m s uses k now true kept = kept_fewer limits m s (meta_changed
 kept-stale limits m s uses k now false kept = kept_fewer limits m s (meta_changed (expired_at now) s (slot k)) (fewer-changed (expired_at now) (λ x. refl) s (slot k)) kept
 
 kept-stale_for : (limits : Limits) (m : Tracked) (s : Store) (uses : Bool) (key : Option Key) (now : ℕ) → IsKept limits m s
-    → IsKept limits (tracked_gone_for uses key (expire_answer s (option_map slot key)) m) (purge.expired_at now s (option_map slot key))
+    → IsKept limits (tracked_gone_for uses key (expire_outcome s (option_map slot key)) m) (purge.expired_at now s (option_map slot key))
 kept-stale_for limits m s uses None now kept = kept
 kept-stale_for limits m s uses (Some k) now kept = kept-stale limits m s uses k now (is_some (complete_body (get s.slots (slot k)))) kept
 
 pub kept_expired : {A : Type 0} (limits : Limits) (m n : Tracked) (s t : Store) (uses : Bool) (key : Option Key) (now : ℕ) (result : Result A ErrorType)
-    → OnOk result (t ≡ purge.expired_at now s (option_map slot key)) → OnOk result (n ≡ tracked_gone_for uses key (expire_answer s (option_map slot key)) m) → OnErr result (t ≡ s) → OnErr result (n ≡ m) → IsKept limits m s → IsKept limits n t
+    → OnOk result (t ≡ purge.expired_at now s (option_map slot key)) → OnOk result (n ≡ tracked_gone_for uses key (expire_outcome s (option_map slot key)) m) → OnErr result (t ≡ s) → OnErr result (n ≡ m) → IsKept limits m s → IsKept limits n t
 kept_expired limits m n s t uses key now (Ok a) store tracked same_store same_tracked kept =
     subst (IsKept limits n) (sym store) (subst (λ x. IsKept limits x (purge.expired_at now s (option_map slot key))) (sym tracked) (kept-stale_for limits m s uses key now kept))
 kept_expired limits m n s t uses key now (Err e) store tracked same_store same_tracked kept =

@@ -10,12 +10,12 @@ use Rattle.pcache_base.specs.Key.{Key, slot}
 use Rattle.pcache_lock.specs.Locks.{Locks}
 use Rattle.pcache_lock.specs.declared.lock.permit.Locked.{Locked}
 use Rattle.pcache_meta.specs.Meta.{Meta, numbered}
-use Rattle.pcache_request.specs.Requests.{Request, begun_for, joined_for, left_by, store_writing, with_lock, writing, HasKey, MayWrite}
+use Rattle.pcache_request.specs.Requests.{Request, begun_for, followed_for, left_by, store_writing, with_lock, writing, HasKey, MayWrite}
 use Rattle.pcache_request.specs.Phases.{IsFilling}
 use Rattle.pcache_request.specs.declared.phase.CachePhase.{CachePhase}
 use Rattle.pcache_request.specs.declared.phase.CachePhase.TheVariants as phase
 use Rattle.pcache_request.specs.Variants.{is_unseen_for, looked_for, with_key_lock}
-use Rattle.pcache_store.specs.Store.{Store, Written, Reader, Whole, Part, begun, followed, followed_by, is_named, is_told, is_write_under, joined_on, kept, left, left_on, new_write, wrote, wrote_on}
+use Rattle.pcache_store.specs.Store.{Store, Written, Reader, Whole, Part, begun, followed, followed_by, is_named, is_told, is_write_under, followed_on, kept, left, left_on, new_write, wrote, wrote_on}
 use Rattle.pcache_cache.specs.Parts.{MayEnd, is_own_write, written_by}
 use Rattle.pcache_cache.proofs.Standing.{same-key}
 
@@ -67,9 +67,9 @@ flies-insert ws n k j x own at y flying of meta =
     some_same : (a b : Written) → ◌≡◌ {A = Option Written} (Some a) (Some b) → a ≡ b
     some_same a b e = cc
 
-flies-joined : (ws : FinMap nat_cmp Written) (n k j : ℕ) → Flies ws n k → Flies (joined_on ws j (get ws j)) n k
+flies-joined : (ws : FinMap nat_cmp Written) (n k j : ℕ) → Flies ws n k → Flies (followed_on ws j (get ws j)) n k
 flies-joined ws n k j own =
-    elim (get ws j) as (λ o. get ws j ≡ o → Flies (joined_on ws j o) n k) [
+    elim (get ws j) as (λ o. get ws j ≡ o → Flies (followed_on ws j o) n k) [
       | None ↦ λ is. own
       | Some x ↦ λ is. flies-insert ws n k j x own is (record x { readers = x.readers + 1 }) refl refl refl
     ] refl
@@ -122,7 +122,7 @@ writing_own r s (Some k) (Some m) is of has_key has_meta =
     let begins : begun_for r.key r.meta s ≡ begun s (slot k) m = λ i. begun_for (is i) (of i) s in
     let first : Flies (begun_for r.key r.meta s).writes s.next (slot k) = subst (λ (t : Store). Flies t.writes s.next (slot k)) (sym begins) (flies-begun s (slot k) m) in
     let t = begun_for r.key r.meta s in
-    flies-under (store_writing true s.next r s) s.next (slot k) (flies-left_by (followed t (joined_for r.key s.next t)) s.next (slot k) r.reader (flies-followed t s.next (slot k) (joined_for r.key s.next t) first))
+    flies-under (store_writing true s.next r s) s.next (slot k) (flies-left_by (followed t (followed_for r.key s.next t)) s.next (slot k) r.reader (flies-followed t s.next (slot k) (followed_for r.key s.next t) first))
 
 -- more bytes leave a write its own
 wrote-under : (k w : ℕ) (s : Store) (bytes : List ℕ) (eof : Bool) → is_write_under k w (get s.writes w) ≡ true → is_write_under k w (get (wrote s w bytes eof).writes w) ≡ true

@@ -3,7 +3,7 @@ ghost use Rattle.std.specs.Prelude.{◌≡◌, Some, IfErr, option_map};
 ghost use Rattle.pcache_request.specs.Requests.{dropped_by};
 ghost use Rattle.pcache_cache.specs.OwnPut.{MayEndPut, store_put};
 ghost use Rattle.pcache_put_ctx.specs.Readings.{IsReadAt, MayRefuseRead, StoresPiece};
-ghost use Rattle.pcache_put_ctx.specs.Steps.{Done, RepeatsAnswer, StandsAnswered};
+ghost use Rattle.pcache_put_ctx.specs.Steps.{Done, RepeatsResult, IsStageAfter};
 
 use crate::cache::Cache;
 use crate::put::{LeftWrite, PendingPut};
@@ -24,7 +24,7 @@ impl<M: EvictionManager, K> Cache<M, K> {
     ghost use Rattle.pcache_put_ctx.specs.Puts.{IsResult, Piece};
     ghost use Rattle.pcache_put_ctx.specs.Readings.{IsReadAt, MayRefuseRead, StoresPiece};
     ghost use Rattle.pcache_put_ctx.specs.State.{Filled, HasTaken, limit_of, write_in};
-    ghost use Rattle.pcache_put_ctx.specs.Steps.{Done, EndsAs, MayRefusePiece, RepeatsAnswer, StandsAnswered, TakesPiece, TellsResult, stage_ended};
+    ghost use Rattle.pcache_put_ctx.specs.Steps.{Done, EndsAs, MayFailPiece, RepeatsResult, IsStageAfter, TakesPiece, TellsResult, stage_ended};
     ghost use Rattle.pcache_request.specs.NoBody.{LeavesNone};
     ghost use Rattle.pcache_request.specs.Requests.{dropped_by};
     ghost use Rattle.pcache_cache.specs.OwnPut.{EndsOwnPut, MayEndPut, evicted_put, store_put};
@@ -51,9 +51,9 @@ impl<M: EvictionManager, K> Cache<M, K> {
     ) -> Result<Option<NoCacheReason>>
         ensures step { (d : Done) × TakesPiece (C.says put.old.put.policy) put.old.put put.new.put (record { bytes = piece.now; now = now }) d
             × (self.new.store ≡ store_put put.old.put d result self.old.store) }
-        ensures stands { StandsAnswered result put.new.put.stage }
-        ensures again { RepeatsAnswer put.old.put.stage result }
-        ensures kind { IfErr result (λ e. MayRefusePiece put.old.put.stage self.old.store e ⊎ (put.old.put.parser ≡ HasFailed e)) }
+        ensures stands { IsStageAfter result put.new.put.stage }
+        ensures again { RepeatsResult put.old.put.stage result }
+        ensures kind { IfErr result (λ e. MayFailPiece put.old.put.stage self.old.store e ⊎ (put.old.put.parser ≡ HasFailed e)) }
         ensures own { MayEndPut self.old.store put.old.put → MayEndPut self.new.store put.new.put }
         ensures rest { self.new ≡ record self.old { store = self.new.store } }
     {
@@ -71,8 +71,8 @@ impl<M: EvictionManager, K> Cache<M, K> {
         requires at { IsReadAt put.old.put.stage read }
         ensures step { (d : Done) × StoresPiece (C.says put.old.put.policy) put.old.put put.new.put read d
             × (self.new.store ≡ store_put put.old.put d result self.old.store) }
-        ensures stands { StandsAnswered result put.new.put.stage }
-        ensures again { RepeatsAnswer put.old.put.stage result }
+        ensures stands { IsStageAfter result put.new.put.stage }
+        ensures again { RepeatsResult put.old.put.stage result }
         ensures kind { IfErr result (MayRefuseRead put.old.put.stage self.old.store read) }
         ensures own { MayEndPut self.old.store put.old.put → MayEndPut self.new.store put.new.put }
         ensures rest { self.new ≡ record self.old { store = self.new.store } }
@@ -126,8 +126,8 @@ fn store_in<C: CachePut>(
 ) -> Result<Option<NoCacheReason>>
     requires at { IsReadAt put.old.stage read }
     ensures step { (d : Done) × StoresPiece (C.says put.old.policy) put.old put.new read d × (store.new ≡ store_put put.old d result store.old) }
-    ensures stands { StandsAnswered result put.new.stage }
-    ensures again { RepeatsAnswer put.old.stage result }
+    ensures stands { IsStageAfter result put.new.stage }
+    ensures again { RepeatsResult put.old.stage result }
     ensures kind { IfErr result (MayRefuseRead put.old.stage store.old read) }
     ensures own { MayEndPut store.old put.old → MayEndPut store.new put.new }
 {

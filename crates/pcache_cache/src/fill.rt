@@ -21,7 +21,7 @@ impl<M: EvictionManager, K> Cache<M, K> {
     ghost use Rattle.pcache_request.specs.WriteEnds.{Ends, EndsAs, evicted_after, finishes_of};
     ghost use Rattle.pcache_store.specs.Finishes.{created};
     ghost use Rattle.pcache_store.specs.Readers.{in_memory};
-    ghost use Rattle.pcache_store.specs.Refusals.{MayRefuseWrite};
+    ghost use Rattle.pcache_store.specs.Refusals.{MayFailWrite};
     ghost use Rattle.pcache_cache.specs.Parts.{MayEnd, takes_bytes, written_by};
 
     /// `HttpCache::set_miss_handler`: begins the write. Requires a phase in which a write may be made, a meta, and no write; ask
@@ -31,9 +31,9 @@ impl<M: EvictionManager, K> Cache<M, K> {
         ensures request { OnOk result (request.new.cache ≡ writing true self.old.store.next (Some self.old.store.next) (begun_for request.old.cache.key request.old.cache.meta self.old.store) request.old.cache) }
         ensures store { OnOk result (self.new.store ≡ store_writing true self.old.store.next request.old.cache self.old.store) }
         ensures table { OnOk result (self.new.locks ≡ settled Done request.old.cache.held self.old.locks) }
-        ensures err { IfErr result (λ e. ((request.new.cache ≡ request.old.cache) × (self.new.store ≡ self.old.store) × (self.new.locks ≡ self.old.locks) × MayRefuseWrite self.old.store e)
+        ensures err { IfErr result (λ e. ((request.new.cache ≡ request.old.cache) × (self.new.store ≡ self.old.store) × (self.new.locks ≡ self.old.locks) × MayFailWrite self.old.store e)
             ⊎ ((request.new.cache ≡ record request.old.cache { write = Some self.old.store.next; entry = Some self.old.store.next; held = None }) × (self.new.store ≡ begun_for request.old.cache.key request.old.cache.meta self.old.store) × (self.new.locks ≡ settled Done request.old.cache.held self.old.locks) × (e ≡ OutOfMemory))) }
-        ensures kind { IfErr result (λ e. (e ≡ OutOfMemory) ⊎ MayRefuseWrite self.old.store e) }
+        ensures kind { IfErr result (λ e. (e ≡ OutOfMemory) ⊎ MayFailWrite self.old.store e) }
         ensures phase { request.new.cache.phase ≡ request.old.cache.phase }
         ensures own { request.old.cache.uses.eviction ≡ true → OnOk result (MayEnd self.new.store request.new.cache) }
         ensures rest { self.new ≡ record self.old { store = self.new.store; locks = self.new.locks } }

@@ -15,7 +15,7 @@ impl<M: EvictionManager, K> Cache<M, K> {
     ghost use Rattle.pcache_lock.specs.declared.lock.permit.Locked.TheVariants.{Write};
     ghost use Rattle.pcache_lock.specs.declared.lock.status.LockStatus.TheVariants.{GiveUp};
     ghost use Rattle.pcache_request.specs.LockUse.{gone_for, handed, permit_in, published_by, read_in, table_handed, unheld};
-    ghost use Rattle.pcache_request.specs.LockWaits.{table_waited, unusable_in, wait_answer, waited};
+    ghost use Rattle.pcache_request.specs.LockWaits.{table_waited, unusable_in, wait_result, waited};
     ghost use Rattle.pcache_request.specs.Phases.{IsOn};
     ghost use Rattle.pcache_request.specs.Releasing.{MayRelease, status_for};
     ghost use Rattle.pcache_request.specs.Reports.{name_of, released_as};
@@ -28,7 +28,7 @@ impl<M: EvictionManager, K> Cache<M, K> {
         now: Moment,
     ) -> Result<Poll<LockWaitOutcome>>
         requires { IsSome (read_in request.old.cache.held) }
-        ensures answer { IfOk result (λ p. p ≡ wait_answer self.old.locks now request.old.cache.held request.old.cache) }
+        ensures answer { IfOk result (λ p. p ≡ wait_result self.old.locks now request.old.cache.held request.old.cache) }
         ensures request { OnOk result (request.new.cache ≡ waited self.old.locks now request.old.cache.held request.old.cache) }
         ensures table { OnOk result (self.new.locks ≡ table_waited self.old.locks now request.old.cache.held request.old.cache) }
         ensures same_request { OnErr result (request.new.cache ≡ request.old.cache) }

@@ -17,7 +17,7 @@ use pcache_store::storage::HandleHit;
 impl<M: EvictionManager, K> Cache<M, K> {
     ghost use Rattle.std.specs.Prelude.{◌≡◌, ◌⊎◌, false, IfOk, IfErr, IfSome, OnOk, OnErr, IsOk, IsSome, IsTrue, None, option_map, true};
     ghost use Rattle.pcache_base.specs.declared.error.ErrorType.TheVariants.{NumbersExhausted, OutOfMemory};
-    ghost use Rattle.pcache_lock.specs.Locks.{MayRefuseLock};
+    ghost use Rattle.pcache_lock.specs.Locks.{MayFailLock};
     ghost use Rattle.pcache_lock.specs.declared.lock.status.LockStatus.TheVariants.{GiveUp};
     ghost use Rattle.pcache_request.specs.Admissions.{Decides, asks_policy, decision_taken, looked_with, store_looked_with, table_looked_with, with_decision};
     ghost use Rattle.pcache_request.specs.Phases.{IsDisabled, MayFinishHit, MayLookUp};
@@ -46,7 +46,7 @@ impl<M: EvictionManager, K> Cache<M, K> {
         ensures left_store { OnErr result ((self.new.store ≡ self.old.store) ⊎ (self.new.store ≡ searched self.old.store request.old.cache)) }
         ensures same_store { OnErr result (hides_for self.old.store request.old.cache ≡ false → self.new.store ≡ self.old.store) }
         ensures same_table { OnErr result (self.new.locks ≡ self.old.locks) }
-        ensures kind { IfErr result (λ e. MayRefuseLock self.old.locks e) }
+        ensures kind { IfErr result (λ e. MayFailLock self.old.locks e) }
         ensures numbers { IfErr result (λ e. e ≡ NumbersExhausted → IsTrue (asks_unseen self.old.store request.old.cache)) }
         ensures phase { OnOk result (request.new.cache.phase ≡ request.old.cache.phase) }
         ensures uses { OnOk result (request.new.cache.uses ≡ request.old.cache.uses) }
@@ -76,7 +76,7 @@ impl<M: EvictionManager, K> Cache<M, K> {
         ensures left_store { OnErr result ((self.new.store ≡ self.old.store) ⊎ (self.new.store ≡ searched self.old.store request.old.cache)) }
         ensures same_store { OnErr result (hides_for self.old.store request.old.cache ≡ false → self.new.store ≡ self.old.store) }
         ensures same_table { OnErr result (self.new.locks ≡ self.old.locks) }
-        ensures kind { IfErr result (λ e. MayRefuseLock self.old.locks e) }
+        ensures kind { IfErr result (λ e. MayFailLock self.old.locks e) }
         ensures numbers { IfErr result (λ e. e ≡ NumbersExhausted → IsTrue (asks_unseen self.old.store request.old.cache)) }
         ensures rest { self.new ≡ record self.old { store = self.new.store; locks = self.new.locks } }
     {
@@ -106,7 +106,7 @@ impl<M: EvictionManager, K> Cache<M, K> {
         ensures noted { OnErr result ((self.new.tracked ≡ self.old.tracked) ⊎ (self.new.tracked ≡ tracked_found status (reader_of hit) (write_read (reader_of hit)) request.old.cache self.old.tracked)) }
         ensures limits { self.new.limits ≡ self.old.limits }
         ensures evicted { self.new.evicted ≡ self.old.evicted }
-        ensures kind { IfErr result (λ e. MayRefuseLock self.old.locks e) }
+        ensures kind { IfErr result (λ e. MayFailLock self.old.locks e) }
         ensures numbers { IfErr result (λ e. e ≡ NumbersExhausted → IsTrue (asks_for_hit status request.old.cache)) }
     {
         request.cache.cache_found(

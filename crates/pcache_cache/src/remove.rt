@@ -11,7 +11,7 @@ impl<M: EvictionManager, K> Cache<M, K> {
     ghost use Rattle.pcache_base.specs.declared.error.ErrorType.TheVariants.{OutOfMemory};
     ghost use Rattle.pcache_request.specs.Phases.{MayPurge, MaySpawnPurge};
     ghost use Rattle.pcache_request.specs.Requests.{is_removed_by, tracked_gone_for};
-    ghost use Rattle.pcache_store.specs.Purge.{expire_answer, expired_at, purge_answer, purged_at};
+    ghost use Rattle.pcache_store.specs.Purge.{expire_outcome, expired_at, purge_outcome, purged_at};
 
     /// `HttpCache::purge`: removes what is stored for the key, and its entry from the manager. Returns whether anything was
     /// stored.
@@ -19,9 +19,9 @@ impl<M: EvictionManager, K> Cache<M, K> {
     pub fn purge(&mut self, request: &mut CacheRequest<K>) -> Result<bool>
         requires { MayPurge request.old.cache.phase }
         ensures same { request.new.cache ≡ request.old.cache }
-        ensures there { IfOk result (λ there. there ≡ is_removed_by (purge_answer true self.old.store (option_map slot request.old.cache.key))) }
+        ensures there { IfOk result (λ there. there ≡ is_removed_by (purge_outcome true self.old.store (option_map slot request.old.cache.key))) }
         ensures store { OnOk result (self.new.store ≡ purged_at self.old.store (option_map slot request.old.cache.key)) }
-        ensures tracked { OnOk result (self.new.tracked ≡ tracked_gone_for request.old.cache.uses.eviction request.old.cache.key (purge_answer true self.old.store (option_map slot request.old.cache.key)) self.old.tracked) }
+        ensures tracked { OnOk result (self.new.tracked ≡ tracked_gone_for request.old.cache.uses.eviction request.old.cache.key (purge_outcome true self.old.store (option_map slot request.old.cache.key)) self.old.tracked) }
         ensures same_store { OnErr result (self.new.store ≡ self.old.store) }
         ensures same_tracked { OnErr result (self.new.tracked ≡ self.old.tracked) }
         ensures limits { self.new.limits ≡ self.old.limits }
@@ -42,9 +42,9 @@ impl<M: EvictionManager, K> Cache<M, K> {
     ) -> Result<bool>
         requires { MaySpawnPurge request.old.cache.phase }
         ensures same { request.new.cache ≡ request.old.cache }
-        ensures there { IfOk result (λ there. there ≡ is_removed_by (purge_answer true self.old.store (option_map slot request.old.cache.key))) }
+        ensures there { IfOk result (λ there. there ≡ is_removed_by (purge_outcome true self.old.store (option_map slot request.old.cache.key))) }
         ensures store { OnOk result (self.new.store ≡ purged_at self.old.store (option_map slot request.old.cache.key)) }
-        ensures tracked { OnOk result (self.new.tracked ≡ tracked_gone_for request.old.cache.uses.eviction request.old.cache.key (purge_answer true self.old.store (option_map slot request.old.cache.key)) self.old.tracked) }
+        ensures tracked { OnOk result (self.new.tracked ≡ tracked_gone_for request.old.cache.uses.eviction request.old.cache.key (purge_outcome true self.old.store (option_map slot request.old.cache.key)) self.old.tracked) }
         ensures same_store { OnErr result (self.new.store ≡ self.old.store) }
         ensures same_tracked { OnErr result (self.new.tracked ≡ self.old.tracked) }
         ensures limits { self.new.limits ≡ self.old.limits }
@@ -63,9 +63,9 @@ impl<M: EvictionManager, K> Cache<M, K> {
     pub fn expire(&mut self, request: &mut CacheRequest<K>, now: Moment) -> Result<bool>
         requires { MayPurge request.old.cache.phase }
         ensures same { request.new.cache ≡ request.old.cache }
-        ensures there { IfOk result (λ there. there ≡ is_removed_by (expire_answer self.old.store (option_map slot request.old.cache.key))) }
+        ensures there { IfOk result (λ there. there ≡ is_removed_by (expire_outcome self.old.store (option_map slot request.old.cache.key))) }
         ensures store { OnOk result (self.new.store ≡ expired_at now self.old.store (option_map slot request.old.cache.key)) }
-        ensures tracked { OnOk result (self.new.tracked ≡ tracked_gone_for request.old.cache.uses.eviction request.old.cache.key (expire_answer self.old.store (option_map slot request.old.cache.key)) self.old.tracked) }
+        ensures tracked { OnOk result (self.new.tracked ≡ tracked_gone_for request.old.cache.uses.eviction request.old.cache.key (expire_outcome self.old.store (option_map slot request.old.cache.key)) self.old.tracked) }
         ensures same_store { OnErr result (self.new.store ≡ self.old.store) }
         ensures same_tracked { OnErr result (self.new.tracked ≡ self.old.tracked) }
         ensures limits { self.new.limits ≡ self.old.limits }

@@ -13,12 +13,12 @@ is_cacheable (Cacheable meta) = true
 is_cacheable (Uncacheable reason) = false
 
 -- a response is stored if there is a moment until which it is fresh
-abbrev pub outcome : ℕ → Option CacheControl → ℕ × ℕ → ResponseHeader → Option ℕ → RespCacheable
-outcome now cc default header None = Uncacheable OriginNotCache
-outcome now cc default header (Some fresh_until) = Cacheable (new_meta now fresh_until (windows_of cc default) (stored_header cc header))
+abbrev pub decision_on : ℕ → Option CacheControl → ℕ × ℕ → ResponseHeader → Option ℕ → RespCacheable
+decision_on now cc default header None = Uncacheable OriginNotCache
+decision_on now cc default header (Some fresh_until) = Cacheable (new_meta now fresh_until (windows_of cc default) (stored_header cc header))
 
--- the outcome by a moment until which the response is fresh, if a default lifetime is one of `answers`, and the
+-- the decision by a moment until which the response is fresh, if a default lifetime is one of `answers`, and the
 -- default windows are `default`
-abbrev pub IsOutcome : ℕ → Option CacheControl → ℕ × ℕ → ResponseHeader → Bool → (Option Duration → Type 0) → RespCacheable → Type 0
-IsOutcome now cc default header authorized answers result =
-    (fresh_until : Option ℕ) × FreshUntil now cc header.headers authorized answers fresh_until × (result ≡ outcome now cc default header fresh_until)
+abbrev pub IsDecision : ℕ → Option CacheControl → ℕ × ℕ → ResponseHeader → Bool → (Option Duration → Type 0) → RespCacheable → Type 0
+IsDecision now cc default header authorized answers result =
+    (fresh_until : Option ℕ) × FreshUntil now cc header.headers authorized answers fresh_until × (result ≡ decision_on now cc default header fresh_until)

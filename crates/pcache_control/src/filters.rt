@@ -5,7 +5,7 @@ ghost use Rattle.std.specs.Duration.{as_nanos};
 ghost use Rattle.std.specs.Option.{option_map, option_copied};
 ghost use Rattle.pcache_control.specs.Defaults.{asked_status};
 ghost use Rattle.pcache_control.specs.Filters.{end_of, expires_at, expires_of, forbids, said_moment, FreshUntil, window, windows};
-ghost use Rattle.pcache_control.specs.Responses.{IsOutcome};
+ghost use Rattle.pcache_control.specs.Responses.{IsDecision};
 
 pub mod upstream;
 
@@ -172,7 +172,7 @@ pub fn resp_cacheable(
     defaults: &CacheMetaDefaults,
     now: Moment,
 ) -> RespCacheable
-    ensures { IsOutcome now (option_copied cache_control.entry)
+    ensures { IsDecision now (option_copied cache_control.entry)
         (defaults.now.stale_while_revalidate_sec, defaults.now.stale_if_error_sec)
         resp_header authorization_present
         (FreshDurationByStatusFn.post defaults.now.fresh_sec_fn (asked_status resp_header.status))

@@ -13,7 +13,7 @@ use Rattle.pcache_evict.specs.declared.eviction.entry_key.CacheEntryKey.{CacheEn
 use Rattle.pcache_evict.specs.Entry.{entry_eq}
 use Rattle.pcache_evict.specs.Recency.{Recency, weight, weight_of, moved}
 use Rattle.pcache_evict.specs.Listed.{IsOnce}
-use Rattle.pcache_evict.specs.Shards.{IsShard, ArePlaced, AreKept, AreLengths, AreLonger, all, list_at, shard_of, in_shard, joined, joined_all}
+use Rattle.pcache_evict.specs.Shards.{IsShard, ArePlaced, AreKept, AreLengths, AreLonger, all, list_at, shard_of, in_shard, added_last, added_last_all}
 use Rattle.pcache_evict.proofs.Recency.{all_apart, laws, same_key}
 use Rattle.pcache_evict.proofs.Sharded.{E, at_home, both, each-put, in_range, kept-popped, length-around, once-append, placed-put, read_at, weight-around}
 
@@ -152,10 +152,10 @@ longer-same shards = record { long = refl; each = λ i. ([], sym (append-nil (li
 pub longer-start : (old now : List Recency) → now ≡ old → AreLonger old now
 longer-start old now same = subst (AreLonger old) (sym same) (longer-same old)
 
-joined-back : (k : CacheEntryKey) (w : ℕ) (l : Recency) → (tail : Recency) × (joined k w l ≡ l ++ tail)
+joined-back : (k : CacheEntryKey) (w : ℕ) (l : Recency) → (tail : Recency) × (added_last k w l ≡ l ++ tail)
 joined-back k w l = elim (is_some (weight_of k l)) as (λ b. (tail : Recency) × (cond b l (l ++ (k, w) ∷ []) ≡ l ++ tail)) [ true ↦ ([], sym (append-nil l)) | false ↦ ((k, w) ∷ [], refl) ]
 
-pub longer-joined : (n : ℕ) (old now new : List Recency) (k : CacheEntryKey) (w : ℕ) → ArePlaced n now → AreLonger old now → new ≡ in_shard n k (joined k w) now → AreLonger old new
+pub longer-joined : (n : ℕ) (old now new : List Recency) (k : CacheEntryKey) (w : ℕ) → ArePlaced n now → AreLonger old now → new ≡ in_shard n k (added_last k w) now → AreLonger old new
 longer-joined n old now new k w placed longer is =
     let i = shard_of n k in
     let more = joined-back k w (list_at now i) in
@@ -164,19 +164,19 @@ longer-joined n old now new k w placed longer is =
       each = λ j. elim (cases_eq j i) [
         | inl same ↦
             let t = longer.each j in
-            let here : list_at new j ≡ joined k w (list_at now i) = ap (λ s. list_at s j) is ∙ ap (list_at (in_shard n k (joined k w) now)) same ∙ get_or-set_same now i _ [] (in_range n now k placed) in
+            let here : list_at new j ≡ added_last k w (list_at now i) = ap (λ s. list_at s j) is ∙ ap (list_at (in_shard n k (added_last k w) now)) same ∙ get_or-set_same now i _ [] (in_range n now k placed) in
             (t.0 ++ more.0, here ∙ more.1 ∙ ap (λ m. list_at now m ++ more.0) (sym same) ∙ ap (λ l. l ++ more.0) t.1 ∙ append_assoc (list_at old j) t.0 more.0)
         | inr off ↦ let t = longer.each j in (t.0, ap (λ s. list_at s j) is ∙ get_or-set_other now i j _ [] off ∙ t.1)
       ];
     }
 
 -- a tracked entry is unchanged
-pub joined-there : (n : ℕ) (shards : List Recency) (k : CacheEntryKey) (w : ℕ) → is_some (weight_of k (list_at shards (shard_of n k))) ≡ true → shards ≡ in_shard n k (joined k w) shards
+pub joined-there : (n : ℕ) (shards : List Recency) (k : CacheEntryKey) (w : ℕ) → is_some (weight_of k (list_at shards (shard_of n k))) ≡ true → shards ≡ in_shard n k (added_last k w) shards
 joined-there n shards k w there =
     let l = list_at shards (shard_of n k) in
     sym (ap (λ b. slice_set shards (shard_of n k) (cond b l (l ++ (k, w) ∷ []))) there ∙ set-same shards (shard_of n k))
 
-pub joined-new : (n : ℕ) (shards : List Recency) (k : CacheEntryKey) (w : ℕ) → is_some (weight_of k (list_at shards (shard_of n k))) ≡ false → in_shard n k (λ l. l ++ (k, w) ∷ []) shards ≡ in_shard n k (joined k w) shards
+pub joined-new : (n : ℕ) (shards : List Recency) (k : CacheEntryKey) (w : ℕ) → is_some (weight_of k (list_at shards (shard_of n k))) ≡ false → in_shard n k (λ l. l ++ (k, w) ∷ []) shards ≡ in_shard n k (added_last k w) shards
 joined-new n shards k w missing =
     let l = list_at shards (shard_of n k) in
     sym (ap (λ b. slice_set shards (shard_of n k) (cond b l (l ++ (k, w) ∷ []))) missing)
@@ -264,5 +264,5 @@ lens-done n i lens items inside now all_of is view long low high =
 
 -- ---- entries put in one after the other
 
-pub joins-on : (n : ℕ) (rest left : Recency) (k : CacheEntryKey) (w : ℕ) (now new total : List Recency) → rest ≡ (k, w) ∷ left → new ≡ in_shard n k (joined k w) now → joined_all n rest now ≡ total → joined_all n left new ≡ total
-joins-on n rest left k w now new total split is so_far = ap (joined_all n left) is ∙ ap (λ l. joined_all n l now) (sym split) ∙ so_far
+pub joins-on : (n : ℕ) (rest left : Recency) (k : CacheEntryKey) (w : ℕ) (now new total : List Recency) → rest ≡ (k, w) ∷ left → new ≡ in_shard n k (added_last k w) now → added_last_all n rest now ≡ total → added_last_all n left new ≡ total
+joins-on n rest left k w now new total split is so_far = ap (added_last_all n left) is ∙ ap (λ l. added_last_all n l now) (sym split) ∙ so_far

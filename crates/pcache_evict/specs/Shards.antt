@@ -54,13 +54,13 @@ abbrev pub grown : CacheEntryKey → ℕ → Option ℕ → Recency → Recency
 grown k delta cap l = if is_some (weight_of k l) then reweighed k (raised delta cap (weight_of k l)) l else moved k (raised delta cap None) l
 
 -- a loaded entry is added at the back; one that is in the list is unchanged
-abbrev pub joined : CacheEntryKey → ℕ → Recency → Recency
-joined k n l = if is_some (weight_of k l) then l else l ++ (k, n) ∷ []
+abbrev pub added_last : CacheEntryKey → ℕ → Recency → Recency
+added_last k n l = if is_some (weight_of k l) then l else l ++ (k, n) ∷ []
 
 -- entries that are loaded one after the other, each into the list of its key's shard
-abbrev pub joined_all : ℕ → Recency → List Recency → List Recency
-joined_all n [] shards = shards
-joined_all n (e ∷ entries) shards = joined_all n entries (in_shard n e.0 (joined e.0 e.1) shards)
+abbrev pub added_last_all : ℕ → Recency → List Recency → List Recency
+added_last_all n [] shards = shards
+added_last_all n (e ∷ entries) shards = added_last_all n entries (in_shard n e.0 (added_last e.0 e.1) shards)
 
 -- how long the lists are
 pub record AreLengths (n : ℕ) (lens : List ℕ) (shards : List Recency) : Type 0 where

@@ -9,7 +9,7 @@ use Rattle.pcache_evict.specs.Entry.{entry_eq, entry_cmp, entries_total, entry_t
 use Rattle.pcache_evict.specs.Tracked.{added}
 use Rattle.pcache_evict.specs.Recency.{Recency, weight_of, moved, loaded, loaded_all}
 use Rattle.pcache_evict.specs.Listed.{map_of, IsOnce}
-use Rattle.pcache_evict.specs.Shards.{ArePlaced, IsShard, all, list_at, shard_of, in_shard, joined, joined_all}
+use Rattle.pcache_evict.specs.Shards.{ArePlaced, IsShard, all, list_at, shard_of, in_shard, added_last, added_last_all}
 use Rattle.pcache_evict.proofs.EntryOrder.{exact_entries}
 use Rattle.pcache_evict.proofs.Recency.{laws, same_key}
 use Rattle.pcache_evict.proofs.Maps.{get-map_of, map-moved}
@@ -72,7 +72,7 @@ other_way : (k : CacheEntryKey) (w : ℕ) (l : Recency) → Apart k l → AllByR
 other_way k w [] h = tt
 other_way k w (e ∷ l) h = ((laws.symm e.0 k ∙ h.0, tt), other_way k w l h.1)
 
-shard_joined : (n : ℕ) (k : CacheEntryKey) (w : ℕ) (l : Recency) → IsShard n (shard_of n k) l → IsShard n (shard_of n k) (joined k w l)
+shard_joined : (n : ℕ) (k : CacheEntryKey) (w : ℕ) (l : Recency) → IsShard n (shard_of n k) l → IsShard n (shard_of n k) (added_last k w l)
 shard_joined n k w l s = elim (weight_of k l) as (λ o. weight_of k l ≡ o → IsShard n (shard_of n k) (cond (is_some o) l (l ++ (k, w) ∷ []))) [
   | None ↦ λ none. record {
     own = both (λ e. shard_of n e.0 ≡ shard_of n k) l ((k, w) ∷ []) s.own (refl, tt);
@@ -81,15 +81,15 @@ shard_joined n k w l s = elim (weight_of k l) as (λ o. weight_of k l ≡ o → 
   | Some v ↦ λ some. s
 ] refl
 
-placed_joined : (n : ℕ) (k : CacheEntryKey) (w : ℕ) (shards : List Recency) → ArePlaced n shards → ArePlaced n (in_shard n k (joined k w) shards)
+placed_joined : (n : ℕ) (k : CacheEntryKey) (w : ℕ) (shards : List Recency) → ArePlaced n shards → ArePlaced n (in_shard n k (added_last k w) shards)
 placed_joined n k w shards p = placed-put n shards (shard_of n k) _ (in_range n shards k p) (shard_joined n k w (list_at shards (shard_of n k)) (p.each (shard_of n k))) p
 
-map_joined : (n : ℕ) (k : CacheEntryKey) (w : ℕ) (shards : List Recency) → ArePlaced n shards → map_of (all (in_shard n k (joined k w) shards)) ≡ added (map_of (all shards)) k w
+map_joined : (n : ℕ) (k : CacheEntryKey) (w : ℕ) (shards : List Recency) → ArePlaced n shards → map_of (all (in_shard n k (added_last k w) shards)) ≡ added (map_of (all shards)) k w
 map_joined n k w shards p =
     let l = list_at shards (shard_of n k) in
     let s = at_home n shards k p in
     let found = found-all n shards k p in
-    elim (weight_of k l) as (λ o. weight_of k l ≡ o → map_of (all (in_shard n k (joined k w) shards)) ≡ added (map_of (all shards)) k w) [
+    elim (weight_of k l) as (λ o. weight_of k l ≡ o → map_of (all (in_shard n k (added_last k w) shards)) ≡ added (map_of (all shards)) k w) [
       | None ↦ λ none.
           let whole : all (in_shard n k (λ l. l ++ (k, w) ∷ []) shards) ≡ (s.front ++ l) ++ (k, w) ∷ s.back = s.put (l ++ (k, w) ∷ []) ∙ ap (λ t. s.front ++ t) (append_assoc l ((k, w) ∷ []) s.back) ∙ sym (append_assoc s.front l ((k, w) ∷ s.back)) in
           let old : all shards ≡ (s.front ++ l) ++ s.back = s.here ∙ sym (append_assoc s.front l s.back) in
@@ -104,10 +104,10 @@ map_joined n k w shards p =
           ∙ sym (ap (λ b. cond b (map_of (all shards)) (fin.insert (map_of (all shards)) k w)) there)
     ] refl
 
-pub map_joined_all : (n : ℕ) (entries : Recency) (shards : List Recency) → ArePlaced n shards → map_of (all (joined_all n entries shards)) ≡ added_all entries (map_of (all shards))
+pub map_joined_all : (n : ℕ) (entries : Recency) (shards : List Recency) → ArePlaced n shards → map_of (all (added_last_all n entries shards)) ≡ added_all entries (map_of (all shards))
 map_joined_all n [] shards p = refl
 map_joined_all n (e ∷ entries) shards p =
-    map_joined_all n entries (in_shard n e.0 (joined e.0 e.1) shards) (placed_joined n e.0 e.1 shards p) ∙ ap (added_all entries) (map_joined n e.0 e.1 shards p)
+    map_joined_all n entries (in_shard n e.0 (added_last e.0 e.1) shards) (placed_joined n e.0 e.1 shards p) ∙ ap (added_all entries) (map_joined n e.0 e.1 shards p)
 
 -- ---- files one after the other
 

@@ -47,7 +47,7 @@ pub(crate) fn replace_file<R: Files>(
     ensures { IfErr result (λ e. (e ≡ OutOfMemory) ⊎ (e ≡ Io)) }
 {
     let path = Path::new(dir).join(alloc, name)?;
-    told(fs::create_dir_all(files, dir))?;
+    result_of(fs::create_dir_all(files, dir))?;
     for step in 0..SUFFIXES {
         let temporary = temporary_path(alloc, dir, name, suffix.wrapping_add(step))?;
         match fs::File::create_new(files, temporary.as_str()) {
@@ -100,7 +100,7 @@ fn write_and_rename<R: Files>(
     ensures { IfErr result (λ e. (e ≡ OutOfMemory) ⊎ (e ≡ Io)) }
 {
     write_new(file, bytes)?;
-    told(fs::rename(files, temporary, path))
+    result_of(fs::rename(files, temporary, path))
 }
 
 // Writes all of a new file, and closes it.
@@ -112,7 +112,7 @@ fn write_new<W: Write + Drop>(file: W, bytes: &[u8]) -> Result<()>
 }
 
 // The result of a call on the file system.
-fn told(answer: io::Result<()>) -> Result<()>
+fn result_of(answer: io::Result<()>) -> Result<()>
     ensures { IfErr result (λ e. (e ≡ OutOfMemory) ⊎ (e ≡ Io)) }
 {
     match answer {

@@ -2,7 +2,7 @@
 ghost use Rattle.std.specs.Prelude.{◌≡◌, ◌+◌, ◌^◌, ◌<◌, ◌≤◌, ◌⊎◌, ◌++◌, ℕ, IfErr, IfOk, IfNone, IfSome, IsErrOf, OnErr, OnOk};
 ghost use Rattle.pcache_base.specs.declared.error.ErrorType.TheVariants.{InternalError, Io, OutOfMemory};
 ghost use Rattle.pcache_evict.specs.Recency.{Recency};
-ghost use Rattle.pcache_evict.specs.Shards.{ArePlaced, joined_all, list_at};
+ghost use Rattle.pcache_evict.specs.Shards.{ArePlaced, added_last_all, list_at};
 ghost use Rattle.pcache_files.specs.FileSpelling.{SpellsFile};
 ghost use Rattle.pcache_files.specs.Folder.{IsRead, IsSkipped, Loads};
 ghost use Rattle.pcache_files.specs.FileWriting.{file_written, IsTooLong};
@@ -41,7 +41,7 @@ pub fn deserialize_shard<const N: usize>(
     bytes: &[u8],
 ) -> Result<()>
     ensures ok { OnOk result ((l : Recency) × SpellsFile bytes.now l
-        × (manager.new ≡ record manager.old { shards = joined_all N l manager.old.shards })) }
+        × (manager.new ≡ record manager.old { shards = added_last_all N l manager.old.shards })) }
     ensures refused { IsErrOf result InternalError → (l : Recency) → ¬ (SpellsFile bytes.now l) }
     ensures kinds { IfErr result (λ e. (e ≡ OutOfMemory) ⊎ (e ≡ InternalError)) }
     ensures err { OnErr result (manager.new ≡ manager.old) }
@@ -101,7 +101,7 @@ pub fn load<R: Files, const N: usize>(
     dir: &str,
 ) -> Result<usize>
     ensures ok { IfOk result (λ skipped. (l : Recency) × Loads R.File.remaining N skipped l
-        × (manager.new ≡ record manager.old { shards = joined_all N l manager.old.shards })) }
+        × (manager.new ≡ record manager.old { shards = added_last_all N l manager.old.shards })) }
     ensures skipped { IfOk result (λ n. n ≤ N) }
     ensures placed { ArePlaced N manager.old.shards }
     ensures kind { IfErr result (λ e. e ≡ OutOfMemory) }

@@ -5,7 +5,7 @@ use Rattle.pcache_store.specs.Store.{Reader}
 use Rattle.pcache_history.specs.declared.entry.Entry.{Entry}
 use Rattle.pcache_history.specs.Due.{makes_of, reader_for, AreDue}
 use Rattle.pcache_history.specs.Headline.{LooksAreTrue, ReadsAreTrue}
-use Rattle.pcache_history.specs.Held.{Held, row, request_of}
+use Rattle.pcache_history.specs.Ongoing.{Ongoing, row, request_of}
 use Rattle.pcache_history.specs.History.{events_of}
 use Rattle.pcache_history.specs.Legal.{IsLegal}
 
@@ -15,7 +15,7 @@ looks_are_true age limits start before entry k answer rest l is =
     (subst (λ xs. AreDue limits start (events_of before) q (makes_of q) None xs (makes_of (row entry.call.act entry.reply entry.events q))) is l.0.due).0
 
 -- a reader that is told is that of an open request
-reader-is : (q : Option Held) (rd : Reader) → reader_for q ≡ Some rd → (x : Held) × (q ≡ Some x) × (x.request.reader ≡ Some rd)
+reader-is : (q : Option Ongoing) (rd : Reader) → reader_for q ≡ Some rd → (x : Ongoing) × (q ≡ Some x) × (x.request.reader ≡ Some rd)
 reader-is None rd is = absurd (cc)
 reader-is (Some x) rd is = (x, refl, is)
 

@@ -5,15 +5,15 @@ use Rattle.pcache_history.specs.declared.call.Act.{Act}
 use Rattle.pcache_history.specs.declared.call.Reply.{Reply}
 use Rattle.pcache_history.specs.declared.call.Reply.TheVariants as R
 use Rattle.pcache_history.specs.declared.entry.Event.{Event}
-use Rattle.pcache_history.specs.Held.{Held, outcome, row_by, row}
+use Rattle.pcache_history.specs.Ongoing.{Ongoing, kind_of_reply, row_by, row}
 use Rattle.pcache_history.specs.Rules.{IsOther, IsCopy}
 
-pub outcome-copied : (reply told : Reply) → IsCopy reply told → outcome told ≡ outcome reply
-outcome-copied reply told (inl same) = ap outcome same
-outcome-copied reply told (inr (refused, given)) = let same : outcome (R.Refused OutOfMemory) ≡ outcome (R.Data given.0) = refl in ap outcome refused ∙ same ∙ ap outcome (sym given.1)
+pub kind-copied : (reply told : Reply) → IsCopy reply told → kind_of_reply told ≡ kind_of_reply reply
+kind-copied reply told (inl same) = ap kind_of_reply same
+kind-copied reply told (inr (refused, given)) = let same : kind_of_reply (R.Refused OutOfMemory) ≡ kind_of_reply (R.Data given.0) = refl in ap kind_of_reply refused ∙ same ∙ ap kind_of_reply (sym given.1)
 
-pub row-copied : (act : Act) (reply told : Reply) (events : List Event) (q : Option Held) → IsCopy reply told → row act told events q ≡ row act reply events q
-row-copied act reply told events q copy = ap (λ o. row_by act o events q) (outcome-copied reply told copy)
+pub row-copied : (act : Act) (reply told : Reply) (events : List Event) (q : Option Ongoing) → IsCopy reply told → row act told events q ≡ row act reply events q
+row-copied act reply told events q copy = ap (λ o. row_by act o events q) (kind-copied reply told copy)
 
 pub other-copied : (reply told : Reply) → IsCopy reply told → IsOther reply → IsOther told
 other-copied reply told (inl same) is = subst IsOther (sym same) is

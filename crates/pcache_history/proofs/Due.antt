@@ -9,7 +9,7 @@ use Rattle.pcache_history.specs.declared.entry.Event.{Event}
 use Rattle.pcache_history.specs.declared.entry.Event.TheVariants as E
 use Rattle.pcache_history.specs.Due.{Owed, slot_of, makes, owes, IsNext, AreDue}
 use Rattle.pcache_history.specs.Events.{option_any, begun, begin_of, has_ended, in_flight, body_of, last_finished, complete, stored_size, tracked, names_slot}
-use Rattle.pcache_history.specs.Held.{Held}
+use Rattle.pcache_history.specs.Ongoing.{Ongoing}
 use Rattle.pcache_history.specs.Kept.{IsTidy, IsExact, IsBounded}
 use Rattle.pcache_history.proofs.Bound.{bound-within, bound-wrote, bound-begin, bound-purge, bound-expire, bound-renew, bound-undone}
 use Rattle.pcache_history.proofs.Exact.{exact-wrote, exact-begin, exact-purge, exact-expire, exact-renew, exact-untrack, exact-access, exact-admit, exact-undone}
@@ -145,7 +145,7 @@ pub record IsOn (limits : Limits) (start : Tracked) (n : ℕ) (f slots : ℕ →
   pub made : AreMade (with_one n o f) slots es
   pub settled : IsSettled limits start es (slots n) owed
 
-module _ (limits : Limits) (start : Tracked) (n : ℕ) (f slots : ℕ → Option ℕ) (q : Option Held) (own : slots n ≡ slot_of q) where
+module _ (limits : Limits) (start : Tracked) (n : ℕ) (f slots : ℕ → Option ℕ) (q : Option Ongoing) (own : slots n ≡ slot_of q) where
   abbrev On : List Event → Option ℕ → Option Owed → Type 0
   On es o owed = IsOn limits start n f slots es o owed
 

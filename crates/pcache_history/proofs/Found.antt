@@ -29,7 +29,7 @@ use Rattle.pcache_history.specs.declared.entry.Event.{Event}
 use Rattle.pcache_history.specs.declared.entry.Event.TheVariants as E
 use Rattle.pcache_history.specs.Events.{begin_of, is_open, option_any}
 use Rattle.pcache_history.specs.Headline.{FollowsAWrite, IsFoundBy, ReadsWhatWasFound, is_opening, opens_under}
-use Rattle.pcache_history.specs.Held.{Held, Change, fed_in, held_put, opens, closes, stays, turns, turns_by, shuts, looks, takes, begins, ends, reads_on, seeks, reads_no_more, renews, waits, pushes, feeds, goes, change_of, changed, turned_by, shut_by, sought_in, with_sought, Outcome, outcome, is_wrong, is_done, is_taken, opened, asked, carrying, decides, looked_by, pair_of, placed_by, taken_by, without_pair, began, ended, read_past, has_read, on_request, row, row_by, request_of, pair_reader, after_look}
+use Rattle.pcache_history.specs.Ongoing.{Ongoing, Change, fed_in, ongoing_put, opens, closes, stays, turns, turns_by, shuts, looks, takes, begins, ends, reads_on, seeks, reads_no_more, renews, waits, pushes, feeds, goes, change_of, changed, turned_by, shut_by, sought_in, with_sought, ReplyKind, kind_of_reply, is_wrong, is_done, is_taken, opened, asked, carrying, decides, looked_by, pair_of, placed_by, taken_by, without_pair, began, ended, read_past, has_read, on_request, row, row_by, request_of, pair_reader, after_look}
 use Rattle.pcache_history.specs.History.{Finds, events_of}
 use Rattle.pcache_history.specs.Taking.{Taking, new_put}
 use Rattle.pcache_history.specs.Legal.{IsLegal}
@@ -51,7 +51,7 @@ IsOf P None = Unit {0}
 IsOf P (Some (Whole id body start stop done)) = P (of_body body)
 IsOf P (Some (Part w place)) = P (of_write w)
 
-abbrev AreOf : (Source → Type 0) → Option Held → Type 0
+abbrev AreOf : (Source → Type 0) → Option Ongoing → Type 0
 AreOf P None = Unit {0}
 AreOf P (Some x) = IsOf P x.request.reader × IsOf P (pair_reader x.pair)
 
@@ -60,11 +60,11 @@ is-of-more P Q None more h = tt
 is-of-more P Q (Some (Whole id body start stop done)) more h = more (of_body body) h
 is-of-more P Q (Some (Part w place)) more h = more (of_write w) h
 
-are-of-more : (P Q : Source → Type 0) (q : Option Held) → ((from : Source) → P from → Q from) → AreOf P q → AreOf Q q
+are-of-more : (P Q : Source → Type 0) (q : Option Ongoing) → ((from : Source) → P from → Q from) → AreOf P q → AreOf Q q
 are-of-more P Q None more h = tt
 are-of-more P Q (Some x) more h = (is-of-more P Q x.request.reader more h.0, is-of-more P Q (pair_reader x.pair) more h.1)
 
-either : (P : Source → Type 0) (b : Bool) (p q : Option Held) → AreOf P p → AreOf P q → AreOf P (cond b p q)
+either : (P : Source → Type 0) (b : Bool) (p q : Option Ongoing) → AreOf P p → AreOf P q → AreOf P (cond b p q)
 either P true p q h k = h
 either P false p q h k = k
 
@@ -74,7 +74,7 @@ FoundOf P a = IsOf P (pair_reader (pair_of a))
 
 -- one change, after which what a look-up of it found is one of these, and so is the write that it began
 module _ (P : Source → Type 0) (events : List Event) (answered : (k : ℕ) (a : Answer) (rest : List Event) → events ≡ E.Look k a ∷ rest → FoundOf P a)
-    (joined : (w k : ℕ) (m : Meta) (rest : List Event) → events ≡ E.Begin w k m ∷ rest → P (of_write w)) (o : Outcome) where
+    (joined : (w k : ℕ) (m : Meta) (rest : List Event) → events ≡ E.Begin w k m ∷ rest → P (of_write w)) (o : ReplyKind) where
   seen-of : (from : Option ℕ) (p : Option (Meta × Reader)) → IsOf P (pair_reader p) → IsOf P (pair_reader (visible from p))
   seen-of from None h = tt
   seen-of from (Some p) h = elim (is_hidden from p.0.created) as (λ b. IsOf P (pair_reader (cond b None (Some p)))) [ true ↦ tt | false ↦ h ]
@@ -83,7 +83,7 @@ module _ (P : Source → Type 0) (events : List Event) (answered : (k : ℕ) (a 
   off-of x (phase.Disabled reason.NeverEnabled) h = h
   off-of x p h = tt
 
-  looked-on : (d : Option Decision) (a : Answer) (es : List Event) (x : Held) → AreOf P (Some x) → IsOf P (pair_reader (pair_of a)) → AreOf P (Some (after_look d a es x))
+  looked-on : (d : Option Decision) (a : Answer) (es : List Event) (x : Ongoing) → AreOf P (Some x) → IsOf P (pair_reader (pair_of a)) → AreOf P (Some (after_look d a es x))
   looked-on d a es x h k =
       let old : IsOf P (with_decision d x.request).reader = subst (IsOf P) (sym (decided-reader d x.request)) h.0 in
       elim (is_deferral d) as (λ b. AreOf P (Some (cond b (record { request = disabled_for Deferred (with_decision d x.request); pair = None; carried = None; put = x.put }) (record { request = asked false es (with_decision d x.request); pair = visible x.request.valid_after (pair_of a); carried = x.carried; put = x.put })))) [
@@ -91,7 +91,7 @@ module _ (P : Source → Type 0) (events : List Event) (answered : (k : ℕ) (a 
         | false ↦ (subst (IsOf P) (sym (asked-reader false es (with_decision d x.request))) old, seen-of x.request.valid_after (pair_of a) k)
       ]
 
-  looked : (x : Held) (es : List Event) → events ≡ es → AreOf P (Some x) → AreOf P (Some (looked_by es x))
+  looked : (x : Ongoing) (es : List Event) → events ≡ es → AreOf P (Some x) → AreOf P (Some (looked_by es x))
   looked x [] is h = h
   looked x (E.Look k a ∷ es) is h = looked-on (decides a x) a es x h (answered k a es is)
   looked x (e ∷ es) is h = h
@@ -129,7 +129,7 @@ module _ (P : Source → Type 0) (events : List Event) (answered : (k : ℕ) (a 
   sought-of start end (Some (Whole id body from to done)) h =
       elim (nat_lt start (length body) && is_forward start end) as (λ b. IsOf P (cond b (Some (Whole id body start (end_or end (length body)) false)) None)) [ true ↦ h | false ↦ tt ]
 
-  change-of : (change : Change) (q : Option Held) → AreOf P q → AreOf P (changed change o events q)
+  change-of : (change : Change) (q : Option Ongoing) → AreOf P q → AreOf P (changed change o events q)
   change-of (opens options) q h = either P (is_done o) (Some (opened options)) q (tt, tt) h
   change-of closes q h = either P (is_done o) None q tt h
   change-of stays q h = h
@@ -159,7 +159,7 @@ module _ (P : Source → Type 0) (events : List Event) (answered : (k : ℕ) (a 
   change-of (renews m) (Some x) h = either P (is_wrong o) (Some x) (Some (on_request (renewed m) x)) h (h.0, h.1)
   change-of (waits now) None h = tt
   change-of (waits now) (Some x) h = (subst (IsOf P) (sym (waited-reader o now x.request)) h.0, h.1)
-  change-of (pushes k limit) q h = either P (is_done o) (Some (held_put (new_put k limit))) q (tt, tt) h
+  change-of (pushes k limit) q h = either P (is_done o) (Some (ongoing_put (new_put k limit))) q (tt, tt) h
   change-of feeds None h = tt
   change-of feeds (Some x) h = fed-of x.put
     where
@@ -172,7 +172,7 @@ module _ (P : Source → Type 0) (events : List Event) (answered : (k : ℕ) (a 
   change-of goes q h = either P (is_wrong o) q None h tt
 
   -- a request that was opened reads nothing
-  opened-of : (act : Act) (q : Option Held) → is_opening act && is_done o ≡ true → AreOf P (row_by act o events q)
+  opened-of : (act : Act) (q : Option Ongoing) → is_opening act && is_done o ≡ true → AreOf P (row_by act o events q)
   opened-of (C.Open options) q is = subst (λ b. AreOf P (cond b (Some (opened options)) q)) (sym is) (tt, tt)
   opened-of act q is = absurd (cc)
 
@@ -198,7 +198,7 @@ held-found r [] = tt
 held-found r (e ∷ h) =
     let q = request_of r h in
     let P = IsFoundIn (e ∷ h) r in
-    let o = outcome e.reply in
+    let o = kind_of_reply e.reply in
     let old : opens_under r e ≡ false → AreOf P q = λ closed. are-of-more (IsFoundIn h r) P q (found-more e h r closed) (held-found r h) in
     taken_keeps (AreOf P) (λ x l is. is) e.call.act o r (request_of e.call.request h) (if e.call.request == r then row e.call.act e.reply e.events q else q) (elim (e.call.request == r) as (λ b. (e.call.request == r) ≡ b → AreOf P (if b then row e.call.act e.reply e.events q else q)) [
       | true ↦ λ is.
@@ -258,11 +258,11 @@ held-begun age limits start r (e ∷ h) l =
     let es = events_of h in
     let P = IsBegunIn (reverse e.events ++ es) in
     let old : AreOf P q = are-of-more (IsBegunIn es) P q (begun-more (reverse e.events) es) (held-begun age limits start r h l.1) in
-    taken_keeps (AreOf P) (λ x l is. is) e.call.act (outcome e.reply) r (request_of e.call.request h) (if e.call.request == r then row e.call.act e.reply e.events q else q) (elim (e.call.request == r) as (λ b. AreOf P (if b then row e.call.act e.reply e.events q else q)) [
+    taken_keeps (AreOf P) (λ x l is. is) e.call.act (kind_of_reply e.reply) r (request_of e.call.request h) (if e.call.request == r then row e.call.act e.reply e.events q else q) (elim (e.call.request == r) as (λ b. AreOf P (if b then row e.call.act e.reply e.events q else q)) [
       | true ↦ change-of P e.events
           (λ k a rest is. found-of-more (IsBegunIn es) P a (begun-more (reverse e.events) es) (found-begun k a es (looks_are_true age limits start h e k a rest l is)))
           (λ w k m rest is. subst (λ xs. IsSome (begin_of w (reverse xs ++ es))) (sym is) (now-begun w k m rest es))
-          (outcome e.reply) (change_of e.call.act) q old
+          (kind_of_reply e.reply) (change_of e.call.act) q old
       | false ↦ old
     ])
 

@@ -25,13 +25,13 @@ use Rattle.pcache_history.specs.declared.entry.Event.TheVariants as E
 use Rattle.pcache_history.specs.Deeds.{deeds_of}
 use Rattle.pcache_history.specs.Events.{begin_of, in_flight, body_of, is_told}
 use Rattle.pcache_history.specs.Facts.{Facts, Says}
-use Rattle.pcache_history.specs.Headline.{is_found, HasUntouched, HandsOnExactly, HandsOnUnhidden, told_found, TellsExactly, ReadsTheWhole, IsEntryOf, FindsUntouched, FinishesUntouched, HitsTheLast, IsWithinAlways, EvictsNothingWithin, GivesWhereNoneWaits}
-use Rattle.pcache_history.specs.Held.{Held, carrying, decides, pair_of, request_of}
+use Rattle.pcache_history.specs.Headline.{is_found, HasUntouched, HandsOnExactly, HandsOnUnhidden, says_found, TellsExactly, ReadsTheWhole, IsEntryOf, FindsUntouched, FinishesUntouched, HitsTheLast, IsWithinAlways, EvictsNothingWithin, GivesWhereNoneWaits}
+use Rattle.pcache_history.specs.Ongoing.{Ongoing, carrying, decides, pair_of, request_of}
 use Rattle.pcache_history.specs.History.{events_of, reads}
 use Rattle.pcache_history.specs.Legal.{IsLegal, Gives}
 use Rattle.pcache_history.specs.Log.{Log, HasLegal}
 use Rattle.pcache_history.specs.ReadSoFar.{read_by}
-use Rattle.pcache_history.specs.Rules.{Answers, Replies, HandsOn, Looks, LooksOn, Misses, drop_of, look_reply, release_of, IsCopy}
+use Rattle.pcache_history.specs.Rules.{FollowsRule, Replies, HandsOn, Looks, LooksOn, Misses, drop_of, look_reply, release_of, IsCopy}
 use Rattle.pcache_history.proofs.AnswersLaw.{legal-part, looks_are_true, reads_are_true}
 use Rattle.pcache_history.proofs.Found.{follows_a_write}
 use Rattle.pcache_history.proofs.WriteLaws.{finds_exactly, reads_the_last, is_within_limits, finishes_exactly}
@@ -40,36 +40,36 @@ use Rattle.pcache_history.proofs.TrackedLaws.{evicts-fairly}
 use Rattle.pcache_history.proofs.Waiting.{gives_the_permit_exactly}
 
 -- what the reply to a look-up says of what it found
-tells-found : (a : Answer) (l : Option LockKind) → told_found (look_reply a l) ≡ Some (is_found a)
+tells-found : (a : Answer) (l : Option LockKind) → says_found (look_reply a l) ≡ Some (is_found a)
 tells-found A.Nothing l = refl
 tells-found (A.Complete m body) l = refl
 tells-found (A.Streaming m w) l = refl
 
 -- a reply that says nothing of what was found
-tells-none : {P : Type 0} (reply silent : Reply) (b : Bool) → reply ≡ silent → told_found silent ≡ None → told_found reply ≡ Some b → P
-tells-none reply silent b is none told = let no : ◌≡◌ {A = Option Bool} None (Some b) = sym none ∙ sym (ap told_found is) ∙ told in absurd (cc)
+tells-none : {P : Type 0} (reply silent : Reply) (b : Bool) → reply ≡ silent → says_found silent ≡ None → says_found reply ≡ Some b → P
+tells-none reply silent b is none told = let no : ◌≡◌ {A = Option Bool} None (Some b) = sym none ∙ sym (ap says_found is) ∙ told in absurd (cc)
 
 none-hides : (o : Option (Meta × Reader)) → hides_pair None o ≡ false
 none-hides None = refl
 none-hides (Some p) = refl
 
 -- what is said and handed on of what was found
-abbrev IsHandedOn : Held → Answer → Type 0
+abbrev IsHandedOn : Ongoing → Answer → Type 0
 IsHandedOn x a = (is_found a ≡ true) × (hides_pair x.request.valid_after (pair_of a) ≡ false)
 
-module _ (f : Facts) (k : ℕ) (x : Held) (reply : Reply) (events : List Event) (b : Bool) (told : told_found reply ≡ Some b) where
+module _ (f : Facts) (k : ℕ) (x : Ongoing) (reply : Reply) (events : List Event) (b : Bool) (told : says_found reply ≡ Some b) where
   misses-tell : (a : Answer) → Misses f k a x.request reply events → b ≡ false
   misses-tell a (inl (e, used, why, is, refused)) = tells-none reply (R.Refused e) b refused refl told
-  misses-tell a (inr (more, l, asks, is, nothing)) = let same : ◌≡◌ {A = Option Bool} (Some b) (Some false) = sym told ∙ ap told_found nothing in cc
+  misses-tell a (inr (more, l, asks, is, nothing)) = let same : ◌≡◌ {A = Option Bool} (Some b) (Some false) = sym told ∙ ap says_found nothing in cc
 
   hands-tell : (a : Answer) (hidden : Bool) → is_found a ≡ true → HandsOn hidden f k a x.request reply events → (b ≡ true) ↔ ((is_found a ≡ true) × (hidden ≡ false))
   hands-tell a true some m = let none = misses-tell a m in (λ t. absurd (cc), λ p. absurd (let never = p.1 in cc))
-  hands-tell a false some m = let same : ◌≡◌ {A = Option Bool} (Some b) (Some (is_found a)) = sym told ∙ ap told_found m.1 ∙ tells-found a None in (λ _. (some, refl), λ _. cc)
+  hands-tell a false some m = let same : ◌≡◌ {A = Option Bool} (Some b) (Some (is_found a)) = sym told ∙ ap says_found m.1 ∙ tells-found a None in (λ _. (some, refl), λ _. cc)
 
   looks-tell : (a : Answer) → LooksOn (is_deferral (decides a x)) f k a x.request reply events → (b ≡ true) ↔ IsHandedOn x a
   looks-tell A.Nothing h =
       let none : b ≡ false = elim (is_deferral (decides A.Nothing x)) as (λ c. LooksOn c f k A.Nothing x.request reply events → b ≡ false) [
-        | true ↦ λ g. let same : ◌≡◌ {A = Option Bool} (Some b) (Some false) = sym told ∙ ap told_found g.1 in cc
+        | true ↦ λ g. let same : ◌≡◌ {A = Option Bool} (Some b) (Some false) = sym told ∙ ap says_found g.1 in cc
         | false ↦ λ g. misses-tell A.Nothing g
       ] h in
       (λ t. absurd (cc), λ p. absurd (let never = p.0 in cc))
@@ -87,36 +87,36 @@ looks-first false true f k a x reply events seen on = misses-first f k a x reply
 looks-first false false f k a x reply events seen on = ([], (subst (λ c. HandsOn c f k a x reply events) seen on).0)
 
 -- what a look-up found, and what its reply says of it
-module _ (b : Bool) (x : Held) where
+module _ (b : Bool) (x : Ongoing) where
   abbrev Tells : List Event → Facts → List Event → Type 0
   Tells es f events = (k : Key) × (a : Answer) × (more : List Event) × (x.request.key ≡ Some k) × (pair_of a ≡ f.found) × (events ≡ E.Look (slot k) a ∷ more) × ((b ≡ true) ↔ IsHandedOn x a)
 
-  by-looks : (es : List Event) (f : Facts) (d : Option Decision) (reply : Reply) (events : List Event) → told_found reply ≡ Some b → Looks f (carrying d x) reply events → Tells es f events
+  by-looks : (es : List Event) (f : Facts) (d : Option Decision) (reply : Reply) (events : List Event) → says_found reply ≡ Some b → Looks f (carrying d x) reply events → Tells es f events
   by-looks es f d reply events told (inl idle) = tells-none reply (R.Refused _) b idle.1.0 refl told
   by-looks es f d reply events told (inr (k, a, key, found, on)) =
       let y = carrying d x in
       let first = looks-first (is_deferral (decides a y)) (is_unseen y.request.valid_after (pair_of a)) f (slot k) a y.request reply events refl on in
       (k, a, first.0, key, found, first.1, looks-tell f (slot k) y reply events b told a on)
 
-  by-answers : (es : List Event) (f : Facts) (t : ℕ) (d : Option Decision) (reply : Reply) (events : List Event) → told_found reply ≡ Some b → Answers f (C.Request (Q.Look t d)) (Some x) reply events → Tells es f events
+  by-answers : (es : List Event) (f : Facts) (t : ℕ) (d : Option Decision) (reply : Reply) (events : List Event) → says_found reply ≡ Some b → FollowsRule f (C.Request (Q.Look t d)) (Some x) reply events → Tells es f events
   by-answers es f t d reply events told (inl a) = by-looks es f d reply events told a.2
   by-answers es f t d reply events told (inr a) = tells-none reply R.WrongCall b a.1.0 refl told
 
-  by-replies : (es : List Event) (f : Facts) (t : ℕ) (d : Option Decision) (reply : Reply) (events : List Event) → told_found reply ≡ Some b → Replies f (C.Request (Q.Look t d)) (Some x) reply events → Tells es f events
+  by-replies : (es : List Event) (f : Facts) (t : ℕ) (d : Option Decision) (reply : Reply) (events : List Event) → says_found reply ≡ Some b → Replies f (C.Request (Q.Look t d)) (Some x) reply events → Tells es f events
   by-replies es f t d reply events told (inl a) = by-answers es f t d reply events told a.1
   by-replies es f t d reply events told (inr a) = tells-none reply R.WrongCall b a.1.0 refl told
 
-  by-copy : (es : List Event) (f : Facts) (t : ℕ) (d : Option Decision) (reply told : Reply) (events : List Event) → told_found told ≡ Some b → IsCopy reply told → Replies f (C.Request (Q.Look t d)) (Some x) reply events → Tells es f events
-  by-copy es f t d reply told events is (inl same) a = by-replies es f t d reply events (ap told_found (sym same) ∙ is) a
+  by-copy : (es : List Event) (f : Facts) (t : ℕ) (d : Option Decision) (reply told : Reply) (events : List Event) → says_found told ≡ Some b → IsCopy reply told → Replies f (C.Request (Q.Look t d)) (Some x) reply events → Tells es f events
+  by-copy es f t d reply told events is (inl same) a = by-replies es f t d reply events (ap says_found (sym same) ∙ is) a
   by-copy es f t d reply told events is (inr other) a = tells-none told (R.Refused _) b other.0 refl is
 
-  by-entry : (age : ℕ) (limits : Limits) (start : Tracked) (before : List Entry) (entry : Entry) (t : ℕ) (d : Option Decision) → IsLegal age limits start (entry ∷ before) → entry.call.act ≡ C.Request (Q.Look t d) → request_of entry.call.request before ≡ Some x → told_found entry.reply ≡ Some b
+  by-entry : (age : ℕ) (limits : Limits) (start : Tracked) (before : List Entry) (entry : Entry) (t : ℕ) (d : Option Decision) → IsLegal age limits start (entry ∷ before) → entry.call.act ≡ C.Request (Q.Look t d) → request_of entry.call.request before ≡ Some x → says_found entry.reply ≡ Some b
       → (f : Facts) × Says age (events_of before) (deeds_of before) entry.call.request x.request f × Tells (events_of before) f entry.events
   by-entry age limits start before entry t d l act has told =
       let r = entry.call.request in
       let moved = subst (λ q. Gives age limits start (events_of before) (deeds_of before) r q entry.call.act entry.reply entry.events) has l.0 in
       let looked = subst (λ c. Gives age limits start (events_of before) (deeds_of before) r (Some x) c entry.reply entry.events) act moved in
-      (looked.facts, looked.says, by-copy (events_of before) looked.facts t d looked.told entry.reply entry.events told looked.copy looked.answers)
+      (looked.facts, looked.says, by-copy (events_of before) looked.facts t d looked.reply_made entry.reply entry.events told looked.copy looked.answers)
 
 pub tells_exactly : TellsExactly
 tells_exactly age limits start before entry t d x k b l act has key bare told =
@@ -148,9 +148,9 @@ pub reads_the_whole : ReadsTheWhole
 reads_the_whole age limits start before entry rest x w place l is has reader =
     let es = events_of before in
     let told = reads_are_true age limits start before entry (Ready None) rest l is in
-    let opened : ◌≡◌ {A = Option Held} (Some told.0) (Some x) = sym told.2 ∙ has in
+    let opened : ◌≡◌ {A = Option Ongoing} (Some told.0) (Some x) = sym told.2 ∙ has in
     let same : told.0 ≡ x = cc in
-    let readers : ◌≡◌ {A = Option Reader} (Some told.1) (Some (Part w place)) = sym told.3 ∙ ap (λ (y : Held). y.request.reader) same ∙ reader in
+    let readers : ◌≡◌ {A = Option Reader} (Some told.1) (Some (Part w place)) = sym told.3 ∙ ap (λ (y : Ongoing). y.request.reader) same ∙ reader in
     let own : told.1 ≡ Part w place = cc in
     let gave = told.4 ∙ ap (reads es) own in
     let h = reads_a_beginning age limits start before entry.call.request x (Part w place) l.1 has reader in

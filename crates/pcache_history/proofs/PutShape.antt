@@ -23,29 +23,29 @@ use Rattle.pcache_history.specs.declared.entry.Event.TheVariants as E
 use Rattle.pcache_history.specs.Facts.{Facts}
 use Rattle.pcache_lock.specs.Permits.{Permit}
 use Rattle.pcache_request.specs.LockUse.{unheld}
-use Rattle.pcache_history.specs.Held.{Held, Outcome, was_done, was_wrong, handed_by, on_request, permit_held, row_by, taken_over, taker_in, Change, opens, closes, stays, turns, turns_by, shuts, looks, takes, begins, ends, reads_on, seeks, reads_no_more, renews, waits, pushes, feeds, goes, asked, carrying, change_of, changed, decides, fed_in, held_put, is_done, is_taken, is_wrong, looked_by, outcome, pair_of, request_of, row, after_look}
+use Rattle.pcache_history.specs.Ongoing.{Ongoing, ReplyKind, was_done, was_wrong, handed_by, on_request, permit_held, row_by, taken_over, taker_in, Change, opens, closes, stays, turns, turns_by, shuts, looks, takes, begins, ends, reads_on, seeks, reads_no_more, renews, waits, pushes, feeds, goes, asked, carrying, change_of, changed, decides, fed_in, ongoing_put, is_done, is_taken, is_wrong, looked_by, kind_of_reply, pair_of, request_of, row, after_look}
 use Rattle.pcache_history.specs.Legal.{IsLegal}
 use Rattle.pcache_history.specs.Rules.{FindsKind, IsIdle, MayBe, MayTake, Replies}
 use Rattle.pcache_history.specs.Taking.{Taking, new_put}
-use Rattle.pcache_history.proofs.Copied.{outcome-copied, row-copied}
+use Rattle.pcache_history.proofs.Copied.{kind-copied, row-copied}
 use Rattle.pcache_history.proofs.Taken.{handed-keeps}
 
 -- a request, or a put as it is kept
-abbrev pub IsShaped : Option Held → Type 0
+abbrev pub IsShaped : Option Ongoing → Type 0
 IsShaped None = Unit {0}
-IsShaped (Some x) = IfSome x.put (λ p. x ≡ held_put p)
+IsShaped (Some x) = IfSome x.put (λ p. x ≡ ongoing_put p)
 
 -- this put, or none
-abbrev pub HasPut : Option Taking → Option Held → Type 0
+abbrev pub HasPut : Option Taking → Option Ongoing → Type 0
 HasPut p None = Unit {0}
 HasPut p (Some y) = y.put ≡ p
 
-one-of : (P : Option Held → Type 0) (b : Bool) (q r : Option Held) → P q → P r → P (cond b q r)
+one-of : (P : Option Ongoing → Type 0) (b : Bool) (q r : Option Ongoing) → P q → P r → P (cond b q r)
 one-of P true q r x y = x
 one-of P false q r x y = y
 
 -- a wrong call changes nothing
-pub wrong-change : (change : Change) (q : Option Held) → changed change was_wrong [] q ≡ q
+pub wrong-change : (change : Change) (q : Option Ongoing) → changed change was_wrong [] q ≡ q
 wrong-change (opens options) q = refl
 wrong-change closes q = refl
 wrong-change stays q = refl
@@ -70,25 +70,25 @@ wrong-change feeds None = refl
 wrong-change feeds (Some x) = refl
 wrong-change goes q = refl
 
-pub wrong-row : (act : Act) (reply : Reply) (events : List Event) (q : Option Held) → IsIdle R.WrongCall reply events → row act reply events q ≡ q
+pub wrong-row : (act : Act) (reply : Reply) (events : List Event) (q : Option Ongoing) → IsIdle R.WrongCall reply events → row act reply events q ≡ q
 wrong-row act reply events q idle = (λ i. row act (idle.0 i) (idle.1 i) q) ∙ wrong-change (change_of act) q
 
 -- a request stays none of the puts
-abbrev off-held : Option Decision → Held → Held
+abbrev off-held : Option Decision → Ongoing → Ongoing
 off-held d x = record { request = disabled_for Deferred (with_decision d x.request); pair = None; carried = None; put = x.put }
 
-abbrev on-held : Option Decision → Answer → List Event → Held → Held
+abbrev on-held : Option Decision → Answer → List Event → Ongoing → Ongoing
 on-held d a es x = record { request = asked false es (with_decision d x.request); pair = visible x.request.valid_after (pair_of a); carried = x.carried; put = x.put }
 
-after_look-put : (d : Option Decision) (a : Answer) (es : List Event) (x : Held) → (after_look d a es x).put ≡ x.put
+after_look-put : (d : Option Decision) (a : Answer) (es : List Event) (x : Ongoing) → (after_look d a es x).put ≡ x.put
 after_look-put d a es x = elim (is_deferral d) as (λ b. (cond b (off-held d x) (on-held d a es x)).put ≡ x.put) [ true ↦ refl | false ↦ refl ]
 
-looked-put : (es : List Event) (x : Held) → (looked_by es x).put ≡ x.put
+looked-put : (es : List Event) (x : Ongoing) → (looked_by es x).put ≡ x.put
 looked-put [] x = refl
 looked-put (E.Look k a ∷ es) x = after_look-put (decides a x) a es x
 looked-put (e ∷ es) x = refl
 
-fed-put : (o : Outcome) (events : List Event) (x : Held) (p : Option Taking) → x.put ≡ None → p ≡ None → (fed_in o events x p).put ≡ None
+fed-put : (o : ReplyKind) (events : List Event) (x : Ongoing) (p : Option Taking) → x.put ≡ None → p ≡ None → (fed_in o events x p).put ≡ None
 fed-put o events x None plain is = plain
 fed-put o events x (Some p) plain is = absurd (cc)
 
@@ -97,7 +97,7 @@ IsNoPush (pushes k limit) = ⊥
 IsNoPush change = Unit {0}
 
 -- unless a put is made
-pub plain-kept : (change : Change) (o : Outcome) (events : List Event) (q : Option Held) → HasPut None q → IsNoPush change → HasPut None (changed change o events q)
+pub plain-kept : (change : Change) (o : ReplyKind) (events : List Event) (q : Option Ongoing) → HasPut None q → IsNoPush change → HasPut None (changed change o events q)
 plain-kept (opens options) o events q h p = one-of (HasPut None) (is_done o) _ q refl h
 plain-kept closes o events q h p = one-of (HasPut None) (is_done o) None q tt h
 plain-kept stays o events q h p = h
@@ -131,11 +131,11 @@ plain-kept feeds o events (Some x) h p = elim (is_wrong o) as (λ b. (cond b x (
 plain-kept goes o events q h p = one-of (HasPut None) (is_wrong o) q None h tt
 
 -- what is no put is shaped
-shaped-plain : (q : Option Held) → HasPut None q → IsShaped q
+shaped-plain : (q : Option Ongoing) → HasPut None q → IsShaped q
 shaped-plain None h = tt
-shaped-plain (Some x) h = elim x.put as (λ p. p ≡ None → IfSome p (λ y. x ≡ held_put y)) [ None ↦ λ _. tt | Some p ↦ λ is. absurd (cc) ] h
+shaped-plain (Some x) h = elim x.put as (λ p. p ≡ None → IfSome p (λ y. x ≡ ongoing_put y)) [ None ↦ λ _. tt | Some p ↦ λ is. absurd (cc) ] h
 
-fed-shaped : (o : Outcome) (events : List Event) (x : Held) (p : Option Taking) → x.put ≡ p → IsShaped (Some x) → IsShaped (Some (fed_in o events x p))
+fed-shaped : (o : ReplyKind) (events : List Event) (x : Ongoing) (p : Option Taking) → x.put ≡ p → IsShaped (Some x) → IsShaped (Some (fed_in o events x p))
 fed-shaped o events x None is h = h
 fed-shaped o events x (Some p) is h = refl
 
@@ -145,9 +145,9 @@ no-push Q.Phase = tt
 no-push a = tt
 
 -- a call of the right kind leaves a shaped one
-shaped-change : (act : Act) (o : Outcome) (events : List Event) (q : Option Held) → FindsKind act q → IsShaped q → IsShaped (changed (change_of act) o events q)
+shaped-change : (act : Act) (o : ReplyKind) (events : List Event) (q : Option Ongoing) → FindsKind act q → IsShaped q → IsShaped (changed (change_of act) o events q)
 shaped-change (C.Files a) o events q finds h = h
-shaped-change (C.Put k limit) o events q finds h = one-of IsShaped (is_done o) (Some (held_put (new_put k limit))) q refl h
+shaped-change (C.Put k limit) o events q finds h = one-of IsShaped (is_done o) (Some (ongoing_put (new_put k limit))) q refl h
 shaped-change (C.Feed bytes t) o events None finds h = tt
 shaped-change (C.Feed bytes t) o events (Some x) finds h = elim (is_wrong o) as (λ b. IsShaped (Some (cond b x (fed_in o events x x.put)))) [ true ↦ h | false ↦ fed-shaped o events x x.put refl h ]
 shaped-change C.Drop o events q finds h = one-of IsShaped (is_done o) None q tt h
@@ -157,20 +157,20 @@ shaped-change (C.Request a) o events (Some x) finds h = shaped-plain (changed (c
 shaped-change act o events None finds h = shaped-plain (changed (change_of act) o events None) (plain-kept (change_of act) o events None tt tt)
 shaped-change act o events (Some x) finds h = shaped-plain (changed (change_of act) o events (Some x)) (plain-kept (change_of act) o events (Some x) finds tt)
 
-shaped-row : (f : Facts) (act : Act) (reply : Reply) (events : List Event) (q : Option Held) → Replies f act q reply events → IsShaped q → IsShaped (row act reply events q)
-shaped-row f act reply events q (inl (finds, a)) h = shaped-change act (outcome reply) events q finds h
+shaped-row : (f : Facts) (act : Act) (reply : Reply) (events : List Event) (q : Option Ongoing) → Replies f act q reply events → IsShaped q → IsShaped (row act reply events q)
+shaped-row f act reply events q (inl (finds, a)) h = shaped-change act (kind_of_reply reply) events q finds h
 shaped-row f act reply events q (inr (why, idle)) h = subst IsShaped (sym (wrong-row act reply events q idle)) h
 
 -- who takes a permit is no put
-handed-plain : (p : Option Permit) (q : Option Held) → HasPut None q → HasPut None (option_map (handed_by p) q)
+handed-plain : (p : Option Permit) (q : Option Ongoing) → HasPut None q → HasPut None (option_map (handed_by p) q)
 handed-plain p None h = tt
 handed-plain p (Some x) h = handed-keeps (HasPut None) (λ x l is. is) p x h
 
-abbrev TakesPlain : Act → Outcome → ℕ → Option Held → Type 0
+abbrev TakesPlain : Act → ReplyKind → ℕ → Option Ongoing → Type 0
 TakesPlain (C.Give to) was_done r q = (to == r) ≡ true → HasPut None q
 TakesPlain act o r q = Unit {0}
 
-taken-shaped : (act : Act) (o : Outcome) (r : ℕ) (giver q : Option Held) → TakesPlain act o r q → IsShaped q → IsShaped (taken_over act o r giver q)
+taken-shaped : (act : Act) (o : ReplyKind) (r : ℕ) (giver q : Option Ongoing) → TakesPlain act o r q → IsShaped q → IsShaped (taken_over act o r giver q)
 taken-shaped (C.Give to) was_done r giver q plain h =
     elim (to == r) as (λ b. ((to == r) ≡ b) → IsShaped (cond b (option_map (handed_by (permit_held giver)) q) q)) [
       | true ↦ λ is. shaped-plain (option_map (handed_by (permit_held giver)) q) (handed-plain (permit_held giver) q (plain is))
@@ -178,30 +178,30 @@ taken-shaped (C.Give to) was_done r giver q plain h =
     ] refl
 taken-shaped act o r giver q plain h = h
 
-taker-plain : (b : Bool) (q : Option Held) → MayTake (cond b (option_map (on_request unheld) q) q) → HasPut None q
+taker-plain : (b : Bool) (q : Option Ongoing) → MayTake (cond b (option_map (on_request unheld) q) q) → HasPut None q
 taker-plain true None may = absurd may
 taker-plain true (Some y) may = may.1
 taker-plain false None may = absurd may
 taker-plain false (Some y) may = may.1
 
-give-plain : (to : ℕ) (o : Outcome) (events : List Event) (b : Bool) (q : Option Held) → HasPut None q → HasPut None (if b then row_by (C.Give to) o events q else q)
+give-plain : (to : ℕ) (o : ReplyKind) (events : List Event) (b : Bool) (q : Option Ongoing) → HasPut None q → HasPut None (if b then row_by (C.Give to) o events q else q)
 give-plain to o events true q h = plain-kept (change_of (C.Give to)) o events q h tt
 give-plain to o events false q h = h
 
-given-plain : (f : Facts) (from to : ℕ) (h : List Entry) (reply : Reply) (events : List Event) → Replies f (C.Give to) (request_of from h) reply events → f.taker ≡ taker_in from (C.Give to) h → outcome reply ≡ was_done → HasPut None (request_of to h)
+given-plain : (f : Facts) (from to : ℕ) (h : List Entry) (reply : Reply) (events : List Event) → Replies f (C.Give to) (request_of from h) reply events → f.taker ≡ taker_in from (C.Give to) h → kind_of_reply reply ≡ was_done → HasPut None (request_of to h)
 given-plain f from to h reply events (inl (kind, inl (may, other, does))) taker done = by (request_of from h) may
   where
-    by : (q : Option Held) → MayBe f (C.Give to) q → HasPut None (request_of to h)
+    by : (q : Option Ongoing) → MayBe f (C.Give to) q → HasPut None (request_of to h)
     by None m = absurd m
     by (Some x) m = taker-plain (from == to) (request_of to h) (subst MayTake taker m.1)
-given-plain f from to h reply events (inl (kind, inr (fails, idle))) taker done = let no : was_wrong ≡ was_done = sym (ap outcome idle.0) ∙ done in absurd (cc)
-given-plain f from to h reply events (inr (other, idle)) taker done = let no : was_wrong ≡ was_done = sym (ap outcome idle.0) ∙ done in absurd (cc)
+given-plain f from to h reply events (inl (kind, inr (fails, idle))) taker done = let no : was_wrong ≡ was_done = sym (ap kind_of_reply idle.0) ∙ done in absurd (cc)
+given-plain f from to h reply events (inr (other, idle)) taker done = let no : was_wrong ≡ was_done = sym (ap kind_of_reply idle.0) ∙ done in absurd (cc)
 
-takes-plain : (f : Facts) (n : ℕ) (act : Act) (h : List Entry) (reply : Reply) (events : List Event) (r : ℕ) → Replies f act (request_of n h) reply events → f.taker ≡ taker_in n act h → TakesPlain act (outcome reply) r (if n == r then row act reply events (request_of r h) else request_of r h)
-takes-plain f from (C.Give to) h reply events r replies taker = by (outcome reply) refl
+takes-plain : (f : Facts) (n : ℕ) (act : Act) (h : List Entry) (reply : Reply) (events : List Event) (r : ℕ) → Replies f act (request_of n h) reply events → f.taker ≡ taker_in n act h → TakesPlain act (kind_of_reply reply) r (if n == r then row act reply events (request_of r h) else request_of r h)
+takes-plain f from (C.Give to) h reply events r replies taker = by (kind_of_reply reply) refl
   where
-    by : (o : Outcome) → outcome reply ≡ o → TakesPlain (C.Give to) o r (if from == r then row_by (C.Give to) (outcome reply) events (request_of r h) else request_of r h)
-    by was_done done = λ same. give-plain to (outcome reply) events (from == r) (request_of r h) (subst (λ n. HasPut None (request_of n h)) (eqb-true to r same) (given-plain f from to h reply events replies taker done))
+    by : (o : ReplyKind) → kind_of_reply reply ≡ o → TakesPlain (C.Give to) o r (if from == r then row_by (C.Give to) (kind_of_reply reply) events (request_of r h) else request_of r h)
+    by was_done done = λ same. give-plain to (kind_of_reply reply) events (from == r) (request_of r h) (subst (λ n. HasPut None (request_of n h)) (eqb-true to r same) (given-plain f from to h reply events replies taker done))
     by o done = tt
 takes-plain f n act h reply events r replies taker = tt
 
@@ -211,11 +211,11 @@ legal_shaped age limits start (e ∷ h) l r =
     let old = legal_shaped age limits start h l.1 in
     let g = l.0 in
     let n = e.call.request in
-    let same = outcome-copied g.told e.reply g.copy in
-    let mid : Option Held = if n == r then row e.call.act e.reply e.events (request_of r h) else request_of r h in
-    let now : IsShaped (row e.call.act e.reply e.events (request_of n h)) = subst IsShaped (sym (row-copied e.call.act g.told e.reply e.events (request_of n h) g.copy)) (shaped-row g.facts e.call.act g.told e.events (request_of n h) g.answers (old n)) in
-    taken-shaped e.call.act (outcome e.reply) r (request_of n h) mid
-    (subst (λ o. TakesPlain e.call.act o r (if n == r then row_by e.call.act o e.events (request_of r h) else request_of r h)) (sym same) (takes-plain g.facts n e.call.act h g.told e.events r g.answers l.2))
+    let same = kind-copied g.reply_made e.reply g.copy in
+    let mid : Option Ongoing = if n == r then row e.call.act e.reply e.events (request_of r h) else request_of r h in
+    let now : IsShaped (row e.call.act e.reply e.events (request_of n h)) = subst IsShaped (sym (row-copied e.call.act g.reply_made e.reply e.events (request_of n h) g.copy)) (shaped-row g.facts e.call.act g.reply_made e.events (request_of n h) g.answers (old n)) in
+    taken-shaped e.call.act (kind_of_reply e.reply) r (request_of n h) mid
+    (subst (λ o. TakesPlain e.call.act o r (if n == r then row_by e.call.act o e.events (request_of r h) else request_of r h)) (sym same) (takes-plain g.facts n e.call.act h g.reply_made e.events r g.answers l.2))
     (elim (n == r) as (λ b. (n == r) ≡ b → IsShaped (if b then row e.call.act e.reply e.events (request_of r h) else request_of r h)) [
       | true ↦ λ is. subst (λ x. IsShaped (row e.call.act e.reply e.events (request_of x h))) (eqb-true n r is) now
       | false ↦ λ _. old r

@@ -16,13 +16,13 @@ use Rattle.pcache_history.specs.Due.{Owed, makes, makes_of, owes, AreDue, IsNext
 use Rattle.pcache_history.specs.Events.{begun, begin_of, body_of, tracked}
 use Rattle.pcache_history.specs.Facts.{Facts}
 use Rattle.pcache_history.specs.Headline.{PutsAreWritten}
-use Rattle.pcache_history.specs.Held.{Held, change_of, is_done, is_wrong, held_put, outcome, request_of, row, row_by}
+use Rattle.pcache_history.specs.Ongoing.{Ongoing, change_of, is_done, is_wrong, ongoing_put, kind_of_reply, request_of, row, row_by}
 use Rattle.pcache_history.specs.History.{events_of}
 use Rattle.pcache_history.specs.Legal.{IsLegal}
 use Rattle.pcache_history.specs.PutHistory.{filled_after, filled_by, filled_noted, filled_of}
 use Rattle.pcache_history.specs.Rules.{IsIdle, IsOther, Replies}
 use Rattle.pcache_history.specs.Taking.{new_put}
-use Rattle.pcache_history.proofs.Copied.{outcome-copied, row-copied}
+use Rattle.pcache_history.proofs.Copied.{kind-copied, row-copied}
 use Rattle.pcache_history.proofs.WriteLaws.{legal_kept}
 use Rattle.pcache_history.proofs.PutShape.{HasPut, no-push, plain-kept, wrong-filled, wrong-row}
 use Rattle.pcache_history.proofs.Runs.{turned}
@@ -43,7 +43,7 @@ abbrev pub IsBelow : Option ℕ → List Event → Type 0
 IsBelow None es = Unit {0}
 IsBelow (Some w) es = w < begun es
 
-unwritten-next : (limits : Limits) (m : Tracked) (es : List Event) (q : Option Held) (o : Option ℕ) (owed : Option Owed) (e : Event) → IsNext limits m es q o owed e → AreUnwritten es → IsBelow o es → AreUnwritten (e ∷ es)
+unwritten-next : (limits : Limits) (m : Tracked) (es : List Event) (q : Option Ongoing) (o : Option ℕ) (owed : Option Owed) (e : Event) → IsNext limits m es q o owed e → AreUnwritten es → IsBelow o es → AreUnwritten (e ∷ es)
 unwritten-next limits m es q o None (E.Begin w k n) due unwritten low = λ x h. unwritten x (omega (arith, h))
 unwritten-next limits m es q o (Some n) (E.Begin w k y) due unwritten low = absurd due
 unwritten-next limits m es q o None (E.Wrote w bytes eof) due unwritten low = λ x h.
@@ -52,7 +52,7 @@ unwritten-next limits m es q o None (E.Wrote w bytes eof) due unwritten low = λ
 unwritten-next limits m es q o (Some n) (E.Wrote w bytes eof) due unwritten low = absurd due
 unwritten-next limits m es q o owed e due unwritten low = unwritten
 
-pub below-next : (limits : Limits) (m : Tracked) (es : List Event) (q : Option Held) (o : Option ℕ) (owed : Option Owed) (e : Event) → IsNext limits m es q o owed e → IsBelow o es → IsBelow (makes e o) (e ∷ es)
+pub below-next : (limits : Limits) (m : Tracked) (es : List Event) (q : Option Ongoing) (o : Option ℕ) (owed : Option Owed) (e : Event) → IsNext limits m es q o owed e → IsBelow o es → IsBelow (makes e o) (e ∷ es)
 below-next limits m es q o None (E.Begin w k n) due low = let is : w ≡ begun es = due.0 in omega (arith, is)
 below-next limits m es q o (Some n) (E.Begin w k y) due low = absurd due
 below-next limits m es q o owed (E.Finish w kept) due low = tt
@@ -68,7 +68,7 @@ wrote-more es w bytes eof f h = (
   h.3,
 )
 
-gave-next : (limits : Limits) (m : Tracked) (es : List Event) (q : Option Held) (o : Option ℕ) (owed : Option Owed) (e : Event) (f : Option Filled) → IsNext limits m es q o owed e → AreUnwritten es → Gave f o es → Gave (filled_noted e f) (makes e o) (e ∷ es)
+gave-next : (limits : Limits) (m : Tracked) (es : List Event) (q : Option Ongoing) (o : Option ℕ) (owed : Option Owed) (e : Event) (f : Option Filled) → IsNext limits m es q o owed e → AreUnwritten es → Gave f o es → Gave (filled_noted e f) (makes e o) (e ∷ es)
 gave-next limits m es q o None (E.Begin w k n) f due unwritten h =
     let is : w ≡ begun es = due.0 in
     (record { meta = n; body = [] }, refl, sym (unwritten w (omega (arith, is))), (k, ap (λ b. if b then Some (k, numbered w n) else begin_of w es) (same-number w)))
@@ -81,7 +81,7 @@ gave-next limits m es q None owed e f due unwritten h = tt
 gave-next limits m es q (Some w) owed e f due unwritten h = h
 
 -- the events of a call of the put
-run-own : (limits : Limits) (start : Tracked) (q : Option Held) (events es : List Event) (o : Option ℕ) (owed : Option Owed) (o' : Option ℕ) (f : Option Filled) → AreDue limits start es q o owed events o' → AreUnwritten es → IsBelow o es → Gave f o es → Gave (filled_by events f) o' (reverse events ++ es)
+run-own : (limits : Limits) (start : Tracked) (q : Option Ongoing) (events es : List Event) (o : Option ℕ) (owed : Option Owed) (o' : Option ℕ) (f : Option Filled) → AreDue limits start es q o owed events o' → AreUnwritten es → IsBelow o es → Gave f o es → Gave (filled_by events f) o' (reverse events ++ es)
 run-own limits start q [] es o owed o' f due unwritten low h = subst (λ z. Gave f z es) (sym due.0) h
 run-own limits start q (e ∷ events) es o owed o' f due unwritten low h =
     subst (Gave (filled_by events (filled_noted e f)) o') (sym (turned e events es))
@@ -91,7 +91,7 @@ run-own limits start q (e ∷ events) es o owed o' f due unwritten low h =
     (gave-next limits (tracked start es) es q o owed e f due.0 unwritten h))
 
 -- an event of a call of another
-gave-away : (limits : Limits) (m : Tracked) (es : List Event) (q : Option Held) (o : Option ℕ) (owed : Option Owed) (e : Event) (f : Option Filled) (w : ℕ) → IsNext limits m es q o owed e → w < begun es → (o ≡ Some w → ⊥) → Gave f (Some w) es → Gave f (Some w) (e ∷ es)
+gave-away : (limits : Limits) (m : Tracked) (es : List Event) (q : Option Ongoing) (o : Option ℕ) (owed : Option Owed) (e : Event) (f : Option Filled) (w : ℕ) → IsNext limits m es q o owed e → w < begun es → (o ≡ Some w → ⊥) → Gave f (Some w) es → Gave f (Some w) (e ∷ es)
 gave-away limits m es q o None (E.Begin x k n) f w due low other h =
     let is : x ≡ begun es = due.0 in
     let apart : x ≢ w = λ same. omega (arith, is, same, low) in
@@ -107,14 +107,14 @@ pub begun-grows : (e : Event) (es : List Event) (w : ℕ) → w < begun es → w
 begun-grows (E.Begin x k n) es w low = omega (arith, low)
 begun-grows e es w low = low
 
-pub other-next : (limits : Limits) (m : Tracked) (es : List Event) (q : Option Held) (o : Option ℕ) (owed : Option Owed) (e : Event) (w : ℕ) → IsNext limits m es q o owed e → w < begun es → (o ≡ Some w → ⊥) → makes e o ≡ Some w → ⊥
+pub other-next : (limits : Limits) (m : Tracked) (es : List Event) (q : Option Ongoing) (o : Option ℕ) (owed : Option Owed) (e : Event) (w : ℕ) → IsNext limits m es q o owed e → w < begun es → (o ≡ Some w → ⊥) → makes e o ≡ Some w → ⊥
 other-next limits m es q o None (E.Begin x k n) w due low other same = let is : x ≡ begun es = due.0 in let at : x ≡ w = cc in omega (arith, is, at, low)
 other-next limits m es q o (Some y) (E.Begin x k n) w due low other same = absurd due
 other-next limits m es q o owed (E.Finish x kept) w due low other same = absurd (cc)
 other-next limits m es q o owed (E.Dropped x) w due low other same = absurd (cc)
 other-next limits m es q o owed e w due low other same = other same
 
-run-away : (limits : Limits) (start : Tracked) (q : Option Held) (events es : List Event) (o : Option ℕ) (owed : Option Owed) (o' : Option ℕ) (f : Option Filled) (w : ℕ) → AreDue limits start es q o owed events o' → w < begun es → (o ≡ Some w → ⊥) → Gave f (Some w) es → Gave f (Some w) (reverse events ++ es)
+run-away : (limits : Limits) (start : Tracked) (q : Option Ongoing) (events es : List Event) (o : Option ℕ) (owed : Option Owed) (o' : Option ℕ) (f : Option Filled) (w : ℕ) → AreDue limits start es q o owed events o' → w < begun es → (o ≡ Some w → ⊥) → Gave f (Some w) es → Gave f (Some w) (reverse events ++ es)
 run-away limits start q [] es o owed o' f w due low other h = h
 run-away limits start q (e ∷ events) es o owed o' f w due low other h =
     subst (Gave f (Some w)) (sym (turned e events es))
@@ -123,33 +123,33 @@ run-away limits start q (e ∷ events) es o owed o' f w due low other h =
     (gave-away limits (tracked start es) es q o owed e f w due.0 low other h))
 
 -- of what is open under a number, if that is a put
-abbrev GaveIn : Option Filled → Option Held → List Event → Type 0
+abbrev GaveIn : Option Filled → Option Ongoing → List Event → Type 0
 GaveIn f None es = Unit {0}
 GaveIn f (Some x) es = IfSome x.put (λ p. Gave f x.request.write es)
 
-gave-plain : (f : Option Filled) (q : Option Held) (es : List Event) → HasPut None q → GaveIn f q es
+gave-plain : (f : Option Filled) (q : Option Ongoing) (es : List Event) → HasPut None q → GaveIn f q es
 gave-plain f None es plain = tt
 gave-plain f (Some x) es plain = subst (λ o. IfSome o (λ p. Gave f x.request.write es)) (sym plain) tt
 
-gave-put : (f : Option Filled) (q : Option Held) (es : List Event) → Gave f (makes_of q) es → GaveIn f q es
+gave-put : (f : Option Filled) (q : Option Ongoing) (es : List Event) → Gave f (makes_of q) es → GaveIn f q es
 gave-put f None es h = tt
 gave-put f (Some x) es h = elim x.put as (λ o. IfSome o (λ p. Gave f x.request.write es)) [ None ↦ tt | Some p ↦ h ]
 
-put-gave : (f : Option Filled) (x : Held) (es : List Event) → IsSome x.put → GaveIn f (Some x) es → Gave f x.request.write es
+put-gave : (f : Option Filled) (x : Ongoing) (es : List Event) → IsSome x.put → GaveIn f (Some x) es → Gave f x.request.write es
 put-gave f x es some h = elim x.put as (λ o. IsSome o → IfSome o (λ p. Gave f x.request.write es) → Gave f x.request.write es) [ None ↦ λ s. absurd (both_ways false refl s) | Some p ↦ λ _ g. g ] some h
 
-pub right-kept : (reply : Reply) → IsOther reply → is_wrong (outcome reply) ≡ false
+pub right-kept : (reply : Reply) → IsOther reply → is_wrong (kind_of_reply reply) ≡ false
 right-kept R.WrongCall other = absurd other
 right-kept reply other = refl
 
 -- a wrong call
-wrong-call : (act : Act) (q : Option Held) (reply : Reply) (events es : List Event) (g : Option Filled) → IsIdle R.WrongCall reply events → GaveIn g q es → GaveIn (filled_after act (outcome reply) events g) (row act reply events q) (reverse events ++ es)
+wrong-call : (act : Act) (q : Option Ongoing) (reply : Reply) (events es : List Event) (g : Option Filled) → IsIdle R.WrongCall reply events → GaveIn g q es → GaveIn (filled_after act (kind_of_reply reply) events g) (row act reply events q) (reverse events ++ es)
 wrong-call act q reply events es g idle h =
-    subst (λ (r : Option Held). GaveIn (filled_after act (outcome reply) events g) r (reverse events ++ es)) (sym (wrong-row act reply events q idle))
-    (subst (λ (z : Option Filled). GaveIn z q (reverse events ++ es)) (sym ((λ i. filled_after act (outcome (idle.0 i)) (idle.1 i) g) ∙ wrong-filled act g))
+    subst (λ (r : Option Ongoing). GaveIn (filled_after act (kind_of_reply reply) events g) r (reverse events ++ es)) (sym (wrong-row act reply events q idle))
+    (subst (λ (z : Option Filled). GaveIn z q (reverse events ++ es)) (sym ((λ i. filled_after act (kind_of_reply (idle.0 i)) (idle.1 i) g) ∙ wrong-filled act g))
     (subst (λ (xs : List Event). GaveIn g q (reverse xs ++ es)) (sym idle.1) h))
 
-begun-put : (b : Bool) (k : Key) (limit : Option ℕ) (g : Option Filled) (es : List Event) → GaveIn (cond b None g) (cond b (Some (held_put (new_put k limit))) None) es
+begun-put : (b : Bool) (k : Key) (limit : Option ℕ) (g : Option Filled) (es : List Event) → GaveIn (cond b None g) (cond b (Some (ongoing_put (new_put k limit))) None) es
 begun-put true k limit g es = tt
 begun-put false k limit g es = tt
 
@@ -158,28 +158,28 @@ none-gave true g es = tt
 none-gave false g es = tt
 
 -- a call of the put itself, by its reply
-own-call : (limits : Limits) (start : Tracked) (f : Facts) (act : Act) (q : Option Held) (reply : Reply) (events es : List Event) (g : Option Filled) → Replies f act q reply events → AreDue limits start es q (makes_of q) None events (makes_of (row act reply events q)) → AreUnwritten es → IsBelow (makes_of q) es → GaveIn g q es
-    → GaveIn (filled_after act (outcome reply) events g) (row act reply events q) (reverse events ++ es)
+own-call : (limits : Limits) (start : Tracked) (f : Facts) (act : Act) (q : Option Ongoing) (reply : Reply) (events es : List Event) (g : Option Filled) → Replies f act q reply events → AreDue limits start es q (makes_of q) None events (makes_of (row act reply events q)) → AreUnwritten es → IsBelow (makes_of q) es → GaveIn g q es
+    → GaveIn (filled_after act (kind_of_reply reply) events g) (row act reply events q) (reverse events ++ es)
 own-call limits start f act q reply events es g (inr (other, idle)) due unwritten low h = wrong-call act q reply events es g idle h
 own-call limits start f act q reply events es g (inl (kind, inr (fails, idle))) due unwritten low h = wrong-call act q reply events es g idle h
 own-call limits start f (C.Files a) q reply events es g (inl (kind, inl (may, other, does))) due unwritten low h = subst (λ (xs : List Event). GaveIn g q (reverse xs ++ es)) (sym does.1) h
-own-call limits start f (C.Put k limit) None reply events es g (inl (kind, inl (may, other, does))) due unwritten low h = begun-put (is_done (outcome reply)) k limit g (reverse events ++ es)
+own-call limits start f (C.Put k limit) None reply events es g (inl (kind, inl (may, other, does))) due unwritten low h = begun-put (is_done (kind_of_reply reply)) k limit g (reverse events ++ es)
 own-call limits start f (C.Put k limit) (Some x) reply events es g (inl (kind, inl (may, other, does))) due unwritten low h = absurd may
 own-call limits start f (C.Feed bytes t) None reply events es g (inl (kind, inl (may, other, does))) due unwritten low h = tt
 own-call limits start f (C.Feed bytes t) (Some x) reply events es g (inl (kind, inl (may, other, does))) due unwritten low h =
     gave-put (filled_by events g) (row (C.Feed bytes t) reply events (Some x)) (reverse events ++ es)
     (run-own limits start (Some x) events es x.request.write None (makes_of (row (C.Feed bytes t) reply events (Some x))) g due unwritten low (put-gave g x es kind h))
-own-call limits start f C.Drop None reply events es g (inl (kind, inl (may, other, does))) due unwritten low h = none-gave (is_done (outcome reply)) g (reverse events ++ es)
+own-call limits start f C.Drop None reply events es g (inl (kind, inl (may, other, does))) due unwritten low h = none-gave (is_done (kind_of_reply reply)) g (reverse events ++ es)
 own-call limits start f C.Drop (Some x) reply events es g (inl (kind, inl (may, other, does))) due unwritten low h = subst (λ (z : Reply). GaveIn g (row C.Drop z events (Some x)) (reverse events ++ es)) (sym does.0) tt
-own-call limits start f C.Close None reply events es g (inl (kind, inl (may, other, does))) due unwritten low h = none-gave (is_wrong (outcome reply)) g (reverse events ++ es)
+own-call limits start f C.Close None reply events es g (inl (kind, inl (may, other, does))) due unwritten low h = none-gave (is_wrong (kind_of_reply reply)) g (reverse events ++ es)
 own-call limits start f C.Close (Some x) reply events es g (inl (kind, inl (may, other, does))) due unwritten low h = subst (λ b. GaveIn g (cond b (Some x) None) (reverse events ++ es)) (sym (right-kept reply other)) tt
-own-call limits start f (C.Request a) None reply events es g (inl (kind, inl (may, other, does))) due unwritten low h = gave-plain (filled_after (C.Request a) (outcome reply) events g) (row (C.Request a) reply events None) (reverse events ++ es) (plain-kept (change_of (C.Request a)) (outcome reply) events None tt (no-push a))
-own-call limits start f (C.Request a) (Some x) reply events es g (inl (kind, inl (may, other, does))) due unwritten low h = gave-plain (filled_after (C.Request a) (outcome reply) events g) (row (C.Request a) reply events (Some x)) (reverse events ++ es) (plain-kept (change_of (C.Request a)) (outcome reply) events (Some x) kind (no-push a))
-own-call limits start f act None reply events es g (inl (kind, inl (may, other, does))) due unwritten low h = gave-plain (filled_after act (outcome reply) events g) (row act reply events None) (reverse events ++ es) (plain-kept (change_of act) (outcome reply) events None tt tt)
-own-call limits start f act (Some x) reply events es g (inl (kind, inl (may, other, does))) due unwritten low h = gave-plain (filled_after act (outcome reply) events g) (row act reply events (Some x)) (reverse events ++ es) (plain-kept (change_of act) (outcome reply) events (Some x) kind tt)
+own-call limits start f (C.Request a) None reply events es g (inl (kind, inl (may, other, does))) due unwritten low h = gave-plain (filled_after (C.Request a) (kind_of_reply reply) events g) (row (C.Request a) reply events None) (reverse events ++ es) (plain-kept (change_of (C.Request a)) (kind_of_reply reply) events None tt (no-push a))
+own-call limits start f (C.Request a) (Some x) reply events es g (inl (kind, inl (may, other, does))) due unwritten low h = gave-plain (filled_after (C.Request a) (kind_of_reply reply) events g) (row (C.Request a) reply events (Some x)) (reverse events ++ es) (plain-kept (change_of (C.Request a)) (kind_of_reply reply) events (Some x) kind (no-push a))
+own-call limits start f act None reply events es g (inl (kind, inl (may, other, does))) due unwritten low h = gave-plain (filled_after act (kind_of_reply reply) events g) (row act reply events None) (reverse events ++ es) (plain-kept (change_of act) (kind_of_reply reply) events None tt tt)
+own-call limits start f act (Some x) reply events es g (inl (kind, inl (may, other, does))) due unwritten low h = gave-plain (filled_after act (kind_of_reply reply) events g) (row act reply events (Some x)) (reverse events ++ es) (plain-kept (change_of act) (kind_of_reply reply) events (Some x) kind tt)
 
 -- one more write, of another
-away-held : (limits : Limits) (start : Tracked) (q : Option Held) (events es : List Event) (o' : Option ℕ) (f : Option Filled) (p : Option Held) → AreDue limits start es q (makes_of q) None events o' → IsBelow (makes_of p) es → ((w : ℕ) → makes_of p ≡ Some w → makes_of q ≡ Some w → ⊥) → GaveIn f p es → GaveIn f p (reverse events ++ es)
+away-held : (limits : Limits) (start : Tracked) (q : Option Ongoing) (events es : List Event) (o' : Option ℕ) (f : Option Filled) (p : Option Ongoing) → AreDue limits start es q (makes_of q) None events o' → IsBelow (makes_of p) es → ((w : ℕ) → makes_of p ≡ Some w → makes_of q ≡ Some w → ⊥) → GaveIn f p es → GaveIn f p (reverse events ++ es)
 away-held limits start q events es o' f None due low other h = tt
 away-held limits start q events es o' f (Some x) due low other h = elim x.put as (λ o. IfSome o (λ p. Gave f x.request.write es) → IfSome o (λ p. Gave f x.request.write (reverse events ++ es))) [ None ↦ λ _. tt | Some p ↦ λ g. by x.request.write refl low g ] h
   where
@@ -196,15 +196,15 @@ legal-gave age limits start (e ∷ h) l r =
     let k = legal_kept age limits start h l.1 in
     let g = l.0 in
     let old = legal-gave age limits start h l.1 in
-    let same = outcome-copied g.told e.reply g.copy in
+    let same = kind-copied g.reply_made e.reply g.copy in
     let low : (s : ℕ) → IsBelow (makes_of (request_of s h)) es = λ s. elim (makes_of (request_of s h)) as (λ o. makes_of (request_of s h) ≡ o → IsBelow o es) [ None ↦ λ _. tt | Some w ↦ λ is. below w es k.tidy (and_parts _ _ (k.made.flies s w is)).0 ] refl in
-    let due : AreDue limits start es q (makes_of q) None e.events (makes_of (row e.call.act g.told e.events q)) = subst (λ z. AreDue limits start es q (makes_of q) None e.events (makes_of z)) (row-copied e.call.act g.told e.reply e.events q g.copy) g.due in
-    let now : GaveIn (filled_after e.call.act (outcome e.reply) e.events (filled_of n h)) (row e.call.act e.reply e.events q) (reverse e.events ++ es) =
+    let due : AreDue limits start es q (makes_of q) None e.events (makes_of (row e.call.act g.reply_made e.events q)) = subst (λ z. AreDue limits start es q (makes_of q) None e.events (makes_of z)) (row-copied e.call.act g.reply_made e.reply e.events q g.copy) g.due in
+    let now : GaveIn (filled_after e.call.act (kind_of_reply e.reply) e.events (filled_of n h)) (row e.call.act e.reply e.events q) (reverse e.events ++ es) =
     subst (λ o. GaveIn (filled_after e.call.act o e.events (filled_of n h)) (row_by e.call.act o e.events q) (reverse e.events ++ es)) (sym same)
-    (own-call limits start g.facts e.call.act q g.told e.events es (filled_of n h) g.answers due k.tidy.no_body (low n) (old n)) in
-    taken_keeps (λ p. GaveIn (filled_of r (e ∷ h)) p (reverse e.events ++ es)) (λ x o is. is) e.call.act (outcome e.reply) r q (if n == r then row e.call.act e.reply e.events (request_of r h) else request_of r h)
-    (elim (n == r) as (λ b. (n == r) ≡ b → GaveIn (if b then filled_after e.call.act (outcome e.reply) e.events (filled_of r h) else filled_of r h) (if b then row e.call.act e.reply e.events (request_of r h) else request_of r h) (reverse e.events ++ es)) [
-      | true ↦ λ is. subst (λ x. GaveIn (filled_after e.call.act (outcome e.reply) e.events (filled_of x h)) (row e.call.act e.reply e.events (request_of x h)) (reverse e.events ++ es)) (eqb-true n r is) now
+    (own-call limits start g.facts e.call.act q g.reply_made e.events es (filled_of n h) g.answers due k.tidy.no_body (low n) (old n)) in
+    taken_keeps (λ p. GaveIn (filled_of r (e ∷ h)) p (reverse e.events ++ es)) (λ x o is. is) e.call.act (kind_of_reply e.reply) r q (if n == r then row e.call.act e.reply e.events (request_of r h) else request_of r h)
+    (elim (n == r) as (λ b. (n == r) ≡ b → GaveIn (if b then filled_after e.call.act (kind_of_reply e.reply) e.events (filled_of r h) else filled_of r h) (if b then row e.call.act e.reply e.events (request_of r h) else request_of r h) (reverse e.events ++ es)) [
+      | true ↦ λ is. subst (λ x. GaveIn (filled_after e.call.act (kind_of_reply e.reply) e.events (filled_of x h)) (row e.call.act e.reply e.events (request_of x h)) (reverse e.events ++ es)) (eqb-true n r is) now
       | false ↦ λ no. away-held limits start q e.events es (makes_of (row e.call.act e.reply e.events q)) (filled_of r h) (request_of r h) g.due (low r) (λ w mine its. eqb-false n r no (k.made.only n r w its mine)) (old r)
     ] refl)
 

@@ -34,28 +34,28 @@ use Rattle.pcache_history.specs.declared.entry.Entry.{Entry}
 use Rattle.pcache_history.specs.declared.entry.Event.{Event}
 use Rattle.pcache_history.specs.declared.entry.Event.TheVariants as E
 use Rattle.pcache_history.specs.Events.{begin_of, in_flight, body_of, is_told}
-use Rattle.pcache_history.specs.Held.{Held, Change, fed_in, held_put, opens, closes, stays, turns, turns_by, shuts, looks, takes, begins, ends, reads_on, seeks, reads_no_more, renews, waits, pushes, feeds, goes, change_of, changed, turned_by, shut_by, sought_in, with_sought, Outcome, outcome, was_wrong, was_done, was_taken, was_waited, was_refused, was_declined, was_other, waited_by, is_wrong, is_done, is_taken, opened, with_given, asked, pair_of, carrying, decides, looked_by, placed_by, taken_by, without_pair, began, ended, read_past, has_read, on_request, row_by, row, request_of, after_look}
+use Rattle.pcache_history.specs.Ongoing.{Ongoing, Change, fed_in, ongoing_put, opens, closes, stays, turns, turns_by, shuts, looks, takes, begins, ends, reads_on, seeks, reads_no_more, renews, waits, pushes, feeds, goes, change_of, changed, turned_by, shut_by, sought_in, with_sought, ReplyKind, kind_of_reply, was_wrong, was_done, was_taken, was_waited, was_refused, was_declined, was_other, waited_by, is_wrong, is_done, is_taken, opened, with_given, asked, pair_of, carrying, decides, looked_by, placed_by, taken_by, without_pair, began, ended, read_past, has_read, on_request, row_by, row, request_of, after_look}
 use Rattle.pcache_history.specs.Taking.{Taking, new_put}
 use Rattle.pcache_history.specs.History.{events_of, reads}
 use Rattle.pcache_history.specs.Facts.{Facts, request_in}
 use Rattle.pcache_history.specs.Legal.{IsLegal}
-use Rattle.pcache_history.specs.Rules.{IsIdle, release_of, Begins, Reads, Answers, Replies}
+use Rattle.pcache_history.specs.Rules.{IsIdle, release_of, Begins, Reads, FollowsRule, Replies}
 use Rattle.pcache_history.specs.ReadSoFar.{given_in, read_on, read_by, HasRead}
 use Rattle.pcache_history.specs.Headline.{ReadsABeginning}
 use Rattle.pcache_history.specs.Watching.{waited_on}
 use Rattle.pcache_history.proofs.Taken.{taken_keeps}
-use Rattle.pcache_history.proofs.Copied.{outcome-copied}
+use Rattle.pcache_history.proofs.Copied.{kind-copied}
 
 -- a reader that has given nothing
 abbrev IsAtStart : Reader → Type 0
 IsAtStart (Whole id body start stop done) = done ≡ false
 IsAtStart (Part w place) = place ≡ 0
 
-abbrev FollowsIn : List Event → Held → List ℕ → Type 0
+abbrev FollowsIn : List Event → Ongoing → List ℕ → Type 0
 FollowsIn es x got = IfSome x.request.reader (λ reader. HasRead es reader got) × IfSome x.pair (λ p. IsAtStart p.1)
 
 -- a request's reader has given these bytes, and that of its pair none
-abbrev Follows : List Event → Option Held → List ℕ → Type 0
+abbrev Follows : List Event → Option Ongoing → List ℕ → Type 0
 Follows es None got = Unit {0}
 Follows es (Some x) got = FollowsIn es x got
 
@@ -80,7 +80,7 @@ run-stays : (events es : List Event) (reader : Reader) (got : List ℕ) → HasR
 run-stays [] es reader got h = h
 run-stays (e ∷ events) es reader got h = reader-stays e (events ++ es) reader got (run-stays events es reader got h)
 
-still : (events es : List Event) (q : Option Held) (got : List ℕ) → Follows es q got → Follows (events ++ es) q got
+still : (events es : List Event) (q : Option Ongoing) (got : List ℕ) → Follows es q got → Follows (events ++ es) q got
 still events es None got h = tt
 still events es (Some x) got h =
     (elim x.request.reader as (λ o. IfSome o (λ reader. HasRead es reader got) → IfSome o (λ reader. HasRead (events ++ es) reader got)) [ None ↦ λ _. tt | Some reader ↦ λ k. run-stays events es reader got k ] h.0, h.1)
@@ -135,11 +135,11 @@ gave es (Part w place) got h =
 
 -- What events make of a request.
 
-on-each : (es : List Event) (got : List ℕ) (f : Held → Held) → ((x : Held) → FollowsIn es x got → FollowsIn es (f x) got) → (q : Option Held) → Follows es q got → Follows es (option_map f q) got
+on-each : (es : List Event) (got : List ℕ) (f : Ongoing → Ongoing) → ((x : Ongoing) → FollowsIn es x got → FollowsIn es (f x) got) → (q : Option Ongoing) → Follows es q got → Follows es (option_map f q) got
 on-each es got f keeps None h = tt
 on-each es got f keeps (Some x) h = keeps x h
 
-on-done : (es : List Event) (got : List ℕ) (b : Bool) (p q : Option Held) → Follows es p got → Follows es q got → Follows es (cond b p q) got
+on-done : (es : List Event) (got : List ℕ) (b : Bool) (p q : Option Ongoing) → Follows es p got → Follows es q got → Follows es (cond b p q) got
 on-done es got true p q h k = h
 on-done es got false p q h k = k
 
@@ -174,7 +174,7 @@ off-follows : (es : List Event) (got : List ℕ) (x : Request) (p : CachePhase) 
 off-follows es got x (phase.Disabled reason.NeverEnabled) h = h
 off-follows es got x p h = tt
 
-looked-on : (es : List Event) (d : Option Decision) (a : Answer) (events : List Event) (got : List ℕ) (x : Held) → FollowsIn es x got → FollowsIn es (after_look d a events x) got
+looked-on : (es : List Event) (d : Option Decision) (a : Answer) (events : List Event) (got : List ℕ) (x : Ongoing) → FollowsIn es x got → FollowsIn es (after_look d a events x) got
 looked-on es d a events got x h =
     let old : IfSome (with_decision d x.request).reader (λ reader. HasRead es reader got) = subst (λ o. IfSome o (λ reader. HasRead es reader got)) (sym (decided-reader d x.request)) h.0 in
     elim (is_deferral d) as (λ b. FollowsIn es (cond b (record { request = disabled_for Deferred (with_decision d x.request); pair = None; carried = None; put = x.put }) (record { request = asked false events (with_decision d x.request); pair = visible x.request.valid_after (pair_of a); carried = x.carried; put = x.put })) got) [
@@ -182,7 +182,7 @@ looked-on es d a events got x h =
       | false ↦ (subst (λ o. IfSome o (λ reader. HasRead es reader got)) (sym (asked-reader false events (with_decision d x.request))) old, seen-starts x.request.valid_after (pair_of a) (pair-starts a))
     ]
 
-looked-follows : (es events : List Event) (got : List ℕ) (x : Held) → FollowsIn es x got → FollowsIn es (looked_by events x) got
+looked-follows : (es events : List Event) (got : List ℕ) (x : Ongoing) → FollowsIn es x got → FollowsIn es (looked_by events x) got
 looked-follows es [] got x h = h
 looked-follows es (E.Look k a ∷ events) got x h = looked-on es (decides a x) a events got x h
 looked-follows es (e ∷ events) got x h = h
@@ -192,7 +192,7 @@ placed-follows es events s x None some h = cc
 placed-follows es events s x (Some p) some h =
     elim (is_treated_as_miss s) as (λ b. IfSome (cond b None (Some p.1)) (λ reader. HasRead es reader [])) [ true ↦ tt | false ↦ starts es p.1 h ]
 
-found-follows : (es events : List Event) (s : HitStatus) (x : Held) (got : List ℕ) (o : Outcome) → (is_taken o ≡ true → IsSome x.pair) → FollowsIn es x got
+found-follows : (es events : List Event) (s : HitStatus) (x : Ongoing) (got : List ℕ) (o : ReplyKind) → (is_taken o ≡ true → IsSome x.pair) → FollowsIn es x got
     → Follows es (cond (is_taken o) (Some (taken_by s events x)) (cond (is_wrong o) (Some x) (Some (without_pair x)))) (cond (is_taken o) [] got)
 found-follows es events s x got o some h =
     elim (is_taken o) as (λ b. (b ≡ true → IsSome x.pair) → Follows es (cond b (Some (taken_by s events x)) (cond (is_wrong o) (Some x) (Some (without_pair x)))) (cond b [] got)) [
@@ -201,43 +201,43 @@ found-follows es events s x got o some h =
     ] some
 
 -- a reader follows its write from its first byte
-began-follows : (es events : List Event) (x : Held) (got : List ℕ) (next k : ℕ) (m : Meta) (joined : Bool) → FollowsIn es x got
+began-follows : (es events : List Event) (x : Ongoing) (got : List ℕ) (next k : ℕ) (m : Meta) (joined : Bool) → FollowsIn es x got
     → FollowsIn es (on_request (began joined (E.Begin next k m ∷ events)) x) (cond joined [] got)
 began-follows es events x got next k m true h = (starts es (Part next 0) refl, h.1)
 began-follows es events x got next k m false h = h
 
-ended-follows : (es events : List Event) (got : List ℕ) (x : Held) → FollowsIn es x got → FollowsIn es (on_request (ended events) x) got
+ended-follows : (es events : List Event) (got : List ℕ) (x : Ongoing) → FollowsIn es x got → FollowsIn es (on_request (ended events) x) got
 ended-follows es [] got x h = h
 ended-follows es (e ∷ events) got x h = h
 
 -- One call.
 
-begin-idle : (es events : List Event) (x : Held) (got : List ℕ) (reply told : Reply) → is_done (outcome told) ≡ false → FollowsIn es x got → IsIdle told reply events
-    → FollowsIn es (on_request (began (is_done (outcome reply)) events) x) (cond (is_done (outcome reply)) [] got)
+begin-idle : (es events : List Event) (x : Ongoing) (got : List ℕ) (reply told : Reply) → is_done (kind_of_reply told) ≡ false → FollowsIn es x got → IsIdle told reply events
+    → FollowsIn es (on_request (began (is_done (kind_of_reply reply)) events) x) (cond (is_done (kind_of_reply reply)) [] got)
 begin-idle es events x got reply told other h a =
-    subst (λ y. FollowsIn es (on_request (began (is_done (outcome y)) events) x) (cond (is_done (outcome y)) [] got)) (sym a.0)
-    (subst (λ xs. FollowsIn es (on_request (began (is_done (outcome told)) xs) x) (cond (is_done (outcome told)) [] got)) (sym a.1)
+    subst (λ y. FollowsIn es (on_request (began (is_done (kind_of_reply y)) events) x) (cond (is_done (kind_of_reply y)) [] got)) (sym a.0)
+    (subst (λ xs. FollowsIn es (on_request (began (is_done (kind_of_reply told)) xs) x) (cond (is_done (kind_of_reply told)) [] got)) (sym a.1)
     (subst (λ b. FollowsIn es x (cond b [] got)) (sym other) h))
 
-begin-follows : (f : Facts) (es : List Event) (x : Held) (got : List ℕ) (reply : Reply) (events : List Event) → FollowsIn (reverse events ++ es) x got → Begins f x.request reply events
-    → FollowsIn (reverse events ++ es) (on_request (began (is_done (outcome reply)) events) x) (cond (is_done (outcome reply)) [] got)
+begin-follows : (f : Facts) (es : List Event) (x : Ongoing) (got : List ℕ) (reply : Reply) (events : List Event) → FollowsIn (reverse events ++ es) x got → Begins f x.request reply events
+    → FollowsIn (reverse events ++ es) (on_request (began (is_done (kind_of_reply reply)) events) x) (cond (is_done (kind_of_reply reply)) [] got)
 begin-follows f es x got reply events h (inl (e, why, a)) = begin-idle (reverse events ++ es) events x got reply (R.Refused e) refl h a
 begin-follows f es x got reply events h (inr (k, m, key, meta, is, told)) =
-    subst (λ xs. FollowsIn (reverse events ++ es) (on_request (began (is_done (outcome reply)) xs) x) (cond (is_done (outcome reply)) [] got)) (sym is)
-    (began-follows (reverse events ++ es) (release_of x.request.held) x got f.next (slot k) m (is_done (outcome reply)) h)
+    subst (λ xs. FollowsIn (reverse events ++ es) (on_request (began (is_done (kind_of_reply reply)) xs) x) (cond (is_done (kind_of_reply reply)) [] got)) (sym is)
+    (began-follows (reverse events ++ es) (release_of x.request.held) x got f.next (slot k) m (is_done (kind_of_reply reply)) h)
 
 -- a request after these events of a read
-abbrev FollowsRead : List Event → Held → List ℕ → List Event → Type 0
+abbrev FollowsRead : List Event → Ongoing → List ℕ → List Event → Type 0
 FollowsRead es x got events = FollowsIn (reverse events ++ es) (on_request (has_read events) x) (got ++ given_in events)
 
-none-read : (es : List Event) (x : Held) (got : List ℕ) → FollowsIn es x got → FollowsRead es x got []
+none-read : (es : List Event) (x : Ongoing) (got : List ℕ) → FollowsIn es x got → FollowsRead es x got []
 none-read es x got h = subst (FollowsIn es x) (sym (append-nil got)) h
 
 -- what the reader of a request gives, by the facts
 abbrev GivesRead : List Event → Request → Facts → Type 0
 GivesRead es x f = (rd : Reader) → x.reader ≡ Some rd → f.given ≡ reads es rd
 
-read-follows : (f : Facts) (es : List Event) (x : Held) (got : List ℕ) (reply : Reply) (events : List Event) → GivesRead es x.request f → IsSome x.request.reader → FollowsIn es x got → Reads f reply events → FollowsRead es x got events
+read-follows : (f : Facts) (es : List Event) (x : Ongoing) (got : List ℕ) (reply : Reply) (events : List Event) → GivesRead es x.request f → IsSome x.request.reader → FollowsIn es x got → Reads f reply events → FollowsRead es x got events
 read-follows f es x got reply events says some h (inl a) = subst (FollowsRead es x got) (sym a.1.1) (none-read es x got h)
 read-follows f es x got reply events says some h (inr (done, told)) = by x.request.reader refl some
   where
@@ -250,7 +250,7 @@ read-follows f es x got reply events says some h (inr (done, told)) = by x.reque
         (subst (λ o. IfSome (option_map (read_past a) o) (λ y. HasRead (E.Read a ∷ es) y (got ++ given_in (E.Read a ∷ [])))) (sym is) (gave es reader got had), h.1)
 
 -- a wait leaves the reader of the body
-pub waited-reader : (o : Outcome) (now : ℕ) (x : Request) → (waited_by o now x).reader ≡ x.reader
+pub waited-reader : (o : ReplyKind) (now : ℕ) (x : Request) → (waited_by o now x).reader ≡ x.reader
 waited-reader was_wrong now x = refl
 waited-reader was_done now x = refl
 waited-reader was_taken now x = refl
@@ -266,15 +266,15 @@ waited-reader (was_waited a) now x = by x.held
 
 -- What a clause promises of a change that is more than a turn of the request.
 
-abbrev Promises : Facts → Change → Held → Reply → List Event → Type 0
-Promises f (takes s) x reply events = is_taken (outcome reply) ≡ true → IsSome x.pair
+abbrev Promises : Facts → Change → Ongoing → Reply → List Event → Type 0
+Promises f (takes s) x reply events = is_taken (kind_of_reply reply) ≡ true → IsSome x.pair
 Promises f begins x reply events = IsIdle R.WrongCall reply events ⊎ Begins f x.request reply events
 Promises f reads_on x reply events = (events ≡ []) ⊎ (IsSome x.request.reader × Reads f reply events)
 Promises f _ x reply events = Unit {0}
 
-promised : (f : Facts) (act : Act) (x : Held) (reply : Reply) (events : List Event) → Answers f act (Some x) reply events → Promises f (change_of act) x reply events
+promised : (f : Facts) (act : Act) (x : Ongoing) (reply : Reply) (events : List Event) → FollowsRule f act (Some x) reply events → Promises f (change_of act) x reply events
 promised f (C.Request (Q.Found s t)) x reply events (inl a) = λ _. a.0.1
-promised f (C.Request (Q.Found s t)) x reply events (inr a) = λ is. absurd (subst (λ y. is_taken (outcome y) ≡ true → ⊥) (sym a.1.0) (λ e. cc) is)
+promised f (C.Request (Q.Found s t)) x reply events (inr a) = λ is. absurd (subst (λ y. is_taken (kind_of_reply y) ≡ true → ⊥) (sym a.1.0) (λ e. cc) is)
 promised f (C.Request Q.Begin) x reply events (inl a) = inr a.2
 promised f (C.Request Q.Begin) x reply events (inr a) = inl a.1
 promised f (C.Request Q.Read) x reply events (inl a) = inr (a.0, a.2)
@@ -282,13 +282,13 @@ promised f (C.Request Q.Read) x reply events (inr a) = inl a.1.1
 promised f act x reply events a = tt
 
 -- of a wrong call
-promised-idle : (f : Facts) (act : Act) (x : Held) (reply : Reply) (events : List Event) → IsIdle R.WrongCall reply events → Promises f (change_of act) x reply events
-promised-idle f (C.Request (Q.Found s t)) x reply events a = λ is. absurd (subst (λ y. is_taken (outcome y) ≡ true → ⊥) (sym a.0) (λ e. cc) is)
+promised-idle : (f : Facts) (act : Act) (x : Ongoing) (reply : Reply) (events : List Event) → IsIdle R.WrongCall reply events → Promises f (change_of act) x reply events
+promised-idle f (C.Request (Q.Found s t)) x reply events a = λ is. absurd (subst (λ y. is_taken (kind_of_reply y) ≡ true → ⊥) (sym a.0) (λ e. cc) is)
 promised-idle f (C.Request Q.Begin) x reply events a = inl a
 promised-idle f (C.Request Q.Read) x reply events a = inl a.1
 promised-idle f act x reply events a = tt
 
-promised-of : (f : Facts) (act : Act) (x : Held) (reply : Reply) (events : List Event) → Replies f act (Some x) reply events → Promises f (change_of act) x reply events
+promised-of : (f : Facts) (act : Act) (x : Ongoing) (reply : Reply) (events : List Event) → Replies f act (Some x) reply events → Promises f (change_of act) x reply events
 promised-of f act x reply events (inl a) = promised f act x reply events a.1
 promised-of f act x reply events (inr a) = promised-idle f act x reply events a.1
 
@@ -296,13 +296,13 @@ module _ (f : Facts) (es events : List Event) (reply : Reply) (got : List ℕ) w
   abbrev after : List Event
   after = reverse events ++ es
 
-  abbrev o : Outcome
-  o = outcome reply
+  abbrev o : ReplyKind
+  o = kind_of_reply reply
 
-  abbrev FollowsTo : Change → Option Held → Type 0
+  abbrev FollowsTo : Change → Option Ongoing → Type 0
   FollowsTo change q = Follows after (changed change o events q) (read_on change o events got)
 
-  follow : (change : Change) (x : Held) → GivesRead es x.request f → Promises f change x reply events → FollowsIn es x got → FollowsIn after x got → FollowsTo change (Some x)
+  follow : (change : Change) (x : Ongoing) → GivesRead es x.request f → Promises f change x reply events → FollowsIn es x got → FollowsIn after x got → FollowsTo change (Some x)
   follow (opens options) x says a old h = elim (is_done o) as (λ b. Follows after (cond b (Some (opened options)) (Some x)) (cond b [] got)) [ true ↦ (tt, tt) | false ↦ h ]
   follow closes x says a old h = on-done after got (is_done o) None (Some x) tt h
   follow stays x says a old h = h
@@ -322,7 +322,7 @@ module _ (f : Facts) (es events : List Event) (reply : Reply) (got : List ℕ) w
   follow reads_no_more x says a old h = on-done after got (is_wrong o) (Some x) (Some (on_request without_reader x)) h (tt, h.1)
   follow (renews m) x says a old h = on-done after got (is_wrong o) (Some x) (Some (on_request (renewed m) x)) h (h.0, h.1)
   follow (waits now) x says a old h = (subst (λ r. IfSome r (λ y. HasRead after y got)) (sym (waited-reader o now x.request)) h.0, h.1)
-  follow (pushes k limit) x says a old h = on-done after got (is_done o) (Some (held_put (new_put k limit))) (Some x) (tt, tt) h
+  follow (pushes k limit) x says a old h = on-done after got (is_done o) (Some (ongoing_put (new_put k limit))) (Some x) (tt, tt) h
   follow feeds x says a old h = fed-follows x.put
     where
       fed-on : (p : Option Taking) → Follows after (Some (fed_in o events x p)) got
@@ -350,13 +350,13 @@ module _ (f : Facts) (es events : List Event) (reply : Reply) (got : List ℕ) w
   follow-none reads_no_more = on-done after got (is_wrong o) None None tt tt
   follow-none (renews m) = on-done after got (is_wrong o) None None tt tt
   follow-none (waits now) = tt
-  follow-none (pushes k limit) = on-done after got (is_done o) (Some (held_put (new_put k limit))) None (tt, tt) tt
+  follow-none (pushes k limit) = on-done after got (is_done o) (Some (ongoing_put (new_put k limit))) None (tt, tt) tt
   follow-none feeds = tt
   follow-none goes = on-done after got (is_wrong o) None None tt tt
 
 -- one call
-follow-call : (f : Facts) (es : List Event) (act : Act) (q : Option Held) (reply : Reply) (events : List Event) (got : List ℕ) → GivesRead es (request_in q) f → Replies f act q reply events → Follows es q got → Follows (reverse events ++ es) q got
-    → Follows (reverse events ++ es) (row act reply events q) (read_on (change_of act) (outcome reply) events got)
+follow-call : (f : Facts) (es : List Event) (act : Act) (q : Option Ongoing) (reply : Reply) (events : List Event) (got : List ℕ) → GivesRead es (request_in q) f → Replies f act q reply events → Follows es q got → Follows (reverse events ++ es) q got
+    → Follows (reverse events ++ es) (row act reply events q) (read_on (change_of act) (kind_of_reply reply) events got)
 follow-call f es act None reply events got k a old h = follow-none f es events reply got (change_of act)
 follow-call f es act (Some x) reply events got k a old h = follow f es events reply got (change_of act) x k (promised-of f act x reply events a) old h
 
@@ -369,12 +369,12 @@ follows-at age limits start r (e ∷ h) l =
     let g = l.0 in
     let old = follows-at age limits start r h l.1 in
     let now = still (reverse e.events) es (request_of r h) (read_by r h) old in
-    taken_keeps (λ q. Follows (reverse e.events ++ es) q (read_by r (e ∷ h))) (λ x l is. is) e.call.act (outcome e.reply) r (request_of e.call.request h) (if e.call.request == r then row e.call.act e.reply e.events (request_of r h) else request_of r h) (elim (e.call.request == r) as (λ b. (e.call.request == r) ≡ b
-    → Follows (reverse e.events ++ es) (if b then row e.call.act e.reply e.events (request_of r h) else request_of r h) (if b then read_on (change_of e.call.act) (outcome e.reply) e.events (read_by r h) else read_by r h)) [
+    taken_keeps (λ q. Follows (reverse e.events ++ es) q (read_by r (e ∷ h))) (λ x l is. is) e.call.act (kind_of_reply e.reply) r (request_of e.call.request h) (if e.call.request == r then row e.call.act e.reply e.events (request_of r h) else request_of r h) (elim (e.call.request == r) as (λ b. (e.call.request == r) ≡ b
+    → Follows (reverse e.events ++ es) (if b then row e.call.act e.reply e.events (request_of r h) else request_of r h) (if b then read_on (change_of e.call.act) (kind_of_reply e.reply) e.events (read_by r h) else read_by r h)) [
       | true ↦ λ is.
           let named : request_of e.call.request h ≡ request_of r h = ap (λ n. request_of n h) (eqb-true e.call.request r is) in
-          subst (λ o. Follows (reverse e.events ++ es) (row_by e.call.act o e.events (request_of r h)) (read_on (change_of e.call.act) o e.events (read_by r h))) (sym (outcome-copied g.told e.reply g.copy))
-          (follow-call g.facts es e.call.act (request_of r h) g.told e.events (read_by r h) (subst (λ q. GivesRead es (request_in q) g.facts) named g.says.given) (subst (λ q. Replies g.facts e.call.act q g.told e.events) named g.answers) old now)
+          subst (λ o. Follows (reverse e.events ++ es) (row_by e.call.act o e.events (request_of r h)) (read_on (change_of e.call.act) o e.events (read_by r h))) (sym (kind-copied g.reply_made e.reply g.copy))
+          (follow-call g.facts es e.call.act (request_of r h) g.reply_made e.events (read_by r h) (subst (λ q. GivesRead es (request_in q) g.facts) named g.says.given) (subst (λ q. Replies g.facts e.call.act q g.reply_made e.events) named g.answers) old now)
       | false ↦ λ _. now
     ] refl)
 

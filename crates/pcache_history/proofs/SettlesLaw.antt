@@ -30,11 +30,11 @@ use Rattle.pcache_history.specs.declared.entry.Event.TheVariants as E
 use Rattle.pcache_history.specs.Due.{makes_of, slot_of}
 use Rattle.pcache_history.specs.Events.{begin_of, body_of, evicted_by, track}
 use Rattle.pcache_history.specs.Facts.{Facts, request_in}
-use Rattle.pcache_history.specs.Held.{Held, carrying, decides, held_put, pair_of, request_of}
+use Rattle.pcache_history.specs.Ongoing.{Ongoing, carrying, decides, ongoing_put, pair_of, request_of}
 use Rattle.pcache_history.specs.History.{events_of}
 use Rattle.pcache_history.specs.Legal.{IsLegal}
 use Rattle.pcache_history.specs.Log.{Log, HasLegal}
-use Rattle.pcache_history.specs.Rules.{Answers, AsksIf, Closes, ClosesAt, Does, EndsFilling, Feeds, FeedsAt, Finishes, HandsOn, IsCopy, IsDone, IsIdle, LooksOn, Misses, Replies, Takes, TakesPiece, accesses, began_noted, drop_of, each, given_up, let_go_of, permit_of, piece_noted, release_of, renew_of, wrote_noted, number_read}
+use Rattle.pcache_history.specs.Rules.{FollowsRule, AsksIf, Closes, ClosesAt, Does, EndsFilling, Feeds, FeedsAt, Finishes, HandsOn, IsCopy, IsDone, IsIdle, LooksOn, Misses, Replies, Takes, TakesPiece, accesses, began_noted, drop_of, each, given_up, let_go_of, permit_of, piece_noted, release_of, renew_of, wrote_noted, number_read}
 use Rattle.pcache_history.specs.Settling.{Settles, SettlesAtOnce, SettlesWrite, SettlesAlways}
 use Rattle.pcache_history.specs.Taking.{Taking, filling}
 use Rattle.pcache_history.proofs.Exact.{entry_names}
@@ -98,7 +98,7 @@ none-looks false f k a x reply events on = none-hands (is_unseen x.valid_after (
 none-accesses : (s : HitStatus) (k : Key) (h : Reader) (x : Request) → EndsNone (accesses s k h x)
 none-accesses s k h x = none-if (counts_found s h x) _ refl
 
-none-given : (p : Option Permit) (taker : Option Held) → EndsNone (given_up p taker)
+none-given : (p : Option Permit) (taker : Option Ongoing) → EndsNone (given_up p taker)
 none-given None taker = refl
 none-given (Some p) None = refl
 none-given (Some p) (Some y) = none-let_go _
@@ -134,7 +134,7 @@ IsNoEnd (C.Request Q.Finish) = ⊥
 IsNoEnd C.Close = ⊥
 IsNoEnd act = Unit {0}
 
-none-does : (f : Facts) (act : Act) (q : Option Held) (reply : Reply) (events : List Event) → IsNoEnd act → Does f act q reply events → EndsNone events
+none-does : (f : Facts) (act : Act) (q : Option Ongoing) (reply : Reply) (events : List Event) → IsNoEnd act → Does f act q reply events → EndsNone events
 none-does f (C.Files a) q reply events plain d = subst EndsNone (sym d.1) refl
 none-does f (C.Open options) q reply events plain d = none-done reply events d
 none-does f (C.Put k limit) q reply events plain d = none-done reply events d
@@ -201,7 +201,7 @@ evicts-none m before [] none = refl
 evicts-none m before (E.Admit e n out ∷ events) none = absurd (cc)
 evicts-none m before (e ∷ events) none = evicts-none (track e m) before events (either-none (ends_one e) (list_any ends_one events) none).1
 
-pub evicts_no_more : (f : Facts) (act : Act) (q : Option Held) (reply : Reply) (events : List Event) (m : Tracked) (before : Evicted) → IsNoEnd act → Replies f act q reply events → evicted_by m before events ≡ before
+pub evicts_no_more : (f : Facts) (act : Act) (q : Option Ongoing) (reply : Reply) (events : List Event) (m : Tracked) (before : Evicted) → IsNoEnd act → Replies f act q reply events → evicted_by m before events ≡ before
 evicts_no_more f act q reply events m before plain (inl (finds, inl (may, other, does))) = evicts-none m before events (none-does f act q reply events plain does)
 evicts_no_more f act q reply events m before plain (inl (finds, inr (fails, idle))) = evicts-none m before events (none-idle _ reply events idle)
 evicts_no_more f act q reply events m before plain (inr (other, idle)) = evicts-none m before events (none-idle _ reply events idle)
@@ -278,12 +278,12 @@ module _ (age : ℕ) (limits : Limits) (start : Tracked) (before : List Entry) (
   Settled = (earlier ≡ []) × SettlesWrite w (events_of before) entry.reply rest
 
   -- the request's write was begun under its key, and its size is that of its body
-  by-write : (x : Held) (y : Request) (k : Key) (v : ℕ) → request_of entry.call.request before ≡ Some x → x.request.write ≡ Some v → x.request.key ≡ Some k → EndsFilling legal.0.facts y k v legal.0.told entry.events → Settled
+  by-write : (x : Ongoing) (y : Request) (k : Key) (v : ℕ) → request_of entry.call.request before ≡ Some x → x.request.write ≡ Some v → x.request.key ≡ Some k → EndsFilling legal.0.facts y k v legal.0.reply_made entry.events → Settled
   by-write x y k v has writes key ends =
       let es = events_of before in
       let r = entry.call.request in
       let f = legal.0.facts in
-      let e = by-ends f y k v w legal.0.told entry.reply legal.0.copy entry.events earlier rest at ends in
+      let e = by-ends f y k v w legal.0.reply_made entry.reply legal.0.copy entry.events earlier rest at ends in
       let made = (legal_kept age limits start before legal.1).made.keyed r v (ap makes_of has ∙ writes) in
       let slots : ◌≡◌ {A = Option ℕ} (Some made.0) (Some (slot k)) = sym made.2 ∙ ap slot_of has ∙ ap (option_map slot) key in
       let same : made.0 ≡ slot k = cc in
@@ -293,42 +293,42 @@ module _ (age : ℕ) (limits : Limits) (start : Tracked) (before : List Entry) (
   by-none : EndsNone entry.events → Settled
   by-none none = never entry.events earlier rest w (no-store entry.events none) at
 
-  by-finish : (x : Held) → request_of entry.call.request before ≡ Some x → (o : Option ℕ) → x.request.write ≡ o → Finishes legal.0.facts x.request o legal.0.told entry.events → Settled
-  by-finish x has None writes idle = by-none (none-idle _ legal.0.told entry.events idle)
+  by-finish : (x : Ongoing) → request_of entry.call.request before ≡ Some x → (o : Option ℕ) → x.request.write ≡ o → Finishes legal.0.facts x.request o legal.0.reply_made entry.events → Settled
+  by-finish x has None writes idle = by-none (none-idle _ legal.0.reply_made entry.events idle)
   by-finish x has (Some v) writes (k, key, ends) = by-write x x.request k v has writes key ends
 
-  by-stage : (x : Held) (p : Taking) → request_of entry.call.request before ≡ Some x → x ≡ held_put p → (stage : Stage) → p.stage ≡ stage → ClosesAt legal.0.facts p.key stage legal.0.told entry.events → Settled
-  by-stage x p has is InHead stands idle = by-none (none-idle _ legal.0.told entry.events idle)
-  by-stage x p has is (HasDeclined reason) stands idle = by-none (none-idle _ legal.0.told entry.events idle)
-  by-stage x p has is (IsOver kind) stands idle = by-none (none-idle _ legal.0.told entry.events idle)
+  by-stage : (x : Ongoing) (p : Taking) → request_of entry.call.request before ≡ Some x → x ≡ ongoing_put p → (stage : Stage) → p.stage ≡ stage → ClosesAt legal.0.facts p.key stage legal.0.reply_made entry.events → Settled
+  by-stage x p has is InHead stands idle = by-none (none-idle _ legal.0.reply_made entry.events idle)
+  by-stage x p has is (HasDeclined reason) stands idle = by-none (none-idle _ legal.0.reply_made entry.events idle)
+  by-stage x p has is (IsOver kind) stands idle = by-none (none-idle _ legal.0.reply_made entry.events idle)
   by-stage x p has is (InBody v id until) stands (inl (dropped, refused)) = by-none (subst EndsNone (sym dropped) refl)
-  by-stage x p has is (InBody v id until) stands (inr ends) = by-write x (filling p.key (Some v) id) p.key v has (ap (λ (y : Held). y.request.write) is ∙ ap write_in stands) (ap (λ (y : Held). y.request.key) is) ends
+  by-stage x p has is (InBody v id until) stands (inr ends) = by-write x (filling p.key (Some v) id) p.key v has (ap (λ (y : Ongoing). y.request.write) is ∙ ap write_in stands) (ap (λ (y : Ongoing). y.request.key) is) ends
 
-  by-close : (x : Held) → request_of entry.call.request before ≡ Some x → (o : Option Taking) → IfSome o (λ p. x ≡ held_put p) → Closes legal.0.facts o legal.0.told entry.events → Settled
+  by-close : (x : Ongoing) → request_of entry.call.request before ≡ Some x → (o : Option Taking) → IfSome o (λ p. x ≡ ongoing_put p) → Closes legal.0.facts o legal.0.reply_made entry.events → Settled
   by-close x has None shaped d = absurd d
   by-close x has (Some p) shaped d = by-stage x p has shaped p.stage refl d
 
-  by-does : (act : Act) (q : Option Held) → request_of entry.call.request before ≡ q → Does legal.0.facts act q legal.0.told entry.events → Settled
-  by-does (C.Files a) q has d = by-none (none-does legal.0.facts (C.Files a) q legal.0.told entry.events tt d)
-  by-does (C.Open options) q has d = by-none (none-done legal.0.told entry.events d)
-  by-does (C.Put k limit) q has d = by-none (none-done legal.0.told entry.events d)
+  by-does : (act : Act) (q : Option Ongoing) → request_of entry.call.request before ≡ q → Does legal.0.facts act q legal.0.reply_made entry.events → Settled
+  by-does (C.Files a) q has d = by-none (none-does legal.0.facts (C.Files a) q legal.0.reply_made entry.events tt d)
+  by-does (C.Open options) q has d = by-none (none-done legal.0.reply_made entry.events d)
+  by-does (C.Put k limit) q has d = by-none (none-done legal.0.reply_made entry.events d)
   by-does (C.Request Q.Finish) (Some x) has d = by-finish x has x.request.write refl d
   by-does C.Close (Some x) has d = by-close x has x.put (subst IsShaped has (legal_shaped age limits start before legal.1 entry.call.request)) d
-  by-does act None has d = by-none (none-does legal.0.facts act None legal.0.told entry.events (no-end act d) d)
+  by-does act None has d = by-none (none-does legal.0.facts act None legal.0.reply_made entry.events (no-end act d) d)
     where
-      no-end : (act : Act) → Does legal.0.facts act None legal.0.told entry.events → IsNoEnd act
+      no-end : (act : Act) → Does legal.0.facts act None legal.0.reply_made entry.events → IsNoEnd act
       no-end (C.Request Q.Finish) d = absurd d
       no-end C.Close d = absurd d
       no-end act d = tt
-  by-does act (Some x) has d = by-none (none-does legal.0.facts act (Some x) legal.0.told entry.events tt d)
+  by-does act (Some x) has d = by-none (none-does legal.0.facts act (Some x) legal.0.reply_made entry.events tt d)
 
-  by-answers : (act : Act) (q : Option Held) → request_of entry.call.request before ≡ q → Answers legal.0.facts act q legal.0.told entry.events → Settled
+  by-answers : (act : Act) (q : Option Ongoing) → request_of entry.call.request before ≡ q → FollowsRule legal.0.facts act q legal.0.reply_made entry.events → Settled
   by-answers act q has (inl (may, other, does)) = by-does act q has does
-  by-answers act q has (inr (fails, idle)) = by-none (none-idle _ legal.0.told entry.events idle)
+  by-answers act q has (inr (fails, idle)) = by-none (none-idle _ legal.0.reply_made entry.events idle)
 
-  by-replies : Replies legal.0.facts entry.call.act (request_of entry.call.request before) legal.0.told entry.events → Settled
+  by-replies : Replies legal.0.facts entry.call.act (request_of entry.call.request before) legal.0.reply_made entry.events → Settled
   by-replies (inl (finds, answers)) = by-answers entry.call.act (request_of entry.call.request before) refl answers
-  by-replies (inr (other, idle)) = by-none (none-idle _ legal.0.told entry.events idle)
+  by-replies (inr (other, idle)) = by-none (none-idle _ legal.0.reply_made entry.events idle)
 
 pub settles_at_once : SettlesAtOnce
 settles_at_once age limits start before entry w earlier rest legal at = by-replies age limits start before entry w earlier rest legal at legal.0.answers

@@ -7,13 +7,13 @@ use Rattle.pcache_history.specs.declared.call.Act.{Act}
 use Rattle.pcache_history.specs.declared.call.Act.TheVariants as C
 use Rattle.pcache_history.specs.declared.entry.Entry.{Entry}
 use Rattle.pcache_history.specs.Due.{IsOfWorldIn}
-use Rattle.pcache_history.specs.Held.{Held, Outcome, was_done, handed_by, permit_held, taken_over, taker_in, IsOfOne}
+use Rattle.pcache_history.specs.Ongoing.{Ongoing, ReplyKind, was_done, handed_by, permit_held, taken_over, taker_in, IsOfOne}
 
 -- a request that holds this
-abbrev pub holding_in : Option Locked → Held → Held
+abbrev pub holding_in : Option Locked → Ongoing → Ongoing
 holding_in h x = record { request = record x.request { held = h }; pair = x.pair; carried = x.carried; put = x.put }
 
-pub handed-keeps : (P : Option Held → Type 0) → ((x : Held) (h : Option Locked) → P (Some x) → P (Some (holding_in h x))) → (p : Option Permit) (x : Held) → P (Some x) → P (Some (handed_by p x))
+pub handed-keeps : (P : Option Ongoing → Type 0) → ((x : Ongoing) (h : Option Locked) → P (Some x) → P (Some (holding_in h x))) → (p : Option Permit) (x : Ongoing) → P (Some x) → P (Some (handed_by p x))
 handed-keeps P holds None x is = is
 handed-keeps P holds (Some p) x is = elim x.request.uses.lock as (λ b. P (Some (record { request = cond b (record x.request { held = Some (Write p) }) x.request; pair = x.pair; carried = x.carried; put = x.put }))) [
   | true ↦ holds x (Some (Write p)) is
@@ -21,16 +21,16 @@ handed-keeps P holds (Some p) x is = elim x.request.uses.lock as (λ b. P (Some 
 ]
 
 -- what holds of a request whatever lock it holds is kept
-pub taken_keeps : (P : Option Held → Type 0) → ((x : Held) (h : Option Locked) → P (Some x) → P (Some (holding_in h x))) → (act : Act) (o : Outcome) (r : ℕ) (giver q : Option Held) → P q → P (taken_over act o r giver q)
+pub taken_keeps : (P : Option Ongoing → Type 0) → ((x : Ongoing) (h : Option Locked) → P (Some x) → P (Some (holding_in h x))) → (act : Act) (o : ReplyKind) (r : ℕ) (giver q : Option Ongoing) → P q → P (taken_over act o r giver q)
 taken_keeps P holds (C.Give to) was_done r giver None is = elim (to == r) as (λ b. P (cond b None None)) [ true ↦ is | false ↦ is ]
 taken_keeps P holds (C.Give to) was_done r giver (Some x) is = elim (to == r) as (λ b. P (cond b (Some (handed_by (permit_held giver) x)) (Some x))) [ true ↦ handed-keeps P holds (permit_held giver) x is | false ↦ is ]
 taken_keeps P holds act o r giver q is = is
 
-pub holding_world : (x : Held) (h : Option Locked) → IsOfWorldIn (Some x) → IsOfWorldIn (Some (holding_in h x))
+pub holding_world : (x : Ongoing) (h : Option Locked) → IsOfWorldIn (Some x) → IsOfWorldIn (Some (holding_in h x))
 holding_world x h is = record { eviction = is.eviction; fills = is.fills }
 
 -- a call that names one request hands nothing over
-pub not_taken : (act : Act) (o : Outcome) (r : ℕ) (giver q : Option Held) → IsOfOne act → taken_over act o r giver q ≡ q
+pub not_taken : (act : Act) (o : ReplyKind) (r : ℕ) (giver q : Option Ongoing) → IsOfOne act → taken_over act o r giver q ≡ q
 not_taken (C.Give to) o r giver q one = absurd one
 not_taken act o r giver q one = refl
 

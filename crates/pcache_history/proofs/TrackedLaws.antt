@@ -13,13 +13,13 @@ use Rattle.pcache_history.specs.declared.entry.Event.TheVariants as E
 use Rattle.pcache_history.specs.Due.{Owed, makes_of, makes, owes, IsNext, AreDue}
 use Rattle.pcache_history.specs.Events.{tracked}
 use Rattle.pcache_history.specs.Headline.{EvictsFairly, TracksExactly}
-use Rattle.pcache_history.specs.Held.{Held, row, request_of}
+use Rattle.pcache_history.specs.Ongoing.{Ongoing, row, request_of}
 use Rattle.pcache_history.specs.History.{events_of}
 use Rattle.pcache_history.proofs.Exact.{names_only, standing-names}
 use Rattle.pcache_history.proofs.WriteLaws.{legal_kept}
 use Rattle.pcache_history.proofs.Runs.{turned}
 
-module _ (limits : Limits) (start : Tracked) (q : Option Held) (o' : Option ℕ) (e : CacheEntryKey) (n : ℕ) (out : List CacheEntryKey) (rest : List Event) where
+module _ (limits : Limits) (start : Tracked) (q : Option Ongoing) (o' : Option ℕ) (e : CacheEntryKey) (n : ℕ) (out : List CacheEntryKey) (rest : List Event) where
   -- only what is owed is admitted
   fair-next : (m : Tracked) (es : List Event) (o : Option ℕ) (owed : Option Owed) → IsNext limits m es q o owed (E.Admit e n out) → IsFair limits (map.insert m e n) out
   fair-next m es o None next = absurd next

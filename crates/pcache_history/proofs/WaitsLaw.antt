@@ -15,10 +15,10 @@ use Rattle.pcache_history.specs.declared.entry.Event.{Event}
 use Rattle.pcache_history.specs.Deeds.{Deed, deeds_of}
 use Rattle.pcache_history.specs.Facts.{Facts}
 use Rattle.pcache_history.specs.Headline.{WaitsAreTrue}
-use Rattle.pcache_history.specs.Held.{Held, held_put}
+use Rattle.pcache_history.specs.Ongoing.{Ongoing, ongoing_put}
 use Rattle.pcache_history.specs.History.{events_of}
 use Rattle.pcache_history.specs.Legal.{Gives}
-use Rattle.pcache_history.specs.Rules.{Answers, IsCopy, Replies, wait_reply, was_polled}
+use Rattle.pcache_history.specs.Rules.{FollowsRule, IsCopy, Replies, wait_reply, was_polled}
 use Rattle.pcache_history.specs.Waits.{wait_of}
 use Rattle.pcache_history.proofs.PutShape.{IsShaped, legal_shaped}
 
@@ -39,11 +39,11 @@ unwatched : (w : Option Watch) → is_some w ≡ false → w ≡ None
 unwatched None e = refl
 unwatched (Some w) e = absurd (cc)
 
-module _ (age : ℕ) (ds : List Deed) (r t : ℕ) (x : Held) (rd : Reader) (f : Facts) (held : x.request.held ≡ Some (Read rd)) (says : f.wait t ≡ wait_of age t r rd x.request ds) where
+module _ (age : ℕ) (ds : List Deed) (r t : ℕ) (x : Ongoing) (rd : Reader) (f : Facts) (held : x.request.held ≡ Some (Read rd)) (says : f.wait t ≡ wait_of age t r rd x.request ds) where
   abbrev Told : Reply → Type 0
   Told reply = (reply ≡ wait_reply (wait_of age t r rd x.request ds)) ⊎ ((reply ≡ R.Refused OutOfMemory) × (rd.watch ≡ None) × IsSome (unusable_in x.request.key))
 
-  by-answers : (reply told : Reply) (events : List Event) → IsCopy reply told → Answers f (C.Wait t) (Some x) reply events → Told told
+  by-answers : (reply told : Reply) (events : List Event) → IsCopy reply told → FollowsRule f (C.Wait t) (Some x) reply events → Told told
   by-answers reply told events copy (inl (may, other, inl (first, fills, idle))) =
       inr (told-as reply told (subst IsNoData (sym idle.0) tt) copy ∙ idle.0, unwatched rd.watch (sym (ap was_polled held) ∙ first), fills)
   by-answers reply told events copy (inl (may, other, inr (is, noted))) = inl (told-as reply told (subst IsNoData (sym is) (wait-no-data (f.wait t))) copy ∙ is ∙ ap wait_reply says)
@@ -54,11 +54,11 @@ module _ (age : ℕ) (ds : List Deed) (r t : ℕ) (x : Held) (rd : Reader) (f : 
   by-replies reply told events plain copy (inr (other, idle)) = absurd (other plain)
 
 -- a put holds no lock
-plain-of : (x : Held) (rd : Reader) → IsShaped (Some x) → x.request.held ≡ Some (Read rd) → x.put ≡ None
+plain-of : (x : Ongoing) (rd : Reader) → IsShaped (Some x) → x.request.held ≡ Some (Read rd) → x.put ≡ None
 plain-of x rd shaped held =
-    elim x.put as (λ o. IfSome o (λ p. x ≡ held_put p) → o ≡ None) [
+    elim x.put as (λ o. IfSome o (λ p. x ≡ ongoing_put p) → o ≡ None) [
       | None ↦ λ _. refl
-      | Some p ↦ λ is. let none : x.request.held ≡ None = ap (λ (y : Held). y.request.held) is in absurd (cc)
+      | Some p ↦ λ is. let none : x.request.held ≡ None = ap (λ (y : Ongoing). y.request.held) is in absurd (cc)
     ] shaped
 
 pub waits_are_true : WaitsAreTrue
@@ -67,4 +67,4 @@ waits_are_true age limits start before entry t x rd l act has held =
     let at = subst (λ q. Gives age limits start (events_of before) (deeds_of before) r q entry.call.act entry.reply entry.events) has l.0 in
     let g = subst (λ c. Gives age limits start (events_of before) (deeds_of before) r (Some x) c entry.reply entry.events) act at in
     let plain = plain-of x rd (subst IsShaped has (legal_shaped age limits start before l.1 r)) held in
-    by-replies age (deeds_of before) r t x rd g.facts held (g.says.wait rd t held) g.told entry.reply entry.events plain g.copy g.answers
+    by-replies age (deeds_of before) r t x rd g.facts held (g.says.wait rd t held) g.reply_made entry.reply entry.events plain g.copy g.answers

@@ -11,7 +11,7 @@ use Rattle.pcache_history.specs.declared.entry.Entry.{Entry}
 use Rattle.pcache_history.specs.declared.entry.Event.{Event}
 use Rattle.pcache_history.specs.declared.entry.Event.TheVariants as E
 use Rattle.pcache_history.specs.Events.{begin_of, is_removed, body_of, last_finished, meta_kept, complete, is_open}
-use Rattle.pcache_history.specs.Held.{Held, row, request_of, outcome}
+use Rattle.pcache_history.specs.Ongoing.{Ongoing, row, request_of, kind_of_reply}
 use Rattle.pcache_history.specs.History.{events_of}
 use Rattle.pcache_history.specs.Due.{makes_of, slot_of, AreDue, KeepsKey, IsOfWorldIn}
 use Rattle.pcache_history.specs.Legal.{IsLegal}
@@ -34,14 +34,14 @@ pub record IsKept (limits : Limits) (start : Tracked) (h : List Entry) : Type 0 
   pub world : (r : ℕ) → IsOfWorldIn (request_of r h)
 
 -- an entry changes only the request that it names, and one that is handed a permit
-abbrev rowed : ℕ → Entry → List Entry → Option Held
+abbrev rowed : ℕ → Entry → List Entry → Option Ongoing
 rowed r e h = if e.call.request == r then row e.call.act e.reply e.events (request_of r h) else request_of r h
 
 makes-after : (e : Entry) (h : List Entry) (r : ℕ) → makes_of (request_of r (e ∷ h)) ≡ makes_of (rowed r e h)
-makes-after e h r = taken_keeps (λ p. makes_of p ≡ makes_of (rowed r e h)) (λ x l is. is) e.call.act (outcome e.reply) r (request_of e.call.request h) (rowed r e h) refl
+makes-after e h r = taken_keeps (λ p. makes_of p ≡ makes_of (rowed r e h)) (λ x l is. is) e.call.act (kind_of_reply e.reply) r (request_of e.call.request h) (rowed r e h) refl
 
 slot-after : (e : Entry) (h : List Entry) (r : ℕ) → slot_of (request_of r (e ∷ h)) ≡ slot_of (rowed r e h)
-slot-after e h r = taken_keeps (λ p. slot_of p ≡ slot_of (rowed r e h)) (λ x l is. is) e.call.act (outcome e.reply) r (request_of e.call.request h) (rowed r e h) refl
+slot-after e h r = taken_keeps (λ p. slot_of p ≡ slot_of (rowed r e h)) (λ x l is. is) e.call.act (kind_of_reply e.reply) r (request_of e.call.request h) (rowed r e h) refl
 
 named : (e : Entry) (h : List Entry) (r : ℕ) → e.call.request ≡ r → rowed r e h ≡ row e.call.act e.reply e.events (request_of e.call.request h)
 named e h r is = subst (λ x. rowed x e h ≡ row e.call.act e.reply e.events (request_of e.call.request h)) is (ap (λ b. if b then row e.call.act e.reply e.events (request_of e.call.request h) else request_of e.call.request h) (eq-eqb e.call.request e.call.request refl))
@@ -50,12 +50,12 @@ unnamed : (e : Entry) (h : List Entry) (r : ℕ) → e.call.request ≢ r → ro
 unnamed e h r ne = ap (λ b. if b then row e.call.act e.reply e.events (request_of r h) else request_of r h) (ne_eqb e.call.request r ne)
 
 -- if a request keeps
-keeps-world : (q q' : Option Held) → KeepsKey q q' → IsOfWorldIn q → IsOfWorldIn q'
+keeps-world : (q q' : Option Ongoing) → KeepsKey q q' → IsOfWorldIn q → IsOfWorldIn q'
 keeps-world q None k w = tt
 keeps-world None (Some y) k w = k.0
 keeps-world (Some x) (Some y) k w = (k w).0
 
-keeps-slot : (q q' : Option Held) → KeepsKey q q' → IsOfWorldIn q → (w : ℕ) → makes_of q' ≡ Some w → slot_of q' ≡ slot_of q
+keeps-slot : (q q' : Option Ongoing) → KeepsKey q q' → IsOfWorldIn q → (w : ℕ) → makes_of q' ≡ Some w → slot_of q' ≡ slot_of q
 keeps-slot q None k world w is = absurd (cc)
 keeps-slot None (Some y) k world w is = let none = k.1 in absurd (cc)
 keeps-slot (Some x) (Some y) k world w is = ap (option_map slot) ((k world).1 (ap is_some is))
@@ -65,7 +65,7 @@ legal_world age limits start [] l r = tt
 legal_world age limits start (e ∷ h) l r =
     let n = e.call.request in
     let old = legal_world age limits start h l.1 in
-    taken_keeps IsOfWorldIn holding_world e.call.act (outcome e.reply) r (request_of n h) (rowed r e h) (elim (n == r) as (λ b. (n == r) ≡ b → IsOfWorldIn (rowed r e h)) [
+    taken_keeps IsOfWorldIn holding_world e.call.act (kind_of_reply e.reply) r (request_of n h) (rowed r e h) (elim (n == r) as (λ b. (n == r) ≡ b → IsOfWorldIn (rowed r e h)) [
       | true ↦ λ t. subst IsOfWorldIn (sym (named e h r (eqb-true n r t))) (keeps-world (request_of n h) (row e.call.act e.reply e.events (request_of n h)) l.0.keeps (old n))
       | false ↦ λ f. subst IsOfWorldIn (sym (unnamed e h r (eqb-false n r f))) (old r)
     ] refl)

@@ -17,7 +17,7 @@ use Rattle.pcache_history.specs.declared.call.RequestAct.TheVariants as Q
 use Rattle.pcache_history.specs.declared.entry.Entry.{Entry}
 use Rattle.pcache_history.specs.declared.entry.Event.{Event}
 use Rattle.pcache_history.specs.declared.entry.Event.TheVariants as E
-use Rattle.pcache_history.specs.Held.{Held, Outcome, was_done, was_waited, outcome, request_of}
+use Rattle.pcache_history.specs.Ongoing.{Ongoing, ReplyKind, was_done, was_waited, kind_of_reply, request_of}
 
 -- what an entry does to locks
 pub data Deed : Type 0 where
@@ -72,7 +72,7 @@ deeds_by r at s [] = []
 deeds_by r at s (e ∷ events) = deed_of r at s e ++ deeds_by r at s events
 
 -- the lock that is held
-abbrev pub held_in : Option Held → Option Locked
+abbrev pub held_in : Option Ongoing → Option Locked
 held_in None = None
 held_in (Some x) = x.request.held
 
@@ -89,20 +89,20 @@ handed_on to (Some (Read rd)) = []
 
 -- what a call does to locks that no event shows: tokens are published, if a permit is held; a wait has to go on; a permit is
 -- handed over
-abbrev pub said_by : ℕ → Act → Outcome → Option Locked → List Deed
+abbrev pub said_by : ℕ → Act → ReplyKind → Option Locked → List Deed
 said_by r (C.Request (Q.Publish tokens)) was_done held = published_on tokens held
 said_by r (C.Wait t) (was_waited Pending) held = Polled r ∷ []
 said_by r (C.Give to) was_done held = handed_on to held
 said_by r _ _ held = []
 
 -- the deeds of a call of the request r
-abbrev pub deeds_in : ℕ → Act → Outcome → List Event → Option Held → List Deed
+abbrev pub deeds_in : ℕ → Act → ReplyKind → List Event → Option Ongoing → List Deed
 deeds_in r act o events q = said_by r act o (held_in q) ++ deeds_by r (moment_of act) (status_left act events) events
 
 -- the deeds of a history
 abbrev pub deeds_of : List Entry → List Deed
 deeds_of [] = []
-deeds_of (e ∷ h) = reverse (deeds_in e.call.request e.call.act (outcome e.reply) e.events (request_of e.call.request h)) ++ deeds_of h
+deeds_of (e ∷ h) = reverse (deeds_in e.call.request e.call.act (kind_of_reply e.reply) e.events (request_of e.call.request h)) ++ deeds_of h
 
 -- What one deed says.
 
@@ -129,10 +129,10 @@ status_at l (Aged n) before = if n == l then AgeTimeout else before
 status_at l _ before = before
 
 -- the current publication
-abbrev pub standing_at : ℕ → Deed → List ℕ → List ℕ
-standing_at l (Asked r k n true t) before = if n == l then [] else before
-standing_at l (Published n tokens) before = if n == l then tokens else before
-standing_at l _ before = before
+abbrev pub publication_at : ℕ → Deed → List ℕ → List ℕ
+publication_at l (Asked r k n true t) before = if n == l then [] else before
+publication_at l (Published n tokens) before = if n == l then tokens else before
+publication_at l _ before = before
 
 -- one more publication for a reader that has some; for one that has none, the current one
 abbrev pub shown_more : List ℕ → List (List ℕ) → List (List ℕ)
@@ -147,10 +147,10 @@ shown_first p (q ∷ qs) = q ∷ qs
 -- the publications of the lock l that the request r, which waits for it, has to look at: the one that is current at its
 -- first poll, and the later ones
 abbrev pub shown_at : ℕ → ℕ → List ℕ → Deed → List (List ℕ) → List (List ℕ)
-shown_at r l standing (Asked q k n is_permit t) before = if q == r then [] else before
-shown_at r l standing (Published n tokens) before = if n == l then shown_more tokens before else before
-shown_at r l standing (Polled q) before = if q == r then shown_first standing before else before
-shown_at r l standing _ before = before
+shown_at r l publication (Asked q k n is_permit t) before = if q == r then [] else before
+shown_at r l publication (Published n tokens) before = if n == l then shown_more tokens before else before
+shown_at r l publication (Polled q) before = if q == r then shown_first publication before else before
+shown_at r l publication _ before = before
 
 -- What a list of deeds says.
 
@@ -173,11 +173,11 @@ status_of l [] = Waiting
 status_of l (d ∷ ds) = status_at l d (status_of l ds)
 
 -- the current publication of a permit
-abbrev pub standing : ℕ → List Deed → List ℕ
-standing l [] = []
-standing l (d ∷ ds) = standing_at l d (standing l ds)
+abbrev pub publication : ℕ → List Deed → List ℕ
+publication l [] = []
+publication l (d ∷ ds) = publication_at l d (publication l ds)
 
 -- the publications of the lock l that the request r has to look at
 abbrev pub shown : ℕ → ℕ → List Deed → List (List ℕ)
 shown r l [] = []
-shown r l (d ∷ ds) = shown_at r l (standing l ds) d (shown r l ds)
+shown r l (d ∷ ds) = shown_at r l (publication l ds) d (shown r l ds)

@@ -13,7 +13,7 @@ use Rattle.pcache_history.specs.declared.entry.Event.{Event}
 use Rattle.pcache_history.specs.Deeds.{Deed}
 use Rattle.pcache_history.specs.Events as ev
 use Rattle.pcache_history.specs.Events.{begun, is_removed, body_of, complete}
-use Rattle.pcache_history.specs.Held.{Held, pair_of}
+use Rattle.pcache_history.specs.Ongoing.{Ongoing, pair_of}
 use Rattle.pcache_history.specs.History.{Finds, HasAny, reads}
 use Rattle.pcache_history.specs.Waiting.{waiting_in}
 use Rattle.pcache_history.specs.Waits.{finds_too_old, wait_of}
@@ -39,12 +39,12 @@ pub record Facts : Type 0 where
   pub wait : ℕ → Poll LockWaitOutcome
   pub too_old : ℕ → Bool
   -- the request to which the call hands a permit, after the giver no longer holds it
-  pub taker : Option Held
+  pub taker : Option Ongoing
   -- of a load: whether only loads came before it
   pub early : Bool
 
 -- the open request; a new one if none is open
-abbrev pub request_in : Option Held → Request
+abbrev pub request_in : Option Ongoing → Request
 request_in None = new_request
 request_in (Some x) = x.request
 

@@ -31,7 +31,7 @@ use Rattle.pcache_history.specs.declared.entry.Event.{Event}
 use Rattle.pcache_history.specs.declared.entry.Event.TheVariants.{Look, Ask, Finish, Admit, Read}
 use Rattle.pcache_history.specs.Deeds.{deeds_of}
 use Rattle.pcache_history.specs.Events.{is_of, begin_of, in_flight, was_stored, is_removed, last_finished, body_of, complete, names_slot, stored_size, tracked, stored, slots}
-use Rattle.pcache_history.specs.Held.{Held, is_done, outcome, pair_of, request_of, taker_in}
+use Rattle.pcache_history.specs.Ongoing.{Ongoing, is_done, kind_of_reply, pair_of, request_of, taker_in}
 use Rattle.pcache_history.specs.Facts.{Facts, Says, request_in}
 use Rattle.pcache_history.specs.Files.{IsEarly, only_loads}
 use Rattle.pcache_history.specs.History.{events_of, Finds, reads}
@@ -81,7 +81,7 @@ FoundIsNumbered =
 -- more may come, otherwise the end; of a complete body its range once, then the end
 abbrev pub ReadsAreTrue : Type 0
 ReadsAreTrue = (age : ℕ) (limits : Limits) (start : Tracked) (before : List Entry) (entry : Entry) (answer : Poll (Option (List ℕ))) (rest : List Event) → IsLegal age limits start (entry ∷ before) → entry.events ≡ Read answer ∷ rest
-    → (x : Held) × (reader : Reader) × (request_of entry.call.request before ≡ Some x) × (x.request.reader ≡ Some reader) × (answer ≡ reads (events_of before) reader)
+    → (x : Ongoing) × (reader : Reader) × (request_of entry.call.request before ≡ Some x) × (x.request.reader ≡ Some reader) × (answer ≡ reads (events_of before) reader)
 
 -- a write of the key, in flight or finished, met no removal since it began
 abbrev pub HasUntouched : ℕ → List Event → Type 0
@@ -115,7 +115,7 @@ IsWithinLimits = (age : ℕ) (limits : Limits) (start : Tracked) (before : List 
 
 -- what a reader has given is a prefix of the body of the write that it reads, or the range of a complete body, once
 abbrev pub ReadsABeginning : Type 0
-ReadsABeginning = (age : ℕ) (limits : Limits) (start : Tracked) (before : List Entry) (r : ℕ) (x : Held) (reader : Reader) → IsLegal age limits start before → request_of r before ≡ Some x → x.request.reader ≡ Some reader
+ReadsABeginning = (age : ℕ) (limits : Limits) (start : Tracked) (before : List Entry) (r : ℕ) (x : Ongoing) (reader : Reader) → IsLegal age limits start before → request_of r before ≡ Some x → x.request.reader ≡ Some reader
     → HasRead (events_of before) reader (read_by r before)
 
 -- what an admission evicts is a fair eviction from what is tracked then, with the entry that is admitted: nothing is
@@ -144,36 +144,36 @@ OnePermitWaits = (age : ℕ) (limits : Limits) (start : Tracked) (before : List 
 -- told of a fill that cannot be used, and waited for long enough; otherwise it goes on. Only a first poll with fills may fail
 -- because memory runs out
 abbrev pub WaitsAreTrue : Type 0
-WaitsAreTrue = (age : ℕ) (limits : Limits) (start : Tracked) (before : List Entry) (entry : Entry) (t : ℕ) (x : Held) (rd : lock.Reader) → IsLegal age limits start (entry ∷ before) → entry.call.act ≡ C.Wait t → request_of entry.call.request before ≡ Some x → x.request.held ≡ Some (locked.Read rd)
+WaitsAreTrue = (age : ℕ) (limits : Limits) (start : Tracked) (before : List Entry) (entry : Entry) (t : ℕ) (x : Ongoing) (rd : lock.Reader) → IsLegal age limits start (entry ∷ before) → entry.call.act ≡ C.Wait t → request_of entry.call.request before ≡ Some x → x.request.held ≡ Some (locked.Read rd)
     → (entry.reply ≡ wait_reply (wait_of age t entry.call.request rd x.request (deeds_of before))) ⊎ ((entry.reply ≡ R.Refused OutOfMemory) × (rd.watch ≡ None) × IsSome (unusable_in x.request.key))
 
 -- whether a reply says that something was found, if it is that of a look-up
-abbrev pub told_found : Reply → Option Bool
-told_found (R.Hit n) = Some true
-told_found R.Part = Some true
-told_found (R.NotFound l) = Some false
-told_found _ = None
+abbrev pub says_found : Reply → Option Bool
+says_found (R.Hit n) = Some true
+says_found R.Part = Some true
+says_found (R.NotFound l) = Some false
+says_found _ = None
 
 -- the reply to a look-up says that something was found exactly when the key has an untouched write, for a request that
 -- hides nothing since it looks for no variant
 abbrev pub TellsExactly : Type 0
-TellsExactly = (age : ℕ) (limits : Limits) (start : Tracked) (before : List Entry) (entry : Entry) (t : ℕ) (d : Option Decision) (x : Held) (k : Key) (b : Bool) → IsLegal age limits start (entry ∷ before) → entry.call.act ≡ C.Request (Q.Look t d) → request_of entry.call.request before ≡ Some x → x.request.key ≡ Some k → x.request.valid_after ≡ None → told_found entry.reply ≡ Some b
+TellsExactly = (age : ℕ) (limits : Limits) (start : Tracked) (before : List Entry) (entry : Entry) (t : ℕ) (d : Option Decision) (x : Ongoing) (k : Key) (b : Bool) → IsLegal age limits start (entry ∷ before) → entry.call.act ≡ C.Request (Q.Look t d) → request_of entry.call.request before ≡ Some x → x.request.key ≡ Some k → x.request.valid_after ≡ None → says_found entry.reply ≡ Some b
     → (b ≡ true) ↔ HasUntouched (slot k) (events_of before)
 
 -- the reply to a look-up hands on what the store finds, unless it was created before the moment from which variants of the
 -- key count
 abbrev pub HandsOnExactly : Type 0
-HandsOnExactly = (age : ℕ) (limits : Limits) (start : Tracked) (before : List Entry) (entry : Entry) (t : ℕ) (d : Option Decision) (x : Held) (k : ℕ) (answer : Answer) (rest : List Event) (b : Bool) → IsLegal age limits start (entry ∷ before) → entry.call.act ≡ C.Request (Q.Look t d) → request_of entry.call.request before ≡ Some x → entry.events ≡ Look k answer ∷ rest → told_found entry.reply ≡ Some b
+HandsOnExactly = (age : ℕ) (limits : Limits) (start : Tracked) (before : List Entry) (entry : Entry) (t : ℕ) (d : Option Decision) (x : Ongoing) (k : ℕ) (answer : Answer) (rest : List Event) (b : Bool) → IsLegal age limits start (entry ∷ before) → entry.call.act ≡ C.Request (Q.Look t d) → request_of entry.call.request before ≡ Some x → entry.events ≡ Look k answer ∷ rest → says_found entry.reply ≡ Some b
     → (b ≡ true) ↔ ((is_found answer ≡ true) × (hides_pair x.request.valid_after (pair_of answer) ≡ false))
 
 -- the write that a request's reader follows was begun
 abbrev pub FollowsAWrite : Type 0
-FollowsAWrite = (age : ℕ) (limits : Limits) (start : Tracked) (h : List Entry) (r : ℕ) (x : Held) (w place : ℕ) → IsLegal age limits start h → request_of r h ≡ Some x → x.request.reader ≡ Some (Part w place)
+FollowsAWrite = (age : ℕ) (limits : Limits) (start : Tracked) (h : List Entry) (r : ℕ) (x : Ongoing) (w place : ℕ) → IsLegal age limits start h → request_of r h ≡ Some x → x.request.reader ≡ Some (Part w place)
     → IsSome (begin_of w (events_of h))
 
 -- what a reader of a write has given when it returns the end is the whole body of the write
 abbrev pub ReadsTheWhole : Type 0
-ReadsTheWhole = (age : ℕ) (limits : Limits) (start : Tracked) (before : List Entry) (entry : Entry) (rest : List Event) (x : Held) (w place : ℕ) → IsLegal age limits start (entry ∷ before) → entry.events ≡ Read (Ready None) ∷ rest → request_of entry.call.request before ≡ Some x
+ReadsTheWhole = (age : ℕ) (limits : Limits) (start : Tracked) (before : List Entry) (entry : Entry) (rest : List Event) (x : Ongoing) (w place : ℕ) → IsLegal age limits start (entry ∷ before) → entry.events ≡ Read (Ready None) ∷ rest → request_of entry.call.request before ≡ Some x
     → x.request.reader ≡ Some (Part w place) → read_by entry.call.request before ≡ body_of w (events_of before)
 
 -- whether a request was opened under this number by an entry
@@ -182,7 +182,7 @@ is_opening (C.Open options) = true
 is_opening _ = false
 
 abbrev pub opens_under : ℕ → Entry → Bool
-opens_under r e = (e.call.request == r) && (is_opening e.call.act && is_done (outcome e.reply))
+opens_under r e = (e.call.request == r) && (is_opening e.call.act && is_done (kind_of_reply e.reply))
 
 -- a look-up of the request that is open under the number found this complete body: its entry is in the history, older than these,
 -- and no request was opened under the number since
@@ -194,13 +194,13 @@ IsFoundBy h r body =
 -- what a request reads through a hit is the body that a look-up of it found: that of the last write of the key finished by
 -- then
 abbrev pub ReadsWhatWasFound : Type 0
-ReadsWhatWasFound = (age : ℕ) (limits : Limits) (start : Tracked) (h : List Entry) (r : ℕ) (x : Held) (id : Option ℕ) (body : List ℕ) (from to : ℕ) (done : Bool) → IsLegal age limits start h → request_of r h ≡ Some x → x.request.reader ≡ Some (Whole id body from to done)
+ReadsWhatWasFound = (age : ℕ) (limits : Limits) (start : Tracked) (h : List Entry) (r : ℕ) (x : Ongoing) (id : Option ℕ) (body : List ℕ) (from to : ℕ) (done : Bool) → IsLegal age limits start h → request_of r h ≡ Some x → x.request.reader ≡ Some (Whole id body from to done)
     → (f : IsFoundBy h r body) × (w : ℕ) × (last_finished f.3 (events_of f.2) ≡ Some w) × (is_removed w (events_of f.2) ≡ false) × (body ≡ body_of w (events_of f.2))
 
 -- the bytes that, by the history, an open put has written are the body of its write, with the meta (but for its number) that
 -- the write began with
 abbrev pub PutsAreWritten : Type 0
-PutsAreWritten = (age : ℕ) (limits : Limits) (start : Tracked) (before : List Entry) (r w : ℕ) (x : Held) (p : Taking) → IsLegal age limits start before → request_of r before ≡ Some x → x.put ≡ Some p → x.request.write ≡ Some w
+PutsAreWritten = (age : ℕ) (limits : Limits) (start : Tracked) (before : List Entry) (r w : ℕ) (x : Ongoing) (p : Taking) → IsLegal age limits start before → request_of r before ≡ Some x → x.put ≡ Some p → x.request.write ≡ Some w
     → (f : Filled) × (filled_of r before ≡ Some f) × (f.body ≡ body_of w (events_of before)) × ((k : ℕ) × (begin_of w (events_of before) ≡ Some (k, numbered w f.meta)))
 
 -- The same for the history of a world: for each entry, with the entries before it, newest first.
@@ -215,7 +215,7 @@ FindsUntouched log = (before : List Entry) (entry : Entry) (k : ℕ) (answer : A
 
 -- a look-up hands on exactly what the store finds and is not hidden
 abbrev pub HandsOnUnhidden : Log → Type 0
-HandsOnUnhidden log = (before : List Entry) (entry : Entry) (t : ℕ) (d : Option Decision) (x : Held) (k : ℕ) (answer : Answer) (rest : List Event) (b : Bool) → IsEntryOf log entry before → entry.call.act ≡ C.Request (Q.Look t d) → request_of entry.call.request before ≡ Some x → entry.events ≡ Look k answer ∷ rest → told_found entry.reply ≡ Some b
+HandsOnUnhidden log = (before : List Entry) (entry : Entry) (t : ℕ) (d : Option Decision) (x : Ongoing) (k : ℕ) (answer : Answer) (rest : List Event) (b : Bool) → IsEntryOf log entry before → entry.call.act ≡ C.Request (Q.Look t d) → request_of entry.call.request before ≡ Some x → entry.events ≡ Look k answer ∷ rest → says_found entry.reply ≡ Some b
     → (b ≡ true) ↔ ((is_found answer ≡ true) × (hides_pair x.request.valid_after (pair_of answer) ≡ false))
 
 -- a write's finish succeeds exactly when it met no removal since it began

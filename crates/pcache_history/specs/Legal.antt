@@ -9,7 +9,7 @@ use Rattle.pcache_history.specs.Deeds.{Deed, deeds_of}
 use Rattle.pcache_history.specs.Due.{makes_of, AreDue, KeepsKey}
 use Rattle.pcache_history.specs.Facts.{Facts, Says, request_in}
 use Rattle.pcache_history.specs.Files.{IsEarly}
-use Rattle.pcache_history.specs.Held.{Held, row, request_of, taker_in}
+use Rattle.pcache_history.specs.Ongoing.{Ongoing, row, request_of, taker_in}
 use Rattle.pcache_history.specs.History.{events_of}
 use Rattle.pcache_history.specs.Rules.{Replies, IsCopy}
 use Rattle.pcache_history.specs.Waiting.{waiting_in, AreGiven}
@@ -17,12 +17,12 @@ use Rattle.pcache_history.specs.Waiting.{waiting_in, AreGiven}
 -- the reply and the events of a call of the request r, after a history that leaves r as q, if permits are too old after the time
 -- `age`, for a manager with these limits that tracked these entries at the start: by the clause of the call and the facts of the
 -- history; the reply is copied into the history, the events may come then, and the locks are those that are given then
-pub record Gives (age : ℕ) (limits : Limits) (start : Tracked) (es : List Event) (ds : List Deed) (r : ℕ) (q : Option Held) (act : Act) (reply : Reply) (events : List Event) : Type 0 where
+pub record Gives (age : ℕ) (limits : Limits) (start : Tracked) (es : List Event) (ds : List Deed) (r : ℕ) (q : Option Ongoing) (act : Act) (reply : Reply) (events : List Event) : Type 0 where
   pub facts : Facts
   pub says : Says age es ds r (request_in q) facts
-  pub told : Reply
-  pub answers : Replies facts act q told events
-  pub copy : IsCopy told reply
+  pub reply_made : Reply
+  pub answers : Replies facts act q reply_made events
+  pub copy : IsCopy reply_made reply
   pub due : AreDue limits start es q (makes_of q) None events (makes_of (row act reply events q))
   pub keeps : KeepsKey q (row act reply events q)
   pub given : AreGiven (waiting_in es) events

@@ -4,7 +4,7 @@ pub mod Events
 pub mod Facts
 pub mod Files
 pub mod Headline
-pub mod Held
+pub mod Ongoing
 pub mod History
 pub mod Kept
 pub mod Legal

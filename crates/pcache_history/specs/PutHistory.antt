@@ -14,12 +14,12 @@ use Rattle.pcache_history.specs.declared.call.Reply.TheVariants as R
 use Rattle.pcache_history.specs.declared.entry.Entry.{Entry}
 use Rattle.pcache_history.specs.declared.entry.Event.{Event}
 use Rattle.pcache_history.specs.declared.entry.Event.TheVariants as E
-use Rattle.pcache_history.specs.Held.{Held, Outcome, was_refused, outcome, is_done, is_wrong, request_of, row}
+use Rattle.pcache_history.specs.Ongoing.{Ongoing, ReplyKind, was_refused, kind_of_reply, is_done, is_wrong, request_of, row}
 use Rattle.pcache_history.specs.Rules.{IsIdle}
 use Rattle.pcache_history.specs.Taking.{Taking}
 
 -- the pieces of a put, after one call of it
-abbrev pub pieces_on : Act → Outcome → List Piece → List Piece
+abbrev pub pieces_on : Act → ReplyKind → List Piece → List Piece
 pieces_on (C.Put k limit) o before = cond (is_done o) [] before
 pieces_on (C.Feed bytes t) o before = cond (is_wrong o) before (before ++ record { bytes = bytes; now = t } ∷ [])
 pieces_on _ o before = before
@@ -27,7 +27,7 @@ pieces_on _ o before = before
 -- the pieces of an open put, by the history
 abbrev pub pieces_of : ℕ → List Entry → List Piece
 pieces_of r [] = []
-pieces_of r (e ∷ h) = if e.call.request == r then pieces_on e.call.act (outcome e.reply) (pieces_of r h) else pieces_of r h
+pieces_of r (e ∷ h) = if e.call.request == r then pieces_on e.call.act (kind_of_reply e.reply) (pieces_of r h) else pieces_of r h
 
 -- what its write was given, after events in their order, and after one call
 abbrev pub filled_noted : Event → Option Filled → Option Filled
@@ -41,7 +41,7 @@ abbrev pub filled_by : List Event → Option Filled → Option Filled
 filled_by [] before = before
 filled_by (e ∷ events) before = filled_by events (filled_noted e before)
 
-abbrev pub filled_after : Act → Outcome → List Event → Option Filled → Option Filled
+abbrev pub filled_after : Act → ReplyKind → List Event → Option Filled → Option Filled
 filled_after (C.Put k limit) o events before = cond (is_done o) None before
 filled_after (C.Feed bytes t) o events before = filled_by events before
 filled_after _ o events before = before
@@ -49,20 +49,20 @@ filled_after _ o events before = before
 -- what the write of an open put was given, by the history
 abbrev pub filled_of : ℕ → List Entry → Option Filled
 filled_of r [] = None
-filled_of r (e ∷ h) = if e.call.request == r then filled_after e.call.act (outcome e.reply) e.events (filled_of r h) else filled_of r h
+filled_of r (e ∷ h) = if e.call.request == r then filled_after e.call.act (kind_of_reply e.reply) e.events (filled_of r h) else filled_of r h
 
 -- The stage of a put after these pieces, as a history knows it, which has no parser and no counter.
-abbrev pub StandsBy : Says → Option ℕ → Stage → List Piece → Option Filled → Type 0
-StandsBy says limit stage pieces f = (size : Option Counted) × (parser : Parsed) × (limit_of size ≡ limit) × TakenBy says size parser stage pieces f
+abbrev pub IsAtStage : Says → Option ℕ → Stage → List Piece → Option Filled → Type 0
+IsAtStage says limit stage pieces f = (size : Option Counted) × (parser : Parsed) × (limit_of size ≡ limit) × TakenBy says size parser stage pieces f
 
 -- the same for what is open under a number, if it is a put
 abbrev pub HasStoodBy : Says → Option Taking → List Piece → Option Filled → Type 0
 HasStoodBy says None pieces f = Unit {0}
-HasStoodBy says (Some p) pieces f = StandsBy says (limit_of p.size) p.stage pieces f
+HasStoodBy says (Some p) pieces f = IsAtStage says (limit_of p.size) p.stage pieces f
 
-abbrev pub StoodBy : Says → Option Held → List Piece → Option Filled → Type 0
-StoodBy says None pieces f = Unit {0}
-StoodBy says (Some x) pieces f = HasStoodBy says x.put pieces f
+abbrev pub WasAtStage : Says → Option Ongoing → List Piece → Option Filled → Type 0
+WasAtStage says None pieces f = Unit {0}
+WasAtStage says (Some x) pieces f = HasStoodBy says x.put pieces f
 
 -- the reply to a close is the outcome of the pieces, unless memory ran out or the like; a stored body is the one that
 -- the write was given
@@ -77,12 +77,12 @@ abbrev pub TellsOf : Says → Option Taking → List Piece → Option Filled →
 TellsOf says None pieces f reply = Unit {0}
 TellsOf says (Some p) pieces f reply = Tells (IsResult says (limit_of p.size) pieces) f reply
 
-abbrev pub TellsIn : Says → Option Held → List Piece → Option Filled → Reply → Type 0
+abbrev pub TellsIn : Says → Option Ongoing → List Piece → Option Filled → Reply → Type 0
 TellsIn says None pieces f reply = Unit {0}
 TellsIn says (Some x) pieces f reply = TellsOf says x.put pieces f reply
 
 -- the reply to a close says so, by what was open under its number before
-abbrev pub ClosesBy : Says → Act → Option Held → List Piece → Option Filled → Reply → Type 0
+abbrev pub ClosesBy : Says → Act → Option Ongoing → List Piece → Option Filled → Reply → Type 0
 ClosesBy says C.Close q pieces f reply = TellsIn says q pieces f reply
 ClosesBy says _ q pieces f reply = Unit {0}
 
@@ -99,11 +99,11 @@ abbrev pub IgnoresOf : Option Taking → List Piece → Reply → List Event →
 IgnoresOf None before reply events = Unit {0}
 IgnoresOf (Some p) before reply events = IgnoresAt p.stage before reply events
 
-abbrev pub IgnoresIn : Option Held → List Piece → Reply → List Event → Type 0
+abbrev pub IgnoresIn : Option Ongoing → List Piece → Reply → List Event → Type 0
 IgnoresIn None before reply events = Unit {0}
 IgnoresIn (Some x) before reply events = IgnoresOf x.put before reply events
 
-abbrev pub IgnoresBy : Act → Option Held → List Piece → Reply → List Event → Type 0
+abbrev pub IgnoresBy : Act → Option Ongoing → List Piece → Reply → List Event → Type 0
 IgnoresBy (C.Feed bytes t) q before reply events = IgnoresIn q before reply events
 IgnoresBy _ q before reply events = Unit {0}
 
@@ -114,22 +114,22 @@ SayEnds pieces (E.Wrote w bytes eof ∷ events) = ((eof ≡ true) ↔ AreWhole p
 SayEnds pieces (_ ∷ events) = SayEnds pieces events
 
 -- by a piece, unless it fails, so that its write is dropped in the same call
-abbrev pub EndsBy : Act → Outcome → List Piece → List Event → Type 0
+abbrev pub EndsBy : Act → ReplyKind → List Piece → List Event → Type 0
 EndsBy (C.Feed bytes t) (was_refused kind) pieces events = Unit {0}
 EndsBy (C.Feed bytes t) o pieces events = SayEnds pieces events
 EndsBy _ o pieces events = Unit {0}
 
 -- one call: the stage of the put after it is what its pieces say then, the reply to a close is what they say, what comes after
 -- the whole body is ignored, and the end is announced with the bytes that complete a body and with no others
-pub record IsTold (says : Says) (act : Act) (reply : Reply) (events : List Event) (q : Option Held) (pieces : List Piece) (f : Option Filled) : Type 0 where
-  pub stands : StoodBy says (row act reply events q) (pieces_on act (outcome reply) pieces) (filled_after act (outcome reply) events f)
+pub record IsPutCall (says : Says) (act : Act) (reply : Reply) (events : List Event) (q : Option Ongoing) (pieces : List Piece) (f : Option Filled) : Type 0 where
+  pub stands : WasAtStage says (row act reply events q) (pieces_on act (kind_of_reply reply) pieces) (filled_after act (kind_of_reply reply) events f)
   pub closes : ClosesBy says act q pieces f reply
   pub ignores : IgnoresBy act q pieces reply events
-  pub ends : EndsBy act (outcome reply) (pieces_on act (outcome reply) pieces) events
+  pub ends : EndsBy act (kind_of_reply reply) (pieces_on act (kind_of_reply reply) pieces) events
 
 -- a history in which each put follows the decisions of this policy
-abbrev pub AreTold : Says → List Entry → Type 0
-AreTold says [] = Unit {0}
-AreTold says (e ∷ h) =
+abbrev pub FollowPolicy : Says → List Entry → Type 0
+FollowPolicy says [] = Unit {0}
+FollowPolicy says (e ∷ h) =
     let r = e.call.request in
-    IsTold says e.call.act e.reply e.events (request_of r h) (pieces_of r h) (filled_of r h) × AreTold says h
+    IsPutCall says e.call.act e.reply e.events (request_of r h) (pieces_of r h) (filled_of r h) × FollowPolicy says h

@@ -8,7 +8,7 @@ use Rattle.pcache_history.specs.declared.entry.Entry.{Entry}
 use Rattle.pcache_history.specs.declared.entry.Event.{Event}
 use Rattle.pcache_history.specs.declared.entry.Event.TheVariants as E
 use Rattle.pcache_history.specs.Events.{body_of}
-use Rattle.pcache_history.specs.Held.{Outcome, Change, opens, takes, begins, reads_on, seeks, change_of, outcome, is_done, is_taken}
+use Rattle.pcache_history.specs.Ongoing.{ReplyKind, Change, opens, takes, begins, reads_on, seeks, change_of, kind_of_reply, is_done, is_taken}
 
 -- the bytes that a read gave, if it gave any
 abbrev pub given_in : List Event → List ℕ
@@ -17,7 +17,7 @@ given_in _ = []
 
 -- how one call changes the bytes that its request's reader has given: none after a request opened, a hit was taken, a
 -- write began with a reader, or the reader was moved to another range; a read adds what it gave
-abbrev pub read_on : Change → Outcome → List Event → List ℕ → List ℕ
+abbrev pub read_on : Change → ReplyKind → List Event → List ℕ → List ℕ
 read_on (opens options) o events before = cond (is_done o) [] before
 read_on (takes s) o events before = cond (is_taken o) [] before
 read_on begins o events before = cond (is_done o) [] before
@@ -28,7 +28,7 @@ read_on _ o events before = before
 -- the bytes that a request's reader has given since it was made
 abbrev pub read_by : ℕ → List Entry → List ℕ
 read_by r [] = []
-read_by r (e ∷ h) = if e.call.request == r then read_on (change_of e.call.act) (outcome e.reply) e.events (read_by r h) else read_by r h
+read_by r (e ∷ h) = if e.call.request == r then read_on (change_of e.call.act) (kind_of_reply e.reply) e.events (read_by r h) else read_by r h
 
 -- a reader of a complete body has given its range after it is done, and nothing before; a reader of a write has given
 -- the prefix of the write's body that it has read

@@ -42,11 +42,11 @@ use Rattle.pcache_history.specs.declared.entry.Answer.TheVariants as A
 use Rattle.pcache_history.specs.declared.entry.Event.{Event}
 use Rattle.pcache_history.specs.declared.entry.Event.TheVariants as E
 use Rattle.pcache_history.specs.Facts.{Facts}
-use Rattle.pcache_history.specs.Held.{Held, carrying, decides, pair_of, sought_in}
+use Rattle.pcache_history.specs.Ongoing.{Ongoing, carrying, decides, pair_of, sought_in}
 use Rattle.pcache_history.specs.Taking.{Taking, filling}
 
 -- a permit may be handed to a request that is open, with caching on; not to a put
-abbrev pub MayTake : Option Held → Type 0
+abbrev pub MayTake : Option Ongoing → Type 0
 MayTake None = ⊥
 MayTake (Some y) = IsOn y.request.phase × (y.put ≡ None)
 
@@ -56,7 +56,7 @@ MayFile f F.Save = Unit {0}
 MayFile f F.Load = f.early ≡ true
 
 -- The condition of a call.
-abbrev pub MayBe : Facts → Act → Option Held → Type 0
+abbrev pub MayBe : Facts → Act → Option Ongoing → Type 0
 MayBe f (C.Files a) q = MayFile f a
 MayBe f (C.Open options) None = Unit {0}
 MayBe f (C.Open options) (Some x) = ⊥
@@ -97,7 +97,7 @@ MayBe f C.Close (Some x) = Unit {0}
 
 -- what is open under the number that a call names is of its kind: a put for a call of puts, a request for other calls; a call on
 -- files names none
-abbrev pub IsOfKind : Act → Held → Type 0
+abbrev pub IsOfKind : Act → Ongoing → Type 0
 IsOfKind (C.Feed bytes t) x = IsSome x.put
 IsOfKind C.Drop x = IsSome x.put
 IsOfKind C.Close x = IsSome x.put
@@ -105,7 +105,7 @@ IsOfKind (C.Files a) x = Unit {0}
 IsOfKind act x = x.put ≡ None
 
 -- what is open under a number, if anything, is of the kind of the call
-abbrev pub FindsKind : Act → Option Held → Type 0
+abbrev pub FindsKind : Act → Option Ongoing → Type 0
 FindsKind act None = Unit {0}
 FindsKind act (Some x) = IsOfKind act x
 
@@ -212,7 +212,7 @@ LooksOn false f k a x reply events = HandsOn (is_unseen x.valid_after (pair_of a
 
 -- a look-up reports what the store finds; if that is nothing, the policy in use decides, if it is asked; the look-up fails
 -- for memory before it does anything only if the store finds something
-abbrev pub Looks : Facts → Held → Reply → List Event → Type 0
+abbrev pub Looks : Facts → Ongoing → Reply → List Event → Type 0
 Looks f x reply events =
     (IsSome f.found × IsStarved reply events)
     ⊎ ((k : Key) × (a : Answer) × (x.request.key ≡ Some k) × (pair_of a ≡ f.found) × LooksOn (is_deferral (decides a x)) f (slot k) a x.request reply events)
@@ -330,7 +330,7 @@ seek_reply None = R.Refused InternalError
 seek_reply (Some rd) = R.Done
 
 -- a permit is handed over: a lock that the taker held is let go; if no lock is in use, the permit itself is
-abbrev pub given_up : Option Permit → Option Held → List Event
+abbrev pub given_up : Option Permit → Option Ongoing → List Event
 given_up None taker = []
 given_up (Some p) None = []
 given_up (Some p) (Some y) = let_go_of (gone_for p y.request)
@@ -408,7 +408,7 @@ IsFilesReply a (R.Refused e) = IsFilesRefusal e
 IsFilesReply a reply = ⊥
 
 -- the clause of each call: its reply and its events, if its condition holds
-abbrev pub Does : Facts → Act → Option Held → Reply → List Event → Type 0
+abbrev pub Does : Facts → Act → Option Ongoing → Reply → List Event → Type 0
 Does f (C.Files a) q reply events = IsFilesReply a reply × (events ≡ [])
 Does f (C.Open options) q reply events = IsDone reply events
 Does f (C.Put k limit) q reply events = IsDone reply events
@@ -451,13 +451,13 @@ IsOther R.WrongCall = ⊥
 IsOther _ = Unit {0}
 
 -- the reply and the events of a call
-abbrev pub Answers : Facts → Act → Option Held → Reply → List Event → Type 0
-Answers f act q reply events = (MayBe f act q × IsOther reply × Does f act q reply events) ⊎ ((MayBe f act q → ⊥) × IsIdle R.WrongCall reply events)
+abbrev pub FollowsRule : Facts → Act → Option Ongoing → Reply → List Event → Type 0
+FollowsRule f act q reply events = (MayBe f act q × IsOther reply × Does f act q reply events) ⊎ ((MayBe f act q → ⊥) × IsIdle R.WrongCall reply events)
 
 -- the same, for a number under which a request or a put may be open: the reply to a call of the other kind is
 -- WrongCall
-abbrev pub Replies : Facts → Act → Option Held → Reply → List Event → Type 0
-Replies f act q reply events = (FindsKind act q × Answers f act q reply events) ⊎ ((FindsKind act q → ⊥) × IsIdle R.WrongCall reply events)
+abbrev pub Replies : Facts → Act → Option Ongoing → Reply → List Event → Type 0
+Replies f act q reply events = (FindsKind act q × FollowsRule f act q reply events) ⊎ ((FindsKind act q → ⊥) × IsIdle R.WrongCall reply events)
 
 -- a reply and its copy: they are equal, or copying its bytes failed
 abbrev pub IsCopy : Reply → Reply → Type 0

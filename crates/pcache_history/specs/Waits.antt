@@ -11,9 +11,9 @@ use Rattle.pcache_lock.specs.Waiting.{first_told, told_or_pending}
 use Rattle.pcache_lock.specs.declared.lock.outcome.LockWaitOutcome.{LockWaitOutcome}
 use Rattle.pcache_lock.specs.declared.lock.outcome.WaitOutcome.{WaitOutcome}
 use Rattle.pcache_lock.specs.declared.lock.outcome.WaitOutcome.TheVariants.{Released, AgeTimeout}
-use Rattle.pcache_request.specs.LockWaits.{answer_by, is_late, is_old_answer, unusable_in}
+use Rattle.pcache_request.specs.LockWaits.{result_by, is_late, is_old_result, unusable_in}
 use Rattle.pcache_request.specs.Requests.{Request}
-use Rattle.pcache_history.specs.Deeds.{Deed, ask_of, is_held, shown, standing, status_of}
+use Rattle.pcache_history.specs.Deeds.{Deed, ask_of, is_held, shown, publication, status_of}
 use Rattle.pcache_history.specs.Watching.{fills_of}
 
 -- the permit was found too old, or was given so long ago; a moment before that counts as no time
@@ -22,7 +22,7 @@ is_too_old age now l ds = is_aged (status_of l ds) || unwrap_or (option_map (λ 
 
 -- the publications that it looks at: at its first poll the current one
 abbrev pub seen_by : ℕ → ℕ → Option Watch → List Deed → List (List ℕ)
-seen_by r l None ds = standing l ds ∷ []
+seen_by r l None ds = publication l ds ∷ []
 seen_by r l (Some w) ds = shown r l ds
 
 -- the first fill of those that it watches for, in the first publication that has any
@@ -38,7 +38,7 @@ poll_of age now r rd fills ds =
 
 -- what a wait returns, and whether it finds the permit too old
 abbrev pub wait_of : ℕ → ℕ → ℕ → Reader → Request → List Deed → Poll LockWaitOutcome
-wait_of age now r rd x ds = answer_by (status_of rd.number ds) (is_late now rd x.wait_timeout x.digest.waits x.waits_since) (poll_of age now r rd (unusable_in x.key) ds)
+wait_of age now r rd x ds = result_by (status_of rd.number ds) (is_late now rd x.wait_timeout x.digest.waits x.waits_since) (poll_of age now r rd (unusable_in x.key) ds)
 
 abbrev pub finds_too_old : ℕ → ℕ → ℕ → Reader → Request → List Deed → Bool
-finds_too_old age now r rd x ds = is_old_answer (poll_of age now r rd (unusable_in x.key) ds)
+finds_too_old age now r rd x ds = is_old_result (poll_of age now r rd (unusable_in x.key) ds)

@@ -16,15 +16,15 @@ fills_of None fills = unwrap_or fills []
 fills_of (Some w) fills = w.fills
 
 -- a reader that was polled with these fills
-abbrev pub reader_watching : Reader → Option (List UnusableFill) → Reader
-reader_watching rd fills = record { number = rd.number; watch = Some (record { fills = fills_of rd.watch fills; seen = 0; told = None }) }
+abbrev pub lock_watching : Reader → Option (List UnusableFill) → Reader
+lock_watching rd fills = record { number = rd.number; watch = Some (record { fills = fills_of rd.watch fills; seen = 0; told = None }) }
 
 -- the request after a wait with this result: while it waits it holds the read lock again; otherwise the wait is
 -- counted
 abbrev pub waited_on : Poll LockWaitOutcome → ℕ → Option Locked → Request → Request
 waited_on answer now None x = x
 waited_on answer now (Some (Write p)) x = x
-waited_on answer now (Some (Read rd)) x = after_wait answer (since_of now rd.watch x.waits_since) now (reader_watching rd (unusable_in x.key)) x
+waited_on answer now (Some (Read rd)) x = after_wait answer (since_of now rd.watch x.waits_since) now (lock_watching rd (unusable_in x.key)) x
 
 abbrev pub waited_with : Poll LockWaitOutcome → ℕ → Request → Request
 waited_with answer now x = waited_on answer now x.held x

@@ -3,8 +3,8 @@ use Rattle.std.proofs.Common.{◌≡◌, ℕ, Bool, true, false, ◌&&◌, ◌||
 use Rattle.std.specs.List.{list_any}
 use Rattle.std.specs.Ordering.{nat_cmp, eq_by_cmp}
 use Rattle.std.specs.FinMap.{get, insert, remove, get-empty}
-use Rattle.pcache_lock.specs.declared.lock.outcome.Stage.{Stage}
-use Rattle.pcache_lock.specs.declared.lock.outcome.Stage.TheVariants as stage
+use Rattle.pcache_lock.specs.declared.lock.outcome.PermitState.{PermitState}
+use Rattle.pcache_lock.specs.declared.lock.outcome.PermitState.TheVariants as stage
 use Rattle.pcache_lock.specs.declared.lock.permit.Locked.{Locked}
 use Rattle.pcache_lock.specs.declared.lock.permit.Locked.TheVariants.{Write, Read}
 use Rattle.pcache_lock.specs.declared.lock.status.LockStatus.{LockStatus}
@@ -12,8 +12,8 @@ use Rattle.pcache_lock.specs.declared.lock.status.LockStatus.TheVariants as stat
 use Rattle.pcache_lock.specs.Statuses.{IsReason, is_free, is_waiting, is_aged}
 use Rattle.pcache_lock.specs.Permits.{Core, new_core, is_named, with_reader, without_reader, spent, dropped_status}
 use Rattle.pcache_lock.specs.Locks.{Locks, no_locks, holder, after_request, with_read_lock, without_entry, kept, released_on, let_go, permit_dropped, reader_dropped, changed, ended, with_free_permit}
-use Rattle.pcache_lock.specs.Waiting.{after_poll, table_at, stage_of, aged, with_publication}
-use Rattle.pcache_lock.specs.Waits.{Call, Asked, Released, LetGo, Polled, Published, Made, Joined, Unlocked, is_unlock, Leads, LeadsAll, OneWaitsAlways, AskFindsTheWaitingAlways, waiting_slot, waits_under}
+use Rattle.pcache_lock.specs.Waiting.{after_poll, table_at, permit_state, aged, with_publication}
+use Rattle.pcache_lock.specs.Waits.{Call, Asked, Released, LetGo, Polled, Published, Made, ReadLocked, Unlocked, is_unlock, Leads, LeadsAll, OneWaitsAlways, AskFindsTheWaitingAlways, waiting_slot, waits_under}
 use Rattle.pcache_lock.proofs.Tidy.{Tidy, Stands, is_open, or_kept, put_tidy, left_tidy, none_some, asked_tidy, found, asked_waits}
 use Rattle.pcache_table.proofs.Sharded.{by_test, get-insert-at, get-insert-off, get-remove-at, get-remove-off}
 
@@ -59,16 +59,16 @@ reason_ends status.AgeTimeout r = refl
 module _ (unlocks : Bool) where
   pub start_tidy : (age : ℕ) → Tidy unlocks (no_locks age)
   start_tidy age = record {
-    entries = λ slot n h. none_some (get (no_locks age).standing slot) n (get-empty nat_cmp slot) h;
+    entries = λ slot n h. none_some (get (no_locks age).current slot) n (get-empty nat_cmp slot) h;
     waiting = λ slot n h. none_some (waits_under (no_locks age) n) slot (ap waiting_slot (get-empty nat_cmp n)) h;
     unused = λ n le. get-empty nat_cmp n;
   }
 
   -- a lock written back, or gone with its entry
   kept_by : (b : Bool) (t : Locks) (n : ℕ) (c d : Core) → get t.cores n ≡ Some c → d.slot ≡ c.slot → ((unlocks || is_open c) ≡ true → (unlocks || is_open d) ≡ true) → ((d.held && is_waiting d.status) ≡ true → (c.held && is_waiting c.status) ≡ true) → Tidy unlocks t
-      → Tidy unlocks (cond b (record t { cores = insert t.cores n d }) (record t { cores = remove t.cores n; standing = without_entry n d.slot t.standing }))
+      → Tidy unlocks (cond b (record t { cores = insert t.cores n d }) (record t { cores = remove t.cores n; current = without_entry n d.slot t.current }))
   kept_by true t n c d is e o w tidy = put_tidy unlocks t n c d is e o w tidy
-  kept_by false t n c d is e o w tidy = left_tidy unlocks t n c (remove t.cores n) (without_entry n d.slot t.standing) is (λ m off. get-remove-off t.cores n m off) (ap waiting_slot (get-remove-at t.cores n)) (ap (λ s. without_entry n s t.standing) e) tidy
+  kept_by false t n c d is e o w tidy = left_tidy unlocks t n c (remove t.cores n) (without_entry n d.slot t.current) is (λ m off. get-remove-off t.cores n m off) (ap waiting_slot (get-remove-at t.cores n)) (ap (λ s. without_entry n s t.current) e) tidy
 
   pub kept_tidy : (t : Locks) (n : ℕ) (c d : Core) → get t.cores n ≡ Some c → d.slot ≡ c.slot → ((unlocks || is_open c) ≡ true → (unlocks || is_open d) ≡ true) → ((d.held && is_waiting d.status) ≡ true → (c.held && is_waiting c.status) ≡ true) → Tidy unlocks t → Tidy unlocks (kept t n d)
   kept_tidy t n c d is e o w tidy = kept_by (is_named d) t n c d is e o w tidy
@@ -96,20 +96,20 @@ module _ (unlocks : Bool) where
 
   -- a permit released: its entry goes first
   left_by : (b : Bool) (t : Locks) (n : ℕ) (c d : Core) → get t.cores n ≡ Some c → d.slot ≡ c.slot → d.held ≡ false → Tidy unlocks t
-      → Tidy unlocks (cond b (record t { cores = insert t.cores n d; standing = without_entry n c.slot t.standing })
-      (record t { cores = remove t.cores n; standing = without_entry n d.slot (without_entry n c.slot t.standing) }))
+      → Tidy unlocks (cond b (record t { cores = insert t.cores n d; current = without_entry n c.slot t.current })
+      (record t { cores = remove t.cores n; current = without_entry n d.slot (without_entry n c.slot t.current) }))
   left_by b t n c d is e gone tidy =
       let none : waiting_slot (get (insert t.cores n d) n) ≡ None = ap waiting_slot (get-insert-at t.cores n d) ∙ ap (λ h. cond (h && is_waiting d.status) d.slot None) gone in
-      let first = left_tidy unlocks t n c (insert t.cores n d) (without_entry n c.slot t.standing) is (λ m off. get-insert-off t.cores n d m off) none refl tidy in
-      elim b as (λ b. Tidy unlocks (cond b (record t { cores = insert t.cores n d; standing = without_entry n c.slot t.standing })
-      (record t { cores = remove t.cores n; standing = without_entry n d.slot (without_entry n c.slot t.standing) }))) [
+      let first = left_tidy unlocks t n c (insert t.cores n d) (without_entry n c.slot t.current) is (λ m off. get-insert-off t.cores n d m off) none refl tidy in
+      elim b as (λ b. Tidy unlocks (cond b (record t { cores = insert t.cores n d; current = without_entry n c.slot t.current })
+      (record t { cores = remove t.cores n; current = without_entry n d.slot (without_entry n c.slot t.current) }))) [
         | true ↦ first
-        | false ↦ left_tidy unlocks (record t { cores = insert t.cores n d; standing = without_entry n c.slot t.standing }) n d (remove t.cores n) (without_entry n d.slot (without_entry n c.slot t.standing))
+        | false ↦ left_tidy unlocks (record t { cores = insert t.cores n d; current = without_entry n c.slot t.current }) n d (remove t.cores n) (without_entry n d.slot (without_entry n c.slot t.current))
             (get-insert-at t.cores n d) (λ m off. get-remove-off t.cores n m off ∙ sym (get-insert-off t.cores n d m off)) (ap waiting_slot (get-remove-at t.cores n)) refl first
       ]
 
   release_by : (b : Bool) (t : Locks) (n : ℕ) (reason : LockStatus) (c : Core) → get t.cores n ≡ Some c → Tidy unlocks t
-      → Tidy unlocks (kept (cond b t (record t { standing = without_entry n c.slot t.standing })) n (spent c (cond b status.AgeTimeout reason)))
+      → Tidy unlocks (kept (cond b t (record t { current = without_entry n c.slot t.current })) n (spent c (cond b status.AgeTimeout reason)))
   release_by true t n reason c is tidy = kept_tidy t n c (spent c status.AgeTimeout) is refl (or_kept unlocks (is_open c) true (λ h. refl)) (λ h. never h) tidy
   release_by false t n reason c is tidy = left_by (is_named (spent c reason)) t n c (spent c reason) is refl refl tidy
 
@@ -117,14 +117,14 @@ module _ (unlocks : Bool) where
   release_tidy t n reason None is tidy = tidy
   release_tidy t n reason (Some c) is tidy = release_by (is_aged c.status) t n reason c is tidy
 
-  poll_by : (s : Stage) (t : Locks) (n : ℕ) (c : Core) → get t.cores n ≡ Some c → Tidy unlocks t → Tidy unlocks (table_at s t n c)
+  poll_by : (s : PermitState) (t : Locks) (n : ℕ) (c : Core) → get t.cores n ≡ Some c → Tidy unlocks t → Tidy unlocks (table_at s t n c)
   poll_by stage.Over t n c is tidy = tidy
   poll_by stage.Old t n c is tidy = put_tidy unlocks t n c (aged c) is refl (or_kept unlocks (is_open c) true (λ h. refl)) (λ h. not_both c.held h) tidy
   poll_by stage.Held t n c is tidy = tidy
 
   poll_tidy : (t : Locks) (now n : ℕ) (o : Option Core) → get t.cores n ≡ o → Tidy unlocks t → Tidy unlocks (after_poll t now n o)
   poll_tidy t now n None is tidy = tidy
-  poll_tidy t now n (Some c) is tidy = poll_by (stage_of now c) t n c is tidy
+  poll_tidy t now n (Some c) is tidy = poll_by (permit_state now c) t n c is tidy
 
   -- a publication
   publish_tidy : (t : Locks) (n : ℕ) (tokens : List ℕ) (o : Option Core) → get t.cores n ≡ o → Tidy unlocks t → Tidy unlocks (record t { cores = changed (with_publication tokens) t.cores n o })
@@ -167,7 +167,7 @@ module _ (unlocks : Bool) where
   call_tidy (Polled n now) s t h _ tidy = either h tidy (poll_tidy s now n (get s.cores n) refl tidy)
   call_tidy (Published n tokens) s t h _ tidy = either h tidy (publish_tidy s n tokens (get s.cores n) refl tidy)
   call_tidy (Made age stale now) s t h _ tidy = either h tidy (made_tidy s age stale now tidy)
-  call_tidy (Joined n) s t h _ tidy = subst (Tidy unlocks) (sym h) (read_tidy s n (get s.cores n) refl tidy)
+  call_tidy (ReadLocked n) s t h _ tidy = subst (Tidy unlocks) (sym h) (read_tidy s n (get s.cores n) refl tidy)
   call_tidy (Unlocked n reason) s t h may tidy = subst (Tidy unlocks) (sym h.1) (unlock_tidy s n reason (get s.cores n) refl h.0 (may refl) tidy)
 
   pub calls_tidy : (calls : List Call) (s t : Locks) → LeadsAll calls s t → (list_any is_unlock calls ≡ true → unlocks ≡ true) → Tidy unlocks s → Tidy unlocks t

@@ -9,13 +9,13 @@ use Rattle.std.proofs.lemmas.Bool.Decides.{nat_tests}
 use Rattle.std.specs.FinMap.{FinMap, get, insert, remove, get-insert, get-remove}
 use Rattle.pcache_base.specs.declared.fills.UnusableFill.{UnusableFill}
 use Rattle.pcache_base.specs.Fills.{first_match}
-use Rattle.pcache_lock.specs.declared.lock.outcome.Stage.{Stage}
-use Rattle.pcache_lock.specs.declared.lock.outcome.Stage.TheVariants as stage
+use Rattle.pcache_lock.specs.declared.lock.outcome.PermitState.{PermitState}
+use Rattle.pcache_lock.specs.declared.lock.outcome.PermitState.TheVariants as stage
 use Rattle.pcache_lock.specs.declared.lock.status.LockStatus.{LockStatus}
 use Rattle.pcache_lock.specs.Statuses.{IsReason, is_waiting, is_aged}
 use Rattle.pcache_lock.specs.Permits.{Core, new_core, is_named, with_reader, without_reader, spent, released_status, dropped_status}
 use Rattle.pcache_lock.specs.Locks.{Locks, with_read_lock, without_entry, kept, left, released_on, permit_dropped, reader_dropped, changed, ended}
-use Rattle.pcache_lock.specs.Waiting.{after_poll, table_at, stage_of, is_old, aged, with_publication, first_told}
+use Rattle.pcache_lock.specs.Waiting.{after_poll, table_at, permit_state, is_old, aged, with_publication, first_told}
 use Rattle.pcache_lock.proofs.Calls.{reason_ends}
 use Rattle.pcache_lock.specs.Waits.{waiting_slot, waits_under, is_old_at, WaitsUntilItsEnd, LooksAtEachPublication}
 
@@ -30,7 +30,7 @@ at_insert t m d n =
     ∙ through waiting_slot (eq_by_cmp nat_cmp n m) (Some d) (get t.cores n)
     ∙ ap (λ b. cond b (waiting_slot (Some d)) (waits_under t n)) (unsigned_tied n m)
 
-at_remove : (t : Locks) (m : ℕ) (st : FinMap nat_cmp ℕ) (n : ℕ) → waits_under (record t { cores = remove t.cores m; standing = st }) n ≡ cond (n == m) None (waits_under t n)
+at_remove : (t : Locks) (m : ℕ) (st : FinMap nat_cmp ℕ) (n : ℕ) → waits_under (record t { cores = remove t.cores m; current = st }) n ≡ cond (n == m) None (waits_under t n)
 at_remove t m st n =
     ap waiting_slot (get-remove nat_cmp_total t.cores m n)
     ∙ through waiting_slot (eq_by_cmp nat_cmp n m) None (get t.cores n)
@@ -46,9 +46,9 @@ unnamed true waiting more o e = cc
 unnamed false waiting more o e = refl
 
 kept_by : (b : Bool) (t : Locks) (m : ℕ) (d : Core) (n : ℕ) → is_named d ≡ b
-    → waits_under (cond b (record t { cores = insert t.cores m d }) (record t { cores = remove t.cores m; standing = without_entry m d.slot t.standing })) n ≡ cond (n == m) (waiting_slot (Some d)) (waits_under t n)
+    → waits_under (cond b (record t { cores = insert t.cores m d }) (record t { cores = remove t.cores m; current = without_entry m d.slot t.current })) n ≡ cond (n == m) (waiting_slot (Some d)) (waits_under t n)
 kept_by true t m d n e = at_insert t m d n
-kept_by false t m d n e = at_remove t m (without_entry m d.slot t.standing) n ∙ ap (λ o. cond (n == m) o (waits_under t n)) (sym (unnamed d.held (is_waiting d.status) _ d.slot e))
+kept_by false t m d n e = at_remove t m (without_entry m d.slot t.current) n ∙ ap (λ o. cond (n == m) o (waits_under t n)) (sym (unnamed d.held (is_waiting d.status) _ d.slot e))
 
 at_kept : (t : Locks) (m : ℕ) (d : Core) (n : ℕ) → waits_under (kept t m d) n ≡ cond (n == m) (waiting_slot (Some d)) (waits_under t n)
 at_kept t m d n = kept_by (is_named d) t m d n refl
@@ -57,7 +57,7 @@ at_kept t m d n = kept_by (is_named d) t m d n refl
 unknown : (t : Locks) (m n : ℕ) → get t.cores m ≡ None → waits_under t n ≡ cond (n == m) None (waits_under t n)
 unknown t m n none = sym (ap (λ o. cond (n == m) o (waits_under t n)) (sym (ap waiting_slot none)) ∙ same_by t m n (n == m) refl)
 
-left_cores : (b : Bool) (t : Locks) (st : FinMap nat_cmp ℕ) (n : ℕ) → waits_under (cond b t (record t { standing = st })) n ≡ waits_under t n
+left_cores : (b : Bool) (t : Locks) (st : FinMap nat_cmp ℕ) (n : ℕ) → waits_under (cond b t (record t { current = st })) n ≡ waits_under t n
 left_cores true t st n = refl
 left_cores false t st n = refl
 
@@ -65,7 +65,7 @@ released_at : (t : Locks) (m : ℕ) (reason : LockStatus) (n : ℕ) (o : Option 
 released_at t m reason n None e = unknown t m n e
 released_at t m reason n (Some c) e =
     at_kept (left t m c) m (spent c (released_status reason c.status)) n
-    ∙ ap (cond (n == m) None) (left_cores (is_aged c.status) t (without_entry m c.slot t.standing) n)
+    ∙ ap (cond (n == m) None) (left_cores (is_aged c.status) t (without_entry m c.slot t.current) n)
 
 dropped_at : (t : Locks) (m n : ℕ) (o : Option Core) → get t.cores m ≡ o → waits_under (permit_dropped t m o) n ≡ cond (n == m) None (waits_under t n)
 dropped_at t m n None e = unknown t m n e
@@ -95,7 +95,7 @@ and_false : {X : Type 0} (b : Bool) (x y : X) → y ≡ cond (b && false) x y
 and_false true x y = refl
 and_false false x y = refl
 
-polled_by : (s : Stage) (t : Locks) (m : ℕ) (c : Core) (n : ℕ) → waits_under (table_at s t m c) n ≡ cond ((n == m) && is_old s) None (waits_under t n)
+polled_by : (s : PermitState) (t : Locks) (m : ℕ) (c : Core) (n : ℕ) → waits_under (table_at s t m c) n ≡ cond ((n == m) && is_old s) None (waits_under t n)
 polled_by stage.Over t m c n = and_false (n == m) None (waits_under t n)
 polled_by stage.Held t m c n = and_false (n == m) None (waits_under t n)
 polled_by stage.Old t m c n =
@@ -105,7 +105,7 @@ polled_by stage.Old t m c n =
 
 polled_at : (t : Locks) (now m n : ℕ) (o : Option Core) → waits_under (after_poll t now m o) n ≡ cond ((n == m) && is_old_at now o) None (waits_under t n)
 polled_at t now m n None = and_false (n == m) None (waits_under t n)
-polled_at t now m n (Some c) = polled_by (stage_of now c) t m c n
+polled_at t now m n (Some c) = polled_by (permit_state now c) t m c n
 
 unlocked_at : (t : Locks) (m : ℕ) (reason : LockStatus) (n : ℕ) (o : Option Core) → get t.cores m ≡ o → IsReason reason → waits_under (record t { cores = changed (ended reason) t.cores m o }) n ≡ cond (n == m) None (waits_under t n)
 unlocked_at t m reason n None e r = unknown t m n e

@@ -16,7 +16,7 @@ use Rattle.std.proofs.lemmas.Bool.Decides.{nat_tests}
 use Rattle.pcache_base.specs.declared.fills.UnusableFill.{UnusableFill}
 use Rattle.pcache_base.specs.Fills.{first_match}
 use Rattle.pcache_lock.specs.Waiting.{first_told, says_nothing, HasRoom}
-use Rattle.pcache_lock.specs.Published.{has_token, entry_of, stands_for, IsIndex, IsFirstPlace}
+use Rattle.pcache_lock.specs.Published.{has_token, entry_of, is_entry_for, IsIndex, IsFirstPosition}
 
 -- ---- what one more fill makes of it
 
@@ -124,14 +124,14 @@ has_dropped zero ps i token = let e : zero + i ≡ i = omega arith in ap (λ k. 
 has_dropped (suc n) [] i token = refl
 has_dropped (suc n) (p ∷ ps) i token = let e : suc n + i ≡ suc (n + i) = omega arith in has_dropped n ps i token ∙ ap (λ k. has_token (p ∷ ps) k token) (sym e)
 
-pub told_without : (ps : List (List ℕ)) (fs : List UnusableFill) (f : UnusableFill) (from before : ℕ) → before ≡ from + place_told fs (drop from ps) → IsFirstPlace ps f.token from before None
+pub told_without : (ps : List (List ℕ)) (fs : List UnusableFill) (f : UnusableFill) (from before : ℕ) → before ≡ from + place_told fs (drop from ps) → IsFirstPosition ps f.token from before None
     → (first_told (fs ++ f ∷ []) (drop from ps) ≡ first_told fs (drop from ps)) × (before ≡ from + place_told (fs ++ f ∷ []) (drop from ps))
 told_without ps fs f from before at none =
     let same : (first_told (fs ++ f ∷ []) (drop from ps) ≡ first_told fs (drop from ps)) × (place_told (fs ++ f ∷ []) (drop from ps) ≡ place_told fs (drop from ps))
     = told_as_before fs f (drop from ps) (λ i lt. let le : from ≤ from + i = omega arith in let under : from + i < before = omega arith in has_dropped from ps i f.token ∙ none (from + i) le under) in
     (same.0, at ∙ ap (λ n. from + n) (sym same.1))
 
-pub told_with : (ps : List (List ℕ)) (fs : List UnusableFill) (f : UnusableFill) (from before place : ℕ) → before ≡ from + place_told fs (drop from ps) → IsFirstPlace ps f.token from before (Some place)
+pub told_with : (ps : List (List ℕ)) (fs : List UnusableFill) (f : UnusableFill) (from before place : ℕ) → before ≡ from + place_told fs (drop from ps) → IsFirstPosition ps f.token from before (Some place)
     → (first_told (fs ++ f ∷ []) (drop from ps) ≡ Some f) × (place ≡ from + place_told (fs ++ f ∷ []) (drop from ps))
 told_with ps fs f from before place at (le, lt, has, none) =
     let back : from + (place - from) ≡ place = omega arith in
@@ -161,7 +161,7 @@ not_true false h = refl
 
 -- the first entry of a token's range is that of its first position there
 pub place_found : (index : BTreeSet ℕ) (ps : List (List ℕ)) (token from before base start end : ℕ) → IsIndex index ps → before < 2 ^ 64 → base ≡ entry_of token 0 → start ≡ entry_of token from → end ≡ entry_of token before
-    → (r rest : List ℕ) (k : ℕ) → IsKeyRangeOf nat_cmp (Included start) (Excluded end) index r → r ≡ k ∷ rest → IsFirstPlace ps token from before (Some (k - base))
+    → (r rest : List ℕ) (k : ℕ) → IsKeyRangeOf nat_cmp (Included start) (Excluded end) index r → r ≡ k ∷ rest → IsFirstPosition ps token from before (Some (k - base))
 place_found index ps token from before base start end known small base-is start-is end-is r rest k range is =
     let P : List ℕ → Type 0 = λ xs. IsKeyRangeOf nat_cmp (Included start) (Excluded end) index xs in
     let at : IsKeyRangeOf nat_cmp (Included start) (Excluded end) index (k ∷ rest) = subst P is range in
@@ -184,18 +184,18 @@ place_found index ps token from before base start end known small base-is start-
 
 -- what one more fill is told, if it is found and if it is not
 pub found_next : (ps : List (List ℕ)) (fs : List UnusableFill) (i : ℕ) (d : UnusableFill) (from before place : ℕ) (found : Option ℕ) → i < length fs → before ≡ from + place_told (take i fs) (drop from ps)
-    → IsFirstPlace ps (get_or fs i d).token from before found → found ≡ Some place
+    → IsFirstPosition ps (get_or fs i d).token from before found → found ≡ Some place
     → (first_told (take (i + 1) fs) (drop from ps) ≡ Some (get_or fs i d)) × (place ≡ from + place_told (take (i + 1) fs) (drop from ps))
 found_next ps fs i d from before place found lt at first is =
     let P : List UnusableFill → Type 0 = λ gs. (first_told gs (drop from ps) ≡ Some (get_or fs i d)) × (place ≡ from + place_told gs (drop from ps)) in
-    subst P (sym (take_more fs i d lt)) (told_with ps (take i fs) (get_or fs i d) from before place at (subst (IsFirstPlace ps (get_or fs i d).token from before) is first))
+    subst P (sym (take_more fs i d lt)) (told_with ps (take i fs) (get_or fs i d) from before place at (subst (IsFirstPosition ps (get_or fs i d).token from before) is first))
 
 pub not_found_next : (ps : List (List ℕ)) (fs : List UnusableFill) (i : ℕ) (d : UnusableFill) (from before : ℕ) (found : Option ℕ) → i < length fs → before ≡ from + place_told (take i fs) (drop from ps)
-    → IsFirstPlace ps (get_or fs i d).token from before found → found ≡ None
+    → IsFirstPosition ps (get_or fs i d).token from before found → found ≡ None
     → (first_told (take (i + 1) fs) (drop from ps) ≡ first_told (take i fs) (drop from ps)) × (before ≡ from + place_told (take (i + 1) fs) (drop from ps))
 not_found_next ps fs i d from before found lt at first is =
     let P : List UnusableFill → Type 0 = λ gs. (first_told gs (drop from ps) ≡ first_told (take i fs) (drop from ps)) × (before ≡ from + place_told gs (drop from ps)) in
-    subst P (sym (take_more fs i d lt)) (told_without ps (take i fs) (get_or fs i d) from before at (subst (IsFirstPlace ps (get_or fs i d).token from before) is first))
+    subst P (sym (take_more fs i d lt)) (told_without ps (take i fs) (get_or fs i d) from before at (subst (IsFirstPosition ps (get_or fs i d).token from before) is first))
 
 -- ---- the changes of the index
 
@@ -220,23 +220,23 @@ taken_more false false b = refl
 
 -- one more token is put in, and removed
 pub more_in : (old index new : BTreeSet ℕ) (place : ℕ) (tokens : List ℕ) (i k q : ℕ) → i < length tokens → k ≡ entry_of (get_or tokens i 0) place
-    → contains nat_cmp index q ≡ (contains nat_cmp old q || stands_for place (take i tokens) q)
+    → contains nat_cmp index q ≡ (contains nat_cmp old q || is_entry_for place (take i tokens) q)
     → contains nat_cmp new q ≡ cond (is_at (nat_cmp k) q) true (contains nat_cmp index q)
-    → contains nat_cmp new q ≡ (contains nat_cmp old q || stands_for place (take (i + 1) tokens) q)
+    → contains nat_cmp new q ≡ (contains nat_cmp old q || is_entry_for place (take (i + 1) tokens) q)
 more_in old index new place tokens i k q lt is so_far step =
     step ∙ ap (λ b. cond b true (contains nat_cmp index q)) (same_number k q) ∙ ap (λ b. cond (k == q) true b) so_far
-    ∙ marked_more (k == q) (contains nat_cmp old q) (stands_for place (take i tokens) q)
-    ∙ ap (λ e. contains nat_cmp old q || (stands_for place (take i tokens) q || (e == q))) is
+    ∙ marked_more (k == q) (contains nat_cmp old q) (is_entry_for place (take i tokens) q)
+    ∙ ap (λ e. contains nat_cmp old q || (is_entry_for place (take i tokens) q || (e == q))) is
     ∙ ap (λ b. contains nat_cmp old q || b) (sym (list_any_more (λ t. entry_of t place == q) tokens i 0 lt))
 
 pub more_out : (old index new : BTreeSet ℕ) (place : ℕ) (tokens : List ℕ) (i k q : ℕ) → i < length tokens → k ≡ entry_of (get_or tokens i 0) place
-    → contains nat_cmp index q ≡ (contains nat_cmp old q && not (stands_for place (take i tokens) q))
+    → contains nat_cmp index q ≡ (contains nat_cmp old q && not (is_entry_for place (take i tokens) q))
     → contains nat_cmp new q ≡ cond (is_at (nat_cmp k) q) false (contains nat_cmp index q)
-    → contains nat_cmp new q ≡ (contains nat_cmp old q && not (stands_for place (take (i + 1) tokens) q))
+    → contains nat_cmp new q ≡ (contains nat_cmp old q && not (is_entry_for place (take (i + 1) tokens) q))
 more_out old index new place tokens i k q lt is so_far step =
     step ∙ ap (λ b. cond b false (contains nat_cmp index q)) (same_number k q) ∙ ap (λ b. cond (k == q) false b) so_far
-    ∙ taken_more (k == q) (contains nat_cmp old q) (stands_for place (take i tokens) q)
-    ∙ ap (λ e. contains nat_cmp old q && not (stands_for place (take i tokens) q || (e == q))) is
+    ∙ taken_more (k == q) (contains nat_cmp old q) (is_entry_for place (take i tokens) q)
+    ∙ ap (λ e. contains nat_cmp old q && not (is_entry_for place (take i tokens) q || (e == q))) is
     ∙ ap (λ b. contains nat_cmp old q && not b) (sym (list_any_more (λ t. entry_of t place == q) tokens i 0 lt))
 
 none_taken : (a b c : Bool) → (b ≡ true → c ≡ true) → (c ≡ true → a ≡ false) → ((a || b) && not c) ≡ a
@@ -251,13 +251,13 @@ any_of_all test (suc i) [] h = h
 any_of_all test (suc i) (x ∷ xs) h = either (test x) (list_any test (take i xs)) (list_any test xs) (any_of_all test i xs) h
 
 -- what was put in is removed again
-pub as_before : (old marked new : BTreeSet ℕ) (place : ℕ) (tokens : List ℕ) (i q : ℕ) → (stands_for place tokens q ≡ true → contains nat_cmp old q ≡ false)
-    → contains nat_cmp marked q ≡ (contains nat_cmp old q || stands_for place (take i tokens) q)
-    → contains nat_cmp new q ≡ (contains nat_cmp marked q && not (stands_for place tokens q))
+pub as_before : (old marked new : BTreeSet ℕ) (place : ℕ) (tokens : List ℕ) (i q : ℕ) → (is_entry_for place tokens q ≡ true → contains nat_cmp old q ≡ false)
+    → contains nat_cmp marked q ≡ (contains nat_cmp old q || is_entry_for place (take i tokens) q)
+    → contains nat_cmp new q ≡ (contains nat_cmp marked q && not (is_entry_for place tokens q))
     → contains nat_cmp new q ≡ contains nat_cmp old q
 as_before old marked new place tokens i q none in_it out =
-    out ∙ ap (λ b. b && not (stands_for place tokens q)) in_it
-    ∙ none_taken (contains nat_cmp old q) (stands_for place (take i tokens) q) (stands_for place tokens q) (any_of_all (λ t. entry_of t place == q) i tokens) none
+    out ∙ ap (λ b. b && not (is_entry_for place tokens q)) in_it
+    ∙ none_taken (contains nat_cmp old q) (is_entry_for place (take i tokens) q) (is_entry_for place tokens q) (any_of_all (λ t. entry_of t place == q) i tokens) none
 
 -- ---- the index of more publications
 
@@ -280,15 +280,15 @@ same_entry t u i j small_i small_j = alike (entry_of t i == entry_of u j) (j == 
 pub index_none : (index : BTreeSet ℕ) → IsEmpty index → IsIndex index []
 index_none index none token place small = ap (λ ks. list_any (is_at (nat_cmp (entry_of token place))) ks) none
 
-pub index_more : (index new : BTreeSet ℕ) (ps : List (List ℕ)) (p : List ℕ) → length ps < 2 ^ 64 → IsIndex index ps → ((q : ℕ) → contains nat_cmp new q ≡ (contains nat_cmp index q || stands_for (length ps) p q)) → IsIndex new (ps ++ p ∷ [])
+pub index_more : (index new : BTreeSet ℕ) (ps : List (List ℕ)) (p : List ℕ) → length ps < 2 ^ 64 → IsIndex index ps → ((q : ℕ) → contains nat_cmp new q ≡ (contains nat_cmp index q || is_entry_for (length ps) p q)) → IsIndex new (ps ++ p ∷ [])
 index_more index new ps p few known step token place small =
-    step (entry_of token place) ∙ ap (λ b. b || stands_for (length ps) p (entry_of token place)) (known token place small)
-    ∙ ap (λ b. has_token ps place token || b) (standing p) ∙ sym (has_more ps p place token) where
-      standing : (xs : List ℕ) → stands_for (length ps) xs (entry_of token place) ≡ ((place == length ps) && list_any (λ t. t == token) xs)
-      standing [] = sym (and_false (place == length ps))
-      standing (x ∷ xs) =
-          ap (λ e. e || stands_for (length ps) xs (entry_of token place)) (same_entry x token (length ps) place few small)
-          ∙ ap (λ b. ((place == length ps) && (x == token)) || b) (standing xs)
+    step (entry_of token place) ∙ ap (λ b. b || is_entry_for (length ps) p (entry_of token place)) (known token place small)
+    ∙ ap (λ b. has_token ps place token || b) (current p) ∙ sym (has_more ps p place token) where
+      current : (xs : List ℕ) → is_entry_for (length ps) xs (entry_of token place) ≡ ((place == length ps) && list_any (λ t. t == token) xs)
+      current [] = sym (and_false (place == length ps))
+      current (x ∷ xs) =
+          ap (λ e. e || is_entry_for (length ps) xs (entry_of token place)) (same_entry x token (length ps) place few small)
+          ∙ ap (λ b. ((place == length ps) && (x == token)) || b) (current xs)
           ∙ shared (place == length ps) (x == token) (list_any (λ t. t == token) xs)
 
 pub index_silent : (index : BTreeSet ℕ) (ps : List (List ℕ)) → IsIndex index ps → IsIndex index (ps ++ [] ∷ [])
@@ -296,10 +296,10 @@ index_silent index ps known token place small =
     known token place small ∙ or_false (has_token ps place token) ∙ ap (λ b. has_token ps place token || b) (sym (and_false (place == length ps))) ∙ sym (has_more ps [] place token)
 
 -- the index has nothing behind the last position
-pub index_ends : (index : BTreeSet ℕ) (ps : List (List ℕ)) (p : List ℕ) → length ps < 2 ^ 64 → IsIndex index ps → (q : ℕ) → stands_for (length ps) p q ≡ true → contains nat_cmp index q ≡ false
+pub index_ends : (index : BTreeSet ℕ) (ps : List (List ℕ)) (p : List ℕ) → length ps < 2 ^ 64 → IsIndex index ps → (q : ℕ) → is_entry_for (length ps) p q ≡ true → contains nat_cmp index q ≡ false
 index_ends index ps [] few known q at = cc
 index_ends index ps (x ∷ xs) few known q at = apart (entry_of x (length ps) == q) refl at (λ h. index_ends index ps xs few known q h) where
-  apart : (b : Bool) → (entry_of x (length ps) == q) ≡ b → (b || stands_for (length ps) xs q) ≡ true → (stands_for (length ps) xs q ≡ true → contains nat_cmp index q ≡ false) → contains nat_cmp index q ≡ false
+  apart : (b : Bool) → (entry_of x (length ps) == q) ≡ b → (b || is_entry_for (length ps) xs q) ≡ true → (is_entry_for (length ps) xs q ≡ true → contains nat_cmp index q ≡ false) → contains nat_cmp index q ≡ false
   apart true e h rest = let is : q ≡ entry_of x (length ps) = grind (arith, nat_tests) in let all : length ps ≤ length ps = omega arith in ap (contains nat_cmp index) is ∙ known x (length ps) few ∙ none_behind ps (length ps) x all
   apart false e h rest = rest h
 
@@ -312,8 +312,8 @@ pub all_yet : (a : Bool) → a ≡ (a && not false)
 all_yet true = refl
 all_yet false = refl
 
-pub whole : (place : ℕ) (tokens : List ℕ) (i q : ℕ) → length tokens ≤ i → stands_for place (take i tokens) q ≡ stands_for place tokens q
-whole place tokens i q le = ap (λ ts. stands_for place ts q) (take_all i tokens le)
+pub whole : (place : ℕ) (tokens : List ℕ) (i q : ℕ) → length tokens ≤ i → is_entry_for place (take i tokens) q ≡ is_entry_for place tokens q
+whole place tokens i q le = ap (λ ts. is_entry_for place ts q) (take_all i tokens le)
 
 pub index_cleared : (index : BTreeSet ℕ) (ps : List (List ℕ)) → IsEmpty index → ps ≡ [] → IsIndex index (ps ++ [] ∷ [])
 index_cleared index ps none is = subst (λ (qs : List (List ℕ)). IsIndex index (qs ++ [] ∷ [])) (sym is) (index_silent index [] (index_none index none))
@@ -343,13 +343,13 @@ cleared_last index ps new t capacity known none is = cleared_all index ps new t 
 
 -- ---- a publication behind the others
 
-pub ends_there : (index : BTreeSet ℕ) (ps : List (List ℕ)) (p : List ℕ) (n : ℕ) → n ≡ length ps → n < 2 ^ 64 → IsIndex index ps → (q : ℕ) → stands_for n p q ≡ true → contains nat_cmp index q ≡ false
+pub ends_there : (index : BTreeSet ℕ) (ps : List (List ℕ)) (p : List ℕ) (n : ℕ) → n ≡ length ps → n < 2 ^ 64 → IsIndex index ps → (q : ℕ) → is_entry_for n p q ≡ true → contains nat_cmp index q ≡ false
 ends_there index ps p n is few known q at =
     let small : length ps < 2 ^ 64 = omega arith in
-    index_ends index ps p small known q (ap (λ k. stands_for k p q) (sym is) ∙ at)
+    index_ends index ps p small known q (ap (λ k. is_entry_for k p q) (sym is) ∙ at)
 
 pub added : (index marked : BTreeSet ℕ) (ps new : List (List ℕ)) (p q : List ℕ) (n capacity : ℕ) → n ≡ length ps → n < 2 ^ 64 → length ps + 1 < capacity → IsIndex index ps
-    → ((e : ℕ) → contains nat_cmp marked e ≡ (contains nat_cmp index e || stands_for n p e)) → q ≡ p → new ≡ ps ++ q ∷ [] → HasRoom new capacity × IsIndex marked new
+    → ((e : ℕ) → contains nat_cmp marked e ≡ (contains nat_cmp index e || is_entry_for n p e)) → q ≡ p → new ≡ ps ++ q ∷ [] → HasRoom new capacity × IsIndex marked new
 added index marked ps new p q n capacity is few room known step same last =
     let small : length ps < 2 ^ 64 = omega arith in
     let one : List (List ℕ) = p ∷ [] in
@@ -357,4 +357,4 @@ added index marked ps new p q n capacity is few room known step same last =
     let fits : length (ps ++ one) < capacity = omega arith in
     let next : new ≡ ps ++ p ∷ [] = last ∙ ap (λ x. ps ++ x ∷ []) same in
     let P : List (List ℕ) → Type 0 = λ qs. HasRoom qs capacity × IsIndex marked qs in
-    subst P (sym next) ((λ h. fits), index_more index marked ps p small known (λ e. step e ∙ ap (λ k. contains nat_cmp index e || stands_for k p e) is))
+    subst P (sym next) ((λ h. fits), index_more index marked ps p small known (λ e. step e ∙ ap (λ k. contains nat_cmp index e || is_entry_for k p e) is))

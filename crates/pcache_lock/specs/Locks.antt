@@ -15,17 +15,17 @@ use Rattle.pcache_lock.specs.Permits.{Core, new_core, is_locked, is_named, with_
 -- and the age in nanoseconds at which a permit is too old
 pub record Locks : Type 0 where
   pub cores : FinMap nat_cmp Core
-  pub standing : FinMap nat_cmp ℕ
+  pub current : FinMap nat_cmp ℕ
   pub next : ℕ
   pub age_timeout : ℕ
 
 -- a table with no lock
 abbrev pub no_locks : ℕ → Locks
-no_locks age_timeout = record { cores = empty; standing = empty; next = 0; age_timeout = age_timeout }
+no_locks age_timeout = record { cores = empty; current = empty; next = 0; age_timeout = age_timeout }
 
 -- a table with no lock, whose next permit has this number
 abbrev pub no_locks_from : ℕ → ℕ → Locks
-no_locks_from next age_timeout = record { cores = empty; standing = empty; next = next; age_timeout = age_timeout }
+no_locks_from next age_timeout = record { cores = empty; current = empty; next = next; age_timeout = age_timeout }
 
 -- the lock that a request for the key would wait for: the key's current one, unless its status is free
 abbrev pub unless_free : ℕ → Option Core → Option ℕ
@@ -38,7 +38,7 @@ held_by t (Some n) = unless_free n (get t.cores n)
 
 -- the lock that a request for the key has to wait for, by the key's current lock
 abbrev pub holder : Locks → ℕ → Option ℕ
-holder t k = held_by t (get t.standing k)
+holder t k = held_by t (get t.current k)
 
 -- what a request for the key gets
 abbrev pub lock_given : Locks → Bool → Option ℕ → Locked
@@ -49,7 +49,7 @@ lock_given t stale (Some n) = Read (record { number = n; watch = None })
 abbrev pub with_core : Locks → ℕ → Core → Locks
 with_core t k c = record t {
   cores = insert t.cores t.next c;
-  standing = insert t.standing k t.next;
+  current = insert t.current k t.next;
   next = t.next + 1;
 }
 
@@ -68,19 +68,19 @@ after_request t k stale now None = with_permit t k stale now
 after_request t k stale now (Some n) = with_read_lock t n (get t.cores n)
 
 -- the entries without that of this lock, if it is the current one of its key
-abbrev pub stands_as : ℕ → Option ℕ → Bool
-stands_as n None = false
-stands_as n (Some m) = m == n
+abbrev pub is_current : ℕ → Option ℕ → Bool
+is_current n None = false
+is_current n (Some m) = m == n
 
 abbrev pub without_entry : ℕ → Option ℕ → FinMap nat_cmp ℕ → FinMap nat_cmp ℕ
-without_entry n None standing = standing
-without_entry n (Some k) standing = cond (stands_as n (get standing k)) (remove standing k) standing
+without_entry n None current = current
+without_entry n (Some k) current = cond (is_current n (get current k)) (remove current k) current
 
 -- a lock written back; a lock that nothing names any more is removed with its entry
 abbrev pub kept : Locks → ℕ → Core → Locks
 kept t n c = cond (is_named c)
     (record t { cores = insert t.cores n c })
-    (record t { cores = remove t.cores n; standing = without_entry n c.slot t.standing })
+    (record t { cores = remove t.cores n; current = without_entry n c.slot t.current })
 
 -- a lock changed, if it is known
 abbrev pub changed : (Core → Core) → FinMap nat_cmp Core → ℕ → Option Core → FinMap nat_cmp Core
@@ -94,7 +94,7 @@ permit_spent t n status (Some c) = kept t n (spent c status)
 
 -- a permit released: its own entry is removed, unless it aged out
 abbrev pub left : Locks → ℕ → Core → Locks
-left t n c = cond (is_aged c.status) t (record t { standing = without_entry n c.slot t.standing })
+left t n c = cond (is_aged c.status) t (record t { current = without_entry n c.slot t.current })
 
 -- the table after a permit was released with a status
 abbrev pub released_on : Locks → ℕ → LockStatus → Option Core → Locks
@@ -129,15 +129,15 @@ number_of_lock (Write p) = p.number
 number_of_lock (Read r) = r.number
 
 -- why asking for a lock may fail: memory ran out, or all numbers are used
-abbrev pub MayRefuseLock : Locks → ErrorType → Type 0
-MayRefuseLock t OutOfMemory = Unit {0}
-MayRefuseLock t InternalError = ⊥
-MayRefuseLock t InvalidHttpHeader = ⊥
-MayRefuseLock t ResponseTooLarge = ⊥
-MayRefuseLock t IncompleteHttpBody = ⊥
-MayRefuseLock t WriteRemoved = ⊥
-MayRefuseLock t NumbersExhausted = 2 ^ 64 ≤ t.next
-MayRefuseLock t Io = ⊥
+abbrev pub MayFailLock : Locks → ErrorType → Type 0
+MayFailLock t OutOfMemory = Unit {0}
+MayFailLock t InternalError = ⊥
+MayFailLock t InvalidHttpHeader = ⊥
+MayFailLock t ResponseTooLarge = ⊥
+MayFailLock t IncompleteHttpBody = ⊥
+MayFailLock t WriteRemoved = ⊥
+MayFailLock t NumbersExhausted = 2 ^ 64 ≤ t.next
+MayFailLock t Io = ⊥
 
 -- a lock whose final status is set while its permit is still held
 abbrev pub ended : LockStatus → Core → Core

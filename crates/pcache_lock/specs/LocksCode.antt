@@ -11,6 +11,6 @@ abbrev pub locks_code : Coded Locks
 locks_code =
     code_by (FinMap nat_cmp Core × (FinMap nat_cmp ℕ × (ℕ × ℕ)))
     (coded× (code coded_ℕ core_row.the_row.coded) (coded× (code coded_ℕ coded_ℕ) (coded× coded_ℕ coded_ℕ)))
-    (λ t. (t.cores, (t.standing, (t.next, t.age_timeout))))
-    (λ p. record { cores = p.0; standing = p.1.0; next = p.1.1.0; age_timeout = p.1.1.1 })
+    (λ t. (t.cores, (t.current, (t.next, t.age_timeout))))
+    (λ p. record { cores = p.0; current = p.1.0; next = p.1.1.0; age_timeout = p.1.1.1 })
     (λ _. refl)

@@ -8,8 +8,8 @@ use Rattle.pcache_base.specs.declared.poll.Poll.TheVariants.{Ready, Pending}
 use Rattle.pcache_base.specs.Fills.{first_match}
 use Rattle.pcache_lock.specs.declared.lock.outcome.WaitOutcome.{WaitOutcome}
 use Rattle.pcache_lock.specs.declared.lock.outcome.WaitOutcome.TheVariants.{Released, AgeTimeout, Abandoned}
-use Rattle.pcache_lock.specs.declared.lock.outcome.Stage.{Stage}
-use Rattle.pcache_lock.specs.declared.lock.outcome.Stage.TheVariants.{Over, Old, Held}
+use Rattle.pcache_lock.specs.declared.lock.outcome.PermitState.{PermitState}
+use Rattle.pcache_lock.specs.declared.lock.outcome.PermitState.TheVariants.{Over, Old, Held}
 use Rattle.pcache_lock.specs.declared.lock.status.LockStatus.{LockStatus}
 use Rattle.pcache_lock.specs.declared.lock.status.LockStatus.TheVariants as status
 use Rattle.pcache_lock.specs.Statuses.{is_aged, is_waiting}
@@ -21,11 +21,11 @@ abbrev pub is_expired : ℕ → Core → Bool
 is_expired now c = nat_le c.age_timeout (now - c.start)
 
 -- a permit is over; or else too old, also if it was found so before; or else held
-abbrev pub stage_of : ℕ → Core → Stage
-stage_of now c = cond (is_locked c) (cond (is_aged c.status || is_expired now c) Old Held) Over
+abbrev pub permit_state : ℕ → Core → PermitState
+permit_state now c = cond (is_locked c) (cond (is_aged c.status || is_expired now c) Old Held) Over
 
 -- the permit has been held for too long
-abbrev pub is_old : Stage → Bool
+abbrev pub is_old : PermitState → Bool
 is_old Over = false
 is_old Old = true
 is_old Held = false
@@ -58,7 +58,7 @@ told_or_pending None = Pending
 told_or_pending (Some fill) = Ready (Abandoned fill)
 
 -- what a poll returns
-abbrev pub answer_at : Stage → Watch → Poll WaitOutcome
+abbrev pub answer_at : PermitState → Watch → Poll WaitOutcome
 answer_at Over w = Ready Released
 answer_at Old w = Ready AgeTimeout
 answer_at Held w = told_or_pending w.told
@@ -66,10 +66,10 @@ answer_at Held w = told_or_pending w.told
 -- what a poll returns, of a lock that may not be known any more
 abbrev pub polled : ℕ → Option (List UnusableFill) → Option Watch → Option Core → Poll WaitOutcome
 polled now fills w None = Ready Released
-polled now fills w (Some c) = answer_at (stage_of now c) (watched c (watch_at c fills w))
+polled now fills w (Some c) = answer_at (permit_state now c) (watched c (watch_at c fills w))
 
 -- the reader after a poll
-abbrev pub reader_at : Stage → Reader → Watch → Reader
+abbrev pub reader_at : PermitState → Reader → Watch → Reader
 reader_at Over r w = r
 reader_at Old r w = r
 reader_at Held r w = record r { watch = Some w }
@@ -77,14 +77,14 @@ reader_at Held r w = record r { watch = Some w }
 -- the reader after a poll
 abbrev pub reader_polled : ℕ → Option (List UnusableFill) → Reader → Option Core → Reader
 reader_polled now fills r None = r
-reader_polled now fills r (Some c) = reader_at (stage_of now c) r (watched c (watch_at c fills r.watch))
+reader_polled now fills r (Some c) = reader_at (permit_state now c) r (watched c (watch_at c fills r.watch))
 
 -- the table after a poll: that a permit is too old is recorded
 abbrev pub aged : Core → Core
 aged c = record c { status = status.AgeTimeout }
 
 -- the lock after a poll that found its permit in this stage
-abbrev pub table_at : Stage → Locks → ℕ → Core → Locks
+abbrev pub table_at : PermitState → Locks → ℕ → Core → Locks
 table_at Over t n c = t
 table_at Old t n c = record t { cores = insert t.cores n (aged c) }
 table_at Held t n c = t
@@ -92,7 +92,7 @@ table_at Held t n c = t
 -- the table after a poll
 abbrev pub after_poll : Locks → ℕ → ℕ → Option Core → Locks
 after_poll t now n None = t
-after_poll t now n (Some c) = table_at (stage_of now c) t n c
+after_poll t now n (Some c) = table_at (permit_state now c) t n c
 
 -- the status of a lock for a reader: too old as soon as that moment has come
 abbrev pub status_at : ℕ → Core → LockStatus

@@ -8,7 +8,7 @@ use Rattle.pcache_lock.specs.declared.lock.status.LockStatus.{LockStatus}
 use Rattle.pcache_lock.specs.Statuses.{IsReason, is_waiting}
 use Rattle.pcache_lock.specs.Permits.{Core, Permit, Reader, Watch, is_named}
 use Rattle.pcache_lock.specs.Locks.{Locks, after_request, holder, let_go, no_locks, released, unlocked, with_free_permit, with_read_lock}
-use Rattle.pcache_lock.specs.Waiting.{after_poll, is_old, watched, published, stage_of}
+use Rattle.pcache_lock.specs.Waiting.{after_poll, is_old, watched, published, permit_state}
 
 -- the slot of the key for which a lock's permit waits: it was given for that key, and was neither released, nor
 -- unlocked, nor let go, nor found too old
@@ -28,7 +28,7 @@ pub data Call : Type 0 where
   Polled : (number : ℕ) (now : ℕ) → Call
   Published : (number : ℕ) (tokens : List ℕ) → Call
   Made : (age_timeout : ℕ) (stale : Bool) (now : ℕ) → Call  -- a permit for no key
-  Joined : (number : ℕ) → Call  -- a read lock on the lock with this number
+  ReadLocked : (number : ℕ) → Call  -- a read lock on the lock with this number
   Unlocked : (number : ℕ) (reason : LockStatus) → Call  -- by a permit that is still held
 
 -- a call leads from one table to another; a failed one leaves it unchanged
@@ -39,7 +39,7 @@ Leads (LetGo locked) s t = t ≡ let_go s locked
 Leads (Polled number now) s t = (t ≡ s) ⊎ (t ≡ after_poll s now number (get s.cores number))
 Leads (Published number tokens) s t = (t ≡ s) ⊎ (t ≡ published s number tokens)
 Leads (Made age_timeout stale now) s t = (t ≡ s) ⊎ (t ≡ with_free_permit s age_timeout stale now)
-Leads (Joined number) s t = t ≡ with_read_lock s number (get s.cores number)
+Leads (ReadLocked number) s t = t ≡ with_read_lock s number (get s.cores number)
 Leads (Unlocked number reason) s t = IsReason reason × (t ≡ unlocked s number reason)
 
 -- a list of calls leads from one table to another
@@ -55,7 +55,7 @@ is_unlock (LetGo locked) = false
 is_unlock (Polled number now) = false
 is_unlock (Published number tokens) = false
 is_unlock (Made age_timeout stale now) = false
-is_unlock (Joined number) = false
+is_unlock (ReadLocked number) = false
 is_unlock (Unlocked number reason) = true
 
 -- no call of the list is such a one
@@ -81,7 +81,7 @@ AskFindsTheWaitingAlways = (age_timeout : ℕ) (calls : List Call) (t : Locks) �
 -- a poll finds a permit too old
 abbrev pub is_old_at : ℕ → Option Core → Bool
 is_old_at now None = false
-is_old_at now (Some c) = is_old (stage_of now c)
+is_old_at now (Some c) = is_old (permit_state now c)
 
 -- a permit waits from when it is given until it is released, unlocked, let go or found too old, whatever else happens
 pub record WaitsUntilItsEnd : Type 0 where
@@ -109,7 +109,7 @@ AllNamed t = (n : ℕ) (c : Core) → get t.cores n ≡ Some c → is_named c �
 -- each lock that is known is named by a permit or a read lock, and the current lock of each key is known
 pub record NothingRemains (t : Locks) : Type 0 where
   pub locks : AllNamed t
-  pub entries : (slot n : ℕ) → get t.standing slot ≡ Some n → IsSome (get t.cores n)
+  pub entries : (slot n : ℕ) → get t.current slot ≡ Some n → IsSome (get t.cores n)
 
 abbrev pub NothingRemainsAlways : Type 0
 NothingRemainsAlways = (age_timeout : ℕ) (calls : List Call) (t : Locks) → LeadsAll calls (no_locks age_timeout) t → NothingRemains t

@@ -7,7 +7,7 @@ ghost use Rattle.std.specs.Prelude.{◌≡◌, ℕ, [], IfErr, IfOk, IsOk, IsSom
 ghost use Rattle.std.specs.FinMap.{get};
 ghost use Rattle.pcache_base.specs.declared.error.ErrorType.TheVariants.{OutOfMemory};
 ghost use Rattle.pcache_base.specs.Key.{slot};
-ghost use Rattle.pcache_lock.specs.Locks.{Locks, MayRefuseLock, after_request, lock_given, holder, let_go, released};
+ghost use Rattle.pcache_lock.specs.Locks.{Locks, MayFailLock, after_request, lock_given, holder, let_go, released};
 ghost use Rattle.pcache_lock.specs.Statuses.{IsReason};
 ghost use Rattle.pcache_lock.specs.Waiting.{after_poll, polled, published, reader_polled, status_seen};
 ghost use Rattle.pcache_lock.specs.declared.lock.status.LockStatus.{LockStatus};
@@ -61,7 +61,7 @@ pub trait CacheKeyLock {
         ensures ok { OnOk result (table self.new ≡ after_request (table self.old) (slot key.now) stale_writer now (holder (table self.old) (slot key.now))) }
         ensures err { OnErr result (table self.new ≡ table self.old) }
         ensures joins { IsSome (holder (table self.old) (slot key.now)) → IsOk result }
-        ensures kind { IfErr result (λ e. MayRefuseLock (table self.old) e) };
+        ensures kind { IfErr result (λ e. MayFailLock (table self.old) e) };
 
     /// Releases a permit with a status, which its readers get. It affects the lock of this permit
     /// alone, whichever lock is current for the key by now. A permit that aged out before keeps
@@ -89,10 +89,10 @@ pub trait CacheKeyLock {
         now: Moment,
     ) -> Result<Poll<WaitOutcome>>
         ensures answer { IfOk result (λ p. p ≡ polled now (option_copied fills.entry) read.old.watch (get (table self.old).cores read.old.number)) }
-        ensures reader { OnOk result (read.new ≡ reader_polled now (option_copied fills.entry) read.old (get (table self.old).cores read.old.number)) }
+        ensures read_lock { OnOk result (read.new ≡ reader_polled now (option_copied fills.entry) read.old (get (table self.old).cores read.old.number)) }
         ensures ok { OnOk result (table self.new ≡ after_poll (table self.old) now read.old.number (get (table self.old).cores read.old.number)) }
         ensures err { OnErr result (table self.new ≡ table self.old) }
-        ensures same_reader { OnErr result (read.new ≡ read.old) }
+        ensures same_read_lock { OnErr result (read.new ≡ read.old) }
         ensures kind { IfErr result (λ e. e ≡ OutOfMemory) }
         ensures later { IsSome read.old.watch → IsOk result }
         ensures unnamed { option_copied fills.entry ≡ None → IsOk result };

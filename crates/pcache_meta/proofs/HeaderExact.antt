@@ -15,7 +15,7 @@ use Rattle.http_header.specs.FieldValue.{IsFieldValue}
 use Rattle.http_header.specs.HeaderMap.{append, append_all, pairs}
 use Rattle.http_header.proofs.TokenLemmas.{IsHeaderName-from_test, AllPass-from_test}
 use Rattle.pcache_meta.specs.Header.{Fields, Header}
-use Rattle.pcache_meta.specs.HeaderText.{Field, IsField, IsHeld, field_text, field_line, fields_text, version_text, status_text, line_end, header_text, SpellsHeader}
+use Rattle.pcache_meta.specs.HeaderText.{Field, IsField, FitsMap, field_text, field_line, fields_text, version_text, status_text, line_end, header_text, SpellsHeader}
 use Rattle.pcache_meta.specs.HeaderReading.{line_from, name_from, name_at, value_at, field_at, append_at, fields_at, version_at, status_at, status_line_at, ordered_at, header_at}
 use Rattle.pcache_meta.specs.Reading.{◌>>=◌, bytes_at, mark_at}
 use Rattle.pcache_meta.specs.declared.header.HttpVersion.{HttpVersion}
@@ -23,7 +23,7 @@ use Rattle.pcache_meta.specs.declared.header.HttpVersion.TheVariants.{Http09, Ht
 use Rattle.pcache_meta.proofs.Exact.{after, after_rest, when_some, chosen, mark_takes, mark_again}
 use Rattle.pcache_meta.proofs.TextExact.{bytes_takes}
 use Rattle.pcache_meta.proofs.HeaderLines.{line_then, fields_step, fields_none, line_shorter}
-use Rattle.pcache_meta.proofs.HeaderMaps.{append_at-held, append_at-takes, IsHeld-before}
+use Rattle.pcache_meta.proofs.HeaderMaps.{append_at-held, append_at-takes, FitsMap-before}
 use Rattle.pcache_meta.proofs.HeaderNames.{name_at-some, value_at-some, not_true, status_at-some, status_at-takes}
 
 -- what follows from a step that gave something
@@ -164,9 +164,9 @@ pub record Makes (m : Fields) (bytes : List ℕ) (out : Fields) : Type 0 where
   pub text : bytes ≡ fields_text lines
   pub valid : All IsField lines
   pub made : out ≡ append_all m lines
-  pub held : IsHeld out
+  pub held : FitsMap out
 
-makes_none : (m out : Fields) (bytes k behind : List ℕ) → bytes ≡ k ++ (0x0D ∷ 0x0A ∷ behind) → k ≡ [] → behind ≡ [] → m ≡ out → IsHeld m → Makes m bytes out
+makes_none : (m out : Fields) (bytes k behind : List ℕ) → bytes ≡ k ++ (0x0D ∷ 0x0A ∷ behind) → k ≡ [] → behind ≡ [] → m ≡ out → FitsMap m → Makes m bytes out
 unfolding fields_text
 makes_none m out bytes k behind whole empty end same held = record {
   lines = [];
@@ -187,8 +187,8 @@ makes_more m n out bytes k behind f whole line field step rest = record {
 }
 
 -- one line, with what is known of those after it
-one_line : (m : Fields) (bytes : List ℕ) (out : Fields) → IsHeld m → fields_at m bytes ≡ Some out
-    → ((n : Fields) (behind : List ℕ) → length behind < length bytes → IsHeld n → fields_at n behind ≡ Some out → Makes n behind out) → Makes m bytes out
+one_line : (m : Fields) (bytes : List ℕ) (out : Fields) → FitsMap m → fields_at m bytes ≡ Some out
+    → ((n : Fields) (behind : List ℕ) → length behind < length bytes → FitsMap n → fields_at n behind ≡ Some out → Makes n behind out) → Makes m bytes out
 unfolding fields_at
 one_line m bytes out held e later = go (line_from [] bytes) refl where
   go : (o : Option (List ℕ × List ℕ)) → line_from [] bytes ≡ o → Makes m bytes out
@@ -212,7 +212,7 @@ one_line m bytes out held e later = go (line_from [] bytes) refl where
             makes_more m n out bytes k behind f whole (sym is ∙ parts.1) parts.0 taken.0 (later n behind (line_shorter [] bytes text behind line) taken.1 rest)))
       ]
 
-fields_takes_within : (count : ℕ) (m : Fields) (bytes : List ℕ) (out : Fields) → length bytes ≤ count → IsHeld m → fields_at m bytes ≡ Some out → Makes m bytes out
+fields_takes_within : (count : ℕ) (m : Fields) (bytes : List ℕ) (out : Fields) → length bytes ≤ count → FitsMap m → fields_at m bytes ≡ Some out → Makes m bytes out
 fields_takes_within zero m bytes out short held e =
     one_line m bytes out held e (λ n behind shorter held' e'. absurd (omega (arith, short, shorter)))
 fields_takes_within (suc count) m bytes out short held e =
@@ -221,11 +221,11 @@ fields_takes_within (suc count) m bytes out short held e =
 fields_takes : (bytes : List ℕ) (out : Fields) → fields_at [] bytes ≡ Some out → Makes [] bytes out
 fields_takes bytes out e = fields_takes_within (length bytes) [] bytes out (omega arith) (omega arith, omega arith) e
 
-held_start : (m : Fields) (lines : List Field) → IsHeld (append_all m lines) → IsHeld m
+held_start : (m : Fields) (lines : List Field) → FitsMap (append_all m lines) → FitsMap m
 held_start m [] held = held
-held_start m (f ∷ lines) held = IsHeld-before m f (held_start (append m f.0 f.1) lines held)
+held_start m (f ∷ lines) held = FitsMap-before m f (held_start (append m f.0 f.1) lines held)
 
-fields_again : (m : Fields) (lines : List Field) → All IsField lines → IsHeld (append_all m lines) → fields_at m (fields_text lines) ≡ Some (append_all m lines)
+fields_again : (m : Fields) (lines : List Field) → All IsField lines → FitsMap (append_all m lines) → fields_at m (fields_text lines) ≡ Some (append_all m lines)
 unfolding fields_at fields_text field_text
 fields_again m [] valid held = refl
 fields_again m (f ∷ lines) valid held =

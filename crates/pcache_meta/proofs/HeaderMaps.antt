@@ -8,8 +8,8 @@ use Rattle.std.proofs.lemmas.Slice.Eq.{bytes_eq-Decides}
 use Rattle.http_header.specs.FieldValue.{FieldValue}
 use Rattle.http_header.specs.HeaderMap.{Entry, Entries, value_count, append, ContainsKey, IsHeaderMap, RefusesAppend}
 use Rattle.pcache_meta.specs.Header.{Fields, shown_entry, shown_fields}
-use Rattle.pcache_meta.specs.HeaderText.{Field, IsHeld}
-use Rattle.pcache_meta.specs.HeaderReading.{is_held, append_at}
+use Rattle.pcache_meta.specs.HeaderText.{Field, FitsMap}
+use Rattle.pcache_meta.specs.HeaderReading.{fits_map, append_at}
 use Rattle.pcache_meta.proofs.HeaderNames.{not_true}
 
 module _ {X : Type 0} where
@@ -63,8 +63,8 @@ value_count-shown (e ∷ m) =
 pub length-shown : (m : Entries FieldValue) → length (shown_fields m) ≡ length m
 length-shown m = length-map m shown_entry
 
-pub IsHeld-shown : (m : Entries FieldValue) → IsHeaderMap m → IsHeld (shown_fields m)
-IsHeld-shown m is = (omega (arith, is.names_fit, length-shown m), rw (value_count-shown m) is.values_fit)
+pub FitsMap-shown : (m : Entries FieldValue) → IsHeaderMap m → FitsMap (shown_fields m)
+FitsMap-shown m is = (omega (arith, is.names_fit, length-shown m), rw (value_count-shown m) is.values_fit)
 
 -- ---- what a map takes
 
@@ -78,47 +78,47 @@ and_false_right : (a b : Bool) → b ≡ false → (a && b) ≡ false
 and_false_right true b q = q
 and_false_right false b q = refl
 
-pub is_held-true : (m : Fields) → IsHeld m → is_held m ≡ true
-is_held-true m is = and_true (nat_le (length m) 24576) (nat_lt (value_count m) (2 ^ 64)) (Prim.grind (arith, is.0)) (lt-ltb _ _ is.1)
+pub fits_map-true : (m : Fields) → FitsMap m → fits_map m ≡ true
+fits_map-true m is = and_true (nat_le (length m) 24576) (nat_lt (value_count m) (2 ^ 64)) (Prim.grind (arith, is.0)) (lt-ltb _ _ is.1)
 
-pub IsHeld-from_test : (m : Fields) → is_held m ≡ true → IsHeld m
-IsHeld-from_test m e = parts (nat_le (length m) 24576) (nat_lt (value_count m) (2 ^ 64)) refl refl e where
-  parts : (a b : Bool) → nat_le (length m) 24576 ≡ a → nat_lt (value_count m) (2 ^ 64) ≡ b → (a && b) ≡ true → IsHeld m
+pub FitsMap-from_test : (m : Fields) → fits_map m ≡ true → FitsMap m
+FitsMap-from_test m e = parts (nat_le (length m) 24576) (nat_lt (value_count m) (2 ^ 64)) refl refl e where
+  parts : (a b : Bool) → nat_le (length m) 24576 ≡ a → nat_lt (value_count m) (2 ^ 64) ≡ b → (a && b) ≡ true → FitsMap m
   parts true true p q e = (Prim.grind (arith, p), ltb-true _ _ q)
   parts true false p q e = absurd cc
   parts false b p q e = absurd cc
 
 -- a map that holds one more value holds those before
-pub IsHeld-before : (m : Fields) (f : Field) → IsHeld (append m f.0 f.1) → IsHeld m
-IsHeld-before m f is = (omega (arith, is.0, length-append_ge m f.0 f.1), omega (arith, is.1, value_count-append m f.0 f.1))
+pub FitsMap-before : (m : Fields) (f : Field) → FitsMap (append m f.0 f.1) → FitsMap m
+FitsMap-before m f is = (omega (arith, is.0, length-append_ge m f.0 f.1), omega (arith, is.1, value_count-append m f.0 f.1))
 
-too_many_names : (m : Fields) → 24576 < length m → is_held m ≡ false
+too_many_names : (m : Fields) → 24576 < length m → fits_map m ≡ false
 too_many_names m many = and_false_left (nat_le (length m) 24576) (nat_lt (value_count m) (2 ^ 64)) (Prim.grind (arith, many))
 
-too_many_values : (m : Fields) → 2 ^ 64 ≤ value_count m → is_held m ≡ false
+too_many_values : (m : Fields) → 2 ^ 64 ≤ value_count m → fits_map m ≡ false
 too_many_values m many = and_false_right (nat_le (length m) 24576) (nat_lt (value_count m) (2 ^ 64)) (le-ltb _ _ many)
 
-pub append_at-held : (m : Fields) (f : Field) → IsHeld (append m f.0 f.1) → append_at m f ≡ Some (append m f.0 f.1)
+pub append_at-held : (m : Fields) (f : Field) → FitsMap (append m f.0 f.1) → append_at m f ≡ Some (append m f.0 f.1)
 unfolding append_at
-append_at-held m f is = rw (is_held-true (append m f.0 f.1) is) refl
+append_at-held m f is = rw (fits_map-true (append m f.0 f.1) is) refl
 
 -- a map took the value
 pub append_at-some : (old new : Entries FieldValue) (name : List ℕ) (v : FieldValue) → new ≡ append old name v → IsHeaderMap new
     → append_at (shown_fields old) (name, v.bytes) ≡ Some (shown_fields new)
 append_at-some old new name v made is =
     let same : shown_fields new ≡ append (shown_fields old) name v.bytes = ap (λ (m : Entries FieldValue). shown_fields m) made ∙ shown-append old name v in
-    rw same (append_at-held (shown_fields old) (name, v.bytes) (rw (← same) (IsHeld-shown new is)))
+    rw same (append_at-held (shown_fields old) (name, v.bytes) (rw (← same) (FitsMap-shown new is)))
 
 -- a map is full
 pub append_at-none : (old : Entries FieldValue) (name : List ℕ) (v : FieldValue) → RefusesAppend old name
     → append_at (shown_fields old) (name, v.bytes) ≡ None
 unfolding append_at
 append_at-none old name v refused = rw (no_room refused) refl where
-  full_values : 2 ^ 64 ≤ value_count old + 1 → is_held (append (shown_fields old) name v.bytes) ≡ false
+  full_values : 2 ^ 64 ≤ value_count old + 1 → fits_map (append (shown_fields old) name v.bytes) ≡ false
   full_values full =
       too_many_values (append (shown_fields old) name v.bytes) (omega (arith, full, value_count-append (shown_fields old) name v.bytes, value_count-shown old))
 
-  no_room : RefusesAppend old name → is_held (append (shown_fields old) name v.bytes) ≡ false
+  no_room : RefusesAppend old name → fits_map (append (shown_fields old) name v.bytes) ≡ false
   no_room (inl full) = full_values full
   no_room (inr (fresh, inr full)) = full_values full
   no_room (inr (fresh, inl full)) =
@@ -126,9 +126,9 @@ append_at-none old name v refused = rw (no_room refused) refl where
       let same = ap (λ (m : Fields). length m) (shown-append old name v) in
       too_many_names (append (shown_fields old) name v.bytes) (omega (arith, full, new, same, length-shown (append old name v)))
 
-pub append_at-takes : (m : Fields) (f : Field) (n : Fields) → append_at m f ≡ Some n → (n ≡ append m f.0 f.1) × IsHeld n
+pub append_at-takes : (m : Fields) (f : Field) (n : Fields) → append_at m f ≡ Some n → (n ≡ append m f.0 f.1) × FitsMap n
 unfolding append_at
-append_at-takes m f n e = taken (is_held (append m f.0 f.1)) refl e where
-  taken : (b : Bool) → is_held (append m f.0 f.1) ≡ b → cond b (Some (append m f.0 f.1)) None ≡ Some n → (n ≡ append m f.0 f.1) × IsHeld n
-  taken true is e = let same : n ≡ append m f.0 f.1 = cc in (same, rw same (IsHeld-from_test (append m f.0 f.1) is))
+append_at-takes m f n e = taken (fits_map (append m f.0 f.1)) refl e where
+  taken : (b : Bool) → fits_map (append m f.0 f.1) ≡ b → cond b (Some (append m f.0 f.1)) None ≡ Some n → (n ≡ append m f.0 f.1) × FitsMap n
+  taken true is e = let same : n ≡ append m f.0 f.1 = cc in (same, rw same (FitsMap-from_test (append m f.0 f.1) is))
   taken false is e = absurd cc

@@ -11,7 +11,7 @@ use Rattle.http_header.specs.HeaderMap.{Entries, append, append_all, pairs, entr
 use Rattle.pcache_meta.specs.Header.{Fields, shown, shown_entry, shown_fields}
 use Rattle.pcache_meta.specs.HeaderText.{Field, IsField, field_line, fields_of, header_text, header_written, shown_lines, SpellsHeader}
 use Rattle.pcache_meta.specs.declared.header.ResponseHeader.{ResponseHeader}
-use Rattle.pcache_meta.proofs.HeaderMaps.{shown-append, IsHeld-shown}
+use Rattle.pcache_meta.proofs.HeaderMaps.{shown-append, FitsMap-shown}
 use Rattle.pcache_meta.proofs.RoundTrip.{append_all-pairs}
 
 -- ---- as a loop writes the lines; items are those that are still to be written
@@ -76,7 +76,7 @@ spelled_header (Ok v) h written status valid is = record {
   status = status;
   valid = valid;
   fields = fields_of-pairs h.headers is ∙ ap (λ (fs : List Field). fields_of fs) (pairs-shown h.headers);
-  held = IsHeld-shown h.headers is;
+  held = FitsMap-shown h.headers is;
   order = written ∙ ap (λ (fs : List Field). header_text h.version h.status fs) (sym (pairs-shown h.headers));
 }
 spelled_header (Err e) h written status valid is = tt

@@ -72,16 +72,16 @@ field_at text = do
   Some (name, value)
 
 -- a map with one more value, unless that is more than a map can hold
-abbrev pub is_held : Fields → Bool
-is_held m = nat_le (length m) 24576 && nat_lt (value_count m) (2 ^ 64)
+abbrev pub fits_map : Fields → Bool
+fits_map m = nat_le (length m) 24576 && nat_lt (value_count m) (2 ^ 64)
 
 -- the map, if it can be held
-abbrev pub when_held : Fields → Option Fields
-when_held m = if is_held m then Some m else None
+abbrev pub when_fits : Fields → Option Fields
+when_fits m = if fits_map m then Some m else None
 
 -- the map with one more field, if there is room
 unfoldable pub append_at : Fields → Field → Option Fields
-append_at m f = when_held (append m f.0 f.1)
+append_at m f = when_fits (append m f.0 f.1)
 
 -- the map that the lines make, added to m, up to the empty line, after which nothing follows; front is the line so
 -- far

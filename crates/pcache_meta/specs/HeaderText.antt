@@ -58,8 +58,8 @@ abbrev pub fields_of : List Field → Fields
 fields_of lines = append_all [] lines
 
 -- no more names and values than a header map can hold
-abbrev pub IsHeld : Fields → Type 0
-IsHeld fields = (length fields ≤ 24576) × (value_count fields < 2 ^ 64)
+abbrev pub FitsMap : Fields → Type 0
+FitsMap fields = (length fields ≤ 24576) × (value_count fields < 2 ^ 64)
 
 -- the text of a head: a line for each value, by name, in the map's order
 abbrev pub header_written : Header → List ℕ
@@ -72,7 +72,7 @@ pub record SpellsHeader (bytes : List ℕ) (h : Header) : Type 0 where
   pub status : IsStatusCode h.status
   pub valid : All IsField lines
   pub fields : h.fields ≡ fields_of lines
-  pub held : IsHeld h.fields
+  pub held : FitsMap h.fields
   pub order : bytes ≡ header_written h
 
 -- a head has one text, and a text one head

@@ -10,7 +10,7 @@ use Rattle.pcache_policies.specs.declared.queue.Seen.{Seen}
 use Rattle.pcache_policies.specs.Queue.{Queue, plain, IsOnce, seen_of, reseen, unused}
 use Rattle.pcache_policies.specs.Leaving.{HasRoom}
 use Rattle.pcache_policies.specs.Ring.{Ring, ring, all, chosen, SameEntries}
-use Rattle.pcache_policies.specs.S3Fifo.{Fifos, fifos, Ghosts, whole, entries, is_ghost, forgotten, MakesRoom, rests, entered, Queued, KeepsLimits, Admits, IsRefused}
+use Rattle.pcache_policies.specs.S3Fifo.{Fifos, fifos, Ghosts, whole, entries, is_ghost, forgotten, MakesRoom, rests, entered, Queued, KeepsLimits, Admits, HasFailed}
 use Rattle.pcache_policies.specs.Fifos.{Kept, shown, left_of}
 use Rattle.pcache_policies.proofs.Queues.{plain-append}
 use Rattle.pcache_policies.proofs.Rings.{Apart, apart_none, apart_front, map-mid, reseen-all}
@@ -113,8 +113,8 @@ keeps-still limits w c w2 c2 before out inside empty heavy many =
 pub refused-back : (l m : Limits) (e f : Evicted) (r0 r1 r2 r3 : Ring) (g0 g2 : Ghosts) (k : CacheEntryKey) (before after : Seen) → seen_of k (all r0) ≡ Some before
     → r1 ≡ ring (reseen k after r0.ahead) (reseen k after r0.leaving) (reseen k after r0.passed)
     → r3 ≡ ring (reseen k before r2.ahead) (reseen k before r2.leaving) (reseen k before r2.passed)
-    → IsRefused (record { fifos = shown (kept r1 g0); limits = l; evicted = e }) (record { fifos = shown (kept r2 g2); limits = m; evicted = f })
-    → IsRefused (record { fifos = shown (kept r0 g0); limits = l; evicted = e }) (record { fifos = shown (kept r3 g2); limits = m; evicted = f })
+    → HasFailed (record { fifos = shown (kept r1 g0); limits = l; evicted = e }) (record { fifos = shown (kept r2 g2); limits = m; evicted = f })
+    → HasFailed (record { fifos = shown (kept r0 g0); limits = l; evicted = e }) (record { fifos = shown (kept r3 g2); limits = m; evicted = f })
 refused-back l m e f r0 r1 r2 r3 g0 g2 k before after found set back h =
     record {
       same = ap (λ r. map_of (plain (all r))) back ∙ ap (λ q. map_of (plain q)) (sym (reseen-all k before r2.ahead r2.leaving r2.passed))

@@ -16,7 +16,7 @@ use Rattle.pcache_evict.proofs.Maps.{get-map_of, weight-map_of}
 use Rattle.pcache_policies.specs.declared.queue.Seen.{Seen}
 use Rattle.pcache_policies.specs.Queue.{Queue, plain, IsOnce, seen_of, reseen, unused}
 use Rattle.pcache_policies.specs.Leaving.{HasRoom}
-use Rattle.pcache_policies.specs.Sieve.{Sieve, sieve, whole, entries, MakesRoom, rests, turned, entered, Sieved, reseen_in, KeepsLimits, Admits, IsRefused}
+use Rattle.pcache_policies.specs.Sieve.{Sieve, sieve, whole, entries, MakesRoom, rests, turned, entered, Sieved, reseen_in, KeepsLimits, Admits, HasFailed}
 use Rattle.pcache_policies.specs.Ring.{Ring, ring, all, shown, left_of, chosen, SameEntries}
 use Rattle.pcache_policies.proofs.Queues.{E, plain-append, plain-found, some-plain, once-plain}
 use Rattle.pcache_policies.proofs.Rings.{reseen-all}
@@ -196,7 +196,7 @@ kept r limits evicted = record { sieve = shown r; limits = limits; evicted = evi
 pub refused-back : (l m : Limits) (e f : Evicted) (r0 r1 r2 r3 : Ring) (k : CacheEntryKey) (before after : Seen) → seen_of k (all r0) ≡ Some before
     → r1 ≡ ring (reseen k after r0.ahead) (reseen k after r0.leaving) (reseen k after r0.passed)
     → r3 ≡ ring (reseen k before r2.ahead) (reseen k before r2.leaving) (reseen k before r2.passed)
-    → IsRefused (kept r1 l e) (kept r2 m f) → IsRefused (kept r0 l e) (kept r3 m f)
+    → HasFailed (kept r1 l e) (kept r2 m f) → HasFailed (kept r0 l e) (kept r3 m f)
 refused-back l m e f r0 r1 r2 r3 k before after found set back h =
     record {
       same = ap (λ r. map_of (plain (all r))) back ∙ ap (λ q. map_of (plain q)) (sym (reseen-all k before r2.ahead r2.leaving r2.passed))

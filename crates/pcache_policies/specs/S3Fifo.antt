@@ -122,7 +122,7 @@ accessed None k n f = entered k n f
 accessed (Some v) k n f = if v.uses == 3 then f else reseen_in k (reused v) f
 
 -- a failed call leaves every entry with its weight, and the totals; queues, uses and ghosts may have changed
-pub record IsRefused (old new : Queued) : Type 0 where
+pub record HasFailed (old new : Queued) : Type 0 where
   pub same : map_of (entries new.fifos) ≡ map_of (entries old.fifos)
   pub limits : new.limits ≡ old.limits
   pub evicted : new.evicted ≡ old.evicted

@@ -97,7 +97,7 @@ accessed None k n s = entered k n s
 accessed (Some v) k n s = if v.uses == 0 then reseen_in k (used v.weight) s else s
 
 -- a failed call leaves every entry with its weight, and the totals; the hand may have moved
-pub record IsRefused (old new : Sieved) : Type 0 where
+pub record HasFailed (old new : Sieved) : Type 0 where
   pub same : map_of (entries new.sieve) ≡ map_of (entries old.sieve)
   pub limits : new.limits ≡ old.limits
   pub evicted : new.evicted ≡ old.evicted

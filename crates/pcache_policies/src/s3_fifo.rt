@@ -5,7 +5,7 @@ ghost use Rattle.pcache_base.specs.declared.error.ErrorType.TheVariants.{OutOfMe
 ghost use Rattle.pcache_evict.specs.Tracked.{raised};
 ghost use Rattle.pcache_evict.specs.Recency.{weight, IsWithinAsList};
 ghost use Rattle.pcache_policies.specs.Queue.{IsOnce, seen_of};
-ghost use Rattle.pcache_policies.specs.S3Fifo.{Queued, entries, whole, entered, reseen_in, rest_in, accessed, empty_fifos, Admits, KeepsLimits, Admission, Increment, IsRefused};
+ghost use Rattle.pcache_policies.specs.S3Fifo.{Queued, entries, whole, entered, reseen_in, rest_in, accessed, empty_fifos, Admits, KeepsLimits, Admission, Increment, HasFailed};
 
 use crate::evictions::{Evictions, let_go, raised_weight};
 use crate::fifos::Fifos;
@@ -140,7 +140,7 @@ impl Manager {
         ensures ok { IfOk result (λ out. Admission (seen_of item (whole self.old.fifos)) self.old item size self.new out.items) }
         ensures once { IsOnce (whole self.old.fifos) }
         ensures kind { IfErr result (λ e. e ≡ OutOfMemory) }
-        ensures err { OnErr result (IsRefused self.old self.new) }
+        ensures err { OnErr result (HasFailed self.old self.new) }
     {
         match self.fifos.ring.get(&item) {
             Some(before) => self.reweigh(&item, before, before.used_again(size)),
@@ -163,7 +163,7 @@ impl Manager {
             → IsWithinAsList self.old.limits (entries (reseen_in item.now (record v { weight = raised delta max_weight (Some v.weight) }) self.old.fifos)) → IsOk result }
         ensures once { IsOnce (whole self.old.fifos) }
         ensures kind { IfErr result (λ e. e ≡ OutOfMemory) }
-        ensures err { OnErr result (IsRefused self.old self.new) }
+        ensures err { OnErr result (HasFailed self.old self.new) }
     {
         match self.fifos.ring.get(item) {
             Some(before) => {
@@ -198,7 +198,7 @@ impl Manager {
         ensures there { IsSome (seen_of item.now (whole self.old.fifos)) → IsOk result }
         ensures once { IsOnce (whole self.old.fifos) }
         ensures kind { IfErr result (λ e. e ≡ OutOfMemory) }
-        ensures err { OnErr result (IsRefused self.old self.new) }
+        ensures err { OnErr result (HasFailed self.old self.new) }
     {
         let Some(seen) = self.fifos.ring.get(item) else {
             return self.add(item, size);
@@ -215,7 +215,7 @@ impl Manager {
         ensures was { IfOk result (λ was. was ≡ false) }
         ensures ok { OnOk result (self.new ≡ record self.old { fifos = entered item.now size self.old.fifos }) }
         ensures kind { IfErr result (λ e. e ≡ OutOfMemory) }
-        ensures err { OnErr result (IsRefused self.old self.new) }
+        ensures err { OnErr result (HasFailed self.old self.new) }
     {
         let copy = item.copied()?;
         self.fifos.ring.settle()?;
@@ -229,7 +229,7 @@ impl Manager {
         requires { seen_of item (whole self.old.fifos) ≡ None }
         ensures ok { IfOk result (λ out. Admits self.old item size self.new out.items) }
         ensures kind { IfErr result (λ e. e ≡ OutOfMemory) }
-        ensures err { OnErr result (IsRefused self.old self.new) }
+        ensures err { OnErr result (HasFailed self.old self.new) }
     {
         self.fifos.ring.len(); // for the prover: its contract says that no entry occurs twice
         let out = self
@@ -260,7 +260,7 @@ impl Manager {
         ensures ok { IfOk result (λ out. KeepsLimits self.old (reseen_in item.now after self.old.fifos) self.new out.items) }
         ensures within { IsWithinAsList self.old.limits (entries (reseen_in item.now after self.old.fifos)) → IsOk result }
         ensures kind { IfErr result (λ e. e ≡ OutOfMemory) }
-        ensures err { OnErr result (IsRefused self.old self.new) }
+        ensures err { OnErr result (HasFailed self.old self.new) }
     {
         self.fifos.ring.set(item, after);
         match self.keep_limits() {
@@ -277,7 +277,7 @@ impl Manager {
         ensures ok { IfOk result (λ out. KeepsLimits self.old self.old.fifos self.new out.items) }
         ensures within { IsWithinAsList self.old.limits (entries self.old.fifos) → IsOk result }
         ensures kind { IfErr result (λ e. e ≡ OutOfMemory) }
-        ensures err { OnErr result (IsRefused self.old self.new) }
+        ensures err { OnErr result (HasFailed self.old self.new) }
     {
         self.fifos.ring.len(); // for the prover: its contract says that no entry occurs twice
         if self.is_within() {

@@ -5,7 +5,7 @@ ghost use Rattle.pcache_base.specs.declared.error.ErrorType.TheVariants.{OutOfMe
 ghost use Rattle.pcache_evict.specs.Tracked.{raised};
 ghost use Rattle.pcache_evict.specs.Recency.{weight, IsWithinAsList};
 ghost use Rattle.pcache_policies.specs.Queue.{IsOnce, seen_of};
-ghost use Rattle.pcache_policies.specs.Sieve.{Sieved, entries, whole, entered, reseen_in, rest_in, accessed, empty_sieve, Admits, KeepsLimits, Admission, Increment, IsRefused};
+ghost use Rattle.pcache_policies.specs.Sieve.{Sieved, entries, whole, entered, reseen_in, rest_in, accessed, empty_sieve, Admits, KeepsLimits, Admission, Increment, HasFailed};
 
 use crate::evictions::{Evictions, let_go, raised_weight};
 use crate::queue::Seen;
@@ -138,7 +138,7 @@ impl Manager {
         ensures ok { IfOk result (λ out. Admission (seen_of item (whole self.old.sieve)) self.old item size self.new out.items) }
         ensures once { IsOnce (whole self.old.sieve) }
         ensures kind { IfErr result (λ e. e ≡ OutOfMemory) }
-        ensures err { OnErr result (IsRefused self.old self.new) }
+        ensures err { OnErr result (HasFailed self.old self.new) }
     {
         match self.ring.get(&item) {
             Some(before) => self.reweigh(&item, before, Seen::used(size)),
@@ -161,7 +161,7 @@ impl Manager {
             → IsWithinAsList self.old.limits (entries (reseen_in item.now (record v { weight = raised delta max_weight (Some v.weight) }) self.old.sieve)) → IsOk result }
         ensures once { IsOnce (whole self.old.sieve) }
         ensures kind { IfErr result (λ e. e ≡ OutOfMemory) }
-        ensures err { OnErr result (IsRefused self.old self.new) }
+        ensures err { OnErr result (HasFailed self.old self.new) }
     {
         match self.ring.get(item) {
             Some(before) => {
@@ -196,7 +196,7 @@ impl Manager {
         ensures there { IsSome (seen_of item.now (whole self.old.sieve)) → IsOk result }
         ensures once { IsOnce (whole self.old.sieve) }
         ensures kind { IfErr result (λ e. e ≡ OutOfMemory) }
-        ensures err { OnErr result (IsRefused self.old self.new) }
+        ensures err { OnErr result (HasFailed self.old self.new) }
     {
         let Some(seen) = self.ring.get(item) else {
             return self.add(item, size);
@@ -213,7 +213,7 @@ impl Manager {
         ensures was { IfOk result (λ was. was ≡ false) }
         ensures ok { OnOk result (self.new ≡ record self.old { sieve = entered item.now size self.old.sieve }) }
         ensures kind { IfErr result (λ e. e ≡ OutOfMemory) }
-        ensures err { OnErr result (IsRefused self.old self.new) }
+        ensures err { OnErr result (HasFailed self.old self.new) }
     {
         let copy = item.copied()?;
         self.ring.settle()?;
@@ -227,7 +227,7 @@ impl Manager {
         requires { seen_of item (whole self.old.sieve) ≡ None }
         ensures ok { IfOk result (λ out. Admits self.old item size self.new out.items) }
         ensures kind { IfErr result (λ e. e ≡ OutOfMemory) }
-        ensures err { OnErr result (IsRefused self.old self.new) }
+        ensures err { OnErr result (HasFailed self.old self.new) }
     {
         self.ring.len(); // for the prover: its contract says that no entry occurs twice
         let out = self
@@ -254,7 +254,7 @@ impl Manager {
         ensures ok { IfOk result (λ out. KeepsLimits self.old (reseen_in item.now after self.old.sieve) self.new out.items) }
         ensures within { IsWithinAsList self.old.limits (entries (reseen_in item.now after self.old.sieve)) → IsOk result }
         ensures kind { IfErr result (λ e. e ≡ OutOfMemory) }
-        ensures err { OnErr result (IsRefused self.old self.new) }
+        ensures err { OnErr result (HasFailed self.old self.new) }
     {
         self.ring.set(item, after);
         match self.keep_limits() {
@@ -271,7 +271,7 @@ impl Manager {
         ensures ok { IfOk result (λ out. KeepsLimits self.old self.old.sieve self.new out.items) }
         ensures within { IsWithinAsList self.old.limits (entries self.old.sieve) → IsOk result }
         ensures kind { IfErr result (λ e. e ≡ OutOfMemory) }
-        ensures err { OnErr result (IsRefused self.old self.new) }
+        ensures err { OnErr result (HasFailed self.old self.new) }
     {
         self.ring.len(); // for the prover: its contract says that no entry occurs twice
         if self.is_within() {

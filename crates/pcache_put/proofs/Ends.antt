@@ -7,9 +7,9 @@ use Rattle.std.proofs.lemmas.List.{append_cancel_right, nil_from_length, take-ap
 use Rattle.std.proofs.lemmas.List.Concat.{flat_map-cons}
 use Rattle.std.proofs.lemmas.List.Elements.{All-nil, All-cons, All-head, All-tail, All-push}
 use Rattle.pcache_put.specs.HeadEnd.{IsEmpty, IsFull, IsWhole, EndsAt, IsUnfinished, joined}
-use Rattle.pcache_put.specs.Places.{next, place_after, CutsAt, NeverCuts}
-use Rattle.pcache_put.specs.declared.head_end.Place.{Place}
-use Rattle.pcache_put.specs.declared.head_end.Place.TheVariants.{Blank, BlankReturn, Inside, LineStart, LineReturn, Ended}
+use Rattle.pcache_put.specs.HeadStates.{next, state_after, CutsAt, NeverCuts}
+use Rattle.pcache_put.specs.declared.head_end.HeadState.{HeadState}
+use Rattle.pcache_put.specs.declared.head_end.HeadState.TheVariants.{Blank, BlankReturn, Inside, LineStart, LineReturn, Ended}
 use Rattle.pcache_put.proofs.Joins.{place-append, CutsAt-unique}
 
 joined-cons : (l : List ℕ) (ls : List (List ℕ)) → joined (l ∷ ls) ≡ l ++ joined ls
@@ -17,33 +17,33 @@ joined-cons l ls = flat_map-cons (λ (x : List ℕ). x) l ls
 
 -- ---- what is defined is found
 
-text_inside : (text : List ℕ) → All (λ b. b ≢ 0x0A) text → place_after Inside text ≡ Inside
+text_inside : (text : List ℕ) → All (λ b. b ≢ 0x0A) text → state_after Inside text ≡ Inside
 text_inside [] all = refl
 text_inside (b ∷ text) all =
     let feed : (b == 0x0A) ≡ false = ne_eqb b 0x0A (All-head (λ x. x ≢ 0x0A) b text all) in
     rw feed (text_inside text (All-tail (λ x. x ≢ 0x0A) b text all))
 
-line_inside : (text : List ℕ) → All (λ b. b ≢ 0x0A) text → place_after Inside (text ++ 0x0A ∷ []) ≡ LineStart
-line_inside text all = place-append Inside text (0x0A ∷ []) ∙ ap (λ p. place_after p (0x0A ∷ [])) (text_inside text all)
+line_inside : (text : List ℕ) → All (λ b. b ≢ 0x0A) text → state_after Inside (text ++ 0x0A ∷ []) ≡ LineStart
+line_inside text all = place-append Inside text (0x0A ∷ []) ∙ ap (λ p. state_after p (0x0A ∷ [])) (text_inside text all)
 
 -- a line that is not empty, from a state at the start of a line
-full_from : (p q : Place) → ((b : ℕ) → b ≢ 0x0A → b ≢ 0x0D → next p b ≡ Inside) → next p 0x0D ≡ q → ((b : ℕ) → b ≢ 0x0A → next q b ≡ Inside) → (l : List ℕ) → IsFull l → place_after p l ≡ LineStart
+full_from : (p q : HeadState) → ((b : ℕ) → b ≢ 0x0A → b ≢ 0x0D → next p b ≡ Inside) → next p 0x0D ≡ q → ((b : ℕ) → b ≢ 0x0A → next q b ≡ Inside) → (l : List ℕ) → IsFull l → state_after p l ≡ LineStart
 full_from p q other return behind l full = by_text full.0.0 full.0.1 full.0.2 where
-  by_text : (text : List ℕ) → All (λ b. b ≢ 0x0A) text → l ≡ text ++ 0x0A ∷ [] → place_after p l ≡ LineStart
+  by_text : (text : List ℕ) → All (λ b. b ≢ 0x0A) text → l ≡ text ++ 0x0A ∷ [] → state_after p l ≡ LineStart
   by_text [] all is = absurd (full.1 (inl is))
-  by_text (b ∷ []) all is = elim (b == 0x0D) as (λ t. (b == 0x0D) ≡ t → place_after p l ≡ LineStart) [
+  by_text (b ∷ []) all is = elim (b == 0x0D) as (λ t. (b == 0x0D) ≡ t → state_after p l ≡ LineStart) [
     | true ↦ λ t. absurd (full.1 (inr (is ∙ ap (λ x. x ∷ 0x0A ∷ []) (eqb-true b 0x0D t))))
-    | false ↦ λ t. ap (place_after p) is ∙ ap (λ r. place_after r (0x0A ∷ [])) (other b (All-head (λ x. x ≢ 0x0A) b [] all) (eqb-false b 0x0D t))
+    | false ↦ λ t. ap (state_after p) is ∙ ap (λ r. state_after r (0x0A ∷ [])) (other b (All-head (λ x. x ≢ 0x0A) b [] all) (eqb-false b 0x0D t))
   ] refl
   by_text (b ∷ c ∷ text) all is =
       let rest = All-tail (λ x. x ≢ 0x0A) b (c ∷ text) all in
-      elim (b == 0x0D) as (λ t. (b == 0x0D) ≡ t → place_after p l ≡ LineStart) [
+      elim (b == 0x0D) as (λ t. (b == 0x0D) ≡ t → state_after p l ≡ LineStart) [
         | true ↦ λ t.
             let back : next p b ≡ q = ap (next p) (eqb-true b 0x0D t) ∙ return in
-            ap (place_after p) is ∙ ap (λ r. place_after r (c ∷ text ++ 0x0A ∷ [])) back
-            ∙ ap (λ r. place_after r (text ++ 0x0A ∷ [])) (behind c (All-head (λ x. x ≢ 0x0A) c text rest)) ∙ line_inside text (All-tail (λ x. x ≢ 0x0A) c text rest)
+            ap (state_after p) is ∙ ap (λ r. state_after r (c ∷ text ++ 0x0A ∷ [])) back
+            ∙ ap (λ r. state_after r (text ++ 0x0A ∷ [])) (behind c (All-head (λ x. x ≢ 0x0A) c text rest)) ∙ line_inside text (All-tail (λ x. x ≢ 0x0A) c text rest)
         | false ↦ λ t.
-            ap (place_after p) is ∙ ap (λ r. place_after r (c ∷ text ++ 0x0A ∷ [])) (other b (All-head (λ x. x ≢ 0x0A) b (c ∷ text) all) (eqb-false b 0x0D t)) ∙ line_inside (c ∷ text) rest
+            ap (state_after p) is ∙ ap (λ r. state_after r (c ∷ text ++ 0x0A ∷ [])) (other b (All-head (λ x. x ≢ 0x0A) b (c ∷ text) all) (eqb-false b 0x0D t)) ∙ line_inside (c ∷ text) rest
       ] refl
 
 blank_other : (b : ℕ) → b ≢ 0x0A → b ≢ 0x0D → next Blank b ≡ Inside
@@ -58,28 +58,28 @@ line_start_other b feed return = rw (ne_eqb b 0x0A feed, ne_eqb b 0x0D return) r
 fresh_return : (b : ℕ) → b ≢ 0x0A → next LineReturn b ≡ Inside
 fresh_return b feed = rw (ne_eqb b 0x0A feed) refl
 
-empty_skipped : (l : List ℕ) → IsEmpty l → place_after Blank l ≡ Blank
-empty_skipped l (inl is) = ap (place_after Blank) is
-empty_skipped l (inr is) = ap (place_after Blank) is
+empty_skipped : (l : List ℕ) → IsEmpty l → state_after Blank l ≡ Blank
+empty_skipped l (inl is) = ap (state_after Blank) is
+empty_skipped l (inr is) = ap (state_after Blank) is
 
-all_skipped : (ls : List (List ℕ)) → All IsEmpty ls → place_after Blank (joined ls) ≡ Blank
+all_skipped : (ls : List (List ℕ)) → All IsEmpty ls → state_after Blank (joined ls) ≡ Blank
 all_skipped [] all = refl
 all_skipped (l ∷ ls) all =
-    ap (place_after Blank) (joined-cons l ls) ∙ place-append Blank l (joined ls) ∙ ap (λ p. place_after p (joined ls)) (empty_skipped l (All-head IsEmpty l ls all)) ∙ all_skipped ls (All-tail IsEmpty l ls all)
+    ap (state_after Blank) (joined-cons l ls) ∙ place-append Blank l (joined ls) ∙ ap (λ p. state_after p (joined ls)) (empty_skipped l (All-head IsEmpty l ls all)) ∙ all_skipped ls (All-tail IsEmpty l ls all)
 
-all_fresh : (ls : List (List ℕ)) → All IsFull ls → place_after LineStart (joined ls) ≡ LineStart
+all_fresh : (ls : List (List ℕ)) → All IsFull ls → state_after LineStart (joined ls) ≡ LineStart
 all_fresh [] all = refl
 all_fresh (l ∷ ls) all =
-    ap (place_after LineStart) (joined-cons l ls) ∙ place-append LineStart l (joined ls)
-    ∙ ap (λ p. place_after p (joined ls)) (full_from LineStart LineReturn line_start_other refl fresh_return l (All-head IsFull l ls all)) ∙ all_fresh ls (All-tail IsFull l ls all)
+    ap (state_after LineStart) (joined-cons l ls) ∙ place-append LineStart l (joined ls)
+    ∙ ap (λ p. state_after p (joined ls)) (full_from LineStart LineReturn line_start_other refl fresh_return l (All-head IsFull l ls all)) ∙ all_fresh ls (All-tail IsFull l ls all)
 
 -- the state before the last line
-before_last : (h : List ℕ) (w : IsWhole h) → place_after Blank (joined w.skipped ++ (w.first ++ joined w.lines)) ≡ LineStart
+before_last : (h : List ℕ) (w : IsWhole h) → state_after Blank (joined w.skipped ++ (w.first ++ joined w.lines)) ≡ LineStart
 before_last h w =
-    place-append Blank (joined w.skipped) (w.first ++ joined w.lines) ∙ ap (λ p. place_after p (w.first ++ joined w.lines)) (all_skipped w.skipped w.empty)
-    ∙ place-append Blank w.first (joined w.lines) ∙ ap (λ p. place_after p (joined w.lines)) (full_from Blank BlankReturn blank_other refl blank_return w.first w.begins) ∙ all_fresh w.lines w.full
+    place-append Blank (joined w.skipped) (w.first ++ joined w.lines) ∙ ap (λ p. state_after p (w.first ++ joined w.lines)) (all_skipped w.skipped w.empty)
+    ∙ place-append Blank w.first (joined w.lines) ∙ ap (λ p. state_after p (joined w.lines)) (full_from Blank BlankReturn blank_other refl blank_return w.first w.begins) ∙ all_fresh w.lines w.full
 
-ended_stays : (xs : List ℕ) → place_after Ended xs ≡ Ended
+ended_stays : (xs : List ℕ) → state_after Ended xs ≡ Ended
 ended_stays [] = refl
 ended_stays (x ∷ xs) = ended_stays xs
 
@@ -88,8 +88,8 @@ record Last (h : List ℕ) : Type 0 where
   front : List ℕ
   byte : ℕ
   parts : h ≡ front ++ byte ∷ []
-  open_there : place_after Blank front ≢ Ended
-  ended_there : place_after Blank h ≡ Ended
+  open_there : state_after Blank front ≢ Ended
+  ended_there : state_after Blank h ≡ Ended
 
 abbrev front_of : (h : List ℕ) → IsWhole h → List ℕ
 front_of h w = joined w.skipped ++ (w.first ++ joined w.lines)
@@ -109,19 +109,19 @@ last_of h w = by_last w.ends where
         byte = 0x0A;
         parts = parts;
         open_there = λ e. (let both : LineStart ≡ Ended = sym place ∙ e in cc both);
-        ended_there = ap (place_after Blank) parts ∙ place-append Blank front (0x0A ∷ []) ∙ ap (λ p. place_after p (0x0A ∷ [])) place;
+        ended_there = ap (state_after Blank) parts ∙ place-append Blank front (0x0A ∷ []) ∙ ap (λ p. state_after p (0x0A ∷ [])) place;
       }
   by_last (inr is) =
       let front = front_of h w in
       let place = before_last h w in
       let parts : h ≡ (front ++ 0x0D ∷ []) ++ 0x0A ∷ [] = whole_of h w ∙ ap (λ x. front ++ x) is ∙ sym (append_assoc front (0x0D ∷ []) (0x0A ∷ [])) in
-      let there : place_after Blank (front ++ 0x0D ∷ []) ≡ LineReturn = place-append Blank front (0x0D ∷ []) ∙ ap (λ p. place_after p (0x0D ∷ [])) place in
+      let there : state_after Blank (front ++ 0x0D ∷ []) ≡ LineReturn = place-append Blank front (0x0D ∷ []) ∙ ap (λ p. state_after p (0x0D ∷ [])) place in
       record {
         front = front ++ 0x0D ∷ [];
         byte = 0x0A;
         parts = parts;
         open_there = λ e. (let both : LineReturn ≡ Ended = sym there ∙ e in cc both);
-        ended_there = ap (place_after Blank) parts ∙ place-append Blank (front ++ 0x0D ∷ []) (0x0A ∷ []) ∙ ap (λ p. place_after p (0x0A ∷ [])) there;
+        ended_there = ap (state_after Blank) parts ∙ place-append Blank (front ++ 0x0D ∷ []) (0x0A ∷ []) ∙ ap (λ p. state_after p (0x0A ∷ [])) there;
       }
 
 pub ends_cut : (bytes : List ℕ) (n : ℕ) → EndsAt bytes n → CutsAt Blank bytes n
@@ -132,11 +132,11 @@ ends_cut bytes n h =
     let bytes_are : bytes ≡ last.front ++ ((last.byte ∷ []) ++ h.behind) = h.whole ∙ ap (λ x. x ++ h.behind) last.parts ∙ append_assoc last.front (last.byte ∷ []) h.behind in
     record {
       within = omega (arith, h.size, all);
-      ended = ap (λ k. place_after Blank (take k bytes)) h.size ∙ ap (λ x. place_after Blank (take (length h.head) x)) h.whole ∙ ap (place_after Blank) (take-append_seam h.head h.behind) ∙ last.ended_there;
+      ended = ap (λ k. state_after Blank (take k bytes)) h.size ∙ ap (λ x. state_after Blank (take (length h.head) x)) h.whole ∙ ap (state_after Blank) (take-append_seam h.head h.behind) ∙ last.ended_there;
       no_sooner = λ k lt e.
           let le : k ≤ length last.front = omega (arith, h.size, size) in
-          let early : place_after Blank (take k last.front) ≡ Ended = ap (place_after Blank) (sym (take-append-le k last.front ((last.byte ∷ []) ++ h.behind) le)) ∙ ap (λ x. place_after Blank (take k x)) (sym bytes_are) ∙ e in
-          last.open_there (ap (place_after Blank) (sym (take-append-drop k last.front)) ∙ place-append Blank (take k last.front) (drop k last.front) ∙ ap (λ p. place_after p (drop k last.front)) early ∙ ended_stays (drop k last.front));
+          let early : state_after Blank (take k last.front) ≡ Ended = ap (state_after Blank) (sym (take-append-le k last.front ((last.byte ∷ []) ++ h.behind) le)) ∙ ap (λ x. state_after Blank (take k x)) (sym bytes_are) ∙ e in
+          last.open_there (ap (state_after Blank) (sym (take-append-drop k last.front)) ∙ place-append Blank (take k last.front) (drop k last.front) ∙ ap (λ p. state_after p (drop k last.front)) early ∙ ended_stays (drop k last.front));
     }
 
 pub ends_within : (bytes : List ℕ) (n : ℕ) → EndsAt bytes n → n ≤ length bytes
@@ -157,14 +157,14 @@ ends_more a b n h = record {
 -- ---- what is found is so defined
 
 -- the head ends at the end of these bytes, and no sooner
-record Stops (p : Place) (w : List ℕ) : Type 0 where
-  ended : place_after p w ≡ Ended
-  sooner : (k : ℕ) → k < length w → place_after p (take k w) ≢ Ended
+record Stops (p : HeadState) (w : List ℕ) : Type 0 where
+  ended : state_after p w ≡ Ended
+  sooner : (k : ℕ) → k < length w → state_after p (take k w) ≢ Ended
 
-stops_step : (p q : Place) (b : ℕ) (w : List ℕ) → next p b ≡ q → Stops p (b ∷ w) → Stops q w
+stops_step : (p q : HeadState) (b : ℕ) (w : List ℕ) → next p b ≡ q → Stops p (b ∷ w) → Stops q w
 stops_step p q b w e s = record {
-  ended = ap (λ r. place_after r w) (sym e) ∙ s.ended;
-  sooner = λ k lt x. s.sooner (suc k) (omega (arith, lt)) (ap (λ r. place_after r (take k w)) e ∙ x);
+  ended = ap (λ r. state_after r w) (sym e) ∙ s.ended;
+  sooner = λ k lt x. s.sooner (suc k) (omega (arith, lt)) (ap (λ r. state_after r (take k w)) e ∙ x);
 }
 
 stops_over : (w : List ℕ) → Stops Ended w → w ≡ []
@@ -266,7 +266,7 @@ record Leads (w : List ℕ) : Type 0 where
 by_byte : {P : Type 0} (b c : ℕ) → ((b == c) ≡ true → P) → ((b == c) ≡ false → P) → P
 by_byte {P = P} b c same other = elim (b == c) as (λ t. (b == c) ≡ t → P) [ true ↦ same | false ↦ other ] refl
 
-open_end : (p : Place) → (p ≡ Ended → ⊥) → {P : Type 0} → Stops p [] → P
+open_end : (p : HeadState) → (p ≡ Ended → ⊥) → {P : Type 0} → Stops p [] → P
 open_end p no_end s = absurd (no_end s.ended)
 
 leads_more : (b : ℕ) (w : List ℕ) → Leads w → Leads (b ∷ w)
@@ -333,7 +333,7 @@ cuts_end bytes n h =
         ended = h.ended;
         sooner = λ k lt e.
             let same : take k bytes ≡ take k (take n bytes) = ap (take k) whole ∙ take-append-le k (take n bytes) (drop n bytes) (omega (arith, lt)) in
-            h.no_sooner k (omega (arith, lt, size)) (ap (place_after Blank) same ∙ e);
+            h.no_sooner k (omega (arith, lt, size)) (ap (state_after Blank) same ∙ e);
       });
       whole = whole;
       size = size;
@@ -347,5 +347,5 @@ unfinished_from bytes never n ends = let cut = ends_cut bytes n ends in never n 
 pub nothing_unfinished : IsUnfinished []
 nothing_unfinished = unfinished_from [] (λ k le e. start (take k []) (nil_from_length (take k []) (omega (arith, length-take {A = ℕ} k []))) e)
   where
-    start : (xs : List ℕ) → xs ≡ [] → place_after Blank xs ≡ Ended → ⊥
-    start xs is e = let both : Blank ≡ Ended = sym (ap (place_after Blank) is) ∙ e in cc both
+    start : (xs : List ℕ) → xs ≡ [] → state_after Blank xs ≡ Ended → ⊥
+    start xs is e = let both : Blank ≡ Ended = sym (ap (state_after Blank) is) ∙ e in cc both

@@ -1,6 +1,6 @@
 //! Finds the end of a response's head as its bytes come.
 ghost use Rattle.std.specs.Prelude.{◌≡◌, ◌≢◌, ℕ, ◌+◌, ◌≤◌, ◌<◌, ◌++◌, [], List, length, take, drop, IfSome, IfNone, IfOk, IfErr};
-ghost use Rattle.pcache_put.specs.Places.{next, place_after, CutsAt};
+ghost use Rattle.pcache_put.specs.HeadStates.{next, state_after, CutsAt};
 ghost use Rattle.pcache_base.specs.declared.error.ErrorType.TheVariants.{OutOfMemory};
 
 use memchr::memchr;
@@ -10,7 +10,7 @@ use std::marker::Model;
 
 // The state of the search for the head's end, before the next byte.
 #[derive(Clone, Copy, Debug, PartialEq, Eq)]
-pub(crate) enum Place {
+pub(crate) enum HeadState {
     // Among the empty lines before the head.
     Blank,
     // After the CR of such a line.
@@ -25,23 +25,24 @@ pub(crate) enum Place {
     Ended,
 }
 
-fn next(place: Place, byte: u8) -> Place
+fn next(place: HeadState, byte: u8) -> HeadState
     ensures { result ≡ next place byte }
 {
     match (place, byte) {
-        (Place::Blank, b'\n') | (Place::BlankReturn, b'\n') => Place::Blank,
-        (Place::Blank, b'\r') => Place::BlankReturn,
-        (Place::Inside, b'\n') => Place::LineStart,
-        (Place::LineStart, b'\n') | (Place::LineReturn, b'\n') | (Place::Ended, _) => Place::Ended,
-        (Place::LineStart, b'\r') => Place::LineReturn,
-        _ => Place::Inside,
+        (HeadState::Blank, b'\n') | (HeadState::BlankReturn, b'\n') => HeadState::Blank,
+        (HeadState::Blank, b'\r') => HeadState::BlankReturn,
+        (HeadState::Inside, b'\n') => HeadState::LineStart,
+        (HeadState::LineStart, b'\n') | (HeadState::LineReturn, b'\n') | (HeadState::Ended, _) =>
+            HeadState::Ended,
+        (HeadState::LineStart, b'\r') => HeadState::LineReturn,
+        _ => HeadState::Inside,
     }
 }
 
 // How many of the next bytes come before the end of their line, found by one search.
 fn line_rest(bytes: &[u8]) -> usize
     ensures within { result ≤ length bytes.now }
-    ensures stays { (k : ℕ) → k ≤ result → place_after Place.Inside (take k bytes.now) ≡ Place.Inside }
+    ensures stays { (k : ℕ) → k ≤ result → state_after HeadState.Inside (take k bytes.now) ≡ HeadState.Inside }
 {
     match memchr(b'\n', bytes) {
         Some(end) => end,
@@ -50,23 +51,23 @@ fn line_rest(bytes: &[u8]) -> usize
 }
 
 // A number of next bytes that surely leave the state as it is.
-fn passed(place: Place, bytes: &[u8]) -> usize
+fn passed(place: HeadState, bytes: &[u8]) -> usize
     ensures within { result ≤ length bytes.now }
-    ensures stays { (k : ℕ) → k ≤ result → place_after place (take k bytes.now) ≡ place }
+    ensures stays { (k : ℕ) → k ≤ result → state_after place (take k bytes.now) ≡ place }
 {
     match place {
-        Place::Inside => line_rest(bytes),
+        HeadState::Inside => line_rest(bytes),
         _ => 0,
     }
 }
 
 // How many of the next bytes still belong to the head, if it ends among them; otherwise the state
 // advances past them.
-fn cut(place: &mut Place, piece: &[u8]) -> Option<usize>
-    requires { place.old ≢ Place.Ended }
+fn cut(place: &mut HeadState, piece: &[u8]) -> Option<usize>
+    requires { place.old ≢ HeadState.Ended }
     ensures found { IfSome result (λ n. CutsAt place.old piece.now n) }
-    ensures none { IfNone result ((k : ℕ) → k ≤ length piece.now → place_after place.old (take k piece.now) ≢ Place.Ended) }
-    ensures moved { IfNone result (place.new ≡ place_after place.old piece.now) }
+    ensures none { IfNone result ((k : ℕ) → k ≤ length piece.now → state_after place.old (take k piece.now) ≢ HeadState.Ended) }
+    ensures moved { IfNone result (place.new ≡ state_after place.old piece.now) }
 {
     let mut at = 0;
     'bytes: while at < piece.len() {
@@ -76,7 +77,7 @@ fn cut(place: &mut Place, piece: &[u8]) -> Option<usize>
         }
         *place = next(*place, piece[at]);
         at += 1;
-        if let Place::Ended = *place {
+        if let HeadState::Ended = *place {
             return Some(at);
         }
     }
@@ -87,19 +88,19 @@ fn cut(place: &mut Place, piece: &[u8]) -> Option<usize>
 #[derive(Drop)]
 pub(crate) struct HeadBytes {
     bytes: Vec<u8>,
-    place: Place,
+    place: HeadState,
 }
 
 impl Model for HeadBytes {
     ghost use Rattle.std.specs.Prelude.{◌≡◌, ℕ, List};
-    ghost use Rattle.pcache_put.specs.Places.{place_after, NeverCuts};
-    ghost use Rattle.pcache_put.specs.declared.head_end.Place.TheVariants.{Blank};
+    ghost use Rattle.pcache_put.specs.HeadStates.{state_after, NeverCuts};
+    ghost use Rattle.pcache_put.specs.declared.head_end.HeadState.TheVariants.{Blank};
 
     ghost Value = { List ℕ };
 
     ghost view = { λ h. h.bytes.items };
 
-    ghost invariant = { λ h. (h.place ≡ place_after Blank h.bytes.items) × NeverCuts h.bytes.items };
+    ghost invariant = { λ h. (h.place ≡ state_after Blank h.bytes.items) × NeverCuts h.bytes.items };
 }
 
 // A head with one more piece.
@@ -120,7 +121,7 @@ impl HeadBytes {
     {
         HeadBytes {
             bytes: Vec::new(alloc),
-            place: Place::Blank,
+            place: HeadState::Blank,
         }
     }
 

@@ -11,7 +11,7 @@ use Rattle.pcache_put_ctx.specs.Openings.{HasOpened}
 use Rattle.pcache_put_ctx.specs.Puts.{Piece, Says}
 use Rattle.pcache_put_ctx.specs.Readings.{IfUnread, MayRefuseRead, ReadBy, ReadsPiece, StoresPiece}
 use Rattle.pcache_put_ctx.specs.State.{Stage, InHead, HasDeclined, IsOver, Put, Filled, limit_of}
-use Rattle.pcache_put_ctx.specs.Steps.{Done, MayRefusePiece, TakesPiece}
+use Rattle.pcache_put_ctx.specs.Steps.{Done, MayFailPiece, TakesPiece}
 use Rattle.pcache_put_ctx.specs.declared.reading.ReadPiece.{ReadPiece}
 use Rattle.pcache_put_ctx.specs.declared.reading.ReadPiece.TheVariants as read
 
@@ -29,17 +29,17 @@ pub reads_and_stores : {C : Type 0} (says : C → Says) (old mid new : Put C) (p
 reads_and_stores says old mid new p part d reads stores = both (says old.policy) old mid new p part d reads (subst (λ x. StoresPiece (says x) mid new part d) (ap (λ q. q.policy) reads.same) stores)
 
 -- why a piece that was read and then stored fails
-pub why_both : (stage : Stage) (s : Store) (parser : Parsed) (part : ReadPiece) (e : ErrorType) → IfUnread part (λ e. (s : Store) → MayRefusePiece stage s e ⊎ (parser ≡ HasFailed e)) → MayRefuseRead stage s part e → MayRefusePiece stage s e ⊎ (parser ≡ HasFailed e)
+pub why_both : (stage : Stage) (s : Store) (parser : Parsed) (part : ReadPiece) (e : ErrorType) → IfUnread part (λ e. (s : Store) → MayFailPiece stage s e ⊎ (parser ≡ HasFailed e)) → MayRefuseRead stage s part e → MayFailPiece stage s e ⊎ (parser ≡ HasFailed e)
 why_both stage s parser part e unread (inr may) = inl may
-why_both stage s parser (read.Refused kind) e unread (inl is) = subst (λ x. MayRefusePiece stage s x ⊎ (parser ≡ HasFailed x)) (sym is) (unread s)
+why_both stage s parser (read.Refused kind) e unread (inl is) = subst (λ x. MayFailPiece stage s x ⊎ (parser ≡ HasFailed x)) (sym is) (unread s)
 why_both stage s parser read.Unfinished e unread (inl is) = absurd is
 why_both stage s parser (read.Declined reason) e unread (inl is) = absurd is
 why_both stage s parser (read.Begins meta part) e unread (inl is) = absurd is
 why_both stage s parser (read.Brings part) e unread (inl is) = absurd is
 why_both stage s parser read.Ignored e unread (inl is) = absurd is
 
-pub why_answered : {A : Type 0} (at stage : Stage) (s : Store) (parser : Parsed) (part : ReadPiece) (result : Result A ErrorType) → at ≡ stage → IfUnread part (λ e. (s : Store) → MayRefusePiece stage s e ⊎ (parser ≡ HasFailed e))
-    → IfErr result (MayRefuseRead at s part) → IfErr result (λ e. MayRefusePiece stage s e ⊎ (parser ≡ HasFailed e))
+pub why_answered : {A : Type 0} (at stage : Stage) (s : Store) (parser : Parsed) (part : ReadPiece) (result : Result A ErrorType) → at ≡ stage → IfUnread part (λ e. (s : Store) → MayFailPiece stage s e ⊎ (parser ≡ HasFailed e))
+    → IfErr result (MayRefuseRead at s part) → IfErr result (λ e. MayFailPiece stage s e ⊎ (parser ≡ HasFailed e))
 why_answered at stage s parser part (Ok a) is unread may = tt
 why_answered at stage s parser part (Err e) is unread may = why_both stage s parser part e unread (subst (λ x. MayRefuseRead x s part e) is may)
 

@@ -11,7 +11,7 @@ use Rattle.pcache_control.specs.Control.{directive_given, ReadsField, ReadsOneMa
 use Rattle.pcache_control.specs.Defaults.{asked_status}
 use Rattle.pcache_control.specs.Filters.{FreshBy, end_of, expires_of, forbids, is_no, or_else, said_moment, new_meta, windows, windows_of, stored_header}
 use Rattle.pcache_control.specs.Names.{is_known, is_known_name, name_of}
-use Rattle.pcache_control.specs.Responses.{IsOutcome, outcome}
+use Rattle.pcache_control.specs.Responses.{IsDecision, decision_on}
 use Rattle.pcache_control.specs.declared.cache_control.CacheControl.{CacheControl}
 use Rattle.pcache_control.specs.declared.cache_control.Cacheable.TheVariants.{Yes, No, Default}
 use Rattle.pcache_control.specs.declared.key.DirectiveKey.{DirectiveKey}
@@ -19,7 +19,7 @@ use Rattle.pcache_control.specs.declared.key.DirectiveKey.TheVariants.{MaxAge, S
 use Rattle.pcache_control.specs.declared.response.RespCacheable.{RespCacheable}
 use Rattle.pcache_control.specs.declared.response.RespCacheable.TheVariants.{Cacheable}
 use Rattle.pcache_meta.specs.declared.header.ResponseHeader.{ResponseHeader}
-use Rattle.pcache_put_ctx.specs.Policies.{HasOneAnswer, HaveOneLifetime, SaysByDefault}
+use Rattle.pcache_put_ctx.specs.Policies.{DecidesOneWay, HaveOneLifetime, SaysByDefault}
 
 -- ---- the directives
 
@@ -130,24 +130,24 @@ fresh-one : (b : Bool) (now : ℕ) (o : Option ℕ) (P : Option Duration → Typ
 fresh-one true now o P f g one h k = h ∙ sym k
 fresh-one false now o P f g one h k = fresh-by now o P f g one h k
 
-outcome-alike : (now : ℕ) (defaults : ℕ × ℕ) (header : ResponseHeader) (f : Option ℕ) (cc dd : Option CacheControl) → AreAlike cc dd → outcome now cc defaults header f ≡ outcome now dd defaults header f
+outcome-alike : (now : ℕ) (defaults : ℕ × ℕ) (header : ResponseHeader) (f : Option ℕ) (cc dd : Option CacheControl) → AreAlike cc dd → decision_on now cc defaults header f ≡ decision_on now dd defaults header f
 outcome-alike now defaults header None cc dd x = refl
 outcome-alike now defaults header (Some moment) cc dd x = λ i. Cacheable (new_meta now moment (windows-alike defaults cc dd x i) (header-alike header cc dd x i))
 
 one-outcome : (now : ℕ) (defaults : ℕ × ℕ) (header : ResponseHeader) (P : Option Duration → Type 0) (cc dd : Option CacheControl) (a b : RespCacheable) → AreAlike cc dd → IsOne P
-    → IsOutcome now cc defaults header false P a → IsOutcome now dd defaults header false P b → a ≡ b
+    → IsDecision now cc defaults header false P a → IsDecision now dd defaults header false P b → a ≡ b
 one-outcome now defaults header P cc dd a b x one h k =
     let moved = subst (λ t. MatchBool t (k.0 ≡ None) (FreshBy now (said_moment now cc header.headers) P k.0)) (sym (forbids-alike cc dd x))
     (subst (λ o. MatchBool (forbids dd false) (k.0 ≡ None) (FreshBy now o P k.0)) (sym (said-alike now header cc dd x)) k.1) in
     let same : h.0 ≡ k.0 = fresh-one (forbids cc false) now (said_moment now cc header.headers) P h.0 k.0 one h.1 moved in
-    h.2 ∙ outcome-alike now defaults header h.0 cc dd x ∙ ap (outcome now dd defaults header) same ∙ sym k.2
+    h.2 ∙ outcome-alike now defaults header h.0 cc dd x ∙ ap (decision_on now dd defaults header) same ∙ sym k.2
 
-pub one_by_default : (defaults : ℕ × ℕ) (lifetimes : ℕ → Option Duration → Type 0) → HaveOneLifetime lifetimes → HasOneAnswer (SaysByDefault defaults lifetimes)
+pub one_by_default : (defaults : ℕ × ℕ) (lifetimes : ℕ → Option Duration → Type 0) → HaveOneLifetime lifetimes → DecidesOneWay (SaysByDefault defaults lifetimes)
 one_by_default defaults lifetimes one = λ header now a b h k.
     one-outcome now defaults header (lifetimes (asked_status header.status)) h.0 k.0 a b (read-alike header h.0 k.0 h.1 h.2 k.1 k.2) (one (asked_status header.status)) h.3 k.3
 
-pub one_by_time : (windows : ℕ × ℕ) (lifetimes : ℕ → Option ℕ) → HasOneAnswer (SaysByDefault windows (λ status lifetime. option_map as_nanos lifetime ≡ lifetimes status))
+pub one_by_time : (windows : ℕ × ℕ) (lifetimes : ℕ → Option ℕ) → DecidesOneWay (SaysByDefault windows (λ status lifetime. option_map as_nanos lifetime ≡ lifetimes status))
 one_by_time windows lifetimes = one_by_default windows (λ status lifetime. option_map as_nanos lifetime ≡ lifetimes status) (λ status a b p q. p ∙ sym q)
 
-pub one_by_none : (windows : ℕ × ℕ) → HasOneAnswer (SaysByDefault windows (λ status lifetime. lifetime ≡ None))
+pub one_by_none : (windows : ℕ × ℕ) → DecidesOneWay (SaysByDefault windows (λ status lifetime. lifetime ≡ None))
 one_by_none windows = one_by_default windows (λ status lifetime. lifetime ≡ None) (λ status a b p q. ap (λ (d : Option Duration). option_map as_nanos d) (p ∙ sym q))

@@ -10,13 +10,13 @@ use Rattle.pcache_meta.specs.Meta.{Meta, numbered}
 use Rattle.pcache_put.specs.Progress.{Parsed, AtBody, HasFailed}
 use Rattle.pcache_put_ctx.specs.Puts.{Piece, Says}
 use Rattle.pcache_put_ctx.specs.State.{IsWhyOver, Overrun, InHead}
-use Rattle.pcache_put_ctx.specs.Steps.{IfRefused, MayRefuseFill, MayRefusePiece}
+use Rattle.pcache_put_ctx.specs.Steps.{IfRefused, MayFailFill, MayFailPiece}
 use Rattle.pcache_put_ctx.specs.declared.report.PieceEnd.{PieceEnd}
 use Rattle.pcache_put_ctx.specs.declared.report.PieceEnd.TheVariants as piece
 use Rattle.pcache_store.specs.Store.{Store, Written, begun, is_told, new_write}
 
 -- adding bytes to a write failed
-pub why_filling : (says : Says) (limit : Option ℕ) (s : Store) (w : ℕ) (e : ErrorType) (pieces : List Piece) → MayRefuseFill s w e → (e ≡ ResponseTooLarge → Overrun says limit pieces) → IsWhyOver says limit e pieces
+pub why_filling : (says : Says) (limit : Option ℕ) (s : Store) (w : ℕ) (e : ErrorType) (pieces : List Piece) → MayFailFill s w e → (e ≡ ResponseTooLarge → Overrun says limit pieces) → IsWhyOver says limit e pieces
 why_filling says limit s w OutOfMemory pieces may over = tt
 why_filling says limit s w ResponseTooLarge pieces may over = over refl
 why_filling says limit s w InternalError pieces may over = tt
@@ -45,7 +45,7 @@ same_key n = grind (arith, nat_tests)
 told_new : (m : FinMap nat_cmp Written) (n : ℕ) (w : Written) → is_told (get (insert m n w) n) ≡ w.told
 told_new m n w = ap is_told (get-insert nat_cmp_total m n w n ∙ ap (λ b. cond b (Some w) (get m n)) (same_key n))
 
-pub why_begun : (s t : Store) (k w : ℕ) (meta : Meta) (e : ErrorType) → t ≡ begun s k meta → w ≡ s.next → MayRefuseFill t w e → MayRefusePiece InHead s e
+pub why_begun : (s t : Store) (k w : ℕ) (meta : Meta) (e : ErrorType) → t ≡ begun s k meta → w ≡ s.next → MayFailFill t w e → MayFailPiece InHead s e
 why_begun s t k w meta OutOfMemory is at may = tt
 why_begun s t k w meta ResponseTooLarge is at may = tt
 why_begun s t k w meta InternalError is at may =

@@ -6,7 +6,7 @@ use Rattle.http_header.specs.HeaderMap.{get}
 use Rattle.pcache_base.specs.declared.reason.NoCacheReason.TheVariants.{ResponseTooLarge}
 use Rattle.pcache_control.specs.Control.{ReadsField, ReadsOneMap}
 use Rattle.pcache_control.specs.Defaults.{asked_status}
-use Rattle.pcache_control.specs.Responses.{IsOutcome}
+use Rattle.pcache_control.specs.Responses.{IsDecision}
 use Rattle.pcache_control.specs.declared.cache_control.CacheControl.{CacheControl}
 use Rattle.pcache_control.specs.declared.response.RespCacheable.{RespCacheable}
 use Rattle.pcache_control.specs.declared.response.RespCacheable.TheVariants.{Cacheable, Uncacheable}
@@ -19,11 +19,11 @@ use Rattle.pcache_put.specs.Response.{SpellsLength}
 abbrev pub SaysByDefault : ℕ × ℕ → (ℕ → Option Duration → Type 0) → ResponseHeader → ℕ → RespCacheable → Type 0
 SaysByDefault windows lifetimes header now answer =
     (cc : Option CacheControl) × ReadsField header.headers (codes "cache-control") cc × ReadsOneMap header.headers (codes "cache-control") cc
-    × IsOutcome now cc windows header false (lifetimes (asked_status header.status)) answer
+    × IsDecision now cc windows header false (lifetimes (asked_status header.status)) answer
 
 -- the policy decides only one way on a head at a moment
-abbrev pub HasOneAnswer : (ResponseHeader → ℕ → RespCacheable → Type 0) → Type 0
-HasOneAnswer says = (header : ResponseHeader) (now : ℕ) (a b : RespCacheable) → says header now a → says header now b → a ≡ b
+abbrev pub DecidesOneWay : (ResponseHeader → ℕ → RespCacheable → Type 0) → Type 0
+DecidesOneWay says = (header : ResponseHeader) (now : ℕ) (a b : RespCacheable) → says header now a → says header now b → a ≡ b
 
 -- each status has at most one default lifetime
 abbrev pub HaveOneLifetime : (ℕ → Option Duration → Type 0) → Type 0

@@ -7,7 +7,7 @@ use Rattle.pcache_store.specs.Store.{Store}
 use Rattle.pcache_put_ctx.specs.Openings.{HasOpened, IsDue}
 use Rattle.pcache_put_ctx.specs.Puts.{Piece, Says}
 use Rattle.pcache_put_ctx.specs.State.{Stage, InHead, InBody, HasDeclined, IsOver, Put, Filled, Declined, Counts, IsWhyOver, HasTaken, limit_of}
-use Rattle.pcache_put_ctx.specs.Steps.{Done, MayRefusePiece, filled_on, is_done}
+use Rattle.pcache_put_ctx.specs.Steps.{Done, MayFailPiece, filled_on, is_done}
 use Rattle.pcache_put_ctx.specs.declared.reading.ReadPiece.{ReadPiece}
 use Rattle.pcache_put_ctx.specs.declared.reading.ReadPiece.TheVariants as read
 use Rattle.pcache_put_ctx.specs.declared.report.Written.{Written}
@@ -73,7 +73,7 @@ IsUnreadAs _ e = ⊥
 
 -- why a piece that was read may fail: it could not be read, or as any piece
 abbrev pub MayRefuseRead : Stage → Store → ReadPiece → ErrorType → Type 0
-MayRefuseRead stage s piece e = IsUnreadAs piece e ⊎ MayRefusePiece stage s e
+MayRefuseRead stage s piece e = IsUnreadAs piece e ⊎ MayFailPiece stage s e
 
 -- nothing of the piece is written: what comes after a whole body
 abbrev pub BringsNothing : Stage → ReadPiece → Type 0

@@ -84,11 +84,11 @@ EndsPiece write (piece.NotCached reason) stage now = (now ≡ HasDeclined reason
 EndsPiece write (piece.Refused e w) stage now = (now ≡ IsOver e) × (option_map write w ≡ write_in stage)
 
 -- a call after nothing is stored, or after a failure, returns the same again
-abbrev pub AnswersAgain : {M : Type 0} → Stage → PieceEnd M → Type 0
-AnswersAgain InHead end = Unit {0}
-AnswersAgain (InBody w id fresh_until) end = Unit {0}
-AnswersAgain (HasDeclined reason) end = end ≡ piece.NotCached reason
-AnswersAgain (IsOver kind) end = end ≡ piece.Refused kind None
+abbrev pub ReturnsAgain : {M : Type 0} → Stage → PieceEnd M → Type 0
+ReturnsAgain InHead end = Unit {0}
+ReturnsAgain (InBody w id fresh_until) end = Unit {0}
+ReturnsAgain (HasDeclined reason) end = end ≡ piece.NotCached reason
+ReturnsAgain (IsOver kind) end = end ≡ piece.Refused kind None
 
 -- a write begins only if the head ends
 abbrev pub BeginsAtHead : Stage → Option Meta → Type 0
@@ -130,27 +130,27 @@ HasWholeBody (HasDeclined reason) parser = ⊥
 HasWholeBody (IsOver kind) parser = ⊥
 
 -- why adding bytes to a write may fail
-abbrev pub MayRefuseFill : Store → ℕ → ErrorType → Type 0
-MayRefuseFill s w OutOfMemory = Unit {0}
-MayRefuseFill s w ResponseTooLarge = Unit {0}
-MayRefuseFill s w InternalError = is_told (get s.writes w) ≡ true
-MayRefuseFill s w _ = ⊥
+abbrev pub MayFailFill : Store → ℕ → ErrorType → Type 0
+MayFailFill s w OutOfMemory = Unit {0}
+MayFailFill s w ResponseTooLarge = Unit {0}
+MayFailFill s w InternalError = is_told (get s.writes w) ≡ true
+MayFailFill s w _ = ⊥
 
 -- why a piece may fail: memory ran out; the head can't be read; the body is too long; all numbers of writes are used;
 -- the end of the write was announced, in a storage that is not the put's own; or every call fails
-abbrev pub MayRefusePiece : Stage → Store → ErrorType → Type 0
-MayRefusePiece (IsOver kind) s e = e ≡ kind
-MayRefusePiece (HasDeclined reason) s e = ⊥
-MayRefusePiece InHead s OutOfMemory = Unit {0}
-MayRefusePiece InHead s InvalidHttpHeader = Unit {0}
-MayRefusePiece InHead s ResponseTooLarge = Unit {0}
-MayRefusePiece InHead s NumbersExhausted = 2 ^ 64 ≤ s.next
-MayRefusePiece InHead s _ = ⊥
-MayRefusePiece (InBody w id fresh_until) s OutOfMemory = Unit {0}
-MayRefusePiece (InBody w id fresh_until) s ResponseTooLarge = Unit {0}
-MayRefusePiece (InBody w id fresh_until) s InvalidHttpHeader = Unit {0}
-MayRefusePiece (InBody w id fresh_until) s InternalError = is_told (get s.writes w) ≡ true
-MayRefusePiece (InBody w id fresh_until) s _ = ⊥
+abbrev pub MayFailPiece : Stage → Store → ErrorType → Type 0
+MayFailPiece (IsOver kind) s e = e ≡ kind
+MayFailPiece (HasDeclined reason) s e = ⊥
+MayFailPiece InHead s OutOfMemory = Unit {0}
+MayFailPiece InHead s InvalidHttpHeader = Unit {0}
+MayFailPiece InHead s ResponseTooLarge = Unit {0}
+MayFailPiece InHead s NumbersExhausted = 2 ^ 64 ≤ s.next
+MayFailPiece InHead s _ = ⊥
+MayFailPiece (InBody w id fresh_until) s OutOfMemory = Unit {0}
+MayFailPiece (InBody w id fresh_until) s ResponseTooLarge = Unit {0}
+MayFailPiece (InBody w id fresh_until) s InvalidHttpHeader = Unit {0}
+MayFailPiece (InBody w id fresh_until) s InternalError = is_told (get s.writes w) ≡ true
+MayFailPiece (InBody w id fresh_until) s _ = ⊥
 
 -- what a piece did: the meta of the write that began, if one did, and the bytes that were written, if any were
 pub record Done : Type 0 where
@@ -174,17 +174,17 @@ GoesOn (HasDeclined reason) = ⊥
 GoesOn (IsOver kind) = ⊥
 
 -- the stage after the call returned this: the put goes on, nothing is stored, or every call fails
-abbrev pub StandsAnswered : Result (Option NoCacheReason) ErrorType → Stage → Type 0
-StandsAnswered (Ok None) stage = GoesOn stage
-StandsAnswered (Ok (Some reason)) stage = stage ≡ HasDeclined reason
-StandsAnswered (Err e) stage = stage ≡ IsOver e
+abbrev pub IsStageAfter : Result (Option NoCacheReason) ErrorType → Stage → Type 0
+IsStageAfter (Ok None) stage = GoesOn stage
+IsStageAfter (Ok (Some reason)) stage = stage ≡ HasDeclined reason
+IsStageAfter (Err e) stage = stage ≡ IsOver e
 
 -- a call after nothing is stored, or after a failure, returns the same again
-abbrev pub RepeatsAnswer : Stage → Result (Option NoCacheReason) ErrorType → Type 0
-RepeatsAnswer InHead answered = Unit {0}
-RepeatsAnswer (InBody w id fresh_until) answered = Unit {0}
-RepeatsAnswer (HasDeclined reason) answered = answered ≡ Ok (Some reason)
-RepeatsAnswer (IsOver kind) answered = answered ≡ Err kind
+abbrev pub RepeatsResult : Stage → Result (Option NoCacheReason) ErrorType → Type 0
+RepeatsResult InHead answered = Unit {0}
+RepeatsResult (InBody w id fresh_until) answered = Unit {0}
+RepeatsResult (HasDeclined reason) answered = answered ≡ Ok (Some reason)
+RepeatsResult (IsOver kind) answered = answered ≡ Err kind
 
 -- the store after the write was dropped, if the piece failed
 abbrev pub store_left : Result (Option NoCacheReason) ErrorType → Stage → Store → Store
@@ -227,11 +227,11 @@ stage_ended (end.Stored f) = IsOver InternalError
 stage_ended (end.Withdrawn e) = IsOver e
 
 -- the entry of a body that was stored and not withdrawn
-abbrev pub entry_told : Key → Stage → PutEnd → Option CacheEntryKey
-entry_told k InHead how = None
-entry_told k (HasDeclined reason) how = None
-entry_told k (IsOver kind) how = None
-entry_told k (InBody w id fresh_until) how = entry_stored (Some k) id (write_end how)
+abbrev pub entry_reported : Key → Stage → PutEnd → Option CacheEntryKey
+entry_reported k InHead how = None
+entry_reported k (HasDeclined reason) how = None
+entry_reported k (IsOver kind) how = None
+entry_reported k (InBody w id fresh_until) how = entry_stored (Some k) id (write_end how)
 
 -- the manager's totals
 abbrev pub evicted_ended : Key → (ℕ → MissFinishType) → Stage → Entries → Evicted → PutEnd → Evicted

@@ -94,7 +94,7 @@ impl<C: CachePut, S: Storage> CachePutCtx<C, S> {
     ghost use Rattle.pcache_store.specs.Store.{Store};
     ghost use Rattle.std.specs.Option.{option_and_then};
     ghost use Rattle.pcache_put_ctx.specs.State.{InHead, Filled, HasTaken, entry_in, limit_of, write_in};
-    ghost use Rattle.pcache_put_ctx.specs.Steps.{Done, HasWholeBody, store_after, store_left, stage_begun, filled_on, BeginsAtHead, EndsPiece, TakesPiece, StandsAnswered, RepeatsAnswer, AnswersAgain, IfRefused, MayRefusePiece, is_done, EndsPut, EndsAs, stage_ended, entry_told, evicted_ended, IfWithdrawn, TellsResult};
+    ghost use Rattle.pcache_put_ctx.specs.Steps.{Done, HasWholeBody, store_after, store_left, stage_begun, filled_on, BeginsAtHead, EndsPiece, TakesPiece, IsStageAfter, RepeatsResult, ReturnsAgain, IfRefused, MayFailPiece, is_done, EndsPut, EndsAs, stage_ended, entry_reported, evicted_ended, IfWithdrawn, TellsResult};
 
     /// A put of a key, with no limit on its body.
     pub fn new(alloc: Global, policy: C, key: CacheKey) -> CachePutCtx<C, S>
@@ -151,10 +151,10 @@ impl<C: CachePut, S: Storage> CachePutCtx<C, S> {
     ) -> Result<Option<NoCacheReason>>
         ensures step { (d : Done) × TakesPiece (C.says self.old.policy) self.old self.new (record { bytes = piece.now; now = now }) d
             × (S.state storage.new ≡ store_left result (stage_begun self.old.stage d.began (S.state storage.old).next (entry_given S.guarantees.numbers (S.state storage.old).next)) (store_after self.old.key self.old.stage d.began d.wrote (entry_given S.guarantees.numbers (S.state storage.old).next) (S.state storage.old))) }
-        ensures stands { StandsAnswered result self.new.stage }
-        ensures again { RepeatsAnswer self.old.stage result }
+        ensures stands { IsStageAfter result self.new.stage }
+        ensures again { RepeatsResult self.old.stage result }
         ensures ignored { HasWholeBody self.old.stage self.old.parser → (result ≡ Ok None) × (self.new.stage ≡ self.old.stage) × (S.state storage.new ≡ S.state storage.old) }
-        ensures kind { IfErr result (λ e. MayRefusePiece self.old.stage (S.state storage.old) e ⊎ (self.old.parser ≡ HasFailed e)) }
+        ensures kind { IfErr result (λ e. MayFailPiece self.old.stage (S.state storage.old) e ⊎ (self.old.parser ≡ HasFailed e)) }
     {
         let PieceReport {
             began: _,
@@ -191,9 +191,9 @@ impl<C: CachePut, S: Storage> CachePutCtx<C, S> {
         ensures last { (pieces : List Piece) (f : Option Filled) → HasTaken (C.says self.old.policy) self.old pieces f → IfSome result.wrote (λ w. w.eof ≡ is_done self.new.parser) }
 
         // A reason is returned again, and so is an error. Bytes after a whole body are ignored.
-        ensures again { AnswersAgain self.old.stage result.end }
+        ensures again { ReturnsAgain self.old.stage result.end }
         ensures ignored { HasWholeBody self.old.stage self.old.parser → result ≡ record { began = None; wrote = None; end = PieceEnd.GoesOn } }
-        ensures kind { IfRefused result.end (λ e. MayRefusePiece self.old.stage (S.state storage.old) e ⊎ (self.old.parser ≡ HasFailed e)) }
+        ensures kind { IfRefused result.end (λ e. MayFailPiece self.old.stage (S.state storage.old) e ⊎ (self.old.parser ≡ HasFailed e)) }
     {
         let read = self.read_piece(piece, now);
         self.store_piece(read, storage)
@@ -205,7 +205,7 @@ impl<C: CachePut, S: Storage> CachePutCtx<C, S> {
         ensures read { ReadsPiece (C.says self.old.policy) self.old self.new (record { bytes = piece.now; now = now }) result }
         ensures at { IsReadAt self.new.stage result }
         ensures ignored { HasWholeBody self.old.stage self.old.parser → BringsNothing self.new.stage result }
-        ensures kind { IfUnread result (λ e. (s : Store) → MayRefusePiece self.old.stage s e ⊎ (self.old.parser ≡ HasFailed e)) }
+        ensures kind { IfUnread result (λ e. (s : Store) → MayFailPiece self.old.stage s e ⊎ (self.old.parser ≡ HasFailed e)) }
     {
         match &self.stage {
             Stage::Head => self.intake.read_head(piece, now),
@@ -236,7 +236,7 @@ impl<C: CachePut, S: Storage> CachePutCtx<C, S> {
         ensures last { (pieces : List Piece) (f : Option Filled) → HasRead (C.says self.old.policy) self.old pieces f read
             → IfSome result.wrote (λ w. w.eof ≡ is_done self.new.parser) }
 
-        ensures again { AnswersAgain self.old.stage result.end }
+        ensures again { ReturnsAgain self.old.stage result.end }
         ensures ignored { BringsNothing self.old.stage read → result ≡ record { began = None; wrote = None; end = PieceEnd.GoesOn } }
         ensures kind { IfRefused result.end (MayRefuseRead self.old.stage (S.state storage.old) read) }
     {
@@ -288,7 +288,7 @@ impl<C: CachePut, S: Storage> CachePutCtx<C, S> {
         ensures policy { self.new.policy ≡ self.old.policy }
         ensures key { self.new.key ≡ self.old.key }
         ensures ends { EndsPut S.guarantees self.old.key self.old.parser (S.finishes storage.old) (E.limits eviction.old) self.old.stage result.end (S.state storage.old) (S.state storage.new) (E.tracked eviction.old) (E.tracked eviction.new) }
-        ensures entry { result.entry ≡ entry_told self.old.key self.old.stage result.end }
+        ensures entry { result.entry ≡ entry_reported self.old.key self.old.stage result.end }
         ensures evicted { E.evicted eviction.new ≡ evicted_ended self.old.key (S.finishes storage.old) self.old.stage (E.tracked eviction.old) (E.evicted eviction.old) result.end }
         ensures limits { E.limits eviction.new ≡ E.limits eviction.old }
         ensures stage { self.new.stage ≡ stage_ended result.end }

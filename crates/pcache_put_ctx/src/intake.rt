@@ -7,14 +7,14 @@ ghost use Rattle.pcache_meta.specs.Meta.{Meta};
 ghost use Rattle.pcache_put.specs.Progress.{HasFailed};
 ghost use Rattle.pcache_put.specs.Response.{IsUnreadable};
 ghost use Rattle.pcache_store.specs.Purge.{entry_given};
-ghost use Rattle.pcache_store.specs.Refusals.{MayRefuseWrite};
+ghost use Rattle.pcache_store.specs.Refusals.{MayFailWrite};
 ghost use Rattle.pcache_store.specs.Store.{Store, begun, is_told};
 ghost use Rattle.pcache_put_ctx.specs.Openings.{IsVerdict, IsBegun, IsDue, HasOpened};
 ghost use Rattle.pcache_put_ctx.specs.Puts.{Piece, IsResult, joined};
 ghost use Rattle.pcache_put_ctx.specs.Readings.{BodyDue, IfUnread, IsOfBody, IsOfHead, MayRefuseRead};
 ghost use Rattle.pcache_put_ctx.specs.Stages.{stage_of};
 ghost use Rattle.pcache_put_ctx.specs.State.{InHead, InBody, Filled, HeadTaken, BodyRead, BodyTaken, Counts, limit_of, TakenBy};
-ghost use Rattle.pcache_put_ctx.specs.Steps.{counted_part, IsAllowed, IfRefused, MayRefuseFill, written, store_wrote, store_after, stage_begun, filled_on, filled_wrote, EndsPiece, EndsPut, TellsResult, entry_told, evicted_ended, MayRefusePiece, is_done};
+ghost use Rattle.pcache_put_ctx.specs.Steps.{counted_part, IsAllowed, IfRefused, MayFailFill, written, store_wrote, store_after, stage_begun, filled_on, filled_wrote, EndsPiece, EndsPut, TellsResult, entry_reported, evicted_ended, MayFailPiece, is_done};
 ghost use Rattle.pcache_put_ctx.specs.declared.reading.ReadPiece.TheVariants.{Brings};
 ghost use Rattle.pcache_put_ctx.specs.declared.report.PieceEnd.TheVariants.{GoesOn};
 
@@ -74,7 +74,7 @@ fn write_part<S: Storage>(
     ensures over { IfErr result (λ e. e ≡ ResponseTooLarge → ¬ (IsAllowed size.new)) }
     ensures fits { IfErr result (λ e. e ≢ ResponseTooLarge → IsAllowed size.new) }
     ensures nothing { part ≡ None → result ≡ Ok None }
-    ensures kind { IfErr result (λ e. MayRefuseFill (S.state storage.old) (S.Miss.write writer.old) e) }
+    ensures kind { IfErr result (λ e. MayFailFill (S.state storage.old) (S.Miss.write writer.old) e) }
     ensures err { OnErr result (S.state storage.new ≡ S.state storage.old) }
     ensures same { S.Miss.write writer.new ≡ S.Miss.write writer.old }
     ensures entry { S.Miss.entry_number writer.new ≡ S.Miss.entry_number writer.old }
@@ -177,7 +177,7 @@ impl<C: CachePut> Intake<C> {
             → TakenBy (C.says self.old.policy) self.new.size self.new.parser
             (stage_of S.Miss.write S.Miss.entry_number result.stage) pieces (filled_wrote result.report.wrote (Some (record { meta = meta; body = body }))) }
         ensures nothing { part ≡ None → result.report ≡ record { began = began; wrote = None; end = GoesOn } }
-        ensures kind { IfRefused result.report.end (MayRefuseFill (S.state storage.old) (S.Miss.write filling.writer)) }
+        ensures kind { IfRefused result.report.end (MayFailFill (S.state storage.old) (S.Miss.write filling.writer)) }
     {
         let Filling {
             mut writer,
@@ -232,7 +232,7 @@ impl<C: CachePut> Intake<C> {
         ensures fresh { IfOk result (λ f. f.fresh_until ≡ meta.now.fresh_until) }
         ensures store { OnOk result (S.state storage.new ≡ begun (S.state storage.old) (slot self.now.key) meta.now) }
         ensures err { OnErr result (S.state storage.new ≡ S.state storage.old) }
-        ensures kind { IfErr result (MayRefuseWrite (S.state storage.old)) }
+        ensures kind { IfErr result (MayFailWrite (S.state storage.old)) }
     {
         let writer = storage.get_miss_handler(self.alloc, &self.key, meta)?;
         Ok(Filling {
@@ -260,7 +260,7 @@ impl<C: CachePut> Intake<C> {
             → Counts self.old.size []
             → TakenBy (C.says self.old.policy) self.new.size self.new.parser (stage_of S.Miss.write S.Miss.entry_number result.stage) pieces
             (filled_on result.report.began result.report.wrote None) }
-        ensures kind { IfRefused result.report.end (MayRefusePiece InHead (S.state storage.old)) }
+        ensures kind { IfRefused result.report.end (MayFailPiece InHead (S.state storage.old)) }
     {
         match self.begin(meta.get(), storage) {
             Ok(filling) => self.fill(filling, Some(meta), part, storage),
@@ -350,7 +350,7 @@ impl<C: CachePut> Intake<C> {
     ) -> (PutEnd, Option<CacheEntryKey>)
         ensures same { self.new ≡ record self.old { parser = self.new.parser } }
         ensures ends { EndsPut S.guarantees self.old.key self.old.parser (S.finishes storage.old) (E.limits eviction.old) (InBody (S.Miss.write filling.writer) (S.Miss.entry_number filling.writer) filling.fresh_until) result.0 (S.state storage.old) (S.state storage.new) (E.tracked eviction.old) (E.tracked eviction.new) }
-        ensures entry { result.1 ≡ entry_told self.old.key (InBody (S.Miss.write filling.writer) (S.Miss.entry_number filling.writer) filling.fresh_until) result.0 }
+        ensures entry { result.1 ≡ entry_reported self.old.key (InBody (S.Miss.write filling.writer) (S.Miss.entry_number filling.writer) filling.fresh_until) result.0 }
         ensures evicted { E.evicted eviction.new ≡ evicted_ended self.old.key (S.finishes storage.old) (InBody (S.Miss.write filling.writer) (S.Miss.entry_number filling.writer) filling.fresh_until) (E.tracked eviction.old) (E.evicted eviction.old) result.0 }
         ensures limits { E.limits eviction.new ≡ E.limits eviction.old }
         ensures tells { (pieces : List Piece) (f : Option Filled) → BodyTaken (C.says self.old.policy) self.old.size self.old.parser filling.fresh_until pieces f → TellsResult (IsResult (C.says self.old.policy) (limit_of self.old.size) pieces) f result.0 }

@@ -4,7 +4,7 @@ ghost use Rattle.std.specs.Prelude.{◌≡◌, ℕ, List, None, Option, option_m
 ghost use Rattle.std.specs.Duration.{as_nanos};
 ghost use Rattle.pcache_control.specs.declared.response.RespCacheable.{RespCacheable};
 ghost use Rattle.pcache_meta.specs.declared.header.ResponseHeader.{ResponseHeader};
-ghost use Rattle.pcache_put_ctx.specs.Policies.{HasOneAnswer, HaveOneLifetime, SaysByDefault};
+ghost use Rattle.pcache_put_ctx.specs.Policies.{DecidesOneWay, HaveOneLifetime, SaysByDefault};
 ghost use Rattle.pcache_put_ctx.specs.Puts.{Piece, Outcome, ComesTo, IsResult, joined};
 
 use crate::policy::{ByDefaults, CachePut};
@@ -21,16 +21,16 @@ pub fn same_put_however_cut<C: CachePut>(policy: &C)
 
 /// The policy that goes by a response and by defaults decides one way on a head at a moment, if its defaults give a status
 /// only one lifetime. So `same_put_however_cut` holds for its puts. A law; the call does nothing.
-pub fn one_answer_by_defaults(policy: &ByDefaults)
+pub fn one_decision_by_defaults(policy: &ByDefaults)
     ensures { HaveOneLifetime (FreshDurationByStatusFn.post policy.now.defaults.fresh_sec_fn)
-        → HasOneAnswer (SaysByDefault (policy.now.defaults.stale_while_revalidate_sec, policy.now.defaults.stale_if_error_sec) (FreshDurationByStatusFn.post policy.now.defaults.fresh_sec_fn)) }
+        → DecidesOneWay (SaysByDefault (policy.now.defaults.stale_while_revalidate_sec, policy.now.defaults.stale_if_error_sec) (FreshDurationByStatusFn.post policy.now.defaults.fresh_sec_fn)) }
 {
     let _ = policy;
 }
 
 /// So does every policy whose default lifetimes are a function of the status, or that has none. A law; the call does
 /// nothing.
-pub fn one_answer_by_lifetimes()
-    ensures timed { (windows : ℕ × ℕ) (lifetimes : ℕ → Option ℕ) → HasOneAnswer (SaysByDefault windows (λ status lifetime. option_map as_nanos lifetime ≡ lifetimes status)) }
-    ensures none { (windows : ℕ × ℕ) → HasOneAnswer (SaysByDefault windows (λ status lifetime. lifetime ≡ None)) }
+pub fn one_decision_by_lifetimes()
+    ensures timed { (windows : ℕ × ℕ) (lifetimes : ℕ → Option ℕ) → DecidesOneWay (SaysByDefault windows (λ status lifetime. option_map as_nanos lifetime ≡ lifetimes status)) }
+    ensures none { (windows : ℕ × ℕ) → DecidesOneWay (SaysByDefault windows (λ status lifetime. lifetime ≡ None)) }
 {}

@@ -12,16 +12,16 @@ use Rattle.pcache_evict.specs.Tracked.{Tracked, Limits, IsFair, without, raised}
 use Rattle.pcache_lock.specs.declared.lock.status.LockStatus.{LockStatus}
 use Rattle.pcache_lock.specs.declared.lock.status.LockStatus.TheVariants.{Done, TransientError}
 use Rattle.pcache_store.specs.Store.{Store, Guarantees, is_untouched, finished, dropped, purged}
-use Rattle.pcache_store.specs.Refusals.{MayRefuseFinish}
+use Rattle.pcache_store.specs.Refusals.{MayFailFinish}
 use Rattle.pcache_store.specs.declared.storage.MissFinishType.{MissFinishType}
 use Rattle.pcache_store.specs.declared.storage.MissFinishType.TheVariants.{Created, Appended}
 use Rattle.pcache_store.specs.Purge.{entry_purged}
 use Rattle.pcache_request.specs.Requests.{Request, entry_of}
 
 -- the size in a report of the end
-abbrev pub size_told : MissFinishType → ℕ
-size_told (Created n) = n
-size_told (Appended n most) = n
+abbrev pub size_reported : MissFinishType → ℕ
+size_reported (Created n) = n
+size_reported (Appended n most) = n
 
 -- the tracked entries with the entry of a write that ended so
 abbrev pub with_entry : MissFinishType → CacheEntryKey → Tracked → Tracked
@@ -50,7 +50,7 @@ Admits false limits kind e m out m' = (out ≡ []) × (m' ≡ m)
 -- evicted is purged; `Lets` says what happens to a held lock, given the status that a permit is released with
 pub record Stores (g : Guarantees) (used : Bool) (id : Option ℕ) (Lets : LockStatus → Type 0) (k : Key) (w : ℕ) (kind : MissFinishType) (limits : Limits) (size failed : ℕ) (out : List CacheEntryKey) (s s' : Store) (m m' : Tracked) : Type 0 where
   pub untouched : is_untouched s w ≡ true
-  pub size_is : size ≡ size_told kind
+  pub size_is : size ≡ size_reported kind
   pub admitted : Admits used limits kind (entry_of k id) m out m'
   pub purges : PurgesAll g.numbers (finished s w) out failed s'
   pub sure : g.purges ≡ true → failed ≡ 0
@@ -58,7 +58,7 @@ pub record Stores (g : Guarantees) (used : Bool) (id : Option ℕ) (Lets : LockS
 
 -- the end of the write w fails, and it is dropped
 pub record Drops (Lets : LockStatus → Type 0) (w : ℕ) (e : ErrorType) (s s' : Store) (m m' : Tracked) : Type 0 where
-  pub why : (e ≡ OutOfMemory) ⊎ MayRefuseFinish s w e
+  pub why : (e ≡ OutOfMemory) ⊎ MayFailFinish s w e
   pub dropped : s' ≡ dropped s w
   pub tracked : m' ≡ m
   pub released : Lets TransientError

@@ -52,33 +52,33 @@ is_late now rd timeout before since = has_waited timeout before (now - since_of 
 
 -- What a wait returns: how the permit ended; or else that it is too old; or else the fill that the reader was told of; or
 -- else that the wait timed out; or else that it goes on.
-abbrev pub answer_by : LockStatus → Bool → Poll WaitOutcome → Poll LockWaitOutcome
-answer_by s late (Ready poll.Released) = Ready (outcome_of_status s)
-answer_by s late (Ready poll.AgeTimeout) = Ready outcome.AgeTimeout
-answer_by s late (Ready (poll.Abandoned f)) = Ready (outcome.Abandoned (Custom f.reason) f.token)
-answer_by s late Pending = cond late (Ready outcome.WaitTimeout) Pending
+abbrev pub result_by : LockStatus → Bool → Poll WaitOutcome → Poll LockWaitOutcome
+result_by s late (Ready poll.Released) = Ready (outcome_of_status s)
+result_by s late (Ready poll.AgeTimeout) = Ready outcome.AgeTimeout
+result_by s late (Ready (poll.Abandoned f)) = Ready (outcome.Abandoned (Custom f.reason) f.token)
+result_by s late Pending = cond late (Ready outcome.WaitTimeout) Pending
 
 -- what a poll of a read lock returns
-abbrev pub answer_on : Locks → ℕ → Reader → Option (List UnusableFill) → Option ℕ → Option ℕ → Option ℕ → Poll LockWaitOutcome
-answer_on t now rd fills timeout before since =
-    answer_by (status_seen now (get t.cores rd.number)) (is_late now rd timeout before since) (polled now fills rd.watch (get t.cores rd.number))
+abbrev pub result_on : Locks → ℕ → Reader → Option (List UnusableFill) → Option ℕ → Option ℕ → Option ℕ → Poll LockWaitOutcome
+result_on t now rd fills timeout before since =
+    result_by (status_seen now (get t.cores rd.number)) (is_late now rd timeout before since) (polled now fills rd.watch (get t.cores rd.number))
 
 -- what a request's wait returns: only a request that holds a read lock waits
-abbrev pub wait_answer : Locks → ℕ → Option Locked → Request → Poll LockWaitOutcome
-wait_answer t now None r = Pending
-wait_answer t now (Some (Write p)) r = Pending
-wait_answer t now (Some (Read rd)) r = answer_on t now rd (unusable_in r.key) r.wait_timeout r.digest.waits r.waits_since
+abbrev pub wait_result : Locks → ℕ → Option Locked → Request → Poll LockWaitOutcome
+wait_result t now None r = Pending
+wait_result t now (Some (Write p)) r = Pending
+wait_result t now (Some (Read rd)) r = result_on t now rd (unusable_in r.key) r.wait_timeout r.digest.waits r.waits_since
 
 -- the poll found the permit too old
-abbrev pub is_old_answer : Poll WaitOutcome → Bool
-is_old_answer (Ready poll.Released) = false
-is_old_answer (Ready poll.AgeTimeout) = true
-is_old_answer (Ready (poll.Abandoned f)) = false
-is_old_answer Pending = false
+abbrev pub is_old_result : Poll WaitOutcome → Bool
+is_old_result (Ready poll.Released) = false
+is_old_result (Ready poll.AgeTimeout) = true
+is_old_result (Ready (poll.Abandoned f)) = false
+is_old_result Pending = false
 
 -- a poll of a read lock finds its permit too old
 abbrev pub finds_too_old : Locks → ℕ → Reader → Option (List UnusableFill) → Bool
-finds_too_old t now rd fills = is_old_answer (polled now fills rd.watch (get t.cores rd.number))
+finds_too_old t now rd fills = is_old_result (polled now fills rd.watch (get t.cores rd.number))
 
 -- the same for what a request holds
 abbrev pub too_old_for : Locks → ℕ → Option Locked → Option (List UnusableFill) → Bool
@@ -128,7 +128,7 @@ after_wait answer since now rd r = record r {
 abbrev pub waited : Locks → ℕ → Option Locked → Request → Request
 waited t now None r = r
 waited t now (Some (Write p)) r = r
-waited t now (Some (Read rd)) r = after_wait (wait_answer t now (Some (Read rd)) r) (since_of now rd.watch r.waits_since) now (reader_polled now (unusable_in r.key) rd (get t.cores rd.number)) r
+waited t now (Some (Read rd)) r = after_wait (wait_result t now (Some (Read rd)) r) (since_of now rd.watch r.waits_since) now (reader_polled now (unusable_in r.key) rd (get t.cores rd.number)) r
 
 -- the table after a poll: the read lock of a wait that ended is let go
 abbrev pub let_go_after : Poll LockWaitOutcome → ℕ → Locks → Locks
@@ -139,4 +139,4 @@ let_go_after Pending n t = t
 abbrev pub table_waited : Locks → ℕ → Option Locked → Request → Locks
 table_waited t now None r = t
 table_waited t now (Some (Write p)) r = t
-table_waited t now (Some (Read rd)) r = let_go_after (wait_answer t now (Some (Read rd)) r) rd.number (after_poll t now rd.number (get t.cores rd.number))
+table_waited t now (Some (Read rd)) r = let_go_after (wait_result t now (Some (Read rd)) r) rd.number (after_poll t now rd.number (get t.cores rd.number))

@@ -1,6 +1,6 @@
 -- What a look-up reports of what it did (own).
 use Rattle.std.specs.Prelude.{◌≡◌, true, false, Option, Some, None, IfOk, IfErr, OnOk, OnErr, IsTrue, option_map}
-use Rattle.pcache_lock.specs.Locks.{Locks, MayRefuseLock}
+use Rattle.pcache_lock.specs.Locks.{Locks, MayFailLock}
 use Rattle.pcache_meta.specs.Meta.{Meta}
 use Rattle.pcache_predict.specs.declared.admission.Decision.{Decision}
 use Rattle.pcache_store.specs.Store.{Store}
@@ -33,5 +33,5 @@ OnUnlocked (Deferred released) P = Unit {0}
 -- nothing on, the lock that was asked for, or why that failed
 abbrev pub Tells : {H : Type 0} → Option Decision → Store → Locks → Request → LookUp H → Type 0
 Tells d s t r (Found meta hit) = is_deferral d ≡ false
-Tells d s t r (NotFound asked) = (is_deferral d ≡ false) × IfOk asked (λ a. a ≡ asked_for_key t r) × IfErr asked (λ e. IsTrue (asks_unseen s r) × MayRefuseLock t e)
+Tells d s t r (NotFound asked) = (is_deferral d ≡ false) × IfOk asked (λ a. a ≡ asked_for_key t r) × IfErr asked (λ e. IsTrue (asks_unseen s r) × MayFailLock t e)
 Tells d s t r (Deferred released) = (is_deferral d ≡ true) × (released ≡ option_map name_of r.held)

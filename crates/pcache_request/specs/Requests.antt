@@ -244,9 +244,9 @@ begun_for (Some k) None s = s
 begun_for None m s = s
 
 -- the reader that follows the request's write
-abbrev pub joined_for : Option Key → ℕ → Store → Option (Meta × Reader)
-joined_for None n s = None
-joined_for (Some k) n s = find_write s (slot k) (Some n)
+abbrev pub followed_for : Option Key → ℕ → Store → Option (Meta × Reader)
+followed_for None n s = None
+followed_for (Some k) n s = find_write s (slot k) (Some n)
 
 -- the reader of a found pair
 abbrev pub reader_in : Option (Meta × Reader) → Option Reader
@@ -254,13 +254,13 @@ reader_in p = option_map (λ q. q.1) p
 
 -- the request after its write n began, where s is the store then
 abbrev pub writing : Bool → ℕ → Option ℕ → Store → Request → Request
-writing streams n id s r = cond streams (record r { write = Some n; entry = id; held = None; reader = reader_in (joined_for r.key n s) }) (record r { write = Some n; entry = id })
+writing streams n id s r = cond streams (record r { write = Some n; entry = id; held = None; reader = reader_in (followed_for r.key n s) }) (record r { write = Some n; entry = id })
 
 -- the store after the request's write began, and its reader follows it if the storage allows that
 abbrev pub store_writing : Bool → ℕ → Request → Store → Store
 store_writing streams n r s =
     let t = begun_for r.key r.meta s in
-    cond streams (left_by r.reader (followed t (joined_for r.key n t))) t
+    cond streams (left_by r.reader (followed t (followed_for r.key n t))) t
 
 -- the tracked entries after a removal: without the removed entry
 abbrev pub tracked_gone : Bool → CompactCacheKey → PurgeOutcome → Tracked → Tracked

@@ -7,7 +7,7 @@ ghost use Rattle.std.specs.Prelude.{◌≡◌, IfOk, IfErr, OnOk, OnErr, IsSome,
 ghost use Rattle.pcache_base.specs.Key.{slot};
 ghost use Rattle.pcache_base.specs.declared.error.ErrorType.TheVariants.{OutOfMemory};
 ghost use Rattle.std.specs.Option.{option_copied};
-ghost use Rattle.pcache_lock.specs.Locks.{MayRefuseLock, lock_given, holder};
+ghost use Rattle.pcache_lock.specs.Locks.{MayFailLock, lock_given, holder};
 ghost use Rattle.pcache_lock.specs.Statuses.{IsReason};
 ghost use Rattle.pcache_store.specs.Store.{find_write, followed};
 ghost use Rattle.pcache_store.specs.Tag.{named_by};
@@ -141,7 +141,7 @@ fn take_lock<L: CacheKeyLock>(
     ensures held { OnOk result (held.new ≡ Some (lock_given (L.table lock.old) stale_writer (holder (L.table lock.old) (slot key.now)))) }
     ensures same_table { OnErr result (L.table lock.new ≡ L.table lock.old) }
     ensures same_held { OnErr result (held.new ≡ held.old) }
-    ensures kind { IfErr result (λ e. MayRefuseLock (L.table lock.old) e) }
+    ensures kind { IfErr result (λ e. MayFailLock (L.table lock.old) e) }
 {
     let new = lock.lock(alloc, key, stale_writer, now)?;
     let given = LockName::of(&new);
@@ -167,7 +167,7 @@ fn take_lock_if<L: CacheKeyLock>(
     ensures table { OnOk result (L.table lock.new ≡ cond asks (table_asked stale_writer now (Some key.now) held.old (L.table lock.old)) (L.table lock.old)) }
     ensures same_table { OnErr result (L.table lock.new ≡ L.table lock.old) }
     ensures same_held { OnErr result (held.new ≡ held.old) }
-    ensures kind { IfErr result (λ e. MayRefuseLock (L.table lock.old) e) }
+    ensures kind { IfErr result (λ e. MayFailLock (L.table lock.old) e) }
     ensures asks { OnErr result (asks ≡ true) }
 {
     if !asks {
@@ -213,7 +213,7 @@ fn join_write<S: Storage>(
     key: &CacheKey,
     tag: Option<&[u8]>,
 ) -> Result<Option<S::Hit>>
-    ensures joined { IfOk result (λ r. option_map S.Hit.reader r ≡ reader_in (find_write (S.state storage.old) (slot key.now) (named_by (option_copied tag.entry)))) }
+    ensures following { IfOk result (λ r. option_map S.Hit.reader r ≡ reader_in (find_write (S.state storage.old) (slot key.now) (named_by (option_copied tag.entry)))) }
     ensures ok { OnOk result (S.state storage.new ≡ followed (S.state storage.old) (find_write (S.state storage.old) (slot key.now) (named_by (option_copied tag.entry)))) }
     ensures something { OnErr result (IsSome (find_write (S.state storage.old) (slot key.now) (named_by (option_copied tag.entry)))) }
     ensures err { OnErr result (S.state storage.new ≡ S.state storage.old) }
@@ -252,9 +252,9 @@ impl<S: Storage> HttpCache<S> {
     ghost use Rattle.pcache_store.specs.Purge.{entry_given};
     ghost use Rattle.pcache_store.specs.Store.{gives_piece, read_of, reader_after, sought};
     ghost use Rattle.std.specs.Option.{option_copied, option_and_then};
-    ghost use Rattle.pcache_store.specs.Refusals.{MayRefuseWrite};
+    ghost use Rattle.pcache_store.specs.Refusals.{MayFailWrite};
     ghost use Rattle.pcache_request.specs.Phases.{IsDisabled, MayTakeKey, MayMiss, IsStale, IsFilling, IsReading, MayFinishHit, is_filling};
-    ghost use Rattle.pcache_request.specs.Requests.{HasKey, HoldsNothing, Request, new_request, enabled_with, with_key, missed, without_reader, MayTakeMeta, with_meta, MayWrite, writing, store_writing, begun_for, joined_for, settled, left_by, dropped_by, let_go_by};
+    ghost use Rattle.pcache_request.specs.Requests.{HasKey, HoldsNothing, Request, new_request, enabled_with, with_key, missed, without_reader, MayTakeMeta, with_meta, MayWrite, writing, store_writing, begun_for, followed_for, settled, left_by, dropped_by, let_go_by};
     ghost use Rattle.pcache_request.specs.Reports.{name_of};
     ghost use Rattle.pcache_request.specs.contracts.cache.HttpCache.{the_row};
 
@@ -514,13 +514,13 @@ impl<S: Storage> HttpCache<S> {
         ensures request { OnOk result (self.new ≡ writing (S.streams storage.old) (S.state storage.old).next (entry_given S.guarantees.numbers (S.state storage.old).next) (begun_for self.old.key self.old.meta (S.state storage.old)) self.old) }
         ensures store { OnOk result (S.state storage.new ≡ store_writing (S.streams storage.old) (S.state storage.old).next self.old (S.state storage.old)) }
         ensures table { OnOk result (L.table lock.new ≡ cond (S.streams storage.old) (settled Done self.old.held (L.table lock.old)) (L.table lock.old)) }
-        ensures err { IfErr result (λ e. ((self.new ≡ self.old) × (S.state storage.new ≡ S.state storage.old) × (L.table lock.new ≡ L.table lock.old) × MayRefuseWrite (S.state storage.old) e)
+        ensures err { IfErr result (λ e. ((self.new ≡ self.old) × (S.state storage.new ≡ S.state storage.old) × (L.table lock.new ≡ L.table lock.old) × MayFailWrite (S.state storage.old) e)
             ⊎ ((self.new ≡ record self.old { write = Some (S.state storage.old).next; entry = entry_given S.guarantees.numbers (S.state storage.old).next; held = None }) × (S.state storage.new ≡ begun_for self.old.key self.old.meta (S.state storage.old)) × (L.table lock.new ≡ settled Done self.old.held (L.table lock.old)) × (e ≡ OutOfMemory))) }
-        ensures kind { IfErr result (λ e. (e ≡ OutOfMemory) ⊎ MayRefuseWrite (S.state storage.old) e) }
-        ensures something { OnErr result ((S.state storage.new ≡ S.state storage.old) ⊎ IsSome (joined_for self.old.key (S.state storage.old).next (begun_for self.old.key self.old.meta (S.state storage.old)))) }
-        ensures unjoined { OnErr result ((self.new ≡ self.old) ⊎ (S.streams storage.old ≡ true)) }
+        ensures kind { IfErr result (λ e. (e ≡ OutOfMemory) ⊎ MayFailWrite (S.state storage.old) e) }
+        ensures something { OnErr result ((S.state storage.new ≡ S.state storage.old) ⊎ IsSome (followed_for self.old.key (S.state storage.old).next (begun_for self.old.key self.old.meta (S.state storage.old)))) }
+        ensures unfollowed { OnErr result ((self.new ≡ self.old) ⊎ (S.streams storage.old ≡ true)) }
     {
-        self.begin_write(storage, lock)?.joined
+        self.begin_write(storage, lock)?.following
     }
 
     /// `set_miss_handler` with a result that says how far it came: if it fails, nothing is changed;
@@ -533,18 +533,18 @@ impl<S: Storage> HttpCache<S> {
     ) -> Result<WriteBegin>
         requires { MayWrite self.old }
         ensures released { IfOk result (λ b. b.released ≡ cond (S.streams storage.old) (option_map name_of self.old.held) None) }
-        ensures request { IfOk result (λ b. OnOk b.joined (self.new ≡ writing (S.streams storage.old) (S.state storage.old).next (entry_given S.guarantees.numbers (S.state storage.old).next) (begun_for self.old.key self.old.meta (S.state storage.old)) self.old)) }
-        ensures store { IfOk result (λ b. OnOk b.joined (S.state storage.new ≡ store_writing (S.streams storage.old) (S.state storage.old).next self.old (S.state storage.old))) }
+        ensures request { IfOk result (λ b. OnOk b.following (self.new ≡ writing (S.streams storage.old) (S.state storage.old).next (entry_given S.guarantees.numbers (S.state storage.old).next) (begun_for self.old.key self.old.meta (S.state storage.old)) self.old)) }
+        ensures store { IfOk result (λ b. OnOk b.following (S.state storage.new ≡ store_writing (S.streams storage.old) (S.state storage.old).next self.old (S.state storage.old))) }
         ensures table { OnOk result (L.table lock.new ≡ cond (S.streams storage.old) (settled Done self.old.held (L.table lock.old)) (L.table lock.old)) }
-        ensures unjoined_streams { IfOk result (λ b. OnErr b.joined (S.streams storage.old ≡ true)) }
-        ensures unjoined_request { IfOk result (λ b. OnErr b.joined (self.new ≡ record self.old { write = Some (S.state storage.old).next; entry = entry_given S.guarantees.numbers (S.state storage.old).next; held = None })) }
-        ensures unjoined_store { IfOk result (λ b. OnErr b.joined (S.state storage.new ≡ begun_for self.old.key self.old.meta (S.state storage.old))) }
-        ensures unjoined_kind { IfOk result (λ b. IfErr b.joined (λ e. e ≡ OutOfMemory)) }
-        ensures unjoined_something { IfOk result (λ b. OnErr b.joined (IsSome (joined_for self.old.key (S.state storage.old).next (begun_for self.old.key self.old.meta (S.state storage.old))))) }
+        ensures unfollowed_streams { IfOk result (λ b. OnErr b.following (S.streams storage.old ≡ true)) }
+        ensures unfollowed_request { IfOk result (λ b. OnErr b.following (self.new ≡ record self.old { write = Some (S.state storage.old).next; entry = entry_given S.guarantees.numbers (S.state storage.old).next; held = None })) }
+        ensures unfollowed_store { IfOk result (λ b. OnErr b.following (S.state storage.new ≡ begun_for self.old.key self.old.meta (S.state storage.old))) }
+        ensures unfollowed_kind { IfOk result (λ b. IfErr b.following (λ e. e ≡ OutOfMemory)) }
+        ensures unfollowed_something { IfOk result (λ b. OnErr b.following (IsSome (followed_for self.old.key (S.state storage.old).next (begun_for self.old.key self.old.meta (S.state storage.old))))) }
         ensures same_request { OnErr result (self.new ≡ self.old) }
         ensures same_store { OnErr result (S.state storage.new ≡ S.state storage.old) }
         ensures same_table { OnErr result (L.table lock.new ≡ L.table lock.old) }
-        ensures kind { IfErr result (λ e. MayRefuseWrite (S.state storage.old) e) }
+        ensures kind { IfErr result (λ e. MayFailWrite (S.state storage.old) e) }
     {
         let Some(key) = &self.key else { unreachable!() };
         let Some(meta) = &self.meta else {
@@ -556,7 +556,7 @@ impl<S: Storage> HttpCache<S> {
         if !streams {
             return Ok(WriteBegin {
                 released: None,
-                joined: Ok(()),
+                following: Ok(()),
             });
         }
         let released = settle(
@@ -569,14 +569,17 @@ impl<S: Storage> HttpCache<S> {
         let Some(writer) = &self.writer else {
             unreachable!()
         };
-        let joined = match join_write(self.alloc, storage, key, writer.streaming_write_tag()) {
+        let following = match join_write(self.alloc, storage, key, writer.streaming_write_tag()) {
             Ok(reader) => {
                 replace_reader(&mut self.reader, reader, storage);
                 Ok(())
             }
             Err(refused) => Err(refused),
         };
-        Ok(WriteBegin { released, joined })
+        Ok(WriteBegin {
+            released,
+            following,
+        })
     }
 
     /// The handler of the write, if there is one.

@@ -24,13 +24,13 @@ module _ {E : Type 0} where
   pub some_part : (me : Me E (View E)) (parts : ℕ) (all : List E) (claims : List (ℕ × E)) → me ≡ (keeper (parts + 1) all claims, []) → 0 < me.0.parts
   some_part me parts all claims e = let p = ap (λ (m : Me E (View E)). m.0.parts) e in omega arith
 
-  pub joined_on : (me you now : Me E (View E)) (claims : List (ℕ × E)) → IsKeeper me → you ≡ (slip claims, []) → now ≡ (both me.0 you.0, me.1) → now ≡ (keeper (me.0.parts + 1) me.0.all (me.0.claims ++ claims), [])
-  joined_on me you now claims is slips e =
+  pub followed_on : (me you now : Me E (View E)) (claims : List (ℕ × E)) → IsKeeper me → you ≡ (slip claims, []) → now ≡ (both me.0 you.0, me.1) → now ≡ (keeper (me.0.parts + 1) me.0.all (me.0.claims ++ claims), [])
+  followed_on me you now claims is slips e =
       e ∙ (ap (λ (m : Me E (View E)). (both m.0 you.0, m.1)) is ∙ ap (λ (m : Me E (View E)). (both (keeper me.0.parts me.0.all me.0.claims) m.0, [])) slips)
 
   pub joined_is : (me you now : Me E (View E)) (claims : List (ℕ × E)) → IsKeeper me → me.0.claims ≡ [] → you ≡ (slip claims, []) → now ≡ (both me.0 you.0, me.1) → now ≡ (keeper (me.0.parts + 1) me.0.all claims, [])
   joined_is me you now claims is none slips e =
-      joined_on me you now claims is slips e ∙ ap (λ l. (keeper (me.0.parts + 1) me.0.all (l ++ claims), [])) none
+      followed_on me you now claims is slips e ∙ ap (λ l. (keeper (me.0.parts + 1) me.0.all (l ++ claims), [])) none
 
   pub added_is : (me now : Me E (View E)) (parts : ℕ) (all : List E) (claims : List (ℕ × E)) (e : E) (s : Step E) (found : ℕ) → me ≡ (keeper parts all claims, []) → s.said ≡ some e → Adds s me found now
       → (now ≡ (keeper parts (all ++ e ∷ []) (claims ++ (length all, e) ∷ []), [])) × All (λ c. c.0 < length all) claims
@@ -50,10 +50,10 @@ rises_snoc [] n e h below = (All-nil (λ y. n < y), tt)
 rises_snoc (c ∷ cs) n e h below =
     (subst (All (λ y. c.0 < y)) (sym (map-append (λ d. d.0) cs ((n, e) ∷ []))) (All-push (λ y. c.0 < y) (places cs) n h.0 (All-head (λ d. d.0 < n) c cs below)), rises_snoc cs n e h.1 (All-tail (λ d. d.0 < n) c cs below))
 
-pub receipts_snoc : (s n : ℕ) (r : Receipt) (e : Entry) (claims : List (ℕ × Entry)) (receipts : List Receipt) → receipts ≡ map (receipt_of s) claims → r.place ≡ s + n → IsOf e r
+pub receipts_snoc : (s n : ℕ) (r : Receipt) (e : Entry) (claims : List (ℕ × Entry)) (receipts : List Receipt) → receipts ≡ map (receipt_of s) claims → r.index ≡ s + n → IsOf e r
     → receipts ++ r ∷ [] ≡ map (receipt_of s) (claims ++ (n, e) ∷ [])
 receipts_snoc s n r e claims receipts is at of =
-    let same : r ≡ receipt_of s (n, e) = λ i. record { place = at i; call = sym of.0 i; reply = sym of.1 i } in
+    let same : r ≡ receipt_of s (n, e) = λ i. record { index = at i; call = sym of.0 i; reply = sym of.1 i } in
     ap (λ l. l ++ r ∷ []) is ∙ (ap (λ x. map (receipt_of s) claims ++ x ∷ []) same ∙ sym (map-append (receipt_of s) claims ((n, e) ∷ [])))
 
 -- a list that was pushed to is not empty

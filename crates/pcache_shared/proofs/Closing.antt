@@ -7,8 +7,8 @@ use mathlib.Core.Logic.{dite}
 use native.Mathlib.Decide.{dec_lt, ℕ_discrete}
 use Rattle.pcache_history.specs.declared.entry.Entry.{Entry}
 use Rattle.pcache_shared.specs.declared.receipt.Receipt.{Receipt}
-use Rattle.pcache_shared.specs.Views.{one_if, times, numbers, places, Stands, Rises}
-use Rattle.pcache_shared.specs.Receipts.{receipt_of, StandsIn, joined, places_of, AreReceipts}
+use Rattle.pcache_shared.specs.Views.{one_if, times, numbers, places, IsAt, Rises}
+use Rattle.pcache_shared.specs.Receipts.{receipt_of, IsIn, joined, indices_of, AreReceipts}
 
 pub joined_snoc : {V X : Type 0} (f : V → List X) (vs : List V) (v : V) → joined (map f (vs ++ v ∷ [])) ≡ joined (map f vs) ++ f v
 joined_snoc f [] v = nothing (f v)
@@ -49,12 +49,12 @@ times_shift s xs ys same q =
     let at : s + (q - s) ≡ q = omega arith in
     subst (λ (n : ℕ). times n (map (λ k. s + k) xs) ≡ times n (map (λ k. s + k) ys)) at (times_here s (q - s) xs ∙ (same (q - s) ∙ sym (times_here s (q - s) ys))))
 
-places_are : (s : ℕ) (claims : List (ℕ × Entry)) → places_of (map (receipt_of s) claims) ≡ map (λ k. s + k) (places claims)
+places_are : (s : ℕ) (claims : List (ℕ × Entry)) → indices_of (map (receipt_of s) claims) ≡ map (λ k. s + k) (places claims)
 places_are s [] = refl
 places_are s (c ∷ cs) = ap (λ l. (s + c.0) ∷ l) (places_are s cs)
 
 -- increasing indices increase also from s on
-pub rises_of : (s : ℕ) (claims : List (ℕ × Entry)) → Rises (places claims) → Rises (places_of (map (receipt_of s) claims))
+pub rises_of : (s : ℕ) (claims : List (ℕ × Entry)) → Rises (places claims) → Rises (indices_of (map (receipt_of s) claims))
 rises_of s claims h = subst Rises (sym (places_are s claims)) (shifted (places claims) h)
   where
     shifted : (xs : List ℕ) → Rises xs → Rises (map (λ k. s + k) xs)
@@ -62,16 +62,16 @@ rises_of s claims h = subst Rises (sym (places_are s claims)) (shifted (places c
     shifted (x ∷ xs) h = (All-map (λ y. s + x < y) (λ k. s + k) xs (All-weaker (λ y. x < y) (λ y. s + x < s + y) (λ y lt. omega arith) xs h.0), shifted xs h.1)
 
 pub closes : (start all : List Entry) (claims : List (ℕ × Entry)) (history : List Entry) (lists : List (List Receipt))
-    → history ≡ start ++ all → All (Stands all) claims → ((p : ℕ) → times p (places claims) ≡ times p (numbers (length all)))
-    → joined lists ≡ map (receipt_of (length start)) claims → All (λ rs. Rises (places_of rs)) lists → AreReceipts start history lists
+    → history ≡ start ++ all → All (IsAt all) claims → ((p : ℕ) → times p (places claims) ≡ times p (numbers (length all)))
+    → joined lists ≡ map (receipt_of (length start)) claims → All (λ rs. Rises (indices_of rs)) lists → AreReceipts start history lists
 closes start all claims history lists is stand once joins rise =
     let s = length start in
     let n : length history - s ≡ length all = omega (arith, ap length is, length-append start all) in
     record {
-      stand = subst (All (StandsIn history)) (sym joins)
-          (All-map (StandsIn history) (receipt_of s) claims
-          (All-weaker (Stands all) (λ c. StandsIn history (receipt_of s c)) (λ c h. (c.1, ap (λ l. slice_get l (s + c.0)) is ∙ (get_after start all c.0 ∙ h), (refl, refl))) claims stand));
+      stand = subst (All (IsIn history)) (sym joins)
+          (All-map (IsIn history) (receipt_of s) claims
+          (All-weaker (IsAt all) (λ c. IsIn history (receipt_of s c)) (λ c h. (c.1, ap (λ l. slice_get l (s + c.0)) is ∙ (get_after start all c.0 ∙ h), (refl, refl))) claims stand));
       rise = rise;
-      once = λ p. ap (λ rs. times p (places_of rs)) joins
+      once = λ p. ap (λ rs. times p (indices_of rs)) joins
           ∙ (ap (times p) (places_are s claims) ∙ (times_shift s (places claims) (numbers (length all)) once p ∙ ap (λ k. times p (map (λ j. s + j) (numbers k))) (sym n)));
     }

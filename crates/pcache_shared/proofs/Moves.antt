@@ -8,7 +8,7 @@ use lib.ListN.{get_elem?}
 use Rattle.atomic_table.specs.Table.{Me, State, Step, keeps, Allows, Splits, Joins}
 use Rattle.atomic_table.proofs.Lists.{at_set, at_snoc, set_again}
 use Rattle.pcache_shared.specs.declared.view.View.{View}
-use Rattle.pcache_shared.specs.Views.{IsKeeper, IsSlip, slip_of, one_if, times, numbers, whole, places, keeper, slip, nobody, Stands, Fits, Kept, added, Adds, Settles, both, relieved}
+use Rattle.pcache_shared.specs.Views.{IsKeeper, IsSlip, slip_of, one_if, times, numbers, whole, places, keeper, slip, nobody, IsAt, Fits, Kept, added, Adds, Settles, both, relieved}
 use Rattle.pcache_shared.proofs.Lists.{total_append, total_set, total_lone, get_front, get_last, get_below, times_append}
 
 off : false ≡ true → ⊥
@@ -47,7 +47,7 @@ module _ {E : Type 0} where
   begins = (0, [], one, omega arith, λ p. refl)
     where
       one : (by : ℕ) (v : View E) → get_elem? (keeper {E = E} whole [] [] ∷ []) by ≡ some v → Fits 0 [] by v
-      one zero v e = subst (Fits 0 [] 0) (some-injective _ _ e) ((λ _. (refl, refl)), All-nil (Stands []), λ _. refl)
+      one zero v e = subst (Fits 0 [] 0) (some-injective _ _ e) ((λ _. (refl, refl)), All-nil (IsAt []), λ _. refl)
       one (suc by) v e = absurd (some-ne-none v (sym e))
 
   length_snoc : (xs : List E) (x : E) → length (xs ++ x ∷ []) ≡ suc (length xs)
@@ -68,8 +68,8 @@ module _ {E : Type 0} where
         fits_set h.0 log views by w
             (λ j u apart there.
             let f = h.2 j u there in
-            ((λ k. absurd (apart ((f.0 k).0 ∙ sym here.0))), All-weaker (Stands h.1) (Stands log) (λ c. get_front h.1 (e ∷ []) c.0 c.1) u.claims f.1, f.2))
-            ((λ _. (here.0, ap (λ l. l ++ e ∷ []) here.1)), All-push (Stands log) claims (length all, e) (All-weaker (Stands h.1) (Stands log) (λ c. get_front h.1 (e ∷ []) c.0 c.1) claims mine.1) newest, λ none. absurd (omega arith)),
+            ((λ k. absurd (apart ((f.0 k).0 ∙ sym here.0))), All-weaker (IsAt h.1) (IsAt log) (λ c. get_front h.1 (e ∷ []) c.0 c.1) u.claims f.1, f.2))
+            ((λ _. (here.0, ap (λ l. l ++ e ∷ []) here.1)), All-push (IsAt log) claims (length all, e) (All-weaker (IsAt h.1) (IsAt log) (λ c. get_front h.1 (e ∷ []) c.0 c.1) claims mine.1) newest, λ none. absurd (omega arith)),
         (let s = total_set parts_of views by v w at in let p = h.3 in omega arith),
         λ p.
             let s = total_set (claimed p) views by v w at in
@@ -89,7 +89,7 @@ module _ {E : Type 0} where
         keeps,
         tt,
         subst (λ (o : Option E). Kept (set state.views by (added v o))) (sym said) (add_keeps by parts all claims e state.views some_part h at),
-        (refl, All-weaker (Stands h.1) (λ c. c.0 < length all) (λ c stands. subst (λ (l : List E). c.0 < length l) (sym here.1) (get_below h.1 c.0 c.1 stands)) claims mine.1),
+        (refl, All-weaker (IsAt h.1) (λ c. c.0 < length all) (λ c stands. subst (λ (l : List E). c.0 < length l) (sym here.1) (get_below h.1 c.0 c.1 stands)) claims mine.1),
       )
 
   pub settles : (by : ℕ) (v : View E) (s : Step E) (slots word : ℕ) (f : ℕ → ℕ) → v.keeps ≡ true → Allows rule slots by (v, []) word f (Settles s (v, []))
@@ -103,7 +103,7 @@ module _ {E : Type 0} where
         (
           refl,
           λ all_parts. (
-            subst (λ (l : List E). All (Stands l) v.claims) (sym here.1) mine.1,
+            subst (λ (l : List E). All (IsAt l) v.claims) (sym here.1) mine.1,
             λ p.
                 sym (total_lone parts_of (claimed p) state.views by v at (h.3 ∙ sym all_parts) (λ j u there idle. ap (λ c. times p (places c)) ((h.2 j u there).2 idle)))
                 ∙ (h.4 p ∙ ap (λ (l : List E). times p (numbers (length l))) (sym here.1)),
@@ -112,7 +112,7 @@ module _ {E : Type 0} where
       )
 
   nobody_fits : (seat : ℕ) (log : List E) (j : ℕ) → Fits seat log j nobody
-  nobody_fits seat log j = ((λ k. absurd (off k)), All-nil (Stands log), λ _. refl)
+  nobody_fits seat log j = ((λ k. absurd (off k)), All-nil (IsAt log), λ _. refl)
 
   -- a share's seat passes all on
   pub moves : (by : ℕ) (claims : List (ℕ × E)) → Splits rule by (slip claims) nobody (slip claims)
@@ -138,7 +138,7 @@ module _ {E : Type 0} where
         h.0,
         h.1,
         fits_snoc h.0 h.1 (set state.views by w) u
-            (fits_set h.0 h.1 state.views by w (λ j x _ there. h.2 j x there) (mine.0, All-nil (Stands h.1), λ _. refl))
+            (fits_set h.0 h.1 state.views by w (λ j x _ there. h.2 j x there) (mine.0, All-nil (IsAt h.1), λ _. refl))
             (λ j. ((λ k. absurd (off k)), mine.1, λ none. absurd (omega arith))),
         (let s = total_set parts_of state.views by v w at in let t = total_append parts_of (set state.views by w) (u ∷ []) in let p = h.3 in omega arith),
         λ p. let s = total_set (claimed p) state.views by v w at in let t = total_append (claimed p) (set state.views by w) (u ∷ []) in let q = h.4 p in omega arith,
@@ -156,7 +156,7 @@ module _ {E : Type 0} where
         h.0,
         h.1,
         fits_set h.0 h.1 (set state.views by w) other nobody
-            (λ j x _ e. fits_set h.0 h.1 state.views by w (λ i y _ e'. h.2 i y e') (mine.0, All-append (Stands h.1) claims theirs mine.1 other_one.1, λ none. absurd (omega arith)) j x e)
+            (λ j x _ e. fits_set h.0 h.1 state.views by w (λ i y _ e'. h.2 i y e') (mine.0, All-append (IsAt h.1) claims theirs mine.1 other_one.1, λ none. absurd (omega arith)) j x e)
             (nobody_fits h.0 h.1 other),
         (let s = total_set parts_of state.views by v w at in let t = total_set parts_of (set state.views by w) other u nobody there in let p = h.3 in omega arith),
         λ p.

@@ -12,4 +12,4 @@ use Rattle.pcache_shared.specs.contracts.share.Share.{the_row}
 abbrev pub ends_added : {E : Type 0} (M : RattleType) (g : mark.Ghosts M.Denot) → MutBor (List Receipt) → Call → Result (Bor Reply) E → Fml
 ends_added M g s call r =
     follows_so (the_row M g) (the_row M g) s.ghost_name none (λ _ _. ⊤)
-    (λ n. MatchResult r (λ reply. (place : ℕ) × (n ≡ s.now ++ (record { place = place; call = call; reply = reply.now }) ∷ [])) (λ _. n ≡ s.now))
+    (λ n. MatchResult r (λ reply. (index : ℕ) × (n ≡ s.now ++ (record { index = index; call = call; reply = reply.now }) ∷ [])) (λ _. n ≡ s.now))

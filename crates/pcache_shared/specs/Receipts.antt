@@ -8,34 +8,34 @@ use Rattle.pcache_shared.specs.Views.{times, numbers, Rises}
 
 -- the receipt of the entry with this number among those added to a history of s entries
 abbrev pub receipt_of : ℕ → ℕ × Entry → Receipt
-receipt_of s c = record { place = s + c.0; call = c.1.call; reply = c.1.reply }
+receipt_of s c = record { index = s + c.0; call = c.1.call; reply = c.1.reply }
 
 -- the entry has the receipt's call and reply
 abbrev pub IsOf : Entry → Receipt → Type 0
 IsOf e r = (e.call ≡ r.call) × (e.reply ≡ r.reply)
 
 -- an entry with the receipt's call and reply is in the history at the receipt's index
-abbrev pub StandsIn : List Entry → Receipt → Type 0
-StandsIn history r = (e : Entry) × (slice_get history r.place ≡ Some e) × IsOf e r
+abbrev pub IsIn : List Entry → Receipt → Type 0
+IsIn history r = (e : Entry) × (slice_get history r.index ≡ Some e) × IsOf e r
 
 -- the lists, one after the other
 abbrev pub joined : {X : Type 0} → List (List X) → List X
 joined [] = []
 joined (x ∷ xs) = x ++ joined xs
 
-abbrev pub places_of : List Receipt → List ℕ
-places_of receipts = map (λ (r : Receipt). r.place) receipts
+abbrev pub indices_of : List Receipt → List ℕ
+indices_of receipts = map (λ (r : Receipt). r.index) receipts
 
 -- the indices of a history of m entries that one of s entries does not have
-abbrev pub places_from : ℕ → ℕ → List ℕ
-places_from s m = map (λ k. s + k) (numbers (m - s))
+abbrev pub indices_from : ℕ → ℕ → List ℕ
+indices_from s m = map (λ k. s + k) (numbers (m - s))
 
 -- the receipts are those of the entries added to the history since the start: each is in it, in a share the indices increase, and
 -- each added index is that of exactly one receipt
 pub record AreReceipts (start history : List Entry) (all : List (List Receipt)) : Type 0 where
-  pub stand : All (StandsIn history) (joined all)
-  pub rise : All (λ rs. Rises (places_of rs)) all
-  pub once : (p : ℕ) → times p (places_of (joined all)) ≡ times p (places_from (length start) (length history))
+  pub stand : All (IsIn history) (joined all)
+  pub rise : All (λ rs. Rises (indices_of rs)) all
+  pub once : (p : ℕ) → times p (indices_of (joined all)) ≡ times p (indices_from (length start) (length history))
 
 -- the world has the old history and perhaps more entries, with the same entries at the start and the same limits
 pub record HasGrown (old new : Log) : Type 0 where
@@ -45,5 +45,5 @@ pub record HasGrown (old new : Log) : Type 0 where
   pub limits : new.limits ≡ old.limits
 
 -- `Holds` holds of the state that the world has reached, by calls that make a legal history
-abbrev pub IsTold : Log → (Log → Type 0) → Type 0
-IsTold opened Holds = (log : Log) × HasLegal log × HasGrown opened log × Holds log
+abbrev pub HasReached : Log → (Log → Type 0) → Type 0
+HasReached opened Holds = (log : Log) × HasLegal log × HasGrown opened log × Holds log

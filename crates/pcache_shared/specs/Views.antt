@@ -48,12 +48,12 @@ module _ {E : Type 0} where
   abbrev pub nobody : View E
   nobody = record { keeps = false; all = []; parts = 0; claims = [] }
 
-  abbrev pub Stands : List E → ℕ × E → Type 0
-  Stands log c = slice_get log c.0 ≡ Some c.1
+  abbrev pub IsAt : List E → ℕ × E → Type 0
+  IsAt log c = slice_get log c.0 ≡ Some c.1
 
   -- what the rule says of one view
   abbrev pub Fits : ℕ → List E → ℕ → View E → Type 0
-  Fits seat log by v = (v.keeps ≡ true → (by ≡ seat) × (v.all ≡ log)) × All (Stands log) v.claims × (v.parts ≡ 0 → v.claims ≡ [])
+  Fits seat log by v = (v.keeps ≡ true → (by ≡ seat) × (v.all ≡ log)) × All (IsAt log) v.claims × (v.parts ≡ 0 → v.claims ≡ [])
 
   -- at most one view keeps the log; each claim is in it, and each index of it is claimed once; a view with no part claims nothing
   abbrev pub Kept : List (View E) → Type 0
@@ -73,7 +73,7 @@ module _ {E : Type 0} where
 
   -- with all parts: the claims are in the log, one at each index
   abbrev pub Settles : Step E → Me E (View E) → ℕ → Me E (View E) → Type 0
-  Settles s v found w = (w ≡ v) × (v.0.parts ≡ whole → All (Stands v.0.all) v.0.claims × ((p : ℕ) → times p (places v.0.claims) ≡ times p (numbers (length v.0.all))))
+  Settles s v found w = (w ≡ v) × (v.0.parts ≡ whole → All (IsAt v.0.all) v.0.claims × ((p : ℕ) → times p (places v.0.claims) ≡ times p (numbers (length v.0.all))))
 
   abbrev pub both : View E → View E → View E
   both v w = record { keeps = v.keeps; all = v.all; parts = v.parts + w.parts; claims = v.claims ++ w.claims }

@@ -4,7 +4,7 @@ ghost use Rattle.std.specs.List.{All};
 ghost use Rattle.pcache_base.specs.declared.error.ErrorType.TheVariants.{OutOfMemory};
 ghost use Rattle.pcache_history.specs.Log.{Adds, HasLegal, events_in};
 ghost use Rattle.pcache_history.specs.declared.entry.Entry.{Entry};
-ghost use Rattle.pcache_shared.specs.Receipts.{HasGrown, IsOf, IsTold};
+ghost use Rattle.pcache_shared.specs.Receipts.{HasGrown, IsOf, HasReached};
 ghost use Rattle.pcache_shared.specs.Views.{IsSlip, slip};
 
 use crate::mark::Mark;
@@ -47,7 +47,7 @@ impl<M: EvictionManager, P: PutPolicy, K: Mark> Desk<M, P, K> {
 
     /// The sum of the lengths of the complete bodies.
     pub(crate) fn stored_bytes(&self) -> u128
-        ensures value { IsTold K.opened.log (λ log. result ≡ stored (events_in log)) }
+        ensures value { HasReached K.opened.log (λ log. result ≡ stored (events_in log)) }
         ensures within { result ≤ K.opened.log.limits.weight }
     {
         // For the prover: the contract of the call says what is promised of the history.
@@ -57,7 +57,7 @@ impl<M: EvictionManager, P: PutPolicy, K: Mark> Desk<M, P, K> {
 
     /// The number of complete bodies.
     pub(crate) fn slots(&self) -> usize
-        ensures value { IsTold K.opened.log (λ log. result ≡ slots (events_in log)) }
+        ensures value { HasReached K.opened.log (λ log. result ≡ slots (events_in log)) }
         ensures within { IfSome K.opened.log.limits.watermark (λ most. result ≤ most) }
     {
         // For the prover: the contract of the call says what is promised of the history.
@@ -79,20 +79,20 @@ impl<M: EvictionManager, P: PutPolicy, K: Mark> Desk<M, P, K> {
         ensures kept { seat.new.table_id ≡ K.opened.table }
         ensures world { IfOk result (λ r. Adds self.old call r.reply self.new) }
         ensures same { OnErr result (self.new ≡ self.old) }
-        ensures ok { IfOk result (λ r. (r.call ≡ call) × ((n : ℕ) × ((e : Entry) × (IsOf e r) × (r.place ≡ length K.opened.log.history + n) × (seat.new.me ≡ (slip (seat.old.me.0.claims ++ (n, e) ∷ []), [])) × All (λ c. c.0 < n) seat.old.me.0.claims))) }
+        ensures ok { IfOk result (λ r. (r.call ≡ call) × ((n : ℕ) × ((e : Entry) × (IsOf e r) × (r.index ≡ length K.opened.log.history + n) × (seat.new.me ≡ (slip (seat.old.me.0.claims ++ (n, e) ∷ []), [])) × All (λ c. c.0 < n) seat.old.me.0.claims))) }
         ensures err { OnErr result (seat.new.me ≡ seat.old.me) }
         ensures kind { IfErr result (λ e. e ≡ OutOfMemory) }
     {
-        let place = self.world.history().len();
+        let index = self.world.history().len();
         let reply = self.world.step(call)?;
         let moved = room.shared.split_seat::<Moving>(seat);
         room.shared.join_seat::<Dealing>(&mut self.keeper, moved);
-        let entry = entry_at(&self.world, place);
+        let entry = entry_at(&self.world, index);
         room.shared
             .compare_exchange_with::<Adding>(&mut self.keeper, 0, 0, 0, entry);
         *seat = room.shared.split_seat::<Dealing>(&mut self.keeper);
         Ok(Receipt {
-            place,
+            index,
             call: copy,
             reply,
         })
@@ -100,9 +100,9 @@ impl<M: EvictionManager, P: PutPolicy, K: Mark> Desk<M, P, K> {
 }
 
 // The entry of a history at an index.
-fn entry_at<M: EvictionManager, P: PutPolicy>(world: &World<M, P>, place: usize) -> &Entry
-    requires { place < length world.now.history }
-    ensures { slice_get world.now.history place ≡ Some result.now }
+fn entry_at<M: EvictionManager, P: PutPolicy>(world: &World<M, P>, index: usize) -> &Entry
+    requires { index < length world.now.history }
+    ensures { slice_get world.now.history index ≡ Some result.now }
 {
-    &world.history()[place]
+    &world.history()[index]
 }

@@ -6,7 +6,7 @@ use pingora_cache::world::call::{Call, Reply};
 #[derive(Drop)]
 pub struct Receipt {
     /// The index of its entry in the history; the first call of a world has index 0.
-    pub place: usize,
+    pub index: usize,
     /// The call.
     pub call: Call,
     /// Its reply.

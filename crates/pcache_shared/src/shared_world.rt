@@ -36,7 +36,7 @@ impl<M: EvictionManager, P: PutPolicy, K: Mark> SharedWorld<M, P, K> {
     ghost use Rattle.pcache_history.specs.Events.{slots, stored};
     ghost use Rattle.pcache_history.specs.Log.{HasLegal, events_in};
     ghost use Rattle.pcache_shared.specs.Lends.{ends_added};
-    ghost use Rattle.pcache_shared.specs.Receipts.{AreReceipts, HasGrown, IsTold};
+    ghost use Rattle.pcache_shared.specs.Receipts.{AreReceipts, HasGrown, HasReached};
     ghost use Rattle.pcache_shared.specs.Views.{keeper, whole};
 
     /// The world under its lock, and its shares, which have made no calls. The mark names what was
@@ -108,7 +108,7 @@ impl<M: EvictionManager, P: PutPolicy, K: Mark> SharedWorld<M, P, K> {
     /// The sum of the lengths of the complete bodies, as it is between two calls: at most the
     /// manager's limit on weight.
     pub fn stored_bytes<R: Wait>(&self, rt: &R) -> u128
-        ensures value { IsTold K.opened.log (λ log. result ≡ stored (events_in log)) }
+        ensures value { HasReached K.opened.log (λ log. result ≡ stored (events_in log)) }
         ensures within { result ≤ K.opened.log.limits.weight }
     {
         self.desk.lock(rt).stored_bytes()
@@ -117,7 +117,7 @@ impl<M: EvictionManager, P: PutPolicy, K: Mark> SharedWorld<M, P, K> {
     /// The number of complete bodies, as it is between two calls: at most the manager's watermark,
     /// if it has one.
     pub fn slots<R: Wait>(&self, rt: &R) -> usize
-        ensures value { IsTold K.opened.log (λ log. result ≡ slots (events_in log)) }
+        ensures value { HasReached K.opened.log (λ log. result ≡ slots (events_in log)) }
         ensures within { IfSome K.opened.log.limits.watermark (λ most. result ≤ most) }
     {
         self.desk.lock(rt).slots()

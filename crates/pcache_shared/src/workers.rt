@@ -24,7 +24,7 @@ pub trait Gate {
     fn left(&self, worker: usize, index: usize);
 }
 
-/// Runs each script in a thread of its own, with the share at its place, and returns when all have
+/// Runs each script in a thread of its own, with the share at its index, and returns when all have
 /// ended. A worker for whose call memory was refused stops there; that is answered at the end, and
 /// what was called stands in the shares. It is refused only so, or before anything is called.
 pub fn run_workers<

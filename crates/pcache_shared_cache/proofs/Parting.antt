@@ -6,7 +6,7 @@ use Rattle.std.proofs.lemmas.List.Elements.{All-push}
 use Rattle.pcache_cache.specs.Parts.{Parts}
 use Rattle.pcache_evict.specs.Tracked.{Limits}
 use Rattle.pcache_shared_cache.specs.Managed.{Managed, managed}
-use Rattle.pcache_shared_cache.specs.Shared.{Held, InParts}
+use Rattle.pcache_shared_cache.specs.Shared.{OfPart, InParts}
 use Rattle.pcache_shared_cache.proofs.Together.{Kept}
 
 -- these are the managers of the first parts, and this is left
@@ -16,7 +16,7 @@ HandedOut limits rest out = (ps : List Parts) × (map (λ (p : Parts). p.limits)
 pub out-none : (limits : List Limits) (out : List Managed) → out ≡ [] → HandedOut limits limits out
 out-none limits out is = ([], refl, (λ k d lt. absurd (omega arith)), is)
 
-pub out-more : (limits rest : List Limits) (l : Limits) (out : List Managed) (m : Managed) → HandedOut limits (l ∷ rest) out → Held l (λ p. m ≡ managed p) → HandedOut limits rest (out ++ m ∷ [])
+pub out-more : (limits rest : List Limits) (l : Limits) (out : List Managed) (m : Managed) → HandedOut limits (l ∷ rest) out → OfPart l (λ p. m ≡ managed p) → HandedOut limits rest (out ++ m ∷ [])
 out-more limits rest l out m h part =
     let ps = h.0 in
     let p = part.0 in (

@@ -9,7 +9,7 @@ use Rattle.pcache_evict.specs.Tracked.{Limits}
 use Rattle.pcache_cache.specs.Parts.{Parts, IsKept}
 use Rattle.pcache_store.specs.Totals.{slots, stored_bytes}
 use Rattle.pcache_shared_cache.specs.Portions.{added_watermark, portion, portion_at, portions, whole_watermark, whole_weight}
-use Rattle.pcache_shared_cache.specs.Shared.{Held}
+use Rattle.pcache_shared_cache.specs.Shared.{OfPart}
 use Rattle.pcache_shared_cache.proofs.Adding.{add_up}
 
 abbrev pub Kept : Parts → Type 0
@@ -32,7 +32,7 @@ Told limits i of total =
 pub told-none : (limits : List Limits) (of : Parts → ℕ) → Told limits 0 of 0
 told-none limits of = (([], refl, (λ k d lt. absurd (omega arith)), refl), omega arith)
 
-pub told-more : (limits : List Limits) (i : ℕ) (of : Parts → ℕ) (total n : ℕ) (l : Limits) → i < length limits → l ≡ slice_index_or limits i l → n < 2 ^ 64 → Told limits i of total → Held l (λ p. n ≡ of p) → Told limits (i + 1) of (total + n)
+pub told-more : (limits : List Limits) (i : ℕ) (of : Parts → ℕ) (total n : ℕ) (l : Limits) → i < length limits → l ≡ slice_index_or limits i l → n < 2 ^ 64 → Told limits i of total → OfPart l (λ p. n ≡ of p) → Told limits (i + 1) of (total + n)
 told-more limits i of total n l lt at small t h =
     let ps = t.0.0 in
     let more : map (λ (p : Parts). p.limits) (ps ++ h.0 ∷ []) ≡ take (i + 1) limits =

@@ -16,12 +16,12 @@ pub record SeatedPermit : Type 0 where
   pub permit : WritePermit
 
 -- P holds of the state that a part with these limits has while a call has it, which has the invariant of caches
-abbrev pub Held : Limits → (Parts → Type 0) → Type 0
-Held limits P = (p : Parts) × (p.limits ≡ limits) × IsKept p.limits p.tracked p.store × P p
+abbrev pub OfPart : Limits → (Parts → Type 0) → Type 0
+OfPart limits P = (p : Parts) × (p.limits ≡ limits) × IsKept p.limits p.tracked p.store × P p
 
 -- the same, for the part at a place
 abbrev pub InPart : List Limits → ℕ → (Parts → Type 0) → Type 0
-InPart limits place P = (l : Limits) × (slice_get limits place ≡ Some l) × Held l P
+InPart limits place P = (l : Limits) × (slice_get limits place ≡ Some l) × OfPart l P
 
 -- P holds of the states of the part at a place before a call and after it
 abbrev pub MovesPart : List Limits → ℕ → (Parts → Parts → Type 0) → Type 0

@@ -14,7 +14,7 @@ impl<M: EvictionManager, K, const N: usize> SharedCache<M, K, N> {
     ghost use Rattle.pcache_put.specs.Progress.{HasFailed};
     ghost use Rattle.pcache_put_ctx.specs.Puts.{IsResult, Piece};
     ghost use Rattle.pcache_put_ctx.specs.State.{Filled, HasTaken, limit_of, write_in};
-    ghost use Rattle.pcache_put_ctx.specs.Steps.{Done, EndsAs, MayRefusePiece, RepeatsAnswer, StandsAnswered, TakesPiece, TellsResult};
+    ghost use Rattle.pcache_put_ctx.specs.Steps.{Done, EndsAs, MayFailPiece, RepeatsResult, IsStageAfter, TakesPiece, TellsResult};
     ghost use Rattle.pcache_request.specs.Requests.{dropped_by};
     ghost use Rattle.pcache_cache.specs.OwnPut.{EndsOwnPut, MayEndPut};
     ghost use Rattle.pcache_shared_cache.specs.Shared.{InPart, MovesPart};
@@ -29,10 +29,10 @@ impl<M: EvictionManager, K, const N: usize> SharedCache<M, K, N> {
         now: Moment,
     ) -> Result<Option<NoCacheReason>>
         ensures step { (d : Done) × TakesPiece (C.says put.old.put.policy) put.old.put put.new.put (record { bytes = piece.now; now = now }) d }
-        ensures stands { StandsAnswered result put.new.put.stage }
-        ensures again { RepeatsAnswer put.old.put.stage result }
+        ensures stands { IsStageAfter result put.new.put.stage }
+        ensures again { RepeatsResult put.old.put.stage result }
         ensures kind { InPart self.now put.old.place (λ p.
-            IfErr result (λ e. MayRefusePiece put.old.put.stage p.store e ⊎ (put.old.put.parser ≡ HasFailed e))) }
+            IfErr result (λ e. MayFailPiece put.old.put.stage p.store e ⊎ (put.old.put.parser ≡ HasFailed e))) }
         ensures place { put.new.place ≡ put.old.place }
     {
         let read = put.read_piece(piece, now);

@@ -16,7 +16,7 @@ impl<M: EvictionManager, K, const N: usize> SharedCache<M, K, N> {
     ghost use Rattle.pcache_request.specs.WriteEnds.{Ends, EndsAs, finishes_of};
     ghost use Rattle.pcache_store.specs.Finishes.{created};
     ghost use Rattle.pcache_store.specs.Readers.{in_memory};
-    ghost use Rattle.pcache_store.specs.Refusals.{MayRefuseWrite};
+    ghost use Rattle.pcache_store.specs.Refusals.{MayFailWrite};
     ghost use Rattle.pcache_cache.specs.Parts.{MayEnd, takes_bytes};
     ghost use Rattle.pcache_shared_cache.specs.Shared.{InPart, MovesPart};
 
@@ -26,7 +26,7 @@ impl<M: EvictionManager, K, const N: usize> SharedCache<M, K, N> {
         requires { MayWrite request.old.cache }
         ensures begins { InPart self.now request.old.place (λ p.
             OnOk result (request.new.cache ≡ writing true p.store.next (Some p.store.next) (begun_for request.old.cache.key request.old.cache.meta p.store) request.old.cache)) }
-        ensures kind { InPart self.now request.old.place (λ p. IfErr result (λ e. (e ≡ OutOfMemory) ⊎ MayRefuseWrite p.store e)) }
+        ensures kind { InPart self.now request.old.place (λ p. IfErr result (λ e. (e ≡ OutOfMemory) ⊎ MayFailWrite p.store e)) }
         ensures phase { request.new.cache.phase ≡ request.old.cache.phase }
         ensures place { request.new.place ≡ request.old.place }
     {

@@ -20,7 +20,7 @@ impl<M: EvictionManager, K, const N: usize> SharedCache<M, K, N> {
     ghost use Rattle.pcache_lock.specs.declared.lock.status.LockStatus.TheVariants.{GiveUp};
     ghost use Rattle.pcache_request.specs.LockUse.{gone_for, handed, permit_in, read_in, unheld};
     ghost use Rattle.pcache_request.specs.Phases.{IsOn};
-    ghost use Rattle.pcache_request.specs.LockWaits.{wait_answer, waited};
+    ghost use Rattle.pcache_request.specs.LockWaits.{wait_result, waited};
     ghost use Rattle.pcache_request.specs.Releasing.{MayRelease, status_for};
     ghost use Rattle.pcache_request.specs.Reports.{name_of, released_as};
     ghost use Rattle.pcache_shared_cache.specs.Shared.{InPart};
@@ -35,7 +35,7 @@ impl<M: EvictionManager, K, const N: usize> SharedCache<M, K, N> {
     ) -> Result<Poll<LockWaitOutcome>>
         requires { IsSome (read_in request.old.cache.held) }
         ensures waits { InPart self.now request.old.place (λ p.
-            IfOk result (λ a. a ≡ wait_answer p.locks now request.old.cache.held request.old.cache)
+            IfOk result (λ a. a ≡ wait_result p.locks now request.old.cache.held request.old.cache)
             × OnOk result (request.new.cache ≡ waited p.locks now request.old.cache.held request.old.cache)) }
         ensures goes_on { IfOk result (λ a. a ≡ Pending → IsSome (read_in request.new.cache.held)) }
         ensures same { OnErr result (request.new ≡ request.old) }

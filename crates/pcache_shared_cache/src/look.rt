@@ -17,7 +17,7 @@ use std::thread::yield_now;
 impl<M: EvictionManager, K, const N: usize> SharedCache<M, K, N> {
     ghost use Rattle.std.specs.Prelude.{◌≡◌, ◌⊎◌, false, IfOk, IfErr, IfSome, OnOk, OnErr, IsOk, IsSome, IsTrue, None, option_map};
     ghost use Rattle.pcache_base.specs.declared.error.ErrorType.TheVariants.{NumbersExhausted, OutOfMemory};
-    ghost use Rattle.pcache_lock.specs.Locks.{MayRefuseLock};
+    ghost use Rattle.pcache_lock.specs.Locks.{MayFailLock};
     ghost use Rattle.pcache_request.specs.Phases.{IsDisabled, MayFinishHit, MayLookUp};
     ghost use Rattle.pcache_request.specs.Releasing.{MayDisable, disabled_for};
     ghost use Rattle.pcache_request.specs.Reports.{name_of};
@@ -40,7 +40,7 @@ impl<M: EvictionManager, K, const N: usize> SharedCache<M, K, N> {
         ensures looks { InPart self.now request.old.place (λ p.
             IfOk result (λ r. option_map (λ f. (f.0, reader_of f.1)) r ≡ seen_for p.store request.old.cache)
             × OnOk result (request.new.cache ≡ looked_for p.store p.locks request.old.cache)
-            × IfErr result (λ e. MayRefuseLock p.locks e)) }
+            × IfErr result (λ e. MayFailLock p.locks e)) }
         ensures same { OnErr result (request.new ≡ request.old) }
         ensures phase { request.new.cache.phase ≡ request.old.cache.phase }
         ensures uses { request.new.cache.uses ≡ request.old.cache.uses }
@@ -65,7 +65,7 @@ impl<M: EvictionManager, K, const N: usize> SharedCache<M, K, N> {
         requires { MayLookUp request.old.cache.phase }
         ensures takes { InPart self.now request.old.place (λ p.
             OnOk result (request.new.cache ≡ found_row status meta (reader_of hit) p.locks request.old.cache)
-            × IfErr result (λ e. MayRefuseLock p.locks e)) }
+            × IfErr result (λ e. MayFailLock p.locks e)) }
         ensures numbers { IfErr result (λ e. e ≡ NumbersExhausted → IsTrue (asks_for_hit status request.old.cache)) }
         ensures same { OnErr result (request.new ≡ request.old) }
         ensures place { request.new.place ≡ request.old.place }

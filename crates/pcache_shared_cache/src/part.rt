@@ -39,7 +39,7 @@ impl<M: EvictionManager, K> PartLock<M, K> {
     ghost use Rattle.pcache_cache.specs.Parts.{IsKept};
     ghost use Rattle.pcache_store.specs.Totals.{slots, stored_bytes};
     ghost use Rattle.pcache_shared_cache.specs.Managed.{managed};
-    ghost use Rattle.pcache_shared_cache.specs.Shared.{Held};
+    ghost use Rattle.pcache_shared_cache.specs.Shared.{OfPart};
 
     // An empty part.
     pub(crate) fn new(
@@ -90,7 +90,7 @@ impl<M: EvictionManager, K> PartLock<M, K> {
 
     // The part's manager, if it has the limits that stand beside the lock (see the type): it has.
     pub(crate) fn into_portion(self) -> Option<Portion<M>>
-        ensures { IfSome result (λ portion. Held self (λ p. portion ≡ managed p)) }
+        ensures { IfSome result (λ portion. OfPart self (λ p. portion ≡ managed p)) }
     {
         let PartLock {
             limit,
@@ -109,7 +109,7 @@ impl<M: EvictionManager, K> PartLock<M, K> {
 
     // The lengths of the complete bodies, added up.
     pub(crate) fn stored_bytes<R: Wait>(&self, rt: &R) -> usize
-        ensures { Held self.now (λ p. result ≡ stored_bytes p.store) }
+        ensures { OfPart self.now (λ p. result ≡ stored_bytes p.store) }
     {
         let _limit = self.limit; // for the prover: the limit is a `usize`
         self.lock(rt).stored_bytes() as usize
@@ -117,7 +117,7 @@ impl<M: EvictionManager, K> PartLock<M, K> {
 
     // The number of complete bodies.
     pub(crate) fn slots<R: Wait>(&self, rt: &R) -> usize
-        ensures { Held self.now (λ p. result ≡ slots p.store) }
+        ensures { OfPart self.now (λ p. result ≡ slots p.store) }
     {
         self.lock(rt).slots()
     }

@@ -12,7 +12,7 @@ impl<M: EvictionManager, K, const N: usize> SharedCache<M, K, N> {
     ghost use Rattle.pcache_base.specs.declared.error.ErrorType.TheVariants.{OutOfMemory};
     ghost use Rattle.pcache_request.specs.Phases.{MayPurge, MaySpawnPurge};
     ghost use Rattle.pcache_request.specs.Requests.{is_removed_by};
-    ghost use Rattle.pcache_store.specs.Purge.{expire_answer, purge_answer};
+    ghost use Rattle.pcache_store.specs.Purge.{expire_outcome, purge_outcome};
     ghost use Rattle.pcache_shared_cache.specs.Shared.{InPart};
 
     /// `Cache::purge`: removes what is stored for the key, and its entry from the manager. Returns whether anything was stored.
@@ -20,7 +20,7 @@ impl<M: EvictionManager, K, const N: usize> SharedCache<M, K, N> {
     pub fn purge<R: Wait>(&self, rt: &R, request: &mut SharedRequest<K, N>) -> Result<bool>
         requires { MayPurge request.old.cache.phase }
         ensures same { request.new ≡ request.old }
-        ensures there { InPart self.now request.old.place (λ p. IfOk result (λ there. there ≡ is_removed_by (purge_answer true p.store (option_map slot request.old.cache.key)))) }
+        ensures there { InPart self.now request.old.place (λ p. IfOk result (λ there. there ≡ is_removed_by (purge_outcome true p.store (option_map slot request.old.cache.key)))) }
         ensures kind { IfErr result (λ e. e ≡ OutOfMemory) }
     {
         self.part(request.place())
@@ -39,7 +39,7 @@ impl<M: EvictionManager, K, const N: usize> SharedCache<M, K, N> {
     ) -> Result<bool>
         requires { MaySpawnPurge request.old.cache.phase }
         ensures same { request.new ≡ request.old }
-        ensures there { InPart self.now request.old.place (λ p. IfOk result (λ there. there ≡ is_removed_by (purge_answer true p.store (option_map slot request.old.cache.key)))) }
+        ensures there { InPart self.now request.old.place (λ p. IfOk result (λ there. there ≡ is_removed_by (purge_outcome true p.store (option_map slot request.old.cache.key)))) }
         ensures kind { IfErr result (λ e. e ≡ OutOfMemory) }
     {
         self.part(request.place())
@@ -58,7 +58,7 @@ impl<M: EvictionManager, K, const N: usize> SharedCache<M, K, N> {
     ) -> Result<bool>
         requires { MayPurge request.old.cache.phase }
         ensures same { request.new ≡ request.old }
-        ensures there { InPart self.now request.old.place (λ p. IfOk result (λ there. there ≡ is_removed_by (expire_answer p.store (option_map slot request.old.cache.key)))) }
+        ensures there { InPart self.now request.old.place (λ p. IfOk result (λ there. there ≡ is_removed_by (expire_outcome p.store (option_map slot request.old.cache.key)))) }
         ensures kind { IfErr result (λ e. e ≡ OutOfMemory) }
     {
         self.part(request.place())

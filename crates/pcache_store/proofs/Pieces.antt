@@ -33,8 +33,8 @@ settled ps new t b u same last none =
     ap (λ x. concat new ++ x) none ∙ append-nil (concat new) ∙ ap concat last ∙ concat_more ps (b ∷ []) ∙ ap (λ x. concat ps ++ x) (concat_one b ∙ same)
 
 -- one piece of all bytes
-pub joined_all : (ps new : List (List ℕ)) (b text : List ℕ) → b ≡ text → text ≡ concat ps → new ≡ b ∷ [] → concat new ≡ concat ps
-joined_all ps new b text same all is = ap concat is ∙ concat_one b ∙ same ∙ all
+pub added_last_all : (ps new : List (List ℕ)) (b text : List ℕ) → b ≡ text → text ≡ concat ps → new ≡ b ∷ [] → concat new ≡ concat ps
+added_last_all ps new b text same all is = ap concat is ∙ concat_one b ∙ same ∙ all
 
 -- the bytes of a piece and of those behind it
 pub passed : (xs ys : List ℕ) (place : ℕ) → length xs ≤ place → drop place (xs ++ ys) ≡ drop (place - length xs) ys

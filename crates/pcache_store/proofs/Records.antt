@@ -9,18 +9,18 @@ use Rattle.std.proofs.lemmas.Bool.{cases_lt}
 use Rattle.std.proofs.lemmas.Bool.Decides.{nat_tests}
 use Rattle.std.proofs.lemmas.List.{get_or-set_same, length-set, set-get_or}
 use Rattle.std.proofs.lemmas.Map.Lookups.{exact_unsigned}
-use Rattle.pcache_table.specs.Sharding.{all_entries, joined}
+use Rattle.pcache_table.specs.Sharding.{all_entries, one_map}
 use Rattle.pcache_table.proofs.Sharded.{by_test, same_key, off_not, get-insert-at, get-remove-at}
-use Rattle.pcache_store.specs.Store.{Written, is_named, kept, wrote_on, joined_on, left_on, grounded_on}
+use Rattle.pcache_store.specs.Store.{Written, is_named, kept, wrote_on, followed_on, left_on, grounded_on}
 use Rattle.pcache_store.specs.Shards.{parts, table_at, is_of_shard, of_shard, IsPlaceOf, AreRecords}
 use Rattle.pcache_store.proofs.Maps.{insert_len, remove_len}
-use Rattle.pcache_store.specs.Shards.{held}
+use Rattle.pcache_store.specs.Shards.{one_if_some}
 
 abbrev Map : Type 0
 Map = FinMap nat_cmp Written
 
 abbrev all : List Map → Map
-all ms = joined (parts 0 ms)
+all ms = one_map (parts 0 ms)
 
 -- what the tables have at a number: the first of them that has it
 abbrev seen : List Map → ℕ → Option Written
@@ -43,7 +43,7 @@ find-parts (m ∷ ms) i q =
     ∙ ap (option_or (get m q)) (find-parts ms (suc i) q)
 
 get-all : (ms : List Map) (q : ℕ) → get (all ms) q ≡ seen ms q
-unfolding joined
+unfolding one_map
 get-all ms q = get-from_entries nat_cmp_total (all_entries (parts 0 ms)) q ∙ find-parts ms 0 q
 
 or_none : {X : Type 0} (o : Option X) → option_or o None ≡ o
@@ -123,17 +123,17 @@ stands place (Some v) w e = by_place ((v.slot % 16) == place) e
 pub record Changed (ms : List Map) (place number : ℕ) (x after : Map) : Type 0 where
   pub whole : all (slice_set ms place x) ≡ after
   pub own : (i : ℕ) → i < 16 → table_at (slice_set ms place x) i ≡ of_shard i after
-  pub count : len after + held (get (all ms) number) ≡ len (all ms) + held (get x number)
+  pub count : len after + one_if_some (get (all ms) number) ≡ len (all ms) + one_if_some (get x number)
 
 -- the count before is at least that of a number's value
-held-fits : {ms : List Map} {count : ℕ} (number : ℕ) → AreRecords ms count → held (get (all ms) number) ≤ count
+held-fits : {ms : List Map} {count : ℕ} (number : ℕ) → AreRecords ms count → one_if_some (get (all ms) number) ≤ count
 held-fits {ms} number s =
     let less = remove_len (all ms) number in
     let counted = s.counted in
     omega arith
 
 -- what is kept once a table was changed
-kept-changed : {ms : List Map} {count : ℕ} (place number next : ℕ) (x after : Map) → AreRecords ms count → Changed ms place number x after → next + held (get (all ms) number) ≡ count + held (get x number) → next < 2 ^ 63 → AreRecords (slice_set ms place x) next
+kept-changed : {ms : List Map} {count : ℕ} (place number next : ℕ) (x after : Map) → AreRecords ms count → Changed ms place number x after → next + one_if_some (get (all ms) number) ≡ count + one_if_some (get x number) → next < 2 ^ 63 → AreRecords (slice_set ms place x) next
 kept-changed {ms} place number next x after s c sum few =
     let counted = s.counted in
     let changed = c.count in
@@ -199,11 +199,11 @@ module _ {ms : List Map} {count : ℕ} (s : AreRecords ms count) (place number :
         (own-at-number i (eq_by_cmp nat_cmp i place) refl ∙ ap (λ p. cond (is_of_shard i p) p None) (sym next-there)))
         (λ off. own-off-number i q (eq_by_cmp nat_cmp i place) refl off ∙ has i q lt ∙ ap (λ p. cond (is_of_shard i p) p None) (sym (next-off q off)))
 
-    pub changed : len after + held (get (all ms) number) ≡ len (all ms) + held o → Changed ms place number x after
+    pub changed : len after + one_if_some (get (all ms) number) ≡ len (all ms) + one_if_some o → Changed ms place number x after
     changed sum = record {
       whole = same_map nat_cmp_total exact_unsigned _ _ whole-at;
       own = λ i lt. same_map nat_cmp_total exact_unsigned _ _ (λ q. own-at i q lt ∙ sym (get-of_shard after i q));
-      count = subst (λ p. len after + held (get (all ms) number) ≡ len (all ms) + held p) (sym now-there) sum;
+      count = subst (λ p. len after + one_if_some (get (all ms) number) ≡ len (all ms) + one_if_some p) (sym now-there) sum;
     }
 
   -- the table of a number, by its place
@@ -249,7 +249,7 @@ module _ {ms : List Map} {count : ℕ} (s : AreRecords ms count) (place number :
     same-at : Changed ms place number (table_at ms place) (all ms)
     same-at =
         let same = set-get_or ms place empty in
-        let there : held (get (table_at ms place) number) ≡ held (get (all ms) number) = ap held at-place in
+        let there : one_if_some (get (table_at ms place) number) ≡ one_if_some (get (all ms) number) = ap one_if_some at-place in
         record { whole = ap all same; own = subst (λ x. (i : ℕ) → i < 16 → table_at x i ≡ of_shard i (all ms)) (sym same) s.own; count = omega arith }
 
     -- a change of the record of a number, if there is one
@@ -280,8 +280,8 @@ module _ {ms : List Map} {count : ℕ} (s : AreRecords ms count) (place number :
       pub changed-wrote : (bytes : List ℕ) (eof : Bool) → Changed ms place number (wrote_on (slice_index_or ms place d) number bytes eof (get (slice_index_or ms place d) number)) (wrote_on (all ms) number bytes eof (get (all ms) number))
       changed-wrote bytes eof = over (λ m. wrote_on m number bytes eof (get m number)) _ (by_record (λ m o. wrote_on m number bytes eof o) refl refl (λ w may. insert-at (record w { bytes = w.bytes ++ bytes; told = eof }) may))
 
-      pub changed-joined : Changed ms place number (joined_on (slice_index_or ms place d) number (get (slice_index_or ms place d) number)) (joined_on (all ms) number (get (all ms) number))
-      changed-joined = over (λ m. joined_on m number (get m number)) _ (by_record (λ m o. joined_on m number o) refl refl (λ w may. insert-at (record w { readers = w.readers + 1 }) may))
+      pub changed-joined : Changed ms place number (followed_on (slice_index_or ms place d) number (get (slice_index_or ms place d) number)) (followed_on (all ms) number (get (all ms) number))
+      changed-joined = over (λ m. followed_on m number (get m number)) _ (by_record (λ m o. followed_on m number o) refl refl (λ w may. insert-at (record w { readers = w.readers + 1 }) may))
 
       pub changed-left : Changed ms place number (left_on (slice_index_or ms place d) number (get (slice_index_or ms place d) number)) (left_on (all ms) number (get (all ms) number))
       changed-left = over (λ m. left_on m number (get m number)) _ (by_record (λ m o. left_on m number o) refl refl (λ w may. kept-at (record w { readers = w.readers - 1 }) may))
@@ -289,20 +289,20 @@ module _ {ms : List Map} {count : ℕ} (s : AreRecords ms count) (place number :
       pub changed-landed : Changed ms place number (grounded_on (slice_index_or ms place d) number (get (slice_index_or ms place d) number)) (grounded_on (all ms) number (get (all ms) number))
       changed-landed = over (λ m. grounded_on m number (get m number)) _ (by_record (λ m o. grounded_on m number o) refl refl (λ w may. kept-at (record w { flying = false }) may))
 
-      pub fits : held (get (slice_index_or ms place d) number) ≤ count
-      fits = subst (λ n. n ≤ count) (sym (ap held here)) (held-fits number s)
+      pub fits : one_if_some (get (slice_index_or ms place d) number) ≤ count
+      fits = subst (λ n. n ≤ count) (sym (ap one_if_some here)) (held-fits number s)
 
       -- the number of records, if a call takes some out, and if none goes
-      pub kept-gone : (gone : ℕ) {x after : Map} (y : Map) → Changed ms place number x after → y ≡ x → held (get y number) + gone ≡ held (get (slice_index_or ms place d) number) → AreRecords (slice_set ms place y) (count - gone)
+      pub kept-gone : (gone : ℕ) {x after : Map} (y : Map) → Changed ms place number x after → y ≡ x → one_if_some (get y number) + gone ≡ one_if_some (get (slice_index_or ms place d) number) → AreRecords (slice_set ms place y) (count - gone)
       kept-gone gone {x} {after} y c e sum =
-          let same : held (get (slice_index_or ms place d) number) ≡ held (get (all ms) number) = ap held here in
+          let same : one_if_some (get (slice_index_or ms place d) number) ≡ one_if_some (get (all ms) number) = ap one_if_some here in
           let enough = fits in
           let few = s.few in
           kept-changed place number _ y after s (subst (λ m. Changed ms place number m after) (sym e) c) (omega arith) (omega arith)
 
-      pub kept-still : (x after : Map) → Changed ms place number x after → held (get x number) ≡ held (get (slice_index_or ms place d) number) → AreRecords (slice_set ms place x) count
+      pub kept-still : (x after : Map) → Changed ms place number x after → one_if_some (get x number) ≡ one_if_some (get (slice_index_or ms place d) number) → AreRecords (slice_set ms place x) count
       kept-still x after c still =
-          let same : held (get (slice_index_or ms place d) number) ≡ held (get (all ms) number) = ap held here in
+          let same : one_if_some (get (slice_index_or ms place d) number) ≡ one_if_some (get (all ms) number) = ap one_if_some here in
           kept-changed place number count x after s c (omega arith) s.few
 
   -- a number that no table has
@@ -317,19 +317,19 @@ module _ {ms : List Map} {count : ℕ} (s : AreRecords ms count) (place number :
 
   pub kept-new : get (all ms) number ≡ None → (d : Map) (v : Written) → v.slot % 16 ≡ place → count + 1 < 2 ^ 63 → AreRecords (slice_set ms place (insert (slice_index_or ms place d) number v)) (count + 1)
   kept-new none d v may few =
-      let was : held (get (all ms) number) ≡ 0 = ap held none in
-      let now : held (get (insert (slice_index_or ms place d) number v) number) ≡ 1 = ap held (get-insert-at (slice_index_or ms place d) number v) in
+      let was : one_if_some (get (all ms) number) ≡ 0 = ap one_if_some none in
+      let now : one_if_some (get (insert (slice_index_or ms place d) number v) number) ≡ 1 = ap one_if_some (get-insert-at (slice_index_or ms place d) number v) in
       kept-changed place number (count + 1) _ _ s (changed-new none d v may) (omega arith) few
 
 -- which calls leave a number where it is
-pub held-wrote : (m : Map) (n : ℕ) (bytes : List ℕ) (eof : Bool) → held (get (wrote_on m n bytes eof (get m n)) n) ≡ held (get m n)
-held-wrote m n bytes eof = elim (get m n) as (λ o. get m n ≡ o → held (get (wrote_on m n bytes eof o) n) ≡ held o) [ None ↦ λ e. ap held e | Some w ↦ λ e. ap held (get-insert-at m n _) ] refl
+pub held-wrote : (m : Map) (n : ℕ) (bytes : List ℕ) (eof : Bool) → one_if_some (get (wrote_on m n bytes eof (get m n)) n) ≡ one_if_some (get m n)
+held-wrote m n bytes eof = elim (get m n) as (λ o. get m n ≡ o → one_if_some (get (wrote_on m n bytes eof o) n) ≡ one_if_some o) [ None ↦ λ e. ap one_if_some e | Some w ↦ λ e. ap one_if_some (get-insert-at m n _) ] refl
 
-pub held-joined : (m : Map) (n : ℕ) → held (get (joined_on m n (get m n)) n) ≡ held (get m n)
-held-joined m n = elim (get m n) as (λ o. get m n ≡ o → held (get (joined_on m n o) n) ≡ held o) [ None ↦ λ e. ap held e | Some w ↦ λ e. ap held (get-insert-at m n _) ] refl
+pub held-joined : (m : Map) (n : ℕ) → one_if_some (get (followed_on m n (get m n)) n) ≡ one_if_some (get m n)
+held-joined m n = elim (get m n) as (λ o. get m n ≡ o → one_if_some (get (followed_on m n o) n) ≡ one_if_some o) [ None ↦ λ e. ap one_if_some e | Some w ↦ λ e. ap one_if_some (get-insert-at m n _) ] refl
 
-pub held-gone : (m : Map) (n : ℕ) → held (get (remove m n) n) ≡ 0
-held-gone m n = ap held (get-remove-at m n)
+pub held-gone : (m : Map) (n : ℕ) → one_if_some (get (remove m n) n) ≡ 0
+held-gone m n = ap one_if_some (get-remove-at m n)
 
 -- tables that were just made
 made : (ms : List Map) → length ms ≡ 16 → ((i : ℕ) (e : Map) → i < 16 → slice_index_or ms i e ≡ empty) → (i : ℕ) → table_at ms i ≡ empty

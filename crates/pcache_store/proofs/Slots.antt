@@ -4,7 +4,7 @@ use Rattle.std.specs.Ordering.{nat_cmp}
 use Rattle.std.specs.FinMap.{FinMap, get, insert, remove}
 use Rattle.pcache_meta.specs.Meta.{Meta}
 use Rattle.pcache_table.proofs.Sharded.{get-insert-at, get-remove-at}
-use Rattle.pcache_store.specs.Shards.{held}
+use Rattle.pcache_store.specs.Shards.{one_if_some}
 use Rattle.pcache_store.proofs.Maps.{insert_same, remove-insert}
 use Rattle.pcache_store.specs.Store.{Slot, Stored, is_idle, with_slot, opened_in, opened, slot_or_new, shut_on, slot_without, write_gone_on, stored_on, with_meta, meta_changed_in, meta_changed_on}
 
@@ -36,10 +36,10 @@ module _ (xs : FinMap nat_cmp Slot) (k : ℕ) (x v : Slot) (m : FinMap nat_cmp S
   found : Some v ≡ get m k
   found = sym (ap (λ x. get x k) set ∙ get-insert-at xs k v)
 
-  pub one_stays : held (get m k) + 0 ≡ held (get xs k)
+  pub one_stays : one_if_some (get m k) + 0 ≡ one_if_some (get xs k)
   one_stays = rw (← is, ← found) refl
 
-  pub one_goes : (r : FinMap nat_cmp Slot) → r ≡ remove m k → held (get r k) + 1 ≡ held (get xs k)
+  pub one_goes : (r : FinMap nat_cmp Slot) → r ≡ remove m k → one_if_some (get r k) + 1 ≡ one_if_some (get xs k)
   one_goes r out = rw (← is, out, get-remove-at m k) refl
 
   pub stored_there : (n : ℕ) (b : Stored) → v ≡ record { body = Some b; untouched = remove x.untouched n } → m ≡ stored_on xs k n b (get xs k)

@@ -5,16 +5,16 @@ use Rattle.std.specs.Cmp.{nat_cmp_total, tied_itself}
 use Rattle.std.proofs.lemmas.Bool.Decides.{nat_tests}
 use Rattle.std.specs.FinMap.{FinMap, empty, get-empty, gets, get, insert, remove, get-insert}
 use Rattle.pcache_store.proofs.Maps.{insert_same, undone, remove-insert}
-use Rattle.pcache_store.specs.Store.{Written, Stored, kept, is_named, wrote_on, joined_on, left_on, grounded_on}
+use Rattle.pcache_store.specs.Store.{Written, Stored, kept, is_named, wrote_on, followed_on, left_on, grounded_on}
 use Rattle.pcache_table.proofs.Sharded.{get-remove-at}
-use Rattle.pcache_store.specs.Shards.{held}
+use Rattle.pcache_store.specs.Shards.{one_if_some}
 use Rattle.pcache_store.specs.Drafts.{Numbered, AreBefore, IsBodyOf}
 
 module _ (ws : FinMap nat_cmp Written) (n : ℕ) (w v : Written) (m : FinMap nat_cmp Written) (is : Some w ≡ get ws n) (set : m ≡ insert ws n v) where
   pub wrote_there : (bytes : List ℕ) (eof : Bool) → v ≡ record w { bytes = w.bytes ++ bytes; told = eof } → m ≡ wrote_on ws n bytes eof (get ws n)
   wrote_there bytes eof e = rw (← is, set, e) refl
 
-  pub joined_there : v ≡ record w { readers = w.readers + 1 } → m ≡ joined_on ws n (get ws n)
+  pub joined_there : v ≡ record w { readers = w.readers + 1 } → m ≡ followed_on ws n (get ws n)
   joined_there e = rw (← is, set, e) refl
 
   pub same_there : v ≡ w → m ≡ ws
@@ -43,10 +43,10 @@ module _ (ws : FinMap nat_cmp Written) (n : ℕ) (w v : Written) (m : FinMap nat
   found = sym (ap (λ x. get x n) set ∙ get-insert nat_cmp_total ws n v n ∙ ap (λ r. cond (is_eq r) (Some v) (get ws n)) (tied_itself nat_cmp_total n))
 
   -- how many records of the number there are, if it was changed in place, and if it was removed then
-  pub one_stays : held (get m n) + 0 ≡ held (get ws n)
+  pub one_stays : one_if_some (get m n) + 0 ≡ one_if_some (get ws n)
   one_stays = rw (← is, ← found) refl
 
-  pub one_goes : (r : FinMap nat_cmp Written) → r ≡ remove m n → held (get r n) + 1 ≡ held (get ws n)
+  pub one_goes : (r : FinMap nat_cmp Written) → r ≡ remove m n → one_if_some (get r n) + 1 ≡ one_if_some (get ws n)
   one_goes r out = rw (← is, out, get-remove-at m n) refl
 
   pub not_lost : None ≡ get m n → ⊥
@@ -96,8 +96,8 @@ module _ (ws : FinMap nat_cmp Written) (n k : ℕ) (f : AreBefore ws n) where
   pub before_wrote : (bytes : List ℕ) (eof : Bool) → AreBefore (wrote_on ws k bytes eof (get ws k)) n
   before_wrote bytes eof = elim (get ws k) as (λ o. get ws k ≡ o → AreBefore (wrote_on ws k bytes eof o) n) [ None ↦ λ e. f | Some w ↦ λ e. before_set ws n k w _ f e ] refl
 
-  pub before_joined : AreBefore (joined_on ws k (get ws k)) n
-  before_joined = elim (get ws k) as (λ o. get ws k ≡ o → AreBefore (joined_on ws k o) n) [ None ↦ λ e. f | Some w ↦ λ e. before_set ws n k w _ f e ] refl
+  pub before_joined : AreBefore (followed_on ws k (get ws k)) n
+  before_joined = elim (get ws k) as (λ o. get ws k ≡ o → AreBefore (followed_on ws k o) n) [ None ↦ λ e. f | Some w ↦ λ e. before_set ws n k w _ f e ] refl
 
   pub before_left : AreBefore (left_on ws k (get ws k)) n
   before_left = elim (get ws k) as (λ o. get ws k ≡ o → AreBefore (left_on ws k o) n) [ None ↦ λ e. f | Some w ↦ λ e. before_kept ws n k w (record w { readers = w.readers - 1 }) f e ] refl

@@ -45,14 +45,14 @@ purged_at s None = s
 purged_at s (Some k) = purged s k
 
 -- what a removal of a slot returns: the number of its complete body, if entries have numbers
-abbrev pub slot_answer : Bool → Option Slot → PurgeOutcome
-slot_answer numbers None = NotFound
-slot_answer numbers (Some x) = Purged (entry_of_body numbers x.body)
+abbrev pub slot_outcome : Bool → Option Slot → PurgeOutcome
+slot_outcome numbers None = NotFound
+slot_outcome numbers (Some x) = Purged (entry_of_body numbers x.body)
 
 -- what a removal of a key returns
-abbrev pub purge_answer : Bool → Store → Option ℕ → PurgeOutcome
-purge_answer numbers s None = NotFound
-purge_answer numbers s (Some k) = slot_answer numbers (get s.slots k)
+abbrev pub purge_outcome : Bool → Store → Option ℕ → PurgeOutcome
+purge_outcome numbers s None = NotFound
+purge_outcome numbers s (Some k) = slot_outcome numbers (get s.slots k)
 
 -- A removal of an entry: without a number, the key's slot; with a number, the write with this number, if entries have
 -- numbers.
@@ -70,8 +70,8 @@ entry_answer_in numbers x None = cond (is_some x) (Purged None) NotFound
 entry_answer_in numbers x (Some n) = cond (numbers && has_write n x) (Purged (Some n)) NotFound
 
 -- what a removal of an entry returns, by its key and its number
-abbrev pub entry_answer : Bool → Store → CacheEntryKey → PurgeOutcome
-entry_answer numbers s e = entry_answer_in numbers (get s.slots (compact_slot (key_of e))) (id_of e)
+abbrev pub entry_outcome : Bool → Store → CacheEntryKey → PurgeOutcome
+entry_outcome numbers s e = entry_answer_in numbers (get s.slots (compact_slot (key_of e))) (id_of e)
 
 -- what a removal of a target removes, and what it returns
 abbrev pub target_purged : Bool → Store → PurgeTarget → Store
@@ -79,9 +79,9 @@ target_purged numbers s (Active k) = purged_at s (Some (compact_slot k.now))
 target_purged numbers s (Exact e) = entry_purged numbers s e.now
 
 -- what a removal of a target returns
-abbrev pub target_answer : Bool → Store → PurgeTarget → PurgeOutcome
-target_answer numbers s (Active k) = purge_answer numbers s (Some (compact_slot k.now))
-target_answer numbers s (Exact e) = entry_answer numbers s e.now
+abbrev pub target_outcome : Bool → Store → PurgeTarget → PurgeOutcome
+target_outcome numbers s (Active k) = purge_outcome numbers s (Some (compact_slot k.now))
+target_outcome numbers s (Exact e) = entry_outcome numbers s e.now
 
 -- An expiry ends the freshness of the complete body, and does not change writes.
 abbrev pub expired_at : ℕ → Store → Option ℕ → Store
@@ -89,9 +89,9 @@ expired_at now s None = s
 expired_at now s (Some k) = meta_changed (meta.expired_at now) s k
 
 -- what an expiry returns: whether there is a complete body
-abbrev pub expire_answer : Store → Option ℕ → PurgeOutcome
-expire_answer s None = NotFound
-expire_answer s (Some k) = cond (is_some (complete_body (get s.slots k))) Expired NotFound
+abbrev pub expire_outcome : Store → Option ℕ → PurgeOutcome
+expire_outcome s None = NotFound
+expire_outcome s (Some k) = cond (is_some (complete_body (get s.slots k))) Expired NotFound
 
 -- the slot whose complete body an expiry of a target is for: that of its key, unless it names an entry by a number that is
 -- not the complete body's

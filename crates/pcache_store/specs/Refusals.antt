@@ -5,13 +5,13 @@ use Rattle.pcache_base.specs.declared.error.ErrorType.TheVariants.{OutOfMemory, 
 use Rattle.pcache_store.specs.Store.{Store, is_untouched}
 
 -- a new write: memory ran out, or, exactly if that is so, all numbers are used
-abbrev pub MayRefuseWrite : Store → ErrorType → Type 0
-MayRefuseWrite s OutOfMemory = s.next < 2 ^ 64
-MayRefuseWrite s NumbersExhausted = 2 ^ 64 ≤ s.next
-MayRefuseWrite s _ = ⊥
+abbrev pub MayFailWrite : Store → ErrorType → Type 0
+MayFailWrite s OutOfMemory = s.next < 2 ^ 64
+MayFailWrite s NumbersExhausted = 2 ^ 64 ≤ s.next
+MayFailWrite s _ = ⊥
 
 -- the end of a write: memory ran out, or, exactly if that is so, its key was removed since it began
-abbrev pub MayRefuseFinish : Store → ℕ → ErrorType → Type 0
-MayRefuseFinish s n OutOfMemory = is_untouched s n ≡ true
-MayRefuseFinish s n WriteRemoved = is_untouched s n ≡ false
-MayRefuseFinish s n _ = ⊥
+abbrev pub MayFailFinish : Store → ℕ → ErrorType → Type 0
+MayFailFinish s n OutOfMemory = is_untouched s n ≡ true
+MayFailFinish s n WriteRemoved = is_untouched s n ≡ false
+MayFailFinish s n _ = ⊥

@@ -2,12 +2,12 @@
 use Rattle.std.specs.Prelude.{ℕ, ◌≡◌, ◌<◌, ◌^◌, ◌%◌, ◌==◌, suc, List, [], ◌∷◌, length, slice_index_or, Bool, false, Option, Some, None, is_some, cond}
 use Rattle.std.specs.Ordering.{nat_cmp}
 use Rattle.std.specs.FinMap.{FinMap, empty, get, len, retain_keys}
-use Rattle.pcache_table.specs.Sharding.{Part, AllPlaced, joined}
+use Rattle.pcache_table.specs.Sharding.{Part, AllPlaced, one_map}
 use Rattle.pcache_store.specs.Store.{Slot, Written}
 
 -- one if a key has a value, else zero
-abbrev pub held : {V : Type 0} → Option V → ℕ
-held o = cond (is_some o) 1 0
+abbrev pub one_if_some : {V : Type 0} → Option V → ℕ
+one_if_some o = cond (is_some o) 1 0
 
 -- the tables, each with its place
 abbrev pub parts : {V : Type 0} → ℕ → List (FinMap nat_cmp V) → List (Part V)
@@ -18,7 +18,7 @@ parts i (m ∷ ms) = record { place = i; map = m } ∷ parts (suc i) ms
 pub record AreShards (shards : List (FinMap nat_cmp Slot)) (count : ℕ) : Type 0 where
   pub long : length shards ≡ 16
   pub placed : AllPlaced 16 (parts 0 shards)
-  pub counted : count ≡ len (joined (parts 0 shards))
+  pub counted : count ≡ len (one_map (parts 0 shards))
   pub few : count < 2 ^ 63
 
 -- the writes of a shard's keys
@@ -36,8 +36,8 @@ table_at shards place = slice_index_or shards place empty
 -- each write is in the table of its key's shard and in no other, and `count` is the number of all writes
 pub record AreRecords (shards : List (FinMap nat_cmp Written)) (count : ℕ) : Type 0 where
   pub long : length shards ≡ 16
-  pub own : (place : ℕ) → place < 16 → table_at shards place ≡ of_shard place (joined (parts 0 shards))
-  pub counted : count ≡ len (joined (parts 0 shards))
+  pub own : (place : ℕ) → place < 16 → table_at shards place ≡ of_shard place (one_map (parts 0 shards))
+  pub counted : count ≡ len (one_map (parts 0 shards))
   pub few : count < 2 ^ 63
 
 -- the table at this place has the number if any table has it

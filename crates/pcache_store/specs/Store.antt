@@ -88,13 +88,13 @@ abbrev pub kept : FinMap nat_cmp Written → ℕ → Written → FinMap nat_cmp 
 kept ws n w = cond (is_named w) (insert ws n w) (remove ws n)
 
 -- one more reader of a write
-abbrev pub joined_on : FinMap nat_cmp Written → ℕ → Option Written → FinMap nat_cmp Written
-joined_on ws n None = ws
-joined_on ws n (Some w) = insert ws n (record w { readers = w.readers + 1 })
+abbrev pub followed_on : FinMap nat_cmp Written → ℕ → Option Written → FinMap nat_cmp Written
+followed_on ws n None = ws
+followed_on ws n (Some w) = insert ws n (record w { readers = w.readers + 1 })
 
 -- the store after one more reader of a write was given
 abbrev pub joined : Store → ℕ → Store
-joined s n = record s { writes = joined_on s.writes n (get s.writes n) }
+joined s n = record s { writes = followed_on s.writes n (get s.writes n) }
 
 -- the store after a reader was given
 abbrev pub followed_by : Store → Reader → Store
@@ -303,14 +303,14 @@ gives_piece (Ready piece) = is_some piece
 gives_piece Pending = false
 
 -- how many bytes of a write a reader has read after a read
-abbrev pub place_after : ℕ → Option Written → ℕ
-place_after place None = place
-place_after place (Some w) = cond (nat_lt place (length w.bytes)) (length w.bytes) place
+abbrev pub offset_after : ℕ → Option Written → ℕ
+offset_after place None = place
+offset_after place (Some w) = cond (nat_lt place (length w.bytes)) (length w.bytes) place
 
 -- a reader after a read
 abbrev pub reader_after : Store → Reader → Reader
 reader_after s (Whole id body start stop done) = Whole id body start stop true
-reader_after s (Part n place) = Part n (place_after place (get s.writes n))
+reader_after s (Part n place) = Part n (offset_after place (get s.writes n))
 
 -- another range of a complete body, from an index within it to an end that is not before it; an end past the body's end
 -- counts as that

@@ -5,7 +5,7 @@ ghost use Rattle.pcache_base.specs.declared.error.ErrorType.TheVariants.{OutOfMe
 ghost use Rattle.pcache_base.specs.Key.{slot};
 ghost use Rattle.pcache_table.specs.Sharding.{part_of};
 ghost use Rattle.pcache_store.specs.Finishes.{created};
-ghost use Rattle.pcache_store.specs.Refusals.{MayRefuseFinish};
+ghost use Rattle.pcache_store.specs.Refusals.{MayFailFinish};
 ghost use Rattle.pcache_store.specs.Readers.{in_memory};
 ghost use Rattle.pcache_store.specs.Shards.{of_shard};
 ghost use Rattle.pcache_store.specs.Store.{joined, left, wrote, dropped, finished, is_untouched, is_write_under, left_on, found_part};
@@ -165,7 +165,7 @@ impl MemCache {
         ensures kind { IfErr result (λ e. e ≡ OutOfMemory) }
         ensures err { OnErr result (self.new ≡ self.old) }
     {
-        match self.drafts.join(alloc, slot, number) {
+        match self.drafts.follow(alloc, slot, number) {
             Ok(Some(meta)) => {
                 let part = PartialHit::new(slot, number as u64);
                 Ok(Some((meta, MemHitHandler::Partial(part))))
@@ -205,7 +205,7 @@ impl MemCache {
         ensures answer { IfOk result (λ f. f ≡ created self.old number) }
         ensures ok { OnOk result (self.new ≡ finished self.old number) }
         ensures untouched { OnOk result (is_untouched self.old number ≡ true) }
-        ensures kind { IfErr result (λ e. MayRefuseFinish self.old number e) }
+        ensures kind { IfErr result (λ e. MayFailFinish self.old number e) }
         ensures err { OnErr result (self.new ≡ dropped self.old number) }
     {
         let Some(draft) = self.drafts.get(slot, number) else {
@@ -232,11 +232,11 @@ impl MemCache {
 }
 
 impl MemCache {
-    ghost use Rattle.pcache_store.specs.Purge.{entry_answer, entry_purged, slot_expired};
+    ghost use Rattle.pcache_store.specs.Purge.{entry_outcome, entry_purged, slot_expired};
 
     // Removes what an entry names: everything of its key, or the write with its number.
     fn purge_entry(&mut self, entry: &CacheEntryKey) -> PurgeOutcome
-        ensures answer { result ≡ entry_answer true self.old entry.now }
+        ensures answer { result ≡ entry_outcome true self.old entry.now }
         ensures purged { self.new ≡ entry_purged true self.old entry.now }
     {
         let slot = entry.key().slot();

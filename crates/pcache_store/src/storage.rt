@@ -11,8 +11,8 @@ ghost use Rattle.pcache_base.specs.declared.error.ErrorType.TheVariants.{OutOfMe
 ghost use Rattle.pcache_evict.specs.EntryRef.{referred};
 ghost use Rattle.pcache_store.specs.declared.storage.MissFinishType.{MissFinishType};
 ghost use Rattle.pcache_store.specs.declared.storage.PurgeOutcome.TheVariants.{Expired};
-ghost use Rattle.pcache_store.specs.Purge.{target_key, removed_entry, IsNumberOf, entry_given, entry_read, target_purged, target_answer, slot_expired, expired_at, expire_answer};
-ghost use Rattle.pcache_store.specs.Refusals.{MayRefuseWrite, MayRefuseFinish};
+ghost use Rattle.pcache_store.specs.Purge.{target_key, removed_entry, IsNumberOf, entry_given, entry_read, target_purged, target_outcome, slot_expired, expired_at, expire_outcome};
+ghost use Rattle.pcache_store.specs.Refusals.{MayFailWrite, MayFailFinish};
 ghost use Rattle.pcache_store.specs.Store.{Store, Reader, Guarantees, find, find_write, followed, left, begun, wrote, dropped, finished, is_untouched, complete_body, meta_set, is_told, gives_piece, read_of, reader_after, sought, can_seek, counts_access, reader_weight};
 ghost use Rattle.pcache_store.specs.Tag.{named_by};
 
@@ -172,7 +172,7 @@ pub trait Storage: StoreMeaning + Sized {
         ensures entry { IfOk result (λ m. Self.Miss.entry_number m ≡ entry_given Self.guarantees.numbers (Self.state self.old).next) }
         ensures ok { OnOk result (Self.state self.new ≡ begun (Self.state self.old) (slot key.now) meta.now) }
         ensures numbers { OnOk result ((Self.state self.old).next < 2 ^ 64) }
-        ensures kind { IfErr result (λ e. MayRefuseWrite (Self.state self.old) e) }
+        ensures kind { IfErr result (λ e. MayFailWrite (Self.state self.old) e) }
         ensures err { OnErr result (Self.state self.new ≡ Self.state self.old) };
 
     /// Removes what a target names: the complete body and every write in flight of its key; for an entry with a number
@@ -180,7 +180,7 @@ pub trait Storage: StoreMeaning + Sized {
     /// number of the complete body or write that was removed, and none for an entry without a number. Fails only when
     /// memory runs out.
     fn purge(&mut self, target: PurgeTarget<'_>, purge_type: PurgeType) -> Result<PurgeOutcome>
-        ensures answer { IfOk result (λ o. o ≡ target_answer Self.guarantees.numbers (Self.state self.old) target.entry) }
+        ensures answer { IfOk result (λ o. o ≡ target_outcome Self.guarantees.numbers (Self.state self.old) target.entry) }
         ensures ok { OnOk result (Self.state self.new ≡ target_purged Self.guarantees.numbers (Self.state self.old) target.entry) }
         ensures sure { IsTrue Self.guarantees.purges → IsOk result }
         ensures kind { IfErr result (λ e. e ≡ OutOfMemory) }
@@ -194,9 +194,9 @@ pub trait Storage: StoreMeaning + Sized {
         target: PurgeTarget<'_>,
         now: Moment,
     ) -> Result<PurgeOutcome>
-        ensures answer { IfOk result (λ o. o ≡ expire_answer (Self.state self.old) (slot_expired Self.guarantees.numbers (Self.state self.old) target.entry)) }
+        ensures answer { IfOk result (λ o. o ≡ expire_outcome (Self.state self.old) (slot_expired Self.guarantees.numbers (Self.state self.old) target.entry)) }
         ensures ok { OnOk result (Self.state self.new ≡ expired_at now (Self.state self.old) (slot_expired Self.guarantees.numbers (Self.state self.old) target.entry)) }
-        ensures something { OnErr result (expire_answer (Self.state self.old) (slot_expired Self.guarantees.numbers (Self.state self.old) target.entry) ≡ Expired) }
+        ensures something { OnErr result (expire_outcome (Self.state self.old) (slot_expired Self.guarantees.numbers (Self.state self.old) target.entry) ≡ Expired) }
         ensures kind { IfErr result (λ e. e ≡ OutOfMemory) }
         ensures err { OnErr result (Self.state self.new ≡ Self.state self.old) };
 
@@ -310,7 +310,7 @@ pub trait HandleMiss<S: StoreMeaning> {
         ensures answer { IfOk result (λ f. f ≡ S.finishes store.old (write self)) }
         ensures ok { OnOk result (S.state store.new ≡ finished (S.state store.old) (write self)) }
         ensures untouched { OnOk result (is_untouched (S.state store.old) (write self) ≡ true) }
-        ensures kind { IfErr result (λ e. MayRefuseFinish (S.state store.old) (write self) e) }
+        ensures kind { IfErr result (λ e. MayFailFinish (S.state store.old) (write self) e) }
         ensures err { OnErr result (S.state store.new ≡ dropped (S.state store.old) (write self)) };
 
     /// Ends the write, and stores nothing.

@@ -12,7 +12,7 @@ use Rattle.std.proofs.lemmas.Map.Lookups.{exact_unsigned}
 use Rattle.std.proofs.lemmas.Map.Views.{tells_apart}
 use Rattle.std.proofs.lemmas.Bool.Decides.{nat_tests}
 use Rattle.std.specs.FinMap.{FinMap, empty, find, get, insert, remove, entries, get-empty, get-entries, get-from_entries, get-insert, get-remove, get-retain_keys, same_map}
-use Rattle.pcache_table.specs.Sharding.{Part, Belongs, Placed, AllPlaced, all_entries, joined, part_of}
+use Rattle.pcache_table.specs.Sharding.{Part, Belongs, Placed, AllPlaced, all_entries, one_map, part_of}
 
 -- keys that are tested equal, and keys that are not
 pub by_test : {P : Type 0} (q k : ℕ) (b : Bool) → eq_by_cmp nat_cmp q k ≡ b → (q ≡ k → P) → (eq_by_cmp nat_cmp q k ≡ false → P) → P
@@ -101,8 +101,8 @@ module _ {X : Type 0} where
       ∙ find_there ps j p q e (λ i s f n. h (suc i) s f (λ z. n (omega (arith, z))))
 
   -- the value at a key is that of its shard
-  pub get-joined : (shards : ℕ) (ps : List (Part X)) (q : ℕ) (p : Part X) → AllPlaced shards ps → slice_get ps (q % shards) ≡ Some p → get (joined ps) q ≡ get p.map q
-  unfolding joined
+  pub get-joined : (shards : ℕ) (ps : List (Part X)) (q : ℕ) (p : Part X) → AllPlaced shards ps → slice_get ps (q % shards) ≡ Some p → get (one_map ps) q ≡ get p.map q
+  unfolding one_map
   get-joined shards ps q p placed e =
       get-from_entries nat_cmp_total (all_entries ps) q
       ∙ find_there ps (q % shards) p q e (λ i r f n. (placed i r f).own q (λ is. n (sym is)))
@@ -128,7 +128,7 @@ module _ {X : Type 0} where
 
   -- the value of a key after its shard was changed at that key alone
   changed-joined : (shards : ℕ) (ps : List (Part X)) (key q : ℕ) (p d : Part X) (o : Option X) → 0 < shards → length ps ≡ shards → AllPlaced shards ps → slice_get ps (key % shards) ≡ Some p → Placed shards (key % shards) d
-      → get d.map q ≡ cond (eq_by_cmp nat_cmp q key) o (get p.map q) → get (joined (set ps (key % shards) d)) q ≡ cond (eq_by_cmp nat_cmp q key) o (get (joined ps) q)
+      → get d.map q ≡ cond (eq_by_cmp nat_cmp q key) o (get p.map q) → get (one_map (set ps (key % shards) d)) q ≡ cond (eq_by_cmp nat_cmp q key) o (get (one_map ps) q)
   changed-joined shards ps key q p d o some len all at one h =
       let within : key % shards < length ps = slice_get_within ps (key % shards) p at in
       let next = all-set shards (key % shards) ps d within all one in
@@ -141,26 +141,26 @@ module _ {X : Type 0} where
       let key_off : eq_by_cmp nat_cmp q key ≡ false = other_key q key shards (eq_by_cmp nat_cmp q key) refl off in
       get-joined shards (set ps (key % shards) d) q (get_or ps (q % shards) p) next (set_off ps (key % shards) (q % shards) d (off_not (q % shards) (key % shards) off) ∙ there)
       ∙ sym (get-joined shards ps q (get_or ps (q % shards) p) all there)
-      ∙ sym (ap (λ b. cond b o (get (joined ps) q)) key_off))
+      ∙ sym (ap (λ b. cond b o (get (one_map ps) q)) key_off))
 
-  pub insert-joined : (shards : ℕ) (ps : List (Part X)) (key : ℕ) (v : X) (p d : Part X) → 0 < shards → length ps ≡ shards → AllPlaced shards ps → slice_get ps (key % shards) ≡ Some p → d ≡ record p { map = insert p.map key v } → joined (set ps (key % shards) d) ≡ insert (joined ps) key v
+  pub insert-joined : (shards : ℕ) (ps : List (Part X)) (key : ℕ) (v : X) (p d : Part X) → 0 < shards → length ps ≡ shards → AllPlaced shards ps → slice_get ps (key % shards) ≡ Some p → d ≡ record p { map = insert p.map key v } → one_map (set ps (key % shards) d) ≡ insert (one_map ps) key v
   insert-joined shards ps key v p d some len all at is =
       let old = all (key % shards) p at in
       let one : Placed shards (key % shards) d = subst (Placed shards (key % shards)) (sym is) (record { at = old.at; own = belongs-insert shards (key % shards) key v p.map refl old.own }) in
       same_map nat_cmp_total exact_unsigned _ _ (λ q.
       changed-joined shards ps key q p d (Some v) some len all at one (ap (λ x. get x.map q) is ∙ get-insert nat_cmp_total p.map key v q)
-      ∙ sym (get-insert nat_cmp_total (joined ps) key v q))
+      ∙ sym (get-insert nat_cmp_total (one_map ps) key v q))
 
-  pub remove-joined : (shards : ℕ) (ps : List (Part X)) (key : ℕ) (p d : Part X) → 0 < shards → length ps ≡ shards → AllPlaced shards ps → slice_get ps (key % shards) ≡ Some p → d ≡ record p { map = remove p.map key } → joined (set ps (key % shards) d) ≡ remove (joined ps) key
+  pub remove-joined : (shards : ℕ) (ps : List (Part X)) (key : ℕ) (p d : Part X) → 0 < shards → length ps ≡ shards → AllPlaced shards ps → slice_get ps (key % shards) ≡ Some p → d ≡ record p { map = remove p.map key } → one_map (set ps (key % shards) d) ≡ remove (one_map ps) key
   remove-joined shards ps key p d some len all at is =
       let old = all (key % shards) p at in
       let one : Placed shards (key % shards) d = subst (Placed shards (key % shards)) (sym is) (record { at = old.at; own = belongs-remove shards (key % shards) key p.map old.own }) in
       same_map nat_cmp_total exact_unsigned _ _ (λ q.
       changed-joined shards ps key q p d None some len all at one (ap (λ x. get x.map q) is ∙ get-remove nat_cmp_total p.map key q)
-      ∙ sym (get-remove nat_cmp_total (joined ps) key q))
+      ∙ sym (get-remove nat_cmp_total (one_map ps) key q))
 
-  empty-joined : (ps : List (Part X)) → ((i : ℕ) (r : Part X) → slice_get ps i ≡ Some r → r.map ≡ empty) → joined ps ≡ empty
-  unfolding joined
+  empty-joined : (ps : List (Part X)) → ((i : ℕ) (r : Part X) → slice_get ps i ≡ Some r → r.map ≡ empty) → one_map ps ≡ empty
+  unfolding one_map
   empty-joined ps none = same_map nat_cmp_total exact_unsigned _ _ (λ q.
       get-from_entries nat_cmp_total (all_entries ps) q
       ∙ find_none ps q (λ i r e. ap (λ m. get m q) (none i r e) ∙ get-empty nat_cmp q)
@@ -187,7 +187,7 @@ module _ {X : Type 0} where
       let is = made_is shards ps len made i r e in
       record { at = ap (λ x. x.place) is; own = λ k off. ap (λ x. get x.map k) is ∙ get-empty nat_cmp k }
 
-  pub made-empty : (shards : ℕ) (ps : List (Part X)) → length ps ≡ shards → ((i : ℕ) (e : Part X) → i < shards → get_or ps i e ≡ record { place = i; map = empty }) → joined ps ≡ empty
+  pub made-empty : (shards : ℕ) (ps : List (Part X)) → length ps ≡ shards → ((i : ℕ) (e : Part X) → i < shards → get_or ps i e ≡ record { place = i; map = empty }) → one_map ps ≡ empty
   made-empty shards ps len made = empty-joined ps (λ i r e. ap (λ x. x.map) (made_is shards ps len made i r e))
 
   own_or_not : (b : Bool) (shards place q : ℕ) (p : Part X) (o : Option X) → ((q % shards) == place) ≡ b → Placed shards place p → (q % shards ≡ place → get p.map q ≡ o) → get p.map q ≡ cond b o None
@@ -195,7 +195,7 @@ module _ {X : Type 0} where
   own_or_not false shards place q p o e one h = one.own q (λ same. let t : ((q % shards) == place) ≡ true = grind (arith, nat_tests) in cc)
 
   -- a shard has what its keys have
-  pub part-joined : (shards : ℕ) (ps : List (Part X)) (place : ℕ) (p : Part X) → AllPlaced shards ps → slice_get ps place ≡ Some p → p.map ≡ part_of shards place (joined ps)
+  pub part-joined : (shards : ℕ) (ps : List (Part X)) (place : ℕ) (p : Part X) → AllPlaced shards ps → slice_get ps place ≡ Some p → p.map ≡ part_of shards place (one_map ps)
   part-joined shards ps place p all at = same_map nat_cmp_total exact_unsigned _ _ (λ q.
-      own_or_not ((q % shards) == place) shards place q p (get (joined ps) q) refl (all place p at) (λ same. sym (get-joined shards ps q p all (ap (slice_get ps) same ∙ at)))
-      ∙ sym (get-retain_keys (joined ps) (λ key. (key % shards) == place) q (alike_keys shards place q)))
+      own_or_not ((q % shards) == place) shards place q p (get (one_map ps) q) refl (all place p at) (λ same. sym (get-joined shards ps q p all (ap (slice_get ps) same ∙ at)))
+      ∙ sym (get-retain_keys (one_map ps) (λ key. (key % shards) == place) q (alike_keys shards place q)))

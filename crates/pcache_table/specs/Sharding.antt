@@ -38,8 +38,8 @@ all_entries [] = []
 all_entries (p ∷ ps) = entries p.map ++ all_entries ps
 
 -- one map of the entries of all shards
-unfoldable pub joined : {V : Type 0} → List (Part V) → FinMap nat_cmp V
-joined ps = from_entries (all_entries ps)
+unfoldable pub one_map : {V : Type 0} → List (Part V) → FinMap nat_cmp V
+one_map ps = from_entries (all_entries ps)
 
 -- the part of a map whose keys belong to one shard
 abbrev pub part_of : {V : Type 0} → ℕ → ℕ → FinMap nat_cmp V → FinMap nat_cmp V

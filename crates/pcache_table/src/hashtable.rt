@@ -36,13 +36,13 @@ impl<V, const N: usize> Model for Shards<V, N> {
     ghost use Rattle.std.specs.Ordering.{nat_cmp};
     ghost use Rattle.std.specs.FinMap as map;
     ghost use Rattle.std.specs.Coded.{coded_ℕ};
-    ghost use Rattle.pcache_table.specs.Sharding.{AllPlaced, joined};
+    ghost use Rattle.pcache_table.specs.Sharding.{AllPlaced, one_map};
 
     ghost Value = { map.FinMap nat_cmp V };
 
     ghost coded = { map.code coded_ℕ V.code };
 
-    ghost view = { λ a. joined a.shards };
+    ghost view = { λ a. one_map a.shards };
 
     ghost invariant = { λ a. (0 < N) × AllPlaced N a.shards };
 }

@@ -8,19 +8,19 @@ use Rattle.pcache_base.proofs.Totals.{total-insert, total-remove, total-empty}
 use Rattle.pcache_store.specs.Store.{Reader}
 use Rattle.pcache_history.specs.declared.entry.Event.{Event}
 use Rattle.pcache_history.specs.Events.{in_flight, option_any}
-use Rattle.pcache_history.specs.Held.{Held}
-use Rattle.pingora_cache.specs.Sound.{follows, readers_in, readers, writers_in, writers, AreHeld}
+use Rattle.pcache_history.specs.Ongoing.{Ongoing}
+use Rattle.pingora_cache.specs.Sound.{follows, readers_in, readers, writers_in, writers, AreOngoing}
 use Rattle.pcache_history.proofs.Sums.{same-number}
 
 pub readers-none : (w : ℕ) → readers empty w ≡ 0
 readers-none w = total-empty nat_cmp_total (readers_in w)
 
 -- a request that holds the write counts once
-pub writes-one : (x : Held) (w : ℕ) → x.request.write ≡ Some w → writers_in w x ≡ 1
+pub writes-one : (x : Ongoing) (w : ℕ) → x.request.write ≡ Some w → writers_in w x ≡ 1
 writes-one x w e = ap (λ o. if option_any (λ q. q == w) o then 1 else 0) e ∙ ap (λ b. if b then 1 else 0) (same-number w)
 
-module _ (all : FinMap nat_cmp Held) (r : ℕ) where
-  pub readers-insert : (x : Held) (w : ℕ) → readers (insert all r x) w + share (readers_in w) (get all r) ≡ readers all w + readers_in w x
+module _ (all : FinMap nat_cmp Ongoing) (r : ℕ) where
+  pub readers-insert : (x : Ongoing) (w : ℕ) → readers (insert all r x) w + share (readers_in w) (get all r) ≡ readers all w + readers_in w x
   readers-insert x w = total-insert nat_cmp_total (readers_in w) all r x
 
   pub readers-remove : (w : ℕ) → readers (remove all r) w + share (readers_in w) (get all r) ≡ readers all w
@@ -30,7 +30,7 @@ module _ (all : FinMap nat_cmp Held) (r : ℕ) where
   writers-remove w = total-remove nat_cmp_total (writers_in w) nat_cmp-IsAntisymmetric all r
 
   -- a request that is there
-  module _ (old : Held) (is : get all r ≡ Some old) where
+  module _ (old : Ongoing) (is : get all r ≡ Some old) where
     pub readers-gone : (w : ℕ) → readers (remove all r) w + readers_in w old ≡ readers all w
     readers-gone w = subst (λ o. readers (remove all r) w + share (readers_in w) o ≡ readers all w) is (readers-remove w)
 
@@ -50,7 +50,7 @@ module _ (all : FinMap nat_cmp Held) (r : ℕ) where
     writer-counted w e = let one = writes-one old w e in let c = writers-gone w in omega arith
 
     -- the write that it holds is in flight
-    pub write-flies : (es : List Event) → AreHeld es all → (w : ℕ) → old.request.write ≡ Some w → in_flight w es ≡ true
+    pub write-flies : (es : List Event) → AreOngoing es all → (w : ℕ) → old.request.write ≡ Some w → in_flight w es ≡ true
     write-flies es held w e =
         let one = writer-counted w e in
         elim (in_flight w es) as (λ b. writers all w ≡ (if b then 1 else 0) → b ≡ true) [ true ↦ λ _. refl | false ↦ λ h. absurd (omega arith) ] (held w)

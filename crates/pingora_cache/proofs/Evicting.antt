@@ -8,7 +8,7 @@ use Rattle.pcache_evict.specs.Tracked.{Tracked, Evicted, Limits, evicted_with}
 use Rattle.pcache_evict.specs.declared.eviction.entry_key.CacheEntryKey.{CacheEntryKey}
 use Rattle.pcache_put.specs.Progress.{Parsed}
 use Rattle.pcache_put_ctx.specs.State.{Stage, InHead, InBody, HasDeclined, IsOver, write_in}
-use Rattle.pcache_put_ctx.specs.Steps.{EndsPut, entry_told, evicted_ended}
+use Rattle.pcache_put_ctx.specs.Steps.{EndsPut, entry_reported, evicted_ended}
 use Rattle.pcache_put_ctx.specs.declared.report.PutEnd.{PutEnd}
 use Rattle.pcache_put_ctx.specs.declared.report.PutEnd.TheVariants as end
 use Rattle.pcache_request.specs.Phases.{IsFilling}
@@ -30,7 +30,7 @@ use Rattle.pcache_history.specs.declared.entry.Event.TheVariants as E
 use Rattle.pcache_history.specs.Due.{IsOfWorld, IsOfWorldIn}
 use Rattle.pcache_history.specs.Events.{evicted_by}
 use Rattle.pcache_history.specs.Facts.{Facts}
-use Rattle.pcache_history.specs.Held.{Held}
+use Rattle.pcache_history.specs.Ongoing.{Ongoing}
 use Rattle.pcache_history.specs.Rules.{Replies, each}
 use Rattle.pingora_cache.specs.Evicting.{AddsEvicted}
 use Rattle.pingora_cache.specs.PutSteps.{end_noted}
@@ -89,7 +89,7 @@ module _ (m : Tracked) (v : Evicted) where
   -- ---- the end of a put
 
   module _ (limits : Limits) (k : Key) (parser : Parsed) (s u : Store) (m' : Tracked) (now : Evicted) where
-    by-body : (w : ℕ) (id : Option ℕ) (until j : ℕ) (how : PutEnd) (entry : Option CacheEntryKey) (events : List Event) → EndsPut in_memory k parser (created s) limits (InBody w id until) how s u m m' → entry ≡ entry_told k (InBody w id until) how
+    by-body : (w : ℕ) (id : Option ℕ) (until j : ℕ) (how : PutEnd) (entry : Option CacheEntryKey) (events : List Event) → EndsPut in_memory k parser (created s) limits (InBody w id until) how s u m m' → entry ≡ entry_reported k (InBody w id until) how
         → now ≡ evicted_ended k (created s) (InBody w id until) m v how → events ≡ end_noted w j how entry → now ≡ evicted_by m v events
     by-body w id until j (end.NotCached reason) entry events ends told after is = after ∙ sym (ap (evicted_by m v) is)
     by-body w id until j (end.Refused e) entry events ends told after is = after ∙ sym (ap (evicted_by m v) is)
@@ -101,7 +101,7 @@ module _ (m : Tracked) (v : Evicted) where
         ∙ ap (λ n. evicted_with v (insert m (entry_of k id) n) f.evicted.items) (sym body.size_is)
         ∙ sym (ap (evicted_by m v) (is ∙ ap (λ o. end_noted w j (end.Stored f) o) told))
 
-    pub close-evicts : (stage : Stage) (w j : ℕ) (how : PutEnd) (entry : Option CacheEntryKey) (events : List Event) → write_in stage ≡ Some w → EndsPut in_memory k parser (created s) limits stage how s u m m' → entry ≡ entry_told k stage how
+    pub close-evicts : (stage : Stage) (w j : ℕ) (how : PutEnd) (entry : Option CacheEntryKey) (events : List Event) → write_in stage ≡ Some w → EndsPut in_memory k parser (created s) limits stage how s u m m' → entry ≡ entry_reported k stage how
         → now ≡ evicted_ended k (created s) stage m v how → events ≡ end_noted w j how entry → now ≡ evicted_by m v events
     close-evicts InHead w j how entry events has ends told after is = none-some w (sym has)
     close-evicts (HasDeclined reason) w j how entry events has ends told after is = none-some w (sym has)
@@ -119,12 +119,12 @@ module _ (m : Tracked) (v : Evicted) where
   -- ---- every call
 
   -- a call of a request that does nothing
-  pub idle-adds : (act : RequestAct) (q : Option Held) (now : Evicted) (events : List Event) → events ≡ [] → now ≡ v → AddsEvicted (C.Request act) q m v events now
+  pub idle-adds : (act : RequestAct) (q : Option Ongoing) (now : Evicted) (events : List Event) → events ≡ [] → now ≡ v → AddsEvicted (C.Request act) q m v events now
   idle-adds Q.Finish q now events none same = λ world. idle-evicts now events none same
   idle-adds act q now events none same = same
 
   -- a call that ends no write
-  pub others_add : (act named : Act) (q : Option Held) (now : Evicted) (events : List Event) → act ≡ named → IsNoEnd named → now ≡ v → AddsEvicted act q m v events now
+  pub others_add : (act named : Act) (q : Option Ongoing) (now : Evicted) (events : List Event) → act ≡ named → IsNoEnd named → now ≡ v → AddsEvicted act q m v events now
   others_add act named q now events is plain same = subst (λ z. AddsEvicted z q m v events now) (sym is) (by named plain)
     where
       by : (named : Act) → IsNoEnd named → AddsEvicted named q m v events now
@@ -132,7 +132,7 @@ module _ (m : Tracked) (v : Evicted) where
       by C.Close plain = absurd plain
       by act plain = same
 
-  pub added : (f : Facts) (act : Act) (q : Option Held) (reply : Reply) (events : List Event) (now : Evicted) → IsOfWorldIn q → Replies f act q reply events → AddsEvicted act q m v events now → now ≡ evicted_by m v events
+  pub added : (f : Facts) (act : Act) (q : Option Ongoing) (reply : Reply) (events : List Event) (now : Evicted) → IsOfWorldIn q → Replies f act q reply events → AddsEvicted act q m v events now → now ≡ evicted_by m v events
   added f (C.Request Q.Finish) q reply events now world replies adds = adds world
   added f C.Close q reply events now world replies adds = adds
   added f act q reply events now world replies adds = adds ∙ sym (evicts_no_more f act q reply events m v tt replies)

@@ -26,11 +26,11 @@ use Rattle.pcache_history.specs.Due.{KeepsKey}
 use Rattle.pcache_history.specs.Events.{tracked}
 use Rattle.pcache_history.specs.Facts.{Facts, Says, request_in}
 use Rattle.pcache_history.specs.Files.{IsEarly, files_in, is_load, only_loads}
-use Rattle.pcache_history.specs.Held.{Held, request_of}
+use Rattle.pcache_history.specs.Ongoing.{Ongoing, request_of}
 use Rattle.pcache_history.specs.History.{events_of}
 use Rattle.pcache_history.specs.Legal.{IsLegal}
 use Rattle.pcache_history.specs.Log.{started}
-use Rattle.pcache_history.specs.PutHistory.{StoodBy, filled_of, pieces_of}
+use Rattle.pcache_history.specs.PutHistory.{WasAtStage, filled_of, pieces_of}
 use Rattle.pcache_history.specs.Rules.{IsCopy, IsFilesReply, Replies}
 use Rattle.pingora_cache.specs.FilesCalls.{AnswersFiles, HasNoFiles, IsLoaded}
 use Rattle.pingora_cache.specs.PartFacts.{facts_in}
@@ -64,12 +64,12 @@ early-now : (a : FilesAct) (f : Facts) (h : List Entry) → f.early ≡ only_loa
 early-now F.Save f h is = tt
 early-now F.Load f h is = is
 
-answered : (f : Facts) (a : FilesAct) (b : Bool) (q : Option Held) (reply : Reply) → f.early ≡ b → AnswersFiles b a reply → Replies f (C.Files a) q reply []
+answered : (f : Facts) (a : FilesAct) (b : Bool) (q : Option Ongoing) (reply : Reply) → f.early ≡ b → AnswersFiles b a reply → Replies f (C.Files a) q reply []
 answered f F.Save b q reply early is = answers-files f F.Save q reply is (λ same. let no : ◌≡◌ {A = FilesAct} F.Save F.Load = same in absurd (cc))
 answered f F.Load true q reply early is = answers-files f F.Load q reply is (λ _. early)
 answered f F.Load false q reply early is = late-load f q reply is early
 
-module _ (limits : Limits) (start m : Tracked) (s : Store) (t : Locks) (all : FinMap nat_cmp Held) (h : List Entry) (k : IsSound limits start m s t all h) (n : ℕ) (a : FilesAct) (reply told : Reply) (copy : IsCopy reply told) (answers : AnswersFiles (only_loads h) a reply) where
+module _ (limits : Limits) (start m : Tracked) (s : Store) (t : Locks) (all : FinMap nat_cmp Ongoing) (h : List Entry) (k : IsSound limits start m s t all h) (n : ℕ) (a : FilesAct) (reply told : Reply) (copy : IsCopy reply told) (answers : AnswersFiles (only_loads h) a reply) where
   abbrev entry : Entry
   entry = record { call = record { request = n; act = C.Files a }; reply = told; events = [] }
 
@@ -109,11 +109,11 @@ module _ (limits : Limits) (start m : Tracked) (s : Store) (t : Locks) (all : Fi
   loaded-sound m' early = files-sound m' m' (loads-start t.age_timeout limits start m' h k.legal early) (sym (ap (tracked m') (loads-silent t.age_timeout limits start h k.legal early)))
 
 -- and the puts go on as they were
-pub files-puts : (says : PutSays) (all : FinMap nat_cmp Held) (h : List Entry) (n : ℕ) (a : FilesAct) (told : Reply) → PutsSound says all h → AreOpen h all → PutsSound says all (record { call = record { request = n; act = C.Files a }; reply = told; events = [] } ∷ h)
+pub files-puts : (says : PutSays) (all : FinMap nat_cmp Ongoing) (h : List Entry) (n : ℕ) (a : FilesAct) (told : Reply) → PutsSound says all h → AreOpen h all → PutsSound says all (record { call = record { request = n; act = C.Files a }; reply = told; events = [] } ∷ h)
 files-puts says all h n a told k are = record {
   told = (
     record {
-      stands = subst (λ p. StoodBy says p (pieces_of n h) (filled_of n h)) (are n) (stood-in says (get all n) (pieces_of n h) (filled_of n h) (k.taken n));
+      stands = subst (λ p. WasAtStage says p (pieces_of n h) (filled_of n h)) (are n) (stood-in says (get all n) (pieces_of n h) (filled_of n h) (k.taken n));
       closes = tt;
       ignores = tt;
       ends = tt;
@@ -140,7 +140,7 @@ turned : (h h' : List Entry) (e : Entry) → h' ≡ h ++ e ∷ [] → reverse h'
 turned h h' e is = ap reverse is ∙ reverse-append h (e ∷ [])
 
 -- a call that leaves what the manager holds
-pub files-step : (limits : Limits) (start start' m : Tracked) (s : Store) (t : Locks) (all : FinMap nat_cmp Held) (h h' : List Entry) (call : Call) (a : FilesAct) (reply told : Reply) (events : List Event) → IsSound limits start m s t all (reverse h) → IsCopy reply told → files_in call.act ≡ Some a
+pub files-step : (limits : Limits) (start start' m : Tracked) (s : Store) (t : Locks) (all : FinMap nat_cmp Ongoing) (h h' : List Entry) (call : Call) (a : FilesAct) (reply told : Reply) (events : List Event) → IsSound limits start m s t all (reverse h) → IsCopy reply told → files_in call.act ≡ Some a
     → AnswersFiles (only_loads (reverse h)) a reply → events ≡ [] → start' ≡ start → h' ≡ h ++ record { call = call; reply = told; events = events } ∷ [] → IsSound limits start' m s t all (reverse h')
 files-step limits start start' m s t all h h' call a reply told events k copy is answers none same grown =
     subst (IsSound limits start' m s t all) (sym (turned h h' (noted call told events) grown))
@@ -149,7 +149,7 @@ files-step limits start start' m s t all h h' call a reply told events k copy is
     (kept-sound limits start m s t all (reverse h) k call.request a reply told copy answers)))
 
 -- a load before any other call
-pub loaded-step : (limits limits' : Limits) (start start' m m' : Tracked) (s : Store) (t : Locks) (all : FinMap nat_cmp Held) (h h' : List Entry) (call : Call) (reply told : Reply) (events : List Event) → IsSound limits start m s t all (reverse h) → IsCopy reply told → files_in call.act ≡ Some F.Load
+pub loaded-step : (limits limits' : Limits) (start start' m m' : Tracked) (s : Store) (t : Locks) (all : FinMap nat_cmp Ongoing) (h h' : List Entry) (call : Call) (reply told : Reply) (events : List Event) → IsSound limits start m s t all (reverse h) → IsCopy reply told → files_in call.act ≡ Some F.Load
     → only_loads (reverse h) ≡ true → IsFilesReply F.Load reply → events ≡ [] → limits' ≡ limits → start' ≡ m' → h' ≡ h ++ record { call = call; reply = told; events = events } ∷ [] → IsSound limits' start' m' s t all (reverse h')
 loaded-step limits limits' start start' m m' s t all h h' call reply told events k copy is early answers none same first grown =
     subst (IsSound limits' start' m' s t all) (sym (turned h h' (noted call told events) grown))
@@ -158,7 +158,7 @@ loaded-step limits limits' start start' m m' s t all h h' call reply told events
     (subst (λ (l : Limits). IsSound l m' m' s t all (noted (record { request = call.request; act = C.Files F.Load }) told [] ∷ reverse h)) (sym same)
     (loaded-sound limits start m s t all (reverse h) k call.request F.Load reply told copy (subst (λ b. AnswersFiles b F.Load reply) (sym early) answers) m' early))))
 
-pub files-puts-step : (says : PutSays) (all : FinMap nat_cmp Held) (h h' : List Entry) (call : Call) (a : FilesAct) (told : Reply) (events : List Event) → PutsSound says all (reverse h) → AreOpen (reverse h) all → files_in call.act ≡ Some a → events ≡ []
+pub files-puts-step : (says : PutSays) (all : FinMap nat_cmp Ongoing) (h h' : List Entry) (call : Call) (a : FilesAct) (told : Reply) (events : List Event) → PutsSound says all (reverse h) → AreOpen (reverse h) all → files_in call.act ≡ Some a → events ≡ []
     → h' ≡ h ++ record { call = call; reply = told; events = events } ∷ [] → PutsSound says all (reverse h')
 files-puts-step says all h h' call a told events k are is none grown =
     subst (PutsSound says all) (sym (turned h h' (noted call told events) grown))
@@ -184,7 +184,7 @@ is-save-of act is = ap is_load (files-act act F.Save is)
 
 -- What a load leaves: what was taken down is told of no manager.
 
-pub load-sound : {V : Type 0} (f : V → List (CacheEntryKey × ℕ)) (o : Option V) (limits limits' : Limits) (m m' : Tracked) (s : Store) (t : Locks) (all : FinMap nat_cmp Held) (h h' : List Entry) (call : Call) (reply told : Reply) (events : List Event)
+pub load-sound : {V : Type 0} (f : V → List (CacheEntryKey × ℕ)) (o : Option V) (limits limits' : Limits) (m m' : Tracked) (s : Store) (t : Locks) (all : FinMap nat_cmp Ongoing) (h h' : List Entry) (call : Call) (reply told : Reply) (events : List Event)
     → IsSound limits (started (option_map f o) m) m s t all (reverse h) → is_none o ≡ only_loads (reverse h) → AnswersFiles (is_none o) F.Load reply → (is_none o ≡ false → m' ≡ m) → limits' ≡ limits → IsCopy reply told → files_in call.act ≡ Some F.Load → events ≡ []
     → h' ≡ h ++ record { call = call; reply = told; events = events } ∷ [] → IsSound limits' (started (option_map f o) m') m' s t all (reverse h')
 load-sound f None limits limits' m m' s t all h h' call reply told events k was answers late same copy is none grown =

@@ -25,7 +25,7 @@ use Rattle.pcache_history.specs.Due.{AreDue, KeepsKey}
 use Rattle.pcache_history.specs.Facts.{Facts, request_in}
 use Rattle.pingora_cache.specs.PartFacts.{facts_for, facts_in}
 use Rattle.pingora_cache.specs.Handing.{HandsOver, open_at, table_given, taker_at}
-use Rattle.pcache_history.specs.Held.{Held, handed_by, on_request, permit_held, request_of, row, taker_in, turned_by}
+use Rattle.pcache_history.specs.Ongoing.{Ongoing, handed_by, on_request, permit_held, request_of, row, taker_in, turned_by}
 use Rattle.pingora_cache.specs.Untold.{untold, untold_put, untold_lock, untold_request}
 use Rattle.pcache_history.specs.History.{events_of}
 use Rattle.pcache_history.specs.Legal.{Gives, IsLegal}
@@ -58,17 +58,17 @@ use Rattle.pingora_cache.proofs.Waiting.{let-go-by, locked-after}
 
 -- ---- what is let go
 
-abbrev gone : Permit → Held → Option Locked
+abbrev gone : Permit → Ongoing → Option Locked
 gone p y = gone_for p y.request
 
 table-gone : (p : Permit) (y : Request) (t : Locks) → table_handed p y t ≡ let_go_by (gone_for p y) t
 table-gone p y t = elim y.uses.lock as (λ b. cond b (let_go_by y.held t) (let_go_by (Some (Write p)) t) ≡ let_go_by (cond b y.held (Some (Write p))) t) [ true ↦ refl | false ↦ refl ]
 
-gone-moves : (limits : Limits) (x x' : Held) (s : Store) (m : Tracked) (o : Option ℕ) → x'.request.reader ≡ x.request.reader → x'.pair ≡ x.pair → x'.request.write ≡ x.request.write → Moves limits (Some x) s m (each E.LetGo o) (Some x') s m
+gone-moves : (limits : Limits) (x x' : Ongoing) (s : Store) (m : Tracked) (o : Option ℕ) → x'.request.reader ≡ x.request.reader → x'.pair ≡ x.pair → x'.request.write ≡ x.request.write → Moves limits (Some x) s m (each E.LetGo o) (Some x') s m
 gone-moves limits x x' s m None reader pair write = ([], refl, record { count = λ w. (λ i. reads_of (Some (record x { request = record x.request { reader = reader i }; pair = pair i })) w); write = write; owed = refl; store = refl; tracked = refl })
 gone-moves limits x x' s m (Some l) reader pair write = (Did (E.LetGo l) ∷ [], refl, (tt, record { count = λ w. (λ i. reads_of (Some (record x { request = record x.request { reader = reader i }; pair = pair i })) w); write = write; owed = refl; store = refl; tracked = refl }))
 
-gone-due : (limits : Limits) (start : Tracked) (es : List Event) (q : Option Held) (w : Option ℕ) (o : Option ℕ) → AreDue limits start es q w None (each E.LetGo o) w
+gone-due : (limits : Limits) (start : Tracked) (es : List Event) (q : Option Ongoing) (w : Option ℕ) (o : Option ℕ) → AreDue limits start es q w None (each E.LetGo o) w
 gone-due limits start es q w None = (refl, refl)
 gone-due limits start es q w (Some l) = (tt, (refl, refl))
 
@@ -88,12 +88,12 @@ number-untold None = refl
 number-untold (Some (Write p)) = refl
 number-untold (Some (Read rd)) = refl
 
-handed-untold : (p : Permit) (y : Held) → untold (handed_by (Some p) y) ≡ handed_by (Some p) (untold y)
+handed-untold : (p : Permit) (y : Ongoing) → untold (handed_by (Some p) y) ≡ handed_by (Some p) (untold y)
 handed-untold p y =
     elim y.request.uses.lock as (λ b. untold (record { request = cond b (record y.request { held = Some (Write p) }) y.request; pair = y.pair; carried = y.carried; put = y.put })
     ≡ record { request = cond b (record (untold_request y.request) { held = Some (Write p) }) (untold_request y.request); pair = y.pair; carried = y.carried; put = option_map untold_put y.put }) [ true ↦ refl | false ↦ refl ]
 
-given-untold : (p : Permit) (y : Held) → let_go_of (gone p (untold y)) ≡ let_go_of (gone p y)
+given-untold : (p : Permit) (y : Ongoing) → let_go_of (gone p (untold y)) ≡ let_go_of (gone p y)
 given-untold p y =
     elim y.request.uses.lock as (λ b. let_go_of (cond b (option_map untold_lock y.request.held) (Some (Write p))) ≡ let_go_of (cond b y.request.held (Some (Write p)))) [
       | true ↦ ap (each E.LetGo) (number-untold y.request.held)
@@ -105,12 +105,12 @@ held-write None p e = absurd (cc)
 held-write (Some (Write q)) p e = let same : q ≡ p = cc in ap (λ z. Some (Write z)) same
 held-write (Some (Read rd)) p e = absurd (cc)
 
-unheld-untold : (q : Option Held) → option_map (on_request unheld) (option_map untold q) ≡ option_map untold (option_map (on_request unheld) q)
+unheld-untold : (q : Option Ongoing) → option_map (on_request unheld) (option_map untold q) ≡ option_map untold (option_map (on_request unheld) q)
 unheld-untold None = refl
 unheld-untold (Some z) = refl
 
 -- the taker as the history names it
-taker-is : (all : FinMap nat_cmp Held) (h : List Entry) (from to : ℕ) → AreOpen h all → taker_in from (C.Give to) h ≡ option_map untold (taker_at from to (get all))
+taker-is : (all : FinMap nat_cmp Ongoing) (h : List Entry) (from to : ℕ) → AreOpen h all → taker_in from (C.Give to) h ≡ option_map untold (taker_at from to (get all))
 taker-is all h from to are =
     ap (λ q. cond (from == to) (option_map (on_request unheld) q) q) (sym (are to))
     ∙ elim (from == to) as (λ b. cond b (option_map (on_request unheld) (option_map untold (get all to))) (option_map untold (get all to)) ≡ option_map untold (cond b (option_map (on_request unheld) (get all to)) (get all to))) [
@@ -148,7 +148,7 @@ holds-on r ds es n m t u h k a permit shows read old = record {
 
 -- ---- a permit is handed over
 
-module _ (limits : Limits) (start m : Tracked) (s : Store) (t : Locks) (all : FinMap nat_cmp Held) (h : List Entry) (from to : ℕ) (k : IsSound limits start m s t all h) (x y : Held) (p : Permit)
+module _ (limits : Limits) (start m : Tracked) (s : Store) (t : Locks) (all : FinMap nat_cmp Ongoing) (h : List Entry) (from to : ℕ) (k : IsSound limits start m s t all h) (x y : Ongoing) (p : Permit)
     (giver : get all from ≡ Some x) (plain : x.put ≡ None) (holds : x.request.held ≡ Some (Write p)) (taker : taker_at from to (get all) ≡ Some y) (may : MayTake (Some y)) where
   abbrev es : List Event
   es = events_of h
@@ -156,10 +156,10 @@ module _ (limits : Limits) (start m : Tracked) (s : Store) (t : Locks) (all : Fi
   abbrev ds : List Deed
   ds = deeds_of h
 
-  abbrev x1 : Held
+  abbrev x1 : Ongoing
   x1 = on_request unheld x
 
-  abbrev y2 : Held
+  abbrev y2 : Ongoing
   y2 = handed_by (Some p) y
 
   abbrev g : Option Locked
@@ -168,10 +168,10 @@ module _ (limits : Limits) (start m : Tracked) (s : Store) (t : Locks) (all : Fi
   abbrev events : List Event
   events = let_go_of g
 
-  abbrev mid : FinMap nat_cmp Held
+  abbrev mid : FinMap nat_cmp Ongoing
   mid = set_to all from (Some x1)
 
-  abbrev after : FinMap nat_cmp Held
+  abbrev after : FinMap nat_cmp Ongoing
   after = set_to mid to (Some y2)
 
   abbrev t' : Locks
@@ -198,7 +198,7 @@ module _ (limits : Limits) (start m : Tracked) (s : Store) (t : Locks) (all : Fi
   taker-self : (from == to) ≡ true → y.request.held ≡ None
   taker-self same =
       let is : Some x1 ≡ Some y = sym (ap (option_map (on_request unheld)) (ap (get all) (sym (eqb-true from to same)) ∙ giver)) ∙ sym (ap (λ b. cond b (option_map (on_request unheld) (get all to)) (get all to)) same) ∙ taker in
-      ap (λ (z : Held). z.request.held) (sym (some-same x1 y is))
+      ap (λ (z : Ongoing). z.request.held) (sym (some-same x1 y is))
 
   held-by-giver : who_holds p.number ds ≡ Some from
   held-by-giver = (k.holds from x giver).permit p.number (ap permit_of holds)
@@ -257,7 +257,7 @@ module _ (limits : Limits) (start m : Tracked) (s : Store) (t : Locks) (all : Fi
       let was = taker-permit w e in
       ne_eqb w p.number (λ same. was.0 (some-same to from (sym was.1 ∙ ap (λ l. who_holds l ds) same ∙ held-by-giver)))
 
-  hold-others : (r : ℕ) (z : Held) → r ≢ from → r ≢ to → get all r ≡ Some z → Holds r (Deeds p.number to (permit_of g) ds) t' z.request.held
+  hold-others : (r : ℕ) (z : Ongoing) → r ≢ from → r ≢ to → get all r ≡ Some z → Holds r (Deeds p.number to (permit_of g) ds) t' z.request.held
   hold-others r z not-from not-to is =
       let old = k.holds r z is in
       holds-on r ds (Deeds p.number to (permit_of g) ds) n (read_locks after) t t' z.request.held k.table second
@@ -287,10 +287,10 @@ module _ (limits : Limits) (start m : Tracked) (s : Store) (t : Locks) (all : Fi
       elim (to == r) as (λ b. (to == r) ≡ b → cond b (Some y2) (get mid r) ≡ Some z → Holds r (Deeds p.number to (permit_of g) ds) t' z.request.held) [
         | true ↦ λ same e.
             subst (λ q. Holds q (Deeds p.number to (permit_of g) ds) t' z.request.held) (eqb-true to r same)
-            (subst (λ o. Holds to (Deeds p.number to (permit_of g) ds) t' o) (sym held-after ∙ ap (λ (w : Held). w.request.held) (some-same y2 z e)) (taker-holds y.request.uses.lock second))
+            (subst (λ o. Holds to (Deeds p.number to (permit_of g) ds) t' o) (sym held-after ∙ ap (λ (w : Ongoing). w.request.held) (some-same y2 z e)) (taker-holds y.request.uses.lock second))
         | false ↦ λ not-to e.
             elim (from == r) as (λ b. (from == r) ≡ b → cond b (Some x1) (get all r) ≡ Some z → Holds r (Deeds p.number to (permit_of g) ds) t' z.request.held) [
-              | true ↦ λ _ a. subst (λ o. Holds r (Deeds p.number to (permit_of g) ds) t' o) (ap (λ (w : Held). w.request.held) (some-same x1 z a)) (holds-none r _ _)
+              | true ↦ λ _ a. subst (λ o. Holds r (Deeds p.number to (permit_of g) ds) t' o) (ap (λ (w : Ongoing). w.request.held) (some-same x1 z a)) (holds-none r _ _)
               | false ↦ λ not-from a. hold-others r z (λ same. both_ways (from == r) not-from (eq-eqb from r (sym same))) (λ same. both_ways (to == r) not-to (eq-eqb to r (sym same))) a
             ] refl (sym (get-set_to all from (Some x1) r) ∙ e)
       ] refl (sym (get-set_to mid to (Some y2) r) ∙ is)
@@ -376,11 +376,11 @@ module _ (limits : Limits) (start m : Tracked) (s : Store) (t : Locks) (all : Fi
 
 -- ---- a call that hands a permit over, or whose reply is WrongCall
 
-wrong-may : (f : Facts) (to : ℕ) (q : Option Held) → f.taker ≡ None → MayBe f (C.Give to) q → ⊥
+wrong-may : (f : Facts) (to : ℕ) (q : Option Ongoing) → f.taker ≡ None → MayBe f (C.Give to) q → ⊥
 wrong-may f to None none may = absurd may
 wrong-may f to (Some x) none may = absurd (subst MayTake none may.1)
 
-keeps-self : (q : Option Held) → KeepsKey q q
+keeps-self : (q : Option Ongoing) → KeepsKey q q
 keeps-self None = tt
 keeps-self (Some x) = λ is. (is, λ _. refl)
 
@@ -392,22 +392,22 @@ plain-told : (p : Option Taking) → option_map untold_put p ≡ None → p ≡ 
 plain-told None is = refl
 plain-told (Some p) is = absurd (cc)
 
-may-told : (q : Option Held) → MayTake (option_map untold q) → MayTake q
+may-told : (q : Option Ongoing) → MayTake (option_map untold q) → MayTake q
 may-told None may = absurd may
 may-told (Some y) may = (may.0, plain-told y.put may.1)
 
-module _ (limits : Limits) (start m : Tracked) (s : Store) (t t' : Locks) (before after : List (ℕ × Held)) (h : List Entry) (from to : ℕ) (reply : Reply) (events : List Event) (k : IsSound limits start m s t (from_entries {R = nat_cmp} before) h) (small : length before < 2 ^ 64)
+module _ (limits : Limits) (start m : Tracked) (s : Store) (t t' : Locks) (before after : List (ℕ × Ongoing)) (h : List Entry) (from to : ℕ) (reply : Reply) (events : List Event) (k : IsSound limits start m s t (from_entries {R = nat_cmp} before) h) (small : length before < 2 ^ 64)
     (hands : HandsOver from to (λ q. open_at q before) t reply events (λ q. open_at q after) t') where
-  abbrev all : FinMap nat_cmp Held
+  abbrev all : FinMap nat_cmp Ongoing
   all = from_entries before
 
-  abbrev new : FinMap nat_cmp Held
+  abbrev new : FinMap nat_cmp Ongoing
   new = from_entries after
 
   pub hands-by-map : HandsOver from to (get all) t reply events (get new) t'
   hands-by-map =
-      subst (λ (f : ℕ → Option Held). HandsOver from to (get all) t reply events f t') (λ i q. lookup-get after q i)
-      (subst (λ (f : ℕ → Option Held). HandsOver from to f t reply events (λ q. open_at q after) t') (λ i q. lookup-get before q i) hands)
+      subst (λ (f : ℕ → Option Ongoing). HandsOver from to (get all) t reply events f t') (λ i q. lookup-get after q i)
+      (subst (λ (f : ℕ → Option Ongoing). HandsOver from to f t reply events (λ q. open_at q after) t') (λ i q. lookup-get before q i) hands)
 
   as-told : (r : Reply) (noted : List Event) → reply ≡ r → events ≡ noted → HandsOver from to (get all) t r noted (get new) t'
   as-told r noted is are = subst (λ z. HandsOver from to (get all) t z noted (get new) t') is (subst (λ z. HandsOver from to (get all) t reply z (get new) t') are hands-by-map)
@@ -433,21 +433,21 @@ module _ (limits : Limits) (start m : Tracked) (s : Store) (t t' : Locks) (befor
       let kept = each-turn-keeps limits start m m s s t t all h (record { request = from; act = C.Give to }) R.WrongCall told [] (get all from) k few as-wrong copy
       (wrong-given (facts_for s t (request_in (get all from)) (taker_in from (C.Give to) h)) to (get all from) R.WrongCall [] (λ kind may. fails kind (still (get all from) may)) (refl, refl)) tt (λ r giver q. refl) in (
         subst (λ (u : Locks). IsSound limits start m s u new (record { call = record { request = from; act = C.Give to }; reply = told; events = [] } ∷ h)) (sym w.table)
-            (subst (λ (x : FinMap nat_cmp Held). IsSound limits start m s t x (record { call = record { request = from; act = C.Give to }; reply = told; events = [] } ∷ h)) (sym same) kept),
+            (subst (λ (x : FinMap nat_cmp Ongoing). IsSound limits start m s t x (record { call = record { request = from; act = C.Give to }; reply = told; events = [] } ∷ h)) (sym same) kept),
         ap (λ (u : Locks). u.age_timeout) w.table,
       )
     where
-      still : (q : Option Held) → MayBe (facts_for s t (request_in (get all from)) (taker_in from (C.Give to) h)) (C.Give to) q → MayBe F (C.Give to) q
+      still : (q : Option Ongoing) → MayBe (facts_for s t (request_in (get all from)) (taker_in from (C.Give to) h)) (C.Give to) q → MayBe F (C.Give to) q
       still None may = absurd may
       still (Some x) may = (may.0, may-told (taker_at from to (get all)) (subst MayTake (taker-is all h from to k.requests) may.1))
 
   -- the permit is handed over
-  done-ends : (told : Reply) → IsCopy R.Done told → (x y : Held) (p : Permit) → get all from ≡ Some x → x.put ≡ None → permit_in x.request.held ≡ Some p → taker_at from to (get all) ≡ Some y → MayTake (Some y)
+  done-ends : (told : Reply) → IsCopy R.Done told → (x y : Ongoing) (p : Permit) → get all from ≡ Some x → x.put ≡ None → permit_in x.request.held ≡ Some p → taker_at from to (get all) ≡ Some y → MayTake (Some y)
       → HandsOver from to (get all) t R.Done (let_go_of (gone p y)) (get new) t' → Ends told (let_go_of (gone p y))
   done-ends told copy x y p giver plain permit taker may w =
       let holds = held-write x.request.held p permit in
-      let x1 : Held = on_request unheld x in
-      let mid : FinMap nat_cmp Held = set_to all from (Some x1) in
+      let x1 : Ongoing = on_request unheld x in
+      let mid : FinMap nat_cmp Ongoing = set_to all from (Some x1) in
       let at-mid : (q : ℕ) → cond (is_at (nat_cmp from) q) (option_map (turned_by unheld false) (get all from)) (get all q) ≡ get mid q =
       λ q. ap (λ o. cond (is_at (nat_cmp from) q) (option_map (turned_by unheld false) o) (get all q)) giver ∙ sym (set-at all from (Some x1) q) in
       let given : permit_held (get all from) ≡ Some p = ap permit_held giver ∙ permit in
@@ -461,25 +461,25 @@ module _ (limits : Limits) (start m : Tracked) (s : Store) (t t' : Locks) (befor
       let table : t' ≡ let_go_by (gone p y) t = w.table ∙ (λ i. table_given (given i) (taker i) t) ∙ table-gone p y.request t in (
         subst (λ (r : Reply). IsSound limits start m s t' new (record { call = record { request = from; act = C.Give to }; reply = r; events = let_go_of (gone p y) } ∷ h)) (sym (told-done told copy))
             (subst (λ (u : Locks). IsSound limits start m s u new (record { call = record { request = from; act = C.Give to }; reply = R.Done; events = let_go_of (gone p y) } ∷ h)) (sym table)
-            (subst (λ (z : FinMap nat_cmp Held). IsSound limits start m s (let_go_by (gone p y) t) z (record { call = record { request = from; act = C.Give to }; reply = R.Done; events = let_go_of (gone p y) } ∷ h)) (sym same)
+            (subst (λ (z : FinMap nat_cmp Ongoing). IsSound limits start m s (let_go_by (gone p y) t) z (record { call = record { request = from; act = C.Give to }; reply = R.Done; events = let_go_of (gone p y) } ∷ h)) (sym same)
             (handed-sound limits start m s t all h from to k x y p giver plain holds taker may))),
         ap (λ (u : Locks). u.age_timeout) table ∙ handed-age limits start m s t all h from to k x y p giver plain holds taker may,
       )
 
   -- by its reply
-  by-taker : (told : Reply) → IsCopy R.Done told → reply ≡ R.Done → (x : Held) (p : Permit) (o : Option Held) → get all from ≡ Some x → x.put ≡ None → permit_in x.request.held ≡ Some p → taker_at from to (get all) ≡ o → MayTake o → events ≡ given_up (Some p) o → Ends told events
+  by-taker : (told : Reply) → IsCopy R.Done told → reply ≡ R.Done → (x : Ongoing) (p : Permit) (o : Option Ongoing) → get all from ≡ Some x → x.put ≡ None → permit_in x.request.held ≡ Some p → taker_at from to (get all) ≡ o → MayTake o → events ≡ given_up (Some p) o → Ends told events
   by-taker told copy is x p None giver plain permit taker may noted = absurd may
   by-taker told copy is x p (Some y) giver plain permit taker may noted = subst (Ends told) (sym noted) (done-ends told copy x y p giver plain permit taker may (as-told R.Done (let_go_of (gone p y)) is noted))
 
-  by-permit : (told : Reply) → IsCopy R.Done told → reply ≡ R.Done → (x : Held) (o : Option Permit) → get all from ≡ Some x → x.put ≡ None → permit_in x.request.held ≡ o → IsSome o → MayTake (taker_at from to (get all)) → events ≡ given_up o (taker_at from to (get all)) → Ends told events
+  by-permit : (told : Reply) → IsCopy R.Done told → reply ≡ R.Done → (x : Ongoing) (o : Option Permit) → get all from ≡ Some x → x.put ≡ None → permit_in x.request.held ≡ o → IsSome o → MayTake (taker_at from to (get all)) → events ≡ given_up o (taker_at from to (get all)) → Ends told events
   by-permit told copy is x None giver plain permit some may noted = absurd (both_ways false refl some)
   by-permit told copy is x (Some p) giver plain permit some may noted = by-taker told copy is x p (taker_at from to (get all)) giver plain permit refl may noted
 
-  by-wrong : (told : Reply) → IsCopy reply told → (q : Option Held) → get all from ≡ q → (FindsKind (C.Give to) q → MayBe F (C.Give to) q → ⊥) → IsIdle R.WrongCall reply events → Ends told events
+  by-wrong : (told : Reply) → IsCopy reply told → (q : Option Ongoing) → get all from ≡ q → (FindsKind (C.Give to) q → MayBe F (C.Give to) q → ⊥) → IsIdle R.WrongCall reply events → Ends told events
   by-wrong told copy q giver fails idle =
       subst (Ends told) (sym idle.1) (wrong-ends told (subst (λ r. IsCopy r told) idle.0 copy) (subst (λ o. FindsKind (C.Give to) o → MayBe F (C.Give to) o → ⊥) (sym giver) fails) (as-told R.WrongCall [] idle.0 idle.1))
 
-  by-giver : (told : Reply) → IsCopy reply told → (q : Option Held) → get all from ≡ q → Replies F (C.Give to) q reply events → Ends told events
+  by-giver : (told : Reply) → IsCopy reply told → (q : Option Ongoing) → get all from ≡ q → Replies F (C.Give to) q reply events → Ends told events
   by-giver told copy None giver (inl (kind, inl (may, other, does))) = absurd may
   by-giver told copy (Some x) giver (inl (kind, inl (may, other, does))) = by-permit told (subst (λ r. IsCopy r told) does.0 copy) does.0 x (permit_in x.request.held) giver kind refl may.0 may.1 does.1
   by-giver told copy q giver (inl (kind, inr (fails, idle))) = by-wrong told copy q giver (λ _ may. fails may) idle

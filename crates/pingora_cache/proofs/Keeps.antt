@@ -15,7 +15,7 @@ use Rattle.pcache_store.specs.Store.{Store, Reader}
 use Rattle.pcache_history.specs.Due.{IsOfWorld, KeepsIn}
 use Rattle.pcache_history.specs.declared.entry.Event.{Event}
 use Rattle.pcache_history.specs.declared.entry.Event.TheVariants as E
-use Rattle.pcache_history.specs.Held.{asked, with_given, with_sought}
+use Rattle.pcache_history.specs.Ongoing.{asked, with_given, with_sought}
 
 -- phases in which no write is made
 no-look : (p : CachePhase) → MayLookUp p → IsFilling p → ⊥

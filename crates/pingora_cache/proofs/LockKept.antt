@@ -5,19 +5,19 @@ use Rattle.std.specs.FinMap.{get, insert}
 use Rattle.std.proofs.lemmas.Bool.{eqb-true, ne_eqb}
 use Rattle.pcache_base.specs.declared.fills.UnusableFill.{UnusableFill}
 use Rattle.pcache_base.specs.declared.poll.Poll.TheVariants.{Pending}
-use Rattle.pcache_lock.specs.declared.lock.outcome.Stage.{Stage}
-use Rattle.pcache_lock.specs.declared.lock.outcome.Stage.TheVariants as stage
+use Rattle.pcache_lock.specs.declared.lock.outcome.PermitState.{PermitState}
+use Rattle.pcache_lock.specs.declared.lock.outcome.PermitState.TheVariants as stage
 use Rattle.pcache_lock.specs.declared.lock.permit.Locked.{Locked}
 use Rattle.pcache_lock.specs.declared.lock.permit.Locked.TheVariants.{Write, Read}
 use Rattle.pcache_lock.specs.declared.lock.status.LockStatus.{LockStatus}
 use Rattle.pcache_lock.specs.Statuses.{IsReason, is_free}
 use Rattle.pcache_lock.specs.Permits.{Core, Permit, Reader, Watch}
 use Rattle.pcache_lock.specs.Locks.{Locks, holder, held_by, unless_free, lock_given, after_request, changed, is_permit, number_of_lock}
-use Rattle.pcache_lock.specs.Waiting.{answer_at, is_old, watched, polled, published, reader_at, reader_polled, stage_of, told_or_pending, watch_at, with_publication}
+use Rattle.pcache_lock.specs.Waiting.{answer_at, is_old, watched, polled, published, reader_at, reader_polled, permit_state, told_or_pending, watch_at, with_publication}
 use Rattle.pcache_lock.specs.Waits.{is_old_at}
-use Rattle.pcache_request.specs.LockWaits.{is_old_answer, too_old_for}
+use Rattle.pcache_request.specs.LockWaits.{is_old_result, too_old_for}
 use Rattle.pcache_request.specs.Requests.{let_go_by, settled}
-use Rattle.pcache_history.specs.Deeds.{Deed, Asked, Released, LetGo, Aged, Published, Polled, who_holds, is_held, shown, shown_first, shown_more, standing}
+use Rattle.pcache_history.specs.Deeds.{Deed, Asked, Released, LetGo, Aged, Published, Polled, who_holds, is_held, shown, shown_first, shown_more, publication}
 use Rattle.pingora_cache.specs.LockMoves.{LockMove, rests, asks, settles, lets_go, publishes, polls, ages, each_deed, deeds_moved, table_moved, held_moved, table_polled, MayMove, MovesLocks}
 use Rattle.pingora_cache.specs.LockTable.{IsTable, Holds, IsWatch, last_of, locks_read, plain}
 use Rattle.pcache_history.specs.Rules.{permit_of}
@@ -120,7 +120,7 @@ still-held false r w h = h
 
 -- the lock on which a request would wait is known
 holder-there : (t : Locks) (k l : ℕ) → holder t k ≡ Some l → (c : Core) × (get t.cores l ≡ Some c)
-holder-there t k l is = by (get t.standing k) is
+holder-there t k l is = by (get t.current k) is
   where
     on : (n : ℕ) (o : Option Core) → get t.cores n ≡ o → unless_free n o ≡ Some l → (c : Core) × (get t.cores l ≡ Some c)
     on n None at e = absurd (cc)
@@ -212,7 +212,7 @@ published-table ds n t l tokens c k is =
       known = k.known;
       over = k.over;
       said = λ q d there.
-          elim (l == q) as (λ b. cond b (Some new) (get t.cores q) ≡ Some d → last_of d.publications ≡ (if b then tokens else standing q ds)) [
+          elim (l == q) as (λ b. cond b (Some new) (get t.cores q) ≡ Some d → last_of d.publications ≡ (if b then tokens else publication q ds)) [
             | true ↦ λ e. ap (λ x. last_of x.publications) (sym (some-same new d e)) ∙ last-with c.readers tokens c.publications
             | false ↦ λ e. k.said q d e
           ] (sym (get-set t.cores l new q) ∙ there);
@@ -254,7 +254,7 @@ published-kept r ds n m t p tokens k holds count =
 
 -- a read lock is polled, and waits on
 module _ (r : ℕ) (ds : List Deed) (n m : ℕ → ℕ) (t : Locks) (rd : Reader) (k : IsTable ds n t) (holds : Holds r ds t (Some (Read rd))) where
-  polled-stage : (at : ℕ) (fills : Option (List UnusableFill)) (c : Core) → get t.cores rd.number ≡ Some c → (s : Stage) → answer_at s (watched c (watch_at c fills rd.watch)) ≡ Pending
+  polled-stage : (at : ℕ) (fills : Option (List UnusableFill)) (c : Core) → get t.cores rd.number ≡ Some c → (s : PermitState) → answer_at s (watched c (watch_at c fills rd.watch)) ≡ Pending
       → ((l : ℕ) → m l + locks_read l (Some (Read rd)) ≡ n l + locks_read l (Some (Read (reader_at s rd (watched c (watch_at c fills rd.watch))))))
       → Kept r ds (Polled r ∷ ds) n m t t (Some (Read (reader_at s rd (watched c (watch_at c fills rd.watch)))))
   polled-stage at fills c is stage.Over pending count = absurd (cc)
@@ -270,26 +270,26 @@ module _ (r : ℕ) (ds : List Deed) (n m : ℕ → ℕ) (t : Locks) (rd : Reader
             subst (λ y. IsWatch r rd'.number (Polled r ∷ ds) rd'.watch y) same
             (subst (λ y. IsWatch r y.number (Polled r ∷ ds) y.watch c) (read-same now rd' e) (watch-polled ds c r rd.number fills rd.watch (k.said rd.number c is) (holds.watch rd c refl is)));
       })
-      (λ p q ne e. e) (λ q l ne. ap (λ b. if b then shown_first (standing l ds) (shown q l ds) else shown q l ds) (other-number r q ne))
+      (λ p q ne e. e) (λ q l ne. ap (λ b. if b then shown_first (publication l ds) (shown q l ds) else shown q l ds) (other-number r q ne))
 
   polled-kept : (at : ℕ) (fills : Option (List UnusableFill)) (o : Option Core) → get t.cores rd.number ≡ o → polled at fills rd.watch o ≡ Pending → ((l : ℕ) → m l + locks_read l (Some (Read rd)) ≡ n l + locks_read l (Some (Read (reader_polled at fills rd o))))
       → Kept r ds (Polled r ∷ ds) n m t t (Some (Read (reader_polled at fills rd o)))
   polled-kept at fills None is pending count = absurd (cc)
-  polled-kept at fills (Some c) is pending count = polled-stage at fills c is (stage_of at c) pending count
+  polled-kept at fills (Some c) is pending count = polled-stage at fills c is (permit_state at c) pending count
 
   -- or finds its permit too old, and is let go
-  old-told : (o : Option UnusableFill) → is_old_answer (told_or_pending o) ≡ false
+  old-told : (o : Option UnusableFill) → is_old_result (told_or_pending o) ≡ false
   old-told None = refl
   old-told (Some f) = refl
 
-  old-stage : (s : Stage) (w : Watch) → is_old_answer (answer_at s w) ≡ true → is_old s ≡ true
+  old-stage : (s : PermitState) (w : Watch) → is_old_result (answer_at s w) ≡ true → is_old s ≡ true
   old-stage stage.Over w e = absurd (cc)
   old-stage stage.Old w e = refl
   old-stage stage.Held w e = let no : false ≡ true = sym (old-told w.told) ∙ e in absurd (cc)
 
-  old-core : (at : ℕ) (fills : Option (List UnusableFill)) (o : Option Core) → is_old_answer (polled at fills rd.watch o) ≡ true → is_old_at at o ≡ true
+  old-core : (at : ℕ) (fills : Option (List UnusableFill)) (o : Option Core) → is_old_result (polled at fills rd.watch o) ≡ true → is_old_at at o ≡ true
   old-core at fills None e = absurd (cc)
-  old-core at fills (Some c) e = old-stage (stage_of at c) (watched c (watch_at c fills rd.watch)) e
+  old-core at fills (Some c) e = old-stage (permit_state at c) (watched c (watch_at c fills rd.watch)) e
 
   aged-kept : (at : ℕ) (fills : Option (List UnusableFill)) → too_old_for t at (Some (Read rd)) fills ≡ true → ((l : ℕ) → m l + locks_read l (Some (Read rd)) ≡ n l + 0)
       → Kept r ds (Aged rd.number ∷ ds) n m t (let_go_by (Some (Read rd)) (table_polled at (Some (Read rd)) t)) None

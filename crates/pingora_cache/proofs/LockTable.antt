@@ -6,18 +6,18 @@ use Rattle.std.specs.Ordering.{nat_cmp}
 use Rattle.std.specs.FinMap.{FinMap, get, insert, remove, get-empty}
 use Rattle.std.proofs.lemmas.Bool.{eqb-true, ne_eqb, or_left, or_right}
 use Rattle.std.proofs.lemmas.Bool.Decides.{nat_tests}
-use Rattle.pcache_lock.specs.declared.lock.outcome.Stage.{Stage}
-use Rattle.pcache_lock.specs.declared.lock.outcome.Stage.TheVariants as stage
+use Rattle.pcache_lock.specs.declared.lock.outcome.PermitState.{PermitState}
+use Rattle.pcache_lock.specs.declared.lock.outcome.PermitState.TheVariants as stage
 use Rattle.pcache_lock.specs.declared.lock.permit.Locked.TheVariants.{Write, Read}
 use Rattle.pcache_lock.specs.declared.lock.status.LockStatus.{LockStatus}
 use Rattle.pcache_lock.specs.declared.lock.status.LockStatus.TheVariants as status
 use Rattle.pcache_lock.specs.Statuses.{IsReason, is_aged, is_pending, is_waiting}
 use Rattle.pcache_lock.specs.Permits.{Core, Permit, Reader, new_core, is_named, with_reader, without_reader, spent, released_status, dropped_status}
 use Rattle.pcache_lock.specs.Locks.{Locks, no_locks, with_permit, with_read_lock, without_entry, kept, left, released, released_on, permit_dropped, reader_dropped, let_go}
-use Rattle.pcache_lock.specs.Waiting.{after_poll, table_at, stage_of, is_old, aged}
+use Rattle.pcache_lock.specs.Waiting.{after_poll, table_at, permit_state, is_old, aged}
 use Rattle.pcache_lock.specs.Waits.{is_old_at}
 use Rattle.pcache_lock.proofs.Calls.{reason_ends}
-use Rattle.pcache_history.specs.Deeds.{Deed, Asked, Released, LetGo, Aged, Published, Polled, Handed, ask_of, who_holds, is_held, status_of, standing}
+use Rattle.pcache_history.specs.Deeds.{Deed, Asked, Released, LetGo, Aged, Published, Polled, Handed, ask_of, who_holds, is_held, status_of, publication}
 use Rattle.pingora_cache.specs.LockTable.{plain, lock_as, lock_of, last_of, IsTable}
 use Rattle.pingora_cache.proofs.StateWrites.{get-set, get-unset}
 use Rattle.pcache_history.proofs.Sums.{same-number}
@@ -109,7 +109,7 @@ changed-at xs ys age ds es n m l o set are is other q =
 
 get-kept : (t : Locks) (l : ℕ) (d : Core) (q : ℕ) → get (kept t l d).cores q ≡ cond (l == q) (cond (is_named d) (Some d) None) (get t.cores q)
 get-kept t l d q =
-    elim (is_named d) as (λ b. get (cond b (record t { cores = insert t.cores l d }) (record t { cores = remove t.cores l; standing = without_entry l d.slot t.standing })).cores q ≡ cond (l == q) (cond b (Some d) None) (get t.cores q)) [
+    elim (is_named d) as (λ b. get (cond b (record t { cores = insert t.cores l d }) (record t { cores = remove t.cores l; current = without_entry l d.slot t.current })).cores q ≡ cond (l == q) (cond b (Some d) None) (get t.cores q)) [
       | true ↦ get-set t.cores l d q
       | false ↦ get-unset t.cores l q
     ]
@@ -117,13 +117,13 @@ get-kept t l d q =
 -- the content of a table besides its locks
 same-kept : (t : Locks) (l : ℕ) (d : Core) → ((kept t l d).next ≡ t.next) × ((kept t l d).age_timeout ≡ t.age_timeout)
 same-kept t l d =
-    elim (is_named d) as (λ b. ((cond b (record t { cores = insert t.cores l d }) (record t { cores = remove t.cores l; standing = without_entry l d.slot t.standing })).next ≡ t.next)
-    × ((cond b (record t { cores = insert t.cores l d }) (record t { cores = remove t.cores l; standing = without_entry l d.slot t.standing })).age_timeout ≡ t.age_timeout)) [ true ↦ (refl, refl) | false ↦ (refl, refl) ]
+    elim (is_named d) as (λ b. ((cond b (record t { cores = insert t.cores l d }) (record t { cores = remove t.cores l; current = without_entry l d.slot t.current })).next ≡ t.next)
+    × ((cond b (record t { cores = insert t.cores l d }) (record t { cores = remove t.cores l; current = without_entry l d.slot t.current })).age_timeout ≡ t.age_timeout)) [ true ↦ (refl, refl) | false ↦ (refl, refl) ]
 
 same-left : (t : Locks) (l : ℕ) (c : Core) → ((left t l c).next ≡ t.next) × ((left t l c).age_timeout ≡ t.age_timeout) × ((left t l c).cores ≡ t.cores)
 same-left t l c =
-    elim (is_aged c.status) as (λ b. ((cond b t (record t { standing = without_entry l c.slot t.standing })).next ≡ t.next) × ((cond b t (record t { standing = without_entry l c.slot t.standing })).age_timeout ≡ t.age_timeout)
-    × ((cond b t (record t { standing = without_entry l c.slot t.standing })).cores ≡ t.cores)) [ true ↦ (refl, refl, refl) | false ↦ (refl, refl, refl) ]
+    elim (is_aged c.status) as (λ b. ((cond b t (record t { current = without_entry l c.slot t.current })).next ≡ t.next) × ((cond b t (record t { current = without_entry l c.slot t.current })).age_timeout ≡ t.age_timeout)
+    × ((cond b t (record t { current = without_entry l c.slot t.current })).cores ≡ t.cores)) [ true ↦ (refl, refl, refl) | false ↦ (refl, refl, refl) ]
 
 -- ---- a lock by its parts
 
@@ -277,7 +277,7 @@ module _ (ds : List Deed) (n : ℕ → ℕ) (t : Locks) (k : IsTable ds n t) whe
   -- one lock written back or removed, by a deed that says nothing of publications
   written : (es : List Deed) (m : ℕ → ℕ) (u : Locks) (l : ℕ) (c : Core) (o : Option Core) → get t.cores l ≡ Some c → ((q : ℕ) → get u.cores q ≡ cond (l == q) o (get t.cores q)) → u.next ≡ t.next → u.age_timeout ≡ t.age_timeout
       → ((d : Core) → o ≡ Some d → d.publications ≡ c.publications) → option_map plain o ≡ lock_of t.age_timeout l (m l) es → ((q : ℕ) → (l == q) ≡ false → lock_of t.age_timeout q (m q) es ≡ lock_of t.age_timeout q (n q) ds)
-      → ((q : ℕ) → ask_of q es ≡ ask_of q ds) → ((q : ℕ) → standing q es ≡ standing q ds) → ((q : ℕ) → 0 < m q → is_some (ask_of q ds) ≡ true)
+      → ((q : ℕ) → ask_of q es ≡ ask_of q ds) → ((q : ℕ) → publication q es ≡ publication q ds) → ((q : ℕ) → 0 < m q → is_some (ask_of q ds) ≡ true)
       → ((q : ℕ) → is_some (ask_of q ds) ≡ true → is_held q es ≡ false → is_waiting (status_of q es) ≡ false) → Follows es m t u
   written es m u l c o is set next age says here off asks stands known over =
       let was = kept-at t.cores u.cores t l o c refl set is says in
@@ -310,7 +310,7 @@ module _ (ds : List Deed) (n : ℕ → ℕ) (t : Locks) (k : IsTable ds n t) whe
           known = λ l lt. elim (t.next == l) as (λ b. is_some (if b then Some (slot, now) else ask_of l ds) ≡ true) [ true ↦ refl | false ↦ k.known l lt ];
           over = λ l asked h. over-asked (t.next == l) r (slot, now) (who_holds l ds) (ask_of l ds) (status_of l ds) (k.over l) asked h;
           said = λ l c is.
-              elim (t.next == l) as (λ b. cond b (Some new) (get t.cores l) ≡ Some c → last_of c.publications ≡ (if b then [] else standing l ds)) [
+              elim (t.next == l) as (λ b. cond b (Some new) (get t.cores l) ≡ Some c → last_of c.publications ≡ (if b then [] else publication l ds)) [
                 | true ↦ λ e. ap (λ x. last_of x.publications) (sym (some-same new c e))
                 | false ↦ λ e. k.said l c e
               ] (sym (get-set t.cores t.next new l) ∙ is);
@@ -386,7 +386,7 @@ module _ (ds : List Deed) (n : ℕ → ℕ) (t : Locks) (k : IsTable ds n t) whe
       (λ q. refl) (λ q. refl) (λ q lt. k.known q (omega (arith, more q, lt))) k.over)
 
   -- a permit is found too old
-  aged-table : (l now : ℕ) (c : Core) → get t.cores l ≡ Some c → (s : Stage) → is_old s ≡ true → Follows (Aged l ∷ ds) n t (table_at s t l c)
+  aged-table : (l now : ℕ) (c : Core) → get t.cores l ≡ Some c → (s : PermitState) → is_old s ≡ true → Follows (Aged l ∷ ds) n t (table_at s t l c)
   aged-table l now c is stage.Over old = absurd (cc)
   aged-table l now c is stage.Held old = absurd (cc)
   aged-table l now c is stage.Old old =
@@ -398,7 +398,7 @@ module _ (ds : List Deed) (n : ℕ → ℕ) (t : Locks) (k : IsTable ds n t) whe
   pub ages : (l now : ℕ) → is_old_at now (get t.cores l) ≡ true → Follows (Aged l ∷ ds) n t (after_poll t now l (get t.cores l))
   ages l now old = elim (get t.cores l) as (λ o. get t.cores l ≡ o → is_old_at now o ≡ true → Follows (Aged l ∷ ds) n t (after_poll t now l o)) [
     | None ↦ λ _ e. absurd (cc)
-    | Some c ↦ λ is e. aged-table l now c is (stage_of now c) e
+    | Some c ↦ λ is e. aged-table l now c is (permit_state now c) e
   ] refl old
 
   -- a poll changes nothing

@@ -10,7 +10,7 @@ use Rattle.pcache_base.specs.Fills.{first_match}
 use Rattle.pcache_base.specs.declared.fills.UnusableFill.{UnusableFill}
 use Rattle.pcache_base.specs.declared.poll.Poll.{Poll}
 use Rattle.pcache_base.specs.declared.poll.Poll.TheVariants.{Ready}
-use Rattle.pcache_lock.specs.declared.lock.outcome.Stage.TheVariants as stage
+use Rattle.pcache_lock.specs.declared.lock.outcome.PermitState.TheVariants as stage
 use Rattle.pcache_lock.specs.declared.lock.outcome.WaitOutcome.{WaitOutcome}
 use Rattle.pcache_lock.specs.declared.lock.outcome.WaitOutcome.TheVariants as W
 use Rattle.pcache_lock.specs.declared.lock.permit.Locked.TheVariants.{Read}
@@ -20,11 +20,11 @@ use Rattle.pcache_lock.specs.Statuses.{is_aged, is_pending, is_waiting}
 use Rattle.pcache_lock.specs.Locks.{Locks}
 use Rattle.pcache_lock.specs.Permits.{Core, Reader, Watch}
 use Rattle.pcache_lock.specs.Waiting.{first_told, watched, watch_at, polled, publications_with, says_nothing, answer_at, told_or_pending, status_seen}
-use Rattle.pcache_request.specs.LockWaits.{answer_by, is_late, wait_answer, too_old_for, is_old_answer, unusable_in}
+use Rattle.pcache_request.specs.LockWaits.{result_by, is_late, wait_result, too_old_for, is_old_result, unusable_in}
 use Rattle.pcache_request.specs.Requests.{Request}
-use Rattle.pcache_history.specs.Deeds.{Deed, Published, Polled, is_held, status_of, standing, shown, shown_first, shown_more}
+use Rattle.pcache_history.specs.Deeds.{Deed, Published, Polled, is_held, status_of, publication, shown, shown_first, shown_more}
 use Rattle.pingora_cache.specs.LockTable.{last_of, IsTable, IsWatching, IsWatch, Holds}
-use Rattle.pingora_cache.specs.Untold.{untold_reader, untold_request}
+use Rattle.pingora_cache.specs.Untold.{untold_read_lock, untold_request}
 use Rattle.pcache_history.specs.Waits.{is_too_old, told_of, poll_of, wait_of, finds_too_old}
 use Rattle.pingora_cache.proofs.LockTable.{held-pending, lock-at, read-there}
 use Rattle.pcache_history.proofs.Sums.{same-number}
@@ -89,8 +89,8 @@ last-with readers tokens ps =
 
 -- ---- a reader that looks
 
-shown-polled : (r l : ℕ) (ds : List Deed) → shown r l (Polled r ∷ ds) ≡ shown_first (standing l ds) (shown r l ds)
-shown-polled r l ds = ap (λ b. if b then shown_first (standing l ds) (shown r l ds) else shown r l ds) (same-number r)
+shown-polled : (r l : ℕ) (ds : List Deed) → shown r l (Polled r ∷ ds) ≡ shown_first (publication l ds) (shown r l ds)
+shown-polled r l ds = ap (λ b. if b then shown_first (publication l ds) (shown r l ds) else shown r l ds) (same-number r)
 
 first-not : (p : List ℕ) (qs : List (List ℕ)) → shown_first p qs ≢ []
 first-not p [] e = cc
@@ -101,28 +101,28 @@ first-same p [] ne = absurd (ne refl)
 first-same p (q ∷ qs) ne = refl
 
 -- what it was told once it looked: as it will be shown, and as a poll returns
-told-looked : (ds : List Deed) (c : Core) (r l : ℕ) (fills : Option (List UnusableFill)) (w : Option Watch) → last_of c.publications ≡ standing l ds → IsWatch r l ds w c
-    → (watched c (watch_at c fills w)).told ≡ first_told (watched c (watch_at c fills w)).fills (shown_first (standing l ds) (shown r l ds))
+told-looked : (ds : List Deed) (c : Core) (r l : ℕ) (fills : Option (List UnusableFill)) (w : Option Watch) → last_of c.publications ≡ publication l ds → IsWatch r l ds w c
+    → (watched c (watch_at c fills w)).told ≡ first_told (watched c (watch_at c fills w)).fills (shown_first (publication l ds) (shown r l ds))
 told-looked ds c r l fills None said k =
     let fs : List UnusableFill = unwrap_or fills [] in
-    from-last c.publications fs ∙ ap (λ x. first_match x fs) said ∙ sym (ap (λ ps. first_told fs (shown_first (standing l ds) ps)) k ∙ or_none (first_match (standing l ds) fs))
-told-looked ds c r l fills (Some w) said k = k.told ∙ sym (ap (first_told w.fills) (first-same (standing l ds) (shown r l ds) k.some))
+    from-last c.publications fs ∙ ap (λ x. first_match x fs) said ∙ sym (ap (λ ps. first_told fs (shown_first (publication l ds) ps)) k ∙ or_none (first_match (publication l ds) fs))
+told-looked ds c r l fills (Some w) said k = k.told ∙ sym (ap (first_told w.fills) (first-same (publication l ds) (shown r l ds) k.some))
 
-told-same : (ds : List Deed) (c : Core) (r : ℕ) (rd : Reader) (fills : Option (List UnusableFill)) (w : Option Watch) → last_of c.publications ≡ standing rd.number ds → IsWatch r rd.number ds w c
+told-same : (ds : List Deed) (c : Core) (r : ℕ) (rd : Reader) (fills : Option (List UnusableFill)) (w : Option Watch) → last_of c.publications ≡ publication rd.number ds → IsWatch r rd.number ds w c
     → (watched c (watch_at c fills w)).told ≡ told_of r (record { number = rd.number; watch = w }) fills ds
 told-same ds c r rd fills None said k =
     let fs : List UnusableFill = unwrap_or fills [] in
-    from-last c.publications fs ∙ ap (λ x. first_match x fs) said ∙ sym (or_none (first_match (standing rd.number ds) fs))
+    from-last c.publications fs ∙ ap (λ x. first_match x fs) said ∙ sym (or_none (first_match (publication rd.number ds) fs))
 told-same ds c r rd fills (Some w) said k = k.told
 
 -- a poll after which it waits on
-pub watch-polled : (ds : List Deed) (c : Core) (r l : ℕ) (fills : Option (List UnusableFill)) (w : Option Watch) → last_of c.publications ≡ standing l ds → IsWatch r l ds w c
+pub watch-polled : (ds : List Deed) (c : Core) (r l : ℕ) (fills : Option (List UnusableFill)) (w : Option Watch) → last_of c.publications ≡ publication l ds → IsWatch r l ds w c
     → IsWatch r l (Polled r ∷ ds) (Some (watched c (watch_at c fills w))) c
 watch-polled ds c r l fills w said k =
     let x : Watch = watched c (watch_at c fills w) in
     record {
       seen = omega arith;
-      some = λ e. first-not (standing l ds) (shown r l ds) (sym (shown-polled r l ds) ∙ e);
+      some = λ e. first-not (publication l ds) (shown r l ds) (sym (shown-polled r l ds) ∙ e);
       told = ap (λ ps. option_or x.told (first_told x.fills ps)) (drop-all c.publications) ∙ or_none x.told ∙ told-looked ds c r l fills w said k ∙ ap (first_told x.fills) (sym (shown-polled r l ds));
     }
 
@@ -191,12 +191,12 @@ poll-said true s age start now w o pending told =
 
 -- if the permit is over, its status is the one that a reader sees
 seen-by : (held old : Bool) (s : LockStatus) (expired late : Bool) (told : Option UnusableFill) → (held ≡ false → is_waiting s ≡ false)
-    → answer_by (cond (is_waiting s && expired) status.AgeTimeout s) late (if held then (if old then Ready W.AgeTimeout else told_or_pending told) else Ready W.Released)
-    ≡ answer_by s late (if held then (if old then Ready W.AgeTimeout else told_or_pending told) else Ready W.Released)
+    → result_by (cond (is_waiting s && expired) status.AgeTimeout s) late (if held then (if old then Ready W.AgeTimeout else told_or_pending told) else Ready W.Released)
+    ≡ result_by s late (if held then (if old then Ready W.AgeTimeout else told_or_pending told) else Ready W.Released)
 seen-by true true s expired late told over = refl
 seen-by true false s expired late None over = refl
 seen-by true false s expired late (Some f) over = refl
-seen-by false old s expired late told over = ap (λ b. answer_by (cond (b && expired) status.AgeTimeout s) late (Ready W.Released)) (over refl)
+seen-by false old s expired late told over = ap (λ b. result_by (cond (b && expired) status.AgeTimeout s) late (Ready W.Released)) (over refl)
 
 module _ (ds : List Deed) (n : ℕ → ℕ) (t : Locks) (now r : ℕ) (rd : Reader) (k : IsTable ds n t) (holds : Holds r ds t (Some (Read rd))) (read : 0 < n rd.number) where
   pub poll-is : (fills : Option (List UnusableFill)) → polled now fills rd.watch (get t.cores rd.number) ≡ poll_of t.age_timeout now r rd fills ds
@@ -216,7 +216,7 @@ module _ (ds : List Deed) (n : ℕ → ℕ) (t : Locks) (now r : ℕ) (rd : Read
       ∙ poll-said (is_held l ds) (status_of l ds) t.age_timeout lock.ask.1 now x (told_of r rd fills ds) (held-pending l ds) told
       ∙ sym (ap (λ a. if is_held l ds then (if is_aged (status_of l ds) || unwrap_or (option_map (λ y. nat_le t.age_timeout (now - y.1)) a) false then Ready W.AgeTimeout else told_or_pending (told_of r rd fills ds)) else Ready W.Released) lock.is)
 
-  pub wait-is : (x : Request) → wait_answer t now (Some (Read rd)) x ≡ wait_of t.age_timeout now r rd x ds
+  pub wait-is : (x : Request) → wait_result t now (Some (Read rd)) x ≡ wait_of t.age_timeout now r rd x ds
   wait-is x =
       let l = rd.number in
       let found = read-there ds n t k l read in
@@ -224,26 +224,26 @@ module _ (ds : List Deed) (n : ℕ → ℕ) (t : Locks) (now r : ℕ) (rd : Read
       let lock = lock-at ds n t k l c found.1 in
       let late : Bool = is_late now rd x.wait_timeout x.digest.waits x.waits_since in
       let stood : c.status ≡ status_of l ds = ap (λ y. y.status) lock.same in
-      ap (λ p. answer_by (status_seen now (get t.cores l)) late p) (poll-is (unusable_in x.key))
-      ∙ ap (λ o. answer_by (status_seen now o) late (poll_of t.age_timeout now r rd (unusable_in x.key) ds)) found.1
-      ∙ ap (λ s. answer_by (cond (is_waiting s && nat_le c.age_timeout (now - c.start)) status.AgeTimeout s) late (poll_of t.age_timeout now r rd (unusable_in x.key) ds)) stood
+      ap (λ p. result_by (status_seen now (get t.cores l)) late p) (poll-is (unusable_in x.key))
+      ∙ ap (λ o. result_by (status_seen now o) late (poll_of t.age_timeout now r rd (unusable_in x.key) ds)) found.1
+      ∙ ap (λ s. result_by (cond (is_waiting s && nat_le c.age_timeout (now - c.start)) status.AgeTimeout s) late (poll_of t.age_timeout now r rd (unusable_in x.key) ds)) stood
       ∙ seen-by (is_held l ds) (is_too_old t.age_timeout now l ds) (status_of l ds) (nat_le c.age_timeout (now - c.start)) late (told_of r rd (unusable_in x.key) ds) (k.over l (ap is_some lock.is))
 
   pub too-old-is : (x : Request) → too_old_for t now (Some (Read rd)) (unusable_in x.key) ≡ finds_too_old t.age_timeout now r rd x ds
-  too-old-is x = ap is_old_answer (poll-is (unusable_in x.key))
+  too-old-is x = ap is_old_result (poll-is (unusable_in x.key))
 
 -- ---- what a reader was told does not count
 
-pub wait-untold : (age now r : ℕ) (rd : Reader) (x : Request) (ds : List Deed) → wait_of age now r (untold_reader rd) (untold_request x) ds ≡ wait_of age now r rd x ds
+pub wait-untold : (age now r : ℕ) (rd : Reader) (x : Request) (ds : List Deed) → wait_of age now r (untold_read_lock rd) (untold_request x) ds ≡ wait_of age now r rd x ds
 wait-untold age now r rd x ds = by rd.watch
   where
-    by : (w : Option Watch) → wait_of age now r (untold_reader (record { number = rd.number; watch = w })) (untold_request x) ds ≡ wait_of age now r (record { number = rd.number; watch = w }) x ds
+    by : (w : Option Watch) → wait_of age now r (untold_read_lock (record { number = rd.number; watch = w })) (untold_request x) ds ≡ wait_of age now r (record { number = rd.number; watch = w }) x ds
     by None = refl
     by (Some w) = refl
 
-pub too-old-untold : (age now r : ℕ) (rd : Reader) (x : Request) (ds : List Deed) → finds_too_old age now r (untold_reader rd) (untold_request x) ds ≡ finds_too_old age now r rd x ds
+pub too-old-untold : (age now r : ℕ) (rd : Reader) (x : Request) (ds : List Deed) → finds_too_old age now r (untold_read_lock rd) (untold_request x) ds ≡ finds_too_old age now r rd x ds
 too-old-untold age now r rd x ds = by rd.watch
   where
-    by : (w : Option Watch) → finds_too_old age now r (untold_reader (record { number = rd.number; watch = w })) (untold_request x) ds ≡ finds_too_old age now r (record { number = rd.number; watch = w }) x ds
+    by : (w : Option Watch) → finds_too_old age now r (untold_read_lock (record { number = rd.number; watch = w })) (untold_request x) ds ≡ finds_too_old age now r (record { number = rd.number; watch = w }) x ds
     by None = refl
     by (Some w) = refl

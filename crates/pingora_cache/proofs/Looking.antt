@@ -2,7 +2,7 @@
 use Rattle.std.proofs.Common.{◌≡◌, ℕ, ◌&&◌, Bool, true, false, cond, Option, None, Some, IsSome, is_none, List, [], ◌∷◌, ◌++◌, refl, ap, sym, subst, ◌∙◌, inl, inr, ◌≤◌, ◌^◌, IsTrue, ◌⊎◌, option_map, Result, Ok, Err, IfOk, IfErr}
 use Rattle.pcache_base.specs.Key.{Key, slot}
 use Rattle.pcache_base.specs.declared.error.ErrorType.{ErrorType}
-use Rattle.pcache_lock.specs.Locks.{Locks, MayRefuseLock}
+use Rattle.pcache_lock.specs.Locks.{Locks, MayFailLock}
 use Rattle.pcache_lock.specs.declared.lock.status.LockStatus.TheVariants.{TransientError}
 use Rattle.pcache_meta.specs.Meta.{Meta}
 use Rattle.pcache_predict.specs.declared.admission.Decision.{Decision}
@@ -32,7 +32,7 @@ use Rattle.pcache_history.specs.declared.entry.Event.TheVariants as E
 use Rattle.pcache_history.specs.Deeds.{deeds_by}
 use Rattle.pcache_history.specs.Due.{KeepsIn, KeepsKey, Owed}
 use Rattle.pcache_history.specs.Facts.{Facts}
-use Rattle.pcache_history.specs.Held.{Held, after_look, asked, carrying, decides, is_wrong, looked_by, outcome, pair_of, pair_reader, policy_in}
+use Rattle.pcache_history.specs.Ongoing.{Ongoing, after_look, asked, carrying, decides, is_wrong, looked_by, kind_of_reply, pair_of, pair_reader, policy_in}
 use Rattle.pcache_history.specs.Rules.{HandsOn, IsOther, Looks, LooksOn, Misses, drop_of, each, look_reply}
 use Rattle.pcache_evict.specs.Tracked.{Limits}
 use Rattle.pingora_cache.specs.Moved.{Act, Acts, At, Did, Joins, Leaves, IsNextAt, MovesStore, after_event, after_join, after_leave, at_call, Moves}
@@ -47,7 +47,7 @@ use Rattle.pingora_cache.proofs.LockSteps.{deferred-locks, look-noted, missed-lo
 use Rattle.pingora_cache.proofs.Noted.{key-asked, misses-asked, misses-refused, permit-named}
 
 -- a reply that is another is not that of a wrong call
-pub right_of : (reply : Reply) → IsOther reply → is_wrong (outcome reply) ≡ false
+pub right_of : (reply : Reply) → IsOther reply → is_wrong (kind_of_reply reply) ≡ false
 right_of R.WrongCall other = absurd other
 right_of reply other = refl
 
@@ -63,18 +63,18 @@ heard None n m h none = (ap (λ (z : LookNote). z.slot) h, ap (λ (z : LookNote)
 heard (Some p) n m h none = h
 
 -- a look-up that fails: the store is unchanged, or the pair that it has was let go
-still-moves : (s u : Store) (x y : Held) (events : List Event) → events ≡ [] → y ≡ x → u ≡ s → MovesStore (Some x) s events (Some y) u
+still-moves : (s u : Store) (x y : Ongoing) (events : List Event) → events ≡ [] → y ≡ x → u ≡ s → MovesStore (Some x) s events (Some y) u
 still-moves s u x y events none now to limits m =
-    subst (λ (z : Held). Moves limits (Some x) s m events (Some z) u m) (sym now) (subst (λ (v : Store). Moves limits (Some x) s m events (Some x) v m) (sym to)
+    subst (λ (z : Ongoing). Moves limits (Some x) s m events (Some z) u m) (sym now) (subst (λ (v : Store). Moves limits (Some x) s m events (Some x) v m) (sym to)
     (subst (λ es. Moves limits (Some x) s m es (Some x) s m) (sym none) ([], refl, record { count = λ w. refl; write = refl; owed = refl; store = refl; tracked = refl })))
 
-pub refused-moves : (s u : Store) (x y : Held) (k : Key) (e f : ErrorType) (events : List Event) → x.request.key ≡ Some k → events ≡ [] → y ≡ x → ((e ≡ f) × (u ≡ s)) ⊎ ((e ≡ f) × (u ≡ passed_over s x.request.key)) → MovesStore (Some x) s events (Some y) u
+pub refused-moves : (s u : Store) (x y : Ongoing) (k : Key) (e f : ErrorType) (events : List Event) → x.request.key ≡ Some k → events ≡ [] → y ≡ x → ((e ≡ f) × (u ≡ s)) ⊎ ((e ≡ f) × (u ≡ passed_over s x.request.key)) → MovesStore (Some x) s events (Some y) u
 refused-moves s u x y k e f events named none now (inl p) = still-moves s u x y events none now p.1
 refused-moves s u x y k e f events named none now (inr p) = by (found_for s x.request.key) refl
   where
     by : (o : Option (Meta × Reader)) → found_for s x.request.key ≡ o → MovesStore (Some x) s events (Some y) u
     by None found = still-moves s u x y events none now (p.1 ∙ ap (λ o. left_by (reader_in o) (followed s o)) found)
-    by (Some q) found = unnoted x y s u (slot k) q events (find-at s x.request.key k (Some q) named found) none (ap (λ (z : Held). z.pair) now) (ap (λ (z : Held). z.request.reader) now) (ap (λ (z : Held). z.request.write) now)
+    by (Some q) found = unnoted x y s u (slot k) q events (find-at s x.request.key k (Some q) named found) none (ap (λ (z : Ongoing). z.pair) now) (ap (λ (z : Ongoing). z.request.reader) now) (ap (λ (z : Ongoing). z.request.write) now)
         (p.1 ∙ ap (λ o. left_by (reader_in o) (followed s o)) found)
 
 -- ---- what was decided
@@ -89,7 +89,7 @@ kept-as may p is true o d h = decided-as may p is o d (h refl)
 kept-as may p is false o d h = refl
 
 -- it is what the decision that is carried says, if the policy that was passed is that one
-pub taken-decision : (s : Store) (x : Held) (y : Request) (a : Answer) (policy after : Decision) → pair_of a ≡ found_for s x.request.key → policy ≡ policy_in x.carried
+pub taken-decision : (s : Store) (x : Ongoing) (y : Request) (a : Answer) (policy after : Decision) → pair_of a ≡ found_for s x.request.key → policy ≡ policy_in x.carried
     → (IsTrue (asks_policy s x.request) → Decides (λ (k : Key) (d : Decision). (d ≡ policy) × (after ≡ policy)) x.request.key y.digest.admission)
     → decision_taken s x.request y ≡ decides a x
 taken-decision s x y a policy after is lent h =
@@ -147,7 +147,7 @@ quiet-asked : (k : ℕ) (a : Result (Option AskedLock) ErrorType) → AreQuiet (
 quiet-asked k (Ok a) = quiet-asking k a
 quiet-asked k (Err e) = tt
 
-pub held-after : (l : LookUp MemHitHandler) (z : Held) → (held_after_look l z).request.held ≡ z.request.held
+pub held-after : (l : LookUp MemHitHandler) (z : Ongoing) → (held_after_look l z).request.held ≡ z.request.held
 held-after (look.Found m h) z = refl
 held-after (look.NotFound b) z = refl
 held-after (look.Deferred q) z = refl
@@ -161,7 +161,7 @@ missed_with b = look.NotFound b
 
 -- ---- a look-up of a request x, whose key is k, of which the note has the copy a, and with the decision d
 
-module _ (s : Store) (t : Locks) (x : Held) (k : Key) (a : Answer) (d : Option Decision) (named : x.request.key ≡ Some k) (is : pair_of a ≡ found_for s x.request.key) (own : d ≡ decides a x) where
+module _ (s : Store) (t : Locks) (x : Ongoing) (k : Key) (a : Answer) (d : Option Decision) (named : x.request.key ≡ Some k) (is : pair_of a ≡ found_for s x.request.key) (own : d ≡ decides a x) where
   abbrev pub facts : Facts
   facts = facts_in s t x.request
 
@@ -175,7 +175,7 @@ module _ (s : Store) (t : Locks) (x : Held) (k : Key) (a : Answer) (d : Option D
   with_own = with_decision d x.request
 
   -- its reply
-  misses-told : (b : Result (Option AskedLock) ErrorType) → IfOk b (λ q. q ≡ asked_for_key t x.request) → IfErr b (λ e. IsTrue (asks_unseen s x.request) × MayRefuseLock t e) → Misses facts (slot k) a x.request (asked_answer b) (E.Look (slot k) a ∷ asking_if (slot k) b)
+  misses-told : (b : Result (Option AskedLock) ErrorType) → IfOk b (λ q. q ≡ asked_for_key t x.request) → IfErr b (λ e. IsTrue (asks_unseen s x.request) × MayFailLock t e) → Misses facts (slot k) a x.request (asked_answer b) (E.Look (slot k) a ∷ asking_if (slot k) b)
   misses-told (Ok q) ok err = misses-asked s t x.request k a q named ok
   misses-told (Err e) ok err = misses-refused s t x.request k a e (second-of (is_unseen_for s x.request) x.request.uses.lock err.0) err.1
 
@@ -225,10 +225,10 @@ module _ (s : Store) (t : Locks) (x : Held) (k : Key) (a : Answer) (d : Option D
       looked_on o = cond (is_unseen_for s (with_decision o x.request)) (with_key_lock t (with_decision o x.request)) (with_decision o x.request)
 
   -- by its row
-  abbrev pub on_with : List Event → Request → Option (Meta × Reader) → Held
+  abbrev pub on_with : List Event → Request → Option (Meta × Reader) → Ongoing
   on_with es y p = record { request = y; pair = p; carried = x.carried; put = x.put }
 
-  abbrev pub off_with : Request → Held
+  abbrev pub off_with : Request → Ongoing
   off_with y = record { request = y; pair = None; carried = None; put = x.put }
 
   row-on : (rest : List Event) (y : Request) (p : Option (Meta × Reader)) → is_deferral d ≡ false → y ≡ asked false rest with_own → p ≡ visible from had → on_with rest y p ≡ looked_by (E.Look (slot k) a ∷ rest) x
@@ -249,19 +249,19 @@ module _ (s : Store) (t : Locks) (x : Held) (k : Key) (a : Answer) (d : Option D
   row-by (look.NotFound b) y may handed tells ok err = row-on (asking_if (slot k) b) y None tells.0 (request-missed y b handed tells ok err) handed
   row-by (look.Deferred q) y may handed tells ok err = row-off (each E.Release (permit_in q) ++ drop_of x.request.write) y tells.0 may (request-off y tells.0 ok)
 
-  pub look-row : (l : LookUp MemHitHandler) (y : Request) (z : Held) (events : List Event) → MayLookUp x.request.phase → pair_handed l ≡ seen_for s x.request → Tells d s t x.request l → OnLooked l (y ≡ looked_with d s t x.request) → OnUnlocked l (y ≡ with_own)
+  pub look-row : (l : LookUp MemHitHandler) (y : Request) (z : Ongoing) (events : List Event) → MayLookUp x.request.phase → pair_handed l ≡ seen_for s x.request → Tells d s t x.request l → OnLooked l (y ≡ looked_with d s t x.request) → OnUnlocked l (y ≡ with_own)
       → z ≡ held_after_look l (record { request = y; pair = x.pair; carried = x.carried; put = x.put }) → events ≡ noted_look (slot k) a x.request.write l → z ≡ looked_by events x
   look-row l y z events may handed tells ok err now all = now ∙ row-by l y may handed tells ok err ∙ ap (λ es. looked_by es x) (sym all)
 
   -- what moves
-  moves-on : (p : Option (Meta × Reader)) (rest events : List Event) (y : Request) (z : Held) (u : Store) → AreQuiet rest → y ≡ asked false rest with_own → had ≡ p → events ≡ E.Look (slot k) a ∷ rest → z.request ≡ y → z.pair ≡ p → u ≡ left_by (pair_reader x.pair) (followed s p)
+  moves-on : (p : Option (Meta × Reader)) (rest events : List Event) (y : Request) (z : Ongoing) (u : Store) → AreQuiet rest → y ≡ asked false rest with_own → had ≡ p → events ≡ E.Look (slot k) a ∷ rest → z.request ≡ y → z.pair ≡ p → u ≡ left_by (pair_reader x.pair) (followed s p)
       → MovesStore (Some x) s events (Some z) u
   moves-on p rest events y z u quiet now found all request held to =
       noted x z s u (slot k) a p rest events (is ∙ found) (find-at s x.request.key k p named found) quiet all held
       (ap (λ (v : Request). v.reader) (request ∙ now) ∙ asked-reader false rest with_own ∙ decided-reader d x.request)
       (ap (λ (v : Request). v.write) (request ∙ now) ∙ asked-write false rest with_own ∙ decided-write d x.request) to
 
-  moves-hidden : (p : Meta × Reader) (rest events : List Event) (y : Request) (z : Held) (u : Store) → AreQuiet rest → y ≡ asked false rest with_own → had ≡ Some p → events ≡ E.Look (slot k) a ∷ rest → z.request ≡ y → z.pair ≡ None → u ≡ left_by (pair_reader x.pair) (left (followed s (Some p)) p.1)
+  moves-hidden : (p : Meta × Reader) (rest events : List Event) (y : Request) (z : Ongoing) (u : Store) → AreQuiet rest → y ≡ asked false rest with_own → had ≡ Some p → events ≡ E.Look (slot k) a ∷ rest → z.request ≡ y → z.pair ≡ None → u ≡ left_by (pair_reader x.pair) (left (followed s (Some p)) p.1)
       → MovesStore (Some x) s events (Some z) u
   moves-hidden p rest events y z u quiet now found all request held to =
       hidden x z s u (slot k) a p rest events (is ∙ found) (find-at s x.request.key k (Some p) named found) quiet all held
@@ -275,7 +275,7 @@ module _ (s : Store) (t : Locks) (x : Held) (k : Key) (a : Answer) (d : Option D
   searched-at : (p : Option (Meta × Reader)) → had ≡ p → searched s x.request ≡ without_hidden from p (followed s p)
   searched-at p found = ap (λ o. without_hidden from o (followed s o)) found
 
-  moves-missed : (o : Option (Meta × Reader)) → had ≡ o → (rest events : List Event) (y : Request) (z : Held) (u : Store) → AreQuiet rest → y ≡ asked false rest with_own → is_unseen from had ≡ true → events ≡ E.Look (slot k) a ∷ rest → z.request ≡ y → z.pair ≡ None
+  moves-missed : (o : Option (Meta × Reader)) → had ≡ o → (rest events : List Event) (y : Request) (z : Ongoing) (u : Store) → AreQuiet rest → y ≡ asked false rest with_own → is_unseen from had ≡ true → events ≡ E.Look (slot k) a ∷ rest → z.request ≡ y → z.pair ≡ None
       → u ≡ left_by (pair_reader x.pair) (searched s x.request) → MovesStore (Some x) s events (Some z) u
   moves-missed None found rest events y z u quiet now hides all request held to =
       moves-on None rest events y z u quiet now found all request held (to ∙ ap (left_by (pair_reader x.pair)) (searched-at None found))
@@ -283,23 +283,23 @@ module _ (s : Store) (t : Locks) (x : Held) (k : Key) (a : Answer) (d : Option D
       moves-hidden p rest events y z u quiet now found all request held
       (to ∙ ap (left_by (pair_reader x.pair)) (searched-at (Some p) found ∙ ap (λ b. cond b (left (followed s (Some p)) p.1) (followed s (Some p))) (sym (ap (is_unseen from) found) ∙ hides)))
 
-  moves-by : (l : LookUp MemHitHandler) (y : Request) (z : Held) (v u : Store) (events : List Event) → pair_handed l ≡ seen_for s x.request → Tells d s t x.request l → OnLooked l (y ≡ looked_with d s t x.request) → OnUnlocked l (y ≡ with_own)
+  moves-by : (l : LookUp MemHitHandler) (y : Request) (z : Ongoing) (v u : Store) (events : List Event) → pair_handed l ≡ seen_for s x.request → Tells d s t x.request l → OnLooked l (y ≡ looked_with d s t x.request) → OnUnlocked l (y ≡ with_own)
       → v ≡ store_looked_with d x.request s → u ≡ left_by (pair_reader x.pair) v → z ≡ held_after_look l (record { request = y; pair = x.pair; carried = x.carried; put = x.put }) → events ≡ noted_look (slot k) a x.request.write l → MovesStore (Some x) s events (Some z) u
   moves-by (look.Found m h) y z v u events handed tells ok err into to now all =
       let q : Meta × Reader = (m, reader_of h) in
       let sees = seen from had q (sym handed) in
-      moves-on (Some q) [] events y z u tt (request-seen y tells sees.1 ok) sees.0 all (ap (λ (w : Held). w.request) now) (ap (λ (w : Held). w.pair) now)
+      moves-on (Some q) [] events y z u tt (request-seen y tells sees.1 ok) sees.0 all (ap (λ (w : Ongoing). w.request) now) (ap (λ (w : Ongoing). w.pair) now)
       (to ∙ ap (left_by (pair_reader x.pair)) (into ∙ store-on tells ∙ searched-at (Some q) sees.0 ∙ ap (λ b. cond b (left (followed s (Some q)) q.1) (followed s (Some q))) (sym (ap (is_unseen from) sees.0) ∙ sees.1)))
   moves-by (look.NotFound b) y z v u events handed tells ok err into to now all =
-      moves-missed had refl (asking_if (slot k) b) events y z u (quiet-asked (slot k) b) (request-missed y b handed tells ok err) (unseen from had (sym handed)) all (ap (λ (w : Held). w.request) now) (ap (λ (w : Held). w.pair) now)
+      moves-missed had refl (asking_if (slot k) b) events y z u (quiet-asked (slot k) b) (request-missed y b handed tells ok err) (unseen from had (sym handed)) all (ap (λ (w : Ongoing). w.request) now) (ap (λ (w : Ongoing). w.pair) now)
       (to ∙ ap (left_by (pair_reader x.pair)) (into ∙ store-on tells.0))
   moves-by (look.Deferred q) y z v u events handed tells ok err into to now all =
       let none : pair_of a ≡ None = none-deferred (pair_of a) (observes x.request) (Some (policy_in x.carried)) (ap is_deferral (sym own) ∙ tells.0) in
-      let off = ap (λ (w : Held). w.request) now ∙ request-off y tells.0 ok in
-      defers x z s u (slot k) a (permit_in q) events none (find-at s x.request.key k None named (sym is ∙ none)) all (ap (λ (w : Held). w.pair) now) (ap (λ (r : Request). r.reader) off) (ap (λ (r : Request). r.write) off)
+      let off = ap (λ (w : Ongoing). w.request) now ∙ request-off y tells.0 ok in
+      defers x z s u (slot k) a (permit_in q) events none (find-at s x.request.key k None named (sym is ∙ none)) all (ap (λ (w : Ongoing). w.pair) now) (ap (λ (r : Request). r.reader) off) (ap (λ (r : Request). r.write) off)
       (to ∙ ap (left_by (pair_reader x.pair)) (into ∙ ap (λ b. cond b (left_by x.request.reader (dropped_by x.request.write s)) (searched s x.request)) tells.0))
 
-  pub look-moves : (l : LookUp MemHitHandler) (y : Request) (z : Held) (v u : Store) (events : List Event) → pair_handed l ≡ seen_for s x.request → Tells d s t x.request l → OnLooked l (y ≡ looked_with d s t x.request) → OnUnlocked l (y ≡ with_own)
+  pub look-moves : (l : LookUp MemHitHandler) (y : Request) (z : Ongoing) (v u : Store) (events : List Event) → pair_handed l ≡ seen_for s x.request → Tells d s t x.request l → OnLooked l (y ≡ looked_with d s t x.request) → OnUnlocked l (y ≡ with_own)
       → v ≡ store_looked_with d x.request s → u ≡ left_by (pair_reader x.pair) v → z ≡ held_after_look l (record { request = y; pair = x.pair; carried = x.carried; put = x.put }) → events ≡ noted_look (slot k) a x.request.write l → MovesStore (Some x) s events (Some z) u
   look-moves l y z v u events handed tells ok err into to now all = moves-by l y z v u events handed tells ok err into to now all
 
@@ -311,14 +311,14 @@ module _ (s : Store) (t : Locks) (x : Held) (k : Key) (a : Answer) (d : Option D
       let off = request-off y tells.0 ok in
       keeps-off x.request y (subst (λ (r : Request). IsDisabled r.phase) (sym off) tt) (ap (λ (r : Request). r.write) off)
 
-  request-after : (l : LookUp MemHitHandler) (z : Held) → (held_after_look l z).request ≡ z.request
+  request-after : (l : LookUp MemHitHandler) (z : Ongoing) → (held_after_look l z).request ≡ z.request
   request-after (look.Found m h) z = refl
   request-after (look.NotFound b) z = refl
   request-after (look.Deferred q) z = refl
 
-  pub look-keeps : (l : LookUp MemHitHandler) (y : Request) (z : Held) → pair_handed l ≡ seen_for s x.request → Tells d s t x.request l → OnLooked l (y ≡ looked_with d s t x.request) → OnUnlocked l (y ≡ with_own)
+  pub look-keeps : (l : LookUp MemHitHandler) (y : Request) (z : Ongoing) → pair_handed l ≡ seen_for s x.request → Tells d s t x.request l → OnLooked l (y ≡ looked_with d s t x.request) → OnUnlocked l (y ≡ with_own)
       → z ≡ held_after_look l (record { request = y; pair = x.pair; carried = x.carried; put = x.put }) → KeepsKey (Some x) (Some z)
-  look-keeps l y z handed tells ok err now = subst (KeepsIn x.request) (sym (ap (λ (w : Held). w.request) now ∙ request-after l _)) (keeps-by l y handed tells ok err)
+  look-keeps l y z handed tells ok err now = subst (KeepsIn x.request) (sym (ap (λ (w : Ongoing). w.request) now ∙ request-after l _)) (keeps-by l y handed tells ok err)
 
   -- the locks after it
   missed-decided : (o : Option Decision) (n at : ℕ) (y : Request) (v : Locks) (q : Option AskedLock) (events : List Event) → q ≡ asked_for_key t x.request → y ≡ with_key_lock t (with_decision o x.request) → v ≡ table_key_locked at x.request t → events ≡ E.Look (slot k) a ∷ asking (slot k) q
@@ -345,21 +345,21 @@ module _ (s : Store) (t : Locks) (x : Held) (k : Key) (a : Answer) (d : Option D
 
 -- ---- a decision that is carried plays no part in what moves
 
-next-carried : (limits : Limits) (d : Option Decision) (x : Held) (o : Option Owed) (a : At) (e : Event) → IsNextAt limits o a (Some (carrying d x)) e → IsNextAt limits o a (Some x) e
+next-carried : (limits : Limits) (d : Option Decision) (x : Ongoing) (o : Option Owed) (a : At) (e : Event) → IsNextAt limits o a (Some (carrying d x)) e → IsNextAt limits o a (Some x) e
 next-carried limits d x None a (E.Finish w true) due = due
 next-carried limits d x None a (E.Finish w false) due = due
 next-carried limits d x None a e due = due
 next-carried limits d x (Some n) a e due = due
 
-acts-carried : (limits : Limits) (d : Option Decision) (x : Held) (acts : List Act) (a b : At) → Acts limits (Some (carrying d x)) acts a b → Acts limits (Some x) acts a b
+acts-carried : (limits : Limits) (d : Option Decision) (x : Ongoing) (acts : List Act) (a b : At) → Acts limits (Some (carrying d x)) acts a b → Acts limits (Some x) acts a b
 acts-carried limits d x [] a b same = same
 acts-carried limits d x (Did e ∷ acts) a b h = (next-carried limits d x a.owed a e h.0, acts-carried limits d x acts (after_event e a) b h.1)
 acts-carried limits d x (Joins p ∷ acts) a b h = (h.0, acts-carried limits d x acts (after_join p a) b h.1)
 acts-carried limits d x (Leaves r ∷ acts) a b h = (h.0, h.1, acts-carried limits d x acts (after_leave h.0 r a) b h.2)
 
-pub carried-moves : (d : Option Decision) (x z : Held) (q : Option Held) (s u : Store) (events : List Event) → z ≡ carrying d x → MovesStore (Some z) s events q u → MovesStore (Some x) s events q u
+pub carried-moves : (d : Option Decision) (x z : Ongoing) (q : Option Ongoing) (s u : Store) (events : List Event) → z ≡ carrying d x → MovesStore (Some z) s events q u → MovesStore (Some x) s events q u
 carried-moves d x z q s u events is moves limits m =
-    let h = subst (λ (z : Held). MovesStore (Some z) s events q u) is moves limits m in
+    let h = subst (λ (z : Ongoing). MovesStore (Some z) s events q u) is moves limits m in
     (h.0, h.1, acts-carried limits d x h.0 (at_call (Some x) s m) (at_call q u m) h.2)
 
 -- a look-up asks only what is found, and how many permits were asked for
@@ -374,6 +374,6 @@ looks-on-by true c f g k a x reply events unseen same h = h
 looks-on-by false true f g k a x reply events unseen same h = subst (λ c. HandsOn c g k a x reply events) (sym unseen) (misses-by f g k a x reply events same (subst (λ c. HandsOn c f k a x reply events) unseen h))
 looks-on-by false false f g k a x reply events unseen same h = subst (λ c. HandsOn c g k a x reply events) (sym unseen) (subst (λ c. HandsOn c f k a x reply events) unseen h)
 
-pub looks-by : (f g : Facts) (x : Held) (reply : Reply) (events : List Event) → f.found ≡ g.found → f.asked ≡ g.asked → Looks f x reply events → Looks g x reply events
+pub looks-by : (f g : Facts) (x : Ongoing) (reply : Reply) (events : List Event) → f.found ≡ g.found → f.asked ≡ g.asked → Looks f x reply events → Looks g x reply events
 looks-by f g x reply events found same (inl (some, starved)) = inl (subst IsSome found some, starved)
 looks-by f g x reply events found same (inr (k, a, key, is, on)) = inr (k, a, key, is ∙ found, looks-on-by (is_deferral (decides a x)) (is_unseen x.request.valid_after (pair_of a)) f g (slot k) a x.request reply events refl same on)

@@ -7,7 +7,7 @@ use Rattle.pcache_meta.specs.Meta as metas
 use Rattle.pcache_meta.specs.Meta.{Meta, internal_changed}
 use Rattle.pcache_base.specs.declared.error.ErrorType.{ErrorType}
 use Rattle.pcache_base.specs.declared.error.ErrorType.TheVariants.{OutOfMemory, NumbersExhausted}
-use Rattle.pcache_lock.specs.Locks.{Locks, MayRefuseLock, lock_given, holder, is_permit, number_of_lock}
+use Rattle.pcache_lock.specs.Locks.{Locks, MayFailLock, lock_given, holder, is_permit, number_of_lock}
 use Rattle.pcache_lock.specs.declared.lock.permit.Locked.{Locked}
 use Rattle.pcache_lock.specs.declared.lock.status.LockStatus.{LockStatus}
 use Rattle.pcache_lock.specs.declared.lock.permit.Locked.TheVariants.{Write, Read}
@@ -19,7 +19,7 @@ use Rattle.pcache_evict.specs.declared.eviction.entry_key.CacheEntryKey.{CacheEn
 use Rattle.pcache_request.specs.declared.cache.finish.FinishReport.{FinishReport}
 use Rattle.pcache_request.specs.declared.cache.finish.WriteEnd.{WriteEnd}
 use Rattle.pcache_request.specs.declared.cache.finish.WriteEnd.TheVariants.{Stored}
-use Rattle.pcache_store.specs.Purge.{purge_answer, purged_at, expire_answer, expired_at, slot_answer}
+use Rattle.pcache_store.specs.Purge.{purge_outcome, purged_at, expire_outcome, expired_at, slot_outcome}
 use Rattle.pcache_store.specs.Store.{Store, Reader, Part, find, complete_body, reader_weight, read_of, reader_after, purged, meta_changed, Slot, number_of_body, write_read}
 use Rattle.pcache_store.specs.declared.storage.PurgeOutcome.{PurgeOutcome}
 use Rattle.pcache_store.specs.declared.storage.PurgeOutcome.TheVariants.{NotFound, Purged, Expired}
@@ -35,11 +35,11 @@ use Rattle.pcache_request.specs.Reports.{name_of, released_as, asked_with, asked
 use Rattle.pcache_request.specs.Variants.{asked_for_key, with_key_lock}
 use Rattle.pcache_request.specs.declared.cache.report.AskedLock.{AskedLock}
 use Rattle.pcache_request.specs.declared.cache.report.LockName.{LockName}
-use Rattle.pcache_request.specs.Requests.{Request, found_for, found_row, locked_found, phase_found, placed, with_lock, asks_for_hit, asks_as_stale, counts_found, entry_of, reader_in, writing, begun_for, joined_for, is_removed_by, tracked_gone, tracked_gone_for}
+use Rattle.pcache_request.specs.Requests.{Request, found_for, found_row, locked_found, phase_found, placed, with_lock, asks_for_hit, asks_as_stale, counts_found, entry_of, reader_in, writing, begun_for, followed_for, is_removed_by, tracked_gone, tracked_gone_for}
 use Rattle.pingora_cache.specs.PartFacts.{facts_in, there_for, complete_for, number_for}
 use Rattle.pcache_request.specs.Renewals.{has_body, renewed_by}
 use Rattle.pcache_history.specs.Rules.{Misses, Renews, Takes, renew_of, update_reply, AsksIf, IsLockRefusal, each, accesses, permit_of, untrack_of}
-use Rattle.pcache_history.specs.Held.{Held, lock_of, asked, began, read_past}
+use Rattle.pcache_history.specs.Ongoing.{Ongoing, lock_of, asked, began, read_past}
 use Rattle.pingora_cache.specs.Step.{IsAnswered, renewal_reply, renewing, asking, kind_asked, noting, permit_in, permit_released, untracking}
 use Rattle.pingora_cache.proofs.StateAnswers.{found-answer, read-past}
 use Rattle.pingora_cache.proofs.StateCalls.{begun-joins}
@@ -94,16 +94,16 @@ pub misses-asked : (s : Store) (t : Locks) (x : Request) (k : Key) (answer : Ans
 misses-asked s t x k answer a key is = inr (asking (slot k) a, kind_asked a, asks-if x.uses.lock false t k (slot k) x.held x.key a (kind_asked a) key refl is refl, refl, refl)
 
 -- a lock fails when memory runs out, or if it was asked for and all numbers are used
-pub lock-refused : (s : Store) (t : Locks) (x : Request) (asks : Bool) (e : ErrorType) → MayRefuseLock t e → (e ≡ NumbersExhausted → IsTrue asks) → IsLockRefusal (facts_in s t x) asks e
+pub lock-refused : (s : Store) (t : Locks) (x : Request) (asks : Bool) (e : ErrorType) → MayFailLock t e → (e ≡ NumbersExhausted → IsTrue asks) → IsLockRefusal (facts_in s t x) asks e
 lock-refused s t x asks OutOfMemory h why = inl refl
 lock-refused s t x asks NumbersExhausted h why = inr (refl, why refl, h)
 lock-refused s t x asks e h why = absurd h
 
-pub misses-refused : (s : Store) (t : Locks) (x : Request) (k : Key) (answer : Answer) (e : ErrorType) → IsTrue x.uses.lock → MayRefuseLock t e → Misses (facts_in s t x) (slot k) answer x (R.Refused e) (E.Look (slot k) answer ∷ [])
+pub misses-refused : (s : Store) (t : Locks) (x : Request) (k : Key) (answer : Answer) (e : ErrorType) → IsTrue x.uses.lock → MayFailLock t e → Misses (facts_in s t x) (slot k) answer x (R.Refused e) (E.Look (slot k) answer ∷ [])
 misses-refused s t x k answer e used why = inl (e, used, lock-refused s t x true e why (λ _. refl), refl, refl)
 
 -- the reply if a pair can't be taken
-pub takes-refused : (st : Store) (s : HitStatus) (t : Locks) (x : Request) (p : Meta × Reader) (k : Key) (e kind : ErrorType) (events : List Event) → x.key ≡ Some k → MayRefuseLock t e → (e ≡ NumbersExhausted → IsTrue (asks_for_hit s x)) → kind ≡ e → events ≡ accesses s k p.1 x
+pub takes-refused : (st : Store) (s : HitStatus) (t : Locks) (x : Request) (p : Meta × Reader) (k : Key) (e kind : ErrorType) (events : List Event) → x.key ≡ Some k → MayFailLock t e → (e ≡ NumbersExhausted → IsTrue (asks_for_hit s x)) → kind ≡ e → events ≡ accesses s k p.1 x
     → Takes (facts_in st t x) s x (Some p) (R.Refused kind) events
 takes-refused st s t x p k e kind events key why asked is all = inr (k, key, inl (e, lock-refused st t x (asks_for_hit s x) e why asked, ap R.Refused is, all))
 
@@ -150,7 +150,7 @@ read-moved s x a h = ap (λ r. record x { reader = r }) (elim x.reader as (λ o.
 ] h)
 
 -- a request with this, and a pair
-abbrev pub held_with : Option Decision → Option (Meta × Reader) → Request → Held
+abbrev pub held_with : Option Decision → Option (Meta × Reader) → Request → Ongoing
 held_with d p x = record { request = x; pair = p; carried = d; put = None }
 
 -- a write that began is held, the permit is released, and the reader follows it
@@ -161,8 +161,8 @@ with_write n x = record x { write = Some n; entry = Some n; held = None; reader 
 pub began-is : (s : Store) (x y : Request) (k : Key) (m n : Meta) (w j : ℕ) (events rest : List Event) → x.key ≡ Some k → x.meta ≡ Some m
     → y ≡ writing true s.next (Some s.next) (begun_for x.key x.meta s) x → y.write ≡ Some w → events ≡ E.Begin w j n ∷ rest → y ≡ began true events x
 began-is s x y k m n w j events rest key meta is wrote done =
-    let joins : reader_in (joined_for x.key s.next (begun_for x.key x.meta s)) ≡ Some (Part s.next 0) =
-    (λ i. reader_in (joined_for (key i) s.next (begun_for (key i) (meta i) s))) ∙ ap reader_in (begun-joins s (slot k) m) in
+    let joins : reader_in (followed_for x.key s.next (begun_for x.key x.meta s)) ≡ Some (Part s.next 0) =
+    (λ i. reader_in (followed_for (key i) s.next (begun_for (key i) (meta i) s))) ∙ ap reader_in (begun-joins s (slot k) m) in
     let follows : y ≡ with_write s.next x = is ∙ ap (λ o. record x { write = Some s.next; entry = Some s.next; held = None; reader = o }) joins in
     let number : ◌≡◌ {A = Option ℕ} (Some s.next) (Some w) = sym (ap (λ (z : Request). z.write) follows) ∙ wrote in
     let same : s.next ≡ w = cc in
@@ -182,7 +182,7 @@ stored-entry o id k how f gave e key stored is some =
 
 -- what is stored for a request's key, and what a removal finds of it
 abbrev outcome_of : Option Slot → PurgeOutcome
-outcome_of x = slot_answer true x
+outcome_of x = slot_outcome true x
 
 untracked-as : (x : Option Slot) (uses : Bool) (k : Key) → untracking (untracked uses (compact_of k) (outcome_of x)) ≡ untrack_of (is_some x && uses) k (number_of_body (complete_body x))
 untracked-as None uses k = refl
@@ -202,18 +202,18 @@ module _ (s : Store) (uses : Bool) (o : Option Key) (k : Key) (key : o ≡ Some 
   abbrev pub goes : Bool
   goes = there_for s o && uses
 
-  pub purge-events : (j : ℕ) (outcome : PurgeOutcome) (gone : Option CacheEntryKey) (old events : List Event) → j ≡ slot k → outcome ≡ purge_answer true s (option_map slot o) → gone ≡ untracked_for uses o outcome → old ≡ []
+  pub purge-events : (j : ℕ) (outcome : PurgeOutcome) (gone : Option CacheEntryKey) (old events : List Event) → j ≡ slot k → outcome ≡ purge_outcome true s (option_map slot o) → gone ≡ untracked_for uses o outcome → old ≡ []
       → events ≡ old ++ E.Purge j ∷ untracking gone → events ≡ E.Purge (slot k) ∷ untrack_of goes k (number_for s o)
   purge-events j outcome gone old events at found went none is =
       is ∙ (λ i. none i ++ E.Purge (at i) ∷ untracking (went i)) ∙ ap (λ q. E.Purge (slot k) ∷ untracking (untracked_for uses o q)) found
-      ∙ subst (λ q. ◌≡◌ {A = List Event} (E.Purge (slot k) ∷ untracking (untracked_for uses q (purge_answer true s (option_map slot q)))) (E.Purge (slot k) ∷ untrack_of (there_for s q && uses) k (number_for s q))) (sym key)
+      ∙ subst (λ q. ◌≡◌ {A = List Event} (E.Purge (slot k) ∷ untracking (untracked_for uses q (purge_outcome true s (option_map slot q)))) (E.Purge (slot k) ∷ untrack_of (there_for s q && uses) k (number_for s q))) (sym key)
       (ap (λ es. E.Purge (slot k) ∷ es) (untracked-as (map.get s.slots (slot k)) uses k))
 
-  pub purge-told : (outcome : PurgeOutcome) → outcome ≡ purge_answer true s (option_map slot o) → is_removed_by outcome ≡ there_for s o
-  purge-told outcome found = ap is_removed_by found ∙ subst (λ q. is_removed_by (purge_answer true s (option_map slot q)) ≡ there_for s q) (sym key) (removed-as (map.get s.slots (slot k)))
+  pub purge-told : (outcome : PurgeOutcome) → outcome ≡ purge_outcome true s (option_map slot o) → is_removed_by outcome ≡ there_for s o
+  purge-told outcome found = ap is_removed_by found ∙ subst (λ q. is_removed_by (purge_outcome true s (option_map slot q)) ≡ there_for s q) (sym key) (removed-as (map.get s.slots (slot k)))
 
-  pub purge-untracks : (m m' : Tracked) → m' ≡ tracked_gone_for uses o (purge_answer true s (option_map slot o)) m → m' ≡ cond goes (map.remove m (entry_of k (number_for s o))) m
-  purge-untracks m m' is = is ∙ subst (λ q. tracked_gone_for uses q (purge_answer true s (option_map slot q)) m ≡ cond (there_for s q && uses) (map.remove m (entry_of k (number_for s q))) m) (sym key) (gone-as (map.get s.slots (slot k)) uses k m)
+  pub purge-untracks : (m m' : Tracked) → m' ≡ tracked_gone_for uses o (purge_outcome true s (option_map slot o)) m → m' ≡ cond goes (map.remove m (entry_of k (number_for s o))) m
+  purge-untracks m m' is = is ∙ subst (λ q. tracked_gone_for uses q (purge_outcome true s (option_map slot q)) m ≡ cond (there_for s q && uses) (map.remove m (entry_of k (number_for s q))) m) (sym key) (gone-as (map.get s.slots (slot k)) uses k m)
 
   pub purge-store : (u : Store) → u ≡ purged_at s (option_map slot o) → u ≡ purged s (slot k)
   purge-store u is = is ∙ ap (λ q. purged_at s (option_map slot q)) key
@@ -224,12 +224,12 @@ pub expire-store : (s u : Store) (o : Option Key) (k : Key) (now : ℕ) → o �
 expire-store s u o k now key is = is ∙ ap (λ q. expired_at now s (option_map slot q)) key
 
 -- nothing is untracked with it
-pub expire-tracks : (s : Store) (uses : Bool) (o : Option Key) (m m' : Tracked) → m' ≡ tracked_gone_for uses o (expire_answer s (option_map slot o)) m → m' ≡ m
+pub expire-tracks : (s : Store) (uses : Bool) (o : Option Key) (m m' : Tracked) → m' ≡ tracked_gone_for uses o (expire_outcome s (option_map slot o)) m → m' ≡ m
 expire-tracks s uses None m m' is = is
 expire-tracks s uses (Some k) m m' is = is ∙ elim (is_some (complete_body (map.get s.slots (slot k)))) as (λ b. tracked_gone uses (compact_of k) (cond b Expired NotFound) m ≡ m) [ true ↦ refl | false ↦ refl ]
 
 -- whether there was a body
-pub expire-told : (s : Store) (o : Option Key) (b : Bool) → b ≡ is_removed_by (expire_answer s (option_map slot o)) → b ≡ complete_for s o
+pub expire-told : (s : Store) (o : Option Key) (b : Bool) → b ≡ is_removed_by (expire_outcome s (option_map slot o)) → b ≡ complete_for s o
 expire-told s None b is = is
 expire-told s (Some k) b is = is ∙ elim (is_some (complete_body (map.get s.slots (slot k)))) as (λ b. is_removed_by (cond b Expired NotFound) ≡ b) [ true ↦ refl | false ↦ refl ]
 

@@ -4,7 +4,7 @@ use Rattle.std.specs.Ordering.{nat_cmp}
 use Rattle.std.specs.FinMap.{FinMap, empty, get, get-empty}
 use Rattle.std.proofs.lemmas.Bool.{eqb-true}
 use Rattle.pcache_history.specs.declared.entry.Entry.{Entry}
-use Rattle.pcache_history.specs.Held.{Held, outcome, row, request_of, taken_over}
+use Rattle.pcache_history.specs.Ongoing.{Ongoing, kind_of_reply, row, request_of, taken_over}
 use Rattle.pingora_cache.specs.Untold.{untold}
 use Rattle.pingora_cache.specs.Sound.{AreOpen}
 use Rattle.pingora_cache.proofs.MovedState.{set_to}
@@ -14,12 +14,12 @@ pub open-none : AreOpen [] empty
 open-none = λ r. ap (option_map untold) (get-empty nat_cmp r)
 
 -- one request is set to what it is now, or is removed
-pub get-set_to : (all : FinMap nat_cmp Held) (r : ℕ) (o : Option Held) (q : ℕ) → get (set_to all r o) q ≡ cond (r == q) o (get all q)
+pub get-set_to : (all : FinMap nat_cmp Ongoing) (r : ℕ) (o : Option Ongoing) (q : ℕ) → get (set_to all r o) q ≡ cond (r == q) o (get all q)
 get-set_to all r None q = get-unset all r q
 get-set_to all r (Some x) q = get-set all r x q
 
 -- only the request that the call names changes, by its row, if nothing is handed over
-pub open-after : (h : List Entry) (all : FinMap nat_cmp Held) (e : Entry) (now : Option Held) → ((r : ℕ) (giver q : Option Held) → taken_over e.call.act (outcome e.reply) r giver q ≡ q) → AreOpen h all → option_map untold now ≡ row e.call.act e.reply e.events (request_of e.call.request h) → AreOpen (e ∷ h) (set_to all e.call.request now)
+pub open-after : (h : List Entry) (all : FinMap nat_cmp Ongoing) (e : Entry) (now : Option Ongoing) → ((r : ℕ) (giver q : Option Ongoing) → taken_over e.call.act (kind_of_reply e.reply) r giver q ≡ q) → AreOpen h all → option_map untold now ≡ row e.call.act e.reply e.events (request_of e.call.request h) → AreOpen (e ∷ h) (set_to all e.call.request now)
 open-after h all e now none are is = λ q.
     let n = e.call.request in
     ap (option_map untold) (get-set_to all n now q)

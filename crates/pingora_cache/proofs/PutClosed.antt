@@ -14,7 +14,7 @@ use Rattle.pcache_lock.specs.Locks.{Locks, no_locks}
 use Rattle.pcache_put.specs.Counted.{Counted}
 use Rattle.pcache_put_ctx.specs.Puts.{Piece, Says, Outcome as Comes, IsResult}
 use Rattle.pcache_put_ctx.specs.State.{Stage, InHead, InBody, HasDeclined, IsOver, Filled, TakenBy, limit_of, entry_in, write_in}
-use Rattle.pcache_put_ctx.specs.Steps.{EndsEarly, EndsPut, TellsResult, entry_told, stage_ended, write_end}
+use Rattle.pcache_put_ctx.specs.Steps.{EndsEarly, EndsPut, TellsResult, entry_reported, stage_ended, write_end}
 use Rattle.pcache_put_ctx.specs.declared.report.PutEnd.{PutEnd}
 use Rattle.pcache_put_ctx.specs.declared.report.PutEnd.TheVariants as end
 use Rattle.pcache_request.specs.Finishing.{after_finish}
@@ -24,7 +24,7 @@ use Rattle.pcache_request.specs.declared.cache.finish.WriteEnd.{WriteEnd}
 use Rattle.pcache_request.specs.declared.cache.finish.WriteEnd.TheVariants as writes
 use Rattle.pcache_request.specs.declared.cache.finish.FinishReport.{FinishReport}
 use Rattle.pcache_store.specs.Finishes.{created}
-use Rattle.pcache_store.specs.Refusals.{MayRefuseFinish}
+use Rattle.pcache_store.specs.Refusals.{MayFailFinish}
 use Rattle.pcache_store.specs.Store.{Store, dropped}
 use Rattle.pcache_history.specs.declared.call.Reply.{Reply}
 use Rattle.pcache_history.specs.declared.call.Reply.TheVariants as R
@@ -33,7 +33,7 @@ use Rattle.pcache_history.specs.declared.entry.Event.TheVariants as E
 use Rattle.pcache_history.specs.Due.{IsOfWorld, Owed, reader_for, slot_of}
 use Rattle.pcache_history.specs.Facts.{Facts}
 use Rattle.pingora_cache.specs.PartFacts.{facts_in}
-use Rattle.pcache_history.specs.Held.{Held, held_put}
+use Rattle.pcache_history.specs.Ongoing.{Ongoing, ongoing_put}
 use Rattle.pingora_cache.specs.Moved.{Act, Did, Joins, Leaves, Acts, At, IsNextAt, IsSame, Moves, after_event, after_join, after_leave, at_call}
 use Rattle.pcache_history.specs.PutHistory.{Tells}
 use Rattle.pingora_cache.specs.PutSteps.{IsUnwritten, IsWritten, end_noted, end_reply}
@@ -47,7 +47,7 @@ use Rattle.pingora_cache.proofs.PutFed.{none-some, not-failed}
 
 -- ---- the same moves of two that have the key and the reader in common
 
-next-like : (limits : Limits) (owed : Option Owed) (a : At) (q r : Option Held) (e : Event) → slot_of r ≡ slot_of q → reader_for r ≡ reader_for q → IsNextAt limits owed a q e → IsNextAt limits owed a r e
+next-like : (limits : Limits) (owed : Option Owed) (a : At) (q r : Option Ongoing) (e : Event) → slot_of r ≡ slot_of q → reader_for r ≡ reader_for q → IsNextAt limits owed a q e → IsNextAt limits owed a r e
 next-like limits None a q r (E.Begin w k m) slots readers d = (d.0, d.1, slots ∙ d.2)
 next-like limits None a q r (E.Finish w true) slots readers d = d
 next-like limits None a q r (E.Finish w false) slots readers d = d
@@ -58,7 +58,7 @@ next-like limits (Some n) a q r (E.Purge k) slots readers d = slots ∙ d
 next-like limits (Some n) a q r (E.Release l) slots readers d = d
 next-like limits (Some n) a q r e slots readers d = absurd d
 
-acts-like : (limits : Limits) (q r : Option Held) (acts : List Act) (a b c : At) → slot_of r ≡ slot_of q → reader_for r ≡ reader_for q → Acts limits q acts a b → IsSame b c → Acts limits r acts a c
+acts-like : (limits : Limits) (q r : Option Ongoing) (acts : List Act) (a b c : At) → slot_of r ≡ slot_of q → reader_for r ≡ reader_for q → Acts limits q acts a b → IsSame b c → Acts limits r acts a c
 acts-like limits q r [] a b c slots readers same on = record {
   count = λ w. on.count w ∙ same.count w;
   write = on.write ∙ same.write;
@@ -89,10 +89,10 @@ module _ (p : Taking) (s u : Store) (limits : Limits) (m m' : Tracked) (w : ℕ)
   lets (writes.Withdrawn e) h = record { why = h.why; untouched = h.untouched; purged = h.purged; tracked = h.tracked; released = refl }
 
   -- of a put in place of the request
-  of-put : (events : List Event) → Moves limits (Some (with_pair None None x)) s m events (Some (with_pair None None y)) u m' → Moves limits (Some (held_put p)) s m events None u m'
+  of-put : (events : List Event) → Moves limits (Some (with_pair None None x)) s m events (Some (with_pair None None y)) u m' → Moves limits (Some (ongoing_put p)) s m events None u m'
   of-put events moves =
-      subst (λ (z : Taking). Moves limits (Some (held_put z)) s m events None u m') as-it-is
-      (moves.0, moves.1, acts-like limits (Some (with_pair None None x)) (Some (held_put standing)) moves.0 (at_call (Some (held_put standing)) s m) (at_call (Some (with_pair None None y)) u m') (at_call None u m') refl refl moves.2 (record { count = λ v. refl; write = refl; owed = refl; store = refl; tracked = refl }))
+      subst (λ (z : Taking). Moves limits (Some (ongoing_put z)) s m events None u m') as-it-is
+      (moves.0, moves.1, acts-like limits (Some (with_pair None None x)) (Some (ongoing_put standing)) moves.0 (at_call (Some (ongoing_put standing)) s m) (at_call (Some (with_pair None None y)) u m') (at_call None u m') refl refl moves.2 (record { count = λ v. refl; write = refl; owed = refl; store = refl; tracked = refl }))
     where
       standing : Taking
       standing = record { key = p.key; size = p.size; parser = p.parser; stage = InBody w id until }
@@ -105,8 +105,8 @@ module _ (p : Taking) (s u : Store) (limits : Limits) (m m' : Tracked) (w : ℕ)
   noted-entry f entry is =
       ap (λ o. end_noted w (slot p.key) (end.Stored f) o) is ∙ ap (λ n. E.Finish w true ∷ E.Admit (entry_of p.key n) f.size f.evicted.items ∷ []) own
 
-  body-moves : (how : PutEnd) (entry : Option CacheEntryKey) (events : List Event) → IsOfWorld x → entry ≡ entry_told p.key (InBody w id until) how → EndsBody in_memory true id HoldsNoLock p.key w (created s w) limits (write_end how) s u m m' → events ≡ end_noted w (slot p.key) how entry
-      → Moves limits (Some (held_put p)) s m events None u m'
+  body-moves : (how : PutEnd) (entry : Option CacheEntryKey) (events : List Event) → IsOfWorld x → entry ≡ entry_reported p.key (InBody w id until) how → EndsBody in_memory true id HoldsNoLock p.key w (created s w) limits (write_end how) s u m m' → events ≡ end_noted w (slot p.key) how entry
+      → Moves limits (Some (ongoing_put p)) s m events None u m'
   body-moves (end.NotCached reason) entry events world told h is = absurd h
   body-moves (end.Refused e) entry events world told h is = absurd h
   body-moves (end.Stored f) entry events world told h is =
@@ -120,24 +120,24 @@ module _ (p : Taking) (s u : Store) (limits : Limits) (m m' : Tracked) (w : ℕ)
       (writes.Dropped e) e e (refused_end w e) events refl refl refl (lets (writes.Dropped e) h) is)
 
   -- the response ended too early
-  early-moves : (events : List Event) → events ≡ E.Dropped w ∷ [] → u ≡ dropped s w → m' ≡ m → Moves limits (Some (held_put p)) s m events None u m'
+  early-moves : (events : List Event) → events ≡ E.Dropped w ∷ [] → u ≡ dropped s w → m' ≡ m → Moves limits (Some (ongoing_put p)) s m events None u m'
   early-moves events is to same =
-      subst (λ es. Moves limits (Some (held_put p)) s m es None u m') (sym is)
-      (does limits (Some (held_put p)) (E.Dropped w) [] (at_call (Some (held_put p)) s m) (at_call None u m') (ap write_in stands-so)
-      (stop limits (Some (held_put p)) (after_event (E.Dropped w) (at_call (Some (held_put p)) s m)) (at_call None u m') (record { count = λ v. refl; write = refl; owed = refl; store = to; tracked = same })))
+      subst (λ es. Moves limits (Some (ongoing_put p)) s m es None u m') (sym is)
+      (does limits (Some (ongoing_put p)) (E.Dropped w) [] (at_call (Some (ongoing_put p)) s m) (at_call None u m') (ap write_in stands-so)
+      (stop limits (Some (ongoing_put p)) (after_event (E.Dropped w) (at_call (Some (ongoing_put p)) s m)) (at_call None u m') (record { count = λ v. refl; write = refl; owed = refl; store = to; tracked = same })))
 
   -- the reply
   abbrev pub facts : Locks → Facts
   facts t = facts_in s t x
 
-  dropped-answers : (t : Locks) (e : ErrorType) (events : List Event) → (e ≡ OutOfMemory) ⊎ MayRefuseFinish s w e → events ≡ refused_end w e ∷ [] → EndsFilling (facts t) x p.key w (R.Refused e) events
+  dropped-answers : (t : Locks) (e : ErrorType) (events : List Event) → (e ≡ OutOfMemory) ⊎ MayFailFinish s w e → events ≡ refused_end w e ∷ [] → EndsFilling (facts t) x p.key w (R.Refused e) events
   dropped-answers t error.WriteRemoved events (inl same) is = absurd (cc)
   dropped-answers t error.WriteRemoved events (inr gone) is = inr (inr (inl (gone, is, refl)))
   dropped-answers t error.OutOfMemory events why is = inr (inr (inr (is, refl)))
   dropped-answers t e events (inl same) is = inr (inr (inr (is, ap R.Refused same)))
   dropped-answers t e events (inr no-way) is = absurd no-way
 
-  body-answers : (t : Locks) (how : PutEnd) (entry : Option CacheEntryKey) (events : List Event) → entry ≡ entry_told p.key (InBody w id until) how → EndsBody in_memory true id HoldsNoLock p.key w (created s w) limits (write_end how) s u m m' → events ≡ end_noted w (slot p.key) how entry
+  body-answers : (t : Locks) (how : PutEnd) (entry : Option CacheEntryKey) (events : List Event) → entry ≡ entry_reported p.key (InBody w id until) how → EndsBody in_memory true id HoldsNoLock p.key w (created s w) limits (write_end how) s u m m' → events ≡ end_noted w (slot p.key) how entry
       → EndsFilling (facts t) x p.key w (end_reply how) events
   body-answers t (end.NotCached reason) entry events told h is = absurd h
   body-answers t (end.Refused e) entry events told h is = absurd h
@@ -148,7 +148,7 @@ module _ (p : Taking) (s u : Store) (limits : Limits) (m m' : Tracked) (w : ℕ)
 
 -- ---- by the stage of the put
 
-module _ (p : Taking) (s u : Store) (limits : Limits) (m m' : Tracked) (how : PutEnd) (entry : Option CacheEntryKey) (told : entry ≡ entry_told p.key p.stage how) (ends : EndsPut in_memory p.key p.parser (created s) limits p.stage how s u m m') where
+module _ (p : Taking) (s u : Store) (limits : Limits) (m m' : Tracked) (how : PutEnd) (entry : Option CacheEntryKey) (told : entry ≡ entry_reported p.key p.stage how) (ends : EndsPut in_memory p.key p.parser (created s) limits p.stage how s u m m') where
   abbrev EndsAt : Stage → Type 0
   EndsAt stage = EndsPut in_memory p.key p.parser (created s) limits stage how s u m m'
 
@@ -168,11 +168,11 @@ module _ (p : Taking) (s u : Store) (limits : Limits) (m m' : Tracked) (how : Pu
   unwritten-still (HasDeclined reason) h none = h.1
   unwritten-still (IsOver kind) h none = h.1
 
-  pub unwritten-moves : (events : List Event) → events ≡ [] → write_in p.stage ≡ None → Moves limits (Some (held_put p)) s m events None u m'
+  pub unwritten-moves : (events : List Event) → events ≡ [] → write_in p.stage ≡ None → Moves limits (Some (ongoing_put p)) s m events None u m'
   unwritten-moves events none at =
       let still = unwritten-still p.stage ends at in
-      subst (λ es. Moves limits (Some (held_put p)) s m es None u m') (sym none)
-      (stop limits (Some (held_put p)) (at_call (Some (held_put p)) s m) (at_call None u m') (record { count = λ v. refl; write = sym at; owed = refl; store = still.0; tracked = still.1 }))
+      subst (λ es. Moves limits (Some (ongoing_put p)) s m es None u m') (sym none)
+      (stop limits (Some (ongoing_put p)) (at_call (Some (ongoing_put p)) s m) (at_call None u m') (record { count = λ v. refl; write = sym at; owed = refl; store = still.0; tracked = still.1 }))
 
   unwritten-at : (f : Facts) (stage : Stage) (events : List Event) → EndsAt stage → events ≡ [] → write_in stage ≡ None → ClosesAt f p.key stage (end_reply how) events
   unwritten-at f InHead events h none at = (ap end_reply h.0, none)
@@ -184,11 +184,11 @@ module _ (p : Taking) (s u : Store) (limits : Limits) (m m' : Tracked) (how : Pu
   unwritten-answers f events none at = unwritten-at f p.stage events ends none at
 
   -- one that made a write
-  written-as : (w : ℕ) (id : Option ℕ) (until : ℕ) → entry ≡ entry_told p.key (InBody w id until) how → EndsAt (InBody w id until) → IsWritten how entry
+  written-as : (w : ℕ) (id : Option ℕ) (until : ℕ) → entry ≡ entry_reported p.key (InBody w id until) how → EndsAt (InBody w id until) → IsWritten how entry
   written-as w id until own (inl (e, why, is, to, same)) = subst (λ z. IsWritten z entry) (sym is) tt
   written-as w id until own (inr h) = by how own h
     where
-      by : (how : PutEnd) → entry ≡ entry_told p.key (InBody w id until) how → EndsBody in_memory true id HoldsNoLock p.key w (created s w) limits (write_end how) s u m m' → IsWritten how entry
+      by : (how : PutEnd) → entry ≡ entry_reported p.key (InBody w id until) how → EndsBody in_memory true id HoldsNoLock p.key w (created s w) limits (write_end how) s u m m' → IsWritten how entry
       by (end.NotCached reason) own h = absurd h
       by (end.Refused e) own h = absurd h
       by (end.Stored f) own h = ap is_some own
@@ -198,7 +198,7 @@ module _ (p : Taking) (s u : Store) (limits : Limits) (m m' : Tracked) (how : Pu
   pub written : (w : ℕ) → write_in p.stage ≡ Some w → IsWritten how entry
   written w has = by p.stage told ends has
     where
-      by : (stage : Stage) → entry ≡ entry_told p.key stage how → EndsAt stage → write_in stage ≡ Some w → IsWritten how entry
+      by : (stage : Stage) → entry ≡ entry_reported p.key stage how → EndsAt stage → write_in stage ≡ Some w → IsWritten how entry
       by InHead own h has = absurd (cc)
       by (InBody v id until) own h has = written-as v id until own h
       by (HasDeclined reason) own h has = absurd (cc)
@@ -212,10 +212,10 @@ module _ (p : Taking) (s u : Store) (limits : Limits) (m m' : Tracked) (how : Pu
         let early : e ≡ IncompleteHttpBody = elim why [ inl h ↦ h | inr failed ↦ absurd (not-failed s (no_locks 0) says size p.parser (InBody w id until) pieces f e got (λ z h. absurd (cc)) (λ z h. absurd (cc)) failed) ] in
         (noted ∙ ap (λ z. end_noted w (slot p.key) z entry) (is ∙ ap end.Dropped early), ap end_reply (is ∙ ap end.Dropped early), to, same)
 
-    pub written-moves : (w : ℕ) (events : List Event) → IsOfWorld (held_put p).request → write_in p.stage ≡ Some w → entry_in p.stage ≡ Some w → events ≡ end_noted w (slot p.key) how entry → Moves limits (Some (held_put p)) s m events None u m'
+    pub written-moves : (w : ℕ) (events : List Event) → IsOfWorld (ongoing_put p).request → write_in p.stage ≡ Some w → entry_in p.stage ≡ Some w → events ≡ end_noted w (slot p.key) how entry → Moves limits (Some (ongoing_put p)) s m events None u m'
     written-moves w events world has mine noted = by p.stage refl
       where
-        by : (stage : Stage) → p.stage ≡ stage → Moves limits (Some (held_put p)) s m events None u m'
+        by : (stage : Stage) → p.stage ≡ stage → Moves limits (Some (ongoing_put p)) s m events None u m'
         by InHead is = absurd (let no : ◌≡◌ {A = Option ℕ} None (Some w) = ap write_in (sym is) ∙ has in cc)
         by (HasDeclined reason) is = absurd (let no : ◌≡◌ {A = Option ℕ} None (Some w) = ap write_in (sym is) ∙ has in cc)
         by (IsOver kind) is = absurd (let no : ◌≡◌ {A = Option ℕ} None (Some w) = ap write_in (sym is) ∙ has in cc)
@@ -225,13 +225,13 @@ module _ (p : Taking) (s u : Store) (limits : Limits) (m m' : Tracked) (how : Pu
             let events-are = noted ∙ ap (λ n. end_noted n (slot p.key) how entry) same in
             elim (subst EndsAt is ends) [
               | inl h ↦ let e = early-is v id until entry events (subst (λ (z : Stage). TakenBy says size p.parser z pieces f) is taken) h events-are in early-moves p s u limits m m' v id until is (ap entry_in (sym is) ∙ mine ∙ ap Some same) events e.0 e.2 e.3
-              | inr h ↦ body-moves p s u limits m m' v id until is (ap entry_in (sym is) ∙ mine ∙ ap Some same) how entry events (subst (λ (z : Stage). IsOfWorld (filling p.key (write_in z) (entry_in z))) is world) (told ∙ ap (λ (z : Stage). entry_told p.key z how) is) h events-are
+              | inr h ↦ body-moves p s u limits m m' v id until is (ap entry_in (sym is) ∙ mine ∙ ap Some same) how entry events (subst (λ (z : Stage). IsOfWorld (filling p.key (write_in z) (entry_in z))) is world) (told ∙ ap (λ (z : Stage). entry_reported p.key z how) is) h events-are
             ]
 
-    pub written-answers : (t : Locks) (w : ℕ) (events : List Event) → write_in p.stage ≡ Some w → entry_in p.stage ≡ Some w → events ≡ end_noted w (slot p.key) how entry → Closes (facts_in s t (held_put p).request) (Some p) (end_reply how) events
+    pub written-answers : (t : Locks) (w : ℕ) (events : List Event) → write_in p.stage ≡ Some w → entry_in p.stage ≡ Some w → events ≡ end_noted w (slot p.key) how entry → Closes (facts_in s t (ongoing_put p).request) (Some p) (end_reply how) events
     written-answers t w events has mine noted = by p.stage refl
       where
-        by : (stage : Stage) → p.stage ≡ stage → Closes (facts_in s t (held_put p).request) (Some p) (end_reply how) events
+        by : (stage : Stage) → p.stage ≡ stage → Closes (facts_in s t (ongoing_put p).request) (Some p) (end_reply how) events
         by InHead is = absurd (let no : ◌≡◌ {A = Option ℕ} None (Some w) = ap write_in (sym is) ∙ has in cc)
         by (HasDeclined reason) is = absurd (let no : ◌≡◌ {A = Option ℕ} None (Some w) = ap write_in (sym is) ∙ has in cc)
         by (IsOver kind) is = absurd (let no : ◌≡◌ {A = Option ℕ} None (Some w) = ap write_in (sym is) ∙ has in cc)
@@ -241,7 +241,7 @@ module _ (p : Taking) (s u : Store) (limits : Limits) (m m' : Tracked) (how : Pu
             let events-are = noted ∙ ap (λ n. end_noted n (slot p.key) how entry) same in
             subst (λ (z : Stage). ClosesAt (facts_in s t (filling p.key (write_in z) (entry_in z))) p.key z (end_reply how) events) (sym is) (elim (subst EndsAt is ends) [
               | inl h ↦ let e = early-is v id until entry events (subst (λ (z : Stage). TakenBy says size p.parser z pieces f) is taken) h events-are in inl (e.0, e.1)
-              | inr h ↦ inr (body-answers p s u limits m m' v id until is (ap entry_in (sym is) ∙ mine ∙ ap Some same) t how entry events (told ∙ ap (λ (z : Stage). entry_told p.key z how) is) h events-are)
+              | inr h ↦ inr (body-answers p s u limits m m' v id until is (ap entry_in (sym is) ∙ mine ∙ ap Some same) t how entry events (told ∙ ap (λ (z : Stage). entry_reported p.key z how) is) h events-are)
             ])
 
   -- only a lack of memory has a body withdrawn
@@ -273,22 +273,22 @@ ended-still how stage s u is to = to ∙ ap (λ z. dropped_by (write_in z) s) is
     by (end.Stored f) = refl
     by (end.Withdrawn e) = refl
 
-module _ (p : Taking) (s u : Store) (limits : Limits) (m m' : Tracked) (how : PutEnd) (entry : Option CacheEntryKey) (told : entry ≡ entry_told p.key p.stage how) (ends : EndsPut in_memory p.key p.parser (created s) limits p.stage how s u m m') where
-  pub written-answers-as : (says : Says) (pieces : List Piece) (f : Option Filled) (taken : TakenBy says p.size p.parser p.stage pieces f) (t : Locks) (w j : ℕ) (reply : Reply) (events : List Event) → write_in p.stage ≡ Some w → entry_in p.stage ≡ Some w → j ≡ slot p.key → reply ≡ end_reply how → events ≡ end_noted w j how entry → Closes (facts_in s t (held_put p).request) (Some p) reply events
+module _ (p : Taking) (s u : Store) (limits : Limits) (m m' : Tracked) (how : PutEnd) (entry : Option CacheEntryKey) (told : entry ≡ entry_reported p.key p.stage how) (ends : EndsPut in_memory p.key p.parser (created s) limits p.stage how s u m m') where
+  pub written-answers-as : (says : Says) (pieces : List Piece) (f : Option Filled) (taken : TakenBy says p.size p.parser p.stage pieces f) (t : Locks) (w j : ℕ) (reply : Reply) (events : List Event) → write_in p.stage ≡ Some w → entry_in p.stage ≡ Some w → j ≡ slot p.key → reply ≡ end_reply how → events ≡ end_noted w j how entry → Closes (facts_in s t (ongoing_put p).request) (Some p) reply events
   written-answers-as says pieces f taken t w j reply events has mine at is noted =
-      subst (λ z. Closes (facts_in s t (held_put p).request) (Some p) z events) (sym is) (written-answers p s u limits m m' how entry told ends says p.size pieces f taken t w events has mine (noted ∙ ap (λ k. end_noted w k how entry) at))
+      subst (λ z. Closes (facts_in s t (ongoing_put p).request) (Some p) z events) (sym is) (written-answers p s u limits m m' how entry told ends says p.size pieces f taken t w events has mine (noted ∙ ap (λ k. end_noted w k how entry) at))
 
-  pub written-moves-as : (says : Says) (pieces : List Piece) (f : Option Filled) (taken : TakenBy says p.size p.parser p.stage pieces f) (v : Store) (stage : Stage) (w j : ℕ) (events : List Event) → IsOfWorld (held_put p).request → write_in p.stage ≡ Some w → entry_in p.stage ≡ Some w → j ≡ slot p.key → events ≡ end_noted w j how entry → stage ≡ stage_ended how → v ≡ dropped_by (write_in stage) u
-      → Moves limits (Some (held_put p)) s m events None v m'
+  pub written-moves-as : (says : Says) (pieces : List Piece) (f : Option Filled) (taken : TakenBy says p.size p.parser p.stage pieces f) (v : Store) (stage : Stage) (w j : ℕ) (events : List Event) → IsOfWorld (ongoing_put p).request → write_in p.stage ≡ Some w → entry_in p.stage ≡ Some w → j ≡ slot p.key → events ≡ end_noted w j how entry → stage ≡ stage_ended how → v ≡ dropped_by (write_in stage) u
+      → Moves limits (Some (ongoing_put p)) s m events None v m'
   written-moves-as says pieces f taken v stage w j events world has mine at noted stands to =
-      subst (λ (z : Store). Moves limits (Some (held_put p)) s m events None z m') (sym (ended-still how stage u v stands to)) (written-moves p s u limits m m' how entry told ends says p.size pieces f taken w events world has mine (noted ∙ ap (λ k. end_noted w k how entry) at))
+      subst (λ (z : Store). Moves limits (Some (ongoing_put p)) s m events None z m') (sym (ended-still how stage u v stands to)) (written-moves p s u limits m m' how entry told ends says p.size pieces f taken w events world has mine (noted ∙ ap (λ k. end_noted w k how entry) at))
 
   pub unwritten-answers-as : (f : Facts) (reply : Reply) (events : List Event) → events ≡ [] → write_in p.stage ≡ None → reply ≡ end_reply how → Closes f (Some p) reply events
   unwritten-answers-as f reply events none at is = subst (λ z. Closes f (Some p) z events) (sym is) (unwritten-answers p s u limits m m' how entry told ends f events none at)
 
-  pub unwritten-moves-as : (v : Store) (stage : Stage) (events : List Event) → events ≡ [] → write_in p.stage ≡ None → stage ≡ stage_ended how → v ≡ dropped_by (write_in stage) u → Moves limits (Some (held_put p)) s m events None v m'
+  pub unwritten-moves-as : (v : Store) (stage : Stage) (events : List Event) → events ≡ [] → write_in p.stage ≡ None → stage ≡ stage_ended how → v ≡ dropped_by (write_in stage) u → Moves limits (Some (ongoing_put p)) s m events None v m'
   unwritten-moves-as v stage events none at stands to =
-      subst (λ (z : Store). Moves limits (Some (held_put p)) s m events None z m') (sym (ended-still how stage u v stands to)) (unwritten-moves p s u limits m m' how entry told ends events none at)
+      subst (λ (z : Store). Moves limits (Some (ongoing_put p)) s m events None z m') (sym (ended-still how stage u v stands to)) (unwritten-moves p s u limits m m' how entry told ends events none at)
 
   pub tells-as-answered : (says : Says) (pieces : List Piece) (f : Option Filled) (reply : Reply) → reply ≡ end_reply how → TellsResult (IsResult says (limit_of p.size) pieces) f how → Tells (IsResult says (limit_of p.size) pieces) f reply
   tells-as-answered says pieces f reply is tells = subst (Tells (IsResult says (limit_of p.size) pieces) f) (sym is) (tells-end p s u limits m m' how entry told ends (IsResult says (limit_of p.size) pieces) f tells)
@@ -308,9 +308,9 @@ quiet-end w k how entry events is = subst AreOfNoLock (sym is) (by how entry)
 
 -- ---- a put that is dropped
 
-pub drop-moves : (x : Held) (p : Taking) (s u : Store) (w : ℕ) (old events : List Event) → held_put p ≡ x → write_in p.stage ≡ Some w → old ≡ [] → events ≡ old ++ E.Dropped w ∷ [] → u ≡ dropped_by (write_in p.stage) s → (limits : Limits) (m : Tracked) → Moves limits (Some x) s m events None u m
+pub drop-moves : (x : Ongoing) (p : Taking) (s u : Store) (w : ℕ) (old events : List Event) → ongoing_put p ≡ x → write_in p.stage ≡ Some w → old ≡ [] → events ≡ old ++ E.Dropped w ∷ [] → u ≡ dropped_by (write_in p.stage) s → (limits : Limits) (m : Tracked) → Moves limits (Some x) s m events None u m
 drop-moves x p s u w old events held has none is to limits m =
-    subst (λ (y : Held). Moves limits (Some y) s m events None u m) held
-    (subst (λ es. Moves limits (Some (held_put p)) s m es None u m) (sym (is ∙ ap (λ es. es ++ E.Dropped w ∷ []) none))
-    (does limits (Some (held_put p)) (E.Dropped w) [] (at_call (Some (held_put p)) s m) (at_call None u m) has
-    (stop limits (Some (held_put p)) (after_event (E.Dropped w) (at_call (Some (held_put p)) s m)) (at_call None u m) (record { count = λ v. refl; write = refl; owed = refl; store = to ∙ ap (λ o. dropped_by o s) has; tracked = refl }))))
+    subst (λ (y : Ongoing). Moves limits (Some y) s m events None u m) held
+    (subst (λ es. Moves limits (Some (ongoing_put p)) s m es None u m) (sym (is ∙ ap (λ es. es ++ E.Dropped w ∷ []) none))
+    (does limits (Some (ongoing_put p)) (E.Dropped w) [] (at_call (Some (ongoing_put p)) s m) (at_call None u m) has
+    (stop limits (Some (ongoing_put p)) (after_event (E.Dropped w) (at_call (Some (ongoing_put p)) s m)) (at_call None u m) (record { count = λ v. refl; write = refl; owed = refl; store = to ∙ ap (λ o. dropped_by o s) has; tracked = refl }))))

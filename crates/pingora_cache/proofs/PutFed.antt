@@ -14,7 +14,7 @@ use Rattle.pcache_put_ctx.specs.Puts.{Piece, Says, joined}
 use Rattle.pcache_put.specs.Response.{Response, is_whole}
 use Rattle.pcache_put.proofs.Unique.{one_response}
 use Rattle.pcache_put_ctx.specs.State.{BodyRead, Stage, InHead, InBody, HasDeclined, IsOver, Filled, TakenBy, limit_of, write_in}
-use Rattle.pcache_put_ctx.specs.Steps.{AnswersAgain, BeginsAtHead, EndsPiece, HasWholeBody, IfRefused, MayRefusePiece, filled_on, filled_wrote, is_done, stage_begun, store_after}
+use Rattle.pcache_put_ctx.specs.Steps.{ReturnsAgain, BeginsAtHead, EndsPiece, HasWholeBody, IfRefused, MayFailPiece, filled_on, filled_wrote, is_done, stage_begun, store_after}
 use Rattle.pcache_put_ctx.proofs.Bodies.{done_whole}
 use Rattle.pcache_put_ctx.specs.declared.report.PieceEnd.{PieceEnd}
 use Rattle.pcache_put_ctx.specs.declared.report.PieceEnd.TheVariants as piece
@@ -30,7 +30,7 @@ use Rattle.pcache_history.specs.declared.entry.Event.TheVariants as E
 use Rattle.pcache_history.specs.Due.{slot_of}
 use Rattle.pcache_history.specs.Facts.{Facts}
 use Rattle.pingora_cache.specs.PartFacts.{facts_in}
-use Rattle.pcache_history.specs.Held.{Held, held_put, stage_noted}
+use Rattle.pcache_history.specs.Ongoing.{Ongoing, ongoing_put, stage_noted}
 use Rattle.pingora_cache.specs.Untold.{untold, uncounted}
 use Rattle.pingora_cache.specs.Moved.{At, Moves, MovesBy, MovesStore, at_call}
 use Rattle.pcache_history.specs.PutHistory.{AreWhole, IgnoresAt, SayEnds, filled_by}
@@ -50,7 +50,7 @@ append-nil (e ∷ xs) = ap (λ ys. e ∷ ys) (append-nil xs)
 
 -- ---- the parts move by what is noted
 
-module _ (limits : Limits) (q : Option Held) (k : Key) (count : ℕ → ℕ) (s : Store) (m : Tracked) (own : slot_of q ≡ Some (slot k)) where
+module _ (limits : Limits) (q : Option Ongoing) (k : Key) (count : ℕ → ℕ) (s : Store) (m : Tracked) (own : slot_of q ≡ Some (slot k)) where
   abbrev pub before : Stage → At
   before stage = record { count = count; write = write_in stage; owed = None; store = s; tracked = m }
 
@@ -99,11 +99,11 @@ module _ (p p' : Taking) (s s1 : Store) (began : Option Meta) (b : Option Writte
   abbrev pub now : Stage
   now = stage_begun p.stage began s.next (Some s.next)
 
-  abbrev pub x : Held
-  x = held_put p
+  abbrev pub x : Ongoing
+  x = ongoing_put p
 
-  abbrev pub y : Held
-  y = held_put p'
+  abbrev pub y : Ongoing
+  y = ongoing_put p'
 
   -- it goes on
   pub goes-moves : (w : Option ℕ) (old events : List Event) → old ≡ [] → w ≡ write_in p'.stage → p'.stage ≡ now → events ≡ old ++ piece_noted j w began b → MovesStore (Some x) s events (Some y) s1
@@ -135,10 +135,10 @@ limit-sizes : (c : Option Counted) → option_map uncounted c ≡ option_map cou
 limit-sizes None = refl
 limit-sizes (Some c) = refl
 
-alike : (p p' : Taking) (z : Stage) → p'.key ≡ p.key → limit_of p'.size ≡ limit_of p.size → p'.stage ≡ z → untold (held_put p') ≡ untold (held_put (record { key = p.key; size = p.size; parser = p.parser; stage = z }))
+alike : (p p' : Taking) (z : Stage) → p'.key ≡ p.key → limit_of p'.size ≡ limit_of p.size → p'.stage ≡ z → untold (ongoing_put p') ≡ untold (ongoing_put (record { key = p.key; size = p.size; parser = p.parser; stage = z }))
 alike p p' z key limit stands =
     let sizes = limit-sizes p'.size ∙ ap (option_map counted_none) limit ∙ sym (limit-sizes p.size) in
-    λ i. held_put (record { key = key i; size = sizes i; parser = AtHead []; stage = stands i })
+    λ i. ongoing_put (record { key = key i; size = sizes i; parser = AtHead []; stage = stands i })
 
 begun-stage : (k n : ℕ) (stage : Stage) (began : Option Meta) (b : Option Written) → BeginsAtHead stage began → stage_noted (piece_noted k (write_in (stage_begun stage began n (Some n))) began b) stage ≡ stage_begun stage began n (Some n)
 begun-stage k n InHead None b begins = refl
@@ -152,15 +152,15 @@ begun-stage k n (IsOver kind) None b begins = refl
 begun-stage k n (IsOver kind) (Some m) b begins = none-some m begins
 
 pub goes-row : (p p' : Taking) (bytes : List ℕ) (t n j : ℕ) (began : Option Meta) (b : Option Written) (w : Option ℕ) (old events : List Event) → p'.key ≡ p.key → limit_of p'.size ≡ limit_of p.size → BeginsAtHead p.stage began → old ≡ [] → w ≡ write_in p'.stage → p'.stage ≡ stage_begun p.stage began n (Some n) → events ≡ old ++ piece_noted j w began b
-    → IsRow (C.Feed bytes t) R.Done events (Some (held_put p)) (Some (held_put p'))
+    → IsRow (C.Feed bytes t) R.Done events (Some (ongoing_put p)) (Some (ongoing_put p'))
 goes-row p p' bytes t n j began b w old events key limit begins none has stands is =
     let noted-as : events ≡ piece_noted j (write_in (stage_begun p.stage began n (Some n))) began b = is ∙ (λ i. none i ++ piece_noted j ((has ∙ ap write_in stands) i) began b) in
     ap Some (alike p p' (stage_noted events p.stage) key limit (stands ∙ sym (ap (λ es. stage_noted es p.stage) noted-as ∙ begun-stage j n p.stage began b begins)))
 
-pub declined-row : (p p' : Taking) (bytes : List ℕ) (t : ℕ) (reason : NoCacheReason) (events : List Event) → p'.key ≡ p.key → limit_of p'.size ≡ limit_of p.size → p'.stage ≡ HasDeclined reason → IsRow (C.Feed bytes t) (R.NotCached reason) events (Some (held_put p)) (Some (held_put p'))
+pub declined-row : (p p' : Taking) (bytes : List ℕ) (t : ℕ) (reason : NoCacheReason) (events : List Event) → p'.key ≡ p.key → limit_of p'.size ≡ limit_of p.size → p'.stage ≡ HasDeclined reason → IsRow (C.Feed bytes t) (R.NotCached reason) events (Some (ongoing_put p)) (Some (ongoing_put p'))
 declined-row p p' bytes t reason events key limit stands = ap Some (alike p p' (HasDeclined reason) key limit stands)
 
-pub refused-row : (p p' : Taking) (bytes : List ℕ) (t : ℕ) (e kind : ErrorType) (events : List Event) → kind ≡ e → p'.key ≡ p.key → limit_of p'.size ≡ limit_of p.size → p'.stage ≡ IsOver e → IsRow (C.Feed bytes t) (R.Refused kind) events (Some (held_put p)) (Some (held_put p'))
+pub refused-row : (p p' : Taking) (bytes : List ℕ) (t : ℕ) (e kind : ErrorType) (events : List Event) → kind ≡ e → p'.key ≡ p.key → limit_of p'.size ≡ limit_of p.size → p'.stage ≡ IsOver e → IsRow (C.Feed bytes t) (R.Refused kind) events (Some (ongoing_put p)) (Some (ongoing_put p'))
 refused-row p p' bytes t e kind events same key limit stands = ap Some (alike p p' (IsOver kind) key limit (stands ∙ ap IsOver (sym same)))
 
 -- ---- what was taken in
@@ -246,7 +246,7 @@ abbrev pub OnTaken : Says → Taking → Taking → Piece → Option Meta → Op
 OnTaken says p p' q began b = (pieces : List Piece) (f : Option Filled) → TakenBy says p.size p.parser p.stage pieces f → TakenBy says p'.size p'.parser p'.stage (pieces ++ q ∷ []) (filled_on began b f)
 
 pub goes-puts : (says : Says) (p p' : Taking) (bytes : List ℕ) (t n j : ℕ) (began : Option Meta) (b : Option Written) (w : Option ℕ) (old events : List Event) → BeginsAtHead p.stage began → ((kind : ErrorType) → p.stage ≡ IsOver kind → ⊥) → OnTaken says p p' (record { bytes = bytes; now = t }) began b → old ≡ [] → w ≡ write_in p'.stage → p'.stage ≡ stage_begun p.stage began n (Some n)
-    → events ≡ old ++ piece_noted j w began b → Ignores p began b → SaysLast says p p' b → PutTurn says (C.Feed bytes t) R.Done events (Some (held_put p)) (Some (held_put p'))
+    → events ≡ old ++ piece_noted j w began b → Ignores p began b → SaysLast says p p' b → PutTurn says (C.Feed bytes t) R.Done events (Some (ongoing_put p)) (Some (ongoing_put p'))
 goes-puts says p p' bytes t n j began b w old events begins on taken none has stands is ignored last = record {
   taken = λ pieces f got.
       let noted-as : events ≡ piece_noted j (write_in (stage_begun p.stage began n (Some n))) began b = is ∙ (λ i. none i ++ piece_noted j ((has ∙ ap write_in stands) i) began b) in
@@ -265,7 +265,7 @@ declined-as says size parser stage reason pieces f g is none t =
     subst (λ (z : Stage). TakenBy says size parser z pieces f) (sym is) (let u : TakenBy says size parser (HasDeclined reason) pieces g = subst (λ (z : Stage). TakenBy says size parser z pieces g) is t in (u.0, none))
 
 pub declined-puts : (says : Says) (p p' : Taking) (bytes : List ℕ) (t : ℕ) (began : Option Meta) (b : Option Written) (reason : NoCacheReason) (events : List Event) → ((kind : ErrorType) → p.stage ≡ IsOver kind → ⊥) → write_in p.stage ≡ None → OnTaken says p p' (record { bytes = bytes; now = t }) began b → events ≡ []
-    → p'.stage ≡ HasDeclined reason → PutTurn says (C.Feed bytes t) (R.NotCached reason) events (Some (held_put p)) (Some (held_put p'))
+    → p'.stage ≡ HasDeclined reason → PutTurn says (C.Feed bytes t) (R.NotCached reason) events (Some (ongoing_put p)) (Some (ongoing_put p'))
 declined-puts says p p' bytes t began b reason events on unwritten taken none stands = record {
   taken = λ pieces f got.
       let nothing : f ≡ None = head-filled says p.size p.parser pieces p.stage f got on unwritten in
@@ -279,7 +279,7 @@ over-as : (says : Says) (size : Option Counted) (parser : Parsed) (stage : Stage
 over-as says size parser stage kind pieces f g is t = subst (λ (z : Stage). TakenBy says size parser z pieces f) (sym is) (subst (λ (z : Stage). TakenBy says size parser z pieces g) is t)
 
 pub refused-puts : (says : Says) (p p' : Taking) (bytes : List ℕ) (t : ℕ) (began : Option Meta) (b : Option Written) (e kind : ErrorType) (events : List Event) → OnTaken says p p' (record { bytes = bytes; now = t }) began b → p'.stage ≡ IsOver e
-    → (HasWholeBody p.stage p.parser → ⊥) → PutTurn says (C.Feed bytes t) (R.Refused kind) events (Some (held_put p)) (Some (held_put p'))
+    → (HasWholeBody p.stage p.parser → ⊥) → PutTurn says (C.Feed bytes t) (R.Refused kind) events (Some (ongoing_put p)) (Some (ongoing_put p'))
 refused-puts says p p' bytes t began b e kind events taken stands never = record {
   taken = λ pieces f got. over-as says p'.size p'.parser p'.stage e (pieces ++ record { bytes = bytes; now = t } ∷ []) (filled_by events f) (filled_on began b f) stands (taken pieces f got);
   closes = λ pieces f got. tt;
@@ -291,19 +291,19 @@ refused-puts says p p' bytes t began b e kind events taken stands never = record
 
 module _ (s : Store) (t : Locks) where
   abbrev pub facts : Key → Stage → Facts
-  facts k stage = facts_in s t (held_put (record { key = k; size = None; parser = AtHead []; stage = stage })).request
+  facts k stage = facts_in s t (ongoing_put (record { key = k; size = None; parser = AtHead []; stage = stage })).request
 
   abbrev pub AtStage : Key → Stage → Reply → List Event → Type 0
   AtStage k stage reply events = FeedsAt (facts k stage) (slot k) stage reply events
 
-  head-refusal : (f : Facts) (e : ErrorType) → f.next ≡ s.next → MayRefusePiece InHead s e → IsFeedRefusal f InHead e
+  head-refusal : (f : Facts) (e : ErrorType) → f.next ≡ s.next → MayFailPiece InHead s e → IsFeedRefusal f InHead e
   head-refusal f error.OutOfMemory is may = tt
   head-refusal f error.InvalidHttpHeader is may = tt
   head-refusal f error.ResponseTooLarge is may = tt
   head-refusal f error.NumbersExhausted is may = subst (λ n. 2 ^ 64 ≤ n) (sym is) may
   head-refusal f e is may = absurd may
 
-  body-refusal : (f : Facts) (w : ℕ) (id : Option ℕ) (until : ℕ) (e : ErrorType) → (is_told (get s.writes w) ≡ true → ⊥) → MayRefusePiece (InBody w id until) s e → IsFeedRefusal f (InBody w id until) e
+  body-refusal : (f : Facts) (w : ℕ) (id : Option ℕ) (until : ℕ) (e : ErrorType) → (is_told (get s.writes w) ≡ true → ⊥) → MayFailPiece (InBody w id until) s e → IsFeedRefusal f (InBody w id until) e
   body-refusal f w id until error.OutOfMemory untold may = tt
   body-refusal f w id until error.InvalidHttpHeader untold may = tt
   body-refusal f w id until error.ResponseTooLarge untold may = tt
@@ -318,18 +318,18 @@ module _ (s : Store) (t : Locks) where
   not-failed says size parser (HasDeclined reason) pieces f e taken on off is = off reason refl
   not-failed says size parser (IsOver kind) pieces f e taken on off is = on kind refl
 
-pub not-over : {M : Type 0} (stage : Stage) (end : PieceEnd M) → AnswersAgain stage end → end ≡ piece.GoesOn → (kind : ErrorType) → stage ≡ IsOver kind → ⊥
-not-over {M = M} stage end again on kind is = let g : ◌≡◌ {A = PieceEnd M} piece.GoesOn (piece.Refused kind None) = sym on ∙ subst (λ (z : Stage). AnswersAgain z end) is again in cc
+pub not-over : {M : Type 0} (stage : Stage) (end : PieceEnd M) → ReturnsAgain stage end → end ≡ piece.GoesOn → (kind : ErrorType) → stage ≡ IsOver kind → ⊥
+not-over {M = M} stage end again on kind is = let g : ◌≡◌ {A = PieceEnd M} piece.GoesOn (piece.Refused kind None) = sym on ∙ subst (λ (z : Stage). ReturnsAgain z end) is again in cc
 
 module _ {M : Type 0} (s : Store) (t : Locks) where
-  pub goes-answers : (k : Key) (stage : Stage) (end : PieceEnd M) (began : Option Meta) (b : Option Written) (events : List Event) → AnswersAgain stage end → end ≡ piece.GoesOn → BeginsAtHead stage began → events ≡ piece_noted (slot k) (write_in (stage_begun stage began s.next (Some s.next))) began b → AtStage s t k stage R.Done events
+  pub goes-answers : (k : Key) (stage : Stage) (end : PieceEnd M) (began : Option Meta) (b : Option Written) (events : List Event) → ReturnsAgain stage end → end ≡ piece.GoesOn → BeginsAtHead stage began → events ≡ piece_noted (slot k) (write_in (stage_begun stage began s.next (Some s.next))) began b → AtStage s t k stage R.Done events
   goes-answers k InHead end began b events again on begins is = (began, b, inl (refl, is))
   goes-answers k (InBody w id until) end None b events again on begins is = (b, inl (refl, is))
   goes-answers k (InBody w id until) end (Some m) b events again on begins is = none-some m begins
   goes-answers k (HasDeclined reason) end began b events again on begins is = absurd (let g : piece.GoesOn ≡ piece.NotCached reason = sym on ∙ again in cc)
   goes-answers k (IsOver kind) end began b events again on begins is = absurd (let g : piece.GoesOn ≡ piece.Refused kind None = sym on ∙ again in cc)
 
-  pub declined-answers : (k : Key) (stage : Stage) (end : PieceEnd M) (began : Option Meta) (b : Option Written) (reason : NoCacheReason) (events : List Event) → AnswersAgain stage end → end ≡ piece.NotCached reason → BeginsAtHead stage began → write_in (stage_begun stage began s.next (Some s.next)) ≡ None → events ≡ []
+  pub declined-answers : (k : Key) (stage : Stage) (end : PieceEnd M) (began : Option Meta) (b : Option Written) (reason : NoCacheReason) (events : List Event) → ReturnsAgain stage end → end ≡ piece.NotCached reason → BeginsAtHead stage began → write_in (stage_begun stage began s.next (Some s.next)) ≡ None → events ≡ []
       → AtStage s t k stage (R.NotCached reason) events
   declined-answers k InHead end began b reason events again on begins none is = (began, b, inr (inl (reason, none, (refl, is))))
   declined-answers k (InBody w id until) end None b reason events again on begins none is = none-some w none
@@ -338,14 +338,14 @@ module _ {M : Type 0} (s : Store) (t : Locks) where
   declined-answers k (IsOver kind) end began b reason events again on begins none is = absurd (let g : ◌≡◌ {A = PieceEnd M} (piece.NotCached reason) (piece.Refused kind None) = sym on ∙ again in cc)
 
   pub refused-answers : (says : Says) (size : Option Counted) (parser : Parsed) (pieces : List Piece) (f : Option Filled) (k : Key) (stage : Stage) (end : PieceEnd M) (began : Option Meta) (b : Option Written) (e kind : ErrorType) (writer : Option M) (w : Option ℕ) (events : List Event)
-      → TakenBy says size parser stage pieces f → AnswersAgain stage end → end ≡ piece.Refused e writer → kind ≡ e → BeginsAtHead stage began → MayRefusePiece stage s e ⊎ (parser ≡ HasFailed e) → w ≡ write_in (stage_begun stage began s.next (Some s.next)) → events ≡ piece_noted (slot k) w began b ++ drop_of w
+      → TakenBy says size parser stage pieces f → ReturnsAgain stage end → end ≡ piece.Refused e writer → kind ≡ e → BeginsAtHead stage began → MayFailPiece stage s e ⊎ (parser ≡ HasFailed e) → w ≡ write_in (stage_begun stage began s.next (Some s.next)) → events ≡ piece_noted (slot k) w began b ++ drop_of w
       → EndsWhole s (write_in stage) pieces → (HasWholeBody stage parser → ⊥) → AtStage s t k stage (R.Refused kind) events
   refused-answers says size parser pieces f k InHead end began b e kind writer w events taken again on same begins why has is ended never =
-      let may : MayRefusePiece InHead s e = elim why [ inl may ↦ may | inr failed ↦ absurd (not-failed s t says size parser InHead pieces f e taken (λ z h. absurd (cc)) (λ z h. absurd (cc)) failed) ] in
+      let may : MayFailPiece InHead s e = elim why [ inl may ↦ may | inr failed ↦ absurd (not-failed s t says size parser InHead pieces f e taken (λ z h. absurd (cc)) (λ z h. absurd (cc)) failed) ] in
       (began, b, inr (inr (e, head-refusal s t (facts s t k InHead) e refl may, ap R.Refused same, is ∙ ap (λ o. piece_noted (slot k) o began b ++ drop_of o) has)))
   refused-answers says size parser pieces f k (InBody v id until) end None b e kind writer w events taken again on same begins why has is ended never =
       let untold : is_told (get s.writes v) ≡ true → ⊥ = λ told. never ((taken-whole says size parser v id until pieces f taken).1 (ended told)) in
-      let may : MayRefusePiece (InBody v id until) s e = elim why [ inl may ↦ may | inr failed ↦ absurd (not-failed s t says size parser (InBody v id until) pieces f e taken (λ z h. absurd (cc)) (λ z h. absurd (cc)) failed) ] in
+      let may : MayFailPiece (InBody v id until) s e = elim why [ inl may ↦ may | inr failed ↦ absurd (not-failed s t says size parser (InBody v id until) pieces f e taken (λ z h. absurd (cc)) (λ z h. absurd (cc)) failed) ] in
       (b, inr (inr (e, body-refusal s t (facts s t k (InBody v id until)) v id until e untold may, ap R.Refused same, is ∙ ap (λ o. piece_noted (slot k) o None b ++ drop_of o) has)))
   refused-answers says size parser pieces f k (InBody v id until) end (Some m) b e kind writer w events taken again on same begins why has is ended never = none-some m begins
   refused-answers says size parser pieces f k (HasDeclined reason) end began b e kind writer w events taken again on same begins why has is ended never = absurd (let g : ◌≡◌ {A = PieceEnd M} (piece.Refused e writer) (piece.NotCached reason) = sym on ∙ again in cc)
@@ -403,8 +403,8 @@ pub left-drop : (w v : Option ℕ) (s u : Store) → w ≡ v → u ≡ dropped_b
 left-drop w v s u same is = is ∙ ap (λ o. dropped_by o s) (sym same)
 
 pub refused-answers-of : {M : Type 0} (s : Store) (t : Locks) (says : Says) (p : Taking) (pieces : List Piece) (f : Option Filled) (end : PieceEnd M) (began : Option Meta) (b : Option Written) (e kind : ErrorType) (writer : Option M) (w : Option ℕ) (j : ℕ) (old mid events : List Event)
-    → TakenBy says p.size p.parser p.stage pieces f → AnswersAgain p.stage end → end ≡ piece.Refused e writer → kind ≡ e → BeginsAtHead p.stage began → IfRefused end (λ z. MayRefusePiece p.stage s z ⊎ (p.parser ≡ HasFailed z)) → w ≡ write_in (stage_begun p.stage began s.next (Some s.next)) → j ≡ slot p.key
-    → old ≡ [] → mid ≡ old ++ piece_noted j w began b → events ≡ mid ++ drop_of w → EndsWhole s (write_in p.stage) pieces → (HasWholeBody p.stage p.parser → ⊥) → Feeds (facts_in s t (held_put p).request) (Some p) (R.Refused kind) events
+    → TakenBy says p.size p.parser p.stage pieces f → ReturnsAgain p.stage end → end ≡ piece.Refused e writer → kind ≡ e → BeginsAtHead p.stage began → IfRefused end (λ z. MayFailPiece p.stage s z ⊎ (p.parser ≡ HasFailed z)) → w ≡ write_in (stage_begun p.stage began s.next (Some s.next)) → j ≡ slot p.key
+    → old ≡ [] → mid ≡ old ++ piece_noted j w began b → events ≡ mid ++ drop_of w → EndsWhole s (write_in p.stage) pieces → (HasWholeBody p.stage p.parser → ⊥) → Feeds (facts_in s t (ongoing_put p).request) (Some p) (R.Refused kind) events
 refused-answers-of s t says p pieces f end began b e kind writer w j old mid events taken again on same begins why has at none one is ended never =
     refused-answers s t says p.size p.parser pieces f p.key p.stage end began b e kind writer w events taken again on same begins
-    (subst (λ z. IfRefused z (λ y. MayRefusePiece p.stage s y ⊎ (p.parser ≡ HasFailed y))) on why) has (is ∙ ap (λ es. es ++ drop_of w) (one ∙ (λ i. none i ++ piece_noted (at i) w began b))) ended never
+    (subst (λ z. IfRefused z (λ y. MayFailPiece p.stage s y ⊎ (p.parser ≡ HasFailed y))) on why) has (is ∙ ap (λ es. es ++ drop_of w) (one ∙ (λ i. none i ++ piece_noted (at i) w began b))) ended never

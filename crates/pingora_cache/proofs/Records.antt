@@ -10,13 +10,13 @@ use Rattle.pcache_store.specs.Store.{Store, Written}
 use Rattle.pcache_history.specs.declared.entry.Entry.{Entry}
 use Rattle.pcache_history.specs.declared.entry.Event.{Event}
 use Rattle.pcache_history.specs.Events.{in_flight}
-use Rattle.pcache_history.specs.Held.{Held, request_of}
+use Rattle.pcache_history.specs.Ongoing.{Ongoing, request_of}
 use Rattle.pcache_history.specs.History.{events_of}
 use Rattle.pingora_cache.specs.Sound.{IsSound, readers, record_of, writers, writers_in}
 use Rattle.pingora_cache.specs.Untold.{untold}
 use Rattle.pingora_cache.proofs.Counts.{readers-none}
 
-untold-none : (q : Option Held) → option_map untold q ≡ None → q ≡ None
+untold-none : (q : Option Ongoing) → option_map untold q ≡ None → q ≡ None
 untold-none None is = refl
 untold-none (Some x) is = absurd (cc)
 
@@ -32,11 +32,11 @@ grounded : (n : ℕ) (b : Bool) → n ≡ (if b then 1 else 0) → n ≡ 0 → b
 grounded n true held none = absurd (omega arith)
 grounded n false held none = refl
 
-pub records-none : (limits : Limits) (start now : Tracked) (s : Store) (t : Locks) (all : FinMap nat_cmp Held) (h : List Entry) → IsSound limits start now s t all h → ((r : ℕ) → request_of r h ≡ None) → len s.writes ≡ 0
+pub records-none : (limits : Limits) (start now : Tracked) (s : Store) (t : Locks) (all : FinMap nat_cmp Ongoing) (h : List Entry) → IsSound limits start now s t all h → ((r : ℕ) → request_of r h ≡ None) → len s.writes ≡ 0
 records-none limits start now s t all h k none =
     let gone : all ≡ empty = same_map nat_cmp_total nat_cmp-IsAntisymmetric all empty (λ r. untold-none (get all r) (k.requests r ∙ none r) ∙ sym (get-empty nat_cmp r)) in
-    let unread : (w : ℕ) → readers all w ≡ 0 = λ w. ap (λ (m : FinMap nat_cmp Held). readers m w) gone ∙ readers-none w in
-    let unwritten : (w : ℕ) → writers all w ≡ 0 = λ w. ap (λ (m : FinMap nat_cmp Held). writers m w) gone ∙ total-empty nat_cmp_total (writers_in w) in
+    let unread : (w : ℕ) → readers all w ≡ 0 = λ w. ap (λ (m : FinMap nat_cmp Ongoing). readers m w) gone ∙ readers-none w in
+    let unwritten : (w : ℕ) → writers all w ≡ 0 = λ w. ap (λ (m : FinMap nat_cmp Ongoing). writers m w) gone ∙ total-empty nat_cmp_total (writers_in w) in
     let kept : s.writes ≡ empty = same_map nat_cmp_total nat_cmp-IsAntisymmetric s.writes empty (λ w.
     k.state.writes w ∙ no-record w (readers all w) (events_of h) (grounded (writers all w) (in_flight w (events_of h)) (k.writes w) (unwritten w)) (unread w) ∙ sym (get-empty nat_cmp w)) in
     ap len kept ∙ len-empty nat_cmp Written

@@ -13,13 +13,13 @@ use Rattle.pcache_history.specs.declared.entry.Entry.{Entry}
 use Rattle.pcache_history.specs.declared.entry.Event.{Event}
 use Rattle.pcache_history.specs.Events.{in_flight, tracked, option_any}
 use Rattle.pcache_history.specs.Deeds.{deeds_of}
-use Rattle.pcache_history.specs.Held.{Held, request_of}
+use Rattle.pcache_history.specs.Ongoing.{Ongoing, request_of}
 use Rattle.pingora_cache.specs.Untold.{untold}
 use Rattle.pcache_history.specs.History.{events_of}
 use Rattle.pcache_history.specs.Due.{makes_of, slot_of}
 use Rattle.pcache_history.specs.Legal.{IsLegal}
 use Rattle.pingora_cache.specs.LockTable.{IsTable, read_locks}
-use Rattle.pingora_cache.specs.Sound.{AllHold, IsState, AreOpen, AreHeld, IsSound, readers, writers_in}
+use Rattle.pingora_cache.specs.Sound.{AllHold, IsState, AreOpen, AreOngoing, IsSound, readers, writers_in}
 use Rattle.pingora_cache.specs.TableWaiting.{IsLocked}
 use Rattle.pingora_cache.proofs.Counts.{writes-one}
 use Rattle.pcache_history.proofs.Sums.{cmp_same, total-zero}
@@ -31,11 +31,11 @@ use Rattle.pcache_history.proofs.WriteLaws.{legal_kept}
 abbrev count : Bool → ℕ
 count b = if b then 1 else 0
 
-one-writer : (w : ℕ) (q : Option Held) → makes_of q ≡ Some w → share (writers_in w) q ≡ 1
+one-writer : (w : ℕ) (q : Option Ongoing) → makes_of q ≡ Some w → share (writers_in w) q ≡ 1
 one-writer w None h = absurd (cc)
 one-writer w (Some x) h = writes-one x w h
 
-no-writer : (w : ℕ) (q : Option Held) → (makes_of q ≡ Some w → ⊥) → share (writers_in w) q ≡ 0
+no-writer : (w : ℕ) (q : Option Ongoing) → (makes_of q ≡ Some w → ⊥) → share (writers_in w) q ≡ 0
 no-writer w None n = refl
 no-writer w (Some x) n =
     elim x.request.write as (λ o. x.request.write ≡ o → count (option_any (λ y. y == w) o) ≡ 0) [
@@ -44,11 +44,11 @@ no-writer w (Some x) n =
     ] refl
 
 -- what a read lock was told plays no part
-same-writer : (w : ℕ) (q : Option Held) → share (writers_in w) q ≡ share (writers_in w) (option_map untold q)
+same-writer : (w : ℕ) (q : Option Ongoing) → share (writers_in w) q ≡ share (writers_in w) (option_map untold q)
 same-writer w None = refl
 same-writer w (Some x) = refl
 
-held_by_one : (es : List Event) (all : FinMap nat_cmp Held) (open_of : ℕ → Option Held) (slots : ℕ → Option ℕ) → ((r : ℕ) → option_map untold (get all r) ≡ open_of r) → AreMade (λ r. makes_of (open_of r)) slots es → AreHeld es all
+held_by_one : (es : List Event) (all : FinMap nat_cmp Ongoing) (open_of : ℕ → Option Ongoing) (slots : ℕ → Option ℕ) → ((r : ℕ) → option_map untold (get all r) ≡ open_of r) → AreMade (λ r. makes_of (open_of r)) slots es → AreOngoing es all
 held_by_one es all open_of slots is made w =
     elim (in_flight w es) as (λ b. in_flight w es ≡ b → total (writers_in w) all ≡ count b) [
       | true ↦ λ fly.
@@ -71,7 +71,7 @@ held_by_one es all open_of slots is made w =
           | false ↦ λ f. writer-at q ∙ no-writer w (open_of q) (λ h. both_ways _ f (cmp_same q r ∙ eq-eqb r q (sym (made.only q r w h has))))
         ] refl
 
-pub sound-of : (limits : Limits) (start now : Tracked) (s : Store) (t : Locks) (all : FinMap nat_cmp Held) (h : List Entry) → IsLegal t.age_timeout limits start h → now ≡ tracked start (events_of h) → IsState (events_of h) (readers all) s → AreOpen h all → IsLocked (events_of h) t
+pub sound-of : (limits : Limits) (start now : Tracked) (s : Store) (t : Locks) (all : FinMap nat_cmp Ongoing) (h : List Entry) → IsLegal t.age_timeout limits start h → now ≡ tracked start (events_of h) → IsState (events_of h) (readers all) s → AreOpen h all → IsLocked (events_of h) t
     → IsTable (deeds_of h) (read_locks all) t → AllHold (deeds_of h) t all → IsSound limits start now s t all h
 sound-of limits start now s t all h l is state are locks table holds =
     let k = legal_kept t.age_timeout limits start h l in

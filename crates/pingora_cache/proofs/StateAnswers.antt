@@ -12,14 +12,14 @@ use Rattle.std.proofs.lemmas.Bool.{and_parts}
 use Rattle.pcache_meta.specs.Meta.{Meta}
 use Rattle.pcache_base.specs.declared.poll.Poll.TheVariants.{Ready, Pending}
 use Rattle.pcache_table.specs.Numbers.{first_key, least}
-use Rattle.pcache_store.specs.Store.{Store, Slot, Stored, Written, Reader, Whole, Part, found_body, found_part, found_first, found_in, find, found_flying, find_write, followed, is_untouched_in, is_idle, is_untouched_on, is_untouched, read_part, read_of, place_after, reader_after}
+use Rattle.pcache_store.specs.Store.{Store, Slot, Stored, Written, Reader, Whole, Part, found_body, found_part, found_first, found_in, find, found_flying, find_write, followed, is_untouched_in, is_idle, is_untouched_on, is_untouched, read_part, read_of, offset_after, reader_after}
 use Rattle.pcache_store.specs.Store as store
 use Rattle.pcache_history.specs.declared.entry.Answer.{Answer}
 use Rattle.pcache_history.specs.declared.entry.Answer.TheVariants as A
 use Rattle.pcache_history.specs.declared.entry.Event.{Event}
 use Rattle.pcache_history.specs.Events as ev
 use Rattle.pcache_history.specs.Events.{begin_of, in_flight, is_of, is_open, is_removed, complete}
-use Rattle.pcache_history.specs.Held.{pair_of, read_past}
+use Rattle.pcache_history.specs.Ongoing.{pair_of, read_past}
 use Rattle.pcache_history.specs.History.{Finds, HasAny, reads}
 use Rattle.pingora_cache.specs.Sound.{follows, IsState}
 use Rattle.pcache_history.proofs.Sums.{cmp_same, same-number}
@@ -197,7 +197,7 @@ reads-is es n s st (Part w place) h =
     let most : 1 ≤ n w = subst (λ b. (if b then 1 else 0) ≤ n w) (same-number w) (h w) in
     ap (read_part place) (record-read es n s st w (omega arith)) ∙ same-part place (n w) (in_flight w es) (ev.body_of w es) (ev.is_told w es) (begin_of w es)
 
-past-part : (w place : ℕ) (o : Option Written) → read_past (read_part place o) (Part w place) ≡ Part w (place_after place o)
+past-part : (w place : ℕ) (o : Option Written) → read_past (read_part place o) (Part w place) ≡ Part w (offset_after place o)
 past-part w place None = refl
 past-part w place (Some v) =
     elim (nat_lt place (length v.bytes)) as (λ t. nat_lt place (length v.bytes) ≡ t → read_past (cond t (Ready (Some (drop place v.bytes))) (cond (v.flying && not v.told) Pending (Ready None))) (Part w place) ≡ Part w (cond t (length v.bytes) place)) [

@@ -7,12 +7,12 @@ use Rattle.std.specs.Cmp.{nat_cmp_total}
 use Rattle.std.specs.FinMap.{FinMap, get, insert, remove, get-insert, get-remove}
 use Rattle.std.proofs.lemmas.Bool.{eqb-true, both_ways, or_right}
 use Rattle.pcache_meta.specs.Meta.{Meta}
-use Rattle.pcache_store.specs.Store.{Store, Written, Reader, Whole, Part, is_named, kept, joined_on, joined, followed_by, followed, left_on, left}
+use Rattle.pcache_store.specs.Store.{Store, Written, Reader, Whole, Part, is_named, kept, followed_on, joined, followed_by, followed, left_on, left}
 use Rattle.pcache_request.specs.Requests.{left_by}
 use Rattle.pcache_history.specs.declared.entry.Event.{Event}
 use Rattle.pcache_history.specs.Events.{begin_of, in_flight, is_told, body_of}
 use Rattle.pingora_cache.specs.Sound.{follows, record_of, IsState}
-use Rattle.pcache_history.specs.Held.{pair_reader}
+use Rattle.pcache_history.specs.Ongoing.{pair_reader}
 use Rattle.pingora_cache.proofs.States.{state-same}
 use Rattle.pcache_history.proofs.Steps.{flies}
 use Rattle.pcache_history.proofs.Sums.{cmp_same, same-number}
@@ -118,7 +118,7 @@ module _ (es : List Event) (n m : ℕ → ℕ) (s : Store) (w : ℕ) (there : is
   as_many : (q : ℕ) → (w == q) ≡ false → m q ≡ n q
   as_many q f = let e : m q ≡ n q + 0 = count q ∙ ap (λ b. n q + (if b then 1 else 0)) f in omega arith
 
-  joined-writes : (o : Option Written) → get s.writes w ≡ o → (q : ℕ) → get (joined_on s.writes w o) q ≡ record_of q (m q) es
+  joined-writes : (o : Option Written) → get s.writes w ≡ o → (q : ℕ) → get (followed_on s.writes w o) q ≡ record_of q (m q) es
   joined-writes None e = absurd (both_ways _ (ap is_some e) there)
   joined-writes (Some r) e =
       changed-at s.writes _ es es n m w (Some (more r)) (get-set s.writes w (more r)) st.writes

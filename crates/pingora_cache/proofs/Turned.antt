@@ -13,7 +13,7 @@ use Rattle.pcache_history.specs.declared.call.Call.{Call}
 use Rattle.pcache_history.specs.declared.call.Reply.{Reply}
 use Rattle.pcache_history.specs.declared.entry.Entry.{Entry}
 use Rattle.pcache_history.specs.declared.entry.Event.{Event}
-use Rattle.pcache_history.specs.Held.{Held, IsOfOne}
+use Rattle.pcache_history.specs.Ongoing.{Ongoing, IsOfOne}
 use Rattle.pingora_cache.specs.Untold.{untold}
 use Rattle.pingora_cache.specs.LockTable.{read_locks}
 use Rattle.pcache_history.specs.Rules.{IsCopy}
@@ -28,47 +28,47 @@ use Rattle.pingora_cache.proofs.Uniform.{call-age, each-call-keeps}
 use Rattle.pingora_cache.proofs.Untold.{world-told}
 
 -- the requests as entries, and as the map that the entries make
-pub find-lookup : (es : List (ℕ × Held)) (q : ℕ) → find nat_cmp q es ≡ lookup (is_at (nat_cmp q)) es
+pub find-lookup : (es : List (ℕ × Ongoing)) (q : ℕ) → find nat_cmp q es ≡ lookup (is_at (nat_cmp q)) es
 find-lookup [] q = refl
 find-lookup (e ∷ es) q = ap (cond (is_at (nat_cmp q) e.0) (Some e.1)) (find-lookup es q)
 
-pub lookup-get : (es : List (ℕ × Held)) (q : ℕ) → lookup (is_at (nat_cmp q)) es ≡ get (from_entries {R = nat_cmp} es) q
+pub lookup-get : (es : List (ℕ × Ongoing)) (q : ℕ) → lookup (is_at (nat_cmp q)) es ≡ get (from_entries {R = nat_cmp} es) q
 lookup-get es q = sym (get-from_entries nat_cmp_total es q ∙ find-lookup es q)
 
 pub at-number : (r q : ℕ) → (r == q) ≡ is_at (nat_cmp r) q
 at-number r q = grind (arith, nat_tests)
 
-pub set-at : (all : FinMap nat_cmp Held) (r : ℕ) (o : Option Held) (q : ℕ) → get (set_to all r o) q ≡ cond (is_at (nat_cmp r) q) o (get all q)
+pub set-at : (all : FinMap nat_cmp Ongoing) (r : ℕ) (o : Option Ongoing) (q : ℕ) → get (set_to all r o) q ≡ cond (is_at (nat_cmp r) q) o (get all q)
 set-at all r o q = get-set_to all r o q ∙ ap (λ b. cond b o (get all q)) (at-number r q)
 
 -- if only what is open under one number changes, the entries are the requests with that change
-pub entries-after : (before after : List (ℕ × Held)) (n : ℕ) → IsMoved n before after → from_entries {R = nat_cmp} after ≡ set_to (from_entries {R = nat_cmp} before) n (lookup (is_at (nat_cmp n)) after)
+pub entries-after : (before after : List (ℕ × Ongoing)) (n : ℕ) → IsMoved n before after → from_entries {R = nat_cmp} after ≡ set_to (from_entries {R = nat_cmp} before) n (lookup (is_at (nat_cmp n)) after)
 entries-after before after n is =
     let now = lookup (is_at (nat_cmp n)) after in
     same_map nat_cmp_total nat_cmp-IsAntisymmetric _ _ (λ q.
     sym (lookup-get after q) ∙ is q ∙ (λ i. cond (is_at (nat_cmp n) q) now (lookup-get before q i)) ∙ sym (set-at (from_entries {R = nat_cmp} before) n now q))
 
 -- a request of a world is one, whatever its read lock was told
-pub of-world : (q : Option Held) → IsOfWorldIn (option_map untold q) → IsOfWorldIn q
+pub of-world : (q : Option Ongoing) → IsOfWorldIn (option_map untold q) → IsOfWorldIn q
 of-world None h = h
 of-world (Some x) h = world-told x.request h
 
 -- what a call names is a request of a world
-pub named-world : (limits : Limits) (start m : Tracked) (s : Store) (t : Locks) (before : List (ℕ × Held)) (h : List Entry) → IsSound limits start m s t (from_entries {R = nat_cmp} before) h → (n : ℕ) → IsOfWorldIn (lookup (is_at (nat_cmp n)) before)
+pub named-world : (limits : Limits) (start m : Tracked) (s : Store) (t : Locks) (before : List (ℕ × Ongoing)) (h : List Entry) → IsSound limits start m s t (from_entries {R = nat_cmp} before) h → (n : ℕ) → IsOfWorldIn (lookup (is_at (nat_cmp n)) before)
 named-world limits start m s t before h k n =
     let all = from_entries {R = nat_cmp} before in
     subst IsOfWorldIn (sym (lookup-get before n)) (of-world (get all n) (subst IsOfWorldIn (sym (k.requests n)) (legal_world t.age_timeout limits start h k.legal n)))
 
 -- what a call of a sound world is, by the requests as a map
-module _ (limits : Limits) (start m m' : Tracked) (s s' : Store) (t t' : Locks) (before after : List (ℕ × Held)) (h : List Entry) (call : Call) (reply : Reply) (events : List Event) (k : IsSound limits start m s t (from_entries {R = nat_cmp} before) h) (small : length before < 2 ^ 64)
+module _ (limits : Limits) (start m m' : Tracked) (s s' : Store) (t t' : Locks) (before after : List (ℕ × Ongoing)) (h : List Entry) (call : Call) (reply : Reply) (events : List Event) (k : IsSound limits start m s t (from_entries {R = nat_cmp} before) h) (small : length before < 2 ^ 64)
     (one : IsOfOne call.act) (turn : IsOfWorldIn (lookup (is_at (nat_cmp call.request)) before) → Turn limits call.request call.act (lookup (is_at (nat_cmp call.request)) before) s m t reply events (lookup (is_at (nat_cmp call.request)) after) s' m' t') where
-  abbrev all : FinMap nat_cmp Held
+  abbrev all : FinMap nat_cmp Ongoing
   all = from_entries {R = nat_cmp} before
 
   abbrev n : ℕ
   n = call.request
 
-  abbrev q' : Option Held
+  abbrev q' : Option Ongoing
   q' = lookup (is_at (nat_cmp n)) after
 
   few : (l : ℕ) → read_locks all l + 1 < 2 ^ 128
@@ -82,7 +82,7 @@ module _ (limits : Limits) (start m m' : Tracked) (s s' : Store) (t t' : Locks) 
   -- it leaves the world sound, with one more entry in its history; its reply is recorded as it is copied
   pub step_sound : (told : Reply) → IsMoved call.request before after → IsCopy reply told → IsSound limits start m' s' t' (from_entries {R = nat_cmp} after) (record { call = call; reply = told; events = events } ∷ h)
   step_sound told moved copy =
-      subst (λ (x : FinMap nat_cmp Held). IsSound limits start m' s' t' x (record { call = call; reply = told; events = events } ∷ h)) (sym (entries-after before after call.request moved))
+      subst (λ (x : FinMap nat_cmp Ongoing). IsSound limits start m' s' t' x (record { call = call; reply = told; events = events } ∷ h)) (sym (entries-after before after call.request moved))
       (each-call-keeps limits start m m' s s' t t' all h call reply told events q' k few made copy one)
 
   pub step_age : t'.age_timeout ≡ t.age_timeout

@@ -12,18 +12,18 @@ use Rattle.pcache_base.specs.declared.reason.NoCacheReason.TheVariants as reason
 use Rattle.pcache_lock.specs.Locks.{Locks}
 use Rattle.pcache_lock.specs.Permits as permits
 use Rattle.pcache_lock.specs.Permits.{Watch}
-use Rattle.pcache_lock.specs.Waiting.{answer_at, watched, polled, reader_at, reader_polled, stage_of, status_seen, told_or_pending, watch_at}
+use Rattle.pcache_lock.specs.Waiting.{answer_at, watched, polled, reader_at, reader_polled, permit_state, status_seen, told_or_pending, watch_at}
 use Rattle.pcache_lock.specs.declared.lock.outcome.LockWaitOutcome.{LockWaitOutcome}
-use Rattle.pcache_lock.specs.declared.lock.outcome.Stage.{Stage}
-use Rattle.pcache_lock.specs.declared.lock.outcome.Stage.TheVariants as stage
-use Rattle.pcache_lock.specs.declared.lock.outcome.Stage.TheVariants.{Over, Old}
+use Rattle.pcache_lock.specs.declared.lock.outcome.PermitState.{PermitState}
+use Rattle.pcache_lock.specs.declared.lock.outcome.PermitState.TheVariants as stage
+use Rattle.pcache_lock.specs.declared.lock.outcome.PermitState.TheVariants.{Over, Old}
 use Rattle.pcache_lock.specs.declared.lock.permit.Locked.{Locked}
 use Rattle.pcache_lock.specs.declared.lock.permit.Locked.TheVariants.{Write, Read}
 use Rattle.pcache_lock.specs.declared.lock.status.LockStatus.{LockStatus}
 use Rattle.pcache_meta.specs.Meta.{Meta}
 use Rattle.pcache_predict.specs.declared.admission.Decision.{Decision}
 use Rattle.pcache_request.specs.Admissions.{decided, is_deferral, with_decision}
-use Rattle.pcache_request.specs.LockWaits.{after_wait, answer_by, is_late, since_of, unusable_in, wait_answer, waited}
+use Rattle.pcache_request.specs.LockWaits.{after_wait, result_by, is_late, since_of, unusable_in, wait_result, waited}
 use Rattle.pcache_request.specs.Phases.{is_fresh}
 use Rattle.pcache_request.specs.Releasing.{disabled_for, disabled_in}
 use Rattle.pcache_request.specs.Requests.{Request, asks_as_stale, phase_found, placed}
@@ -45,16 +45,16 @@ use Rattle.pcache_history.specs.Deeds.{deeds_by, deeds_in, held_in, moment_of, s
 use Rattle.pcache_history.specs.Due.{IsOfWorld, KeepsKey, makes_of, reader_for, slot_of}
 use Rattle.pcache_history.specs.Facts.{Facts, request_in}
 use Rattle.pingora_cache.specs.PartFacts.{facts_in}
-use Rattle.pcache_history.specs.Held.{Held, Outcome, was_done, was_waited, opened, is_done, is_taken, is_wrong, outcome, on_request, pair_of, with_given, asked, carrying, decides, looked_by, looks_for, placed_by, taken_by, turned_by, shut_by, without_pair, fed, fed_in, held_put, began, ended, has_read, waited_by, row, row_by, after_look}
-use Rattle.pingora_cache.specs.Untold.{untold, uncounted, untold_put, untold_lock, untold_reader, untold_request, untold_watch}
+use Rattle.pcache_history.specs.Ongoing.{Ongoing, ReplyKind, was_done, was_waited, opened, is_done, is_taken, is_wrong, kind_of_reply, on_request, pair_of, with_given, asked, carrying, decides, looked_by, looks_for, placed_by, taken_by, turned_by, shut_by, without_pair, fed, fed_in, ongoing_put, began, ended, has_read, waited_by, row, row_by, after_look}
+use Rattle.pingora_cache.specs.Untold.{untold, uncounted, untold_put, untold_lock, untold_read_lock, untold_request, untold_watch}
 use Rattle.pingora_cache.specs.Moved.{reads_of}
-use Rattle.pcache_history.specs.Rules.{Answers, AsksIf, Closes, Does, Feeds, FindsKind, IsOfKind, Replies, Finishes, HandsOn, IsLockRefusal, IsStarved, Looks, LooksOn, MayBe, Misses, Takes, Waits, accesses}
+use Rattle.pcache_history.specs.Rules.{FollowsRule, AsksIf, Closes, Does, Feeds, FindsKind, IsOfKind, Replies, Finishes, HandsOn, IsLockRefusal, IsStarved, Looks, LooksOn, MayBe, Misses, Takes, Waits, accesses}
 use Rattle.pingora_cache.specs.Step.{IsRow}
 use Rattle.pcache_history.specs.Taking.{Taking, counted_none, new_put}
 use Rattle.pcache_put.specs.Progress.{AtHead}
 use Rattle.pcache_put.specs.Counted.{Counted}
 use Rattle.pcache_put_ctx.specs.State.{InHead}
-use Rattle.pcache_history.specs.Watching.{fills_of, reader_watching, waited_on, waited_with}
+use Rattle.pcache_history.specs.Watching.{fills_of, lock_watching, waited_on, waited_with}
 
 -- ---- twice
 
@@ -79,7 +79,7 @@ put-twice : (p : Option Taking) → option_map untold_put (option_map untold_put
 put-twice None = refl
 put-twice (Some p) = ap {A = Option Counted} {B = Option Taking} (λ c. Some (record { key = p.key; size = c; parser = AtHead []; stage = p.stage })) (size-twice p.size)
 
-pub untold-twice : (x : Held) → untold (untold x) ≡ untold x
+pub untold-twice : (x : Ongoing) → untold (untold x) ≡ untold x
 untold-twice x = λ i. record { request = holding (lock-twice x.request.held i) x.request; pair = x.pair; carried = x.carried; put = put-twice x.put i }
 
 -- ---- rows: what a call makes of a request
@@ -102,24 +102,24 @@ asked-untold stale [] x = refl
 asked-untold stale (e ∷ es) x = asked-untold stale es (with_given stale e x) ∙ ap (asked stale es) (given-untold stale e x)
 
 -- if a test decides which it is
-either-held : (b : Bool) (x y u v : Held) → untold x ≡ u → untold y ≡ v → untold (cond b x y) ≡ cond b u v
+either-held : (b : Bool) (x y u v : Ongoing) → untold x ≡ u → untold y ≡ v → untold (cond b x y) ≡ cond b u v
 either-held true x y u v e f = e
 either-held false x y u v e f = f
 
 -- of the pair and the decision nothing changes
-with-request : (x : Held) (p : Option (Meta × Reader)) (y z : Request) → untold_request y ≡ z → untold (record { request = y; pair = p; carried = x.carried; put = x.put }) ≡ record { request = z; pair = p; carried = x.carried; put = option_map untold_put x.put }
-with-request x p y z e = ap {A = Request} {B = Held} (λ r. record { request = r; pair = p; carried = x.carried; put = option_map untold_put x.put }) e
+with-request : (x : Ongoing) (p : Option (Meta × Reader)) (y z : Request) → untold_request y ≡ z → untold (record { request = y; pair = p; carried = x.carried; put = x.put }) ≡ record { request = z; pair = p; carried = x.carried; put = option_map untold_put x.put }
+with-request x p y z e = ap {A = Request} {B = Ongoing} (λ r. record { request = r; pair = p; carried = x.carried; put = option_map untold_put x.put }) e
 
-deferred-untold : (d : Option Decision) (x : Held) → untold (record { request = disabled_for reason.Deferred (with_decision d x.request); pair = None; carried = None; put = x.put }) ≡ record { request = disabled_for reason.Deferred (with_decision d (untold_request x.request)); pair = None; carried = None; put = option_map untold_put x.put }
-deferred-untold None x = ap {A = Request} {B = Held} (λ r. record { request = r; pair = None; carried = None; put = option_map untold_put x.put }) (disabled-untold x.request.phase reason.Deferred x.request)
-deferred-untold (Some d) x = ap {A = Request} {B = Held} (λ r. record { request = r; pair = None; carried = None; put = option_map untold_put x.put }) (disabled-untold x.request.phase reason.Deferred (decided d x.request))
+deferred-untold : (d : Option Decision) (x : Ongoing) → untold (record { request = disabled_for reason.Deferred (with_decision d x.request); pair = None; carried = None; put = x.put }) ≡ record { request = disabled_for reason.Deferred (with_decision d (untold_request x.request)); pair = None; carried = None; put = option_map untold_put x.put }
+deferred-untold None x = ap {A = Request} {B = Ongoing} (λ r. record { request = r; pair = None; carried = None; put = option_map untold_put x.put }) (disabled-untold x.request.phase reason.Deferred x.request)
+deferred-untold (Some d) x = ap {A = Request} {B = Ongoing} (λ r. record { request = r; pair = None; carried = None; put = option_map untold_put x.put }) (disabled-untold x.request.phase reason.Deferred (decided d x.request))
 
-after_look-untold : (d : Option Decision) (a : Answer) (es : List Event) (x : Held) → untold (after_look d a es x) ≡ after_look d a es (untold x)
+after_look-untold : (d : Option Decision) (a : Answer) (es : List Event) (x : Ongoing) → untold (after_look d a es x) ≡ after_look d a es (untold x)
 after_look-untold d a es x =
     either-held (is_deferral d) _ _ _ _ (deferred-untold d x)
     (with-request x (visible x.request.valid_after (pair_of a)) _ _ (asked-untold false es (with_decision d x.request) ∙ ap (asked false es) (decision-untold d x.request)))
 
-looked-untold : (es : List Event) (x : Held) → untold (looked_by es x) ≡ looked_by es (untold x)
+looked-untold : (es : List Event) (x : Ongoing) → untold (looked_by es x) ≡ looked_by es (untold x)
 looked-untold [] x = refl
 looked-untold (E.Look k a ∷ es) x = after_look-untold (decides a x) a es x
 looked-untold (e ∷ es) x = refl
@@ -166,51 +166,51 @@ wait-untold answer now None x = refl
 wait-untold answer now (Some (Write p)) x = refl
 wait-untold answer now (Some (Read rd)) x = read-waited answer now rd.number rd.watch x
 
-waited_by-untold : (o : Outcome) (now : ℕ) (x : Request) → untold_request (waited_by o now x) ≡ waited_by o now (untold_request x)
+waited_by-untold : (o : ReplyKind) (now : ℕ) (x : Request) → untold_request (waited_by o now x) ≡ waited_by o now (untold_request x)
 waited_by-untold (was_waited answer) now x = wait-untold answer now x.held x
 waited_by-untold o now x = refl
 
 -- of an open request, and if a reply says that it changes
-over : (f : Held → Held) → ((x : Held) → untold (f x) ≡ f (untold x)) → (q : Option Held) → option_map untold (option_map f q) ≡ option_map f (option_map untold q)
+over : (f : Ongoing → Ongoing) → ((x : Ongoing) → untold (f x) ≡ f (untold x)) → (q : Option Ongoing) → option_map untold (option_map f q) ≡ option_map f (option_map untold q)
 over f alike None = refl
 over f alike (Some x) = ap Some (alike x)
 
-either : (b : Bool) (p q r s : Option Held) → option_map untold p ≡ r → option_map untold q ≡ s → option_map untold (cond b p q) ≡ cond b r s
+either : (b : Bool) (p q r s : Option Ongoing) → option_map untold p ≡ r → option_map untold q ≡ s → option_map untold (cond b p q) ≡ cond b r s
 either true p q r s e f = e
 either false p q r s e f = f
 
-on : (f : Request → Request) → ((x : Request) → untold_request (f x) ≡ f (untold_request x)) → (q : Option Held) → option_map untold (option_map (on_request f) q) ≡ option_map (on_request f) (option_map untold q)
+on : (f : Request → Request) → ((x : Request) → untold_request (f x) ≡ f (untold_request x)) → (q : Option Ongoing) → option_map untold (option_map (on_request f) q) ≡ option_map (on_request f) (option_map untold q)
 on f alike q = over (on_request f) (λ x. with-request x x.pair _ _ (alike x.request)) q
 
 -- a row that changes the request if the call is done, and one that does if it was no wrong call
-where-done : (o : Outcome) (f : Held → Held) → ((x : Held) → untold (f x) ≡ f (untold x)) → (q : Option Held) → option_map untold (cond (is_done o) (option_map f q) q) ≡ cond (is_done o) (option_map f (option_map untold q)) (option_map untold q)
+where-done : (o : ReplyKind) (f : Ongoing → Ongoing) → ((x : Ongoing) → untold (f x) ≡ f (untold x)) → (q : Option Ongoing) → option_map untold (cond (is_done o) (option_map f q) q) ≡ cond (is_done o) (option_map f (option_map untold q)) (option_map untold q)
 where-done o f alike q = either (is_done o) _ _ _ _ (over f alike q) refl
 
-where-right : (o : Outcome) (f : Held → Held) → ((x : Held) → untold (f x) ≡ f (untold x)) → (q : Option Held) → option_map untold (cond (is_wrong o) q (option_map f q)) ≡ cond (is_wrong o) (option_map untold q) (option_map f (option_map untold q))
+where-right : (o : ReplyKind) (f : Ongoing → Ongoing) → ((x : Ongoing) → untold (f x) ≡ f (untold x)) → (q : Option Ongoing) → option_map untold (cond (is_wrong o) q (option_map f q)) ≡ cond (is_wrong o) (option_map untold q) (option_map f (option_map untold q))
 where-right o f alike q = either (is_wrong o) _ _ _ _ refl (over f alike q)
 
-shut-untold : (why : NoCacheReason) (x : Held) → untold (shut_by (disabled_for why) x) ≡ shut_by (disabled_for why) (untold x)
-shut-untold why x = ap {A = Request} {B = Held} (λ r. record { request = record r { reader = None }; pair = None; carried = None; put = option_map untold_put x.put }) (disabled-untold x.request.phase why x.request)
+shut-untold : (why : NoCacheReason) (x : Ongoing) → untold (shut_by (disabled_for why) x) ≡ shut_by (disabled_for why) (untold x)
+shut-untold why x = ap {A = Request} {B = Ongoing} (λ r. record { request = record r { reader = None }; pair = None; carried = None; put = option_map untold_put x.put }) (disabled-untold x.request.phase why x.request)
 
-turned-untold : (f : Request → Request) (leaves_pair : Bool) (x : Held) → untold_request (f x.request) ≡ f (untold_request x.request) → untold (turned_by f leaves_pair x) ≡ turned_by f leaves_pair (untold x)
-turned-untold f leaves_pair x alike = ap {A = Request} {B = Held} (λ r. record { request = record r { reader = x.request.reader }; pair = cond leaves_pair None x.pair; carried = x.carried; put = option_map untold_put x.put }) alike
+turned-untold : (f : Request → Request) (leaves_pair : Bool) (x : Ongoing) → untold_request (f x.request) ≡ f (untold_request x.request) → untold (turned_by f leaves_pair x) ≡ turned_by f leaves_pair (untold x)
+turned-untold f leaves_pair x alike = ap {A = Request} {B = Ongoing} (λ r. record { request = record r { reader = x.request.reader }; pair = cond leaves_pair None x.pair; carried = x.carried; put = option_map untold_put x.put }) alike
 
 -- a put that was just made, and one that is fed
 none-counted : (limit : Option ℕ) → option_map uncounted (option_map counted_none limit) ≡ option_map counted_none limit
 none-counted None = refl
 none-counted (Some n) = refl
 
-new-untold : (k : Key) (limit : Option ℕ) → option_map untold (Some (held_put (new_put k limit))) ≡ Some (held_put (new_put k limit))
-new-untold k limit = ap {A = Option Counted} {B = Option Held} (λ c. Some (held_put (record { key = k; size = c; parser = AtHead []; stage = InHead }))) (none-counted limit)
+new-untold : (k : Key) (limit : Option ℕ) → option_map untold (Some (ongoing_put (new_put k limit))) ≡ Some (ongoing_put (new_put k limit))
+new-untold k limit = ap {A = Option Counted} {B = Option Ongoing} (λ c. Some (ongoing_put (record { key = k; size = c; parser = AtHead []; stage = InHead }))) (none-counted limit)
 
-fed_in-untold : (o : Outcome) (events : List Event) (x : Held) (p : Option Taking) → untold (fed_in o events x p) ≡ fed_in o events (untold x) (option_map untold_put p)
+fed_in-untold : (o : ReplyKind) (events : List Event) (x : Ongoing) (p : Option Taking) → untold (fed_in o events x p) ≡ fed_in o events (untold x) (option_map untold_put p)
 fed_in-untold o events x None = refl
 fed_in-untold o events x (Some p) = refl
 
-fed-untold : (o : Outcome) (events : List Event) (x : Held) → untold (fed o events x) ≡ fed o events (untold x)
+fed-untold : (o : ReplyKind) (events : List Event) (x : Ongoing) → untold (fed o events x) ≡ fed o events (untold x)
 fed-untold o events x = either-held (is_wrong o) _ _ _ _ refl (fed_in-untold o events x x.put)
 
-pub row_by-untold : (act : Act) (o : Outcome) (events : List Event) (q : Option Held) → option_map untold (row_by act o events q) ≡ row_by act o events (option_map untold q)
+pub row_by-untold : (act : Act) (o : ReplyKind) (events : List Event) (q : Option Ongoing) → option_map untold (row_by act o events q) ≡ row_by act o events (option_map untold q)
 row_by-untold (C.Open options) o events q = either (is_done o) (Some (opened options)) q _ _ refl refl
 row_by-untold (C.Request (Q.Enable options)) o events q = where-done o _ (λ x. refl) q
 row_by-untold (C.Request (Q.Disable why)) o events q = where-done o _ (shut-untold why) q
@@ -242,17 +242,17 @@ row_by-untold (C.Request (Q.Variance v)) o events q = where-done o _ (λ x. turn
 row_by-untold (C.Request (Q.Revalidate m)) o events q = where-right o _ (λ x. refl) q
 row_by-untold (C.Request Q.Phase) o events q = refl
 row_by-untold C.End o events q = either (is_done o) None q _ _ refl refl
-row_by-untold (C.Put k limit) o events q = either (is_done o) (Some (held_put (new_put k limit))) q _ _ (new-untold k limit) refl
+row_by-untold (C.Put k limit) o events q = either (is_done o) (Some (ongoing_put (new_put k limit))) q _ _ (new-untold k limit) refl
 row_by-untold (C.Feed bs t) o events q = over (fed o events) (fed-untold o events) q
 row_by-untold C.Drop o events q = either (is_done o) None q _ _ refl refl
 row_by-untold C.Close o events q = either (is_wrong o) q None _ _ refl refl
 row_by-untold (C.Files a) o events q = refl
 
-pub row-untold : (act : Act) (reply : Reply) (events : List Event) (q : Option Held) → option_map untold (row act reply events q) ≡ row act reply events (option_map untold q)
-row-untold act reply events q = row_by-untold act (outcome reply) events q
+pub row-untold : (act : Act) (reply : Reply) (events : List Event) (q : Option Ongoing) → option_map untold (row act reply events q) ≡ row act reply events (option_map untold q)
+row-untold act reply events q = row_by-untold act (kind_of_reply reply) events q
 
 -- a request that a call left as its row has it
-pub row-at : (act : Act) (reply : Reply) (events : List Event) (q q' : Option Held) → IsRow act reply events q q' → option_map untold q' ≡ row act reply events (option_map untold q)
+pub row-at : (act : Act) (reply : Reply) (events : List Event) (q q' : Option Ongoing) → IsRow act reply events q q' → option_map untold q' ≡ row act reply events (option_map untold q)
 row-at act reply events q q' now = now ∙ row-untold act reply events q
 
 -- ---- conditions and clauses
@@ -261,18 +261,18 @@ none-told : (rd : permits.Reader) → Some (Read rd) ≡ None → ⊥
 none-told rd e = absurd (cc)
 
 -- a request that is open, and holds this
-abbrev open_with : Option Locked → Held → Held
+abbrev open_with : Option Locked → Ongoing → Ongoing
 open_with h x = record { request = holding h x.request; pair = x.pair; carried = x.carried; put = x.put }
 
 -- but for what its read lock was told
-abbrev unlocked : Held → Held
+abbrev unlocked : Ongoing → Ongoing
 unlocked x = record { request = untold_request x.request; pair = x.pair; carried = x.carried; put = x.put }
 
 -- but for what a put's bytes left in it
-abbrev unfed : Held → Held
+abbrev unfed : Ongoing → Ongoing
 unfed x = record { request = x.request; pair = x.pair; carried = x.carried; put = option_map untold_put x.put }
 
-may-put : (f : Facts) (act : Act) (x : Held) → MayBe f act (Some (unfed x)) ≡ MayBe f act (Some x)
+may-put : (f : Facts) (act : Act) (x : Ongoing) → MayBe f act (Some (unfed x)) ≡ MayBe f act (Some x)
 may-put f (C.Open options) x = refl
 may-put f (C.Request Q.Phase) x = refl
 may-put f act x = refl
@@ -285,7 +285,7 @@ closes-put : (f : Facts) (p : Option Taking) (reply : Reply) (events : List Even
 closes-put f None reply events = refl
 closes-put f (Some p) reply events = refl
 
-does-put : (f : Facts) (act : Act) (x : Held) (reply : Reply) (events : List Event) → Does f act (Some (unfed x)) reply events ≡ Does f act (Some x) reply events
+does-put : (f : Facts) (act : Act) (x : Ongoing) (reply : Reply) (events : List Event) → Does f act (Some (unfed x)) reply events ≡ Does f act (Some x) reply events
 does-put f (C.Request Q.Phase) x reply events = refl
 does-put f (C.Feed bs t) x reply events = feeds-put f x.put reply events
 does-put f C.Close x reply events = closes-put f x.put reply events
@@ -303,52 +303,52 @@ no-put : (p : Option Taking) → option_map untold_put p ≡ None → p ≡ None
 no-put None is = refl
 no-put (Some p) is = absurd (cc)
 
-kind-put : (act : Act) (x : Held) → IsOfKind act x → IsOfKind act (untold x)
+kind-put : (act : Act) (x : Ongoing) → IsOfKind act x → IsOfKind act (untold x)
 kind-put (C.Feed bs t) x is = some-put x.put is
 kind-put C.Drop x is = some-put x.put is
 kind-put C.Close x is = some-put x.put is
 kind-put (C.Files a) x is = tt
 kind-put act x is = ap (option_map untold_put) is
 
-kind-told : (act : Act) (x : Held) → IsOfKind act (untold x) → IsOfKind act x
+kind-told : (act : Act) (x : Ongoing) → IsOfKind act (untold x) → IsOfKind act x
 kind-told (C.Feed bs t) x is = some-told x.put is
 kind-told C.Drop x is = some-told x.put is
 kind-told C.Close x is = some-told x.put is
 kind-told (C.Files a) x is = tt
 kind-told act x is = no-put x.put is
 
-pub finds-untold : (act : Act) (q : Option Held) → FindsKind act q → FindsKind act (option_map untold q)
+pub finds-untold : (act : Act) (q : Option Ongoing) → FindsKind act q → FindsKind act (option_map untold q)
 finds-untold act None is = is
 finds-untold act (Some x) is = kind-put act x is
 
-pub finds-told : (act : Act) (q : Option Held) → FindsKind act (option_map untold q) → FindsKind act q
+pub finds-told : (act : Act) (q : Option Ongoing) → FindsKind act (option_map untold q) → FindsKind act q
 finds-told act None is = is
 finds-told act (Some x) is = kind-told act x is
 
-may-alike : (f : Facts) (act : Act) (h : Option Locked) (x : Held) → MayBe f act (Some (open_with h x)) → MayBe f act (Some (unlocked (open_with h x)))
+may-alike : (f : Facts) (act : Act) (h : Option Locked) (x : Ongoing) → MayBe f act (Some (open_with h x)) → MayBe f act (Some (unlocked (open_with h x)))
 may-alike f act None x m = m
 may-alike f act (Some (Write p)) x m = m
 may-alike f (C.Open options) (Some (Read rd)) x m = m
 may-alike f (C.Request (Q.Lock is_used)) (Some (Read rd)) x m = absurd (none-told rd m.1)
 may-alike f act (Some (Read rd)) x m = m
 
-may-back : (f : Facts) (act : Act) (h : Option Locked) (x : Held) → MayBe f act (Some (unlocked (open_with h x))) → MayBe f act (Some (open_with h x))
+may-back : (f : Facts) (act : Act) (h : Option Locked) (x : Ongoing) → MayBe f act (Some (unlocked (open_with h x))) → MayBe f act (Some (open_with h x))
 may-back f act None x m = m
 may-back f act (Some (Write p)) x m = m
 may-back f (C.Open options) (Some (Read rd)) x m = m
-may-back f (C.Request (Q.Lock is_used)) (Some (Read rd)) x m = absurd (none-told (untold_reader rd) m.1)
+may-back f (C.Request (Q.Lock is_used)) (Some (Read rd)) x m = absurd (none-told (untold_read_lock rd) m.1)
 may-back f act (Some (Read rd)) x m = m
 
-pub may-untold : (f : Facts) (act : Act) (q : Option Held) → MayBe f act q → MayBe f act (option_map untold q)
+pub may-untold : (f : Facts) (act : Act) (q : Option Ongoing) → MayBe f act q → MayBe f act (option_map untold q)
 may-untold f act None m = m
 may-untold f act (Some x) m = subst (λ (T : Type 0). T) (sym (may-put f act (unlocked x))) (may-alike f act x.request.held x m)
 
-pub may-told : (f : Facts) (act : Act) (q : Option Held) → MayBe f act (option_map untold q) → MayBe f act q
+pub may-told : (f : Facts) (act : Act) (q : Option Ongoing) → MayBe f act (option_map untold q) → MayBe f act q
 may-told f act None m = m
 may-told f act (Some x) m = may-back f act x.request.held x (subst (λ (T : Type 0). T) (may-put f act (unlocked x)) m)
 
 -- a look-up asks alike: a read lock goes without an event
-asks-alike : (b : Bool) (k : ℕ) (rd : permits.Reader) (events : List Event) (l : Option LockKind) → AsksIf b k (Some (Read (untold_reader rd))) events l ≡ AsksIf b k (Some (Read rd)) events l
+asks-alike : (b : Bool) (k : ℕ) (rd : permits.Reader) (events : List Event) (l : Option LockKind) → AsksIf b k (Some (Read (untold_read_lock rd))) events l ≡ AsksIf b k (Some (Read rd)) events l
 asks-alike true k rd events l = refl
 asks-alike false k rd events l = refl
 
@@ -365,7 +365,7 @@ looks_on-alike : (defers : Bool) (f : Facts) (k : ℕ) (a : Answer) (rd : permit
 looks_on-alike true f k a rd x reply events = refl
 looks_on-alike false f k a rd x reply events = hands-alike (is_unseen x.valid_after (pair_of a)) f k a rd x reply events
 
-looks-alike : (f : Facts) (rd : permits.Reader) (x : Held) (reply : Reply) (events : List Event) → Looks f (unlocked (open_with (Some (Read rd)) x)) reply events ≡ Looks f (open_with (Some (Read rd)) x) reply events
+looks-alike : (f : Facts) (rd : permits.Reader) (x : Ongoing) (reply : Reply) (events : List Event) → Looks f (unlocked (open_with (Some (Read rd)) x)) reply events ≡ Looks f (open_with (Some (Read rd)) x) reply events
 looks-alike f rd x reply events = λ i.
     (IsSome f.found × IsStarved reply events)
     ⊎ ((k : Key) × (a : Answer) × (x.request.key ≡ Some k) × (pair_of a ≡ f.found) × looks_on-alike (is_deferral (decides a x)) f (slot k) a rd x.request reply events i)
@@ -387,35 +387,35 @@ waits-alike : (f : Facts) (t n : ℕ) (w : Option Watch) (x : Request) (reply : 
 waits-alike f t n None x reply events = refl
 waits-alike f t n (Some w) x reply events = refl
 
-does-read : (f : Facts) (act : Act) (rd : permits.Reader) (x : Held) (reply : Reply) (events : List Event) → Does f act (Some (unlocked (open_with (Some (Read rd)) x))) reply events ≡ Does f act (Some (open_with (Some (Read rd)) x)) reply events
+does-read : (f : Facts) (act : Act) (rd : permits.Reader) (x : Ongoing) (reply : Reply) (events : List Event) → Does f act (Some (unlocked (open_with (Some (Read rd)) x))) reply events ≡ Does f act (Some (open_with (Some (Read rd)) x)) reply events
 does-read f (C.Request (Q.Look t d)) rd x reply events = looks-alike f rd (carrying d x) reply events
 does-read f (C.Request (Q.Found s t)) rd x reply events = takes-alike f s rd x.request x.pair reply events
 does-read f (C.Request Q.Finish) rd x reply events = finishes-alike f rd x.request x.request.write reply events
 does-read f (C.Wait t) rd x reply events = waits-alike f t rd.number rd.watch x.request reply events
 does-read f act rd x reply events = refl
 
-does-alike : (f : Facts) (act : Act) (h : Option Locked) (x : Held) (reply : Reply) (events : List Event) → Does f act (Some (unlocked (open_with h x))) reply events ≡ Does f act (Some (open_with h x)) reply events
+does-alike : (f : Facts) (act : Act) (h : Option Locked) (x : Ongoing) (reply : Reply) (events : List Event) → Does f act (Some (unlocked (open_with h x))) reply events ≡ Does f act (Some (open_with h x)) reply events
 does-alike f act None x reply events = refl
 does-alike f act (Some (Write p)) x reply events = refl
 does-alike f act (Some (Read rd)) x reply events = does-read f act rd x reply events
 
-pub does-untold : (f : Facts) (act : Act) (q : Option Held) (reply : Reply) (events : List Event) → Does f act (option_map untold q) reply events ≡ Does f act q reply events
+pub does-untold : (f : Facts) (act : Act) (q : Option Ongoing) (reply : Reply) (events : List Event) → Does f act (option_map untold q) reply events ≡ Does f act q reply events
 does-untold f act None reply events = refl
 does-untold f act (Some x) reply events = does-put f act (unlocked x) reply events ∙ does-alike f act x.request.held x reply events
 
-pub answers-untold : (f : Facts) (act : Act) (q : Option Held) (reply : Reply) (events : List Event) → Answers f act q reply events → Answers f act (option_map untold q) reply events
+pub answers-untold : (f : Facts) (act : Act) (q : Option Ongoing) (reply : Reply) (events : List Event) → FollowsRule f act q reply events → FollowsRule f act (option_map untold q) reply events
 answers-untold f act q reply events (inl (may, other, does)) = inl (may-untold f act q may, other, subst (λ (T : Type 0). T) (sym (does-untold f act q reply events)) does)
 answers-untold f act q reply events (inr (may_not, is)) = inr ((λ m. may_not (may-told f act q m)), is)
 
-pub told-answers : (f : Facts) (act : Act) (q : Option Held) (reply : Reply) (events : List Event) → Answers f act (option_map untold q) reply events → Answers f act q reply events
+pub told-answers : (f : Facts) (act : Act) (q : Option Ongoing) (reply : Reply) (events : List Event) → FollowsRule f act (option_map untold q) reply events → FollowsRule f act q reply events
 told-answers f act q reply events (inl (may, other, does)) = inl (may-told f act q may, other, subst (λ (T : Type 0). T) (does-untold f act q reply events) does)
 told-answers f act q reply events (inr (may_not, is)) = inr ((λ m. may_not (may-untold f act q m)), is)
 
-pub replies-untold : (f : Facts) (act : Act) (q : Option Held) (reply : Reply) (events : List Event) → Replies f act q reply events → Replies f act (option_map untold q) reply events
+pub replies-untold : (f : Facts) (act : Act) (q : Option Ongoing) (reply : Reply) (events : List Event) → Replies f act q reply events → Replies f act (option_map untold q) reply events
 replies-untold f act q reply events (inl (finds, answers)) = inl (finds-untold act q finds, answers-untold f act q reply events answers)
 replies-untold f act q reply events (inr (finds_not, is)) = inr ((λ m. finds_not (finds-told act q m)), is)
 
-pub told-replies : (f : Facts) (act : Act) (q : Option Held) (reply : Reply) (events : List Event) → Replies f act (option_map untold q) reply events → Replies f act q reply events
+pub told-replies : (f : Facts) (act : Act) (q : Option Ongoing) (reply : Reply) (events : List Event) → Replies f act (option_map untold q) reply events → Replies f act q reply events
 told-replies f act q reply events (inl (finds, answers)) = inl (finds-told act q finds, told-answers f act q reply events answers)
 told-replies f act q reply events (inr (finds_not, is)) = inr ((λ m. finds_not (finds-untold act q m)), is)
 
@@ -433,7 +433,7 @@ pub record AreFacts (f g : Facts) : Type 0 where
   pub size : g.size ≡ f.size
   pub asked : g.asked ≡ f.asked
 
-pub facts-untold : (s : Store) (t : Locks) (q : Option Held) → AreFacts (facts_in s t (request_in q)) (facts_in s t (request_in (option_map untold q)))
+pub facts-untold : (s : Store) (t : Locks) (q : Option Ongoing) → AreFacts (facts_in s t (request_in q)) (facts_in s t (request_in (option_map untold q)))
 facts-untold s t None = record { next = refl; found = refl; there = refl; complete = refl; given = refl; told = refl; untouched = refl; size = refl; asked = refl }
 facts-untold s t (Some x) = record { next = refl; found = refl; there = refl; complete = refl; given = refl; told = refl; untouched = refl; size = refl; asked = refl }
 
@@ -445,30 +445,30 @@ world-untold x is = record { eviction = is.eviction; fills = is.fills }
 pub world-told : (x : Request) → IsOfWorld (untold_request x) → IsOfWorld x
 world-told x is = record { eviction = is.eviction; fills = is.fills }
 
-pub keeps-untold : (q q' : Option Held) → KeepsKey q q' → KeepsKey (option_map untold q) (option_map untold q')
+pub keeps-untold : (q q' : Option Ongoing) → KeepsKey q q' → KeepsKey (option_map untold q) (option_map untold q')
 keeps-untold None None keeps = keeps
 keeps-untold (Some x) None keeps = keeps
 keeps-untold None (Some y) keeps = (world-untold y.request keeps.0, keeps.1)
 keeps-untold (Some x) (Some y) keeps = λ is. (world-untold y.request (keeps (world-told x.request is)).0, (keeps (world-told x.request is)).1)
 
-pub makes-untold : (q : Option Held) → makes_of (option_map untold q) ≡ makes_of q
+pub makes-untold : (q : Option Ongoing) → makes_of (option_map untold q) ≡ makes_of q
 makes-untold None = refl
 makes-untold (Some x) = refl
 
-pub slot-untold : (q : Option Held) → slot_of (option_map untold q) ≡ slot_of q
+pub slot-untold : (q : Option Ongoing) → slot_of (option_map untold q) ≡ slot_of q
 slot-untold None = refl
 slot-untold (Some x) = refl
 
-pub reader-untold : (q : Option Held) → reader_for (option_map untold q) ≡ reader_for q
+pub reader-untold : (q : Option Ongoing) → reader_for (option_map untold q) ≡ reader_for q
 reader-untold None = refl
 reader-untold (Some x) = refl
 
-pub reads-untold : (q : Option Held) → reads_of (option_map untold q) ≡ reads_of q
+pub reads-untold : (q : Option Ongoing) → reads_of (option_map untold q) ≡ reads_of q
 reads-untold None = refl
 reads-untold (Some x) = refl
 
 -- if tokens are published or a wait goes on
-said-alike : (r : ℕ) (act : Act) (o : Outcome) (h : Option Locked) → said_by r act o (option_map untold_lock h) ≡ said_by r act o h
+said-alike : (r : ℕ) (act : Act) (o : ReplyKind) (h : Option Locked) → said_by r act o (option_map untold_lock h) ≡ said_by r act o h
 said-alike r act o None = refl
 said-alike r act o (Some (Write p)) = refl
 said-alike r (C.Request (Q.Publish tokens)) was_done (Some (Read rd)) = refl
@@ -476,23 +476,23 @@ said-alike r (C.Wait t) (was_waited Pending) (Some (Read rd)) = refl
 said-alike r (C.Give to) was_done (Some (Read rd)) = refl
 said-alike r act o (Some (Read rd)) = refl
 
-held-untold : (q : Option Held) → held_in (option_map untold q) ≡ option_map untold_lock (held_in q)
+held-untold : (q : Option Ongoing) → held_in (option_map untold q) ≡ option_map untold_lock (held_in q)
 held-untold None = refl
 held-untold (Some x) = refl
 
-pub deeds-untold : (r : ℕ) (act : Act) (o : Outcome) (events : List Event) (q : Option Held) → deeds_in r act o events (option_map untold q) ≡ deeds_in r act o events q
+pub deeds-untold : (r : ℕ) (act : Act) (o : ReplyKind) (events : List Event) (q : Option Ongoing) → deeds_in r act o events (option_map untold q) ≡ deeds_in r act o events q
 deeds-untold r act o events q = ap (λ said. said ++ deeds_by r (moment_of act) (status_left act events) events) (ap (said_by r act o) (held-untold q) ∙ said-alike r act o (held_in q))
 
 -- ---- waits: what a poll leaves of the read lock is, but for what it was told, what the row of a wait has
 
 told-alike : (s : LockStatus) (late : Bool) (since now : ℕ) (rd : permits.Reader) (fills : Option (List UnusableFill)) (w : Watch) (told : Option UnusableFill) (x : Request) → w.fills ≡ fills_of rd.watch fills →
-    untold_request (after_wait (answer_by s late (told_or_pending told)) since now (record { number = rd.number; watch = Some w }) x) ≡ untold_request (after_wait (answer_by s late (told_or_pending told)) since now (reader_watching rd fills) x)
+    untold_request (after_wait (result_by s late (told_or_pending told)) since now (record { number = rd.number; watch = Some w }) x) ≡ untold_request (after_wait (result_by s late (told_or_pending told)) since now (lock_watching rd fills) x)
 told-alike s late since now rd fills w (Some fill) x same = refl
 told-alike s true since now rd fills w None x same = refl
 told-alike s false since now rd fills w None x same = ap {A = List UnusableFill} {B = Request} (λ b. untold_request (after_wait Pending since now (record { number = rd.number; watch = Some (record { fills = b; seen = 0; told = None }) }) x)) same
 
-stage-alike : (s : LockStatus) (late : Bool) (since now : ℕ) (rd : permits.Reader) (fills : Option (List UnusableFill)) (w : Watch) (stage : Stage) (x : Request) → w.fills ≡ fills_of rd.watch fills →
-    untold_request (after_wait (answer_by s late (answer_at stage w)) since now (reader_at stage rd w) x) ≡ untold_request (after_wait (answer_by s late (answer_at stage w)) since now (reader_watching rd fills) x)
+stage-alike : (s : LockStatus) (late : Bool) (since now : ℕ) (rd : permits.Reader) (fills : Option (List UnusableFill)) (w : Watch) (stage : PermitState) (x : Request) → w.fills ≡ fills_of rd.watch fills →
+    untold_request (after_wait (result_by s late (answer_at stage w)) since now (reader_at stage rd w) x) ≡ untold_request (after_wait (result_by s late (answer_at stage w)) since now (lock_watching rd fills) x)
 stage-alike s late since now rd fills w Over x same = refl
 stage-alike s late since now rd fills w Old x same = refl
 stage-alike s late since now rd fills w stage.Held x same = told-alike s late since now rd fills w w.told x same
@@ -502,14 +502,14 @@ watches-alike c fills None = refl
 watches-alike c fills (Some w) = refl
 
 polled-alike : (s : LockStatus) (late : Bool) (since now : ℕ) (rd : permits.Reader) (fills : Option (List UnusableFill)) (c : Option permits.Core) (x : Request) →
-    untold_request (after_wait (answer_by s late (polled now fills rd.watch c)) since now (reader_polled now fills rd c) x) ≡ untold_request (after_wait (answer_by s late (polled now fills rd.watch c)) since now (reader_watching rd fills) x)
+    untold_request (after_wait (result_by s late (polled now fills rd.watch c)) since now (reader_polled now fills rd c) x) ≡ untold_request (after_wait (result_by s late (polled now fills rd.watch c)) since now (lock_watching rd fills) x)
 polled-alike s late since now rd fills None x = refl
-polled-alike s late since now rd fills (Some c) x = stage-alike s late since now rd fills (watched c (watch_at c fills rd.watch)) (stage_of now c) x (watches-alike c fills rd.watch)
+polled-alike s late since now rd fills (Some c) x = stage-alike s late since now rd fills (watched c (watch_at c fills rd.watch)) (permit_state now c) x (watches-alike c fills rd.watch)
 
 -- of a request that holds this read lock
-pub waited-on-untold : (t : Locks) (now : ℕ) (rd : permits.Reader) (x : Request) → untold_request (waited t now (Some (Read rd)) x) ≡ untold_request (waited_on (wait_answer t now (Some (Read rd)) x) now (Some (Read rd)) x)
+pub waited-on-untold : (t : Locks) (now : ℕ) (rd : permits.Reader) (x : Request) → untold_request (waited t now (Some (Read rd)) x) ≡ untold_request (waited_on (wait_result t now (Some (Read rd)) x) now (Some (Read rd)) x)
 waited-on-untold t now rd x =
     polled-alike (status_seen now (get t.cores rd.number)) (is_late now rd x.wait_timeout x.digest.waits x.waits_since) (since_of now rd.watch x.waits_since) now rd (unusable_in x.key) (get t.cores rd.number) x
 
-pub waited-untold : (t : Locks) (now : ℕ) (rd : permits.Reader) (x : Request) → x.held ≡ Some (Read rd) → untold_request (waited t now (Some (Read rd)) x) ≡ untold_request (waited_with (wait_answer t now (Some (Read rd)) x) now x)
-waited-untold t now rd x holds = waited-on-untold t now rd x ∙ ap {A = Option Locked} {B = Request} (λ h. untold_request (waited_on (wait_answer t now (Some (Read rd)) x) now h x)) (sym holds)
+pub waited-untold : (t : Locks) (now : ℕ) (rd : permits.Reader) (x : Request) → x.held ≡ Some (Read rd) → untold_request (waited t now (Some (Read rd)) x) ≡ untold_request (waited_with (wait_result t now (Some (Read rd)) x) now x)
+waited-untold t now rd x holds = waited-on-untold t now rd x ∙ ap {A = Option Locked} {B = Request} (λ h. untold_request (waited_on (wait_result t now (Some (Read rd)) x) now h x)) (sym holds)

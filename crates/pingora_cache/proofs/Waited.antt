@@ -6,17 +6,17 @@ use Rattle.pcache_base.specs.declared.poll.Poll.{Poll}
 use Rattle.pcache_base.specs.declared.poll.Poll.TheVariants.{Ready, Pending}
 use Rattle.pcache_lock.specs.Locks.{Locks, reader_dropped}
 use Rattle.pcache_lock.specs.Permits.{Core, Reader, Watch}
-use Rattle.pcache_lock.specs.Waiting.{after_poll, answer_at, watched, polled, reader_polled, stage_of, table_at, watch_at}
+use Rattle.pcache_lock.specs.Waiting.{after_poll, answer_at, watched, polled, reader_polled, permit_state, table_at, watch_at}
 use Rattle.pcache_lock.specs.declared.lock.outcome.LockWaitOutcome.{LockWaitOutcome}
-use Rattle.pcache_lock.specs.declared.lock.outcome.Stage.{Stage}
-use Rattle.pcache_lock.specs.declared.lock.outcome.Stage.TheVariants as stage
+use Rattle.pcache_lock.specs.declared.lock.outcome.PermitState.{PermitState}
+use Rattle.pcache_lock.specs.declared.lock.outcome.PermitState.TheVariants as stage
 use Rattle.pcache_lock.specs.declared.lock.outcome.WaitOutcome.{WaitOutcome}
 use Rattle.pcache_lock.specs.declared.lock.outcome.WaitOutcome.TheVariants as poll
 use Rattle.pcache_lock.specs.declared.lock.permit.Locked.{Locked}
 use Rattle.pcache_lock.specs.declared.lock.permit.Locked.TheVariants.{Write, Read}
 use Rattle.pcache_lock.specs.declared.lock.status.LockStatus.{LockStatus}
 use Rattle.pcache_request.specs.LockUse.{read_in}
-use Rattle.pcache_request.specs.LockWaits.{answer_by, held_after, is_old_answer, let_go_after, table_waited, too_old_for, unusable_in, wait_answer, waited}
+use Rattle.pcache_request.specs.LockWaits.{result_by, held_after, is_old_result, let_go_after, table_waited, too_old_for, unusable_in, wait_result, waited}
 use Rattle.pcache_request.specs.Reports.{name_of}
 use Rattle.pcache_request.specs.Requests.{Request}
 use Rattle.pcache_request.specs.declared.cache.report.LockName.{LockName}
@@ -26,7 +26,7 @@ use Rattle.pcache_history.specs.declared.entry.Event.{Event}
 use Rattle.pcache_history.specs.declared.entry.Event.TheVariants as E
 use Rattle.pcache_history.specs.Deeds.{deeds_in}
 use Rattle.pcache_history.specs.Due.{KeepsIn}
-use Rattle.pcache_history.specs.Held.{outcome, waited_by, was_waited}
+use Rattle.pcache_history.specs.Ongoing.{kind_of_reply, waited_by, was_waited}
 use Rattle.pingora_cache.specs.LockMoves.{MovesLocks, ages, lets_go, polls}
 use Rattle.pcache_history.specs.Rules.{each, number_read, wait_reply, was_polled}
 use Rattle.pingora_cache.specs.Untold.{untold_request}
@@ -85,25 +85,25 @@ wait-write t now (Some (Read rd)) x = refl
 pub wait-kept : (t : Locks) (now : ℕ) (held : Option Locked) (x y : Request) → y ≡ waited t now held x → KeepsIn x y
 wait-kept t now held x y is = subst (KeepsIn x) (sym is) (wait-keeps t now held x)
 
--- the outcome of its reply
-pub wait-outcome : (a : Poll LockWaitOutcome) → outcome (wait_reply a) ≡ was_waited a
-wait-outcome Pending = refl
-wait-outcome (Ready o) = refl
+-- the kind of its reply
+pub wait-kind : (a : Poll LockWaitOutcome) → kind_of_reply (wait_reply a) ≡ was_waited a
+wait-kind Pending = refl
+wait-kind (Ready o) = refl
 
 -- ---- as one move
 
 -- a poll that finds nothing too old leaves the table
-same-table : (t : Locks) (now n : ℕ) (w : Option Watch) (fills : Option (List UnusableFill)) (o : Option Core) → is_old_answer (polled now fills w o) ≡ false → after_poll t now n o ≡ t
+same-table : (t : Locks) (now n : ℕ) (w : Option Watch) (fills : Option (List UnusableFill)) (o : Option Core) → is_old_result (polled now fills w o) ≡ false → after_poll t now n o ≡ t
 same-table t now n w fills None e = refl
-same-table t now n w fills (Some c) e = by (stage_of now c) e
+same-table t now n w fills (Some c) e = by (permit_state now c) e
   where
-    by : (s : Stage) → is_old_answer (answer_at s (watched c (watch_at c fills w))) ≡ false → table_at s t n c ≡ t
+    by : (s : PermitState) → is_old_result (answer_at s (watched c (watch_at c fills w))) ≡ false → table_at s t n c ≡ t
     by stage.Over e = refl
     by stage.Old e = absurd (cc)
     by stage.Held e = refl
 
 -- a wait that goes on was told nothing by its poll
-goes-on : (s : LockStatus) (late : Bool) (p : Poll WaitOutcome) → answer_by s late p ≡ Pending → p ≡ Pending
+goes-on : (s : LockStatus) (late : Bool) (p : Poll WaitOutcome) → result_by s late p ≡ Pending → p ≡ Pending
 goes-on s late (Ready poll.Released) e = absurd (cc)
 goes-on s late (Ready poll.AgeTimeout) e = absurd (cc)
 goes-on s late (Ready (poll.Abandoned f)) e = absurd (cc)
@@ -113,7 +113,7 @@ goes-on s late Pending e = refl
 module _ (r now : ℕ) (t u : Locks) (rd : Reader) (x y : Request) (events : List Event) (held : x.held ≡ Some (Read rd)) (request : y ≡ waited t now (Some (Read rd)) x) (table : u ≡ table_waited t now (Some (Read rd)) x)
     (noted : events ≡ (if too_old_for t now (Some (Read rd)) (unusable_in x.key) then E.Aged rd.number ∷ [] else [])) where
   abbrev answer : Poll LockWaitOutcome
-  answer = wait_answer t now (Some (Read rd)) x
+  answer = wait_result t now (Some (Read rd)) x
 
   abbrev told : Poll WaitOutcome
   told = polled now (unusable_in x.key) rd.watch (get t.cores rd.number)
@@ -127,7 +127,7 @@ module _ (r now : ℕ) (t u : Locks) (rd : Reader) (x y : Request) (events : Lis
   still : answer ≡ Pending → Moved Pending
   still is =
       let pending : told ≡ Pending = goes-on _ _ told is in
-      let young : old ≡ false = ap is_old_answer pending in
+      let young : old ≡ false = ap is_old_result pending in
       record {
         move = polls (unusable_in x.key) now;
         may = pending;
@@ -156,22 +156,22 @@ module _ (r now : ℕ) (t u : Locks) (rd : Reader) (x y : Request) (events : Lis
   waits Pending is = still is
   waits (Ready o) is = over o is old refl
 
-  wait-read : (reply : Reply) → reply ≡ wait_reply answer → MovesLocks r (deeds_in r (C.Wait now) (outcome reply) events None) x.held t y.held u
+  wait-read : (reply : Reply) → reply ≡ wait_reply answer → MovesLocks r (deeds_in r (C.Wait now) (kind_of_reply reply) events None) x.held t y.held u
   wait-read reply is =
-      subst (λ h. MovesLocks r (deeds_in r (C.Wait now) (outcome reply) events None) h t y.held u) (sym held)
-      (subst (λ o. MovesLocks r (deeds_in r (C.Wait now) o events None) (Some (Read rd)) t y.held u) (sym (ap outcome is ∙ wait-outcome answer)) (waits answer refl))
+      subst (λ h. MovesLocks r (deeds_in r (C.Wait now) (kind_of_reply reply) events None) h t y.held u) (sym held)
+      (subst (λ o. MovesLocks r (deeds_in r (C.Wait now) o events None) (Some (Read rd)) t y.held u) (sym (ap kind_of_reply is ∙ wait-kind answer)) (waits answer refl))
 
 -- of a request that holds any
-pub wait-locks : (r now : ℕ) (t u : Locks) (h : Option Locked) (x y : Request) (reply : Reply) (events : List Event) → x.held ≡ h → IsSome (read_in h) → y ≡ waited t now h x → u ≡ table_waited t now h x → events ≡ (if too_old_for t now h (unusable_in x.key) then each E.Aged (number_read h) else []) → reply ≡ wait_reply (wait_answer t now h x)
-    → MovesLocks r (deeds_in r (C.Wait now) (outcome reply) events None) x.held t y.held u
+pub wait-locks : (r now : ℕ) (t u : Locks) (h : Option Locked) (x y : Request) (reply : Reply) (events : List Event) → x.held ≡ h → IsSome (read_in h) → y ≡ waited t now h x → u ≡ table_waited t now h x → events ≡ (if too_old_for t now h (unusable_in x.key) then each E.Aged (number_read h) else []) → reply ≡ wait_reply (wait_result t now h x)
+    → MovesLocks r (deeds_in r (C.Wait now) (kind_of_reply reply) events None) x.held t y.held u
 wait-locks r now t u None x y reply events held some request table noted is = absurd (cc)
 wait-locks r now t u (Some (Write p)) x y reply events held some request table noted is = absurd (cc)
 wait-locks r now t u (Some (Read rd)) x y reply events held some request table noted is = wait-read r now t u rd x y events held request table noted reply is
 
 -- but for what its read lock was told, the request is as its row has it
-pub untold-after : (t : Locks) (now : ℕ) (h : Option Locked) (x y : Request) (reply : Reply) → x.held ≡ h → IsSome (read_in h) → y ≡ waited t now h x → reply ≡ wait_reply (wait_answer t now h x) → untold_request y ≡ untold_request (waited_by (outcome reply) now x)
+pub untold-after : (t : Locks) (now : ℕ) (h : Option Locked) (x y : Request) (reply : Reply) → x.held ≡ h → IsSome (read_in h) → y ≡ waited t now h x → reply ≡ wait_reply (wait_result t now h x) → untold_request y ≡ untold_request (waited_by (kind_of_reply reply) now x)
 untold-after t now None x y reply held some request is = absurd (cc)
 untold-after t now (Some (Write p)) x y reply held some request is = absurd (cc)
 untold-after t now (Some (Read rd)) x y reply held some request is =
-    let a = wait_answer t now (Some (Read rd)) x in
-    ap untold_request request ∙ waited-untold t now rd x held ∙ ap (λ o. untold_request (waited_by o now x)) (sym (ap outcome is ∙ wait-outcome a))
+    let a = wait_result t now (Some (Read rd)) x in
+    ap untold_request request ∙ waited-untold t now rd x held ∙ ap (λ o. untold_request (waited_by o now x)) (sym (ap kind_of_reply is ∙ wait-kind a))

@@ -11,11 +11,11 @@ use Rattle.pcache_lock.specs.Locks.{Locks, no_locks, holder, lock_given, after_r
 use Rattle.pcache_lock.specs.Permits as permits
 use Rattle.pcache_lock.specs.Permits.{Core, Permit, is_named, spent, released_status, dropped_status, without_reader}
 use Rattle.pcache_lock.specs.Statuses.{IsReason, is_aged}
-use Rattle.pcache_lock.specs.Waiting.{after_poll, answer_at, is_old, watched, polled, published, stage_of, table_at, told_or_pending, watch_at}
+use Rattle.pcache_lock.specs.Waiting.{after_poll, answer_at, is_old, watched, polled, published, permit_state, table_at, told_or_pending, watch_at}
 use Rattle.pcache_lock.specs.Waits as table
 use Rattle.pcache_lock.specs.Waits.{Leads, LeadsAll, is_unlock, waiting_slot}
-use Rattle.pcache_lock.specs.declared.lock.outcome.Stage.{Stage}
-use Rattle.pcache_lock.specs.declared.lock.outcome.Stage.TheVariants as stage
+use Rattle.pcache_lock.specs.declared.lock.outcome.PermitState.{PermitState}
+use Rattle.pcache_lock.specs.declared.lock.outcome.PermitState.TheVariants as stage
 use Rattle.pcache_lock.specs.declared.lock.permit.Locked.{Locked}
 use Rattle.pcache_lock.specs.declared.lock.permit.Locked.TheVariants.{Write, Read}
 use Rattle.pcache_lock.specs.declared.lock.status.LockStatus.{LockStatus}
@@ -26,7 +26,7 @@ use Rattle.pcache_history.proofs.Waiting.{after-in}
 use Rattle.pcache_lock.proofs.Calls.{finds_the_waiting}
 use Rattle.pcache_lock.proofs.Ends.{waits_until_its_end}
 use Rattle.pcache_request.specs.LockUse.{published_by}
-use Rattle.pcache_request.specs.LockWaits.{is_old_answer, too_old_for}
+use Rattle.pcache_request.specs.LockWaits.{is_old_result, too_old_for}
 use Rattle.pcache_request.specs.Releasing.{status_for}
 use Rattle.pcache_request.specs.Requests.{let_go_by, settled}
 use Rattle.pcache_history.specs.declared.call.Act.{Act}
@@ -35,7 +35,7 @@ use Rattle.pcache_history.specs.declared.call.RequestAct.TheVariants as Q
 use Rattle.pcache_history.specs.declared.entry.Event.{Event}
 use Rattle.pcache_history.specs.declared.entry.Event.TheVariants as E
 use Rattle.pcache_history.specs.Deeds.{Deed, Asked, Released, LetGo, Aged, deed_of, deeds_by, deeds_in, held_in, moment_of, published_on, said_by, status_left, handed_on}
-use Rattle.pcache_history.specs.Held.{Held, Outcome, was_done, was_other, was_taken, was_waited, was_wrong}
+use Rattle.pcache_history.specs.Ongoing.{Ongoing, ReplyKind, was_done, was_other, was_taken, was_waited, was_wrong}
 use Rattle.pingora_cache.specs.LockMoves.{LockMove, MayMove, MovesLocks, ages, asks, deeds_moved, each_deed, lets_go, polls, publishes, rests, settles, table_moved, table_polled}
 use Rattle.pcache_history.specs.Rules.{each, number_read, permit_of}
 use Rattle.pcache_history.specs.Waiting.{Waiting, then_waiting, waiting_after, waiting_in, IsGiven, AreGiven, IsOfNoLock, AreOfNoLock}
@@ -126,10 +126,10 @@ flip : (a b : ℕ) → (a == b) ≡ (b == a)
 flip a b = grind (arith, nat_tests)
 
 next-kept : (t : Locks) (l : ℕ) (d : Core) → (kept t l d).next ≡ t.next
-next-kept t l d = elim (is_named d) as (λ b. (cond b (record t { cores = insert t.cores l d }) (record t { cores = remove t.cores l; standing = without_entry l d.slot t.standing })).next ≡ t.next) [ true ↦ refl | false ↦ refl ]
+next-kept t l d = elim (is_named d) as (λ b. (cond b (record t { cores = insert t.cores l d }) (record t { cores = remove t.cores l; current = without_entry l d.slot t.current })).next ≡ t.next) [ true ↦ refl | false ↦ refl ]
 
 next-left : (t : Locks) (l : ℕ) (c : Core) → (left t l c).next ≡ t.next
-next-left t l c = elim (is_aged c.status) as (λ b. (cond b t (record t { standing = without_entry l c.slot t.standing })).next ≡ t.next) [ true ↦ refl | false ↦ refl ]
+next-left t l c = elim (is_aged c.status) as (λ b. (cond b t (record t { current = without_entry l c.slot t.current })).next ≡ t.next) [ true ↦ refl | false ↦ refl ]
 
 next-joined : (t : Locks) (l : ℕ) (o : Option Core) → (with_read_lock t l o).next ≡ t.next
 next-joined t l None = refl
@@ -147,14 +147,14 @@ next-left-by : (t : Locks) (l : ℕ) (o : Option Core) → (reader_dropped t l o
 next-left-by t l None = refl
 next-left-by t l (Some c) = next-kept t l (without_reader c)
 
-next-at : (t : Locks) (l : ℕ) (c : Core) (s : Stage) → (table_at s t l c).next ≡ t.next
+next-at : (t : Locks) (l : ℕ) (c : Core) (s : PermitState) → (table_at s t l c).next ≡ t.next
 next-at t l c stage.Over = refl
 next-at t l c stage.Old = refl
 next-at t l c stage.Held = refl
 
 next-polled : (t : Locks) (l now : ℕ) (o : Option Core) → (after_poll t now l o).next ≡ t.next
 next-polled t l now None = refl
-next-polled t l now (Some c) = next-at t l c (stage_of now c)
+next-polled t l now (Some c) = next-at t l c (permit_state now c)
 
 -- the key under which a permit waits, and the number of the next one
 waiting-as : (t : Locks) (w : Waiting) → ((l : ℕ) → table.waits_under t l ≡ w.under l) → t.next ≡ w.asked → waiting_of t ≡ w
@@ -286,14 +286,14 @@ ages-by t fills at (Some (Read rd)) old =
     let u = after_poll t at rd.number (get t.cores rd.number) in
     both t u (let_go u (Read rd)) (E.Aged rd.number ∷ []) [] (ages-one t rd.number at (is-old (get t.cores rd.number) old)) (leaves u rd)
   where
-    at-stage : (s : Stage) (w : permits.Watch) → is_old_answer (answer_at s w) ≡ true → is_old s ≡ true
+    at-stage : (s : PermitState) (w : permits.Watch) → is_old_result (answer_at s w) ≡ true → is_old s ≡ true
     at-stage stage.Over w e = absurd (cc)
     at-stage stage.Old w e = refl
-    at-stage stage.Held w e = elim w.told as (λ o. is_old_answer (told_or_pending o) ≡ true → false ≡ true) [ None ↦ λ f. f | Some fill ↦ λ f. f ] e
+    at-stage stage.Held w e = elim w.told as (λ o. is_old_result (told_or_pending o) ≡ true → false ≡ true) [ None ↦ λ f. f | Some fill ↦ λ f. f ] e
 
-    is-old : (o : Option Core) → is_old_answer (polled at fills rd.watch o) ≡ true → table.is_old_at at o ≡ true
+    is-old : (o : Option Core) → is_old_result (polled at fills rd.watch o) ≡ true → table.is_old_at at o ≡ true
     is-old None e = absurd (cc)
-    is-old (Some c) e = at-stage (stage_of at c) (watched c (watch_at c fills rd.watch)) e
+    is-old (Some c) e = at-stage (permit_state at c) (watched c (watch_at c fills rd.watch)) e
 
 steps-by : (move : LockMove) (r : ℕ) (mine : Option Locked) (t : Locks) → MayMove move mine t → Steps t (spoken (deeds_moved move r mine t)) (table_moved move mine t)
 steps-by rests r mine t may = quiet t t [] tt refl
@@ -349,7 +349,7 @@ all-given r at s (e ∷ events) w g =
     (one-given r at s e w k.0, all-given r at s events (then_waiting e w) (subst (λ x. AreGiven x (spoken (deeds_by r at s events))) (one-spoken r at s e w) k.1))
 
 -- what a call says beside its events says nothing of who waits
-said-spoken : (r : ℕ) (act : Act) (o : Outcome) (h : Option Locked) → spoken (said_by r act o h) ≡ []
+said-spoken : (r : ℕ) (act : Act) (o : ReplyKind) (h : Option Locked) → spoken (said_by r act o h) ≡ []
 said-spoken r (C.Request (Q.Publish tokens)) was_done h = spoken-published tokens h
 said-spoken r (C.Wait t) (was_waited Pending) h = refl
 said-spoken r (C.Give to) was_done h = spoken-handed to h
@@ -369,7 +369,7 @@ said-spoken r (C.Wait t) (was_waited (Ready a)) h = refl
 said-spoken r act o h = refl
 
 -- one call moves the table as its events say
-pub call-steps : (r : ℕ) (act : Act) (o : Outcome) (events : List Event) (q : Option Held) (mine last : Option Locked) (t u : Locks) → MovesLocks r (deeds_in r act o events q) mine t last u → Steps t events u
+pub call-steps : (r : ℕ) (act : Act) (o : ReplyKind) (events : List Event) (q : Option Ongoing) (mine last : Option Locked) (t u : Locks) → MovesLocks r (deeds_in r act o events q) mine t last u → Steps t events u
 call-steps r act o events q mine last t u k reached =
     let at = moment_of act in
     let s = status_left act events in

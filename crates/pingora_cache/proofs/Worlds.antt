@@ -21,7 +21,7 @@ use Rattle.pcache_history.specs.History.{events_of}
 use Rattle.pingora_cache.specs.Evicting.{AddsEvicted}
 use Rattle.pingora_cache.specs.PartFacts.{facts_for, facts_in}
 use Rattle.pingora_cache.specs.Handing.{Acts, of_one, of_two, open_at, taker_at}
-use Rattle.pcache_history.specs.Held.{Held}
+use Rattle.pcache_history.specs.Ongoing.{Ongoing}
 use Rattle.pingora_cache.specs.LockTable.{IsTable, read_locks}
 use Rattle.pcache_history.specs.Log.{started}
 use Rattle.pcache_history.specs.Rules.{IsCopy}
@@ -46,16 +46,16 @@ sound-empty limits start s t age is unlocked =
     (state-same [] (λ _. 0) (readers empty) s (λ w. sym (readers-none w)) (state-none s (ap (λ (t : Store). t.slots) is) (ap (λ (t : Store). t.writes) is) (ap (λ (t : Store). t.next) is)))
     open-none (locked-none age t unlocked)
     (subst (IsTable [] (read_locks empty)) (sym unlocked) (subst (λ f. IsTable [] f (no_locks age)) (λ i l. sym (locks-none l) i) (table-none age)))
-    (λ r x is. let no : ◌≡◌ {A = Option Held} None (Some x) = sym (get-empty nat_cmp r) ∙ is in absurd (cc))
+    (λ r x is. let no : ◌≡◌ {A = Option Ongoing} None (Some x) = sym (get-empty nat_cmp r) ∙ is in absurd (cc))
 
-pub sound-new : (limits : Limits) (start : Tracked) (s : Store) (t : Locks) (age : ℕ) (all : List (ℕ × Held)) (h : List Entry) → s ≡ record { slots = empty; writes = empty; next = 0 } → t ≡ no_locks age → all ≡ [] → h ≡ []
+pub sound-new : (limits : Limits) (start : Tracked) (s : Store) (t : Locks) (age : ℕ) (all : List (ℕ × Ongoing)) (h : List Entry) → s ≡ record { slots = empty; writes = empty; next = 0 } → t ≡ no_locks age → all ≡ [] → h ≡ []
     → IsSound limits start start s t (from_entries {R = nat_cmp} all) (reverse h)
 sound-new limits start s t age all h is unlocked none new =
-    subst (λ (es : List (ℕ × Held)). IsSound limits start start s t (from_entries {R = nat_cmp} es) (reverse h)) (sym none)
+    subst (λ (es : List (ℕ × Ongoing)). IsSound limits start start s t (from_entries {R = nat_cmp} es) (reverse h)) (sym none)
     (subst (λ (xs : List Entry). IsSound limits start start s t empty (reverse xs)) (sym new) (sound-empty limits start s t age is unlocked))
 
 -- the same parts, whose start and history are in another form
-pub sound-same : (limits : Limits) (start start' m : Tracked) (s : Store) (t : Locks) (all : FinMap nat_cmp Held) (h h' : List Entry) → IsSound limits start m s t all (reverse h) → start' ≡ start → h' ≡ h → IsSound limits start' m s t all (reverse h')
+pub sound-same : (limits : Limits) (start start' m : Tracked) (s : Store) (t : Locks) (all : FinMap nat_cmp Ongoing) (h h' : List Entry) → IsSound limits start m s t all (reverse h) → start' ≡ start → h' ≡ h → IsSound limits start' m s t all (reverse h')
 sound-same limits start start' m s t all h h' k first is = subst (λ (first : Tracked). IsSound limits first m s t all (reverse h')) (sym first) (subst (λ (xs : List Entry). IsSound limits start m s t all (reverse xs)) (sym is) k)
 
 -- what was taken down at the start is told of no manager
@@ -67,7 +67,7 @@ pub not-both : {V A : Type 0} (o : Option V) → o ≡ None → IsSome o → A
 not-both o none some = absurd (both_ways (is_some o) (ap is_some none) some)
 
 -- one more call, of one request or put, or of two requests, whose reply is recorded as it is copied
-module _ (limits : Limits) (says : Says) (start m m' : Tracked) (s s' : Store) (t t' : Locks) (before after : List (ℕ × Held)) (h : List Entry) (call : Call) (reply told : Reply) (events : List Event) (k : IsSound limits start m s t (from_entries {R = nat_cmp} before) h) (puts : PutsSound says (from_entries {R = nat_cmp} before) h)
+module _ (limits : Limits) (says : Says) (start m m' : Tracked) (s s' : Store) (t t' : Locks) (before after : List (ℕ × Ongoing)) (h : List Entry) (call : Call) (reply told : Reply) (events : List Event) (k : IsSound limits start m s t (from_entries {R = nat_cmp} before) h) (puts : PutsSound says (from_entries {R = nat_cmp} before) h)
     (small : length before < 2 ^ 64) (copy : IsCopy reply told) where
   some : HasSome says s (open_at call.request before)
   some = has-some limits start m s t says before h call.request k puts
@@ -83,10 +83,10 @@ module _ (limits : Limits) (says : Says) (start m m' : Tracked) (s s' : Store) (
   acts-puts : Acts limits says call before s m t reply events after s' m' t' → PutsSound says (from_entries {R = nat_cmp} after) (record { call = call; reply = told; events = events } ∷ h)
   acts-puts (of_one one turn put moved) =
       let n = call.request in
-      let all : FinMap nat_cmp Held = from_entries {R = nat_cmp} before in
+      let all : FinMap nat_cmp Ongoing = from_entries {R = nat_cmp} before in
       let q' = open_at n after in
       let now = (made limits start m m' s s' t t' before after h call reply events k small one (λ w. turn w some)).now in
-      subst (λ (x : FinMap nat_cmp Held). PutsSound says x (record { call = call; reply = told; events = events } ∷ h)) (sym (entries-after before after call.request moved))
+      subst (λ (x : FinMap nat_cmp Ongoing). PutsSound says x (record { call = call; reply = told; events = events } ∷ h)) (sym (entries-after before after call.request moved))
       (puts-after says all h n call.act reply told events q' puts k.requests (subst (λ p. PutTurn says call.act reply events p q') (lookup-get before n) put) now copy)
   acts-puts (of_two to is hands same kept) =
       subst (λ (c : Act). PutsSound says (from_entries {R = nat_cmp} after) (record { call = record { request = call.request; act = c }; reply = told; events = events } ∷ h)) (sym is)
@@ -107,7 +107,7 @@ module _ (limits : Limits) (says : Says) (start m m' : Tracked) (s s' : Store) (
   acts-age (of_one one turn put moved) = step_age limits start m m' s s' t t' before after h call reply events k small one (λ w. turn w some)
   acts-age (of_two to is hands same kept) = give_age limits start m s t t' before after h call.request to reply events k small hands
 
-pub sound-step : (limits limits' : Limits) (says : Says) (start start' m m' : Tracked) (s s' : Store) (t t' : Locks) (before after : List (ℕ × Held)) (h h' : List Entry) (call : Call) (reply told : Reply) (events : List Event)
+pub sound-step : (limits limits' : Limits) (says : Says) (start start' m m' : Tracked) (s s' : Store) (t t' : Locks) (before after : List (ℕ × Ongoing)) (h h' : List Entry) (call : Call) (reply told : Reply) (events : List Event)
     → IsSound limits start m s t (from_entries {R = nat_cmp} before) (reverse h) → PutsSound says (from_entries {R = nat_cmp} before) (reverse h) → length before < 2 ^ 64
     → Acts limits says call before s m t reply events after s' m' t' → IsCopy reply told
     → limits' ≡ limits → start' ≡ start → h' ≡ h ++ record { call = call; reply = told; events = events } ∷ []
@@ -121,7 +121,7 @@ sound-step limits limits' says start start' m m' s s' t t' before after h h' cal
     (subst (λ (xs : List Entry). IsSound limits start m' s' t' (from_entries {R = nat_cmp} after) xs) (sym turned) more))
 
 -- and what it keeps of its puts
-pub puts-step : (limits : Limits) (says : Says) (start m m' : Tracked) (s s' : Store) (t t' : Locks) (before after : List (ℕ × Held)) (h h' : List Entry) (call : Call) (reply told : Reply) (events : List Event)
+pub puts-step : (limits : Limits) (says : Says) (start m m' : Tracked) (s s' : Store) (t t' : Locks) (before after : List (ℕ × Ongoing)) (h h' : List Entry) (call : Call) (reply told : Reply) (events : List Event)
     → IsSound limits start m s t (from_entries {R = nat_cmp} before) (reverse h) → PutsSound says (from_entries {R = nat_cmp} before) (reverse h) → length before < 2 ^ 64
     → Acts limits says call before s m t reply events after s' m' t' → IsCopy reply told
     → h' ≡ h ++ record { call = call; reply = told; events = events } ∷ [] → PutsSound says (from_entries {R = nat_cmp} after) (reverse h')
@@ -131,14 +131,14 @@ puts-step limits says start m m' s s' t t' before after h h' call reply told eve
     subst (λ (xs : List Entry). PutsSound says (from_entries {R = nat_cmp} after) xs) (sym turned) (acts-puts limits says start m m' s s' t t' before after (reverse h) call reply told events k puts small copy acts)
 
 -- the events say what was evicted in all
-pub evicted-step : (limits : Limits) (says : Says) (start m m' : Tracked) (s s' : Store) (t t' : Locks) (before after : List (ℕ × Held)) (h : List Entry) (call : Call) (reply : Reply) (events : List Event) (v v' : Evicted)
+pub evicted-step : (limits : Limits) (says : Says) (start m m' : Tracked) (s s' : Store) (t t' : Locks) (before after : List (ℕ × Ongoing)) (h : List Entry) (call : Call) (reply : Reply) (events : List Event) (v v' : Evicted)
     → IsSound limits start m s t (from_entries {R = nat_cmp} before) (reverse h) → PutsSound says (from_entries {R = nat_cmp} before) (reverse h) → length before < 2 ^ 64
     → Acts limits says call before s m t reply events after s' m' t' → AddsEvicted call.act (open_at call.request before) m v events v' → v' ≡ evicted_by (tracked start (events_of (reverse h))) v events
 evicted-step limits says start m m' s s' t t' before after h call reply events v v' k puts small acts adds =
     acts-evicted limits says start m m' s s' t t' before after (reverse h) call reply reply events k puts small (inl refl) v v' acts adds ∙ ap (λ x. evicted_by x v events) k.tracks
 
 -- after how long permits are too old stays as it is
-pub same-age : (limits : Limits) (says : Says) (start m m' : Tracked) (s s' : Store) (t t' : Locks) (before after : List (ℕ × Held)) (h : List Entry) (call : Call) (reply : Reply) (events : List Event)
+pub same-age : (limits : Limits) (says : Says) (start m m' : Tracked) (s s' : Store) (t t' : Locks) (before after : List (ℕ × Ongoing)) (h : List Entry) (call : Call) (reply : Reply) (events : List Event)
     → IsSound limits start m s t (from_entries {R = nat_cmp} before) (reverse h) → PutsSound says (from_entries {R = nat_cmp} before) (reverse h) → length before < 2 ^ 64
     → Acts limits says call before s m t reply events after s' m' t' → t'.age_timeout ≡ t.age_timeout
 same-age limits says start m m' s s' t t' before after h call reply events k puts small acts = acts-age limits says start m m' s s' t t' before after (reverse h) call reply reply events k puts small (inl refl) acts

@@ -8,9 +8,9 @@ use Rattle.pcache_history.specs.declared.call.RequestAct.TheVariants as Q
 use Rattle.pcache_history.specs.declared.entry.Event.{Event}
 use Rattle.pcache_history.specs.Due.{IsOfWorldIn}
 use Rattle.pcache_history.specs.Events.{evicted_by}
-use Rattle.pcache_history.specs.Held.{Held}
+use Rattle.pcache_history.specs.Ongoing.{Ongoing}
 
-abbrev pub AddsEvicted : Act → Option Held → Tracked → Evicted → List Event → Evicted → Type 0
+abbrev pub AddsEvicted : Act → Option Ongoing → Tracked → Evicted → List Event → Evicted → Type 0
 AddsEvicted (C.Request Q.Finish) q m before events after = IsOfWorldIn q → after ≡ evicted_by m before events
 AddsEvicted C.Close q m before events after = after ≡ evicted_by m before events
 AddsEvicted act q m before events after = after ≡ before

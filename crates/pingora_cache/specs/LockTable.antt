@@ -11,8 +11,8 @@ use Rattle.pcache_lock.specs.Waiting.{first_told}
 use Rattle.pcache_lock.specs.declared.lock.permit.Locked.{Locked}
 use Rattle.pcache_lock.specs.declared.lock.permit.Locked.TheVariants.{Write, Read}
 use Rattle.pcache_lock.specs.declared.lock.status.LockStatus.{LockStatus}
-use Rattle.pcache_history.specs.Deeds.{Deed, ask_of, is_held, shown, standing, status_of, who_holds}
-use Rattle.pcache_history.specs.Held.{Held}
+use Rattle.pcache_history.specs.Deeds.{Deed, ask_of, is_held, shown, publication, status_of, who_holds}
+use Rattle.pcache_history.specs.Ongoing.{Ongoing}
 use Rattle.pcache_history.specs.Rules.{permit_of}
 
 -- how many read locks of a lock are held: by one request, and by all
@@ -22,11 +22,11 @@ locks_read l (Some (Write p)) = 0
 locks_read l (Some (Read rd)) = if rd.number == l then 1 else 0
 
 -- the same for an open request
-abbrev pub locks_read_in : ℕ → Held → ℕ
+abbrev pub locks_read_in : ℕ → Ongoing → ℕ
 locks_read_in l x = locks_read l x.request.held
 
 -- how many read locks of a lock are held by all
-abbrev pub read_locks : FinMap nat_cmp Held → ℕ → ℕ
+abbrev pub read_locks : FinMap nat_cmp Ongoing → ℕ → ℕ
 read_locks all l = total (locks_read_in l) all
 
 -- a lock without the field on which no result depends, and without its publications, which are treated separately
@@ -58,7 +58,7 @@ pub record IsTable (ds : List Deed) (n : ℕ → ℕ) (t : Locks) : Type 0 where
   -- a permit that is over does not wait
   pub over : (l : ℕ) → is_some (ask_of l ds) ≡ true → is_held l ds ≡ false → is_waiting (status_of l ds) ≡ false
   -- the current publication is the last one that is kept
-  pub said : (l : ℕ) (c : Core) → get t.cores l ≡ Some c → last_of c.publications ≡ standing l ds
+  pub said : (l : ℕ) (c : Core) → get t.cores l ≡ Some c → last_of c.publications ≡ publication l ds
 
 -- a reader of the request r that was not polled has looked at nothing; one that was polled is told, at its next poll, by
 -- the publications that it has to look at

@@ -5,12 +5,12 @@ use Rattle.pcache_base.specs.Key.{Key, slot}
 use Rattle.pcache_base.specs.declared.poll.Poll.{Poll}
 use Rattle.pcache_base.specs.declared.poll.Poll.TheVariants.{Ready}
 use Rattle.pcache_lock.specs.Locks.{Locks, no_locks}
-use Rattle.pcache_request.specs.LockWaits.{too_old_for, unusable_in, wait_answer}
+use Rattle.pcache_request.specs.LockWaits.{too_old_for, unusable_in, wait_result}
 use Rattle.pcache_request.specs.Requests.{Request, found_for, new_request}
 use Rattle.pcache_store.specs.Store as store
 use Rattle.pcache_store.specs.Store.{Store, Reader, read_of, is_told, is_untouched, written_size}
 use Rattle.pcache_history.specs.Facts.{Facts}
-use Rattle.pcache_history.specs.Held.{Held}
+use Rattle.pcache_history.specs.Ongoing.{Ongoing}
 
 -- something is stored for the key
 abbrev pub there_for : Store → Option Key → Bool
@@ -48,7 +48,7 @@ size_for s None = 0
 size_for s (Some w) = written_size (map.get s.writes w)
 
 -- the facts, given what is open under the number that a permit is handed to
-abbrev pub facts_for : Store → Locks → Request → Option Held → Facts
+abbrev pub facts_for : Store → Locks → Request → Option Ongoing → Facts
 facts_for s t x taker = record {
   next = s.next;
   found = found_for s x.key;
@@ -60,7 +60,7 @@ facts_for s t x taker = record {
   untouched = untouched_for s x.write;
   size = size_for s x.write;
   asked = t.next;
-  wait = λ now. wait_answer t now x.held x;
+  wait = λ now. wait_result t now x.held x;
   too_old = λ now. too_old_for t now x.held (unusable_in x.key);
   taker = taker;
   early = false;

@@ -32,7 +32,7 @@ use Rattle.pcache_history.specs.declared.entry.Event.TheVariants as E
 use Rattle.pcache_history.specs.Due.{KeepsKey}
 use Rattle.pcache_history.specs.Facts.{request_in}
 use Rattle.pcache_history.specs.Deeds.{deeds_in, held_in}
-use Rattle.pcache_history.specs.Held.{Held, outcome, row, pair_of, pair_reader}
+use Rattle.pcache_history.specs.Ongoing.{Ongoing, kind_of_reply, row, pair_of, pair_reader}
 use Rattle.pingora_cache.specs.LockMoves.{MovesLocks}
 use Rattle.pingora_cache.specs.Moved.{Moves}
 use Rattle.pingora_cache.specs.PartFacts.{facts_in}
@@ -79,28 +79,28 @@ refused_end w WriteRemoved = E.Finish w false
 refused_end w _ = E.Dropped w
 
 -- the store after all that a request holds is given back: its pair, its write, its reader
-abbrev pub store_ended : Held → Store → Store
+abbrev pub store_ended : Ongoing → Store → Store
 store_ended x s = left_by x.request.reader (dropped_by x.request.write (left_by (pair_reader x.pair) s))
 
 -- the request before and after a call agrees with the row of the call, except for what its read lock was told
-abbrev pub IsRow : Act → Reply → List Event → Option Held → Option Held → Type 0
+abbrev pub IsRow : Act → Reply → List Event → Option Ongoing → Option Ongoing → Type 0
 IsRow act reply events q q' = option_map untold q' ≡ option_map untold (row act reply events q)
 
 -- one call of the request r over the parts: its reply and its events are those that the parts give, and the parts change
 -- by its events
-pub record Turn (limits : Limits) (r : ℕ) (act : Act) (q : Option Held) (s : Store) (m : Tracked) (t : Locks) (reply : Reply) (events : List Event) (q' : Option Held) (s' : Store) (m' : Tracked) (t' : Locks) : Type 0 where
+pub record Turn (limits : Limits) (r : ℕ) (act : Act) (q : Option Ongoing) (s : Store) (m : Tracked) (t : Locks) (reply : Reply) (events : List Event) (q' : Option Ongoing) (s' : Store) (m' : Tracked) (t' : Locks) : Type 0 where
   pub answers : Replies (facts_in s t (request_in q)) act q reply events
   pub moves : Moves limits q s m events q' s' m'
   pub keeps : KeepsKey q q'
   pub now : IsRow act reply events q q'
-  pub locks : MovesLocks r (deeds_in r act (outcome reply) events q) (held_in q) t (held_in q') t'
+  pub locks : MovesLocks r (deeds_in r act (kind_of_reply reply) events q) (held_in q) t (held_in q') t'
 
 -- only what is open under this number changes
-abbrev pub IsMoved : ℕ → List (ℕ × Held) → List (ℕ × Held) → Type 0
+abbrev pub IsMoved : ℕ → List (ℕ × Ongoing) → List (ℕ × Ongoing) → Type 0
 IsMoved n all all' = (q : ℕ) → lookup (is_at (nat_cmp q)) all' ≡ cond (is_at (nat_cmp n) q) (lookup (is_at (nat_cmp n)) all') (lookup (is_at (nat_cmp q)) all)
 
 -- the same, by its row
-abbrev pub IsRowed : ℕ → Act → Reply → List Event → List (ℕ × Held) → List (ℕ × Held) → Type 0
+abbrev pub IsRowed : ℕ → Act → Reply → List Event → List (ℕ × Ongoing) → List (ℕ × Ongoing) → Type 0
 IsRowed n act reply events all all' = (q : ℕ) → lookup (is_at (nat_cmp q)) all' ≡ cond (is_at (nat_cmp n) q) (row act reply events (lookup (is_at (nat_cmp n)) all)) (lookup (is_at (nat_cmp q)) all)
 
 -- the events and the reply of the lock that a look-up asked for, if that did not fail
@@ -131,7 +131,7 @@ look_answer a (NotFound asked) = asked_answer asked
 look_answer a (Deferred released) = R.NotFound None
 
 -- what is held after it: the pair that is handed on; a request that is turned off carries no decision
-abbrev pub held_after_look : LookUp MemHitHandler → Held → Held
+abbrev pub held_after_look : LookUp MemHitHandler → Ongoing → Ongoing
 held_after_look (Found m h) x = record { request = x.request; pair = Some (m, reader_of h); carried = x.carried; put = x.put }
 held_after_look (NotFound asked) x = record { request = x.request; pair = None; carried = x.carried; put = x.put }
 held_after_look (Deferred released) x = record { request = x.request; pair = None; carried = None; put = x.put }
@@ -152,15 +152,15 @@ spare_of (C.Request (Q.Revalidate m)) = Some (m, m)
 spare_of _ = None
 
 -- a request, or a put, is open under a number
-abbrev pub IsRequestIn : Option Held → Type 0
+abbrev pub IsRequestIn : Option Ongoing → Type 0
 IsRequestIn None = ⊥
 IsRequestIn (Some x) = x.put ≡ None
 
 -- a put is open under a number
-abbrev pub IsPutIn : Option Held → Type 0
+abbrev pub IsPutIn : Option Ongoing → Type 0
 IsPutIn None = ⊥
 IsPutIn (Some x) = IsSome x.put
 
 -- what was open under a number is removed, and the rest is unchanged
-abbrev pub IsTakenOut : ℕ → List (ℕ × Held) → List (ℕ × Held) → Type 0
+abbrev pub IsTakenOut : ℕ → List (ℕ × Ongoing) → List (ℕ × Ongoing) → Type 0
 IsTakenOut n all all' = (q : ℕ) → lookup (is_at (nat_cmp q)) all' ≡ cond (is_at (nat_cmp n) q) None (lookup (is_at (nat_cmp q)) all)

@@ -8,7 +8,7 @@ use Rattle.pcache_lock.specs.declared.lock.permit.Locked.TheVariants.{Write, Rea
 use Rattle.pcache_put.specs.Counted.{Counted}
 use Rattle.pcache_put.specs.Progress.{AtHead}
 use Rattle.pcache_request.specs.Requests.{Request}
-use Rattle.pcache_history.specs.Held.{Held}
+use Rattle.pcache_history.specs.Ongoing.{Ongoing}
 use Rattle.pcache_history.specs.Taking.{Taking, counted_none}
 
 -- the watch as it was before it saw a publication
@@ -16,13 +16,13 @@ abbrev pub untold_watch : Watch → Watch
 untold_watch w = record { fills = w.fills; seen = 0; told = None }
 
 -- a read lock with such a watch
-abbrev pub untold_reader : Reader → Reader
-untold_reader rd = record { number = rd.number; watch = option_map untold_watch rd.watch }
+abbrev pub untold_read_lock : Reader → Reader
+untold_read_lock rd = record { number = rd.number; watch = option_map untold_watch rd.watch }
 
 -- a lock without what its reader was told
 abbrev pub untold_lock : Locked → Locked
 untold_lock (Write p) = Write p
-untold_lock (Read rd) = Read (untold_reader rd)
+untold_lock (Read rd) = Read (untold_read_lock rd)
 
 -- a request without it
 abbrev pub untold_request : Request → Request
@@ -37,5 +37,5 @@ abbrev pub untold_put : Taking → Taking
 untold_put p = record { key = p.key; size = option_map uncounted p.size; parser = AtHead []; stage = p.stage }
 
 -- a request or a put without either
-abbrev pub untold : Held → Held
+abbrev pub untold : Ongoing → Ongoing
 untold x = record { request = untold_request x.request; pair = x.pair; carried = x.carried; put = option_map untold_put x.put }

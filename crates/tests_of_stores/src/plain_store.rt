@@ -7,7 +7,7 @@ ghost use Rattle.pcache_base.specs.declared.error.ErrorType.TheVariants.{OutOfMe
 ghost use Rattle.pcache_meta.specs.Meta.{Meta};
 ghost use Rattle.pcache_store.specs.Finishes.{created};
 ghost use Rattle.pcache_store.specs.Purge.{target_key};
-ghost use Rattle.pcache_store.specs.Refusals.{MayRefuseFinish};
+ghost use Rattle.pcache_store.specs.Refusals.{MayFailFinish};
 ghost use Rattle.pcache_store.specs.Store.{Reader, Whole, Part, found_part, joined, left, wrote, dropped, finished, is_untouched, is_untouched_in, sought};
 ghost use Rattle.pcache_store.specs.Tag.{named_by, number_of_tag};
 
@@ -251,7 +251,7 @@ impl PlainStore {
         ensures answer { IfOk result (λ f. f ≡ created self.old number) }
         ensures ok { OnOk result (self.new ≡ finished self.old number) }
         ensures untouched { OnOk result (is_untouched self.old number ≡ true) }
-        ensures kind { IfErr result (λ e. MayRefuseFinish self.old number e) }
+        ensures kind { IfErr result (λ e. MayFailFinish self.old number e) }
         ensures err { OnErr result (self.new ≡ dropped self.old number) }
     {
         let Some(draft) = self.writes.get(number) else {

@@ -18,17 +18,17 @@ impl Gate for Open {
 /// A gate that delays a worker's call until a call of another worker has its reply, for so many
 /// turns at most.
 #[derive(Drop)]
-pub struct Held {
+pub struct Ongoing {
     call: (usize, usize),
     until: (usize, usize),
     is_left: AtomicU64,
     is_late: AtomicU64,
 }
 
-impl Held {
+impl Ongoing {
     /// A gate that delays `call` until `until` has its reply.
-    pub fn new(call: (usize, usize), until: (usize, usize)) -> Held {
-        Held {
+    pub fn new(call: (usize, usize), until: (usize, usize)) -> Ongoing {
+        Ongoing {
             call,
             until,
             is_left: AtomicU64::new(0),
@@ -52,7 +52,7 @@ impl Held {
     }
 }
 
-impl Gate for Held {
+impl Gate for Ongoing {
     fn enter(&self, worker: usize, index: usize) {
         if (worker, index) != self.call {
             return;

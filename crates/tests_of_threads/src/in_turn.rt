@@ -96,9 +96,9 @@ fn tell_end(
     told.push_str(format!(in alloc; "{entries} entries\n")?.as_str())?;
     for list in receipts {
         for receipt in list {
-            let place = receipt.place;
+            let index = receipt.index;
             let request = receipt.call.request;
-            told.push_str(format!(in alloc; "{place}:{request} ")?.as_str())?;
+            told.push_str(format!(in alloc; "{index}:{request} ")?.as_str())?;
         }
         told.push('\n')?;
     }

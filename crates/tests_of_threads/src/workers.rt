@@ -2,7 +2,7 @@
 ghost use Rattle.std.specs.Prelude.{◌≡◌, length};
 
 use crate::calls::{ListOpening, ListWorld, SharedList, opening_of, read_script};
-use crate::gates::{Between, Held, Noted, Open};
+use crate::gates::{Between, Noted, Ongoing, Open};
 use pcache_base::error::Result;
 use pcache_shared::{Gate, Mark, Receipt, Share, run_workers};
 use pingora_cache::world::call::Call;
@@ -66,11 +66,11 @@ fn are_the_places(receipts: &[Vec<Receipt>], count: usize) -> bool {
     let mut places = 0u64;
     for list in receipts {
         for receipt in list {
-            if receipt.place >= count {
+            if receipt.index >= count {
                 return false;
             }
             seen = seen.wrapping_add(1);
-            places |= bit(receipt.place);
+            places |= bit(receipt.index);
         }
     }
     seen == count && places == bit(count).wrapping_sub(1)
@@ -95,7 +95,7 @@ fn is_of(alloc: Global, entry: &Entry, receipt: &Receipt) -> Result<bool> {
 fn stand(alloc: Global, history: &[Entry], receipts: &[Vec<Receipt>]) -> Result<bool> {
     for list in receipts {
         for receipt in list {
-            let Some(entry) = history.get(receipt.place) else {
+            let Some(entry) = history.get(receipt.index) else {
                 return Ok(false);
             };
             if !is_of(alloc, entry, receipt)? {
@@ -127,13 +127,18 @@ fn receipt(receipts: &[Vec<Receipt>], (worker, index): (usize, usize)) -> Option
 }
 
 // Whether the call that the gate delayed comes after the one that it waited for, with this reply.
-fn came_behind(alloc: Global, receipts: &[Vec<Receipt>], gate: &Held, reply: &str) -> Result<bool> {
+fn came_behind(
+    alloc: Global,
+    receipts: &[Vec<Receipt>],
+    gate: &Ongoing,
+    reply: &str,
+) -> Result<bool> {
     let held = receipt(receipts, gate.held());
     let awaited = receipt(receipts, gate.awaited());
     match (held, awaited) {
         (Some(held), Some(awaited)) => {
             let told = format!(in alloc; "{:?}", held.reply)?;
-            Ok(awaited.place < held.place && told.as_str() == reply)
+            Ok(awaited.index < held.index && told.as_str() == reply)
         }
         _ => Ok(false),
     }
@@ -157,7 +162,7 @@ fn ended_behind(
     history: &[Entry],
     receipts: &[Vec<Receipt>],
     count: usize,
-    gate: &Held,
+    gate: &Ongoing,
     reply: &str,
 ) -> Result<bool> {
     Ok(
@@ -175,7 +180,7 @@ fn runs_held<R: Threads + Wait + Sync>(
     first: &'static str,
     second: &'static str,
     count: usize,
-    gate: &Held,
+    gate: &Ongoing,
     reply: &str,
 ) -> Result<bool> {
     let (world, receipts) = run(rt, alloc, first, second, gate)?;
@@ -192,7 +197,7 @@ fn runs_held<R: Threads + Wait + Sync>(
 // Whether the first of two calls stands before the second.
 fn are_in_order(receipts: &[Vec<Receipt>], first: (usize, usize), second: (usize, usize)) -> bool {
     match (receipt(receipts, first), receipt(receipts, second)) {
-        (Some(first), Some(second)) => first.place < second.place,
+        (Some(first), Some(second)) => first.index < second.index,
         _ => false,
     }
 }
@@ -268,7 +273,7 @@ fn two_workers_of_three_calls(rt: HostRuntime) -> std::result::Result<(), Fail> 
 fn a_hit_behind_the_finish(rt: HostRuntime) -> std::result::Result<(), Fail> {
     let first = "open 1\nkey 1 k\nlook 1\nmiss 1\nmeta 1\nbegin 1\nwrite_last 1 ab\nfinish 1";
     let second = "open 2\nkey 2 k\nlook 2";
-    let gate = Held::new((1, 2), (0, 7));
+    let gate = Ongoing::new((1, 2), (0, 7));
     let is_hit = runs_held(&rt, rt.alloc(), first, second, 11, &gate, "Hit(2)")?;
     assert!(rt; is_hit);
     Ok(())
@@ -281,7 +286,7 @@ fn scripts_run_at_the_same_time(rt: HostRuntime) -> std::result::Result<(), Fail
     let first = "open 1\nkey 1 k\nlook 1";
     let second = "open 2\nkey 2 k\nlook 2";
     for (held, other) in [(0usize, 1usize), (1, 0)] {
-        let gate = Held::new((held, 0), (other, 1));
+        let gate = Ongoing::new((held, 0), (other, 1));
         let is_behind = runs_held(&rt, rt.alloc(), first, second, 6, &gate, "Done")?;
         assert!(rt; is_behind, "{held}");
     }

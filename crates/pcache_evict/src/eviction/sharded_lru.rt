@@ -6,7 +6,7 @@ ghost use Rattle.pcache_base.specs.declared.error.ErrorType.TheVariants.{OutOfMe
 ghost use Rattle.pcache_evict.specs.Tracked.{raised, limits_of};
 ghost use Rattle.pcache_evict.specs.Recency.{IsWithinAsList, weight, weight_of, others, moved, accessed};
 ghost use Rattle.pcache_evict.specs.Listed.{IsEnough};
-ghost use Rattle.pcache_evict.specs.Shards.{ArePlaced, Sharded, Runs, all, list_at, shard_of, in_shard, reweighed, joined_all, grown, last_key, empty_shards};
+ghost use Rattle.pcache_evict.specs.Shards.{ArePlaced, Sharded, Runs, all, list_at, shard_of, in_shard, reweighed, added_last_all, grown, last_key, empty_shards};
 ghost use Rattle.pcache_evict.specs.Chain.{chain};
 
 use super::recency::raised_weight;
@@ -291,7 +291,7 @@ impl<const N: usize> Manager<N> {
     /// nothing (own).
     pub fn load_entries(&mut self, entries: Vec<(CacheEntryKey, usize)>) -> Result<()>
         ensures ok { OnOk result (self.new
-            ≡ record self.old { shards = joined_all N entries.items self.old.shards }) }
+            ≡ record self.old { shards = added_last_all N entries.items self.old.shards }) }
         ensures kind { IfErr result (λ e. e ≡ OutOfMemory) }
         ensures err { OnErr result (self.new ≡ self.old) }
     {

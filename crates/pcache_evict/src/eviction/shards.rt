@@ -5,7 +5,7 @@ ghost use Rattle.pcache_base.specs.declared.error.ErrorType.TheVariants.{OutOfMe
 ghost use Rattle.pcache_evict.specs.Tracked.{limits_of};
 ghost use Rattle.pcache_evict.specs.Recency.{Recency, weight, weight_of, others, moved, IsWithinAsList};
 ghost use Rattle.pcache_evict.specs.Listed.{IsEnough};
-ghost use Rattle.pcache_evict.specs.Shards.{ArePlaced, all, shard_of, list_at, no_entries, in_shard, reweighed, joined, joined_all, AreLengths, AreLonger, RunsOut};
+ghost use Rattle.pcache_evict.specs.Shards.{ArePlaced, all, shard_of, list_at, no_entries, in_shard, reweighed, added_last, added_last_all, AreLengths, AreLonger, RunsOut};
 ghost use Rattle.pcache_evict.specs.Chain.{span, chain, Pops, Walks, RoomFor, IsFirst, IsFirstFrom};
 
 use super::CacheEntryKey;
@@ -176,7 +176,7 @@ impl<const N: usize> RecencyShards<N> {
         alloc: Global,
         entries: Vec<(CacheEntryKey, usize)>,
     ) -> Result<()>
-        ensures ok { OnOk result (self.new ≡ joined_all N entries.items self.old) }
+        ensures ok { OnOk result (self.new ≡ added_last_all N entries.items self.old) }
         ensures kind { IfErr result (λ e. e ≡ OutOfMemory) }
         ensures err { OnErr result (self.new ≡ self.old) }
     {
@@ -202,7 +202,7 @@ impl<const N: usize> RecencyShards<N> {
 
     /// Adds entries until an addition fails.
     fn join_each(&mut self, entries: Vec<(CacheEntryKey, usize)>) -> Result<()>
-        ensures ok { OnOk result (self.new ≡ joined_all N entries.items self.old) }
+        ensures ok { OnOk result (self.new ≡ added_last_all N entries.items self.old) }
         ensures kind { IfErr result (λ e. e ≡ OutOfMemory) }
         ensures longer { AreLonger self.old self.new }
     {
@@ -214,7 +214,7 @@ impl<const N: usize> RecencyShards<N> {
 
     /// Adds an entry at the back of its list; one that is tracked is unchanged.
     fn join(&mut self, item: CacheEntryKey, size: usize) -> Result<()>
-        ensures ok { OnOk result (self.new ≡ in_shard N item (joined item size) self.old) }
+        ensures ok { OnOk result (self.new ≡ in_shard N item (added_last item size) self.old) }
         ensures kind { IfErr result (λ e. e ≡ OutOfMemory) }
         ensures err { OnErr result (self.new ≡ self.old) }
         ensures placed { ArePlaced N self.old }

@@ -4,14 +4,14 @@ ghost use Rattle.std.specs.Duration.{as_nanos};
 ghost use Rattle.std.specs.FinMap as map;
 ghost use Rattle.pcache_base.specs.declared.error.ErrorType.TheVariants.{NumbersExhausted, OutOfMemory};
 ghost use Rattle.pcache_base.specs.Key.{slot};
-ghost use Rattle.pcache_lock.specs.Locks.{MayRefuseLock, changed, ended, holder, no_locks, no_locks_from, permit_dropped, permit_spent, reader_dropped, released, unlocked, with_core, with_free_permit, with_read_lock, without_entry};
+ghost use Rattle.pcache_lock.specs.Locks.{MayFailLock, changed, ended, holder, no_locks, no_locks_from, permit_dropped, permit_spent, reader_dropped, released, unlocked, with_core, with_free_permit, with_read_lock, without_entry};
 ghost use Rattle.pcache_lock.specs.Statuses.{IsReason};
 ghost use Rattle.pcache_lock.specs.Permits.{spent, with_reader, without_reader};
 ghost use Rattle.pcache_lock.specs.Waiting.{aged, with_publication};
 
 use crate::lock::CacheKeyLock;
 use crate::lock::lock_core::LockCore;
-use crate::lock::outcome::{Stage, WaitOutcome};
+use crate::lock::outcome::{PermitState, WaitOutcome};
 use crate::lock::permit::{LockStub, Locked, ReadLock, WritePermit};
 use crate::lock::status::LockStatus;
 use pcache_base::error::{Error, ErrorType, Result};
@@ -30,7 +30,7 @@ const N_SHARDS: usize = 16;
 #[derive(Drop)]
 pub struct CacheLock {
     cores: Table<LockCore>,
-    standing: Shards<u64, N_SHARDS>,
+    current: Shards<u64, N_SHARDS>,
     // The next number; wider than a number, so that it can be past the last one.
     next: u128,
     age_timeout: Duration,
@@ -45,91 +45,91 @@ impl Model for CacheLock {
 
     ghost coded = { locks_code };
 
-    ghost view = { λ a. record { cores = a.cores; standing = a.standing; next = a.next; age_timeout = as_nanos a.age_timeout } };
+    ghost view = { λ a. record { cores = a.cores; current = a.current; next = a.next; age_timeout = as_nanos a.age_timeout } };
 }
 
 // Sets the number of a key's entry, if it has one.
-fn set_entry(standing: &mut Shards<u64, N_SHARDS>, slot: u128, number: u64)
-    requires { IsSome (map.get standing.old slot) }
-    ensures { standing.new ≡ map.insert standing.old slot number }
+fn set_entry(current: &mut Shards<u64, N_SHARDS>, slot: u128, number: u64)
+    requires { IsSome (map.get current.old slot) }
+    ensures { current.new ≡ map.insert current.old slot number }
 {
-    let Ok(_before) = standing.insert(slot, number) else {
+    let Ok(_before) = current.insert(slot, number) else {
         unreachable!()
     };
 }
 
 // Removes the entry of a lock, if it is the current one of its key.
-fn leave_entry(standing: &mut Shards<u64, N_SHARDS>, place: u128, slot: Option<u128>)
-    ensures { standing.new ≡ without_entry place slot standing.old }
+fn leave_entry(current: &mut Shards<u64, N_SHARDS>, number: u128, slot: Option<u128>)
+    ensures { current.new ≡ without_entry number slot current.old }
 {
     let Some(slot) = slot else { return };
-    let Some(entry) = standing.value(slot) else {
+    let Some(entry) = current.value(slot) else {
         return;
     };
-    if u128::from(*entry) == place {
-        standing.remove(slot);
+    if u128::from(*entry) == number {
+        current.remove(slot);
     }
 }
 
 // Counts one more read lock on a lock.
-fn add_reader(cores: &mut Table<LockCore>, place: u128)
-    ensures { cores.new ≡ changed with_reader cores.old place (map.get cores.old place) }
+fn add_reader(cores: &mut Table<LockCore>, number: u128)
+    ensures { cores.new ≡ changed with_reader cores.old number (map.get cores.old number) }
 {
-    let Some(core) = cores.get_mut(place) else {
+    let Some(core) = cores.get_mut(number) else {
         return;
     };
     core.add_reader();
 }
 
 // Counts one read lock less.
-fn forget_reader(cores: &mut Table<LockCore>, place: u128)
-    ensures { cores.new ≡ changed without_reader cores.old place (map.get cores.old place) }
+fn forget_reader(cores: &mut Table<LockCore>, number: u128)
+    ensures { cores.new ≡ changed without_reader cores.old number (map.get cores.old number) }
 {
-    let Some(core) = cores.get_mut(place) else {
+    let Some(core) = cores.get_mut(number) else {
         return;
     };
     core.forget_reader();
 }
 
 // Records that the permit is gone.
-fn spend(cores: &mut Table<LockCore>, place: u128, status: LockStatus)
-    ensures { cores.new ≡ changed (λ c. spent c status) cores.old place (map.get cores.old place) }
+fn spend(cores: &mut Table<LockCore>, number: u128, status: LockStatus)
+    ensures { cores.new ≡ changed (λ c. spent c status) cores.old number (map.get cores.old number) }
 {
-    let Some(core) = cores.get_mut(place) else {
+    let Some(core) = cores.get_mut(number) else {
         return;
     };
     core.spend(status);
 }
 
 // Sets the status with which the fill ended, while the permit is still held.
-fn unlock(cores: &mut Table<LockCore>, place: u128, reason: LockStatus)
+fn unlock(cores: &mut Table<LockCore>, number: u128, reason: LockStatus)
     requires { IsReason reason }
-    ensures { cores.new ≡ changed (ended reason) cores.old place (map.get cores.old place) }
+    ensures { cores.new ≡ changed (ended reason) cores.old number (map.get cores.old number) }
 {
-    let Some(core) = cores.get_mut(place) else {
+    let Some(core) = cores.get_mut(number) else {
         return;
     };
     core.unlock(reason);
 }
 
 // Records that the permit is too old.
-fn age(cores: &mut Table<LockCore>, place: u128)
-    ensures { cores.new ≡ changed aged cores.old place (map.get cores.old place) }
+fn age(cores: &mut Table<LockCore>, number: u128)
+    ensures { cores.new ≡ changed aged cores.old number (map.get cores.old number) }
 {
-    let Some(core) = cores.get_mut(place) else {
+    let Some(core) = cores.get_mut(number) else {
         return;
     };
     core.age();
 }
 
 // Replaces the current publication.
-fn publish(alloc: Global, cores: &mut Table<LockCore>, place: u128, tokens: &[u64]) -> Result<()>
-    ensures ok { OnOk result (cores.new ≡ changed (with_publication tokens.now) cores.old place (map.get cores.old place)) }
+fn publish(alloc: Global, cores: &mut Table<LockCore>, number: u128, tokens: &[u64]) -> Result<()>
+    ensures ok { OnOk result (cores.new ≡ changed (with_publication tokens.now) cores.old number (map.get cores.old number)) }
     ensures clears { tokens.now ≡ [] → IsOk result }
     ensures err { OnErr result (cores.new ≡ cores.old) }
     ensures kind { IfErr result (λ e. e ≡ OutOfMemory) }
 {
-    let Some(core) = cores.get_mut(place) else {
+    let Some(core) = cores.get_mut(number) else {
         return Ok(());
     };
     core.publish(alloc, tokens)
@@ -142,7 +142,7 @@ impl CacheLock {
     {
         CacheLock {
             cores: Table::new(alloc),
-            standing: Shards::new(alloc),
+            current: Shards::new(alloc),
             next: 0,
             age_timeout,
         }
@@ -154,7 +154,7 @@ impl CacheLock {
     {
         CacheLock {
             cores: Table::new(alloc),
-            standing: Shards::new(alloc),
+            current: Shards::new(alloc),
             next,
             age_timeout,
         }
@@ -177,9 +177,9 @@ impl CacheLock {
 
     /// The current entry of a key.
     pub fn stub(&self, key: &CacheKey) -> Option<LockStub>
-        ensures { result ≡ map.get self.now.standing (slot key.now) }
+        ensures { result ≡ map.get self.now.current (slot key.now) }
     {
-        let number = self.standing.value(key.slot())?;
+        let number = self.current.value(key.slot())?;
         Some(LockStub::new(*number))
     }
 
@@ -198,7 +198,7 @@ impl CacheLock {
         ensures stub { IfOk result (λ p. p.1 ≡ self.old.next) }
         ensures ok { OnOk result (self.new ≡ with_free_permit self.old (as_nanos age_timeout) stale_writer now) }
         ensures err { OnErr result (self.new ≡ self.old) }
-        ensures kind { IfErr result (λ e. MayRefuseLock self.old e) }
+        ensures kind { IfErr result (λ e. MayFailLock self.old e) }
     {
         let number = self.next_number()?;
         let core = LockCore::new(alloc, age_timeout, stale_writer, now);
@@ -242,7 +242,7 @@ impl CacheLock {
     fn holder(&self, slot: u128) -> Option<u64>
         ensures { result ≡ holder self.now slot }
     {
-        let number = *self.standing.value(slot)?;
+        let number = *self.current.value(slot)?;
         let core = self.cores.get(u128::from(number))?;
         if core.lock_status().is_free() {
             None
@@ -258,15 +258,15 @@ impl CacheLock {
         ensures err { OnErr result (self.new ≡ self.old) }
         ensures kind { IfErr result (λ e. e ≡ OutOfMemory) }
     {
-        if self.standing.value(slot).is_some() {
+        if self.current.value(slot).is_some() {
             self.cores.insert(self.next, core)?;
-            set_entry(&mut self.standing, slot, number);
+            set_entry(&mut self.current, slot, number);
             self.next += 1;
             return Ok(());
         }
-        self.standing.insert(slot, number)?;
+        self.current.insert(slot, number)?;
         if let Err(refused) = self.cores.insert(self.next, core) {
-            self.standing.remove(slot);
+            self.current.remove(slot);
             return Err(Error::from(refused));
         }
         self.next += 1;
@@ -274,65 +274,65 @@ impl CacheLock {
     }
 
     // Removes a lock that nothing names any more, and its entry.
-    fn forget(&mut self, place: u128, slot: Option<u128>)
-        ensures { self.new ≡ record self.old { cores = map.remove self.old.cores place; standing = without_entry place slot self.old.standing } }
+    fn forget(&mut self, number: u128, slot: Option<u128>)
+        ensures { self.new ≡ record self.old { cores = map.remove self.old.cores number; current = without_entry number slot self.old.current } }
     {
-        self.cores.remove(place);
-        leave_entry(&mut self.standing, place, slot);
+        self.cores.remove(number);
+        leave_entry(&mut self.current, number, slot);
     }
 
     // Ends a lock's permit.
-    fn spend_permit(&mut self, place: u128, status: LockStatus)
-        ensures { self.new ≡ permit_spent self.old place status (map.get self.old.cores place) }
+    fn spend_permit(&mut self, number: u128, status: LockStatus)
+        ensures { self.new ≡ permit_spent self.old number status (map.get self.old.cores number) }
     {
-        let Some(core) = self.cores.get(place) else {
+        let Some(core) = self.cores.get(number) else {
             return;
         };
         if core.has_readers() {
-            spend(&mut self.cores, place, status);
+            spend(&mut self.cores, number, status);
             return;
         }
         let slot = core.slot();
-        self.forget(place, slot);
+        self.forget(number, slot);
     }
 
-    fn release_permit(&mut self, place: u128, reason: LockStatus)
-        ensures { self.new ≡ released self.old place reason }
+    fn release_permit(&mut self, number: u128, reason: LockStatus)
+        ensures { self.new ≡ released self.old number reason }
     {
-        let Some(core) = self.cores.get(place) else {
+        let Some(core) = self.cores.get(number) else {
             return;
         };
         if core.lock_status() == LockStatus::AgeTimeout {
-            self.spend_permit(place, LockStatus::AgeTimeout);
+            self.spend_permit(number, LockStatus::AgeTimeout);
             return;
         }
         let slot = core.slot();
-        leave_entry(&mut self.standing, place, slot);
-        self.spend_permit(place, reason);
+        leave_entry(&mut self.current, number, slot);
+        self.spend_permit(number, reason);
     }
 
-    fn drop_permit(&mut self, place: u128)
-        ensures { self.new ≡ permit_dropped self.old place (map.get self.old.cores place) }
+    fn drop_permit(&mut self, number: u128)
+        ensures { self.new ≡ permit_dropped self.old number (map.get self.old.cores number) }
     {
-        let Some(core) = self.cores.get(place) else {
+        let Some(core) = self.cores.get(number) else {
             return;
         };
         let status = core.dropped_status();
-        self.spend_permit(place, status);
+        self.spend_permit(number, status);
     }
 
-    fn drop_reader(&mut self, place: u128)
-        ensures { self.new ≡ reader_dropped self.old place (map.get self.old.cores place) }
+    fn drop_reader(&mut self, number: u128)
+        ensures { self.new ≡ reader_dropped self.old number (map.get self.old.cores number) }
     {
-        let Some(core) = self.cores.get(place) else {
+        let Some(core) = self.cores.get(number) else {
             return;
         };
         if core.outlives_reader() {
-            forget_reader(&mut self.cores, place);
+            forget_reader(&mut self.cores, number);
             return;
         }
         let slot = core.slot();
-        self.forget(place, slot);
+        self.forget(number, slot);
     }
 }
 
@@ -378,17 +378,17 @@ impl CacheKeyLock for CacheLock {
         fills: Option<&UnusableFills>,
         now: Moment,
     ) -> Result<Poll<WaitOutcome>> {
-        let place = u128::from(read.number());
-        let Some(core) = self.cores.get(place) else {
+        let number = u128::from(read.number());
+        let Some(core) = self.cores.get(number) else {
             return Ok(Poll::Ready(WaitOutcome::Released));
         };
         match core.stage(now) {
-            Stage::Over => Ok(Poll::Ready(WaitOutcome::Released)),
-            Stage::Old => {
-                age(&mut self.cores, place);
+            PermitState::Over => Ok(Poll::Ready(WaitOutcome::Released)),
+            PermitState::Old => {
+                age(&mut self.cores, number);
                 Ok(Poll::Ready(WaitOutcome::AgeTimeout))
             }
-            Stage::Held => match read.look(alloc, core, fills)? {
+            PermitState::Held => match read.look(alloc, core, fills)? {
                 Some(fill) => Ok(Poll::Ready(WaitOutcome::Abandoned(fill))),
                 None => Ok(Poll::Pending),
             },

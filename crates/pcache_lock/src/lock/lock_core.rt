@@ -5,9 +5,9 @@ ghost use Rattle.std.specs.Duration.{as_nanos};
 ghost use Rattle.pcache_lock.specs.Locks.{ended};
 ghost use Rattle.pcache_lock.specs.Permits.{new_core, is_locked, is_named, with_reader, without_reader, spent, dropped_status};
 ghost use Rattle.pcache_lock.specs.Statuses.{IsReason};
-ghost use Rattle.pcache_lock.specs.Waiting.{aged, first_told, is_expired, says_nothing, stage_of, status_at, with_publication};
+ghost use Rattle.pcache_lock.specs.Waiting.{aged, first_told, is_expired, says_nothing, permit_state, status_at, with_publication};
 
-use crate::lock::outcome::Stage;
+use crate::lock::outcome::PermitState;
 use crate::lock::publications::Publications;
 use crate::lock::status::LockStatus;
 use pcache_base::error::Result;
@@ -185,16 +185,16 @@ impl LockCore {
     }
 
     // The stage of its permit at this moment.
-    pub(super) fn stage(&self, now: Moment) -> Stage
-        ensures { result ≡ stage_of now self.now }
+    pub(super) fn stage(&self, now: Moment) -> PermitState
+        ensures { result ≡ permit_state now self.now }
     {
         if !self.locked() {
-            return Stage::Over;
+            return PermitState::Over;
         }
         if self.status == LockStatus::AgeTimeout || self.expired(now) {
-            return Stage::Old;
+            return PermitState::Old;
         }
-        Stage::Held
+        PermitState::Held
     }
 
     // Whether its permit has been held for too long at this moment.

@@ -59,7 +59,7 @@ impl LockWaitOutcome {
 
 /// The stage of a lock's permit when a reader polls.
 #[derive(Clone, Copy, Debug, PartialEq, Eq)]
-pub enum Stage {
+pub enum PermitState {
     /// It was released, unlocked or let go.
     Over,
     /// It has been held for too long.

@@ -66,7 +66,7 @@ impl ReadLock {
         now: Moment,
     ) -> Poll<WaitOutcome>
         ensures answer { result ≡ polled now None self.old.watch (get (L.table lock.old).cores self.old.number) }
-        ensures reader { self.new ≡ reader_polled now None self.old (get (L.table lock.old).cores self.old.number) }
+        ensures read_lock { self.new ≡ reader_polled now None self.old (get (L.table lock.old).cores self.old.number) }
         ensures table { L.table lock.new ≡ after_poll (L.table lock.old) now self.old.number (get (L.table lock.old).cores self.old.number) }
     {
         match lock.poll_wait(alloc, self, None, now) {
@@ -86,10 +86,10 @@ impl ReadLock {
         now: Moment,
     ) -> Result<Poll<WaitOutcome>>
         ensures answer { IfOk result (λ p. p ≡ polled now (Some unusable.now) self.old.watch (get (L.table lock.old).cores self.old.number)) }
-        ensures reader { OnOk result (self.new ≡ reader_polled now (Some unusable.now) self.old (get (L.table lock.old).cores self.old.number)) }
+        ensures read_lock { OnOk result (self.new ≡ reader_polled now (Some unusable.now) self.old (get (L.table lock.old).cores self.old.number)) }
         ensures ok { OnOk result (L.table lock.new ≡ after_poll (L.table lock.old) now self.old.number (get (L.table lock.old).cores self.old.number)) }
         ensures err { OnErr result (L.table lock.new ≡ L.table lock.old) }
-        ensures same_reader { OnErr result (self.new ≡ self.old) }
+        ensures same_read_lock { OnErr result (self.new ≡ self.old) }
         ensures kind { IfErr result (λ e. e ≡ OutOfMemory) }
     {
         lock.poll_wait(alloc, self, Some(unusable), now)

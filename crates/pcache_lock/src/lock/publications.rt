@@ -6,7 +6,7 @@ ghost use Rattle.std.specs.Prelude.{◌≡◌, ◌<◌, ◌≤◌, ◌-◌, ◌=
 ghost use Rattle.std.specs.BTreeSet.{contains};
 ghost use Rattle.std.specs.Ordering.{nat_cmp};
 ghost use Rattle.pcache_base.specs.declared.error.ErrorType.TheVariants.{OutOfMemory};
-ghost use Rattle.pcache_lock.specs.Published.{IsFirstPlace, entry_of, stands_for};
+ghost use Rattle.pcache_lock.specs.Published.{IsFirstPosition, entry_of, is_entry_for};
 ghost use Rattle.pcache_lock.specs.Waiting.{first_told, publications_with, says_nothing};
 
 use pcache_base::error::{Error, ErrorType, Result};
@@ -38,19 +38,19 @@ impl Publication {
 }
 
 // How many positions a token can have.
-const PLACES: u128 = 0x1_0000_0000_0000_0000;
+const POSITIONS: u128 = 0x1_0000_0000_0000_0000;
 
 // The index entry of a token in the publication at this position.
 fn entry(token: u64, place: usize) -> u128
     ensures { result ≡ entry_of token place }
 {
-    u128::from(token) * PLACES + place as u128
+    u128::from(token) * POSITIONS + place as u128
 }
 
 // Adds the tokens of the publication at this position to the index.
 fn mark(index: &mut BTreeSet<u128>, place: usize, tokens: &[u64]) -> Result<()>
-    requires { (q : ℕ) → stands_for place tokens.now q ≡ true → contains nat_cmp index.old q ≡ false }
-    ensures ok { OnOk result ((q : ℕ) → contains nat_cmp index.new q ≡ (contains nat_cmp index.old q || stands_for place tokens.now q)) }
+    requires { (q : ℕ) → is_entry_for place tokens.now q ≡ true → contains nat_cmp index.old q ≡ false }
+    ensures ok { OnOk result ((q : ℕ) → contains nat_cmp index.new q ≡ (contains nat_cmp index.old q || is_entry_for place tokens.now q)) }
     ensures err { OnErr result ((q : ℕ) → contains nat_cmp index.new q ≡ contains nat_cmp index.old q) }
     ensures kind { IfErr result (λ e. e ≡ OutOfMemory) }
 {
@@ -65,7 +65,7 @@ fn mark(index: &mut BTreeSet<u128>, place: usize, tokens: &[u64]) -> Result<()>
 
 // Removes them from the index.
 fn unmark(index: &mut BTreeSet<u128>, place: usize, tokens: &[u64])
-    ensures { (q : ℕ) → contains nat_cmp index.new q ≡ (contains nat_cmp index.old q && not (stands_for place tokens.now q)) }
+    ensures { (q : ℕ) → contains nat_cmp index.new q ≡ (contains nat_cmp index.old q && not (is_entry_for place tokens.now q)) }
 {
     for token in tokens {
         index.remove(&entry(*token, place));
@@ -123,9 +123,9 @@ impl Publications {
     }
 
     // The first position of a token from one position to before another.
-    fn first_place(&self, token: u64, from: usize, before: usize) -> Option<usize>
+    fn first_position(&self, token: u64, from: usize, before: usize) -> Option<usize>
         requires { from ≤ before }
-        ensures { IsFirstPlace self.now token from before result }
+        ensures { IsFirstPosition self.now token from before result }
     {
         let first = entry(token, 0);
         let mut entries = self.index.range(entry(token, from)..entry(token, before));
@@ -146,7 +146,7 @@ impl Publications {
         }
         let mut told = None;
         for fill in fills.fills() {
-            if let Some(place) = self.first_place(fill.token, from, before) {
+            if let Some(place) = self.first_position(fill.token, from, before) {
                 before = place;
                 told = Some(*fill);
             }

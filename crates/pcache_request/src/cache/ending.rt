@@ -5,9 +5,9 @@ ghost use Rattle.pcache_base.specs.declared.error.ErrorType.TheVariants.{OutOfMe
 ghost use Rattle.pcache_base.specs.CompactKey.{compact_of};
 ghost use Rattle.pcache_evict.specs.Tracked.{evicted_with};
 ghost use Rattle.pcache_store.specs.Purge.{entry_purged};
-ghost use Rattle.pcache_store.specs.Refusals.{MayRefuseFinish};
+ghost use Rattle.pcache_store.specs.Refusals.{MayFailFinish};
 ghost use Rattle.pcache_store.specs.Store.{dropped, finished, is_untouched};
-ghost use Rattle.pcache_request.specs.Finishing.{PurgesAll, Admits, size_told, with_entry};
+ghost use Rattle.pcache_request.specs.Finishing.{PurgesAll, Admits, size_reported, with_entry};
 ghost use Rattle.pcache_request.specs.Reports.{entry_stored};
 ghost use Rattle.pcache_request.specs.Requests.{entry_of};
 ghost use Rattle.pcache_request.specs.WriteEnds.{EndsBody, HoldsNoLock, evicted_by};
@@ -31,7 +31,7 @@ pub struct EndedWrite {
 }
 
 // Purges an entry, and returns whether that failed.
-fn is_purge_refused<S: Storage>(storage: &mut S, entry: &CacheEntryKey) -> bool
+fn has_purge_failed<S: Storage>(storage: &mut S, entry: &CacheEntryKey) -> bool
     ensures refused { result ≡ true → S.state storage.new ≡ S.state storage.old }
     ensures purged { result ≡ false → S.state storage.new ≡ entry_purged S.guarantees.numbers (S.state storage.old) entry.now }
     ensures sure { S.guarantees.purges ≡ true → result ≡ false }
@@ -48,7 +48,7 @@ fn purge_all<S: Storage>(storage: &mut S, entries: &[CacheEntryKey]) -> usize
 {
     let mut failed = 0usize;
     for entry in entries {
-        if is_purge_refused(storage, entry) {
+        if has_purge_failed(storage, entry) {
             failed += 1;
         }
     }
@@ -90,7 +90,7 @@ fn admit_and_purge<S: Storage, E: EvictionManager>(
     kind: MissFinishType,
     fresh_until: Moment,
 ) -> Result<FinishReport>
-    ensures size { IfOk result (λ f. f.size ≡ size_told kind) }
+    ensures size { IfOk result (λ f. f.size ≡ size_reported kind) }
     ensures admits { IfOk result (λ f. Admits is_used (E.limits eviction.old) kind entry (E.tracked eviction.old) f.evicted.items (E.tracked eviction.new)) }
     ensures purges { IfOk result (λ f. PurgesAll S.guarantees.numbers (S.state storage.old) f.evicted.items f.failed_purges (S.state storage.new)) }
     ensures sure { IfOk result (λ f. S.guarantees.purges ≡ true → f.failed_purges ≡ 0) }
@@ -104,7 +104,7 @@ fn admit_and_purge<S: Storage, E: EvictionManager>(
     let evicted = admit(alloc, is_used, eviction, entry, kind, fresh_until)?;
     let failed_purges = purge_all(storage, evicted.as_slice());
     Ok(FinishReport {
-        size: told_size(kind),
+        size: reported_size(kind),
         evicted,
         failed_purges,
     })
@@ -136,7 +136,7 @@ fn finish_writer<S: Storage>(
     ensures ok { OnOk result (S.state storage.new ≡ finished (S.state storage.old) (S.Miss.write writer)) }
     ensures untouched { OnOk result (is_untouched (S.state storage.old) (S.Miss.write writer) ≡ true) }
     ensures err { OnErr result (S.state storage.new ≡ dropped (S.state storage.old) (S.Miss.write writer)) }
-    ensures kind { IfErr result (λ e. (e ≡ OutOfMemory) ⊎ MayRefuseFinish (S.state storage.old) (S.Miss.write writer) e) }
+    ensures kind { IfErr result (λ e. (e ≡ OutOfMemory) ⊎ MayFailFinish (S.state storage.old) (S.Miss.write writer) e) }
 {
     let (entry, compact) = match entry_and_key(key, writer.entry_id()) {
         Ok(made) => made,
@@ -149,8 +149,8 @@ fn finish_writer<S: Storage>(
     Ok((entry, compact, kind))
 }
 
-fn told_size(kind: MissFinishType) -> usize
-    ensures { result ≡ size_told kind }
+fn reported_size(kind: MissFinishType) -> usize
+    ensures { result ≡ size_reported kind }
 {
     match kind {
         MissFinishType::Created(size) => size,

@@ -60,7 +60,7 @@ fn phase_found(status: HitStatus, phase: CachePhase) -> CachePhase
 impl<S: Storage> HttpCache<S> {
     ghost use Rattle.std.specs.Prelude.{◌≡◌, ◌⊎◌, IfOk, IfErr, OnOk, OnErr, IsTrue, false};
     ghost use Rattle.pcache_base.specs.declared.error.ErrorType.TheVariants.{OutOfMemory, NumbersExhausted};
-    ghost use Rattle.pcache_lock.specs.Locks.{MayRefuseLock};
+    ghost use Rattle.pcache_lock.specs.Locks.{MayFailLock};
     ghost use Rattle.pcache_store.specs.Purge.{entry_read};
     ghost use Rattle.pcache_store.specs.Store.{left};
     ghost use Rattle.pcache_request.specs.Phases.{MayLookUp};
@@ -113,7 +113,7 @@ impl<S: Storage> HttpCache<S> {
         ensures left_store { OnErr result (S.state storage.new ≡ left (S.state storage.old) (S.Hit.reader hit)) }
         ensures same_table { OnErr result (L.table lock.new ≡ L.table lock.old) }
         ensures asks { OnErr result (IsTrue (asks_for_hit status self.old)) }
-        ensures kind { IfErr result (λ e. MayRefuseLock (L.table lock.old) e) }
+        ensures kind { IfErr result (λ e. MayFailLock (L.table lock.old) e) }
         ensures numbers { IfErr result (λ e. e ≡ NumbersExhausted → IsTrue (asks_for_hit status self.old)) }
     {
         let Some(key) = &self.key else { unreachable!() };
@@ -177,7 +177,7 @@ impl<S: Storage> HttpCache<S> {
         ensures something { OnErr result (IsTrue (counts_found status (S.Hit.reader hit) self.old) ⊎ IsTrue (asks_for_hit status self.old)) }
         ensures limits { E.limits eviction.new ≡ E.limits eviction.old }
         ensures evicted { E.evicted eviction.new ≡ E.evicted eviction.old }
-        ensures kind { IfErr result (λ e. MayRefuseLock (L.table lock.old) e) }
+        ensures kind { IfErr result (λ e. MayFailLock (L.table lock.old) e) }
         ensures numbers { IfErr result (λ e. e ≡ NumbersExhausted → IsTrue (asks_for_hit status self.old)) }
     {
         let FoundReport { access: _, asked } = self.take_found(
@@ -215,7 +215,7 @@ impl<S: Storage> HttpCache<S> {
         ensures unlocked_store { IfOk result (λ f. OnErr f.asked (S.state storage.new ≡ left (S.state storage.old) (S.Hit.reader hit))) }
         ensures unlocked_table { IfOk result (λ f. OnErr f.asked (L.table lock.new ≡ L.table lock.old)) }
         ensures unlocked_asks { IfOk result (λ f. OnErr f.asked (IsTrue (asks_for_hit status self.old))) }
-        ensures unlocked_kind { IfOk result (λ f. IfErr f.asked (λ e. MayRefuseLock (L.table lock.old) e)) }
+        ensures unlocked_kind { IfOk result (λ f. IfErr f.asked (λ e. MayFailLock (L.table lock.old) e)) }
         ensures unlocked_numbers { IfOk result (λ f. IfErr f.asked (λ e. e ≡ NumbersExhausted → IsTrue (asks_for_hit status self.old))) }
 
         ensures same_request { OnErr result (self.new ≡ self.old) }

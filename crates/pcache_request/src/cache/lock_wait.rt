@@ -5,7 +5,7 @@ ghost use Rattle.std.specs.FinMap.{get};
 ghost use Rattle.pcache_base.specs.declared.error.ErrorType.TheVariants.{OutOfMemory};
 ghost use Rattle.pcache_lock.specs.Waiting.{after_poll, polled, reader_polled, status_seen};
 ghost use Rattle.pcache_lock.specs.declared.lock.permit.Locked.TheVariants.{Read};
-ghost use Rattle.pcache_request.specs.LockWaits.{answer_by, answer_on, digest_after, finds_too_old, has_waited, held_after, is_old_answer, let_go_after, outcome_of_status, since_after, since_of, unusable_in};
+ghost use Rattle.pcache_request.specs.LockWaits.{result_by, result_on, digest_after, finds_too_old, has_waited, held_after, is_old_result, let_go_after, outcome_of_status, since_after, since_of, unusable_in};
 ghost use Rattle.pcache_request.specs.Reports.{name_of};
 
 use super::{HttpCache, LockName, WaitReport, put};
@@ -51,8 +51,8 @@ fn has_waited(timeout: Option<Duration>, before: Option<Duration>, waited: Durat
 }
 
 // How a wait goes on after what the lock table returned.
-fn answer_by(status: LockStatus, is_late: bool, polled: Poll<WaitOutcome>) -> Poll<LockWaitOutcome>
-    ensures { result ≡ answer_by status is_late polled }
+fn result_by(status: LockStatus, is_late: bool, polled: Poll<WaitOutcome>) -> Poll<LockWaitOutcome>
+    ensures { result ≡ result_by status is_late polled }
 {
     match polled {
         Poll::Ready(WaitOutcome::Released) => Poll::Ready(outcome_of(status)),
@@ -68,7 +68,7 @@ fn answer_by(status: LockStatus, is_late: bool, polled: Poll<WaitOutcome>) -> Po
 
 // Whether the permit was found too old.
 fn is_too_old(polled: Poll<WaitOutcome>) -> bool
-    ensures { result ≡ is_old_answer polled }
+    ensures { result ≡ is_old_result polled }
 {
     matches!(polled, Poll::Ready(WaitOutcome::AgeTimeout))
 }
@@ -91,13 +91,13 @@ fn poll_read<L: CacheKeyLock>(
     is_late: bool,
     now: Moment,
 ) -> Result<WaitReport>
-    ensures answer { IfOk result (λ w. w.answer ≡ answer_by (status_seen now (get (L.table lock.old).cores read.old.number)) is_late (polled now (option_copied fills.entry) read.old.watch (get (L.table lock.old).cores read.old.number))) }
+    ensures answer { IfOk result (λ w. w.answer ≡ result_by (status_seen now (get (L.table lock.old).cores read.old.number)) is_late (polled now (option_copied fills.entry) read.old.watch (get (L.table lock.old).cores read.old.number))) }
     ensures lock { IfOk result (λ w. w.lock ≡ name_of (Read read.old)) }
-    ensures too_old { IfOk result (λ w. w.is_too_old ≡ is_old_answer (polled now (option_copied fills.entry) read.old.watch (get (L.table lock.old).cores read.old.number))) }
-    ensures reader { OnOk result (read.new ≡ reader_polled now (option_copied fills.entry) read.old (get (L.table lock.old).cores read.old.number)) }
+    ensures too_old { IfOk result (λ w. w.is_too_old ≡ is_old_result (polled now (option_copied fills.entry) read.old.watch (get (L.table lock.old).cores read.old.number))) }
+    ensures read_lock { OnOk result (read.new ≡ reader_polled now (option_copied fills.entry) read.old (get (L.table lock.old).cores read.old.number)) }
     ensures number { read.new.number ≡ read.old.number }
     ensures table { OnOk result (L.table lock.new ≡ after_poll (L.table lock.old) now read.old.number (get (L.table lock.old).cores read.old.number)) }
-    ensures same_reader { OnErr result (read.new ≡ read.old) }
+    ensures same_read_lock { OnErr result (read.new ≡ read.old) }
     ensures same_table { OnErr result (L.table lock.new ≡ L.table lock.old) }
     ensures kind { IfErr result (λ e. e ≡ OutOfMemory) }
     ensures later { IsSome read.old.watch → IsOk result }
@@ -110,7 +110,7 @@ fn poll_read<L: CacheKeyLock>(
     let status = lock.lock_status(read, now);
     let polled = lock.poll_wait(alloc, read, fills, now)?;
     Ok(WaitReport {
-        answer: answer_by(status, is_late, polled),
+        answer: result_by(status, is_late, polled),
         lock: name,
         is_too_old: is_too_old(polled),
     })
@@ -178,13 +178,13 @@ fn wait_on<L: CacheKeyLock>(
     now: Moment,
 ) -> Result<WaitReport>
     requires { held.old ≡ None }
-    ensures answer { IfOk result (λ w. w.answer ≡ answer_on (L.table lock.old) now read (option_copied fills.entry) (option_map as_nanos timeout) digest.old.waits waits_since.old) }
+    ensures answer { IfOk result (λ w. w.answer ≡ result_on (L.table lock.old) now read (option_copied fills.entry) (option_map as_nanos timeout) digest.old.waits waits_since.old) }
     ensures lock { IfOk result (λ w. w.lock ≡ name_of (Read read)) }
     ensures too_old { IfOk result (λ w. w.is_too_old ≡ finds_too_old (L.table lock.old) now read (option_copied fills.entry)) }
     ensures held { IfOk result (λ w. held.new ≡ held_after w.answer (reader_polled now (option_copied fills.entry) read (get (L.table lock.old).cores read.number))) }
     ensures since { IfOk result (λ w. waits_since.new ≡ since_after w.answer (since_of now read.watch waits_since.old) waits_since.old) }
     ensures digest { IfOk result (λ w. digest.new ≡ digest_after w.answer (now - since_of now read.watch waits_since.old) digest.old) }
-    ensures table { OnOk result (L.table lock.new ≡ let_go_after (answer_on (L.table lock.old) now read (option_copied fills.entry) (option_map as_nanos timeout) digest.old.waits waits_since.old) read.number (after_poll (L.table lock.old) now read.number (get (L.table lock.old).cores read.number))) }
+    ensures table { OnOk result (L.table lock.new ≡ let_go_after (result_on (L.table lock.old) now read (option_copied fills.entry) (option_map as_nanos timeout) digest.old.waits waits_since.old) read.number (after_poll (L.table lock.old) now read.number (get (L.table lock.old).cores read.number))) }
     ensures same_held { OnErr result (held.new ≡ Some (Read read)) }
     ensures same_since { OnErr result (waits_since.new ≡ waits_since.old) }
     ensures same_digest { OnErr result (digest.new ≡ digest.old) }
@@ -216,7 +216,7 @@ impl<S: Storage> HttpCache<S> {
     ghost use Rattle.pcache_base.specs.declared.error.ErrorType.TheVariants.{OutOfMemory};
     ghost use Rattle.pcache_lock.specs.declared.lock.permit.Locked.TheVariants.{Read};
     ghost use Rattle.pcache_request.specs.LockUse.{read_in};
-    ghost use Rattle.pcache_request.specs.LockWaits.{table_waited, too_old_for, unusable_in, wait_answer, waited};
+    ghost use Rattle.pcache_request.specs.LockWaits.{table_waited, too_old_for, unusable_in, wait_result, waited};
     ghost use Rattle.pcache_request.specs.Reports.{name_of};
 
     /// The fills that the request cannot use, for which it does not wait.
@@ -241,7 +241,7 @@ impl<S: Storage> HttpCache<S> {
         now: Moment,
     ) -> Result<Poll<LockWaitOutcome>>
         requires { IsSome (read_in self.old.held) }
-        ensures answer { IfOk result (λ p. p ≡ wait_answer (L.table lock.old) now self.old.held self.old) }
+        ensures answer { IfOk result (λ p. p ≡ wait_result (L.table lock.old) now self.old.held self.old) }
         ensures request { OnOk result (self.new ≡ waited (L.table lock.old) now self.old.held self.old) }
         ensures table { OnOk result (L.table lock.new ≡ table_waited (L.table lock.old) now self.old.held self.old) }
         ensures same_request { OnErr result (self.new ≡ self.old) }
@@ -258,7 +258,7 @@ impl<S: Storage> HttpCache<S> {
     /// Requires a read lock; ask `is_cache_locked()`.
     pub fn wait<L: CacheKeyLock>(&mut self, lock: &mut L, now: Moment) -> Result<WaitReport>
         requires { IsSome (read_in self.old.held) }
-        ensures answer { IfOk result (λ w. w.answer ≡ wait_answer (L.table lock.old) now self.old.held self.old) }
+        ensures answer { IfOk result (λ w. w.answer ≡ wait_result (L.table lock.old) now self.old.held self.old) }
         ensures lock { IfOk result (λ w. Some w.lock ≡ option_map name_of self.old.held) }
         ensures too_old { IfOk result (λ w. w.is_too_old ≡ too_old_for (L.table lock.old) now self.old.held (unusable_in self.old.key)) }
         ensures request { OnOk result (self.new ≡ waited (L.table lock.old) now self.old.held self.old) }

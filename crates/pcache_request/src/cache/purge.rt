@@ -3,7 +3,7 @@ ghost use Rattle.std.specs.Prelude.{◌≡◌, IfErr, IfOk, OnErr, OnOk, Some};
 ghost use Rattle.pcache_base.specs.CompactKey.{compact_of};
 ghost use Rattle.pcache_base.specs.Key.{slot};
 ghost use Rattle.pcache_base.specs.declared.error.ErrorType.TheVariants.{OutOfMemory};
-ghost use Rattle.pcache_store.specs.Purge.{purge_answer, purged_at};
+ghost use Rattle.pcache_store.specs.Purge.{purge_outcome, purged_at};
 ghost use Rattle.pcache_request.specs.Reports.{untracked};
 ghost use Rattle.pcache_request.specs.Requests.{tracked_gone};
 
@@ -47,10 +47,10 @@ fn remove_key<S: Storage, E: EvictionManager>(
     is_used: bool,
     key: &CacheKey,
 ) -> Result<Removal>
-    ensures outcome { IfOk result (λ r. r.outcome ≡ purge_answer S.guarantees.numbers (S.state storage.old) (Some (slot key.now))) }
+    ensures outcome { IfOk result (λ r. r.outcome ≡ purge_outcome S.guarantees.numbers (S.state storage.old) (Some (slot key.now))) }
     ensures untracked { IfOk result (λ r. r.untracked ≡ untracked is_used (compact_of key.now) r.outcome) }
     ensures store { OnOk result (S.state storage.new ≡ purged_at (S.state storage.old) (Some (slot key.now))) }
-    ensures tracked { OnOk result (E.tracked eviction.new ≡ tracked_gone is_used (compact_of key.now) (purge_answer S.guarantees.numbers (S.state storage.old) (Some (slot key.now))) (E.tracked eviction.old)) }
+    ensures tracked { OnOk result (E.tracked eviction.new ≡ tracked_gone is_used (compact_of key.now) (purge_outcome S.guarantees.numbers (S.state storage.old) (Some (slot key.now))) (E.tracked eviction.old)) }
     ensures same_store { OnErr result (S.state storage.new ≡ S.state storage.old) }
     ensures same_tracked { OnErr result (E.tracked eviction.new ≡ E.tracked eviction.old) }
     ensures limits { E.limits eviction.new ≡ E.limits eviction.old }
@@ -67,7 +67,7 @@ impl<S: Storage> HttpCache<S> {
     ghost use Rattle.std.specs.Prelude.{◌≡◌, IfOk, IfErr, OnOk, OnErr, option_map};
     ghost use Rattle.pcache_base.specs.Key.{slot};
     ghost use Rattle.pcache_base.specs.declared.error.ErrorType.TheVariants.{OutOfMemory};
-    ghost use Rattle.pcache_store.specs.Purge.{purge_answer, purged_at, expire_answer, expired_at};
+    ghost use Rattle.pcache_store.specs.Purge.{purge_outcome, purged_at, expire_outcome, expired_at};
     ghost use Rattle.pcache_request.specs.Phases.{MayPurge, MaySpawnPurge};
     ghost use Rattle.pcache_request.specs.Reports.{untracked_for};
     ghost use Rattle.pcache_request.specs.Requests.{tracked_gone_for, is_removed_by};
@@ -78,9 +78,9 @@ impl<S: Storage> HttpCache<S> {
     pub fn purge<E: EvictionManager>(&mut self, storage: &mut S, eviction: &mut E) -> Result<bool>
         requires { MayPurge self.old.phase }
         ensures same { self.new ≡ self.old }
-        ensures there { IfOk result (λ there. there ≡ is_removed_by (purge_answer S.guarantees.numbers (S.state storage.old) (option_map slot self.old.key))) }
+        ensures there { IfOk result (λ there. there ≡ is_removed_by (purge_outcome S.guarantees.numbers (S.state storage.old) (option_map slot self.old.key))) }
         ensures store { OnOk result (S.state storage.new ≡ purged_at (S.state storage.old) (option_map slot self.old.key)) }
-        ensures tracked { OnOk result (E.tracked eviction.new ≡ tracked_gone_for self.old.uses.eviction self.old.key (purge_answer S.guarantees.numbers (S.state storage.old) (option_map slot self.old.key)) (E.tracked eviction.old)) }
+        ensures tracked { OnOk result (E.tracked eviction.new ≡ tracked_gone_for self.old.uses.eviction self.old.key (purge_outcome S.guarantees.numbers (S.state storage.old) (option_map slot self.old.key)) (E.tracked eviction.old)) }
         ensures same_store { OnErr result (S.state storage.new ≡ S.state storage.old) }
         ensures same_tracked { OnErr result (E.tracked eviction.new ≡ E.tracked eviction.old) }
         ensures limits { E.limits eviction.new ≡ E.limits eviction.old }
@@ -100,10 +100,10 @@ impl<S: Storage> HttpCache<S> {
     ) -> Result<Removal>
         requires { MayPurge self.old.phase }
         ensures same { self.new ≡ self.old }
-        ensures outcome { IfOk result (λ r. r.outcome ≡ purge_answer S.guarantees.numbers (S.state storage.old) (option_map slot self.old.key)) }
+        ensures outcome { IfOk result (λ r. r.outcome ≡ purge_outcome S.guarantees.numbers (S.state storage.old) (option_map slot self.old.key)) }
         ensures untracked { IfOk result (λ r. r.untracked ≡ untracked_for self.old.uses.eviction self.old.key r.outcome) }
         ensures store { OnOk result (S.state storage.new ≡ purged_at (S.state storage.old) (option_map slot self.old.key)) }
-        ensures tracked { OnOk result (E.tracked eviction.new ≡ tracked_gone_for self.old.uses.eviction self.old.key (purge_answer S.guarantees.numbers (S.state storage.old) (option_map slot self.old.key)) (E.tracked eviction.old)) }
+        ensures tracked { OnOk result (E.tracked eviction.new ≡ tracked_gone_for self.old.uses.eviction self.old.key (purge_outcome S.guarantees.numbers (S.state storage.old) (option_map slot self.old.key)) (E.tracked eviction.old)) }
         ensures same_store { OnErr result (S.state storage.new ≡ S.state storage.old) }
         ensures same_tracked { OnErr result (E.tracked eviction.new ≡ E.tracked eviction.old) }
         ensures limits { E.limits eviction.new ≡ E.limits eviction.old }
@@ -125,9 +125,9 @@ impl<S: Storage> HttpCache<S> {
     ) -> Result<bool>
         requires { MaySpawnPurge self.old.phase }
         ensures same { self.new ≡ self.old }
-        ensures there { IfOk result (λ there. there ≡ is_removed_by (purge_answer S.guarantees.numbers (S.state storage.old) (option_map slot self.old.key))) }
+        ensures there { IfOk result (λ there. there ≡ is_removed_by (purge_outcome S.guarantees.numbers (S.state storage.old) (option_map slot self.old.key))) }
         ensures store { OnOk result (S.state storage.new ≡ purged_at (S.state storage.old) (option_map slot self.old.key)) }
-        ensures tracked { OnOk result (E.tracked eviction.new ≡ tracked_gone_for self.old.uses.eviction self.old.key (purge_answer S.guarantees.numbers (S.state storage.old) (option_map slot self.old.key)) (E.tracked eviction.old)) }
+        ensures tracked { OnOk result (E.tracked eviction.new ≡ tracked_gone_for self.old.uses.eviction self.old.key (purge_outcome S.guarantees.numbers (S.state storage.old) (option_map slot self.old.key)) (E.tracked eviction.old)) }
         ensures same_store { OnErr result (S.state storage.new ≡ S.state storage.old) }
         ensures same_tracked { OnErr result (E.tracked eviction.new ≡ E.tracked eviction.old) }
         ensures limits { E.limits eviction.new ≡ E.limits eviction.old }
@@ -147,10 +147,10 @@ impl<S: Storage> HttpCache<S> {
     ) -> Result<Removal>
         requires { MaySpawnPurge self.old.phase }
         ensures same { self.new ≡ self.old }
-        ensures outcome { IfOk result (λ r. r.outcome ≡ purge_answer S.guarantees.numbers (S.state storage.old) (option_map slot self.old.key)) }
+        ensures outcome { IfOk result (λ r. r.outcome ≡ purge_outcome S.guarantees.numbers (S.state storage.old) (option_map slot self.old.key)) }
         ensures untracked { IfOk result (λ r. r.untracked ≡ untracked_for self.old.uses.eviction self.old.key r.outcome) }
         ensures store { OnOk result (S.state storage.new ≡ purged_at (S.state storage.old) (option_map slot self.old.key)) }
-        ensures tracked { OnOk result (E.tracked eviction.new ≡ tracked_gone_for self.old.uses.eviction self.old.key (purge_answer S.guarantees.numbers (S.state storage.old) (option_map slot self.old.key)) (E.tracked eviction.old)) }
+        ensures tracked { OnOk result (E.tracked eviction.new ≡ tracked_gone_for self.old.uses.eviction self.old.key (purge_outcome S.guarantees.numbers (S.state storage.old) (option_map slot self.old.key)) (E.tracked eviction.old)) }
         ensures same_store { OnErr result (S.state storage.new ≡ S.state storage.old) }
         ensures same_tracked { OnErr result (E.tracked eviction.new ≡ E.tracked eviction.old) }
         ensures limits { E.limits eviction.new ≡ E.limits eviction.old }
@@ -171,9 +171,9 @@ impl<S: Storage> HttpCache<S> {
     ) -> Result<bool>
         requires { MayPurge self.old.phase }
         ensures same { self.new ≡ self.old }
-        ensures there { IfOk result (λ there. there ≡ is_removed_by (expire_answer (S.state storage.old) (option_map slot self.old.key))) }
+        ensures there { IfOk result (λ there. there ≡ is_removed_by (expire_outcome (S.state storage.old) (option_map slot self.old.key))) }
         ensures store { OnOk result (S.state storage.new ≡ expired_at now (S.state storage.old) (option_map slot self.old.key)) }
-        ensures tracked { OnOk result (E.tracked eviction.new ≡ tracked_gone_for self.old.uses.eviction self.old.key (expire_answer (S.state storage.old) (option_map slot self.old.key)) (E.tracked eviction.old)) }
+        ensures tracked { OnOk result (E.tracked eviction.new ≡ tracked_gone_for self.old.uses.eviction self.old.key (expire_outcome (S.state storage.old) (option_map slot self.old.key)) (E.tracked eviction.old)) }
         ensures same_store { OnErr result (S.state storage.new ≡ S.state storage.old) }
         ensures same_tracked { OnErr result (E.tracked eviction.new ≡ E.tracked eviction.old) }
         ensures limits { E.limits eviction.new ≡ E.limits eviction.old }
@@ -194,10 +194,10 @@ impl<S: Storage> HttpCache<S> {
     ) -> Result<Removal>
         requires { MayPurge self.old.phase }
         ensures same { self.new ≡ self.old }
-        ensures outcome { IfOk result (λ r. r.outcome ≡ expire_answer (S.state storage.old) (option_map slot self.old.key)) }
+        ensures outcome { IfOk result (λ r. r.outcome ≡ expire_outcome (S.state storage.old) (option_map slot self.old.key)) }
         ensures untracked { IfOk result (λ r. r.untracked ≡ untracked_for self.old.uses.eviction self.old.key r.outcome) }
         ensures store { OnOk result (S.state storage.new ≡ expired_at now (S.state storage.old) (option_map slot self.old.key)) }
-        ensures tracked { OnOk result (E.tracked eviction.new ≡ tracked_gone_for self.old.uses.eviction self.old.key (expire_answer (S.state storage.old) (option_map slot self.old.key)) (E.tracked eviction.old)) }
+        ensures tracked { OnOk result (E.tracked eviction.new ≡ tracked_gone_for self.old.uses.eviction self.old.key (expire_outcome (S.state storage.old) (option_map slot self.old.key)) (E.tracked eviction.old)) }
         ensures same_store { OnErr result (S.state storage.new ≡ S.state storage.old) }
         ensures same_tracked { OnErr result (E.tracked eviction.new ≡ E.tracked eviction.old) }
         ensures limits { E.limits eviction.new ≡ E.limits eviction.old }

@@ -99,7 +99,7 @@ pub struct WriteBegin {
     /// The lock that was released.
     pub released: Option<LockName>,
     /// Whether the reader follows the write, in a storage where it can, or why not.
-    pub joined: Result<(), Error>,
+    pub following: Result<(), Error>,
 }
 
 /// What a revalidation did.

@@ -14,7 +14,7 @@ use pcache_store::storage::{HandleHit, Storage};
 impl<S: Storage> HttpCache<S> {
     ghost use Rattle.std.specs.Prelude.{◌≡◌, ◌⊎◌, IfOk, IfErr, OnOk, OnErr, IsTrue, IsSome, Some, None, false, option_map, cond};
     ghost use Rattle.pcache_base.specs.declared.error.ErrorType.TheVariants.{OutOfMemory, NumbersExhausted};
-    ghost use Rattle.pcache_lock.specs.Locks.{MayRefuseLock};
+    ghost use Rattle.pcache_lock.specs.Locks.{MayFailLock};
     ghost use Rattle.pcache_store.specs.Store.{followed, left};
     ghost use Rattle.pcache_request.specs.Admissions.{Decides, asks_any, asks_policy, decision_of_any, decision_taken, looked_with, store_looked_with, table_looked_with, with_decision};
     ghost use Rattle.pcache_request.specs.LookUps.{OnLooked, OnUnlocked, Tells, handed_on};
@@ -62,7 +62,7 @@ impl<S: Storage> HttpCache<S> {
         ensures table { OnOk result (L.table lock.new ≡ table_key_locked now self.old (L.table lock.old)) }
         ensures same_request { OnErr result (self.new ≡ self.old) }
         ensures same_table { OnErr result (L.table lock.new ≡ L.table lock.old) }
-        ensures kind { IfErr result (λ e. MayRefuseLock (L.table lock.old) e) }
+        ensures kind { IfErr result (λ e. MayFailLock (L.table lock.old) e) }
         ensures used { OnErr result (IsTrue self.old.uses.lock) }
         ensures digest { self.new.digest ≡ self.old.digest }
     {
@@ -80,7 +80,7 @@ impl<S: Storage> HttpCache<S> {
 
     // What the store has for the key. The witness was shown the pair; if the witness fails, the pair
     // is let go.
-    fn find_told<W: Witness<S>>(
+    fn find_shown<W: Witness<S>>(
         &self,
         storage: &mut S,
         witness: &mut W,
@@ -132,7 +132,7 @@ impl<S: Storage> HttpCache<S> {
         ensures something { OnErr result (IsSome (found_for (S.state storage.old) self.old.key)) }
         ensures refused { IfErr result (λ e. ((e ≡ OutOfMemory) × (S.state storage.new ≡ S.state storage.old)) ⊎ (W.may_refuse e × (S.state storage.new ≡ passed_over (S.state storage.old) self.old.key))) }
     {
-        let Some((meta, hit)) = self.find_told(storage, witness)? else {
+        let Some((meta, hit)) = self.find_shown(storage, witness)? else {
             if let Some(Decision::Defer { .. }) = self.decide(policy, has_policy) {
                 return Ok(LookUp::Deferred(self.defer(storage, lock)));
             }
@@ -165,7 +165,7 @@ impl<S: Storage> HttpCache<S> {
         ensures left_store { OnErr result ((S.state storage.new ≡ S.state storage.old) ⊎ (S.state storage.new ≡ searched (S.state storage.old) self.old)) }
         ensures same_store { OnErr result (hides_for (S.state storage.old) self.old ≡ false → S.state storage.new ≡ S.state storage.old) }
         ensures same_table { OnErr result (L.table lock.new ≡ L.table lock.old) }
-        ensures kind { IfErr result (λ e. MayRefuseLock (L.table lock.old) e) }
+        ensures kind { IfErr result (λ e. MayFailLock (L.table lock.old) e) }
         ensures numbers { IfErr result (λ e. e ≡ NumbersExhausted → IsTrue (asks_unseen (S.state storage.old) self.old)) }
         ensures something { OnErr result (IsSome (found_for (S.state storage.old) self.old.key) ⊎ IsTrue self.old.uses.lock) }
     {
@@ -202,7 +202,7 @@ impl<S: Storage> HttpCache<S> {
         ensures left_store { OnErr result ((S.state storage.new ≡ S.state storage.old) ⊎ (S.state storage.new ≡ searched (S.state storage.old) self.old)) }
         ensures same_store { OnErr result (hides_for (S.state storage.old) self.old ≡ false → S.state storage.new ≡ S.state storage.old) }
         ensures same_table { OnErr result (L.table lock.new ≡ L.table lock.old) }
-        ensures kind { IfErr result (λ e. MayRefuseLock (L.table lock.old) e) }
+        ensures kind { IfErr result (λ e. MayFailLock (L.table lock.old) e) }
         ensures numbers { IfErr result (λ e. e ≡ NumbersExhausted → IsTrue (asks_unseen (S.state storage.old) self.old)) }
         ensures something { OnErr result (IsSome (found_for (S.state storage.old) self.old.key) ⊎ IsTrue self.old.uses.lock) }
     {

@@ -115,7 +115,7 @@ impl Draft {
 
     // Counts one more reader, and returns the meta, read back. The number of readers of one write, each of
     // which is kept somewhere, never reaches 2^64; before that memory would run out.
-    pub(crate) fn join(&mut self, alloc: Global) -> Result<CacheMeta>
+    pub(crate) fn follow(&mut self, alloc: Global) -> Result<CacheMeta>
         ensures meta { IfOk result (λ m. m ≡ self.old.meta) }
         ensures ok { OnOk result (self.new ≡ record self.old { readers = self.old.readers + 1 }) }
         ensures kind { IfErr result (λ e. e ≡ OutOfMemory) }

@@ -3,8 +3,8 @@ ghost use Rattle.std.specs.Prelude.{◌≡◌, ◌<◌, ◌++◌, ◌^◌, ℕ, 
 ghost use Rattle.std.specs.FinMap as map;
 ghost use Rattle.pcache_base.specs.declared.error.ErrorType.TheVariants.{OutOfMemory};
 ghost use Rattle.pcache_store.specs.Drafts.{IsBodyOf};
-ghost use Rattle.pcache_store.specs.Shards.{held, of_shard, table_at, IsPlaceOf};
-ghost use Rattle.pcache_store.specs.Store.{Written, joined_on, left_on, wrote_on, grounded_on};
+ghost use Rattle.pcache_store.specs.Shards.{one_if_some, of_shard, table_at, IsPlaceOf};
+ghost use Rattle.pcache_store.specs.Store.{Written, followed_on, left_on, wrote_on, grounded_on};
 
 use crate::memory::body::Body;
 use crate::memory::draft::Draft;
@@ -37,7 +37,7 @@ impl Model for DraftTable {
     ghost use Rattle.std.specs.FinMap as map;
     ghost use Rattle.std.specs.Ordering.{nat_cmp};
     ghost use Rattle.std.specs.Coded.{coded_ℕ};
-    ghost use Rattle.pcache_table.specs.Sharding.{joined};
+    ghost use Rattle.pcache_table.specs.Sharding.{one_map};
     ghost use Rattle.pcache_store.specs.Store.{Written};
     ghost use Rattle.pcache_store.specs.StoreCode.{written_code};
     ghost use Rattle.pcache_store.specs.Shards.{parts, AreRecords};
@@ -46,7 +46,7 @@ impl Model for DraftTable {
 
     ghost coded = { map.code coded_ℕ written_code };
 
-    ghost view = { λ a. joined (parts 0 a.shards) };
+    ghost view = { λ a. one_map (parts 0 a.shards) };
 
     ghost invariant = { λ a. AreRecords a.shards a.count };
 }
@@ -136,21 +136,21 @@ impl DraftTable {
     }
 
     // Counts one more reader of a write, and returns its meta.
-    pub(crate) fn join(
+    pub(crate) fn follow(
         &mut self,
         alloc: Global,
         slot: u128,
         number: u128,
     ) -> Result<Option<CacheMeta>>
         ensures meta { IfOk result (λ m. m ≡ option_map (λ w. w.meta) (map.get self.old number)) }
-        ensures ok { OnOk result (self.new ≡ joined_on self.old number (map.get self.old number)) }
+        ensures ok { OnOk result (self.new ≡ followed_on self.old number (map.get self.old number)) }
         ensures something { OnErr result (IsSome (map.get self.old number)) }
         ensures kind { IfErr result (λ e. e ≡ OutOfMemory) }
         ensures err { OnErr result (self.new ≡ self.old) }
     {
         let place = place_of(&self.shards, slot, number);
         let table = &mut self.shards[place];
-        join_in(table, alloc, number)
+        follow_in(table, alloc, number)
     }
 
     // Counts one reader less.
@@ -236,13 +236,13 @@ fn write_in(
     draft.write(alloc, bytes, eof)
 }
 
-fn join_in(
+fn follow_in(
     writes: &mut HashedTable<Draft>,
     alloc: Global,
     number: u128,
 ) -> Result<Option<CacheMeta>>
     ensures meta { IfOk result (λ m. m ≡ option_map (λ w. w.meta) (map.get writes.old number)) }
-    ensures ok { OnOk result (writes.new ≡ joined_on writes.old number (map.get writes.old number)) }
+    ensures ok { OnOk result (writes.new ≡ followed_on writes.old number (map.get writes.old number)) }
     ensures something { OnErr result (IsSome (map.get writes.old number)) }
     ensures kind { IfErr result (λ e. e ≡ OutOfMemory) }
     ensures err { OnErr result (writes.new ≡ writes.old) }
@@ -250,7 +250,7 @@ fn join_in(
     let Some(draft) = writes.get_mut(number) else {
         return Ok(None);
     };
-    match draft.join(alloc) {
+    match draft.follow(alloc) {
         Ok(meta) => Ok(Some(meta)),
         Err(refused) => Err(refused),
     }
@@ -259,7 +259,7 @@ fn join_in(
 // Returns how many records were removed.
 fn leave_in(writes: &mut HashedTable<Draft>, number: u128) -> usize
     ensures after { writes.new ≡ left_on writes.old number (map.get writes.old number) }
-    ensures gone { held (map.get writes.new number) + result ≡ held (map.get writes.old number) }
+    ensures gone { one_if_some (map.get writes.new number) + result ≡ one_if_some (map.get writes.old number) }
 {
     let Some(draft) = writes.get_mut(number) else {
         return 0;
@@ -275,7 +275,7 @@ fn leave_in(writes: &mut HashedTable<Draft>, number: u128) -> usize
 // Returns how many records were removed.
 fn land_in(writes: &mut HashedTable<Draft>, number: u128) -> usize
     ensures after { writes.new ≡ grounded_on writes.old number (map.get writes.old number) }
-    ensures gone { held (map.get writes.new number) + result ≡ held (map.get writes.old number) }
+    ensures gone { one_if_some (map.get writes.new number) + result ≡ one_if_some (map.get writes.old number) }
 {
     let Some(draft) = writes.get_mut(number) else {
         return 0;
@@ -294,7 +294,7 @@ fn end_in(writes: &mut HashedTable<Draft>, alloc: Global, number: u128) -> (Resu
     requires { IsSome (map.get writes.old number) }
     ensures body { IfOk result.0 (λ b. IsBodyOf (map.get writes.old number) b) }
     ensures after { writes.new ≡ grounded_on writes.old number (map.get writes.old number) }
-    ensures gone { held (map.get writes.new number) + result.1 ≡ held (map.get writes.old number) }
+    ensures gone { one_if_some (map.get writes.new number) + result.1 ≡ one_if_some (map.get writes.old number) }
     ensures kind { IfErr result.0 (λ e. e ≡ OutOfMemory) }
 {
     let Some(draft) = writes.get_mut(number) else {

@@ -4,7 +4,7 @@ ghost use Rattle.std.specs.FinMap as map;
 ghost use Rattle.pcache_base.specs.declared.error.ErrorType.TheVariants.{OutOfMemory};
 ghost use Rattle.pcache_store.specs.Drafts.{IsBodyOf};
 ghost use Rattle.pcache_store.specs.Shards.{of_shard};
-ghost use Rattle.pcache_store.specs.Store.{joined_on, left_on, wrote_on, grounded_on};
+ghost use Rattle.pcache_store.specs.Store.{followed_on, left_on, wrote_on, grounded_on};
 
 use crate::memory::body::Body;
 use crate::memory::draft::Draft;
@@ -118,7 +118,7 @@ impl Drafts {
     }
 
     // Counts one more reader of a write, and returns its meta.
-    pub(crate) fn join(
+    pub(crate) fn follow(
         &mut self,
         alloc: Global,
         slot: u128,
@@ -126,12 +126,12 @@ impl Drafts {
     ) -> Result<Option<CacheMeta>>
         ensures meta { IfOk result (λ m. m ≡ option_map (λ w. w.meta) (map.get self.old.writes number)) }
         ensures small { IfOk result (λ m. IfSome m (λ _. number < 2 ^ 64)) }
-        ensures ok { OnOk result (self.new ≡ record self.old { writes = joined_on self.old.writes number (map.get self.old.writes number) }) }
+        ensures ok { OnOk result (self.new ≡ record self.old { writes = followed_on self.old.writes number (map.get self.old.writes number) }) }
         ensures something { OnErr result (IsSome (map.get self.old.writes number)) }
         ensures kind { IfErr result (λ e. e ≡ OutOfMemory) }
         ensures err { OnErr result (self.new ≡ self.old) }
     {
-        self.writes.join(alloc, slot, number)
+        self.writes.follow(alloc, slot, number)
     }
 
     // Counts one reader less.

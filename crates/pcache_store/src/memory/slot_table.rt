@@ -4,7 +4,7 @@ ghost use Rattle.std.specs.FinMap as map;
 ghost use Rattle.pcache_meta.specs.Meta as meta_of;
 ghost use Rattle.pcache_base.specs.declared.error.ErrorType.TheVariants.{OutOfMemory};
 ghost use Rattle.pcache_table.specs.Sharding.{part_of};
-ghost use Rattle.pcache_store.specs.Shards.{held};
+ghost use Rattle.pcache_store.specs.Shards.{one_if_some};
 ghost use Rattle.pcache_store.specs.Store.{opened, shut_on, stored_on, complete_body, meta_changed_on, has_write, body_with, write_gone_on};
 
 use crate::memory::body::{Body, KeySlot};
@@ -34,7 +34,7 @@ impl Model for SlotTable {
     ghost use Rattle.std.specs.FinMap as map;
     ghost use Rattle.std.specs.Ordering.{nat_cmp};
     ghost use Rattle.std.specs.Coded.{coded_ℕ};
-    ghost use Rattle.pcache_table.specs.Sharding.{joined};
+    ghost use Rattle.pcache_table.specs.Sharding.{one_map};
     ghost use Rattle.pcache_store.specs.Store.{Slot};
     ghost use Rattle.pcache_store.specs.StoreCode.{slot_code};
     ghost use Rattle.pcache_store.specs.Shards.{parts, AreShards};
@@ -43,7 +43,7 @@ impl Model for SlotTable {
 
     ghost coded = { map.code coded_ℕ slot_code };
 
-    ghost view = { λ a. joined (parts 0 a.shards) };
+    ghost view = { λ a. one_map (parts 0 a.shards) };
 
     ghost invariant = { λ a. AreShards a.shards a.count };
 }
@@ -193,7 +193,7 @@ pub(crate) fn one_if(is_so: bool) -> usize
 // Returns how many keys were added, which is one or zero.
 fn open_in(slots: &mut HashedTable<KeySlot>, alloc: Global, key: u128, number: u64) -> Result<usize>
     ensures ok { OnOk result (slots.new ≡ opened slots.old key number) }
-    ensures more { IfOk result (λ n. held (map.get slots.old key) + n ≡ 1) }
+    ensures more { IfOk result (λ n. one_if_some (map.get slots.old key) + n ≡ 1) }
     ensures kind { IfErr result (λ e. e ≡ OutOfMemory) }
     ensures err { OnErr result (slots.new ≡ slots.old) }
 {
@@ -210,7 +210,7 @@ fn open_in(slots: &mut HashedTable<KeySlot>, alloc: Global, key: u128, number: u
 // Returns how many keys were removed.
 fn shut_in(slots: &mut HashedTable<KeySlot>, key: u128, number: u128) -> usize
     ensures after { slots.new ≡ shut_on slots.old key number (map.get slots.old key) }
-    ensures gone { held (map.get slots.new key) + result ≡ held (map.get slots.old key) }
+    ensures gone { one_if_some (map.get slots.new key) + result ≡ one_if_some (map.get slots.old key) }
 {
     let Some(slot) = slots.get_mut(key) else {
         return 0;
@@ -245,7 +245,7 @@ fn remove_write_in(
     ensures there { result.0 ≡ has_write id (map.get slots.old key) }
     ensures body { result.1 ≡ body_with id (complete_body (map.get slots.old key)) }
     ensures after { slots.new ≡ write_gone_on slots.old key id (map.get slots.old key) }
-    ensures gone { held (map.get slots.new key) + result.2 ≡ held (map.get slots.old key) }
+    ensures gone { one_if_some (map.get slots.new key) + result.2 ≡ one_if_some (map.get slots.old key) }
 {
     let Some(slot) = slots.get_mut(key) else {
         return (false, None, 0);

@@ -2,7 +2,7 @@
 ghost use Rattle.std.specs.Prelude.{◌≡◌, ◌≤◌, ◌⊎◌, ◌++◌, ◌+◌, [], cond, IfSome, IsSome, IsTrue, ◌↔◌, Some, None, ℕ, vec_len};
 ghost use Rattle.std.specs.Vec.{vec_capacity};
 ghost use Rattle.pingora_cache.specs.Handing.{HandsOver, IsHandedTo, IsTaken, open_at, table_given};
-ghost use Rattle.pcache_history.specs.Held.{permit_held, handed_by};
+ghost use Rattle.pcache_history.specs.Ongoing.{permit_held, handed_by};
 ghost use Rattle.pcache_history.specs.Rules.{MayTake, each, given_up};
 ghost use Rattle.pingora_cache.specs.Step.{IsRequestIn};
 ghost use Rattle.pcache_history.specs.declared.entry.Event.TheVariants.{LetGo};

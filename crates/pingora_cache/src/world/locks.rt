@@ -9,10 +9,10 @@ ghost use Rattle.pcache_predict.specs.declared.admission.Decision.{Decision};
 ghost use Rattle.pcache_request.specs.LockUse.{read_in};
 ghost use Rattle.pcache_request.specs.Releasing.{status_for};
 ghost use Rattle.pcache_history.specs.Deeds.{deeds_by, deeds_in};
-ghost use Rattle.pcache_history.specs.Held.{outcome, row, waited_by};
+ghost use Rattle.pcache_history.specs.Ongoing.{kind_of_reply, row, waited_by};
 ghost use Rattle.pingora_cache.specs.LockMoves.{MovesLocks};
 ghost use Rattle.pingora_cache.specs.Moved.{MovesRequest, MovesStore};
-ghost use Rattle.pcache_history.specs.Rules.{Answers, IsOther, Waits, each, wait_reply};
+ghost use Rattle.pcache_history.specs.Rules.{FollowsRule, IsOther, Waits, each, wait_reply};
 ghost use Rattle.pingora_cache.specs.Step.{IsRow};
 ghost use Rattle.pingora_cache.specs.Untold.{untold_request};
 ghost use Rattle.pcache_history.specs.declared.entry.Event.TheVariants.{Aged, Release};
@@ -35,7 +35,7 @@ use pcache_store::memory::MemCache;
 
 /// Takes the lock into use, or out of it.
 pub(crate) fn set_lock(request: &mut OpenRequest, is_used: bool) -> Reply
-    ensures answers { Answers no_facts (acts.Request (asks.Lock is_used)) (Some request.old) result [] }
+    ensures answers { FollowsRule no_facts (acts.Request (asks.Lock is_used)) (Some request.old) result [] }
     ensures moves { MovesRequest (Some request.old) (Some request.new) }
     ensures keeps { KeepsKey (Some request.old) (Some request.new) }
     ensures row { Some request.new ≡ row (acts.Request (asks.Lock is_used)) result [] (Some request.old) }
@@ -58,11 +58,11 @@ pub(crate) fn wait(
 ) -> Reply
     requires none { events.old.items ≡ [] }
     requires room { 3 ≤ vec_capacity events.old }
-    ensures answers { (s : Store) → Answers (facts_in s lock.old request.old.request) (acts.Wait now) (Some request.old) result events.new.items }
+    ensures answers { (s : Store) → FollowsRule (facts_in s lock.old request.old.request) (acts.Wait now) (Some request.old) result events.new.items }
     ensures moves { (s : Store) → MovesStore (Some request.old) s events.new.items (Some request.new) s }
     ensures keeps { KeepsKey (Some request.old) (Some request.new) }
     ensures row { IsRow (acts.Wait now) result events.new.items (Some request.old) (Some request.new) }
-    ensures locks { (r : ℕ) → MovesLocks r (deeds_in r (acts.Wait now) (outcome result) events.new.items (Some request.old)) request.old.request.held lock.old request.new.request.held lock.new }
+    ensures locks { (r : ℕ) → MovesLocks r (deeds_in r (acts.Wait now) (kind_of_reply result) events.new.items (Some request.old)) request.old.request.held lock.old request.new.request.held lock.new }
 {
     let Some(Locked::Read(_)) = request.cache.held() else {
         return Reply::WrongCall;
@@ -85,8 +85,8 @@ fn wait_on(
     ensures other { IsOther result }
     ensures moves { (s : Store) (p : Option (Meta × Reader)) (d : Option Decision) → MovesStore (Some (record { request = cache.old; pair = p; carried = d; put = None })) s events.new.items (Some (record { request = cache.new; pair = p; carried = d; put = None })) s }
     ensures keeps { KeepsIn cache.old cache.new }
-    ensures row { untold_request cache.new ≡ untold_request (waited_by (outcome result) now cache.old) }
-    ensures locks { (r : ℕ) → MovesLocks r (deeds_in r (acts.Wait now) (outcome result) events.new.items None) cache.old.held lock.old cache.new.held lock.new }
+    ensures row { untold_request cache.new ≡ untold_request (waited_by (kind_of_reply result) now cache.old) }
+    ensures locks { (r : ℕ) → MovesLocks r (deeds_in r (acts.Wait now) (kind_of_reply result) events.new.items None) cache.old.held lock.old cache.new.held lock.new }
 {
     let report = match cache.wait(lock, now) {
         Ok(report) => report,
@@ -118,9 +118,9 @@ fn reply_of(answer: Poll<LockWaitOutcome>) -> Reply
 
 /// Publishes tokens of what was found out about the fill.
 pub(crate) fn publish(request: &OpenRequest, lock: &mut CacheLock, tokens: &Tokens) -> Reply
-    ensures answers { Answers no_facts (acts.Request (asks.Publish tokens.now)) (Some request.now) result [] }
+    ensures answers { FollowsRule no_facts (acts.Request (asks.Publish tokens.now)) (Some request.now) result [] }
     ensures moves { MovesRequest (Some request.now) (Some request.now) }
-    ensures locks { (r : ℕ) → MovesLocks r (deeds_in r (acts.Request (asks.Publish tokens.now)) (outcome result) [] (Some request.now)) request.now.request.held lock.old request.now.request.held lock.new }
+    ensures locks { (r : ℕ) → MovesLocks r (deeds_in r (acts.Request (asks.Publish tokens.now)) (kind_of_reply result) [] (Some request.now)) request.now.request.held lock.old request.now.request.held lock.new }
 {
     match request
         .cache
@@ -141,7 +141,7 @@ pub(crate) fn release(
 ) -> Reply
     requires none { events.old.items ≡ [] }
     requires room { 3 ≤ vec_capacity events.old }
-    ensures answers { Answers no_facts (acts.Request (asks.Release reason)) (Some request.old) result events.new.items }
+    ensures answers { FollowsRule no_facts (acts.Request (asks.Release reason)) (Some request.old) result events.new.items }
     ensures moves { (s : Store) → MovesStore (Some request.old) s events.new.items (Some request.new) s }
     ensures keeps { KeepsKey (Some request.old) (Some request.new) }
     ensures row { Some request.new ≡ row (acts.Request (asks.Release reason)) result events.new.items (Some request.old) }
@@ -166,7 +166,7 @@ pub(crate) fn uncacheable(
 ) -> Reply
     requires none { events.old.items ≡ [] }
     requires room { 3 ≤ vec_capacity events.old }
-    ensures answers { Answers no_facts (acts.Request (asks.Uncacheable header.now reason)) (Some request.old) result events.new.items }
+    ensures answers { FollowsRule no_facts (acts.Request (asks.Uncacheable header.now reason)) (Some request.old) result events.new.items }
     ensures moves { (s : Store) → MovesStore (Some request.old) s events.new.items (Some request.new) s }
     ensures keeps { KeepsKey (Some request.old) (Some request.new) }
     ensures row { Some request.new ≡ row (acts.Request (asks.Uncacheable header.now reason)) result events.new.items (Some request.old) }

@@ -1,7 +1,7 @@
 //! What is open under a number of a world: a request or a put.
 ghost use Rattle.std.specs.Prelude.{◌≡◌, ◌↔◌, None, Some, IfSome, IsSome, IsTrue, is_some};
 ghost use Rattle.pingora_cache.specs.Handing.{table_given, without_permit};
-ghost use Rattle.pcache_history.specs.Held.{handed_by, permit_held};
+ghost use Rattle.pcache_history.specs.Ongoing.{handed_by, permit_held};
 ghost use Rattle.pcache_history.specs.Rules.{MayTake, each, given_up};
 ghost use Rattle.pcache_history.specs.declared.entry.Event.TheVariants.{LetGo};
 
@@ -26,10 +26,10 @@ pub struct Open<P: PutPolicy> {
 }
 
 impl<P: PutPolicy> Model for Open<P> {
-    ghost use Rattle.pcache_history.specs.Held.{Held};
+    ghost use Rattle.pcache_history.specs.Ongoing.{Ongoing};
     ghost use Rattle.pingora_cache.specs.Opens.{held_of};
 
-    ghost Value = { Held };
+    ghost Value = { Ongoing };
 
     ghost view = { λ a. held_of a.kind };
 }

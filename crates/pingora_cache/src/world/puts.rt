@@ -8,7 +8,7 @@ ghost use Rattle.pcache_request.specs.Requests.{dropped_by};
 ghost use Rattle.pcache_history.specs.Due.{IsOfWorld, KeepsKey};
 ghost use Rattle.pingora_cache.specs.PartFacts.{facts_in};
 ghost use Rattle.pcache_history.specs.Events.{evicted_by};
-ghost use Rattle.pcache_history.specs.Held.{IsHeldPut, held_put};
+ghost use Rattle.pcache_history.specs.Ongoing.{IsOngoingPut, ongoing_put};
 ghost use Rattle.pingora_cache.specs.Moved.{Moves, MovesStore};
 ghost use Rattle.pcache_history.specs.PutHistory.{ClosesBy};
 ghost use Rattle.pingora_cache.specs.PutsSound.{HasSome, PutTurn, TakenIn};
@@ -43,18 +43,18 @@ pub struct OpenPut<P: PutPolicy> {
 }
 
 impl<P: PutPolicy> Model for OpenPut<P> {
-    ghost use Rattle.pcache_history.specs.Held.{Held, held_put};
+    ghost use Rattle.pcache_history.specs.Ongoing.{Ongoing, ongoing_put};
     ghost use Rattle.pcache_history.specs.Taking.{taking};
 
-    ghost Value = { Held };
+    ghost Value = { Ongoing };
 
-    ghost view = { λ a. held_put (taking a.ctx) };
+    ghost view = { λ a. ongoing_put (taking a.ctx) };
 }
 
 impl<P: PutPolicy> OpenPut<P> {
     /// A put of a key, perhaps with a limit on the number of the body's bytes.
     pub(crate) fn new(alloc: Global, key: CacheKey, limit: Option<usize>) -> OpenPut<P>
-        ensures put { result ≡ held_put (new_put key limit) }
+        ensures put { result ≡ ongoing_put (new_put key limit) }
         ensures taken { TakenIn P.says (Some result) [] None }
     {
         let mut ctx = CachePutCtx::new(alloc, ByType::new(), key);
@@ -66,7 +66,7 @@ impl<P: PutPolicy> OpenPut<P> {
 
     /// For the prover: states that this is a put. It does nothing.
     pub(crate) fn is_held(&self)
-        ensures held { IsHeldPut self.now }
+        ensures held { IsOngoingPut self.now }
         ensures some { IsSome self.now.put }
     {
         let _ = &self.ctx; // for the prover: once a field is used, the invariant is known
@@ -134,12 +134,12 @@ fn feed_in<P: PutPolicy>(
 ) -> Reply
     requires none { events.old.items ≡ [] }
     requires room { 3 ≤ vec_capacity events.old }
-    ensures answers { (t : Locks) → HasSome P.says store.old (Some (held_put (taking ctx.old))) → Feeds (facts_in store.old t (held_put (taking ctx.old)).request) (Some (taking ctx.old)) result events.new.items }
+    ensures answers { (t : Locks) → HasSome P.says store.old (Some (ongoing_put (taking ctx.old))) → Feeds (facts_in store.old t (ongoing_put (taking ctx.old)).request) (Some (taking ctx.old)) result events.new.items }
     ensures other { IsOther result }
-    ensures moves { MovesStore (Some (held_put (taking ctx.old))) store.old events.new.items (Some (held_put (taking ctx.new))) store.new }
-    ensures keeps { KeepsKey (Some (held_put (taking ctx.old))) (Some (held_put (taking ctx.new))) }
-    ensures row { IsRow (acts.Feed bytes.now now) result events.new.items (Some (held_put (taking ctx.old))) (Some (held_put (taking ctx.new))) }
-    ensures puts { PutTurn P.says (acts.Feed bytes.now now) result events.new.items (Some (held_put (taking ctx.old))) (Some (held_put (taking ctx.new))) }
+    ensures moves { MovesStore (Some (ongoing_put (taking ctx.old))) store.old events.new.items (Some (ongoing_put (taking ctx.new))) store.new }
+    ensures keeps { KeepsKey (Some (ongoing_put (taking ctx.old))) (Some (ongoing_put (taking ctx.new))) }
+    ensures row { IsRow (acts.Feed bytes.now now) result events.new.items (Some (ongoing_put (taking ctx.old))) (Some (ongoing_put (taking ctx.new))) }
+    ensures puts { PutTurn P.says (acts.Feed bytes.now now) result events.new.items (Some (ongoing_put (taking ctx.old))) (Some (ongoing_put (taking ctx.new))) }
     ensures quiet { AreOfNoLock events.new.items }
 {
     let slot = ctx.key().slot();
@@ -240,10 +240,10 @@ fn close_in<M: EvictionManager, P: PutPolicy>(
 ) -> Reply
     requires none { events.old.items ≡ [] }
     requires room { 3 ≤ vec_capacity events.old }
-    ensures answers { HasSome P.says parts.old.store (Some (held_put (taking ctx))) → Closes (facts_in parts.old.store parts.old.lock (held_put (taking ctx)).request) (Some (taking ctx)) result events.new.items }
+    ensures answers { HasSome P.says parts.old.store (Some (ongoing_put (taking ctx))) → Closes (facts_in parts.old.store parts.old.lock (ongoing_put (taking ctx)).request) (Some (taking ctx)) result events.new.items }
     ensures other { IsOther result }
-    ensures moves { IsOfWorld (held_put (taking ctx)).request → HasSome P.says parts.old.store (Some (held_put (taking ctx))) → Moves (M.limits parts.old.manager) (Some (held_put (taking ctx))) parts.old.store (M.tracked parts.old.manager) events.new.items None parts.new.store (M.tracked parts.new.manager) }
-    ensures closes { (pieces : List Piece) (f : Option Filled) → TakenIn P.says (Some (held_put (taking ctx))) pieces f → ClosesBy P.says acts.Close (Some (held_put (taking ctx))) pieces f result }
+    ensures moves { IsOfWorld (ongoing_put (taking ctx)).request → HasSome P.says parts.old.store (Some (ongoing_put (taking ctx))) → Moves (M.limits parts.old.manager) (Some (ongoing_put (taking ctx))) parts.old.store (M.tracked parts.old.manager) events.new.items None parts.new.store (M.tracked parts.new.manager) }
+    ensures closes { (pieces : List Piece) (f : Option Filled) → TakenIn P.says (Some (ongoing_put (taking ctx))) pieces f → ClosesBy P.says acts.Close (Some (ongoing_put (taking ctx))) pieces f result }
     ensures quiet { AreOfNoLock events.new.items }
     ensures lock { parts.new.lock ≡ parts.old.lock }
     ensures limits { M.limits parts.new.manager ≡ M.limits parts.old.manager }

@@ -6,9 +6,9 @@ ghost use Rattle.pcache_base.specs.declared.error.ErrorType.TheVariants.{OutOfMe
 ghost use Rattle.pcache_lock.specs.Locks.{no_locks};
 ghost use Rattle.pcache_history.specs.Due.{KeepsKey};
 ghost use Rattle.pingora_cache.specs.PartFacts.{facts_in, no_facts};
-ghost use Rattle.pcache_history.specs.Held.{has_read, on_request, row, sought_in, with_sought};
+ghost use Rattle.pcache_history.specs.Ongoing.{has_read, on_request, row, sought_in, with_sought};
 ghost use Rattle.pingora_cache.specs.Moved.{MovesRequest, MovesStore};
-ghost use Rattle.pcache_history.specs.Rules.{Answers, IsOther, read_reply, seek_reply};
+ghost use Rattle.pcache_history.specs.Rules.{FollowsRule, IsOther, read_reply, seek_reply};
 ghost use Rattle.pcache_history.specs.Waiting.{AreOfNoLock};
 ghost use Rattle.pcache_history.specs.declared.call.Act.TheVariants as acts;
 ghost use Rattle.pcache_history.specs.declared.call.RequestAct.TheVariants as asks;
@@ -31,7 +31,7 @@ pub(crate) fn read(
 ) -> Reply
     requires none { events.old.items ≡ [] }
     requires room { 3 ≤ vec_capacity events.old }
-    ensures answers { Answers (facts_in store.old (no_locks 0) request.old.request) (acts.Request asks.Read) (Some request.old) result events.new.items }
+    ensures answers { FollowsRule (facts_in store.old (no_locks 0) request.old.request) (acts.Request asks.Read) (Some request.old) result events.new.items }
     ensures moves { MovesStore (Some request.old) store.old events.new.items (Some request.new) store.new }
     ensures keeps { KeepsKey (Some request.old) (Some request.new) }
     ensures row { request.new ≡ on_request (has_read events.new.items) request.old }
@@ -68,7 +68,7 @@ fn reply_of(answer: &Poll<Option<Bytes>>) -> Reply
 
 /// Moves the reader to another range.
 pub(crate) fn seek(request: &mut OpenRequest, start: usize, end: Option<usize>) -> Reply
-    ensures answers { Answers no_facts (acts.Request (asks.Seek start end)) (Some request.old) result [] }
+    ensures answers { FollowsRule no_facts (acts.Request (asks.Seek start end)) (Some request.old) result [] }
     ensures moves { MovesRequest (Some request.old) (Some request.new) }
     ensures keeps { KeepsKey (Some request.old) (Some request.new) }
     ensures row { Some request.new ≡ row (acts.Request (asks.Seek start end)) result [] (Some request.old) }
@@ -95,7 +95,7 @@ fn seek_in(cache: &mut HttpCache<MemCache>, start: usize, end: Option<usize>) ->
 
 /// Ends the reader, even if that fails.
 pub(crate) fn done(request: &mut OpenRequest, store: &mut MemCache) -> Reply
-    ensures answers { Answers no_facts (acts.Request asks.Done) (Some request.old) result [] }
+    ensures answers { FollowsRule no_facts (acts.Request asks.Done) (Some request.old) result [] }
     ensures moves { MovesStore (Some request.old) store.old [] (Some request.new) store.new }
     ensures keeps { KeepsKey (Some request.old) (Some request.new) }
     ensures row { Some request.new ≡ row (acts.Request asks.Done) result [] (Some request.old) }

@@ -7,7 +7,7 @@ ghost use Rattle.pcache_history.specs.Deeds.{deeds_by};
 ghost use Rattle.pcache_history.specs.Due.{IsOfWorld, KeepsKey};
 ghost use Rattle.pingora_cache.specs.PartFacts.{facts_in};
 ghost use Rattle.pingora_cache.specs.Moved.{Moves};
-ghost use Rattle.pcache_history.specs.Rules.{Answers, expire_reply, purge_reply};
+ghost use Rattle.pcache_history.specs.Rules.{FollowsRule, expire_reply, purge_reply};
 ghost use Rattle.pingora_cache.specs.Step.{untracking};
 ghost use Rattle.pingora_cache.specs.LockMoves.{MovesLocks};
 ghost use Rattle.pcache_history.specs.declared.call.Act.TheVariants as acts;
@@ -32,7 +32,7 @@ pub(crate) fn purge<M: EvictionManager>(
 ) -> Reply
     requires none { events.old.items ≡ [] }
     requires room { 3 ≤ vec_capacity events.old }
-    ensures answers { Answers (facts_in parts.old.store parts.old.lock request.old.request) (acts.Request asks.Purge) (Some request.old) result events.new.items }
+    ensures answers { FollowsRule (facts_in parts.old.store parts.old.lock request.old.request) (acts.Request asks.Purge) (Some request.old) result events.new.items }
     ensures moves { IsOfWorld request.old.request → Moves (M.limits parts.old.manager) (Some request.old) parts.old.store (M.tracked parts.old.manager) events.new.items (Some request.new) parts.new.store (M.tracked parts.new.manager) }
     ensures keeps { KeepsKey (Some request.old) (Some request.new) }
     ensures same { request.new ≡ request.old }
@@ -84,7 +84,7 @@ pub(crate) fn expire<M: EvictionManager>(
 ) -> Reply
     requires none { events.old.items ≡ [] }
     requires room { 3 ≤ vec_capacity events.old }
-    ensures answers { Answers (facts_in parts.old.store parts.old.lock request.old.request) (acts.Request (asks.Expire now)) (Some request.old) result events.new.items }
+    ensures answers { FollowsRule (facts_in parts.old.store parts.old.lock request.old.request) (acts.Request (asks.Expire now)) (Some request.old) result events.new.items }
     ensures moves { Moves (M.limits parts.old.manager) (Some request.old) parts.old.store (M.tracked parts.old.manager) events.new.items (Some request.new) parts.new.store (M.tracked parts.new.manager) }
     ensures keeps { KeepsKey (Some request.old) (Some request.new) }
     ensures same { request.new ≡ request.old }

@@ -3,7 +3,7 @@ ghost use Rattle.std.specs.Prelude.{◌≡◌, None, Some, option_map};
 ghost use Rattle.pcache_store.specs.Readers.{reader_of};
 ghost use Rattle.pcache_request.specs.Phases.{IsOn};
 ghost use Rattle.pingora_cache.specs.Handing.{table_given, without_permit};
-ghost use Rattle.pcache_history.specs.Held.{handed_by, permit_held, world_use, pair_reader};
+ghost use Rattle.pcache_history.specs.Ongoing.{handed_by, permit_held, world_use, pair_reader};
 ghost use Rattle.pcache_history.specs.Rules.{each, given_up, permit_of};
 ghost use Rattle.pcache_history.specs.declared.entry.Event.TheVariants.{LetGo};
 ghost use Rattle.pcache_request.specs.Requests.{Request, left_by, let_go_by};
@@ -33,9 +33,9 @@ pub struct OpenRequest {
 impl Model for OpenRequest {
     ghost use Rattle.std.specs.Prelude.{None, option_map};
     ghost use Rattle.pcache_store.specs.Readers.{reader_of};
-    ghost use Rattle.pcache_history.specs.Held.{Held};
+    ghost use Rattle.pcache_history.specs.Ongoing.{Ongoing};
 
-    ghost Value = { Held };
+    ghost Value = { Ongoing };
 
     ghost view = { λ a. record { request = a.cache; pair = option_map (λ p. (p.0, reader_of p.1)) a.pair; carried = a.carried; put = None } };
 }

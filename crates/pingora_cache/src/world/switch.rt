@@ -6,9 +6,9 @@ ghost use Rattle.pingora_cache.specs.PartFacts.{no_facts};
 ghost use Rattle.pcache_lock.specs.declared.lock.status.LockStatus.TheVariants.{GiveUp};
 ghost use Rattle.pcache_request.specs.Releasing.{status_for};
 ghost use Rattle.pcache_history.specs.Deeds.{deeds_by};
-ghost use Rattle.pcache_history.specs.Held.{row};
+ghost use Rattle.pcache_history.specs.Ongoing.{row};
 ghost use Rattle.pingora_cache.specs.Moved.{MovesRequest, MovesStore};
-ghost use Rattle.pcache_history.specs.Rules.{Answers};
+ghost use Rattle.pcache_history.specs.Rules.{FollowsRule};
 ghost use Rattle.pingora_cache.specs.LockMoves.{MovesLocks};
 ghost use Rattle.pcache_history.specs.declared.call.Act.TheVariants as acts;
 ghost use Rattle.pcache_history.specs.declared.call.RequestAct.TheVariants as asks;
@@ -24,7 +24,7 @@ use pcache_store::memory::MemCache;
 
 /// Turns caching on again, with these options of the lock.
 pub(crate) fn enable(request: &mut OpenRequest, options: Option<CacheOptionOverrides>) -> Reply
-    ensures answers { Answers no_facts (acts.Request (asks.Enable options)) (Some request.old) result [] }
+    ensures answers { FollowsRule no_facts (acts.Request (asks.Enable options)) (Some request.old) result [] }
     ensures moves { MovesRequest (Some request.old) (Some request.new) }
     ensures keeps { KeepsKey (Some request.old) (Some request.new) }
     ensures row { Some request.new ≡ row (acts.Request (asks.Enable options)) result [] (Some request.old) }
@@ -48,7 +48,7 @@ pub(crate) fn disable(
 ) -> Reply
     requires none { events.old.items ≡ [] }
     requires room { 3 ≤ vec_capacity events.old }
-    ensures answers { Answers no_facts (acts.Request (asks.Disable reason)) (Some request.old) result events.new.items }
+    ensures answers { FollowsRule no_facts (acts.Request (asks.Disable reason)) (Some request.old) result events.new.items }
     ensures moves { MovesStore (Some request.old) store.old events.new.items (Some request.new) store.new }
     ensures keeps { KeepsKey (Some request.old) (Some request.new) }
     ensures row { Some request.new ≡ row (acts.Request (asks.Disable reason)) result events.new.items (Some request.old) }

@@ -6,9 +6,9 @@ ghost use Rattle.pcache_history.specs.Due.{KeepsKey};
 ghost use Rattle.pingora_cache.specs.PartFacts.{facts_in, no_facts};
 ghost use Rattle.pcache_lock.specs.declared.lock.status.LockStatus.TheVariants.{Done};
 ghost use Rattle.pcache_history.specs.Deeds.{deeds_by};
-ghost use Rattle.pcache_history.specs.Held.{row};
+ghost use Rattle.pcache_history.specs.Ongoing.{row};
 ghost use Rattle.pingora_cache.specs.Moved.{MovesRequest, MovesStore};
-ghost use Rattle.pcache_history.specs.Rules.{Answers, IsOther, Renews};
+ghost use Rattle.pcache_history.specs.Rules.{FollowsRule, IsOther, Renews};
 ghost use Rattle.pingora_cache.specs.Step.{renewal_reply, renewing, spare_of};
 ghost use Rattle.pingora_cache.specs.LockMoves.{MovesLocks};
 ghost use Rattle.pcache_history.specs.declared.call.Act.TheVariants as acts;
@@ -33,7 +33,7 @@ use pcache_store::memory::MemCache;
 
 /// Has the next look-up look for this variance.
 pub(crate) fn vary(request: &mut OpenRequest, variance: HashBinary) -> Reply
-    ensures answers { Answers no_facts (acts.Request (asks.Vary variance)) (Some request.old) result [] }
+    ensures answers { FollowsRule no_facts (acts.Request (asks.Vary variance)) (Some request.old) result [] }
     ensures moves { MovesRequest (Some request.old) (Some request.new) }
     ensures keeps { KeepsKey (Some request.old) (Some request.new) }
     ensures row { Some request.new ≡ row (acts.Request (asks.Vary variance)) result [] (Some request.old) }
@@ -62,7 +62,7 @@ pub(crate) fn variance(
 ) -> Reply
     requires none { events.old.items ≡ [] }
     requires room { 3 ≤ vec_capacity events.old }
-    ensures answers { Answers no_facts (acts.Request (asks.Variance variance)) (Some request.old) result events.new.items }
+    ensures answers { FollowsRule no_facts (acts.Request (asks.Variance variance)) (Some request.old) result events.new.items }
     ensures moves { (s : Store) → MovesStore (Some request.old) s events.new.items (Some request.new) s }
     ensures keeps { KeepsKey (Some request.old) (Some request.new) }
     ensures row { Some request.new ≡ row (acts.Request (asks.Variance variance)) result events.new.items (Some request.old) }
@@ -107,7 +107,7 @@ pub(crate) fn revalidate(
     requires spare { spare.old ≡ Some (meta.now, meta.now) }
     requires none { events.old.items ≡ [] }
     requires room { 3 ≤ vec_capacity events.old }
-    ensures answers { Answers (facts_in store.old lock.old request.old.request) (acts.Request (asks.Revalidate meta.now)) (Some request.old) result events.new.items }
+    ensures answers { FollowsRule (facts_in store.old lock.old request.old.request) (acts.Request (asks.Revalidate meta.now)) (Some request.old) result events.new.items }
     ensures moves { MovesStore (Some request.old) store.old events.new.items (Some request.new) store.new }
     ensures keeps { KeepsKey (Some request.old) (Some request.new) }
     ensures row { Some request.new ≡ row (acts.Request (asks.Revalidate meta.now)) result events.new.items (Some request.old) }

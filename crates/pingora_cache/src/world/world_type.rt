@@ -81,9 +81,9 @@ impl<M: EvictionManager, P: PutPolicy> World<M, P> {
     ghost use Rattle.std.specs.FinMap as map;
     ghost use Rattle.pcache_history.specs.Events.{stored, slots, tracked};
     ghost use Rattle.pcache_history.specs.Files.{files_in, only_loads};
-    ghost use Rattle.pcache_history.specs.Held.{request_of};
+    ghost use Rattle.pcache_history.specs.Ongoing.{request_of};
     ghost use Rattle.pcache_history.specs.Log.{Log, Adds, AddsAll, AddsSome, HasLegal, events_in};
-    ghost use Rattle.pcache_history.specs.PutHistory.{AreTold};
+    ghost use Rattle.pcache_history.specs.PutHistory.{FollowPolicy};
     ghost use Rattle.pcache_history.specs.declared.call.FilesAct.TheVariants.{Save, Load};
     ghost use Rattle.pcache_history.specs.declared.call.Reply.TheVariants.{Refused};
     ghost use Rattle.pingora_cache.specs.FilesCalls.{HasNoFiles};
@@ -116,7 +116,7 @@ impl<M: EvictionManager, P: PutPolicy> World<M, P> {
     pub fn history(&self) -> &[Entry]
         ensures entries { result.now ≡ self.now.history }
         ensures legal { HasLegal self.now }
-        ensures puts { AreTold P.says (reverse self.now.history) }
+        ensures puts { FollowPolicy P.says (reverse self.now.history) }
     {
         self.history.as_slice()
     }
@@ -201,7 +201,7 @@ impl<M: EvictionManager, P: PutPolicy> World<M, P> {
         ensures ok { IfOk result (λ reply. Adds self.old call reply self.new) }
         ensures files { IfOk result (λ reply. HasNoFiles (files_in call.act) reply) }
         ensures legal { HasLegal self.new }
-        ensures puts { AreTold P.says (reverse self.new.history) }
+        ensures puts { FollowPolicy P.says (reverse self.new.history) }
         ensures err { OnErr result (self.new ≡ self.old) }
         ensures kind { IfErr result (λ e. e ≡ OutOfMemory) }
     {
@@ -217,7 +217,7 @@ impl<M: EvictionManager, P: PutPolicy> World<M, P> {
         requires parts { files_in call.act ≡ None }
         ensures ok { IfOk result (λ reply. Adds self.old call reply self.new) }
         ensures legal { HasLegal self.new }
-        ensures puts { AreTold P.says (reverse self.new.history) }
+        ensures puts { FollowPolicy P.says (reverse self.new.history) }
         ensures err { OnErr result (self.new ≡ self.old) }
         ensures kind { IfErr result (λ e. e ≡ OutOfMemory) }
     {
@@ -245,7 +245,7 @@ impl<M: EvictionManager, P: PutPolicy> World<M, P> {
         ensures files { IfOk result (λ reply. reply ≡ Refused Io) }
         ensures ok { IfOk result (λ reply. Adds self.old call reply self.new) }
         ensures legal { HasLegal self.new }
-        ensures puts { AreTold P.says (reverse self.new.history) }
+        ensures puts { FollowPolicy P.says (reverse self.new.history) }
         ensures err { OnErr result (self.new ≡ self.old) }
         ensures kind { IfErr result (λ e. e ≡ OutOfMemory) }
     {
@@ -267,7 +267,7 @@ impl<M: EvictionManager, P: PutPolicy> World<M, P> {
         ensures files { IfOk result (λ reply. HasNoFiles (Some Load) reply) }
         ensures ok { IfOk result (λ reply. Adds self.old call reply self.new) }
         ensures legal { HasLegal self.new }
-        ensures puts { AreTold P.says (reverse self.new.history) }
+        ensures puts { FollowPolicy P.says (reverse self.new.history) }
         ensures err { OnErr result (self.new ≡ self.old) }
         ensures kind { IfErr result (λ e. e ≡ OutOfMemory) }
     {
@@ -320,7 +320,7 @@ impl<M: EvictionManager, P: PutPolicy> World<M, P> {
 impl<M: SavedManager, P: PutPolicy> World<M, P> {
     ghost use Rattle.std.specs.Prelude.{List, reverse};
     ghost use Rattle.pcache_history.specs.Log.{Log, Adds, HasLegal};
-    ghost use Rattle.pcache_history.specs.PutHistory.{AreTold};
+    ghost use Rattle.pcache_history.specs.PutHistory.{FollowPolicy};
     ghost use Rattle.pcache_history.specs.declared.call.Act.TheVariants as acts;
     ghost use Rattle.pcache_history.specs.declared.call.FilesAct.TheVariants.{Save, Load};
     ghost use Rattle.pcache_history.specs.declared.entry.Event.{Event};
@@ -334,7 +334,7 @@ impl<M: SavedManager, P: PutPolicy> World<M, P> {
         ensures ok { IfOk result (λ reply. Adds self.old (record { request = 0; act = acts.Files Save }) reply self.new) }
         ensures replies { IfOk result (λ reply. IsFilesReply Save reply) }
         ensures legal { HasLegal self.new }
-        ensures puts { AreTold P.says (reverse self.new.history) }
+        ensures puts { FollowPolicy P.says (reverse self.new.history) }
         ensures err { OnErr result (self.new ≡ self.old) }
         ensures kind { IfErr result (λ e. e ≡ OutOfMemory) }
     {
@@ -364,7 +364,7 @@ impl<M: SavedManager, P: PutPolicy> World<M, P> {
         ensures evicted { self.new.evicted ≡ self.old.evicted }
         ensures age { self.new.age ≡ self.old.age }
         ensures legal { HasLegal self.new }
-        ensures puts { AreTold P.says (reverse self.new.history) }
+        ensures puts { FollowPolicy P.says (reverse self.new.history) }
         ensures err { OnErr result (self.new ≡ self.old) }
         ensures kind { IfErr result (λ e. e ≡ OutOfMemory) }
     {

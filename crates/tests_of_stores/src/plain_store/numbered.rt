@@ -2,7 +2,7 @@
 ghost use Rattle.std.specs.Prelude.{◌≡◌, ◌<◌, ◌≤◌, ◌+◌, ◌-◌, ◌^◌, Option, Some, None, IsSome, IfSome, ◌↔◌, IfOk, IfErr, OnOk, OnErr, option_map, option_copied};
 ghost use Rattle.std.specs.FinMap as map;
 ghost use Rattle.pcache_base.specs.declared.error.ErrorType.TheVariants.{OutOfMemory};
-ghost use Rattle.pcache_store.specs.Store.{joined_on, left_on, wrote_on, grounded_on};
+ghost use Rattle.pcache_store.specs.Store.{followed_on, left_on, wrote_on, grounded_on};
 
 use crate::plain_store::writes::{PlainWrite, join, land, leave, write};
 use bytes::Bytes;
@@ -92,7 +92,7 @@ impl PlainWrites {
     /// One more reader of a write, and its meta.
     pub fn join(&mut self, alloc: Global, number: u128) -> Result<Option<CacheMeta>>
         ensures meta { IfOk result (λ m. m ≡ option_map (λ w. w.meta) (map.get self.old.writes number)) }
-        ensures ok { OnOk result (self.new ≡ record self.old { writes = joined_on self.old.writes number (map.get self.old.writes number) }) }
+        ensures ok { OnOk result (self.new ≡ record self.old { writes = followed_on self.old.writes number (map.get self.old.writes number) }) }
         ensures something { OnErr result (IsSome (map.get self.old.writes number)) }
         ensures kind { IfErr result (λ e. e ≡ OutOfMemory) }
         ensures err { OnErr result (self.new ≡ self.old) }

@@ -2,7 +2,7 @@
 ghost use Rattle.std.specs.Prelude.{◌≡◌, ◌<◌, ◌≤◌, ◌+◌, ◌-◌, ◌++◌, ◌&&◌, not, Option, Some, None, IsSome, IfOk, IfErr, OnOk, OnErr, option_map, length, drop, true, false};
 ghost use Rattle.std.specs.FinMap as map;
 ghost use Rattle.pcache_base.specs.declared.error.ErrorType.TheVariants.{OutOfMemory};
-ghost use Rattle.pcache_store.specs.Store.{new_write, is_named, wrote_on, joined_on, left_on, grounded_on};
+ghost use Rattle.pcache_store.specs.Store.{new_write, is_named, wrote_on, followed_on, left_on, grounded_on};
 
 use crate::plain_store::slots::PlainBody;
 use bytes::Bytes;
@@ -166,7 +166,7 @@ pub fn join(
     number: u128,
 ) -> Result<Option<CacheMeta>>
     ensures meta { IfOk result (λ m. m ≡ option_map (λ w. w.meta) (map.get writes.old number)) }
-    ensures ok { OnOk result (writes.new ≡ joined_on writes.old number (map.get writes.old number)) }
+    ensures ok { OnOk result (writes.new ≡ followed_on writes.old number (map.get writes.old number)) }
     ensures something { OnErr result (IsSome (map.get writes.old number)) }
     ensures kind { IfErr result (λ e. e ≡ OutOfMemory) }
     ensures err { OnErr result (writes.new ≡ writes.old) }

@@ -1,13 +1,13 @@
 use Rattle.std.proofs.Common.{◌≡◌, ◌≤◌, ℕ, ◌-◌, length, take}
-use Rattle.pcache_put.specs.Places.{place_after}
-use Rattle.pcache_put.specs.declared.head_end.Place.TheVariants.{Ended}
+use Rattle.pcache_put.specs.HeadStates.{state_after}
+use Rattle.pcache_put.specs.declared.head_end.HeadState.TheVariants.{Ended}
 use Rattle.pcache_put.proofs.head_end.cut.Given as goal
 
 abbrev pub invariant-bytes : goal.invariant-bytes
 invariant-bytes l = record {
   within : l.at ≤ length l.piece;
-  moved : l.place ≡ place_after l.initial.place (take l.at l.piece);
-  none : (k : ℕ) → k ≤ l.at → place_after l.initial.place (take k l.piece) ≡ Ended → ⊥;
+  moved : l.place ≡ state_after l.initial.place (take l.at l.piece);
+  none : (k : ℕ) → k ≤ l.at → state_after l.initial.place (take k l.piece) ≡ Ended → ⊥;
 }
 
 abbrev pub decreases-bytes : goal.decreases-bytes

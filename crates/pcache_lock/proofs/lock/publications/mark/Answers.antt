@@ -3,7 +3,7 @@ use Rattle.std.specs.BTreeMap.{is_at}
 use Rattle.std.specs.BTreeSet.{contains}
 use Rattle.std.specs.List.{list_any}
 use Rattle.std.specs.Ordering.{nat_cmp}
-use Rattle.pcache_lock.specs.Published.{stands_for}
+use Rattle.pcache_lock.specs.Published.{is_entry_for}
 use Rattle.pcache_lock.proofs.Published.{more_in, as_before, whole, none_yet}
 use Rattle.pcache_lock.proofs.lock.publications.mark.Goals as goal
 
@@ -13,7 +13,7 @@ loop-token-init c = λ q. none_yet (contains nat_cmp c.args.index.now q)
 pub returns-in_default-clause-err : goal.returns-in_default-clause-err
 returns-in_default-clause-err c = λ q.
     as_before c.args.index.now c.loop-token.index c.unmark.new.index c.args.place c.args.tokens.now c.loop-token.token-index q (c.requires q) (c.loop-token.invariant q)
-    (c.unmark.ensures q ∙ ap (λ ks. list_any (is_at (nat_cmp q)) ks && not (stands_for c.args.place c.args.tokens.now q)) c.in_default.ensures.err)
+    (c.unmark.ensures q ∙ ap (λ ks. list_any (is_at (nat_cmp q)) ks && not (is_entry_for c.args.place c.args.tokens.now q)) c.in_default.ensures.err)
 
 pub loop-token-preserved : goal.loop-token-preserved
 loop-token-preserved c = λ q.

@@ -1,8 +1,8 @@
 use Rattle.std.proofs.Common.{◌≡◌, ◌||◌, ℕ, take}
 use Rattle.std.specs.BTreeSet.{contains}
 use Rattle.std.specs.Ordering.{nat_cmp}
-use Rattle.pcache_lock.specs.Published.{stands_for}
+use Rattle.pcache_lock.specs.Published.{is_entry_for}
 use Rattle.pcache_lock.proofs.lock.publications.mark.Given as goal
 
 abbrev pub invariant-loop-token : goal.invariant-loop-token
-invariant-loop-token l = (q : ℕ) → contains nat_cmp l.index q ≡ (contains nat_cmp l.fn.index q || stands_for l.place (take l.token-index l.tokens) q)
+invariant-loop-token l = (q : ℕ) → contains nat_cmp l.index q ≡ (contains nat_cmp l.fn.index q || is_entry_for l.place (take l.token-index l.tokens) q)

@@ -63,7 +63,7 @@ invariant_of-self-2 g c =
     let one = joined_is _ _ _ _ i.1 i.2 moved j.2 in
     let two = added_is _ _ _ _ _ c.entry_at-entry.result.now (step 0 0 0 0 (some c.entry_at-entry.result.now)) 0 one refl a.2 in
     let kept = relieved_is _ _ _ _ _ two.0 d.2 in
-    let same : c.entry_at-entry.result.now ≡ e = get_pushed c.self.inside.world.history c.step.new.self.history e c.entry_at-entry.result.now _ ok.history (ap length c.history-place.ensures.entries) c.entry_at-entry.ensures in (
+    let same : c.entry_at-entry.result.now ≡ e = get_pushed c.self.inside.world.history c.step.new.self.history e c.entry_at-entry.result.now _ ok.history (ap length c.history-index.ensures.entries) c.entry_at-entry.ensures in (
       d.0 ∙ (a.0 ∙ (j.0 ∙ i.0)),
       keeper_is _ _ _ _ kept,
       ap (λ m. m.0.claims) kept,
@@ -87,7 +87,7 @@ returns-clause-ok g c =
     let one = joined_is _ _ _ _ i.1 i.2 moved j.2 in
     let two = added_is _ _ _ _ _ c.entry_at-entry.result.now (step 0 0 0 0 (some c.entry_at-entry.result.now)) 0 one refl a.2 in
     let dealt = dealt_is _ _ _ _ _ two.0 d.4 in
-    let same : c.entry_at-entry.result.now ≡ e = get_pushed c.self.inside.world.history c.step.new.self.history e c.entry_at-entry.result.now _ ok.history (ap length c.history-place.ensures.entries) c.entry_at-entry.ensures in
+    let same : c.entry_at-entry.result.now ≡ e = get_pushed c.self.inside.world.history c.step.new.self.history e c.entry_at-entry.result.now _ ok.history (ap length c.history-index.ensures.entries) c.entry_at-entry.ensures in
     let n = length c.self.inside.keeper.me.0.all in (
       c.requires.copy,
       (
@@ -95,7 +95,7 @@ returns-clause-ok g c =
         (
           e,
           (sym c.requires.copy, refl),
-          ap length c.history-place.ensures.entries ∙ (ap length i.4 ∙ length-append g.K.Mark.opened.log.history c.self.inside.keeper.me.0.all),
+          ap length c.history-index.ensures.entries ∙ (ap length i.4 ∙ length-append g.K.Mark.opened.log.history c.self.inside.keeper.me.0.all),
           dealt ∙ ap (λ (x : Entry). (slip (c.args.seat.now.me.0.claims ++ (n, x) ∷ []), [])) same,
           two.1,
         ),

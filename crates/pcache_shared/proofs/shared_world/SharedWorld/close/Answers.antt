@@ -7,9 +7,9 @@ use Rattle.atomic_table.specs.Seated.{TableId}
 use Rattle.atomic_table.specs.Table.{step}
 use Rattle.pcache_shared.specs.declared.receipt.Receipt.{Receipt}
 use Rattle.pcache_shared.specs.Views.{Rises}
-use Rattle.pcache_shared.specs.Receipts.{AreReceipts, receipt_of, joined, places_of}
+use Rattle.pcache_shared.specs.Receipts.{AreReceipts, receipt_of, joined, indices_of}
 use Rattle.pcache_shared.proofs.Moves.{takes_in_as, settles_as}
-use Rattle.pcache_shared.proofs.Calls.{keeper_is, joined_on}
+use Rattle.pcache_shared.proofs.Calls.{keeper_is, followed_on}
 use Rattle.pcache_shared.proofs.Closing.{none_left, joined_snoc, rises_of, closes}
 use Rattle.pcache_shared.proofs.shared_world.SharedWorld.close.Goals as goal
 
@@ -27,10 +27,10 @@ loop-share-preserved g c =
     let j = c.join_seat.ensures in
     let p = c.push_reserved.ensures in
     let n = length g.K.Mark.opened.log.history in
-    let on = joined_on _ _ _ _ i.1 s.1 j.2 in
+    let on = followed_on _ _ _ _ i.1 s.1 j.2 in
     let steps = ap length c.in-Some.ensures.steps.0 in
     let parts = ap (λ m. m.0.parts) on in
-    let R : List Receipt → Type 0 = λ rs. Rises (places_of rs) in (
+    let R : List Receipt → Type 0 = λ rs. Rises (indices_of rs) in (
       j.0 ∙ i.0,
       keeper_is _ _ _ _ on,
       omega (arith, parts, steps, i.2),

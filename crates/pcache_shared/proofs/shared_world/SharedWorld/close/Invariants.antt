@@ -2,7 +2,7 @@ use Rattle.std.proofs.Common.{◌++◌, ◌≡◌, ◌+◌, ◌≤◌, map, leng
 use Rattle.std.specs.Prelude.{vec_len}
 use Rattle.std.specs.List.{All}
 use Rattle.pcache_shared.specs.Views.{IsKeeper, Rises, whole}
-use Rattle.pcache_shared.specs.Receipts.{receipt_of, joined, places_of}
+use Rattle.pcache_shared.specs.Receipts.{receipt_of, joined, indices_of}
 use Rattle.pcache_shared.proofs.shared_world.SharedWorld.close.Given as goal
 
 abbrev pub invariant-loop-share : goal.invariant-loop-share
@@ -13,5 +13,5 @@ invariant-loop-share g l =
     × (l.keeper.me.0.all ≡ l.initial.keeper.me.0.all)
     × (vec_len l.all + length l.share-iterator.rest.items ≤ vec_capacity l.all)
     × (joined (map (λ v. v.items) l.all.items) ≡ map (receipt_of (length g.K.Mark.opened.log.history)) l.keeper.me.0.claims)
-    × All (λ rs. Rises (places_of rs)) (map (λ v. v.items) l.all.items)
+    × All (λ rs. Rises (indices_of rs)) (map (λ v. v.items) l.all.items)
     × (map (λ v. v.items) l.all.items ++ l.share-iterator.rest.items ≡ l.fn.shares.items)

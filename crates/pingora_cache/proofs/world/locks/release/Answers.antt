@@ -3,7 +3,7 @@ use Rattle.pcache_meta.specs.Meta.{Meta}
 use Rattle.pcache_request.specs.Requests.{Request}
 use Rattle.pcache_store.specs.Readers.{reader_of}
 use Rattle.pcache_store.specs.Store.{Reader}
-use Rattle.pcache_history.specs.Held.{Held}
+use Rattle.pcache_history.specs.Ongoing.{Ongoing}
 use Rattle.pingora_cache.specs.Moved.{MovesStore}
 use Rattle.pcache_history.specs.Rules.{permit_of}
 use Rattle.pingora_cache.specs.Step.{permit_released}
@@ -25,7 +25,7 @@ returns-clause-moves c s =
     let o = c.permit_released.result in
     let old = c.args.events.now.items in
     let all = c.note_release.new.events.items in
-    subst (λ (x : Held). MovesStore (Some x) s all (Some (held_with c.request.inside.carried pair c.release_write_lock-released.new.self)) s) c.request.view_is
+    subst (λ (x : Ongoing). MovesStore (Some x) s all (Some (held_with c.request.inside.carried pair c.release_write_lock-released.new.self)) s) c.request.view_is
     (turns-quietly (held_with c.request.inside.carried pair r) (held_with c.request.inside.carried pair c.release_write_lock-released.new.self) s all (quiet-noted Release o old all (λ n. tt) c.requires.none c.note_release.ensures.events)
     refl (ap (λ (y : Request). y.reader) c.release_write_lock-released.ensures.request) (ap (λ (y : Request). y.write) c.release_write_lock-released.ensures.request))
 
@@ -36,5 +36,5 @@ returns-clause-locks c n =
     let old = c.args.events.now.items in
     let all = c.note_release.new.events.items in
     let permit : o ≡ permit_of r.held = c.permit_released.ensures ∙ ap permit_released c.release_write_lock-released.ensures.released ∙ permit-released _ r.held in
-    subst (λ (x : Held). MovesLocks n (deeds_by n 0 (status_for (λ text. GiveUp) c.args.reason) all) x.request.held c.args.lock.now c.release_write_lock-released.new.self.held c.release_write_lock-released.new.lock) c.request.view_is
+    subst (λ (x : Ongoing). MovesLocks n (deeds_by n 0 (status_for (λ text. GiveUp) c.args.reason) all) x.request.held c.args.lock.now c.release_write_lock-released.new.self.held c.release_write_lock-released.new.lock) c.request.view_is
     (settle-alone n 0 (status_for (λ text. GiveUp) c.args.reason) c.args.lock.now c.release_write_lock-released.new.lock r.held c.release_write_lock-released.new.self.held o old all (status-reason c.args.reason) permit c.requires.none c.note_release.ensures.events (ap (λ (y : Request). y.held) c.release_write_lock-released.ensures.request) c.release_write_lock-released.ensures.table)

@@ -1,7 +1,7 @@
 use Rattle.std.proofs.Common.{◌∙◌, ap, sym}
 use Rattle.pcache_base.specs.Key.{slot}
 use Rattle.pingora_cache.specs.PartFacts.{facts_in}
-use Rattle.pcache_history.specs.Held.{held_put}
+use Rattle.pcache_history.specs.Ongoing.{ongoing_put}
 use Rattle.pcache_history.specs.Taking.{taking}
 use Rattle.pingora_cache.proofs.Evicting.{close-evicts, unwritten-evicts}
 use Rattle.pingora_cache.proofs.PutClosed.{quiet-end, unwritten-answers-as, unwritten-moves-as, written-answers-as, written-moves-as, tells-as-answered}
@@ -28,7 +28,7 @@ returns-in-Some-clause-quiet g c = quiet-end _ _ _ _ _ c.end_written.ensures.not
 pub returns-in-None-clause-answers : goal.returns-in-None-clause-answers
 returns-in-None-clause-answers g c some =
     unwritten-answers-as (taking c.args.ctx) c.args.parts.now.store c.end_put-end.new.storage (g.M.EvictionManager.limits c.args.parts.now.manager) (g.M.EvictionManager.tracked c.args.parts.now.manager) (g.M.EvictionManager.tracked c.end_put-end.new.eviction) c.end_put-end.result.end c.end_put-end.result.entry c.end_put-end.ensures.entry c.end_put-end.ensures.ends
-    (facts_in c.args.parts.now.store c.args.parts.now.lock (held_put (taking c.args.ctx)).request) c.end_unwritten.result c.args.events.now.items c.requires.none (sym c.write_of-write.ensures.write ∙ c.in-None.is) c.end_unwritten.ensures
+    (facts_in c.args.parts.now.store c.args.parts.now.lock (ongoing_put (taking c.args.ctx)).request) c.end_unwritten.result c.args.events.now.items c.requires.none (sym c.write_of-write.ensures.write ∙ c.in-None.is) c.end_unwritten.ensures
 
 pub returns-in-None-clause-moves : goal.returns-in-None-clause-moves
 returns-in-None-clause-moves g c world some =

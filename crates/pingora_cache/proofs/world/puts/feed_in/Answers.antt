@@ -1,7 +1,7 @@
 use Rattle.std.proofs.Common.{ℕ, List, Some, ◌∙◌, ap, subst}
 use Rattle.pcache_base.specs.Key.{slot}
 use Rattle.pcache_put_ctx.specs.State.{write_in}
-use Rattle.pcache_history.specs.Held.{held_put}
+use Rattle.pcache_history.specs.Ongoing.{ongoing_put}
 use Rattle.pcache_history.specs.Taking.{taking}
 use Rattle.pcache_history.specs.declared.call.Act.TheVariants.{Feed}
 use Rattle.pcache_history.specs.declared.call.Reply.TheVariants.{Done, Refused}
@@ -37,7 +37,7 @@ pub returns-in-GoesOn-clause-puts : goal.returns-in-GoesOn-clause-puts
 returns-in-GoesOn-clause-puts g c =
     let p = taking c.args.ctx.now in
     let b = c.take_piece-began.result in
-    subst (λ (bytes : List ℕ). PutTurn g.P.PutPolicy.says (Feed bytes c.args.now) Done c.note_piece.new.events.items (Some (held_put p)) (Some (held_put (taking c.take_piece-began.new.self)))) c.as_slice.ensures
+    subst (λ (bytes : List ℕ). PutTurn g.P.PutPolicy.says (Feed bytes c.args.now) Done c.note_piece.new.events.items (Some (ongoing_put p)) (Some (ongoing_put (taking c.take_piece-began.new.self)))) c.as_slice.ensures
     (goes-puts g.P.PutPolicy.says p (taking c.take_piece-began.new.self) c.as_slice.result.now c.args.now c.args.store.now.next c.slot-slot.result b.began b.wrote c.write_of.result c.args.events.now.items c.note_piece.new.events.items c.take_piece-began.ensures.began (not-over p.stage b.end c.take_piece-began.ensures.again c.in-GoesOn.is) c.take_piece-began.ensures.taken
     c.requires.none c.write_of.ensures.write (ends-on _ _ _ _ c.in-GoesOn.is c.take_piece-began.ensures.ends) c.note_piece.ensures.events (λ whole. (ap (λ r. r.began) (c.take_piece-began.ensures.ignored whole), ap (λ r. r.wrote) (c.take_piece-began.ensures.ignored whole))) c.take_piece-began.ensures.last)
 
@@ -45,6 +45,6 @@ pub returns-in-Refused-clause-puts : goal.returns-in-Refused-clause-puts
 returns-in-Refused-clause-puts g c =
     let p = taking c.args.ctx.now in
     let b = c.take_piece-began.result in
-    subst (λ (bytes : List ℕ). PutTurn g.P.PutPolicy.says (Feed bytes c.args.now) (Refused c.etype.result) c.drop_write.new.events.items (Some (held_put p)) (Some (held_put (taking c.take_piece-began.new.self)))) c.as_slice.ensures
+    subst (λ (bytes : List ℕ). PutTurn g.P.PutPolicy.says (Feed bytes c.args.now) (Refused c.etype.result) c.drop_write.new.events.items (Some (ongoing_put p)) (Some (ongoing_put (taking c.take_piece-began.new.self)))) c.as_slice.ensures
     (refused-puts g.P.PutPolicy.says p (taking c.take_piece-began.new.self) c.as_slice.result.now c.args.now b.began b.wrote c.in-Refused.refused c.etype.result c.drop_write.new.events.items c.take_piece-began.ensures.taken (ends-refused _ _ _ _ _ _ c.in-Refused.is c.take_piece-began.ensures.ends).0
     (refused-never p b.end c.in-Refused.refused c.in-Refused.writer c.in-Refused.is (λ whole. ap (λ r. r.end) (c.take_piece-began.ensures.ignored whole))))

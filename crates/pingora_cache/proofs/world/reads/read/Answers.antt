@@ -1,11 +1,11 @@
 use Rattle.std.proofs.Common.{rules, Option, Some, IsSome, subst, ◌++◌, ◌∷◌, [], ap, sym, ◌∙◌, option_map}
 use Rattle.pcache_store.specs.Readers.{reader_of}
-use Rattle.pcache_history.specs.Held.{on_request, has_read}
+use Rattle.pcache_history.specs.Ongoing.{on_request, has_read}
 use Rattle.pcache_history.specs.declared.entry.Event.TheVariants as E
 use Rattle.pcache_meta.specs.Meta.{Meta}
 use Rattle.pcache_request.specs.Requests.{Request}
 use Rattle.pcache_store.specs.Store.{Reader}
-use Rattle.pcache_history.specs.Held.{Held}
+use Rattle.pcache_history.specs.Ongoing.{Ongoing}
 use Rattle.pingora_cache.specs.Moved.{MovesStore}
 use Rattle.pingora_cache.proofs.MovesOf.{reads-on}
 use Rattle.pingora_cache.proofs.Noted.{held_with, read-moved}
@@ -24,5 +24,5 @@ returns-clause-moves c =
     let pair : Option (Meta × Reader) = option_map (λ p. (p.0, reader_of p.1)) c.request.inside.pair in
     let r : Request = c.request.inside.cache in
     let some : IsSome r.reader = search rules in
-    subst (λ (x : Held). MovesStore (Some x) s c.push_reserved.new.self.items (Some (held_with c.request.inside.carried pair c.read_body.new.self)) c.read_body.new.storage) c.request.view_is
+    subst (λ (x : Ongoing). MovesStore (Some x) s c.push_reserved.new.self.items (Some (held_with c.request.inside.carried pair c.read_body.new.self)) c.read_body.new.storage) c.request.view_is
     (reads-on c.request.inside.carried r c.read_body.new.self pair s c.read_body.new.storage c.in-Ok.answer c.args.events.now.items c.push_reserved.new.self.items c.requires.none c.push_reserved.ensures.items some c.in-Ok.ensures.read c.in-Ok.ensures.request c.read_body.ensures.same_store)

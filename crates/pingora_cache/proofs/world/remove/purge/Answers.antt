@@ -3,7 +3,7 @@ use Rattle.pcache_meta.specs.Meta.{Meta}
 use Rattle.pcache_request.specs.Requests.{Request}
 use Rattle.pcache_store.specs.Readers.{reader_of}
 use Rattle.pcache_store.specs.Store.{Reader}
-use Rattle.pcache_history.specs.Held.{Held}
+use Rattle.pcache_history.specs.Ongoing.{Ongoing}
 use Rattle.pingora_cache.specs.Moved.{Moves}
 use Rattle.pingora_cache.specs.PartFacts.{number_for}
 use Rattle.pingora_cache.proofs.MovesOf.{purges, idle}
@@ -28,7 +28,7 @@ returns-clause-moves g c world =
     let events = c.match-purge_key.events.items in
     let key = sym c.in-Some.ensures.value in
     let k = c.in-Some.key.now in
-    subst (λ (x : Held). Moves limits (Some x) s m events (Some (held_with c.request.inside.carried pair c.purge_key.new.self)) u n) c.request.view_is
+    subst (λ (x : Ongoing). Moves limits (Some x) s m events (Some (held_with c.request.inside.carried pair c.purge_key.new.self)) u n) c.request.view_is
     (subst (λ (y : Request). Moves limits (Some (held_with c.request.inside.carried pair r)) s m events (Some (held_with c.request.inside.carried pair y)) u n) (sym c.purge_key.ensures.same)
     (elim c.match-purge_key.branch [
       | in-Ok w ↦
@@ -44,7 +44,7 @@ pub returns-clause-locks : goal.returns-clause-locks
 returns-clause-locks g c n =
     let events = c.match-purge_key.events.items in
     let h = c.args.request.now.request.held in
-    let same : c.purge_key.new.self.held ≡ h = ap (λ (y : Request). y.held) c.purge_key.ensures.same ∙ ap (λ (z : Held). z.request.held) c.request.view_is in
+    let same : c.purge_key.new.self.held ≡ h = ap (λ (y : Request). y.held) c.purge_key.ensures.same ∙ ap (λ (z : Ongoing). z.request.held) c.request.view_is in
     subst (λ l. MovesLocks n (deeds_by n 0 Done events) h c.args.parts.now.lock l c.args.parts.now.lock) (sym same)
     (elim c.match-purge_key.branch [
       | in-Ok w ↦ purge-locks n 0 Done c.args.parts.now.lock h c.slot-slot.result w.in-Ok.removal.untracked c.args.events.now.items events c.requires.none (ap (λ v. v.items) w.events-is ∙ w.note_removal.ensures.events)

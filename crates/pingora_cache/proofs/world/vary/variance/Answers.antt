@@ -3,7 +3,7 @@ use Rattle.pcache_meta.specs.Meta.{Meta}
 use Rattle.pcache_request.specs.Requests.{Request}
 use Rattle.pcache_store.specs.Readers.{reader_of}
 use Rattle.pcache_store.specs.Store.{Reader}
-use Rattle.pcache_history.specs.Held.{Held}
+use Rattle.pcache_history.specs.Ongoing.{Ongoing}
 use Rattle.pingora_cache.specs.Moved.{MovesStore}
 use Rattle.pingora_cache.specs.Step.{permit_in}
 use Rattle.pcache_history.specs.declared.entry.Event.TheVariants.{Release}
@@ -12,7 +12,7 @@ use Rattle.pingora_cache.proofs.Noted.{held_with}
 use Rattle.pingora_cache.specs.LockMoves.{MovesLocks}
 use Rattle.pcache_history.specs.Deeds.{deeds_by}
 use Rattle.pingora_cache.proofs.LockSteps.{varied-locks}
-use Rattle.pcache_history.specs.Held.{Held}
+use Rattle.pcache_history.specs.Ongoing.{Ongoing}
 use Rattle.pcache_lock.specs.declared.lock.status.LockStatus.TheVariants.{Done}
 use Rattle.pcache_request.specs.Variants.{leaves_variant}
 use Rattle.pingora_cache.proofs.world.vary.variance.Goals as goal
@@ -25,7 +25,7 @@ returns-clause-moves c s =
     let o = c.permit_in.result in
     let old = c.args.events.now.items in
     let all = c.note_release.new.events.items in
-    subst (λ (x : Held). MovesStore (Some x) s all (Some (held_with d pair c.update_variance-released.new.self)) s) c.request.view_is
+    subst (λ (x : Ongoing). MovesStore (Some x) s all (Some (held_with d pair c.update_variance-released.new.self)) s) c.request.view_is
     (turns-quietly (held_with d pair r) (held_with d pair c.update_variance-released.new.self) s all (quiet-noted Release o old all (λ n. tt) c.requires.none c.note_release.ensures.events)
     refl (ap (λ (y : Request). y.reader) c.update_variance-released.ensures.request) (ap (λ (y : Request). y.write) c.update_variance-released.ensures.request))
 
@@ -34,6 +34,6 @@ returns-clause-locks c n =
     let r : Request = c.request.inside.cache in
     let all = c.note_release.new.events.items in
     let b = leaves_variant c.args.variance r.key in
-    subst (λ (x : Held). MovesLocks n (deeds_by n 0 Done all) x.request.held c.args.lock.now c.update_variance-released.new.self.held c.update_variance-released.new.lock) c.request.view_is
+    subst (λ (x : Ongoing). MovesLocks n (deeds_by n 0 Done all) x.request.held c.args.lock.now c.update_variance-released.new.self.held c.update_variance-released.new.lock) c.request.view_is
     (varied-locks n 0 Done c.args.lock.now c.update_variance-released.new.lock b r.held c.update_variance-released.new.self.held c.permit_in.result c.args.events.now.items all tt (c.permit_in.ensures ∙ ap permit_in c.update_variance-released.ensures.released) c.requires.none c.note_release.ensures.events
     (ap (λ (y : Request). y.held) c.update_variance-released.ensures.request) c.update_variance-released.ensures.table)

@@ -1,11 +1,11 @@
 use Rattle.std.proofs.Common.{ap, refl}
-use Rattle.pcache_evict.specs.Shards.{joined_all}
+use Rattle.pcache_evict.specs.Shards.{added_last_all}
 use Rattle.pcache_evict.proofs.Cuts.{joins-on, longer-start, longer-joined}
 use Rattle.pcache_evict.proofs.eviction.shards.RecencyShards.join_each.Goals as goal
 
 pub loop-item-init : goal.loop-item-init
 loop-item-init g c = record {
-  joined = ap (λ es. joined_all g.row.N es c.args.self.now) c.into_iter-item-iterator.ensures.into_iter_gives.0;
+  joined = ap (λ es. added_last_all g.row.N es c.args.self.now) c.into_iter-item-iterator.ensures.into_iter_gives.0;
   longer = longer-start c.args.self.now c.args.self.now refl;
 }
 

@@ -1,7 +1,7 @@
 use Rattle.std.proofs.Common.{subst}
 use Rattle.pcache_lock.specs.Published.{IsIndex}
 use Rattle.pcache_lock.proofs.Published.{place_found}
-use Rattle.pcache_lock.proofs.lock.publications.Publications.first_place.Goals as goal
+use Rattle.pcache_lock.proofs.lock.publications.Publications.first_position.Goals as goal
 
 pub returns-in-Some : goal.returns-in-Some
 returns-in-Some c =

@@ -1,6 +1,6 @@
 use Rattle.std.proofs.Common.{◌≡◌, ◌≤◌, ◌+◌, ◌++◌, ◌∷◌, [], ◌∙◌, ap, arith, drop, length, refl, subst, sym, take, get_or, length-drop}
 use Rattle.std.proofs.lemmas.List.{take_all}
-use Rattle.pcache_lock.specs.Published.{IsFirstPlace}
+use Rattle.pcache_lock.specs.Published.{IsFirstPosition}
 use Rattle.pcache_lock.specs.Waiting.{first_told}
 use Rattle.pcache_lock.proofs.Published.{place_told, no_place, nothing_told, found_next, not_found_next}
 use Rattle.pcache_lock.proofs.lock.publications.Publications.first_told.Goals as goal
@@ -14,19 +14,19 @@ loop-fill-init c =
       told = sym (nothing_told (drop c.args.from c.args.self.now));
     }
 
-pub first_place-requires : goal.first_place-requires
-first_place-requires c = let at = c.loop-fill.invariant.place in omega arith
+pub first_position-requires : goal.first_position-requires
+first_position-requires c = let at = c.loop-fill.invariant.place in omega arith
 
 pub loop-fill-preserved : goal.loop-fill-preserved
 loop-fill-preserved c =
-    elim c.match-first_place.branch [
+    elim c.match-first_position.branch [
       | in-Some w ↦
-          let next = found_next c.args.self.now c.fills-fill-items.result.now c.loop-fill.fill-index _ c.args.from c.loop-fill.before w.in-Some.place c.first_place.result
-          c.loop-fill-test.true c.loop-fill.invariant.place c.first_place.ensures w.in-Some.is in
+          let next = found_next c.args.self.now c.fills-fill-items.result.now c.loop-fill.fill-index _ c.args.from c.loop-fill.before w.in-Some.place c.first_position.result
+          c.loop-fill-test.true c.loop-fill.invariant.place c.first_position.ensures w.in-Some.is in
           record { place = w.before-is ∙ next.1; told = w.told-is ∙ sym next.0 }
       | in_default w ↦
-          let next = not_found_next c.args.self.now c.fills-fill-items.result.now c.loop-fill.fill-index _ c.args.from c.loop-fill.before c.first_place.result
-          c.loop-fill-test.true c.loop-fill.invariant.place c.first_place.ensures w.in_default.is in
+          let next = not_found_next c.args.self.now c.fills-fill-items.result.now c.loop-fill.fill-index _ c.args.from c.loop-fill.before c.first_position.result
+          c.loop-fill-test.true c.loop-fill.invariant.place c.first_position.ensures w.in_default.is in
           record { place = w.before-is ∙ next.1; told = w.told-is ∙ c.loop-fill.invariant.told ∙ sym next.0 }
     ]
 

@@ -2,7 +2,7 @@ use Rattle.std.proofs.Common.{◌∙◌, ap, sym, subst, arith}
 use Rattle.std.specs.Prelude.{slice_set, IsSome}
 use Rattle.std.specs.FinMap as map
 use Rattle.std.proofs.lemmas.Result.{IfOk-weaker}
-use Rattle.pcache_table.specs.Sharding.{joined}
+use Rattle.pcache_table.specs.Sharding.{one_map}
 use Rattle.pcache_store.specs.Drafts.{IsBodyOf}
 use Rattle.pcache_store.specs.Shards.{parts}
 use Rattle.pcache_store.specs.Store.{grounded_on}
@@ -16,7 +16,7 @@ pub invariant_of-self : goal.invariant_of-self
 invariant_of-self c = kept-gone c.self.invariant c.place_of-place.result c.args.number c.place_of-place.ensures.within c.place_of-place.ensures.place c.index-self-place.result c.end_in-body.result.1 c.end_in-body.new.writes (changed-landed c.self.invariant c.place_of-place.result c.args.number c.place_of-place.ensures.within c.place_of-place.ensures.place c.index-self-place.result) c.end_in-body.ensures.after c.end_in-body.ensures.gone
 
 pub returns-clause-gone : goal.returns-clause-gone
-returns-clause-gone c = ap (λ x. joined (parts 0 (slice_set c.self.inside.shards c.place_of-place.result x))) c.end_in-body.ensures.after ∙ (changed-landed c.self.invariant c.place_of-place.result c.args.number c.place_of-place.ensures.within c.place_of-place.ensures.place c.index-self-place.result).whole ∙ ap (λ m. grounded_on m c.args.number (map.get m c.args.number)) c.self.view_is
+returns-clause-gone c = ap (λ x. one_map (parts 0 (slice_set c.self.inside.shards c.place_of-place.result x))) c.end_in-body.ensures.after ∙ (changed-landed c.self.invariant c.place_of-place.result c.args.number c.place_of-place.ensures.within c.place_of-place.ensures.place c.index-self-place.result).whole ∙ ap (λ m. grounded_on m c.args.number (map.get m c.args.number)) c.self.view_is
 
 pub end_in-body-requires : goal.end_in-body-requires
 end_in-body-requires c = subst IsSome (sym (here c.self.invariant c.place_of-place.result c.args.number c.place_of-place.ensures.within c.place_of-place.ensures.place c.index-self-place.result ∙ ap (λ m. map.get m c.args.number) c.self.view_is)) c.requires

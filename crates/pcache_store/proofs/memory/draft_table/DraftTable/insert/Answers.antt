@@ -1,7 +1,7 @@
 use Rattle.std.proofs.Common.{◌≡◌, ◌∙◌, ◌+◌, ◌%◌, ap, sym, subst, arith, None}
 use Rattle.std.specs.Prelude.{slice_set}
 use Rattle.std.specs.FinMap as map
-use Rattle.pcache_table.specs.Sharding.{joined}
+use Rattle.pcache_table.specs.Sharding.{one_map}
 use Rattle.pcache_store.specs.Shards.{AreRecords, parts}
 use Rattle.pcache_store.proofs.Records.{changed-new, kept-new}
 use Rattle.pcache_store.proofs.memory.draft_table.DraftTable.insert.Goals as goal
@@ -16,6 +16,6 @@ invariant_of-self-2 c =
 pub returns-clause-ok : goal.returns-clause-ok
 returns-clause-ok c =
     let none = subst (λ m. map.get m c.args.number ≡ None) (sym c.self.view_is) c.requires in
-    ap (λ x. joined (parts 0 (slice_set c.self.inside.shards (c.slot.result % 16) x))) c.in_ok-insert.ensures.ok
+    ap (λ x. one_map (parts 0 (slice_set c.self.inside.shards (c.slot.result % 16) x))) c.in_ok-insert.ensures.ok
     ∙ (changed-new c.self.invariant (c.slot.result % 16) c.args.number (omega arith) none c.index-self-place.result c.args.draft (ap (λ k. k % 16) (sym c.slot.ensures))).whole
     ∙ ap (λ m. map.insert m c.args.number c.args.draft) c.self.view_is

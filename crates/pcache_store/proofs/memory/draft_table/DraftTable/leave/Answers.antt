@@ -1,7 +1,7 @@
 use Rattle.std.proofs.Common.{◌∙◌, ap, arith}
 use Rattle.std.specs.Prelude.{slice_set}
 use Rattle.std.specs.FinMap as map
-use Rattle.pcache_table.specs.Sharding.{joined}
+use Rattle.pcache_table.specs.Sharding.{one_map}
 use Rattle.pcache_store.specs.Shards.{parts}
 use Rattle.pcache_store.specs.Store.{left_on}
 use Rattle.pcache_store.proofs.Records.{fits, kept-gone, changed-left}
@@ -14,4 +14,4 @@ pub invariant_of-self : goal.invariant_of-self
 invariant_of-self c = kept-gone c.self.invariant c.place_of-place.result c.args.number c.place_of-place.ensures.within c.place_of-place.ensures.place c.index-self-place.result c.leave_in.result c.leave_in.new.writes (changed-left c.self.invariant c.place_of-place.result c.args.number c.place_of-place.ensures.within c.place_of-place.ensures.place c.index-self-place.result) c.leave_in.ensures.after c.leave_in.ensures.gone
 
 pub returns : goal.returns
-returns c = ap (λ x. joined (parts 0 (slice_set c.self.inside.shards c.place_of-place.result x))) c.leave_in.ensures.after ∙ (changed-left c.self.invariant c.place_of-place.result c.args.number c.place_of-place.ensures.within c.place_of-place.ensures.place c.index-self-place.result).whole ∙ ap (λ m. left_on m c.args.number (map.get m c.args.number)) c.self.view_is
+returns c = ap (λ x. one_map (parts 0 (slice_set c.self.inside.shards c.place_of-place.result x))) c.leave_in.ensures.after ∙ (changed-left c.self.invariant c.place_of-place.result c.args.number c.place_of-place.ensures.within c.place_of-place.ensures.place c.index-self-place.result).whole ∙ ap (λ m. left_on m c.args.number (map.get m c.args.number)) c.self.view_is

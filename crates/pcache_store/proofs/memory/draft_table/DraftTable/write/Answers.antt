@@ -3,7 +3,7 @@ use Rattle.std.specs.Prelude.{slice_index_or, slice_set}
 use Rattle.std.specs.FinMap as map
 use Rattle.std.proofs.lemmas.List.{set-get_or}
 use Rattle.std.proofs.lemmas.Result.{on_ok_weaker}
-use Rattle.pcache_table.specs.Sharding.{joined}
+use Rattle.pcache_table.specs.Sharding.{one_map}
 use Rattle.pcache_store.specs.Shards.{AreRecords, parts}
 use Rattle.pcache_store.specs.Store.{wrote_on}
 use Rattle.pcache_store.proofs.Writes.{on_both}
@@ -17,4 +17,4 @@ invariant_of-self c = on_both c.write_in.result
     c.write_in.ensures.ok c.write_in.ensures.err
 
 pub returns-clause-ok : goal.returns-clause-ok
-returns-clause-ok c = on_ok_weaker c.write_in.result (λ e. ap (λ x. joined (parts 0 (slice_set c.self.inside.shards c.place_of-place.result x))) e ∙ (changed-wrote c.self.invariant c.place_of-place.result c.args.number c.place_of-place.ensures.within c.place_of-place.ensures.place c.index-self-place.result c.args.bytes c.args.eof).whole ∙ ap (λ m. wrote_on m c.args.number c.args.bytes c.args.eof (map.get m c.args.number)) c.self.view_is) c.write_in.ensures.ok
+returns-clause-ok c = on_ok_weaker c.write_in.result (λ e. ap (λ x. one_map (parts 0 (slice_set c.self.inside.shards c.place_of-place.result x))) e ∙ (changed-wrote c.self.invariant c.place_of-place.result c.args.number c.place_of-place.ensures.within c.place_of-place.ensures.place c.index-self-place.result c.args.bytes c.args.eof).whole ∙ ap (λ m. wrote_on m c.args.number c.args.bytes c.args.eof (map.get m c.args.number)) c.self.view_is) c.write_in.ensures.ok

@@ -5,7 +5,7 @@ use Rattle.std.proofs.lemmas.List.{set-get_or}
 use Rattle.std.proofs.lemmas.Result.{IfOk-weaker, on_ok_weaker, on_err_weaker}
 use Rattle.pcache_meta.specs.Meta.{expired_at}
 use Rattle.pcache_store.specs.Store.{complete_body, meta_changed_on}
-use Rattle.pcache_table.specs.Sharding.{joined}
+use Rattle.pcache_table.specs.Sharding.{one_map}
 use Rattle.pcache_store.specs.Shards.{AreShards, parts}
 use Rattle.pcache_store.proofs.Writes.{on_both}
 use Rattle.pcache_store.proofs.SlotShards.{here, changed-meta, held-meta, kept-changed}
@@ -25,7 +25,7 @@ returns-clause-there c = IfOk-weaker c.expire_in.result _ _ (λ b h. h ∙ ap (�
 
 pub returns-clause-slots : goal.returns-clause-slots
 returns-clause-slots c = on_ok_weaker c.expire_in.result (λ e.
-    ap (λ x. joined (parts 0 (slice_set c.self.inside.shards (c.args.key % 16) x))) e
+    ap (λ x. one_map (parts 0 (slice_set c.self.inside.shards (c.args.key % 16) x))) e
     ∙ (changed-meta c.self.inside.shards c.args.key c.index-self-place.result c.self.invariant.long c.self.invariant.placed (expired_at c.args.now)).whole
     ∙ ap (λ m. meta_changed_on (expired_at c.args.now) m c.args.key (map.get m c.args.key)) c.self.view_is) c.expire_in.ensures.slots
 

@@ -1,20 +1,20 @@
 use Rattle.std.proofs.Common.{◌∙◌, ◌%◌, ap, arith}
 use Rattle.std.specs.Prelude.{slice_index_or, slice_set}
 use Rattle.pcache_store.specs.Store.{opened}
-use Rattle.pcache_table.specs.Sharding.{joined}
+use Rattle.pcache_table.specs.Sharding.{one_map}
 use Rattle.std.specs.FinMap as map
-use Rattle.pcache_store.specs.Shards.{held, parts}
+use Rattle.pcache_store.specs.Shards.{one_if_some, parts}
 use Rattle.pcache_store.proofs.SlotShards.{changed-opened, held-opened, kept-more}
 use Rattle.pcache_store.proofs.memory.slot_table.SlotTable.open.Goals as goal
 
 pub invariant_of-self-2 : goal.invariant_of-self-2
 invariant_of-self-2 c =
     let table = slice_index_or c.self.inside.shards (c.args.key % 16) c.index-self-place.result in
-    let one = ap (λ m. held (map.get m c.args.key)) c.in_ok-more.ensures.ok ∙ held-opened table c.args.key c.args.number in
+    let one = ap (λ m. one_if_some (map.get m c.args.key)) c.in_ok-more.ensures.ok ∙ held-opened table c.args.key c.args.number in
     kept-more c.self.inside.shards c.args.key c.self.inside.count c.in_ok-more.more c.index-self-place.result c.open_in.new.slots c.self.invariant (changed-opened c.self.inside.shards c.args.key c.index-self-place.result c.self.invariant.long c.self.invariant.placed c.args.number) c.in_ok-more.ensures.ok one c.in_ok-more.ensures.more (omega (arith, c.if-self-ge-MOST_KEYS.false))
 
 pub returns-clause-ok : goal.returns-clause-ok
 returns-clause-ok c =
-    ap (λ x. joined (parts 0 (slice_set c.self.inside.shards (c.args.key % 16) x))) c.in_ok-more.ensures.ok
+    ap (λ x. one_map (parts 0 (slice_set c.self.inside.shards (c.args.key % 16) x))) c.in_ok-more.ensures.ok
     ∙ (changed-opened c.self.inside.shards c.args.key c.index-self-place.result c.self.invariant.long c.self.invariant.placed c.args.number).whole
     ∙ ap (λ m. opened m c.args.key c.args.number) c.self.view_is

@@ -2,7 +2,7 @@ use Rattle.std.proofs.Common.{◌∙◌, ◌%◌, ap, arith}
 use Rattle.std.specs.Prelude.{slice_set}
 use Rattle.std.specs.FinMap as map
 use Rattle.pcache_store.specs.Store.{has_write, body_with, complete_body, write_gone_on}
-use Rattle.pcache_table.specs.Sharding.{joined}
+use Rattle.pcache_table.specs.Sharding.{one_map}
 use Rattle.pcache_store.specs.Shards.{parts}
 use Rattle.pcache_store.proofs.SlotShards.{here, changed-lost, held-fits, kept-gone}
 use Rattle.pcache_store.proofs.memory.slot_table.SlotTable.remove_write.Goals as goal
@@ -22,6 +22,6 @@ returns-clause-body c = c.remove_write_in-there.ensures.body ∙ ap (λ o. body_
 
 pub returns-clause-removed : goal.returns-clause-removed
 returns-clause-removed c =
-    ap (λ x. joined (parts 0 (slice_set c.self.inside.shards (c.args.key % 16) x))) c.remove_write_in-there.ensures.after
+    ap (λ x. one_map (parts 0 (slice_set c.self.inside.shards (c.args.key % 16) x))) c.remove_write_in-there.ensures.after
     ∙ (changed-lost c.self.inside.shards c.args.key c.index-self-place.result c.self.invariant.long c.self.invariant.placed c.args.id).whole
     ∙ ap (λ m. write_gone_on m c.args.key c.args.id (map.get m c.args.key)) c.self.view_is

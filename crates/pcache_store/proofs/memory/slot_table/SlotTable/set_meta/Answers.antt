@@ -2,7 +2,7 @@ use Rattle.std.proofs.Common.{◌∙◌, ◌%◌, ap, sym, subst, arith, is_some
 use Rattle.std.specs.Prelude.{slice_index_or, slice_set}
 use Rattle.std.specs.FinMap as map
 use Rattle.pcache_store.specs.Store.{complete_body, meta_changed_on}
-use Rattle.pcache_table.specs.Sharding.{joined}
+use Rattle.pcache_table.specs.Sharding.{one_map}
 use Rattle.pcache_store.specs.Shards.{AreShards, parts}
 use Rattle.pcache_store.proofs.SlotShards.{here, changed-meta, held-meta, kept-changed}
 use Rattle.pcache_store.proofs.memory.slot_table.SlotTable.set_meta.Goals as goal
@@ -20,6 +20,6 @@ returns-clause-there c = c.set_meta_in.ensures.there ∙ ap (λ o. is_some (comp
 
 pub returns-clause-slots : goal.returns-clause-slots
 returns-clause-slots c =
-    ap (λ x. joined (parts 0 (slice_set c.self.inside.shards (c.args.key % 16) x))) c.set_meta_in.ensures.slots
+    ap (λ x. one_map (parts 0 (slice_set c.self.inside.shards (c.args.key % 16) x))) c.set_meta_in.ensures.slots
     ∙ (changed-meta c.self.inside.shards c.args.key c.index-self-place.result c.self.invariant.long c.self.invariant.placed (λ _. c.args.meta)).whole
     ∙ ap (λ m. meta_changed_on (λ _. c.args.meta) m c.args.key (map.get m c.args.key)) c.self.view_is

@@ -2,7 +2,7 @@ use Rattle.std.proofs.Common.{◌∙◌, ◌%◌, ap, arith}
 use Rattle.std.specs.Prelude.{slice_set}
 use Rattle.std.specs.FinMap as map
 use Rattle.pcache_store.specs.Store.{shut_on}
-use Rattle.pcache_table.specs.Sharding.{joined}
+use Rattle.pcache_table.specs.Sharding.{one_map}
 use Rattle.pcache_store.specs.Shards.{parts}
 use Rattle.pcache_store.proofs.SlotShards.{changed-shut, held-fits, kept-gone}
 use Rattle.pcache_store.proofs.memory.slot_table.SlotTable.shut.Goals as goal
@@ -16,6 +16,6 @@ invariant_of-self c =
 
 pub returns : goal.returns
 returns c =
-    ap (λ x. joined (parts 0 (slice_set c.self.inside.shards (c.args.key % 16) x))) c.shut_in.ensures.after
+    ap (λ x. one_map (parts 0 (slice_set c.self.inside.shards (c.args.key % 16) x))) c.shut_in.ensures.after
     ∙ (changed-shut c.self.inside.shards c.args.key c.index-self-place.result c.self.invariant.long c.self.invariant.placed c.args.number).whole
     ∙ ap (λ m. shut_on m c.args.key c.args.number (map.get m c.args.key)) c.self.view_is

@@ -3,7 +3,7 @@ use Rattle.std.specs.Prelude.{slice_index_or, slice_set}
 use Rattle.std.specs.FinMap as map
 use Rattle.std.specs.Prelude.{IsSome}
 use Rattle.pcache_store.specs.Store.{complete_body, stored_on}
-use Rattle.pcache_table.specs.Sharding.{joined}
+use Rattle.pcache_table.specs.Sharding.{one_map}
 use Rattle.pcache_store.specs.Shards.{AreShards, parts}
 use Rattle.pcache_store.proofs.SlotShards.{here, changed-stored, held-stored, kept-changed}
 use Rattle.pcache_store.proofs.memory.slot_table.SlotTable.store.Goals as goal
@@ -24,6 +24,6 @@ returns-clause-older c = c.store_in.ensures.older ∙ ap complete_body (here c.s
 
 pub returns-clause-slots : goal.returns-clause-slots
 returns-clause-slots c =
-    ap (λ x. joined (parts 0 (slice_set c.self.inside.shards (c.args.key % 16) x))) c.store_in.ensures.slots
+    ap (λ x. one_map (parts 0 (slice_set c.self.inside.shards (c.args.key % 16) x))) c.store_in.ensures.slots
     ∙ (changed-stored c.self.inside.shards c.args.key c.index-self-place.result c.self.invariant.long c.self.invariant.placed c.args.number c.args.body).whole
     ∙ ap (λ m. stored_on m c.args.key c.args.number c.args.body (map.get m c.args.key)) c.self.view_is

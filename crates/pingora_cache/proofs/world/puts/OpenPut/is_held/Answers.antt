@@ -1,5 +1,5 @@
 use Rattle.std.proofs.Common.{IsSome, refl, subst, sym}
-use Rattle.pcache_history.specs.Held.{Held}
+use Rattle.pcache_history.specs.Ongoing.{Ongoing}
 use Rattle.pcache_history.specs.Taking.{taking}
 use Rattle.pingora_cache.proofs.world.puts.OpenPut.is_held.Goals as goal
 
@@ -7,4 +7,4 @@ pub returns-clause-held : goal.returns-clause-held
 returns-clause-held g c = (taking c.self.inside.ctx, sym c.self.view_is)
 
 pub returns-clause-some : goal.returns-clause-some
-returns-clause-some g c = subst (λ (x : Held). IsSome x.put) c.self.view_is refl
+returns-clause-some g c = subst (λ (x : Ongoing). IsSome x.put) c.self.view_is refl

@@ -1,5 +1,5 @@
 use Rattle.std.proofs.Common.{◌∙◌, ap, reverse}
-use Rattle.pcache_history.specs.Held.{request_of}
+use Rattle.pcache_history.specs.Ongoing.{request_of}
 use Rattle.pcache_history.specs.Log.{Log}
 use Rattle.pingora_cache.proofs.Records.{records-none}
 use Rattle.pingora_cache.proofs.world.world_type.World.write_records.Goals as goal

@@ -29,27 +29,27 @@ use Rattle.std.proofs.alloc.Global.TheLaws as heap_laws
 use Rattle.std.specs.contracts.impls.GlobalAllocator.TheImpl.{ghosts}
 use Rattle.pcache_c.specs.declared.object.Object.{Object}
 use Rattle.pcache_c.specs.contracts.object.Object as object
-use Rattle.pcache_c.specs.Handle.{held_at}
-use Rattle.pcache_c.proofs.HeldSteps.{Held, word, found, held_out}
+use Rattle.pcache_c.specs.Handle.{object_at}
+use Rattle.pcache_c.proofs.ObjectSteps.{ObjectPtr, word, found, held_out}
 use Rattle.pcache_c.proofs.LooseValues.{both, loose_good, loose_in}
-use Rattle.pcache_c.specs.contracts.handle.Held.into_loose.{ended, clauses}
-use Rattle.pcache_c.specs.contracts.handle.Held.into_loose.Key.{name as #self}
-use Rattle.pcache_c.proofs.handle.Held.into_loose.Statement.{statement}
-use Rattle.pcache_c.proofs.handle.Held.into_loose.Code as code
+use Rattle.pcache_c.specs.contracts.handle.ObjectPtr.into_loose.{ended, clauses}
+use Rattle.pcache_c.specs.contracts.handle.ObjectPtr.into_loose.Key.{name as #self}
+use Rattle.pcache_c.proofs.handle.ObjectPtr.into_loose.Statement.{statement}
+use Rattle.pcache_c.proofs.handle.ObjectPtr.into_loose.Code as code
 
 pub into_loose_spec : {M : Type 1} → statement M
 into_loose_spec 𝓤 𝓛 𝓜 𝓡 wired =
     let H = 𝓛.H in let 𝓣 = tables 𝓤 H 𝓜 𝓡 𝓡.env in let c = clauses 𝓛 𝓜.mem 𝓡.returns in
     let R : RattleType = object.the_row in let Z : RattleType = heap.the_row in let LZ = heap_laws.the_row_laws in
     let al : Al = record { row = Z; laws = LZ; g = ghosts; d = impl [] tnil dnil; drops = impl [] tnil dnil } in
-    let hs : Stays ended.signature.params ended.kept = (stay_dropped (plain (λ _. Held)) yes, (stay_dropped (plain (λ _. Z)) yes, tt)) in
-    proved_at 𝓛 ended hs c 𝓜 𝓡 (Goes-dropped 𝓛 0 (plain (λ _. Held)) yes (λ κs x f. refl), (Goes-dropped 𝓛 0 (plain (λ _. Z)) yes (λ κs x f. refl), tt)) #self code.function (code.unfolded 𝓤 H 𝓜 𝓡 wired) (λ z are.
+    let hs : Stays ended.signature.params ended.kept = (stay_dropped (plain (λ _. ObjectPtr)) yes, (stay_dropped (plain (λ _. Z)) yes, tt)) in
+    proved_at 𝓛 ended hs c 𝓜 𝓡 (Goes-dropped 𝓛 0 (plain (λ _. ObjectPtr)) yes (λ κs x f. refl), (Goes-dropped 𝓛 0 (plain (λ _. Z)) yes (λ κs x f. refl), tt)) #self code.function (code.unfolded 𝓤 H 𝓜 𝓡 wired) (λ z are.
     let Post : Val → SProp 𝓤 = (walk_of 𝓛 ended hs c).post z in let Run : List Val → SProp 𝓤 = λ ws. WpFn 𝓤 H 𝓣.C 𝓣.Λ code.function ws Post in
     let v = z.0.3.0 in let a = z.0.3.1.0 in
     qed 𝓛 ((raw (alive 𝓛 ended.signature z.0.0 z.0.1) ⊛ ‵ (owns (types_at ended.signature.params z.0.0) z.0.3 z.0.4)) ∷ raw (fact 𝓤 (IsTrue (is_some v.value))) ∷ []) ∵
     move ! (1 ∷ []) $ heard ! (IsTrue (is_some v.value)) (λ held. let it = found v.value held in
     split ! $ move ! (1 ∷ []) $ fsplit ! $ held_out ! v z.0.4.0 (λ ws.
-    rewrite ! 0 (λ (w : Option Object). ‵ (held_at v.at w)) it.1 refl $
+    rewrite ! 0 (λ (w : Option Object). ‵ (object_at v.at w)) it.1 refl $
     in_a_block ! v.at (λ p. box_owns (ghosts.dealloc_token a) R p it.0) (fst∗ 𝓤 (never 𝓤) (sem 𝓛 (ghosts.dealloc_token a (bare (lone R.mir)) null_ptr))) (λ b o e.
     move ! (1 ∷ []) $ fsplit ! $ handle_tells al ! a z.0.4.1.0 (λ h eh fits.
     move ! (1 ∷ []) $ drop ! $

@@ -44,7 +44,7 @@ use Rattle.pcache_history.specs.Taking.{Taking, filling, new_put}
 use Rattle.pcache_history.specs.Watching.{waited_with}
 
 -- what is open under a number: a request with the pair that its last look-up gave, or a put
-pub record Held : Type 0 where
+pub record Ongoing : Type 0 where
   pub request : Request
   pub pair : Option (Meta × Reader)
   -- the decision that a look-up carried last, which is that of the policy in use
@@ -59,40 +59,40 @@ IsOfOne (C.Files a) = ⊥
 IsOfOne _ = Unit {0}
 
 -- the part of a reply by which a request or a put changes
-pub data Outcome : Type 0 where
-  was_wrong : Outcome
-  was_done : Outcome
-  was_taken : Outcome
-  was_waited : (answer : Poll LockWaitOutcome) → Outcome
-  was_declined : (reason : NoCacheReason) → Outcome
-  was_refused : (kind : ErrorType) → Outcome
-  was_other : Outcome
+pub data ReplyKind : Type 0 where
+  was_wrong : ReplyKind
+  was_done : ReplyKind
+  was_taken : ReplyKind
+  was_waited : (answer : Poll LockWaitOutcome) → ReplyKind
+  was_declined : (reason : NoCacheReason) → ReplyKind
+  was_refused : (kind : ErrorType) → ReplyKind
+  was_other : ReplyKind
 
 -- the part of a reply that counts
-abbrev pub outcome : Reply → Outcome
-outcome R.WrongCall = was_wrong
-outcome R.Done = was_done
-outcome R.Same = was_done
-outcome R.Other = was_done
-outcome (R.Taken p l) = was_taken
-outcome R.Waiting = was_waited Pending
-outcome (R.Waited o) = was_waited (Ready o)
-outcome (R.NotCached reason) = was_declined reason
-outcome (R.Refused e) = was_refused e
+abbrev pub kind_of_reply : Reply → ReplyKind
+kind_of_reply R.WrongCall = was_wrong
+kind_of_reply R.Done = was_done
+kind_of_reply R.Same = was_done
+kind_of_reply R.Other = was_done
+kind_of_reply (R.Taken p l) = was_taken
+kind_of_reply R.Waiting = was_waited Pending
+kind_of_reply (R.Waited o) = was_waited (Ready o)
+kind_of_reply (R.NotCached reason) = was_declined reason
+kind_of_reply (R.Refused e) = was_refused e
 -- bytes that were read count as read even if copying them fails
-outcome (R.Data bytes) = was_refused OutOfMemory
-outcome _ = was_other
+kind_of_reply (R.Data bytes) = was_refused OutOfMemory
+kind_of_reply _ = was_other
 
 -- the call was a wrong one; it was done; a pair was taken
-abbrev pub is_wrong : Outcome → Bool
+abbrev pub is_wrong : ReplyKind → Bool
 is_wrong was_wrong = true
 is_wrong _ = false
 
-abbrev pub is_done : Outcome → Bool
+abbrev pub is_done : ReplyKind → Bool
 is_done was_done = true
 is_done _ = false
 
-abbrev pub is_taken : Outcome → Bool
+abbrev pub is_taken : ReplyKind → Bool
 is_taken was_taken = true
 is_taken _ = false
 
@@ -101,7 +101,7 @@ abbrev pub world_use : InUse
 world_use = record { eviction = true; predictor = false; lock = true }
 
 -- a request that was just opened
-abbrev pub opened : Option CacheOptionOverrides → Held
+abbrev pub opened : Option CacheOptionOverrides → Ongoing
 opened options = record { request = with_options true options (enabled_request world_use); pair = None; carried = None; put = None }
 
 -- the pair that a look-up found
@@ -131,11 +131,11 @@ asked stale (e ∷ es) x = asked stale es (with_given stale e x)
 
 -- a decision that a look-up carries, if the request looks its key up for the first time, takes a policy into use that
 -- decides so
-abbrev pub carries : Option Decision → Held → Bool
+abbrev pub carries : Option Decision → Ongoing → Bool
 carries d x = is_some d && is_key_phase x.request.phase
 
 -- the request with the policy that the carried decision takes into use
-abbrev pub carrying : Option Decision → Held → Held
+abbrev pub carrying : Option Decision → Ongoing → Ongoing
 carrying d x = let r : Request = x.request in record { request = record r { has_policy = carries d x || r.has_policy }; pair = x.pair; carried = cond (carries d x) d x.carried; put = x.put }
 
 -- the policy in use always makes the decision that was carried last; before one was carried, none is in use
@@ -143,18 +143,18 @@ abbrev pub policy_in : Option Decision → Decision
 policy_in carried = unwrap_or carried (decision.Ready 0)
 
 -- what the policy in use decides after this was found, if it is asked
-abbrev pub decides : Answer → Held → Option Decision
+abbrev pub decides : Answer → Ongoing → Option Decision
 decides a x = kept_if (is_none (pair_of a) && observes x.request) (Some (policy_in x.carried))
 
 -- the request after a look-up with a decision: if it defers, caching is turned off; otherwise the lock that was asked for
 -- is held, and the found pair, unless it is hidden
-abbrev pub after_look : Option Decision → Answer → List Event → Held → Held
+abbrev pub after_look : Option Decision → Answer → List Event → Ongoing → Ongoing
 after_look d a es x = cond (is_deferral d)
     (record { request = disabled_for Deferred (with_decision d x.request); pair = None; carried = None; put = x.put })
     (record { request = asked false es (with_decision d x.request); pair = visible x.request.valid_after (pair_of a); carried = x.carried; put = x.put })
 
 -- the request after a look-up, by the events of the call
-abbrev pub looked_by : List Event → Held → Held
+abbrev pub looked_by : List Event → Ongoing → Ongoing
 looked_by [] x = x
 looked_by (E.Look k a ∷ es) x = after_look (decides a x) a es x
 looked_by (_ ∷ es) x = x
@@ -170,11 +170,11 @@ placed_by s events x None = x
 placed_by s events x (Some p) = placed s p.0 p.1 (asked (asks_as_stale s x.phase) events x)
 
 -- the request after the found pair was taken
-abbrev pub taken_by : HitStatus → List Event → Held → Held
+abbrev pub taken_by : HitStatus → List Event → Ongoing → Ongoing
 taken_by s events x = record { request = placed_by s events x.request x.pair; pair = None; carried = x.carried; put = x.put }
 
 -- the request without its pair
-abbrev pub without_pair : Held → Held
+abbrev pub without_pair : Ongoing → Ongoing
 without_pair x = record { request = x.request; pair = None; carried = x.carried; put = x.put }
 
 -- a write that began is held, and the permit released; if the call did not fail, the reader follows it
@@ -210,21 +210,21 @@ abbrev pub with_sought : ℕ → Option ℕ → Request → Request
 with_sought start end x = record x { reader = sought_in start end x.reader }
 
 -- a change of the request alone
-abbrev pub on_request : (Request → Request) → Held → Held
+abbrev pub on_request : (Request → Request) → Ongoing → Ongoing
 on_request f x = record { request = f x.request; pair = x.pair; carried = x.carried; put = x.put }
 
 -- the request after the reply to a wait
-abbrev pub waited_by : Outcome → ℕ → Request → Request
+abbrev pub waited_by : ReplyKind → ℕ → Request → Request
 waited_by (was_waited answer) now x = waited_with answer now x
 waited_by _ now x = x
 
 -- a put, as a world keeps it
-abbrev pub held_put : Taking → Held
-held_put p = record { request = filling p.key (write_in p.stage) (entry_in p.stage); pair = None; carried = None; put = Some p }
+abbrev pub ongoing_put : Taking → Ongoing
+ongoing_put p = record { request = filling p.key (write_in p.stage) (entry_in p.stage); pair = None; carried = None; put = Some p }
 
 -- a put
-abbrev pub IsHeldPut : Held → Type 0
-IsHeldPut x = (p : Taking) × (x ≡ held_put p)
+abbrev pub IsOngoingPut : Ongoing → Type 0
+IsOngoingPut x = (p : Taking) × (x ≡ ongoing_put p)
 
 -- the stage of a put after its write began, if one did; and after a piece
 abbrev pub stage_noted : List Event → Stage → Stage
@@ -232,19 +232,19 @@ stage_noted (E.Begin w k m ∷ es) stage = InBody w (Some w) m.fresh_until
 stage_noted _ stage = stage
 
 -- the stage of a put after a piece, by the reply
-abbrev pub stage_fed : Outcome → List Event → Stage → Stage
+abbrev pub stage_fed : ReplyKind → List Event → Stage → Stage
 stage_fed was_done events stage = stage_noted events stage
 stage_fed (was_declined reason) events stage = HasDeclined reason
 stage_fed (was_refused kind) events stage = IsOver kind
 stage_fed _ events stage = stage
 
 -- a put after it was fed
-abbrev pub fed_in : Outcome → List Event → Held → Option Taking → Held
+abbrev pub fed_in : ReplyKind → List Event → Ongoing → Option Taking → Ongoing
 fed_in o events x None = x
-fed_in o events x (Some p) = held_put (record { key = p.key; size = p.size; parser = p.parser; stage = stage_fed o events p.stage })
+fed_in o events x (Some p) = ongoing_put (record { key = p.key; size = p.size; parser = p.parser; stage = stage_fed o events p.stage })
 
 -- a put after a piece
-abbrev pub fed : Outcome → List Event → Held → Held
+abbrev pub fed : ReplyKind → List Event → Ongoing → Ongoing
 fed o events x = cond (is_wrong o) x (fed_in o events x x.put)
 
 -- How a call changes the request or the put that it names: its row of the phase table.
@@ -318,15 +318,15 @@ change_of C.Close = goes
 change_of (C.Files a) = stays
 
 -- all of it changes except its reader
-abbrev pub turned_by : (Request → Request) → Bool → Held → Held
+abbrev pub turned_by : (Request → Request) → Bool → Ongoing → Ongoing
 turned_by f leaves_pair x = record { request = record (f x.request) { reader = x.request.reader }; pair = cond leaves_pair None x.pair; carried = x.carried; put = x.put }
 
 -- all of it changes, and its reader is let go; a policy is no longer in use
-abbrev pub shut_by : (Request → Request) → Held → Held
+abbrev pub shut_by : (Request → Request) → Ongoing → Ongoing
 shut_by f x = record { request = record (f x.request) { reader = None }; pair = None; carried = None; put = x.put }
 
 -- what is open under the number after that change
-abbrev pub changed : Change → Outcome → List Event → Option Held → Option Held
+abbrev pub changed : Change → ReplyKind → List Event → Option Ongoing → Option Ongoing
 changed (opens options) o events q = cond (is_done o) (Some (opened options)) q
 changed closes o events q = cond (is_done o) None q
 changed stays o events q = q
@@ -342,40 +342,40 @@ changed (seeks start end) o events q = cond (is_done o) (option_map (on_request 
 changed reads_no_more o events q = cond (is_wrong o) q (option_map (on_request without_reader) q)
 changed (renews m) o events q = cond (is_wrong o) q (option_map (on_request (renewed m)) q)
 changed (waits now) o events q = option_map (on_request (waited_by o now)) q
-changed (pushes k limit) o events q = cond (is_done o) (Some (held_put (new_put k limit))) q
+changed (pushes k limit) o events q = cond (is_done o) (Some (ongoing_put (new_put k limit))) q
 changed feeds o events q = option_map (fed o events) q
 changed goes o events q = cond (is_wrong o) q None
 
 -- the row of a call, by the part of its reply that counts
-abbrev pub row_by : Act → Outcome → List Event → Option Held → Option Held
+abbrev pub row_by : Act → ReplyKind → List Event → Option Ongoing → Option Ongoing
 row_by act o events q = changed (change_of act) o events q
 
 -- the row of a call: what is open under its number after it
-abbrev pub row : Act → Reply → List Event → Option Held → Option Held
-row act reply events q = row_by act (outcome reply) events q
+abbrev pub row : Act → Reply → List Event → Option Ongoing → Option Ongoing
+row act reply events q = row_by act (kind_of_reply reply) events q
 
 -- a request after it was handed a permit
-abbrev pub handed_by : Option Permit → Held → Held
+abbrev pub handed_by : Option Permit → Ongoing → Ongoing
 handed_by None x = x
 handed_by (Some p) x = on_request (handed p) x
 
 -- the permit that is held, if one is
-abbrev pub permit_held : Option Held → Option Permit
+abbrev pub permit_held : Option Ongoing → Option Permit
 permit_held None = None
 permit_held (Some x) = permit_in x.request.held
 
 -- the request r after a call that may hand it the permit of another request; `giver` is that one before the call, and
 -- q is r after the call's own change
-abbrev pub taken_over : Act → Outcome → ℕ → Option Held → Option Held → Option Held
+abbrev pub taken_over : Act → ReplyKind → ℕ → Option Ongoing → Option Ongoing → Option Ongoing
 taken_over (C.Give to) was_done r giver q = cond (to == r) (option_map (handed_by (permit_held giver)) q) q
 taken_over act o r giver q = q
 
 -- a request or a put after all entries that name it
-abbrev pub request_of : ℕ → List Entry → Option Held
+abbrev pub request_of : ℕ → List Entry → Option Ongoing
 request_of r [] = None
-request_of r (e ∷ h) = taken_over e.call.act (outcome e.reply) r (request_of e.call.request h) (if e.call.request == r then row e.call.act e.reply e.events (request_of r h) else request_of r h)
+request_of r (e ∷ h) = taken_over e.call.act (kind_of_reply e.reply) r (request_of e.call.request h) (if e.call.request == r then row e.call.act e.reply e.events (request_of r h) else request_of r h)
 
 -- the request to which a call hands a permit, after the giver no longer holds it
-abbrev pub taker_in : ℕ → Act → List Entry → Option Held
+abbrev pub taker_in : ℕ → Act → List Entry → Option Ongoing
 taker_in from (C.Give to) h = cond (from == to) (option_map (on_request unheld) (request_of to h)) (request_of to h)
 taker_in from act h = None

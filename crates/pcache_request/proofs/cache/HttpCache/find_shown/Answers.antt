@@ -1,5 +1,5 @@
 use Rattle.std.proofs.Common.{◌≡◌, Some, sym, ap, ◌∙◌, option_map}
-use Rattle.pcache_request.proofs.cache.HttpCache.find_told.Goals as goal
+use Rattle.pcache_request.proofs.cache.HttpCache.find_shown.Goals as goal
 
 -- what the store has is found
 pub found-requires : goal.found-requires

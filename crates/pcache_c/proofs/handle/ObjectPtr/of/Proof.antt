@@ -23,13 +23,13 @@ use Rattle.std.specs.contracts.alloc.Global as heap
 use Rattle.std.proofs.alloc.Global.TheLaws as heap_laws
 use Rattle.std.specs.contracts.impls.GlobalAllocator.TheImpl.{ghosts}
 use Rattle.pcache_c.specs.contracts.object.Object as object
-use Rattle.pcache_c.specs.Handle.{held_at}
-use Rattle.pcache_c.proofs.HeldSteps.{word, held_in}
+use Rattle.pcache_c.specs.Handle.{object_at}
+use Rattle.pcache_c.proofs.ObjectSteps.{word, held_in}
 use Rattle.pcache_c.proofs.LooseValues.{both, Loose, loose_good, loose_out}
-use Rattle.pcache_c.specs.contracts.handle.Held.of.{ended, clauses}
-use Rattle.pcache_c.specs.contracts.handle.Held.of.Key.{name as #self}
-use Rattle.pcache_c.proofs.handle.Held.of.Statement.{statement}
-use Rattle.pcache_c.proofs.handle.Held.of.Code as code
+use Rattle.pcache_c.specs.contracts.handle.ObjectPtr.of.{ended, clauses}
+use Rattle.pcache_c.specs.contracts.handle.ObjectPtr.of.Key.{name as #self}
+use Rattle.pcache_c.proofs.handle.ObjectPtr.of.Statement.{statement}
+use Rattle.pcache_c.proofs.handle.ObjectPtr.of.Code as code
 
 pub of_spec : {M : Type 1} → statement M
 of_spec 𝓤 𝓛 𝓜 𝓡 wired =
@@ -48,5 +48,5 @@ of_spec 𝓤 𝓛 𝓜 𝓡 wired =
     sets ! (of_opd ! (get ! refl)) refl (tt, tt) $
     sets ! (agg ! (and_then ! (get ! refl) (no_more !))) refl (tt, (tt, tt)) $
     use0 𝓛 (raw (fact 𝓤 (Some v.value ≡ Some v.value))) (fact_i 𝓤 (Some v.value ≡ Some v.value) (emp 𝓤) refl) $
-    move ! (1 ∷ []) $ use1 𝓛 (‵ (held_at (block_ptr b o) (Some v.value))) (id⊢ 𝓤 _) $ held_in ! (block_ptr b o) (Some v.value) $ nothing ! $ nothing ! $ fjoin ! $
+    move ! (1 ∷ []) $ use1 𝓛 (‵ (object_at (block_ptr b o) (Some v.value))) (id⊢ 𝓤 _) $ held_in ! (block_ptr b o) (Some v.value) $ nothing ! $ nothing ! $ fjoin ! $
     returns ! (look_at ! 0 refl) $ free_all ! refl $ keep ! (4 ∷ 1 ∷ 2 ∷ 0 ∷ []) $ keep ! (0 ∷ 3 ∷ 1 ∷ 2 ∷ []) $ by ! (leaves 𝓛 ended hs c z (word (block_ptr b o)) (record { at = block_ptr b o; value = Some v.value }) (tt, tt) (tt, tt)))))

@@ -17,11 +17,11 @@ use denote.Steps.{nothing}
 use denote.Triple.Entry.{alive}
 use denote.Triple.Walked.{walk_of}
 use Rattle.std.proofs.raw_atomic.Walks.{proved_at, leaves}
-use Rattle.pcache_c.proofs.HeldSteps.{word, held_in}
-use Rattle.pcache_c.specs.contracts.handle.Held.none.{ended, clauses}
-use Rattle.pcache_c.specs.contracts.handle.Held.none.Key.{name as #self}
-use Rattle.pcache_c.proofs.handle.Held.none.Statement.{statement}
-use Rattle.pcache_c.proofs.handle.Held.none.Code as code
+use Rattle.pcache_c.proofs.ObjectSteps.{word, held_in}
+use Rattle.pcache_c.specs.contracts.handle.ObjectPtr.none.{ended, clauses}
+use Rattle.pcache_c.specs.contracts.handle.ObjectPtr.none.Key.{name as #self}
+use Rattle.pcache_c.proofs.handle.ObjectPtr.none.Statement.{statement}
+use Rattle.pcache_c.proofs.handle.ObjectPtr.none.Code as code
 
 pub none_spec : {M : Type 1} → statement M
 none_spec 𝓤 𝓛 𝓜 𝓡 wired =
