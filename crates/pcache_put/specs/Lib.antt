@@ -4,6 +4,6 @@ pub mod Head
 pub mod HeadEnd
 pub mod HeadPiece
 pub mod Parts
-pub mod Places
+pub mod HeadStates
 pub mod Progress
 pub mod Response
