@@ -1,0 +1,12 @@
+pub mod Blake2b
+pub mod CompactKey
+pub mod Fills
+pub mod Hashing
+pub mod Key
+pub mod MomentParts
+pub mod Moments
+pub mod Reasons
+pub mod Seeds
+pub mod Text
+pub mod Variance
+pub mod Totals

@@ -1,0 +1,12 @@
+pub mod Chains
+pub mod Cuts
+pub mod EntryOrder
+pub mod Evictions
+pub mod Maps
+pub mod Recency
+pub mod Reweighs
+pub mod ShardMaps
+pub mod Sharded
+pub mod TrackedMaps
+pub mod Walks
+pub mod Raised

@@ -1,0 +1,14 @@
+use Rattle.std.proofs.Common.{◌≡◌, Some, ap, subst, sym, refl}
+use Rattle.std.specs.Prelude.{IsSome}
+use Rattle.lru.specs.LruCache.{lru_cache}
+use Rattle.pcache_evict.specs.Recency.{weight_of}
+use Rattle.pcache_evict.proofs.Recency.{written-put}
+use Rattle.pcache_evict.proofs.eviction.recency.raise_in.Goals as goal
+
+pub returns-clause-there : goal.returns-clause-there
+returns-clause-there c =
+    let found : weight_of c.args.item.now c.args.cache.now.entries ≡ Some c.in-Some.weight.now = sym c.in-Some.ensures.value in (
+      found,
+      c.raised_weight-after.ensures,
+      ap (λ l. lru_cache l c.args.cache.now.cap) (written-put c.args.cache.now c.args.item.now c.raised_weight-after.result (subst IsSome (sym found) refl)),
+    )

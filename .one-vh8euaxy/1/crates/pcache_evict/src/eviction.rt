@@ -1,0 +1,182 @@
+//! What an eviction manager is: it tracks the entries of a cache with their weights, and decides
+//! which of them leave when there are too many.
+ghost use Rattle.std.specs.Prelude.{◌≡◌, ◌^◌, ◌-◌, IfOk, IfErr, IsOk, IsTrue, OnErr, OnOk, min};
+ghost use Rattle.std.specs.FinMap as map;
+ghost use Rattle.std.specs.List.{IsDistinct};
+ghost use Rattle.std.specs.Map.{keys_of};
+ghost use Rattle.pcache_base.specs.declared.error.ErrorType.TheVariants.{OutOfMemory};
+ghost use Rattle.pcache_evict.specs.Entry.{entry_cmp, entry_eq};
+ghost use Rattle.pcache_evict.specs.Tracked.{Tracked, Limits, Evicted, IsFair, IsWithin, weight, without, added, incremented, evicted_with};
+
+use pcache_base::error::Result;
+use pcache_base::moment::Moment;
+
+mod entry_key;
+mod recency;
+pub mod sharded_lru;
+mod shards;
+pub mod simple_lru;
+
+pub use entry_key::{CacheEntryKey, CacheEntryKeyRef};
+pub use pcache_base::entry_id::CacheEntryId;
+
+/// Decides which entries leave a cache, by their weights and by how they are used.
+///
+/// A contract sees the map from entries to weights, and the limits on their sum and number. Calls
+/// fail only when memory runs out, and a failed call changes nothing.
+pub trait EvictionManager: Drop {
+    /// The entries, with their weights.
+    ghost tracked: { Self → Tracked };
+
+    /// What no call changes.
+    ghost limits: { Self → Limits };
+
+    /// The weight and the number of all that was evicted.
+    ghost evicted: { Self → Evicted };
+
+    /// The sum of the entries' weights; the largest `usize` if it is larger.
+    fn total_size(&self) -> usize
+        ensures { result ≡ min (weight (tracked self.now)) (2 ^ 64 - 1) };
+
+    /// The number of entries.
+    fn total_items(&self) -> usize
+        ensures { result ≡ map.len (tracked self.now) };
+
+    /// The sum of the weights of all entries evicted so far; the largest `usize` if it is larger.
+    fn evicted_size(&self) -> usize
+        ensures { result ≡ (evicted self.now).weight };
+
+    /// The number of entries evicted so far; the largest `usize` if it is larger.
+    fn evicted_items(&self) -> usize
+        ensures { result ≡ (evicted self.now).count };
+
+    /// The entries with their weights, each once.
+    fn entries(&self) -> Result<Vec<(CacheEntryKey, usize)>>
+        ensures all { IfOk result (λ all. map.from_entries all.items ≡ tracked self.now) }
+        ensures once { IfOk result (λ all. IsDistinct entry_eq (keys_of all.items)) }
+        ensures kind { IfErr result (λ e. e ≡ OutOfMemory) };
+
+    /// Sets the weight of an entry, and evicts entries only until the limits hold. The entry itself
+    /// may be evicted. Returns the evicted entries; `fresh_until` is when the entry goes stale.
+    fn admit(
+        &mut self,
+        item: CacheEntryKey,
+        size: usize,
+        fresh_until: Moment,
+    ) -> Result<Vec<CacheEntryKey>>
+        ensures limits { limits self.new ≡ limits self.old }
+        ensures fair { IfOk result (λ out. IsFair (limits self.old)
+            (map.insert (tracked self.old) item size) out.items) }
+        ensures tracked { IfOk result (λ out. tracked self.new
+            ≡ without out.items (map.insert (tracked self.old) item size)) }
+        ensures evicted { IfOk result (λ out. evicted self.new
+            ≡ evicted_with (evicted self.old) (map.insert (tracked self.old) item size) out.items) }
+        ensures kind { IfErr result (λ e. e ≡ OutOfMemory) }
+        ensures err { OnErr result (tracked self.new ≡ tracked self.old) }
+        ensures err_evicted { OnErr result (evicted self.new ≡ evicted self.old) };
+
+    /// Adds to the weight of an entry, up to `max_weight` (the largest `usize` if that is `None`),
+    /// and evicts as `admit` does. A weight never decreases; an entry that is not tracked is added
+    /// with this weight, at least 1. Does not fail if the entry is tracked and nothing is evicted.
+    fn increment_weight(
+        &mut self,
+        item: &CacheEntryKey,
+        delta: usize,
+        max_weight: Option<usize>,
+    ) -> Result<Vec<CacheEntryKey>>
+        ensures limits { limits self.new ≡ limits self.old }
+        ensures fair { IfOk result (λ out. IsFair (limits self.old)
+            (incremented (tracked self.old) item.now delta max_weight) out.items) }
+        ensures tracked { IfOk result (λ out. tracked self.new
+            ≡ without out.items (incremented (tracked self.old) item.now delta max_weight)) }
+        ensures evicted { IfOk result (λ out. evicted self.new
+            ≡ evicted_with (evicted self.old)
+            (incremented (tracked self.old) item.now delta max_weight) out.items) }
+        ensures within { IsTrue (map.contains_key (tracked self.old) item.now)
+            → IsWithin (limits self.old) (incremented (tracked self.old) item.now delta max_weight)
+            → IsOk result }
+        ensures kind { IfErr result (λ e. e ≡ OutOfMemory) }
+        ensures err { OnErr result (tracked self.new ≡ tracked self.old) }
+        ensures err_evicted { OnErr result (evicted self.new ≡ evicted self.old) };
+
+    /// Removes an entry, if it is tracked. That is no eviction.
+    fn remove(&mut self, item: &CacheEntryKey)
+        ensures limits { limits self.new ≡ limits self.old }
+        ensures tracked { tracked self.new ≡ map.remove (tracked self.old) item.now }
+        ensures evicted { evicted self.new ≡ evicted self.old };
+
+    /// Records a use of an entry and returns whether it was tracked. One that was not is added with
+    /// this weight; nothing is evicted, even if the limits no longer hold. Does not fail if the
+    /// entry is tracked.
+    fn access(&mut self, item: &CacheEntryKey, size: usize, fresh_until: Moment) -> Result<bool>
+        ensures limits { limits self.new ≡ limits self.old }
+        ensures was { IfOk result (λ was. was ≡ map.contains_key (tracked self.old) item.now) }
+        ensures ok { OnOk result (tracked self.new ≡ added (tracked self.old) item.now size) }
+        ensures there { IsTrue (map.contains_key (tracked self.old) item.now) → IsOk result }
+        ensures evicted { evicted self.new ≡ evicted self.old }
+        ensures kind { IfErr result (λ e. e ≡ OutOfMemory) }
+        ensures err { OnErr result (tracked self.new ≡ tracked self.old) };
+
+    /// Whether an entry is tracked. That does not count as a use.
+    fn peek(&self, item: &CacheEntryKey) -> bool
+        ensures { result ≡ map.contains_key (tracked self.now) item.now };
+}
+
+/// A call on a box goes to the manager inside.
+impl EvictionManager for Box<dyn EvictionManager + Send> {
+    ghost tracked = { λ b. (EvictionManager-box b).tracked b.value };
+
+    ghost limits = { λ b. (EvictionManager-box b).limits b.value };
+
+    ghost evicted = { λ b. (EvictionManager-box b).evicted b.value };
+
+    fn total_size(&self) -> usize {
+        (**self).total_size()
+    }
+
+    fn total_items(&self) -> usize {
+        (**self).total_items()
+    }
+
+    fn evicted_size(&self) -> usize {
+        (**self).evicted_size()
+    }
+
+    fn evicted_items(&self) -> usize {
+        (**self).evicted_items()
+    }
+
+    fn entries(&self) -> Result<Vec<(CacheEntryKey, usize)>> {
+        (**self).entries()
+    }
+
+    fn admit(
+        &mut self,
+        item: CacheEntryKey,
+        size: usize,
+        fresh_until: Moment,
+    ) -> Result<Vec<CacheEntryKey>> {
+        (**self).admit(item, size, fresh_until)
+    }
+
+    fn increment_weight(
+        &mut self,
+        item: &CacheEntryKey,
+        delta: usize,
+        max_weight: Option<usize>,
+    ) -> Result<Vec<CacheEntryKey>> {
+        (**self).increment_weight(item, delta, max_weight)
+    }
+
+    fn remove(&mut self, item: &CacheEntryKey) {
+        (**self).remove(item);
+    }
+
+    fn access(&mut self, item: &CacheEntryKey, size: usize, fresh_until: Moment) -> Result<bool> {
+        (**self).access(item, size, fresh_until)
+    }
+
+    fn peek(&self, item: &CacheEntryKey) -> bool {
+        (**self).peek(item)
+    }
+}

@@ -1,0 +1,10 @@
+pub mod Beginnings
+pub mod Devices
+pub mod FileExact
+pub mod FileShortest
+pub mod InPieces
+pub mod Loading
+pub mod NodeLoop
+pub mod PutIn
+pub mod Whole
+pub mod Written

@@ -1,0 +1,10 @@
+use Rattle.std.proofs.Common.{◌≡◌, [], length}
+use Rattle.pcache_meta.specs.Header.{shown_fields}
+use Rattle.pcache_meta.specs.HeaderReading.{fields_at}
+use Rattle.pcache_meta.proofs.header_text.reader.read_fields.Given as goal
+
+abbrev pub invariant-lines : goal.invariant-lines
+invariant-lines l = fields_at (shown_fields l.headers) l.rest ≡ fields_at [] l.bytes
+
+abbrev pub decreases-lines : goal.decreases-lines
+decreases-lines l = length l.rest

@@ -1,0 +1,13 @@
+use Rattle.std.proofs.Common.{◌≡◌, ◌++◌}
+use Rattle.std.specs.Prelude.{All}
+use Rattle.std.specs.List.{flat_map}
+use Rattle.http_header.specs.HeaderMap.{pairs}
+use Rattle.pcache_meta.specs.HeaderText.{IsField, field_line, shown_lines}
+use Rattle.pcache_meta.proofs.header_text.writer.put_fields.Given as goal
+
+abbrev pub invariant-fields : goal.invariant-fields
+invariant-fields l = record {
+  written : l.out.items ++ flat_map field_line (shown_lines l.name-iterator)
+      ≡ l.fn.out.items ++ flat_map field_line (shown_lines (pairs l.headers));
+  valid : All IsField (shown_lines l.name-iterator) → All IsField (shown_lines (pairs l.headers));
+}

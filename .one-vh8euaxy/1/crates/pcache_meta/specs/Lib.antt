@@ -1,0 +1,15 @@
+pub mod Header
+pub mod HeaderForm
+pub mod HeaderReading
+pub mod HeaderText
+pub mod Internal
+pub mod Meta
+pub mod MetaBytes
+pub mod MetaKept
+pub mod MetaReading
+pub mod MetaSpelling
+pub mod MetaWriting
+pub mod Reading
+pub mod Shortest
+pub mod Spelling
+pub mod Writing

@@ -1,0 +1,130 @@
+//! A file system of which one call fails.
+use std::alloc::Allocator;
+use std::fs::{Files, Metadata, OpenFile, OpenOptions};
+use std::io;
+use std::io::{ErrorKind, Read, Seek, SeekFrom, Write};
+use std::sync::atomic::{AtomicU64, Ordering};
+
+/// Another file system, on which one call fails: an opening, a read, a write, a flush or a renaming.
+#[derive(Drop)]
+pub struct Failing<'a, R: Files> {
+    files: &'a R,
+    left: &'a AtomicU64,
+}
+
+impl<'a, R: Files> Failing<'a, R> {
+    /// The call after so many good ones fails.
+    pub fn new(files: &'a R, left: &'a AtomicU64) -> Failing<'a, R> {
+        Failing { files, left }
+    }
+}
+
+/// A file on it.
+#[derive(Drop)]
+pub struct FailingFile<'a, F> {
+    file: F,
+    left: &'a AtomicU64,
+}
+
+// Counts a call, which fails if no good one was left.
+fn count(left: &AtomicU64) -> io::Result<()> {
+    if left.fetch_sub(1, Ordering::SeqCst) == 0 {
+        return Err(io::Error::from(ErrorKind::Other));
+    }
+    Ok(())
+}
+
+impl<'a, F: Read> Read for FailingFile<'a, F> {
+    fn read(&mut self, buf: &mut [u8]) -> io::Result<usize> {
+        count(self.left)?;
+        self.file.read(buf)
+    }
+}
+
+impl<'a, F: Write> Write for FailingFile<'a, F> {
+    fn write(&mut self, buf: &[u8]) -> io::Result<usize> {
+        count(self.left)?;
+        self.file.write(buf)
+    }
+
+    fn flush(&mut self) -> io::Result<()> {
+        count(self.left)?;
+        self.file.flush()
+    }
+}
+
+impl<'a, F: Seek> Seek for FailingFile<'a, F> {
+    fn seek(&mut self, to: SeekFrom) -> io::Result<u64> {
+        self.file.seek(to)
+    }
+}
+
+impl<'a, F: OpenFile> OpenFile for FailingFile<'a, F> {
+    fn metadata(&self) -> io::Result<Metadata> {
+        self.file.metadata()
+    }
+
+    fn set_len(&self, size: u64) -> io::Result<()> {
+        self.file.set_len(size)
+    }
+
+    fn sync_all(&self) -> io::Result<()> {
+        self.file.sync_all()
+    }
+
+    fn sync_data(&self) -> io::Result<()> {
+        self.file.sync_data()
+    }
+}
+
+impl<'a, R: Files> Files for Failing<'a, R> {
+    type File = FailingFile<'a, R::File>;
+
+    type Dir = R::Dir;
+
+    fn open_file(&self, how: &OpenOptions, path: &str) -> io::Result<FailingFile<'a, R::File>> {
+        count(self.left)?;
+        let file = self.files.open_file(how, path)?;
+        Ok(FailingFile {
+            file,
+            left: self.left,
+        })
+    }
+
+    fn open_dir(&self, path: &str) -> io::Result<R::Dir> {
+        self.files.open_dir(path)
+    }
+
+    fn metadata(&self, path: &str) -> io::Result<Metadata> {
+        self.files.metadata(path)
+    }
+
+    fn symlink_metadata(&self, path: &str) -> io::Result<Metadata> {
+        self.files.symlink_metadata(path)
+    }
+
+    fn copy(&self, from: &str, to: &str) -> io::Result<u64> {
+        self.files.copy(from, to)
+    }
+
+    fn rename(&self, from: &str, to: &str) -> io::Result<()> {
+        count(self.left)?;
+        self.files.rename(from, to)
+    }
+
+    fn remove_file(&self, path: &str) -> io::Result<()> {
+        self.files.remove_file(path)
+    }
+
+    fn create_dir(&self, path: &str) -> io::Result<()> {
+        self.files.create_dir(path)
+    }
+
+    fn remove_dir(&self, path: &str) -> io::Result<()> {
+        self.files.remove_dir(path)
+    }
+
+    fn remove_dir_all<B: Allocator>(&self, alloc: B, path: &str) -> io::Result<()> {
+        self.files.remove_dir_all(alloc, path)
+    }
+}
