@@ -50,4 +50,4 @@ exact-kind age es ds r f g h act q reply told events a b same early first (inr (
 pub is_wrong_exactly : IsWrongExactly
 is_wrong_exactly age limits start before entry f l says taker early =
     let g = l.0 in
-    exact-kind age (events_of before) (deeds_of before) entry.call.request f g.facts before entry.call.act (request_of entry.call.request before) g.told entry.reply entry.events says g.says (l.2 ∙ sym taker) early l.3 g.answers g.copy
+    exact-kind age (events_of before) (deeds_of before) entry.call.request f g.facts before entry.call.act (request_of entry.call.request before) g.reply_made entry.reply entry.events says g.says (l.2 ∙ sym taker) early l.3 g.answers g.copy
