@@ -38,7 +38,7 @@ pub returns-clause-legal : goal.returns-clause-legal
 returns-clause-legal g c = (invariant_of-self-2 g c).0.legal
 
 pub returns-clause-puts : goal.returns-clause-puts
-returns-clause-puts g c = (invariant_of-self-2 g c).2.told
+returns-clause-puts g c = (invariant_of-self-2 g c).2.follow
 
 pub returns-clause-ok : goal.returns-clause-ok
 returns-clause-ok g c = record {
