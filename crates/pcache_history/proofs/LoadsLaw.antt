@@ -91,7 +91,7 @@ loads-start age limits start start' (e ∷ h) l is =
       record {
         facts = g.facts;
         says = g.says;
-        told = g.reply_made;
+        reply_made = g.reply_made;
         answers = g.answers;
         copy = g.copy;
         due = none-due limits start start' (events_of h) q (makes_of q) (makes_of (row e.call.act e.reply e.events q)) e.events idle g.due;

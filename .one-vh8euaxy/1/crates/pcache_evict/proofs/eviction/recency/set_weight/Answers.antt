@@ -1,7 +1,0 @@
-use Rattle.std.proofs.Common.{ap}
-use Rattle.lru.specs.LruCache.{lru_cache}
-use Rattle.pcache_evict.proofs.Recency.{written-put}
-use Rattle.pcache_evict.proofs.eviction.recency.set_weight.Goals as goal
-
-pub returns : goal.returns
-returns c = ap (λ l. lru_cache l c.args.cache.now.cap) (written-put c.args.cache.now c.args.item.now c.args.size c.requires)

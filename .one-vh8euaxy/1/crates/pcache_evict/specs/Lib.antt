@@ -1,7 +1,0 @@
-pub mod Chain
-pub mod Entry
-pub mod EntryRef
-pub mod Listed
-pub mod Recency
-pub mod Shards
-pub mod Tracked

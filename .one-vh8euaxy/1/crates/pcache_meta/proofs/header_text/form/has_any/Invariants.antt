@@ -1,9 +1,0 @@
-use Rattle.std.proofs.Common.{◌≡◌, length, map}
-use Rattle.pcache_meta.specs.HeaderForm.{has_any, lines_at}
-use Rattle.pcache_meta.proofs.header_text.form.has_any.Given as goal
-
-abbrev pub invariant-lines : goal.invariant-lines
-invariant-lines l = has_any (map (λ n. n.now) l.names) (lines_at l.bytes) ≡ has_any (map (λ n. n.now) l.names) (lines_at l.rest)
-
-abbrev pub decreases-lines : goal.decreases-lines
-decreases-lines l = length l.rest

@@ -1,6 +1,0 @@
-use Rattle.std.proofs.Common.{◌≡◌, drop, map}
-use Rattle.pcache_meta.specs.HeaderForm.{is_among}
-use Rattle.pcache_meta.proofs.header_text.form.is_among.Given as goal
-
-abbrev pub invariant-names : goal.invariant-names
-invariant-names l = is_among l.name (map (λ n. n.now) (drop l.i l.names)) ≡ is_among l.name (map (λ n. n.now) l.names)

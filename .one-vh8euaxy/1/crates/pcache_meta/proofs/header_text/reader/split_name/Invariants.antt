@@ -1,6 +1,0 @@
-use Rattle.std.proofs.Common.{◌≡◌, [], drop, take}
-use Rattle.pcache_meta.specs.HeaderReading.{name_from}
-use Rattle.pcache_meta.proofs.header_text.reader.split_name.Given as goal
-
-abbrev pub invariant-bytes : goal.invariant-bytes
-invariant-bytes l = name_from (take l.i l.bytes) (drop l.i l.bytes) ≡ name_from [] l.bytes
