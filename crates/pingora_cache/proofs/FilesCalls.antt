@@ -82,7 +82,7 @@ module _ (limits : Limits) (start m : Tracked) (s : Store) (t : Locks) (all : Fi
       facts = facts;
       says = subst (λ q. Says t.age_timeout (events_of h) (deeds_of h) n (request_in q) facts) (k.requests n)
           (says-early t.age_timeout (events_of h) (deeds_of h) n (request_in (option_map untold (get all n))) (facts_in s t (request_in (get all n))) (only_loads h) (facts-agree limits start m s t all h k n None (get all n) refl));
-      told = reply;
+      reply_made = reply;
       answers = answered facts a (only_loads h) (request_of n h) reply refl answers;
       copy = copy;
       due = (refl, refl);
@@ -111,14 +111,14 @@ module _ (limits : Limits) (start m : Tracked) (s : Store) (t : Locks) (all : Fi
 -- and the puts go on as they were
 pub files-puts : (says : PutSays) (all : FinMap nat_cmp Ongoing) (h : List Entry) (n : ℕ) (a : FilesAct) (told : Reply) → PutsSound says all h → AreOpen h all → PutsSound says all (record { call = record { request = n; act = C.Files a }; reply = told; events = [] } ∷ h)
 files-puts says all h n a told k are = record {
-  told = (
+  follow = (
     record {
       stands = subst (λ p. WasAtStage says p (pieces_of n h) (filled_of n h)) (are n) (stood-in says (get all n) (pieces_of n h) (filled_of n h) (k.taken n));
       closes = tt;
       ignores = tt;
       ends = tt;
     },
-    k.told,
+    k.follow,
   );
   taken = λ r. elim (n == r) as (λ b. TakenIn says (get all r) (if b then pieces_of r h else pieces_of r h) (if b then filled_of r h else filled_of r h)) [ true ↦ k.taken r | false ↦ k.taken r ];
 }

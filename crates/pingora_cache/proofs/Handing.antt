@@ -340,7 +340,7 @@ module _ (limits : Limits) (start m : Tracked) (s : Store) (t : Locks) (all : Fi
   gives = record {
     facts = facts_for s t x.request (taker_in from (C.Give to) h);
     says = facts-agree limits start m s t all h k from (taker_in from (C.Give to) h) (Some x) giver;
-    told = R.Done;
+    reply_made = R.Done;
     answers = inl (ap (option_map untold_put) plain, inl (may-give, tt, (refl, sym (given-untold p y) ∙ sym ((λ i. given_up (permit-named i) (taker-named i))))));
     copy = inl refl;
     due = gone-due limits start es (Some (untold x)) x.request.write (permit_of g);
