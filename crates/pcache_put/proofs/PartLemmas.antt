@@ -8,7 +8,7 @@ use Rattle.pcache_meta.specs.declared.header.ResponseHeader.{ResponseHeader}
 use Rattle.pcache_put.specs.Head.{ReadsHeader}
 use Rattle.pcache_put.specs.HeadEnd.{EndsAt}
 use Rattle.pcache_put.specs.Response.{Response, IsResponse, IsUnreadable, HasSize, declared_body, is_whole}
-use Rattle.pcache_put.specs.Parts.{Given, nothing, given_in_all, add_all, body_parts, left_behind, whole_parts}
+use Rattle.pcache_put.specs.Parts.{Given, nothing, given_in_all, add_all, body_of, body_parts, left_behind, parts_of, whole_parts}
 use Rattle.pcache_put.specs.Progress.{AtBody, TakenIn}
 use Rattle.pcache_put.specs.declared.response_parse.ParsePart.{ParsePart}
 use Rattle.pcache_put.specs.declared.response_parse.ParsePart.TheVariants as part
@@ -99,8 +99,9 @@ whole_given r =
     ∙ body_more r.head r.size [] r.behind
 
 -- a head and then a body
-pub two_parts : (old mid new : List ParsePart) (p : ParsePart) (ps : List ParsePart) → old ≡ [] → mid ≡ old ++ p ∷ [] → new ≡ mid ++ ps → new ≡ p ∷ ps
-two_parts old mid new p ps e f g = g ∙ ap (λ xs. xs ++ ps) (f ∙ ap (λ xs. xs ++ p ∷ []) e)
+pub parts_there : (h : ResponseHeader × Bool) (size : Option ℕ) (b : Option (List ℕ × Bool)) (behind : List ℕ) → h.1 ≡ is_whole size [] → body_of b ≡ body_parts size behind
+    → parts_of (record { head = Some h; body = b }) ≡ whole_parts (record { head = h.0; size = size; behind = behind })
+parts_there h size b behind e f = ap (λ (xs : List ParsePart). part.Head h.0 h.1 ∷ xs) f ∙ ap (λ (w : Bool). part.Head h.0 w ∷ body_parts size behind) e
 
 -- the rest of a piece
 pub rest_is : (k : ℕ) (xs : List ℕ) → take (length xs - k) (drop k xs) ≡ drop k xs

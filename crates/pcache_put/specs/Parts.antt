@@ -4,6 +4,7 @@ use Rattle.pcache_meta.specs.declared.header.ResponseHeader.{ResponseHeader}
 use Rattle.pcache_put.specs.Response.{Response, declared_body, is_whole}
 use Rattle.pcache_put.specs.declared.response_parse.ParsePart.{ParsePart}
 use Rattle.pcache_put.specs.declared.response_parse.ParsePart.TheVariants as part
+use Rattle.pcache_put.specs.declared.response_parse.PieceParts.{PieceParts}
 
 -- what was given of a response: its head, the bytes of its body joined, and whether it is whole
 pub record Given : Type 0 where
@@ -45,3 +46,15 @@ is_missing (Some n) = nat_lt 0 n
 -- the parts that are given for one piece, if the head ends in it
 abbrev pub whole_parts : Response → List ParsePart
 whole_parts r = part.Head r.head (is_whole r.size []) ∷ body_parts r.size r.behind
+
+-- the parts that a piece brings, in their order
+abbrev pub head_of : Option (ResponseHeader × Bool) → List ParsePart
+head_of None = []
+head_of (Some h) = part.Head h.0 h.1 ∷ []
+
+abbrev pub body_of : Option (List ℕ × Bool) → List ParsePart
+body_of None = []
+body_of (Some b) = part.Body b.0 b.1 ∷ []
+
+abbrev pub parts_of : PieceParts → List ParsePart
+parts_of p = head_of p.head ++ body_of p.body

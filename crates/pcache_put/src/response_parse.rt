@@ -5,7 +5,7 @@ ghost use Rattle.pcache_put.specs.Response.{SpellsLength, HasSize, is_whole, IsU
 ghost use Rattle.pcache_meta.specs.declared.header.ResponseHeader.{ResponseHeader};
 ghost use Rattle.pcache_base.specs.declared.error.ErrorType.{ErrorType};
 ghost use Rattle.pcache_base.specs.declared.error.ErrorType.TheVariants.{OutOfMemory, InvalidHttpHeader, IncompleteHttpBody};
-ghost use Rattle.pcache_put.specs.Parts.{Given, nothing, add_all, left_behind, is_missing, body_parts};
+ghost use Rattle.pcache_put.specs.Parts.{Given, nothing, add_all, left_behind, is_missing, body_of, body_parts, parts_of};
 ghost use Rattle.pcache_put.specs.Progress.{Parsed, AtHead, AtBody, AtEnd, HasFailed, parsed_of, TakenIn, GivesParts};
 
 use crate::head::read_header;
@@ -28,6 +28,15 @@ pub enum ParsePart {
     Head(ResponseHeader, bool),
     /// Bytes of the body, at least one, and whether the response is whole with them.
     Body(Bytes, bool),
+}
+
+/// What a piece brings of a response, each part with whether the response is whole with it.
+#[derive(Drop)]
+pub struct PieceParts {
+    /// The head, if it ends in the piece.
+    pub head: Option<(ResponseHeader, bool)>,
+    /// Bytes of the body, at least one, if the piece has any.
+    pub body: Option<(Bytes, bool)>,
 }
 
 /// How far a parser has come.
@@ -68,30 +77,27 @@ fn body_size(head: &ResponseHeader) -> Option<usize>
     }
 }
 
-// Reads a head that has ended, adds it to the parts, and returns how many bytes of the body are
-// still missing.
-fn give_head(alloc: Global, bytes: Vec<u8>, parts: &mut Vec<ParsePart>) -> Result<Option<usize>>
-    ensures ok { IfOk result (λ size. (head : ResponseHeader) × ReadsHeader bytes.items head × HasSize head size
-        × (parts.new.items ≡ parts.old.items ++ ParsePart.Head head (is_whole size []) ∷ [])) }
+// Reads a head that has ended, and returns it with whether the response is whole with it, and how many bytes the body has.
+fn read_head(alloc: Global, bytes: Vec<u8>) -> Result<((ResponseHeader, bool), Option<usize>)>
+    ensures reads { IfOk result (λ r. ReadsHeader bytes.items r.0.0) }
+    ensures size { IfOk result (λ r. HasSize r.0.0 r.1) }
+    ensures whole { IfOk result (λ r. r.0.1 ≡ is_whole r.1 []) }
     ensures invalid { IfErr result (λ e. e ≡ InvalidHttpHeader → (head : ResponseHeader) → ¬ (ReadsHeader bytes.items head)) }
     ensures kind { IfErr result (λ e. (e ≡ OutOfMemory) ⊎ (e ≡ InvalidHttpHeader)) }
 {
     let head = read_header(alloc, bytes)?;
     let size = body_size(&head);
-    parts.push(ParsePart::Head(head, size == Some(0)))?;
-    Ok(size)
+    Ok(((head, size == Some(0)), size))
 }
 
-// Adds the body's part of the bytes to the parts, and returns how many bytes of the body are
-// missing after them.
-fn give_body(
+// The body's part of the bytes, if there is one, and how many bytes of the body are missing after them.
+fn read_body(
     alloc: Global,
     left: Option<usize>,
     bytes: &[u8],
-    parts: &mut Vec<ParsePart>,
-) -> Result<Option<usize>>
-    ensures left { IfOk result (λ after. after ≡ left_behind left (length bytes.now)) }
-    ensures parts { OnOk result (parts.new.items ≡ parts.old.items ++ body_parts left bytes.now) }
+) -> Result<(Option<(Bytes, bool)>, Option<usize>)>
+    ensures left { IfOk result (λ r. r.1 ≡ left_behind left (length bytes.now)) }
+    ensures part { IfOk result (λ r. body_of r.0 ≡ body_parts left bytes.now) }
     ensures whole { left ≡ Some 0 → IsOk result }
     ensures kind { IfErr result (λ e. e ≡ OutOfMemory) }
 {
@@ -103,48 +109,50 @@ fn give_body(
         Some(left) => Some(left - count),
         None => None,
     };
-    if count > 0 {
-        let body = Bytes::copy_from_slice(alloc, &bytes[..count])?;
-        parts.push(ParsePart::Body(body, after == Some(0)))?;
+    if count == 0 {
+        return Ok((None, after));
     }
-    Ok(after)
+    let body = Bytes::copy_from_slice(alloc, &bytes[..count])?;
+    Ok((Some((body, after == Some(0))), after))
 }
 
 // Takes in a piece while the head has not ended.
-fn take_head(
-    alloc: Global,
-    head: HeadBytes,
-    piece: &[u8],
-    parts: &mut Vec<ParsePart>,
-) -> Result<Progress>
-    requires { parts.old.items ≡ [] }
-    ensures joined { IfOk result (λ after. TakenIn (parsed_of after) (head ++ piece.now) (add_all nothing parts.new.items)) }
-    ensures gives { OnOk result (GivesParts (AtHead head) piece.now parts.new.items) }
+fn take_head(alloc: Global, head: HeadBytes, piece: &[u8]) -> Result<(Progress, PieceParts)>
+    ensures joined { IfOk result (λ r. TakenIn (parsed_of r.0) (head ++ piece.now) (add_all nothing (parts_of r.1))) }
+    ensures gives { IfOk result (λ r. GivesParts (AtHead head) piece.now (parts_of r.1)) }
     ensures invalid { IfErr result (λ e. e ≡ InvalidHttpHeader → IsUnreadable (head ++ piece.now)) }
     ensures kind { IfErr result (λ e. (e ≡ OutOfMemory) ⊎ (e ≡ InvalidHttpHeader)) }
 {
     match head.join(piece)? {
-        HeadPiece::Open(head) => Ok(Progress::Head(head)),
+        HeadPiece::Open(head) => Ok((Progress::Head(head), no_parts())),
         HeadPiece::Ended(head, used) => {
-            let size = give_head(alloc, head, parts)?;
-            let left = give_body(alloc, size, &piece[used..], parts)?;
-            Ok(Progress::Body(left))
+            let (head, size) = read_head(alloc, head)?;
+            let (body, left) = read_body(alloc, size, &piece[used..])?;
+            let parts = PieceParts {
+                head: Some(head),
+                body,
+            };
+            Ok((Progress::Body(left), parts))
         }
     }
 }
 
+// What a piece brings that brings nothing.
+fn no_parts() -> PieceParts
+    ensures { result ≡ record { head = None; body = None } }
+{
+    PieceParts {
+        head: None,
+        body: None,
+    }
+}
+
 // Takes in a piece.
-fn take_in(
-    alloc: Global,
-    progress: Progress,
-    piece: &[u8],
-    parts: &mut Vec<ParsePart>,
-) -> Result<Progress>
-    requires { parts.old.items ≡ [] }
-    ensures joined { IfOk result (λ after. (bytes : List ℕ) (g : Given) → TakenIn (parsed_of progress) bytes g
-        → TakenIn (parsed_of after) (bytes ++ piece.now) (add_all g parts.new.items)) }
-    ensures gives { OnOk result (GivesParts (parsed_of progress) piece.now parts.new.items) }
-    ensures finished { parsed_of progress ≡ AtEnd → result ≡ Ok Progress.Finished }
+fn take_in(alloc: Global, progress: Progress, piece: &[u8]) -> Result<(Progress, PieceParts)>
+    ensures joined { IfOk result (λ r. (bytes : List ℕ) (g : Given) → TakenIn (parsed_of progress) bytes g
+        → TakenIn (parsed_of r.0) (bytes ++ piece.now) (add_all g (parts_of r.1))) }
+    ensures gives { IfOk result (λ r. GivesParts (parsed_of progress) piece.now (parts_of r.1)) }
+    ensures finished { parsed_of progress ≡ AtEnd → IfOk result (λ r. r.0 ≡ Progress.Finished) × IsOk result }
     ensures whole { parsed_of progress ≡ AtBody (Some 0) → IsOk result }
     ensures failed { (kind : ErrorType) → parsed_of progress ≡ HasFailed kind → result ≡ Err kind }
     ensures invalid { IfErr result (λ e. e ≡ InvalidHttpHeader → (bytes : List ℕ) (g : Given) → TakenIn (parsed_of progress) bytes g
@@ -152,11 +160,32 @@ fn take_in(
     ensures kind { IfErr result (λ e. (e ≡ OutOfMemory) ⊎ (e ≡ InvalidHttpHeader) ⊎ (parsed_of progress ≡ HasFailed e)) }
 {
     match progress {
-        Progress::Head(head) => take_head(alloc, head, piece, parts),
-        Progress::Body(left) => Ok(Progress::Body(give_body(alloc, left, piece, parts)?)),
-        Progress::Finished => Ok(Progress::Finished),
+        Progress::Head(head) => take_head(alloc, head, piece),
+        Progress::Body(left) => {
+            let (body, left) = read_body(alloc, left, piece)?;
+            let parts = PieceParts { head: None, body };
+            Ok((Progress::Body(left), parts))
+        }
+        Progress::Finished => Ok((Progress::Finished, no_parts())),
         Progress::Failed(kind) => Err(Error::new(kind)),
     }
+}
+
+// The parts in a list.
+fn listed(alloc: Global, parts: PieceParts) -> Result<Vec<ParsePart>>
+    ensures ok { IfOk result (λ list. list.items ≡ parts_of parts) }
+    ensures none { parts_of parts ≡ [] → IsOk result }
+    ensures kind { IfErr result (λ e. e ≡ OutOfMemory) }
+{
+    let PieceParts { head, body } = parts;
+    let mut list = Vec::new(alloc);
+    if let Some((head, is_whole)) = head {
+        list.push(ParsePart::Head(head, is_whole))?;
+    }
+    if let Some((bytes, is_whole)) = body {
+        list.push(ParsePart::Body(bytes, is_whole))?;
+    }
+    Ok(list)
 }
 
 // Whether bytes of the body are still missing.
@@ -235,10 +264,10 @@ impl ResponseParse {
     /// what the bytes of all pieces say together, however they were split.
     ///
     /// Fails when memory runs out, and if the head has ended and can't be read.
-    pub fn inject_data(&mut self, piece: &[u8]) -> Result<Vec<ParsePart>>
+    pub fn take_piece(&mut self, piece: &[u8]) -> Result<PieceParts>
         ensures joined { IfOk result (λ parts. (bytes : List ℕ) (g : Given) → TakenIn self.old bytes g
-            → TakenIn self.new (bytes ++ piece.now) (add_all g parts.items)) }
-        ensures gives { IfOk result (λ parts. GivesParts self.old piece.now parts.items) }
+            → TakenIn self.new (bytes ++ piece.now) (add_all g (parts_of parts))) }
+        ensures gives { IfOk result (λ parts. GivesParts self.old piece.now (parts_of parts)) }
         ensures invalid { IfErr result (λ e. e ≡ InvalidHttpHeader → (bytes : List ℕ) (g : Given) → TakenIn self.old bytes g
             → IsUnreadable (bytes ++ piece.now)) }
         ensures kind { IfErr result (λ e. (e ≡ OutOfMemory) ⊎ (e ≡ InvalidHttpHeader) ⊎ (self.old ≡ HasFailed e)) }
@@ -250,10 +279,9 @@ impl ResponseParse {
         ensures failed { (kind : ErrorType) → self.old ≡ HasFailed kind → result ≡ Err kind }
         ensures fails { IfErr result (λ e. self.new ≡ HasFailed e) }
     {
-        let mut parts = Vec::new(self.alloc);
         let progress = mem::replace(&mut self.progress, Progress::Finished);
-        match take_in(self.alloc, progress, piece, &mut parts) {
-            Ok(progress) => {
+        match take_in(self.alloc, progress, piece) {
+            Ok((progress, parts)) => {
                 self.progress = progress;
                 Ok(parts)
             }
@@ -262,6 +290,27 @@ impl ResponseParse {
                 Err(e)
             }
         }
+    }
+
+    /// The same as `take_piece`, with the parts in a list.
+    pub fn inject_data(&mut self, piece: &[u8]) -> Result<Vec<ParsePart>>
+        ensures joined { IfOk result (λ parts. (bytes : List ℕ) (g : Given) → TakenIn self.old bytes g
+            → TakenIn self.new (bytes ++ piece.now) (add_all g parts.items)) }
+        ensures gives { IfOk result (λ parts. GivesParts self.old piece.now parts.items) }
+        ensures invalid { IfErr result (λ e. e ≡ InvalidHttpHeader → (bytes : List ℕ) (g : Given) → TakenIn self.old bytes g
+            → IsUnreadable (bytes ++ piece.now)) }
+        ensures kind { IfErr result (λ e. (e ≡ OutOfMemory) ⊎ (e ≡ InvalidHttpHeader) ⊎ (self.old ≡ HasFailed e)) }
+        ensures finished { self.old ≡ AtEnd → IsOk result × (self.new ≡ AtEnd) }
+        ensures whole { self.old ≡ AtBody (Some 0) → IsOk result }
+        ensures failed { (kind : ErrorType) → self.old ≡ HasFailed kind → result ≡ Err kind }
+        ensures fails { IfErr result (λ e. self.new ≡ HasFailed e) }
+    {
+        let parts = self.take_piece(piece)?;
+        let list = listed(self.alloc, parts);
+        if let Err(e) = &list {
+            self.progress = Progress::Failed(e.etype());
+        }
+        list
     }
 
     /// Ends the response: no more pieces come. Fails if the head has not ended, or if bytes of a
