@@ -1,10 +1,11 @@
 //! What a piece brings of a response.
 ghost use Rattle.std.specs.Prelude.{◌≡◌};
-ghost use Rattle.pcache_put_ctx.specs.Brought.{brought, with_part};
+ghost use Rattle.pcache_put.specs.Parts.{parts_of};
+ghost use Rattle.pcache_put_ctx.specs.Brought.{brought};
 
 use crate::reading::BodyPart;
 use pcache_meta::header::ResponseHeader;
-use pcache_put::response_parse::ParsePart;
+use pcache_put::response_parse::PieceParts;
 
 // At most one head and one part of the body.
 #[derive(Drop)]
@@ -14,33 +15,21 @@ pub(crate) struct Brought {
 }
 
 impl Brought {
-    // With one more part.
-    fn with_part(self, part: ParsePart) -> Brought
-        ensures { result ≡ with_part self part }
+    // What these parts bring, without whether the response is whole with its head.
+    pub(crate) fn from_parts(parts: PieceParts) -> Brought
+        ensures { result ≡ brought (parts_of parts) }
     {
-        match part {
-            ParsePart::Head(header, _) => Brought {
-                head: Some(header),
-                body: self.body,
-            },
-            ParsePart::Body(bytes, is_last) => Brought {
-                head: self.head,
-                body: Some(BodyPart { bytes, is_last }),
-            },
-        }
-    }
-
-    // Collects these parts: a piece brings at most one head, and one part of the body.
-    pub(crate) fn from_parts(parts: Vec<ParsePart>) -> Brought
-        ensures { result ≡ brought parts.items }
-    {
-        let mut all = Brought {
-            head: None,
-            body: None,
+        let PieceParts { head, body } = parts;
+        let body = match body {
+            Some((bytes, is_last)) => Some(BodyPart { bytes, is_last }),
+            None => None,
         };
-        'parts: for part in parts {
-            all = all.with_part(part);
+        match head {
+            Some((header, _)) => Brought {
+                head: Some(header),
+                body,
+            },
+            None => Brought { head: None, body },
         }
-        all
     }
 }

@@ -136,7 +136,7 @@ impl<C: CachePut> Intake<C> {
             → IsUnreadable (joined (pieces ++ record { bytes = piece.now; now = now } ∷ []))) }
         ensures kind { IfErr result (λ e. (e ≡ InvalidHttpHeader) ⊎ (e ≡ OutOfMemory) ⊎ (self.old.parser ≡ HasFailed e)) }
     {
-        let parts = self.parser.inject_data(piece)?;
+        let parts = self.parser.take_piece(piece)?;
         let Brought { head, body } = Brought::from_parts(parts);
         match head {
             Some(header) => self.open(header, body, now),
@@ -152,7 +152,7 @@ impl<C: CachePut> Intake<C> {
         ensures whole { is_done self.old.parser ≡ true → result ≡ Ok None }
         ensures kind { IfErr result (λ e. (e ≡ InvalidHttpHeader) ⊎ (e ≡ OutOfMemory) ⊎ (self.old.parser ≡ HasFailed e)) }
     {
-        let parts = self.parser.inject_data(piece)?;
+        let parts = self.parser.take_piece(piece)?;
         let brought = Brought::from_parts(parts);
         Ok(brought.body)
     }

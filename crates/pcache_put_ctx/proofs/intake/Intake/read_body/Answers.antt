@@ -5,6 +5,7 @@ use Rattle.pcache_put_ctx.proofs.Bodies.{next_due, no_head, nothing_after, whole
 use Rattle.pcache_put_ctx.specs.declared.reading.BodyPart.{BodyPart}
 use Rattle.pcache_put_ctx.specs.declared.brought.Brought.{Brought}
 use Rattle.pcache_put_ctx.specs.State.{limit_of}
+use Rattle.pcache_put.specs.Parts.{parts_of}
 use Rattle.pcache_put_ctx.proofs.intake.Intake.read_body.Goals as goal
 
 pub returns-in_err-parts-clause-invalid : goal.returns-in_err-parts-clause-invalid
@@ -14,7 +15,7 @@ returns-in_err-parts-clause-invalid g c =
 
 pub returns-clause-due : goal.returns-clause-due
 returns-clause-due g c = rw c.from_parts-brought.ensures (λ pieces now meta body h.
-    next_due (g.C.CachePut.says c.args.self.now.policy) (limit_of c.args.self.now.size) c.args.self.now.parser c.inject_data.new.self meta pieces body (record { bytes = c.args.piece.now; now = now }) c.in_ok-parts.parts.items c.in_ok-parts.ensures.joined c.in_ok-parts.ensures.gives h)
+    next_due (g.C.CachePut.says c.args.self.now.policy) (limit_of c.args.self.now.size) c.args.self.now.parser c.take_piece.new.self meta pieces body (record { bytes = c.args.piece.now; now = now }) (parts_of c.in_ok-parts.parts) c.in_ok-parts.ensures.joined c.in_ok-parts.ensures.gives h)
 
 pub returns-in_err-parts-clause-whole : goal.returns-in_err-parts-clause-whole
 returns-in_err-parts-clause-whole g c = λ done. absurd (cc (c.in_err-parts.ensures.whole (whole_at c.args.self.now.parser done)))
@@ -22,4 +23,4 @@ returns-in_err-parts-clause-whole g c = λ done. absurd (cc (c.in_err-parts.ensu
 pub returns-clause-whole : goal.returns-clause-whole
 returns-clause-whole g c = λ done.
     let ok : Option BodyPart → Result (Option BodyPart) ErrorType = Ok in
-    ap ok (ap (λ (b : Brought). b.body) c.from_parts-brought.ensures ∙ nothing_after c.args.self.now.parser c.args.piece.now c.in_ok-parts.parts.items done c.in_ok-parts.ensures.gives)
+    ap ok (ap (λ (b : Brought). b.body) c.from_parts-brought.ensures ∙ nothing_after c.args.self.now.parser c.args.piece.now (parts_of c.in_ok-parts.parts) done c.in_ok-parts.ensures.gives)
