@@ -29,13 +29,11 @@ impl<C: CachePut, K, const N: usize> Model for SharedPut<C, K, N> {
 }
 
 impl<C: CachePut, K, const N: usize> SharedPut<C, K, N> {
-    ghost use Rattle.std.specs.Prelude.{◌≡◌, ◌<◌, ◌⊎◌, [], List, None, Some};
-    ghost use Rattle.pcache_put.specs.Progress.{AtHead, HasFailed};
+    ghost use Rattle.std.specs.Prelude.{◌≡◌, ◌<◌, [], List, None, Some};
+    ghost use Rattle.pcache_put.specs.Progress.{AtHead};
     ghost use Rattle.pcache_put_ctx.specs.Puts.{Piece};
     ghost use Rattle.pcache_put_ctx.specs.Readings.{IfUnread, IsReadAt, MayFailRead, ReadsPiece};
     ghost use Rattle.pcache_put_ctx.specs.State.{InHead, HasTaken, write_in};
-    ghost use Rattle.pcache_put_ctx.specs.Steps.{MayFailPiece};
-    ghost use Rattle.pcache_store.specs.Store.{Store};
     ghost use Rattle.pcache_shared_cache.specs.Portions.{place_of};
 
     // A put of a key, in the key's part.
