@@ -15,7 +15,8 @@ returns-in-Ok-clause-whether g c =
     refused_as c.fill.result.report.end (MayFailFill (g.S.StoreMeaning.state c.begin.new.storage) (g.S.Miss.HandleMiss.write c.in-Ok.filling.writer))
     (λ e. IsBegunBefore InHead e c.fill.result.report.began) c.fill.ensures.kind
     (λ e may. subst (IsBegunBefore InHead e) (sym c.fill.ensures.began)
-    (began_filled (g.S.StoreMeaning.state c.args.storage.now) (g.S.StoreMeaning.state c.begin.new.storage) _ _ c.get.result.now e c.in-Ok.ensures.store c.in-Ok.ensures.write may))
+    (subst (λ m. IsBegunBefore InHead e (Some m)) c.get.ensures
+    (began_filled (g.S.StoreMeaning.state c.args.storage.now) (g.S.StoreMeaning.state c.begin.new.storage) _ _ c.get.result.now e c.in-Ok.ensures.store c.in-Ok.ensures.write may)))
 
 pub returns-in-Err-clause-whether : goal.returns-in-Err-clause-whether
 returns-in-Err-clause-whether g c = rw c.refuses.ensures (not_begun (g.S.StoreMeaning.state c.args.storage.now) c.in-Err.refused c.in-Err.ensures.kind)
