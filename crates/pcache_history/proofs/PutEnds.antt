@@ -19,7 +19,7 @@ use Rattle.pcache_history.specs.declared.entry.Event.TheVariants as E
 use Rattle.pcache_history.specs.Due.{Owed, makes, makes_of, owes, AreDue, IsNext}
 use Rattle.pcache_history.specs.Events.{begun, is_told, tracked}
 use Rattle.pcache_history.specs.Facts.{Facts}
-use Rattle.pcache_history.specs.Ongoing.{Ongoing, ReplyKind, was_refused, change_of, fed_in, is_done, is_wrong, ongoing_put, kind_of_reply, request_of, row, row_by}
+use Rattle.pcache_history.specs.Ongoing.{Ongoing, ReplyKind, change_of, is_done, is_wrong, ongoing_put, kind_of_reply, request_of, row, row_by}
 use Rattle.pcache_history.specs.History.{events_of}
 use Rattle.pcache_history.specs.Legal.{IsLegal}
 use Rattle.pcache_history.specs.PutHistory.{FollowPolicy, AreWhole, EndsBy, SayEnds, pieces_of, pieces_on}
@@ -155,22 +155,16 @@ tells-more : (pieces more : List Piece) (o : Option ℕ) (es : List Event) → (
 tells-more pieces more None es longer h = tt
 tells-more pieces more (Some w) es longer h = λ told. longer (h told)
 
--- a put of which a piece failed makes no write
-over-tells : (kind : ErrorType) (events es : List Event) (x : Ongoing) (pieces : List Piece) (p : Option Taking) → IsSome p → TellsIn pieces (Some (fed_in (was_refused kind) events x p)) es
-over-tells kind events es x pieces None some = absurd (both_ways false refl some)
-over-tells kind events es x pieces (Some p) some = tt
-
 own-feed : (limits : Limits) (start : Tracked) (bytes : List ℕ) (t : ℕ) (x : Ongoing) (o : ReplyKind) (events es : List Event) (pieces : List Piece) → AreDue limits start es (Some x) x.request.write None events (makes_of (row_by (C.Feed bytes t) o events (Some x))) → AreUntold es → IsBelow x.request.write es
-    → EndsBy (C.Feed bytes t) o (pieces_on (C.Feed bytes t) o pieces) events → IsSome x.put → Tells pieces x.request.write es → TellsIn (pieces_on (C.Feed bytes t) o pieces) (row_by (C.Feed bytes t) o events (Some x)) (reverse events ++ es)
-own-feed limits start bytes t x (was_refused kind) events es pieces due untold low ends some h = over-tells kind events (reverse events ++ es) x (pieces ++ record { bytes = bytes; now = t } ∷ []) x.put some
-own-feed limits start bytes t x o events es pieces due untold low ends some h =
+    → EndsBy (C.Feed bytes t) (pieces_on (C.Feed bytes t) o pieces) events → Tells pieces x.request.write es → TellsIn (pieces_on (C.Feed bytes t) o pieces) (row_by (C.Feed bytes t) o events (Some x)) (reverse events ++ es)
+own-feed limits start bytes t x o events es pieces due untold low ends h =
     let after = pieces_on (C.Feed bytes t) o pieces in
     let q = row_by (C.Feed bytes t) o events (Some x) in
     tells-put after q (reverse events ++ es) (run-own limits start (Some x) events es x.request.write None (makes_of q) after due untold low ends (tells-more pieces after x.request.write es (whole-on o bytes t pieces) h))
 
 -- a call of the put itself, by its reply
 own-call : (limits : Limits) (start : Tracked) (f : Facts) (act : Act) (q : Option Ongoing) (reply : Reply) (events es : List Event) (pieces : List Piece) → Replies f act q reply events → AreDue limits start es q (makes_of q) None events (makes_of (row act reply events q)) → AreUntold es → IsBelow (makes_of q) es
-    → EndsBy act (kind_of_reply reply) (pieces_on act (kind_of_reply reply) pieces) events → TellsIn pieces q es → TellsIn (pieces_on act (kind_of_reply reply) pieces) (row act reply events q) (reverse events ++ es)
+    → EndsBy act (pieces_on act (kind_of_reply reply) pieces) events → TellsIn pieces q es → TellsIn (pieces_on act (kind_of_reply reply) pieces) (row act reply events q) (reverse events ++ es)
 own-call limits start f act q reply events es pieces (inr (other, idle)) due untold low ends h = wrong-call act q reply events es pieces idle h
 own-call limits start f act q reply events es pieces (inl (kind, inr (fails, idle))) due untold low ends h = wrong-call act q reply events es pieces idle h
 own-call limits start f (C.Files a) q reply events es pieces (inl (kind, inl (may, other, does))) due untold low ends h = subst (λ (xs : List Event). TellsIn pieces q (reverse xs ++ es)) (sym does.1) h
@@ -178,7 +172,7 @@ own-call limits start f (C.Put k limit) None reply events es pieces (inl (kind, 
 own-call limits start f (C.Put k limit) (Some x) reply events es pieces (inl (kind, inl (may, other, does))) due untold low ends h = absurd may
 own-call limits start f (C.Feed bytes t) None reply events es pieces (inl (kind, inl (may, other, does))) due untold low ends h = tt
 own-call limits start f (C.Feed bytes t) (Some x) reply events es pieces (inl (kind, inl (may, other, does))) due untold low ends h =
-    own-feed limits start bytes t x (kind_of_reply reply) events es pieces due untold low ends kind (put-tells pieces x es kind h)
+    own-feed limits start bytes t x (kind_of_reply reply) events es pieces due untold low ends (put-tells pieces x es kind h)
 own-call limits start f C.Drop None reply events es pieces (inl (kind, inl (may, other, does))) due untold low ends h = none-tells (is_done (kind_of_reply reply)) pieces (reverse events ++ es)
 own-call limits start f C.Drop (Some x) reply events es pieces (inl (kind, inl (may, other, does))) due untold low ends h = subst (λ (z : Reply). TellsIn pieces (row C.Drop z events (Some x)) (reverse events ++ es)) (sym does.0) tt
 own-call limits start f C.Close None reply events es pieces (inl (kind, inl (may, other, does))) due untold low ends h = none-tells (is_wrong (kind_of_reply reply)) pieces (reverse events ++ es)
@@ -211,7 +205,7 @@ legal-tells age limits start says (e ∷ h) l told r =
     let same = kind-copied g.reply_made e.reply g.copy in
     let low : (s : ℕ) → IsBelow (makes_of (request_of s h)) es = λ s. elim (makes_of (request_of s h)) as (λ o. makes_of (request_of s h) ≡ o → IsBelow o es) [ None ↦ λ _. tt | Some w ↦ λ is. below w es k.tidy (and_parts _ _ (k.made.flies s w is)).0 ] refl in
     let due : AreDue limits start es q (makes_of q) None e.events (makes_of (row e.call.act g.reply_made e.events q)) = subst (λ z. AreDue limits start es q (makes_of q) None e.events (makes_of z)) (row-copied e.call.act g.reply_made e.reply e.events q g.copy) g.due in
-    let ends : EndsBy e.call.act (kind_of_reply g.reply_made) (pieces_on e.call.act (kind_of_reply g.reply_made) (pieces_of n h)) e.events = subst (λ o. EndsBy e.call.act o (pieces_on e.call.act o (pieces_of n h)) e.events) same told.0.ends in
+    let ends : EndsBy e.call.act (pieces_on e.call.act (kind_of_reply g.reply_made) (pieces_of n h)) e.events = subst (λ o. EndsBy e.call.act (pieces_on e.call.act o (pieces_of n h)) e.events) same told.0.ends in
     let now : TellsIn (pieces_on e.call.act (kind_of_reply e.reply) (pieces_of n h)) (row e.call.act e.reply e.events q) (reverse e.events ++ es) =
     subst (λ o. TellsIn (pieces_on e.call.act o (pieces_of n h)) (row_by e.call.act o e.events q) (reverse e.events ++ es)) (sym same)
     (own-call limits start g.facts e.call.act q g.reply_made e.events es (pieces_of n h) g.answers due k.tidy.not_told (low n) ends (old n)) in

@@ -119,7 +119,7 @@ none-piece k w m b = none-both (began_noted k w m) (wrote_noted w b) (began w m)
 none-takes : (f : Facts) (k : ℕ) (stage : Stage) (w : Option ℕ) (m : Option Meta) (b : Option Written) (reply : Reply) (events : List Event) → TakesPiece f k stage w m b reply events → EndsNone events
 none-takes f k stage w m b reply events (inl (told, is)) = subst EndsNone (sym is) (none-piece k w m b)
 none-takes f k stage w m b reply events (inr (inl (reason, none, idle))) = none-idle _ reply events idle
-none-takes f k stage w m b reply events (inr (inr (e, why, told, is))) = subst EndsNone (sym is) (none-both (piece_noted k w m b) (drop_of w) (none-piece k w m b) (none-drop w))
+none-takes f k stage w m b reply events (inr (inr (e, why, begun, told, is))) = subst EndsNone (sym is) (none-both (piece_noted k w m None) (drop_of w) (none-piece k w m None) (none-drop w))
 
 none-feeds : (f : Facts) (k : ℕ) (stage : Stage) (reply : Reply) (events : List Event) → FeedsAt f k stage reply events → EndsNone events
 none-feeds f k InHead reply events (m, b, takes) = none-takes f k InHead (write_in (stage_begun InHead m f.next (Some f.next))) m b reply events takes

@@ -5,7 +5,7 @@ use Rattle.pcache_put.specs.Progress.{Parsed}
 use Rattle.pcache_put.specs.Counted.{Counted}
 use Rattle.pcache_put.specs.Response.{Response, IsResponse, is_whole}
 use Rattle.pcache_put_ctx.specs.Puts.{Piece, Says, Outcome as Comes, Declines, IsResult, joined}
-use Rattle.pcache_put_ctx.specs.State.{Stage, InBody, Filled, TakenBy, limit_of}
+use Rattle.pcache_put_ctx.specs.State.{Accepted, Stage, InBody, Filled, TakenBy, limit_of}
 use Rattle.pcache_put_ctx.specs.Steps.{IsRefusal, StoresFilled}
 use Rattle.pcache_history.specs.declared.call.Act.{Act}
 use Rattle.pcache_history.specs.declared.call.Act.TheVariants as C
@@ -14,7 +14,7 @@ use Rattle.pcache_history.specs.declared.call.Reply.TheVariants as R
 use Rattle.pcache_history.specs.declared.entry.Entry.{Entry}
 use Rattle.pcache_history.specs.declared.entry.Event.{Event}
 use Rattle.pcache_history.specs.declared.entry.Event.TheVariants as E
-use Rattle.pcache_history.specs.Ongoing.{Ongoing, ReplyKind, was_refused, kind_of_reply, is_done, is_wrong, request_of, row}
+use Rattle.pcache_history.specs.Ongoing.{Ongoing, ReplyKind, kind_of_reply, is_done, is_wrong, request_of, row}
 use Rattle.pcache_history.specs.Rules.{IsIdle}
 use Rattle.pcache_history.specs.Taking.{Taking}
 
@@ -113,19 +113,39 @@ SayEnds pieces [] = Unit {0}
 SayEnds pieces (E.Wrote w bytes eof ∷ events) = ((eof ≡ true) ↔ AreWhole pieces) × SayEnds pieces events
 SayEnds pieces (_ ∷ events) = SayEnds pieces events
 
--- by a piece, unless it fails, so that its write is dropped in the same call
-abbrev pub EndsBy : Act → ReplyKind → List Piece → List Event → Type 0
-EndsBy (C.Feed bytes t) (was_refused kind) pieces events = Unit {0}
-EndsBy (C.Feed bytes t) o pieces events = SayEnds pieces events
-EndsBy _ o pieces events = Unit {0}
+-- by a piece
+abbrev pub EndsBy : Act → List Piece → List Event → Type 0
+EndsBy (C.Feed bytes t) pieces events = SayEnds pieces events
+EndsBy _ pieces events = Unit {0}
+
+-- a write begins with the meta that the policy gives the response of these pieces, also if the piece that ends the head fails
+abbrev pub SayBegins : Says → Option ℕ → List Piece → List Event → Type 0
+SayBegins says limit pieces [] = Unit {0}
+SayBegins says limit pieces (E.Begin w k m ∷ events) = Accepted says limit m pieces × SayBegins says limit pieces events
+SayBegins says limit pieces (_ ∷ events) = SayBegins says limit pieces events
+
+-- the same for what is open under a number, if it is a put
+abbrev pub BeginsOf : Says → Option Taking → List Piece → List Event → Type 0
+BeginsOf says None pieces events = Unit {0}
+BeginsOf says (Some p) pieces events = SayBegins says (limit_of p.size) pieces events
+
+abbrev pub BeginsIn : Says → Option Ongoing → List Piece → List Event → Type 0
+BeginsIn says None pieces events = Unit {0}
+BeginsIn says (Some x) pieces events = BeginsOf says x.put pieces events
+
+abbrev pub BeginsBy : Says → Act → Option Ongoing → List Piece → List Event → Type 0
+BeginsBy says (C.Feed bytes t) q pieces events = BeginsIn says q pieces events
+BeginsBy says _ q pieces events = Unit {0}
 
 -- one call: the stage of the put after it is what its pieces say then, the reply to a close is what they say, what comes after
--- the whole body is ignored, and the end is announced with the bytes that complete a body and with no others
+-- the whole body is ignored, a write begins with the meta that the policy gives, and the end is announced with the bytes that
+-- complete a body and with no others
 pub record IsPutCall (says : Says) (act : Act) (reply : Reply) (events : List Event) (q : Option Ongoing) (pieces : List Piece) (f : Option Filled) : Type 0 where
   pub stands : WasAtStage says (row act reply events q) (pieces_on act (kind_of_reply reply) pieces) (filled_after act (kind_of_reply reply) events f)
   pub closes : ClosesBy says act q pieces f reply
   pub ignores : IgnoresBy act q pieces reply events
-  pub ends : EndsBy act (kind_of_reply reply) (pieces_on act (kind_of_reply reply) pieces) events
+  pub begins : BeginsBy says act q (pieces_on act (kind_of_reply reply) pieces) events
+  pub ends : EndsBy act (pieces_on act (kind_of_reply reply) pieces) events
 
 -- a history in which each put follows the decisions of this policy
 abbrev pub FollowPolicy : Says → List Entry → Type 0

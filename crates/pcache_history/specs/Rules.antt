@@ -8,7 +8,7 @@ use Rattle.pcache_base.specs.declared.error.ErrorType.{ErrorType}
 use Rattle.pcache_base.specs.declared.error.ErrorType.TheVariants.{IncompleteHttpBody, InternalError, InvalidHttpHeader, Io, OutOfMemory, ResponseTooLarge, WriteRemoved, NumbersExhausted}
 use Rattle.pcache_base.specs.declared.reason.NoCacheReason.{NoCacheReason}
 use Rattle.pcache_put_ctx.specs.State.{Stage, InHead, InBody, HasDeclined, IsOver, write_in}
-use Rattle.pcache_put_ctx.specs.Steps.{stage_begun}
+use Rattle.pcache_put_ctx.specs.Steps.{IsBegunBefore, stage_begun}
 use Rattle.pcache_put_ctx.specs.declared.report.Written.{Written}
 use Rattle.pcache_base.specs.declared.poll.Poll.{Poll}
 use Rattle.pcache_base.specs.declared.poll.Poll.TheVariants.{Ready, Pending}
@@ -362,12 +362,13 @@ IsFeedRefusal f stage ResponseTooLarge = Unit {0}
 IsFeedRefusal f InHead NumbersExhausted = 2 ^ 64 ≤ f.next
 IsFeedRefusal f stage e = ⊥
 
--- the put goes on, nothing is stored, or the piece fails and the write that is in flight then is dropped
+-- the put goes on, nothing is stored, or the piece fails: then nothing of it was written, though its write may have begun, and
+-- the write that is in flight is dropped
 abbrev pub TakesPiece : Facts → ℕ → Stage → Option ℕ → Option Meta → Option Written → Reply → List Event → Type 0
 TakesPiece f k stage w m b reply events =
     ((reply ≡ R.Done) × (events ≡ piece_noted k w m b))
     ⊎ (((reason : NoCacheReason) × (w ≡ None) × IsIdle (R.NotCached reason) reply events)
-    ⊎ ((e : ErrorType) × IsFeedRefusal f stage e × (reply ≡ R.Refused e) × (events ≡ piece_noted k w m b ++ drop_of w)))
+    ⊎ ((e : ErrorType) × IsFeedRefusal f stage e × IsBegunBefore stage e m × (reply ≡ R.Refused e) × (events ≡ piece_noted k w m None ++ drop_of w)))
 
 -- a reason and an error are returned again; a write begins only if the head ends, with the next number
 abbrev pub FeedsAt : Facts → ℕ → Stage → Reply → List Event → Type 0

@@ -1,11 +1,11 @@
 -- The three queues of a list with a hand: where an entry may be, and what one step of the hand does.
 use Rattle.std.proofs.Common.{◌≡◌, ℕ, suc, ◌+◌, ◌-◌, ◌<◌, ◌≤◌, Bool, true, false, cond, not, Option, None, Some, is_some, List, [], ◌∷◌, ◌++◌, map, reverse, refl, ap, sym, subst, ◌∙◌, arith, inl, inr, length, length-append, append_assoc, append-nil}
-use Rattle.std.specs.Prelude.{◌≢◌, ◌⊎◌, ◌^◌, IfSome}
+use Rattle.std.specs.Prelude.{◌≢◌, ◌⊎◌, ◌^◌, ◌-◌, ◌↔◌, IfSome, IsTrue}
 use Rattle.lru.specs.LruCache.{last_entry}
 use Rattle.std.specs.List.{IsDistinct, AllByRecursion, filter}
 use Rattle.std.specs.Map.{keys_of}
 use Rattle.std.specs.FinMap as fin
-use Rattle.std.proofs.lemmas.Bool.{eq-eqb, ne_eqb}
+use Rattle.std.proofs.lemmas.Bool.{both_ways, eq-eqb, ne_eqb}
 use Rattle.std.proofs.Math.Dec.{eqb}
 use Rattle.std.proofs.lemmas.List.{reverse-append}
 use Rattle.std.proofs.lemmas.List.Elements.{filter-append}
@@ -28,6 +28,10 @@ use Rattle.pcache_policies.specs.Ring.{Ring, ring, all, shown, left_of, IsRing, 
 use Rattle.pcache_policies.proofs.Queues.{E, plain-append, keys-reseen, once-reseen, once-rest, once-front, once-back, last_split}
 
 -- ---- changes of the whole list are changes of its parts
+
+-- a ring that is not full
+pub not-full : (b : Bool) (count : ℕ) → (IsTrue b ↔ (2 ^ 63 - 1 ≤ count)) → b ≡ false → ¬ (2 ^ 63 - 1 ≤ count)
+not-full b count full isnt most = both_ways b isnt (full.1 most)
 
 pub reseen-append : (k : CacheEntryKey) (v : Seen) (a b : Queue) → reseen k v (a ++ b) ≡ reseen k v a ++ reseen k v b
 reseen-append k v [] b = refl

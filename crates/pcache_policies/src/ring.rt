@@ -1,5 +1,5 @@
 //! A list of entries with a hand, in three queues.
-ghost use Rattle.std.specs.Prelude.{◌≡◌, ◌≢◌, Some, ◌∷◌, ◌++◌, ◌+◌, ◌≤◌, ◌<◌, ◌^◌, ◌-◌, [], true, false, None, is_some, length, OnOk, OnErr, IfOk, IfErr, IfSome, IfNone};
+ghost use Rattle.std.specs.Prelude.{◌≡◌, ◌≢◌, ◌↔◌, IsTrue, Some, ◌∷◌, ◌++◌, ◌+◌, ◌≤◌, ◌<◌, ◌^◌, ◌-◌, [], true, false, None, is_some, length, OnOk, OnErr, IfOk, IfErr, IfSome, IfNone};
 ghost use Rattle.std.specs.Vec.{vec_capacity};
 ghost use Rattle.pcache_base.specs.declared.error.ErrorType.TheVariants.{OutOfMemory};
 ghost use Rattle.lru.specs.LruCache.{last_entry};
@@ -22,6 +22,13 @@ use std::mem;
 
 /// With so many entries no more can be added.
 const FULL: usize = (1 << 63) - 1;
+
+// Whether a ring with so many entries takes no more. That counts as a lack of memory, which no machine has left by then.
+fn is_full(count: usize) -> bool
+    ensures { IsTrue result ↔ (2 ^ 63 - 1 ≤ count) }
+{
+    count >= FULL
+}
 
 /// The entries ahead of the hand, those that it chose to go, and those that it passed, each the
 /// newest first.
@@ -351,7 +358,7 @@ impl Ring {
         ensures kind { IfErr result (λ e. e ≡ OutOfMemory) }
         ensures err { OnErr result (self.new ≡ self.old) }
     {
-        if self.len() >= FULL {
+        if is_full(self.len()) {
             return Err(Error::new(ErrorType::OutOfMemory));
         }
         self.ahead.push(item, Seen::unused(size))?;
@@ -365,7 +372,7 @@ impl Ring {
         ensures kind { IfErr result (λ e. e ≡ OutOfMemory) }
         ensures err { OnErr result (self.new ≡ self.old) }
     {
-        if self.len() >= FULL {
+        if is_full(self.len()) {
             return Err(Error::new(ErrorType::OutOfMemory));
         }
         self.passed.push(item, Seen::unused(size))?;

@@ -16,12 +16,14 @@ use Rattle.pcache_put.specs.declared.response_parse.ParsePart.{ParsePart}
 use Rattle.pcache_put.specs.declared.response_parse.ParsePart.TheVariants as part
 use Rattle.pcache_put_ctx.proofs.Pieces.{ends_before, judged_more}
 use Rattle.pcache_put_ctx.specs.Brought.{brought, with_part}
-use Rattle.pcache_put_ctx.specs.Openings.{IsDue}
+use Rattle.pcache_put_ctx.specs.Openings.{HasOpened, IsDue}
 use Rattle.pcache_put_ctx.specs.Puts.{Piece, joined, Says, counted, is_over}
-use Rattle.pcache_put_ctx.specs.State.{BodyRead, BodyTaken, Counts, Overrun, limit_of}
+use Rattle.pcache_put_ctx.specs.State.{Accepted, BodyRead, BodyTaken, Counts, Overrun, limit_of}
 use Rattle.pcache_put_ctx.specs.Steps.{part_bytes, is_done, counted_on, counted_part, IsAllowed, written, filled_wrote}
 use Rattle.pcache_put_ctx.specs.declared.reading.BodyPart.{BodyPart}
 use Rattle.pcache_put_ctx.specs.declared.brought.Brought.{Brought}
+use Rattle.pcache_put_ctx.specs.declared.reading.ReadPiece.{ReadPiece}
+use Rattle.pcache_put_ctx.specs.declared.reading.ReadPiece.TheVariants.{Begins}
 use Rattle.pcache_put_ctx.specs.declared.report.Written.{Written}
 
 -- what is brought after a head, or without one, by bytes or by none
@@ -135,6 +137,17 @@ all_written says size size' parser meta pieces body (Some b) fresh_until is allo
     counted-by (Some c) counts allowed =
         let e = counts_more c body b.bytes counts.0 in
         (e, ap (λ (n : ℕ). nat_lt c.limit n) (sym e) ∙ not_over c.limit _ allowed)
+
+-- what is to be stored has the meta that the policy gave it
+accepted_due : (says : Says) (limit : Option ℕ) (parser : Parsed) (meta : Meta) (pieces : List Piece) (o : Option BodyPart) → IsDue says limit parser meta pieces [] o → Accepted says limit meta pieces
+accepted_due says limit parser meta pieces o due = record { r = due.0.r; now = due.0.now; moment = due.0.moment; judged = due.0.judged }
+
+pub begun_as : (says : Says) (size : Option Counted) (parser : Parsed) (meta : Meta) (pieces : List Piece) (o : Option BodyPart) (given : ReadPiece) (began : Option Meta) → given ≡ Begins meta o → IfSome began (λ m. m ≡ meta)
+    → HasOpened says size parser pieces given → IfSome began (λ m. Accepted says (limit_of size) m pieces)
+begun_as says size parser meta pieces o given None is same opened = tt
+begun_as says size parser meta pieces o given (Some m) is same opened =
+    let due : IsDue says (limit_of size) parser meta pieces [] o × Counts size [] = subst (HasOpened says size parser pieces) is opened in
+    subst (λ x. Accepted says (limit_of size) x pieces) (sym same) (accepted_due says (limit_of size) parser meta pieces o due.0)
 
 -- a body that is too long
 pub overruns : (says : Says) (size size' : Option Counted) (parser : Parsed) (meta : Meta) (pieces : List Piece) (body : List ℕ) (o : Option BodyPart)

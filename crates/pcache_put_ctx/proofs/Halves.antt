@@ -6,14 +6,17 @@ use Rattle.pcache_base.specs.declared.reason.NoCacheReason.{NoCacheReason}
 use Rattle.pcache_put.specs.Progress.{Parsed, HasFailed}
 use Rattle.pcache_put.specs.Counted.{Counted}
 use Rattle.pcache_store.specs.Store.{Store}
+use Rattle.pcache_meta.specs.Meta.{Meta}
 use Rattle.pcache_put_ctx.proofs.Results.{taken_declined, taken_over}
+use Rattle.pcache_put_ctx.proofs.Why.{refused_as}
 use Rattle.pcache_put_ctx.specs.Openings.{HasOpened}
 use Rattle.pcache_put_ctx.specs.Puts.{Piece, Says}
-use Rattle.pcache_put_ctx.specs.Readings.{IfUnread, MayRefuseRead, ReadBy, ReadsPiece, StoresPiece}
-use Rattle.pcache_put_ctx.specs.State.{Stage, InHead, HasDeclined, IsOver, Put, Filled, limit_of}
-use Rattle.pcache_put_ctx.specs.Steps.{Done, MayFailPiece, TakesPiece}
+use Rattle.pcache_put_ctx.specs.Readings.{IfUnread, IsBegunRead, MayFailRead, MayRefuseRead, ReadBy, ReadsPiece, StoresPiece}
+use Rattle.pcache_put_ctx.specs.State.{Stage, InHead, InBody, HasDeclined, IsOver, Put, Filled, limit_of}
+use Rattle.pcache_put_ctx.specs.Steps.{Done, IfRefused, IsBegunBefore, MayFailPiece, TakesPiece}
 use Rattle.pcache_put_ctx.specs.declared.reading.ReadPiece.{ReadPiece}
 use Rattle.pcache_put_ctx.specs.declared.reading.ReadPiece.TheVariants as read
+use Rattle.pcache_put_ctx.specs.declared.report.PieceEnd.{PieceEnd}
 
 both : {C : Type 0} (says : Says) (old mid new : Put C) (p : Piece) (part : ReadPiece) (d : Done) → ReadsPiece says old mid p part → StoresPiece says mid new part d → TakesPiece says old new p d
 both says old mid new p part d reads stores = record {
@@ -28,20 +31,51 @@ both says old mid new p part d reads stores = record {
 pub reads_and_stores : {C : Type 0} (says : C → Says) (old mid new : Put C) (p : Piece) (part : ReadPiece) (d : Done) → ReadsPiece (says old.policy) old mid p part → StoresPiece (says mid.policy) mid new part d → TakesPiece (says old.policy) old new p d
 reads_and_stores says old mid new p part d reads stores = both (says old.policy) old mid new p part d reads (subst (λ x. StoresPiece (says x) mid new part d) (ap (λ q. q.policy) reads.same) stores)
 
+-- what can't be read fails as any piece
+why_unread : (stage : Stage) (s : Store) (parser : Parsed) (e : ErrorType) → MayFailRead stage parser e → MayFailPiece stage s e ⊎ (parser ≡ HasFailed e)
+why_unread InHead s parser e (inl is) = inl (subst (MayFailPiece InHead s) (sym is) tt)
+why_unread InHead s parser e (inr (inl is)) = inl (subst (MayFailPiece InHead s) (sym is) tt)
+why_unread InHead s parser e (inr (inr is)) = inr is
+why_unread (InBody w id until) s parser e (inl is) = inl (subst (MayFailPiece (InBody w id until) s) (sym is) tt)
+why_unread (InBody w id until) s parser e (inr (inl is)) = inl (subst (MayFailPiece (InBody w id until) s) (sym is) tt)
+why_unread (InBody w id until) s parser e (inr (inr is)) = inr is
+why_unread (HasDeclined reason) s parser e may = absurd may
+why_unread (IsOver kind) s parser e may = absurd may
+
 -- why a piece that was read and then stored fails
-pub why_both : (stage : Stage) (s : Store) (parser : Parsed) (part : ReadPiece) (e : ErrorType) → IfUnread part (λ e. (s : Store) → MayFailPiece stage s e ⊎ (parser ≡ HasFailed e)) → MayRefuseRead stage s part e → MayFailPiece stage s e ⊎ (parser ≡ HasFailed e)
+pub why_both : (stage : Stage) (s : Store) (parser : Parsed) (part : ReadPiece) (e : ErrorType) → IfUnread part (MayFailRead stage parser) → MayRefuseRead stage s part e → MayFailPiece stage s e ⊎ (parser ≡ HasFailed e)
 why_both stage s parser part e unread (inr may) = inl may
-why_both stage s parser (read.Refused kind) e unread (inl is) = subst (λ x. MayFailPiece stage s x ⊎ (parser ≡ HasFailed x)) (sym is) (unread s)
+why_both stage s parser (read.Refused kind) e unread (inl is) = subst (λ x. MayFailPiece stage s x ⊎ (parser ≡ HasFailed x)) (sym is) (why_unread stage s parser kind unread)
 why_both stage s parser read.Unfinished e unread (inl is) = absurd is
 why_both stage s parser (read.Declined reason) e unread (inl is) = absurd is
 why_both stage s parser (read.Begins meta part) e unread (inl is) = absurd is
 why_both stage s parser (read.Brings part) e unread (inl is) = absurd is
 why_both stage s parser read.Ignored e unread (inl is) = absurd is
 
-pub why_answered : {A : Type 0} (at stage : Stage) (s : Store) (parser : Parsed) (part : ReadPiece) (result : Result A ErrorType) → at ≡ stage → IfUnread part (λ e. (s : Store) → MayFailPiece stage s e ⊎ (parser ≡ HasFailed e))
+pub why_answered : {A : Type 0} (at stage : Stage) (s : Store) (parser : Parsed) (part : ReadPiece) (result : Result A ErrorType) → at ≡ stage → IfUnread part (MayFailRead stage parser)
     → IfErr result (MayRefuseRead at s part) → IfErr result (λ e. MayFailPiece stage s e ⊎ (parser ≡ HasFailed e))
 why_answered at stage s parser part (Ok a) is unread may = tt
 why_answered at stage s parser part (Err e) is unread may = why_both stage s parser part e unread (subst (λ x. MayRefuseRead x s part e) is may)
+
+-- whether a write began before a piece that was read and then stored failed
+began-both : (stage : Stage) (parser : Parsed) (part : ReadPiece) (e : ErrorType) (began : Option Meta) → IfUnread part (MayFailRead stage parser) → IsBegunRead stage part e began → IsBegunBefore stage e began ⊎ (parser ≡ HasFailed e)
+began-both InHead parser (read.Refused kind) e began (inl is) told = inl (subst (λ x. IsBegunBefore InHead x began) (sym (told.0 ∙ is)) told.1)
+began-both InHead parser (read.Refused kind) e began (inr (inl is)) told = inl (subst (λ x. IsBegunBefore InHead x began) (sym (told.0 ∙ is)) tt)
+began-both InHead parser (read.Refused kind) e began (inr (inr is)) told = inr (is ∙ ap HasFailed (sym told.0))
+began-both InHead parser read.Unfinished e began unread told = inl told
+began-both InHead parser (read.Declined reason) e began unread told = inl told
+began-both InHead parser (read.Begins meta part) e began unread told = inl told
+began-both InHead parser (read.Brings part) e began unread told = inl told
+began-both InHead parser read.Ignored e began unread told = inl told
+began-both (InBody w id until) parser part e began unread told = inl told
+began-both (HasDeclined reason) parser part e began unread told = inl told
+began-both (IsOver kind) parser part e began unread told = inl told
+
+pub whether_both : {M : Type 0} (at stage : Stage) (parser : Parsed) (part : ReadPiece) (end : PieceEnd M) (began : Option Meta) → at ≡ stage → IfUnread part (MayFailRead stage parser)
+    → IfRefused end (λ e. IsBegunRead at part e began) → IfRefused end (λ e. IsBegunBefore stage e began ⊎ (parser ≡ HasFailed e))
+whether_both at stage parser part end began is unread told =
+    refused_as end (λ e. IsBegunRead at part e began) (λ e. IsBegunBefore stage e began ⊎ (parser ≡ HasFailed e)) told
+    (λ e h. began-both stage parser part e began unread (subst (λ x. IsBegunRead x part e began) is h))
 
 -- a put that reads nothing more
 pub reads_declined : {C : Type 0} (says : Says) (q : Put C) (p : Piece) (reason : NoCacheReason) → q.stage ≡ HasDeclined reason → ReadsPiece says q q p read.Ignored

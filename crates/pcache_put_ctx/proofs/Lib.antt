@@ -1,3 +1,4 @@
+pub mod Answered
 pub mod Bodies
 pub mod Declared
 pub mod Halves

@@ -1,5 +1,5 @@
 -- Why a put fails.
-use Rattle.std.proofs.Common.{◌≡◌, ℕ, ◌⊎◌, inl, inr, true, false, cond, Option, Some, List, refl, ap, sym, subst, ◌∙◌, arith}
+use Rattle.std.proofs.Common.{◌≡◌, ℕ, ◌⊎◌, inl, inr, true, false, cond, Option, None, Some, List, refl, ap, sym, subst, ◌∙◌, arith}
 use Rattle.std.proofs.lemmas.Bool.Decides.{nat_tests}
 use Rattle.std.specs.Cmp.{nat_cmp_total}
 use Rattle.std.specs.FinMap.{FinMap, get, insert, get-insert}
@@ -10,9 +10,10 @@ use Rattle.pcache_meta.specs.Meta.{Meta, numbered}
 use Rattle.pcache_put.specs.Progress.{Parsed, AtBody, HasFailed}
 use Rattle.pcache_put_ctx.specs.Puts.{Piece, Says}
 use Rattle.pcache_put_ctx.specs.State.{IsWhyOver, Overrun, InHead}
-use Rattle.pcache_put_ctx.specs.Steps.{IfRefused, MayFailFill, MayFailPiece}
+use Rattle.pcache_put_ctx.specs.Steps.{IfRefused, IsBegunBefore, MayFailFill, MayFailPiece}
 use Rattle.pcache_put_ctx.specs.declared.report.PieceEnd.{PieceEnd}
 use Rattle.pcache_put_ctx.specs.declared.report.PieceEnd.TheVariants as piece
+use Rattle.pcache_store.specs.Refusals.{MayFailWrite}
 use Rattle.pcache_store.specs.Store.{Store, Written, begun, is_told, new_write}
 
 -- adding bytes to a write failed
@@ -56,3 +57,24 @@ why_begun s t k w meta IncompleteHttpBody is at may = absurd may
 why_begun s t k w meta WriteRemoved is at may = absurd may
 why_begun s t k w meta NumbersExhausted is at may = absurd may
 why_begun s t k w meta Io is at may = absurd may
+
+-- so the write began before its bytes were refused, and it did not if its beginning was
+pub began_filled : (s t : Store) (k w : ℕ) (meta : Meta) (e : ErrorType) → t ≡ begun s k meta → w ≡ s.next → MayFailFill t w e → IsBegunBefore InHead e (Some meta)
+began_filled s t k w meta OutOfMemory is at may = tt
+began_filled s t k w meta ResponseTooLarge is at may = (meta, refl)
+began_filled s t k w meta InternalError is at may = absurd (why_begun s t k w meta InternalError is at may)
+began_filled s t k w meta InvalidHttpHeader is at may = absurd may
+began_filled s t k w meta IncompleteHttpBody is at may = absurd may
+began_filled s t k w meta WriteRemoved is at may = absurd may
+began_filled s t k w meta NumbersExhausted is at may = absurd may
+began_filled s t k w meta Io is at may = absurd may
+
+pub not_begun : (s : Store) (e : ErrorType) → MayFailWrite s e → IsBegunBefore InHead e None
+not_begun s OutOfMemory may = tt
+not_begun s NumbersExhausted may = refl
+not_begun s ResponseTooLarge may = absurd may
+not_begun s InternalError may = absurd may
+not_begun s InvalidHttpHeader may = absurd may
+not_begun s IncompleteHttpBody may = absurd may
+not_begun s WriteRemoved may = absurd may
+not_begun s Io may = absurd may

@@ -1,13 +1,15 @@
 -- The two halves of a piece: it is read, for which no storage is needed, and then stored (own).
 use Rattle.std.specs.Prelude.{◌≡◌, ℕ, ◌⊎◌, List, [], ◌∷◌, ◌++◌, Option, Some, None, IfSome}
 use Rattle.pcache_base.specs.declared.error.ErrorType.{ErrorType}
-use Rattle.pcache_put.specs.Progress.{Parsed}
+use Rattle.pcache_base.specs.declared.error.ErrorType.TheVariants.{OutOfMemory, InvalidHttpHeader}
+use Rattle.pcache_meta.specs.Meta.{Meta}
+use Rattle.pcache_put.specs.Progress.{Parsed, HasFailed}
 use Rattle.pcache_put.specs.Counted.{Counted}
 use Rattle.pcache_store.specs.Store.{Store}
 use Rattle.pcache_put_ctx.specs.Openings.{HasOpened, IsDue}
 use Rattle.pcache_put_ctx.specs.Puts.{Piece, Says}
 use Rattle.pcache_put_ctx.specs.State.{Stage, InHead, InBody, HasDeclined, IsOver, Put, Filled, Declined, Counts, IsWhyOver, HasTaken, limit_of}
-use Rattle.pcache_put_ctx.specs.Steps.{Done, MayFailPiece, filled_on, is_done}
+use Rattle.pcache_put_ctx.specs.Steps.{Done, IsBegunBefore, MayFailPiece, filled_on, is_done}
 use Rattle.pcache_put_ctx.specs.declared.reading.ReadPiece.{ReadPiece}
 use Rattle.pcache_put_ctx.specs.declared.reading.ReadPiece.TheVariants as read
 use Rattle.pcache_put_ctx.specs.declared.report.Written.{Written}
@@ -65,6 +67,18 @@ pub record StoresPiece {C : Type 0} (says : Says) (old new : Put C) (piece : Rea
 abbrev pub IfUnread : ReadPiece → (ErrorType → Type 0) → Type 0
 IfUnread (read.Refused e) P = P e
 IfUnread _ P = Unit {0}
+
+-- why a piece can't be read, if it is read at all: its head is bad, memory ran out, or the parser had failed
+abbrev pub MayFailRead : Stage → Parsed → ErrorType → Type 0
+MayFailRead InHead parser e = (e ≡ InvalidHttpHeader) ⊎ (e ≡ OutOfMemory) ⊎ (parser ≡ HasFailed e)
+MayFailRead (InBody w id fresh_until) parser e = (e ≡ InvalidHttpHeader) ⊎ (e ≡ OutOfMemory) ⊎ (parser ≡ HasFailed e)
+MayFailRead (HasDeclined reason) parser e = ⊥
+MayFailRead (IsOver kind) parser e = ⊥
+
+-- whether a write began before a piece that was read so failed: not if it could not be read, which is then why it failed
+abbrev pub IsBegunRead : Stage → ReadPiece → ErrorType → Option Meta → Type 0
+IsBegunRead InHead (read.Refused kind) e began = (e ≡ kind) × (began ≡ None)
+IsBegunRead stage piece e began = IsBegunBefore stage e began
 
 -- a piece fails with the kind of error for which it could not be read
 abbrev pub IsUnreadAs : ReadPiece → ErrorType → Type 0

@@ -78,6 +78,13 @@ BodyTaken says size parser fresh_until pieces None = ⊥
 BodyTaken says size parser fresh_until pieces (Some f) =
     BodyRead says (limit_of size) parser f.meta pieces f.body × Counts size f.body × (fresh_until ≡ f.meta.fresh_until)
 
+-- the head was read, and the response is to be stored with this meta
+pub record Accepted (says : Says) (limit : Option ℕ) (meta : Meta) (pieces : List Piece) : Type 0 where
+  pub r : Response
+  pub now : ℕ
+  pub moment : HeadEndsAt pieces now
+  pub judged : IsJudged says limit (joined pieces) now r (Cacheable meta)
+
 -- the head was read, and nothing is stored
 pub record Declined (says : Says) (limit : Option ℕ) (reason : NoCacheReason) (pieces : List Piece) : Type 0 where
   pub r : Response

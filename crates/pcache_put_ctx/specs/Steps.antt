@@ -122,6 +122,13 @@ IfRefused piece.GoesOn P = Unit {0}
 IfRefused (piece.NotCached reason) P = Unit {0}
 IfRefused (piece.Refused e w) P = P e
 
+-- whether a write began before a piece failed with this kind: it did if the body is too long, and it may have if memory ran
+-- out; otherwise it did not
+abbrev pub IsBegunBefore : Stage → ErrorType → Option Meta → Type 0
+IsBegunBefore InHead ResponseTooLarge began = (m : Meta) × (began ≡ Some m)
+IsBegunBefore InHead OutOfMemory began = Unit {0}
+IsBegunBefore stage e began = began ≡ None
+
 -- the body that is written is whole: later bytes do not belong to it
 abbrev pub HasWholeBody : Stage → Parsed → Type 0
 HasWholeBody InHead parser = ⊥

@@ -90,11 +90,11 @@ impl<C: CachePut, S: Storage> CachePutCtx<C, S> {
     ghost use Rattle.pcache_request.specs.NoBody.{HasNoBody, LeavesNone};
     ghost use Rattle.pcache_request.specs.Requests.{dropped_by};
     ghost use Rattle.pcache_put_ctx.specs.Puts.{Piece, IsResult};
-    ghost use Rattle.pcache_put_ctx.specs.Readings.{BringsNothing, HasRead, IfUnread, IsReadAt, MayRefuseRead, ReadsPiece};
+    ghost use Rattle.pcache_put_ctx.specs.Readings.{BringsNothing, HasRead, IfUnread, IsBegunRead, IsReadAt, MayFailRead, MayRefuseRead, ReadsPiece};
     ghost use Rattle.pcache_store.specs.Store.{Store};
     ghost use Rattle.std.specs.Option.{option_and_then};
-    ghost use Rattle.pcache_put_ctx.specs.State.{InHead, Filled, HasTaken, entry_in, limit_of, write_in};
-    ghost use Rattle.pcache_put_ctx.specs.Steps.{Done, HasWholeBody, store_after, store_left, stage_begun, filled_on, BeginsAtHead, EndsPiece, TakesPiece, IsStageAfter, RepeatsResult, ReturnsAgain, IfRefused, MayFailPiece, is_done, EndsPut, EndsAs, stage_ended, entry_reported, evicted_ended, IfWithdrawn, TellsResult};
+    ghost use Rattle.pcache_put_ctx.specs.State.{Accepted, InHead, Filled, HasTaken, entry_in, limit_of, write_in};
+    ghost use Rattle.pcache_put_ctx.specs.Steps.{Done, HasWholeBody, store_after, store_left, stage_begun, filled_on, BeginsAtHead, EndsPiece, TakesPiece, IsStageAfter, RepeatsResult, ReturnsAgain, IfRefused, IsBegunBefore, MayFailPiece, is_done, EndsPut, EndsAs, stage_ended, entry_reported, evicted_ended, IfWithdrawn, TellsResult};
 
     /// A put of a key, with no limit on its body.
     pub fn new(alloc: Global, policy: C, key: CacheKey) -> CachePutCtx<C, S>
@@ -190,6 +190,13 @@ impl<C: CachePut, S: Storage> CachePutCtx<C, S> {
             → HasTaken (C.says self.old.policy) self.new (pieces ++ record { bytes = piece.now; now = now } ∷ []) (filled_on result.began result.wrote f) }
         ensures last { (pieces : List Piece) (f : Option Filled) → HasTaken (C.says self.old.policy) self.old pieces f → IfSome result.wrote (λ w. w.eof ≡ is_done self.new.parser) }
 
+        // A write begins with the meta that the policy gives the response. A piece that fails has written nothing, though its write
+        // may have begun.
+        ensures begun { (pieces : List Piece) (f : Option Filled) → HasTaken (C.says self.old.policy) self.old pieces f
+            → IfSome result.began (λ m. Accepted (C.says self.old.policy) (limit_of self.old.size) m (pieces ++ record { bytes = piece.now; now = now } ∷ [])) }
+        ensures refused { IfRefused result.end (λ _. result.wrote ≡ None) }
+        ensures whether { IfRefused result.end (λ e. IsBegunBefore self.old.stage e result.began ⊎ (self.old.parser ≡ HasFailed e)) }
+
         // A reason is returned again, and so is an error. Bytes after a whole body are ignored.
         ensures again { ReturnsAgain self.old.stage result.end }
         ensures ignored { HasWholeBody self.old.stage self.old.parser → result ≡ record { began = None; wrote = None; end = PieceEnd.GoesOn } }
@@ -205,7 +212,7 @@ impl<C: CachePut, S: Storage> CachePutCtx<C, S> {
         ensures read { ReadsPiece (C.says self.old.policy) self.old self.new (record { bytes = piece.now; now = now }) result }
         ensures at { IsReadAt self.new.stage result }
         ensures ignored { HasWholeBody self.old.stage self.old.parser → BringsNothing self.new.stage result }
-        ensures kind { IfUnread result (λ e. (s : Store) → MayFailPiece self.old.stage s e ⊎ (self.old.parser ≡ HasFailed e)) }
+        ensures kind { IfUnread result (MayFailRead self.old.stage self.old.parser) }
     {
         match &self.stage {
             Stage::Head => self.intake.read_head(piece, now),
@@ -235,6 +242,12 @@ impl<C: CachePut, S: Storage> CachePutCtx<C, S> {
             → HasTaken (C.says self.old.policy) self.new pieces (filled_on result.began result.wrote f) }
         ensures last { (pieces : List Piece) (f : Option Filled) → HasRead (C.says self.old.policy) self.old pieces f read
             → IfSome result.wrote (λ w. w.eof ≡ is_done self.new.parser) }
+
+        // A write begins with the meta that was read. A piece that fails has written nothing, though its write may have begun.
+        ensures begun { (pieces : List Piece) (f : Option Filled) → HasRead (C.says self.old.policy) self.old pieces f read
+            → IfSome result.began (λ m. Accepted (C.says self.old.policy) (limit_of self.old.size) m pieces) }
+        ensures refused { IfRefused result.end (λ _. result.wrote ≡ None) }
+        ensures whether { IfRefused result.end (λ e. IsBegunRead self.old.stage read e result.began) }
 
         ensures again { ReturnsAgain self.old.stage result.end }
         ensures ignored { BringsNothing self.old.stage read → result ≡ record { began = None; wrote = None; end = PieceEnd.GoesOn } }

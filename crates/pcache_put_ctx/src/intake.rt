@@ -11,10 +11,10 @@ ghost use Rattle.pcache_store.specs.Refusals.{MayFailWrite};
 ghost use Rattle.pcache_store.specs.Store.{Store, begun, is_told};
 ghost use Rattle.pcache_put_ctx.specs.Openings.{IsVerdict, IsBegun, IsDue, HasOpened};
 ghost use Rattle.pcache_put_ctx.specs.Puts.{Piece, IsResult, joined};
-ghost use Rattle.pcache_put_ctx.specs.Readings.{BodyDue, IfUnread, IsOfBody, IsOfHead, MayRefuseRead};
+ghost use Rattle.pcache_put_ctx.specs.Readings.{BodyDue, IfUnread, IsBegunRead, IsOfBody, IsOfHead, MayRefuseRead};
 ghost use Rattle.pcache_put_ctx.specs.Stages.{stage_of};
-ghost use Rattle.pcache_put_ctx.specs.State.{InHead, InBody, Filled, HeadTaken, BodyRead, BodyTaken, Counts, limit_of, TakenBy};
-ghost use Rattle.pcache_put_ctx.specs.Steps.{counted_part, IsAllowed, IfRefused, MayFailFill, written, store_wrote, store_after, stage_begun, filled_on, filled_wrote, EndsPiece, EndsPut, TellsResult, entry_reported, evicted_ended, MayFailPiece, is_done};
+ghost use Rattle.pcache_put_ctx.specs.State.{Accepted, InHead, InBody, Filled, HeadTaken, BodyRead, BodyTaken, Counts, limit_of, TakenBy};
+ghost use Rattle.pcache_put_ctx.specs.Steps.{counted_part, IsAllowed, IsBegunBefore, IfRefused, MayFailFill, written, store_wrote, store_after, stage_begun, filled_on, filled_wrote, EndsPiece, EndsPut, TellsResult, entry_reported, evicted_ended, MayFailPiece, is_done};
 ghost use Rattle.pcache_put_ctx.specs.declared.reading.ReadPiece.TheVariants.{Brings};
 ghost use Rattle.pcache_put_ctx.specs.declared.report.PieceEnd.TheVariants.{GoesOn};
 
@@ -177,6 +177,7 @@ impl<C: CachePut> Intake<C> {
             → TakenBy (C.says self.old.policy) self.new.size self.new.parser
             (stage_of S.Miss.write S.Miss.entry_number result.stage) pieces (filled_wrote result.report.wrote (Some (record { meta = meta; body = body }))) }
         ensures nothing { part ≡ None → result.report ≡ record { began = began; wrote = None; end = GoesOn } }
+        ensures refused { IfRefused result.report.end (λ _. result.report.wrote ≡ None) }
         ensures kind { IfRefused result.report.end (MayFailFill (S.state storage.old) (S.Miss.write filling.writer)) }
     {
         let Filling {
@@ -260,6 +261,9 @@ impl<C: CachePut> Intake<C> {
             → Counts self.old.size []
             → TakenBy (C.says self.old.policy) self.new.size self.new.parser (stage_of S.Miss.write S.Miss.entry_number result.stage) pieces
             (filled_on result.report.began result.report.wrote None) }
+        ensures refused { IfRefused result.report.end (λ _. result.report.wrote ≡ None) }
+        ensures begun { IfSome result.report.began (λ m. m ≡ meta) }
+        ensures whether { IfRefused result.report.end (λ e. IsBegunBefore InHead e result.report.began) }
         ensures kind { IfRefused result.report.end (MayFailPiece InHead (S.state storage.old)) }
     {
         match self.begin(meta.get(), storage) {
@@ -287,6 +291,10 @@ impl<C: CachePut> Intake<C> {
         ensures taken { (pieces : List Piece) → HasOpened (C.says self.old.policy) self.old.size self.old.parser pieces read
             → TakenBy (C.says self.old.policy) self.new.size self.new.parser (stage_of S.Miss.write S.Miss.entry_number result.stage) pieces
             (filled_on result.report.began result.report.wrote None) }
+        ensures refused { IfRefused result.report.end (λ _. result.report.wrote ≡ None) }
+        ensures begun { (pieces : List Piece) → HasOpened (C.says self.old.policy) self.old.size self.old.parser pieces read
+            → IfSome result.report.began (λ m. Accepted (C.says self.old.policy) (limit_of self.old.size) m pieces) }
+        ensures whether { IfRefused result.report.end (λ e. IsBegunRead InHead read e result.report.began) }
         ensures kind { IfRefused result.report.end (MayRefuseRead InHead (S.state storage.old) read) }
     {
         match read {
@@ -321,6 +329,7 @@ impl<C: CachePut> Intake<C> {
             → TakenBy (C.says self.old.policy) self.new.size self.new.parser (stage_of S.Miss.write S.Miss.entry_number result.stage) pieces
             (filled_wrote result.report.wrote f) }
         ensures nothing { read ≡ Brings None → result.report ≡ record { began = None; wrote = None; end = GoesOn } }
+        ensures refused { IfRefused result.report.end (λ _. result.report.wrote ≡ None) }
         ensures kind { IfRefused result.report.end (MayRefuseRead
             (InBody (S.Miss.write filling.writer) (S.Miss.entry_number filling.writer) filling.fresh_until) (S.state storage.old) read) }
     {

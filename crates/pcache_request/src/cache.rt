@@ -287,8 +287,8 @@ impl<S: Storage> HttpCache<S> {
         }
     }
 
-    /// Turns caching on, with these parts in use. All else but the digest is as in a new request. A
-    /// disabled request holds nothing, so nothing is lost.
+    /// Turns caching on, with these parts in use, and with no options of its lock (`enable_with` takes them). All else
+    /// but the digest is as in a new request. A disabled request holds nothing, so nothing is lost.
     /// Requires the phase Disabled; ask `phase().is_disabled()`.
     pub fn enable(&mut self, uses: InUse)
         requires { IsDisabled self.old.phase }

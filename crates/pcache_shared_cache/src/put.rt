@@ -29,13 +29,11 @@ impl<C: CachePut, K, const N: usize> Model for SharedPut<C, K, N> {
 }
 
 impl<C: CachePut, K, const N: usize> SharedPut<C, K, N> {
-    ghost use Rattle.std.specs.Prelude.{◌≡◌, ◌<◌, ◌⊎◌, [], List, None, Some};
-    ghost use Rattle.pcache_put.specs.Progress.{AtHead, HasFailed};
+    ghost use Rattle.std.specs.Prelude.{◌≡◌, ◌<◌, [], List, None, Some};
+    ghost use Rattle.pcache_put.specs.Progress.{AtHead};
     ghost use Rattle.pcache_put_ctx.specs.Puts.{Piece};
-    ghost use Rattle.pcache_put_ctx.specs.Readings.{IfUnread, IsReadAt, ReadsPiece};
+    ghost use Rattle.pcache_put_ctx.specs.Readings.{IfUnread, IsReadAt, MayFailRead, ReadsPiece};
     ghost use Rattle.pcache_put_ctx.specs.State.{InHead, HasTaken, write_in};
-    ghost use Rattle.pcache_put_ctx.specs.Steps.{MayFailPiece};
-    ghost use Rattle.pcache_store.specs.Store.{Store};
     ghost use Rattle.pcache_shared_cache.specs.Portions.{place_of};
 
     // A put of a key, in the key's part.
@@ -91,7 +89,7 @@ impl<C: CachePut, K, const N: usize> SharedPut<C, K, N> {
     pub(crate) fn read_piece(&mut self, piece: &[u8], now: Moment) -> ReadPiece
         ensures read { ReadsPiece (C.says self.old.put.policy) self.old.put self.new.put (record { bytes = piece.now; now = now }) result }
         ensures at { IsReadAt self.new.put.stage result }
-        ensures kind { IfUnread result (λ e. (s : Store) → MayFailPiece self.old.put.stage s e ⊎ (self.old.put.parser ≡ HasFailed e)) }
+        ensures kind { IfUnread result (MayFailRead self.old.put.stage self.old.put.parser) }
         ensures place { self.new.place ≡ self.old.place }
     {
         self.pending.put.read_piece(piece, now)

@@ -1,6 +1,6 @@
 -- The meaning of the readers and handlers of the store in memory, and what that store promises of all its calls
 -- (own).
-use Rattle.std.specs.Prelude.{true}
+use Rattle.std.specs.Prelude.{ℕ, true, Option, None, Some}
 use Rattle.pcache_store.specs.Store.{Reader, Whole, Part, Guarantees}
 use Rattle.pcache_store.specs.declared.memory.hit.MemHitHandler.{MemHitHandler}
 use Rattle.pcache_store.specs.declared.memory.hit.MemHitHandler.TheVariants.{Complete, Partial}
@@ -8,6 +8,11 @@ use Rattle.pcache_store.specs.declared.memory.hit.MemHitHandler.TheVariants.{Com
 abbrev pub reader_of : MemHitHandler → Reader
 reader_of (Complete h) = Whole h.id h.body h.start h.stop h.done
 reader_of (Partial p) = Part p.write p.place
+
+-- the slot that a reader of a write names, by which it finds the write at once
+abbrev pub slot_named : MemHitHandler → Option ℕ
+slot_named (Complete h) = None
+slot_named (Partial p) = Some p.slot
 
 -- removals always succeed, and an entry has the number of its write
 abbrev pub in_memory : Guarantees

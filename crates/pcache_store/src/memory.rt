@@ -150,9 +150,9 @@ impl MemCache {
         self.drafts.get(slot, number)
     }
 
-    ghost use Rattle.pcache_store.specs.Readers.{reader_of};
+    ghost use Rattle.pcache_store.specs.Readers.{reader_of, slot_named};
 
-    // Gives one more reader of a write, from its beginning, with its meta.
+    // Gives one more reader of a write, from its beginning, with its meta. It names the slot of the write's record.
     fn follow(
         &mut self,
         alloc: Global,
@@ -160,13 +160,14 @@ impl MemCache {
         number: u128,
     ) -> Result<Option<(CacheMeta, MemHitHandler)>>
         ensures found { IfOk result (λ r. option_map (λ p. (p.0, reader_of p.1)) r ≡ found_part number (map.get self.old.writes number)) }
+        ensures slot { IfOk result (λ r. option_map (λ p. slot_named p.1) r ≡ option_map (λ w. Some w.slot) (map.get self.old.writes number)) }
         ensures ok { OnOk result (self.new ≡ joined self.old number) }
         ensures something { OnErr result (IsSome (map.get self.old.writes number)) }
         ensures kind { IfErr result (λ e. e ≡ OutOfMemory) }
         ensures err { OnErr result (self.new ≡ self.old) }
     {
         match self.drafts.follow(alloc, slot, number) {
-            Ok(Some(meta)) => {
+            Ok(Some((meta, slot))) => {
                 let part = PartialHit::new(slot, number as u64);
                 Ok(Some((meta, MemHitHandler::Partial(part))))
             }

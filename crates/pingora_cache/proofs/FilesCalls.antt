@@ -116,6 +116,7 @@ files-puts says all h n a told k are = record {
       stands = subst (λ p. WasAtStage says p (pieces_of n h) (filled_of n h)) (are n) (stood-in says (get all n) (pieces_of n h) (filled_of n h) (k.taken n));
       closes = tt;
       ignores = tt;
+      begins = tt;
       ends = tt;
     },
     k.follow,

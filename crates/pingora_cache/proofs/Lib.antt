@@ -1,4 +1,3 @@
-pub mod BySelf
 pub mod Counts
 pub mod Evicting
 pub mod FilesCalls

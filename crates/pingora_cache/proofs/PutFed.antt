@@ -13,8 +13,8 @@ use Rattle.pcache_put.specs.Counted.{Counted}
 use Rattle.pcache_put_ctx.specs.Puts.{Piece, Says, joined}
 use Rattle.pcache_put.specs.Response.{Response, is_whole}
 use Rattle.pcache_put.proofs.Unique.{one_response}
-use Rattle.pcache_put_ctx.specs.State.{BodyRead, Stage, InHead, InBody, HasDeclined, IsOver, Filled, TakenBy, limit_of, write_in}
-use Rattle.pcache_put_ctx.specs.Steps.{ReturnsAgain, BeginsAtHead, EndsPiece, HasWholeBody, IfRefused, MayFailPiece, filled_on, filled_wrote, is_done, stage_begun, store_after}
+use Rattle.pcache_put_ctx.specs.State.{Accepted, BodyRead, Stage, InHead, InBody, HasDeclined, IsOver, Filled, TakenBy, limit_of, write_in}
+use Rattle.pcache_put_ctx.specs.Steps.{ReturnsAgain, BeginsAtHead, EndsPiece, HasWholeBody, IfRefused, IsBegunBefore, MayFailPiece, filled_on, filled_wrote, is_done, stage_begun, store_after}
 use Rattle.pcache_put_ctx.proofs.Bodies.{done_whole}
 use Rattle.pcache_put_ctx.specs.declared.report.PieceEnd.{PieceEnd}
 use Rattle.pcache_put_ctx.specs.declared.report.PieceEnd.TheVariants as piece
@@ -33,7 +33,7 @@ use Rattle.pingora_cache.specs.PartFacts.{facts_in}
 use Rattle.pcache_history.specs.Ongoing.{Ongoing, ongoing_put, stage_noted}
 use Rattle.pingora_cache.specs.Untold.{untold, uncounted}
 use Rattle.pingora_cache.specs.Moved.{At, Moves, MovesBy, MovesStore, at_call}
-use Rattle.pcache_history.specs.PutHistory.{AreWhole, IgnoresAt, SayEnds, filled_by}
+use Rattle.pcache_history.specs.PutHistory.{AreWhole, IgnoresAt, SayBegins, SayEnds, filled_by}
 use Rattle.pingora_cache.specs.PutsSound.{EndsWhole, PutTurn}
 use Rattle.pcache_history.specs.Rules.{Feeds, FeedsAt, IsFeedRefusal, began_noted, drop_of, piece_noted, wrote_noted}
 use Rattle.pingora_cache.specs.Step.{IsRow}
@@ -229,6 +229,26 @@ piece-ends pieces k None began b ends = ends
 piece-ends pieces k (Some w) None b ends = ends
 piece-ends pieces k (Some w) (Some m) b ends = ends
 
+-- a write begins with the meta that the policy gives
+piece-begins : (says : Says) (limit : Option ℕ) (pieces : List Piece) (k : ℕ) (w : Option ℕ) (began : Option Meta) (b : Option Written) → IfSome began (λ m. Accepted says limit m pieces) → SayBegins says limit pieces (piece_noted k w began b)
+piece-begins says limit pieces k None began b h = tt
+piece-begins says limit pieces k (Some w) None None h = tt
+piece-begins says limit pieces k (Some w) None (Some b) h = tt
+piece-begins says limit pieces k (Some w) (Some m) None h = (h, tt)
+piece-begins says limit pieces k (Some w) (Some m) (Some b) h = (h, tt)
+
+-- a piece that fails says no end, as it wrote nothing; its write may have begun
+module _ (pieces : List Piece) (k : ℕ) where
+  refused-ends : (w : Option ℕ) (began : Option Meta) → SayEnds pieces (piece_noted k w began None ++ drop_of w)
+  refused-ends None began = tt
+  refused-ends (Some w) None = tt
+  refused-ends (Some w) (Some m) = tt
+
+  refused-begins : (says : Says) (limit : Option ℕ) (w : Option ℕ) (began : Option Meta) → IfSome began (λ m. Accepted says limit m pieces) → SayBegins says limit pieces (piece_noted k w began None ++ drop_of w)
+  refused-begins says limit None began h = tt
+  refused-begins says limit (Some w) None h = tt
+  refused-begins says limit (Some w) (Some m) h = (h, tt)
+
 nothing-noted : (k : ℕ) (w : Option ℕ) (began : Option Meta) (b : Option Written) → (began ≡ None) × (b ≡ None) → piece_noted k w began b ≡ []
 nothing-noted k None began b none = refl
 nothing-noted k (Some w) None None none = refl
@@ -242,18 +262,24 @@ Ignores p began b = HasWholeBody p.stage p.parser → (began ≡ None) × (b ≡
 abbrev pub SaysLast : Says → Taking → Taking → Option Written → Type 0
 SaysLast says p p' b = (pieces : List Piece) (f : Option Filled) → TakenBy says p.size p.parser p.stage pieces f → IfSome b (λ (w : Written). w.eof ≡ is_done p'.parser)
 
+abbrev pub HasBegun : Says → Taking → Piece → Option Meta → Type 0
+HasBegun says p q began = (pieces : List Piece) (f : Option Filled) → TakenBy says p.size p.parser p.stage pieces f → IfSome began (λ m. Accepted says (limit_of p.size) m (pieces ++ q ∷ []))
+
 abbrev pub OnTaken : Says → Taking → Taking → Piece → Option Meta → Option Written → Type 0
 OnTaken says p p' q began b = (pieces : List Piece) (f : Option Filled) → TakenBy says p.size p.parser p.stage pieces f → TakenBy says p'.size p'.parser p'.stage (pieces ++ q ∷ []) (filled_on began b f)
 
 pub goes-puts : (says : Says) (p p' : Taking) (bytes : List ℕ) (t n j : ℕ) (began : Option Meta) (b : Option Written) (w : Option ℕ) (old events : List Event) → BeginsAtHead p.stage began → ((kind : ErrorType) → p.stage ≡ IsOver kind → ⊥) → OnTaken says p p' (record { bytes = bytes; now = t }) began b → old ≡ [] → w ≡ write_in p'.stage → p'.stage ≡ stage_begun p.stage began n (Some n)
-    → events ≡ old ++ piece_noted j w began b → Ignores p began b → SaysLast says p p' b → PutTurn says (C.Feed bytes t) R.Done events (Some (ongoing_put p)) (Some (ongoing_put p'))
-goes-puts says p p' bytes t n j began b w old events begins on taken none has stands is ignored last = record {
+    → events ≡ old ++ piece_noted j w began b → Ignores p began b → SaysLast says p p' b → HasBegun says p (record { bytes = bytes; now = t }) began → PutTurn says (C.Feed bytes t) R.Done events (Some (ongoing_put p)) (Some (ongoing_put p'))
+goes-puts says p p' bytes t n j began b w old events begins on taken none has stands is ignored last begun = record {
   taken = λ pieces f got.
       let noted-as : events ≡ piece_noted j (write_in (stage_begun p.stage began n (Some n))) began b = is ∙ (λ i. none i ++ piece_noted j ((has ∙ ap write_in stands) i) began b) in
       let same : filled_by events f ≡ filled_on began b f = ap (λ es. filled_by es f) noted-as ∙ begun-filled says p.size p.parser pieces j n p.stage began b f begins got (λ z. head-filled says p.size p.parser pieces p.stage f got on (none-before p.stage began n begins z)) in
       subst (TakenBy says p'.size p'.parser p'.stage (pieces ++ record { bytes = bytes; now = t } ∷ [])) (sym same) (taken pieces f got);
   closes = λ pieces f got. tt;
   ignores = λ pieces f got. whole-ignored says p.size p.parser p.stage pieces f R.Done events got (λ whole. (refl, is ∙ (λ i. none i ++ nothing-noted j w began b (ignored whole) i)));
+  begins = λ pieces f got.
+      let more = pieces ++ record { bytes = bytes; now = t } ∷ [] in
+      subst (SayBegins says (limit_of p.size) more) (sym (is ∙ (λ i. none i ++ piece_noted j w began b))) (piece-begins says (limit_of p.size) more j w began b (begun pieces f got));
   ends = λ pieces f got.
       let more = pieces ++ record { bytes = bytes; now = t } ∷ [] in
       subst (SayEnds more) (sym (is ∙ (λ i. none i ++ piece_noted j (has i) began b)))
@@ -272,19 +298,23 @@ declined-puts says p p' bytes t began b reason events on unwritten taken none st
       declined-as says p'.size p'.parser p'.stage reason (pieces ++ record { bytes = bytes; now = t } ∷ []) (filled_by events f) (filled_on began b f) stands (ap (λ es. filled_by es f) none ∙ nothing) (taken pieces f got);
   closes = λ pieces f got. tt;
   ignores = λ pieces f got. none-ignored p.stage pieces (R.NotCached reason) events unwritten;
+  begins = λ pieces f got. subst (SayBegins says (limit_of p.size) (pieces ++ record { bytes = bytes; now = t } ∷ [])) (sym none) tt;
   ends = λ pieces f got. subst (SayEnds (pieces ++ record { bytes = bytes; now = t } ∷ [])) (sym none) tt;
 }
 
 over-as : (says : Says) (size : Option Counted) (parser : Parsed) (stage : Stage) (kind : ErrorType) (pieces : List Piece) (f g : Option Filled) → stage ≡ IsOver kind → TakenBy says size parser stage pieces g → TakenBy says size parser stage pieces f
 over-as says size parser stage kind pieces f g is t = subst (λ (z : Stage). TakenBy says size parser z pieces f) (sym is) (subst (λ (z : Stage). TakenBy says size parser z pieces g) is t)
 
-pub refused-puts : (says : Says) (p p' : Taking) (bytes : List ℕ) (t : ℕ) (began : Option Meta) (b : Option Written) (e kind : ErrorType) (events : List Event) → OnTaken says p p' (record { bytes = bytes; now = t }) began b → p'.stage ≡ IsOver e
-    → (HasWholeBody p.stage p.parser → ⊥) → PutTurn says (C.Feed bytes t) (R.Refused kind) events (Some (ongoing_put p)) (Some (ongoing_put p'))
-refused-puts says p p' bytes t began b e kind events taken stands never = record {
+pub refused-puts : (says : Says) (p p' : Taking) (bytes : List ℕ) (t j : ℕ) (began : Option Meta) (b : Option Written) (e kind : ErrorType) (w : Option ℕ) (events : List Event) → OnTaken says p p' (record { bytes = bytes; now = t }) began b → p'.stage ≡ IsOver e
+    → events ≡ piece_noted j w began None ++ drop_of w → HasBegun says p (record { bytes = bytes; now = t }) began → (HasWholeBody p.stage p.parser → ⊥) → PutTurn says (C.Feed bytes t) (R.Refused kind) events (Some (ongoing_put p)) (Some (ongoing_put p'))
+refused-puts says p p' bytes t j began b e kind w events taken stands is begun never = record {
   taken = λ pieces f got. over-as says p'.size p'.parser p'.stage e (pieces ++ record { bytes = bytes; now = t } ∷ []) (filled_by events f) (filled_on began b f) stands (taken pieces f got);
   closes = λ pieces f got. tt;
   ignores = λ pieces f got. whole-ignored says p.size p.parser p.stage pieces f (R.Refused kind) events got (λ whole. absurd (never whole));
-  ends = λ pieces f got. tt;
+  begins = λ pieces f got.
+      let more = pieces ++ record { bytes = bytes; now = t } ∷ [] in
+      subst (SayBegins says (limit_of p.size) more) (sym is) (refused-begins more j says (limit_of p.size) w began (begun pieces f got));
+  ends = λ pieces f got. let more = pieces ++ record { bytes = bytes; now = t } ∷ [] in subst (SayEnds more) (sym is) (refused-ends more j w began);
 }
 
 -- ---- the reply
@@ -337,23 +367,25 @@ module _ {M : Type 0} (s : Store) (t : Locks) where
   declined-answers k (HasDeclined why) end began b reason events again on begins none is = let g : ◌≡◌ {A = PieceEnd M} (piece.NotCached reason) (piece.NotCached why) = sym on ∙ again in let same : reason ≡ why = cc in (ap R.NotCached same, is)
   declined-answers k (IsOver kind) end began b reason events again on begins none is = absurd (let g : ◌≡◌ {A = PieceEnd M} (piece.NotCached reason) (piece.Refused kind None) = sym on ∙ again in cc)
 
-  pub refused-answers : (says : Says) (size : Option Counted) (parser : Parsed) (pieces : List Piece) (f : Option Filled) (k : Key) (stage : Stage) (end : PieceEnd M) (began : Option Meta) (b : Option Written) (e kind : ErrorType) (writer : Option M) (w : Option ℕ) (events : List Event)
-      → TakenBy says size parser stage pieces f → ReturnsAgain stage end → end ≡ piece.Refused e writer → kind ≡ e → BeginsAtHead stage began → MayFailPiece stage s e ⊎ (parser ≡ HasFailed e) → w ≡ write_in (stage_begun stage began s.next (Some s.next)) → events ≡ piece_noted (slot k) w began b ++ drop_of w
-      → EndsWhole s (write_in stage) pieces → (HasWholeBody stage parser → ⊥) → AtStage s t k stage (R.Refused kind) events
-  refused-answers says size parser pieces f k InHead end began b e kind writer w events taken again on same begins why has is ended never =
-      let may : MayFailPiece InHead s e = elim why [ inl may ↦ may | inr failed ↦ absurd (not-failed s t says size parser InHead pieces f e taken (λ z h. absurd (cc)) (λ z h. absurd (cc)) failed) ] in
-      (began, b, inr (inr (e, head-refusal s t (facts s t k InHead) e refl may, ap R.Refused same, is ∙ ap (λ o. piece_noted (slot k) o began b ++ drop_of o) has)))
-  refused-answers says size parser pieces f k (InBody v id until) end None b e kind writer w events taken again on same begins why has is ended never =
+  pub refused-answers : (says : Says) (size : Option Counted) (parser : Parsed) (pieces : List Piece) (f : Option Filled) (k : Key) (stage : Stage) (end : PieceEnd M) (began : Option Meta) (e kind : ErrorType) (writer : Option M) (w : Option ℕ) (events : List Event)
+      → TakenBy says size parser stage pieces f → ReturnsAgain stage end → end ≡ piece.Refused e writer → kind ≡ e → BeginsAtHead stage began → MayFailPiece stage s e ⊎ (parser ≡ HasFailed e) → IsBegunBefore stage e began ⊎ (parser ≡ HasFailed e) → w ≡ write_in (stage_begun stage began s.next (Some s.next))
+      → events ≡ piece_noted (slot k) w began None ++ drop_of w → EndsWhole s (write_in stage) pieces → (HasWholeBody stage parser → ⊥) → AtStage s t k stage (R.Refused kind) events
+  refused-answers says size parser pieces f k InHead end began e kind writer w events taken again on same begins why whether has is ended never =
+      let failed-not : parser ≡ HasFailed e → ⊥ = not-failed s t says size parser InHead pieces f e taken (λ z h. absurd (cc)) (λ z h. absurd (cc)) in
+      let may : MayFailPiece InHead s e = elim why [ inl may ↦ may | inr failed ↦ absurd (failed-not failed) ] in
+      let told : IsBegunBefore InHead e began = elim whether [ inl told ↦ told | inr failed ↦ absurd (failed-not failed) ] in
+      (began, None, inr (inr (e, head-refusal s t (facts s t k InHead) e refl may, told, ap R.Refused same, is ∙ ap (λ o. piece_noted (slot k) o began None ++ drop_of o) has)))
+  refused-answers says size parser pieces f k (InBody v id until) end None e kind writer w events taken again on same begins why whether has is ended never =
       let untold : is_told (get s.writes v) ≡ true → ⊥ = λ told. never ((taken-whole says size parser v id until pieces f taken).1 (ended told)) in
       let may : MayFailPiece (InBody v id until) s e = elim why [ inl may ↦ may | inr failed ↦ absurd (not-failed s t says size parser (InBody v id until) pieces f e taken (λ z h. absurd (cc)) (λ z h. absurd (cc)) failed) ] in
-      (b, inr (inr (e, body-refusal s t (facts s t k (InBody v id until)) v id until e untold may, ap R.Refused same, is ∙ ap (λ o. piece_noted (slot k) o None b ++ drop_of o) has)))
-  refused-answers says size parser pieces f k (InBody v id until) end (Some m) b e kind writer w events taken again on same begins why has is ended never = none-some m begins
-  refused-answers says size parser pieces f k (HasDeclined reason) end began b e kind writer w events taken again on same begins why has is ended never = absurd (let g : ◌≡◌ {A = PieceEnd M} (piece.Refused e writer) (piece.NotCached reason) = sym on ∙ again in cc)
-  refused-answers says size parser pieces f k (IsOver over) end None b e kind writer w events taken again on same begins why has is ended never =
+      (None, inr (inr (e, body-refusal s t (facts s t k (InBody v id until)) v id until e untold may, refl, ap R.Refused same, is ∙ ap (λ o. piece_noted (slot k) o None None ++ drop_of o) has)))
+  refused-answers says size parser pieces f k (InBody v id until) end (Some m) e kind writer w events taken again on same begins why whether has is ended never = none-some m begins
+  refused-answers says size parser pieces f k (HasDeclined reason) end began e kind writer w events taken again on same begins why whether has is ended never = absurd (let g : ◌≡◌ {A = PieceEnd M} (piece.Refused e writer) (piece.NotCached reason) = sym on ∙ again in cc)
+  refused-answers says size parser pieces f k (IsOver over) end None e kind writer w events taken again on same begins why whether has is ended never =
       let g : ◌≡◌ {A = PieceEnd M} (piece.Refused e writer) (piece.Refused over None) = sym on ∙ again in
       let which : e ≡ over = cc in
-      (ap R.Refused (same ∙ which), is ∙ ap (λ o. piece_noted (slot k) o None b ++ drop_of o) has)
-  refused-answers says size parser pieces f k (IsOver over) end (Some m) b e kind writer w events taken again on same begins why has is ended never = none-some m begins
+      (ap R.Refused (same ∙ which), is ∙ ap (λ o. piece_noted (slot k) o None None ++ drop_of o) has)
+  refused-answers says size parser pieces f k (IsOver over) end (Some m) e kind writer w events taken again on same begins why whether has is ended never = none-some m begins
 
 -- ---- no lock is spoken of
 
@@ -402,9 +434,17 @@ noted-drop w v mid events same is = is ∙ ap (λ o. mid ++ drop_of o) (sym same
 pub left-drop : (w v : Option ℕ) (s u : Store) → w ≡ v → u ≡ dropped_by v s → u ≡ dropped_by w s
 left-drop w v s u same is = is ∙ ap (λ o. dropped_by o s) (sym same)
 
-pub refused-answers-of : {M : Type 0} (s : Store) (t : Locks) (says : Says) (p : Taking) (pieces : List Piece) (f : Option Filled) (end : PieceEnd M) (began : Option Meta) (b : Option Written) (e kind : ErrorType) (writer : Option M) (w : Option ℕ) (j : ℕ) (old mid events : List Event)
-    → TakenBy says p.size p.parser p.stage pieces f → ReturnsAgain p.stage end → end ≡ piece.Refused e writer → kind ≡ e → BeginsAtHead p.stage began → IfRefused end (λ z. MayFailPiece p.stage s z ⊎ (p.parser ≡ HasFailed z)) → w ≡ write_in (stage_begun p.stage began s.next (Some s.next)) → j ≡ slot p.key
-    → old ≡ [] → mid ≡ old ++ piece_noted j w began b → events ≡ mid ++ drop_of w → EndsWhole s (write_in p.stage) pieces → (HasWholeBody p.stage p.parser → ⊥) → Feeds (facts_in s t (ongoing_put p).request) (Some p) (R.Refused kind) events
-refused-answers-of s t says p pieces f end began b e kind writer w j old mid events taken again on same begins why has at none one is ended never =
-    refused-answers s t says p.size p.parser pieces f p.key p.stage end began b e kind writer w events taken again on same begins
-    (subst (λ z. IfRefused z (λ y. MayFailPiece p.stage s y ⊎ (p.parser ≡ HasFailed y))) on why) has (is ∙ ap (λ es. es ++ drop_of w) (one ∙ (λ i. none i ++ piece_noted (at i) w began b))) ended never
+-- a piece that failed wrote nothing
+pub refused-unwritten : {M : Type 0} (end : PieceEnd M) (e : ErrorType) (writer : Option M) (b : Option Written) → end ≡ piece.Refused e writer → IfRefused end (λ _. b ≡ None) → b ≡ None
+refused-unwritten end e writer b on none = subst (λ z. IfRefused z (λ _. b ≡ None)) on none
+
+pub refused-noted : (j : ℕ) (w v : Option ℕ) (began : Option Meta) (b : Option Written) (old mid events : List Event) → old ≡ [] → mid ≡ old ++ piece_noted j w began b → b ≡ None → w ≡ v → events ≡ mid ++ drop_of v → events ≡ piece_noted j w began None ++ drop_of w
+refused-noted j w v began b old mid events none one unwritten same is = noted-drop w v mid events same is ∙ ap (λ es. es ++ drop_of w) (one ∙ (λ i. none i ++ piece_noted j w began (unwritten i)))
+
+pub refused-answers-of : {M : Type 0} (s : Store) (t : Locks) (says : Says) (p : Taking) (pieces : List Piece) (f : Option Filled) (end : PieceEnd M) (began : Option Meta) (e kind : ErrorType) (writer : Option M) (w : Option ℕ) (j : ℕ) (events : List Event)
+    → TakenBy says p.size p.parser p.stage pieces f → ReturnsAgain p.stage end → end ≡ piece.Refused e writer → kind ≡ e → BeginsAtHead p.stage began → IfRefused end (λ z. MayFailPiece p.stage s z ⊎ (p.parser ≡ HasFailed z)) → IfRefused end (λ z. IsBegunBefore p.stage z began ⊎ (p.parser ≡ HasFailed z))
+    → w ≡ write_in (stage_begun p.stage began s.next (Some s.next)) → j ≡ slot p.key → events ≡ piece_noted j w began None ++ drop_of w → EndsWhole s (write_in p.stage) pieces → (HasWholeBody p.stage p.parser → ⊥) → Feeds (facts_in s t (ongoing_put p).request) (Some p) (R.Refused kind) events
+refused-answers-of s t says p pieces f end began e kind writer w j events taken again on same begins why whether has at is ended never =
+    refused-answers s t says p.size p.parser pieces f p.key p.stage end began e kind writer w events taken again on same begins
+    (subst (λ z. IfRefused z (λ y. MayFailPiece p.stage s y ⊎ (p.parser ≡ HasFailed y))) on why)
+    (subst (λ z. IfRefused z (λ y. IsBegunBefore p.stage y began ⊎ (p.parser ≡ HasFailed y))) on whether) has (is ∙ ap (λ k. piece_noted k w began None ++ drop_of w) at) ended never

@@ -24,7 +24,7 @@ use Rattle.pcache_history.specs.declared.entry.Event.{Event}
 use Rattle.pcache_request.specs.LockUse.{unheld}
 use Rattle.pcache_history.specs.Ongoing.{Ongoing, is_done, kind_of_reply, request_of, row, taken_over, turned_by}
 use Rattle.pingora_cache.specs.Untold.{untold, uncounted, untold_put}
-use Rattle.pcache_history.specs.PutHistory.{AreWhole, ClosesBy, EndsBy, IgnoresAt, IgnoresBy, IgnoresIn, IgnoresOf, WasAtStage, Tells, TellsOf, filled_after, filled_of, pieces_of, pieces_on}
+use Rattle.pcache_history.specs.PutHistory.{AreWhole, BeginsBy, BeginsIn, BeginsOf, SayBegins, ClosesBy, EndsBy, IgnoresAt, IgnoresBy, IgnoresIn, IgnoresOf, WasAtStage, Tells, TellsOf, filled_after, filled_of, pieces_of, pieces_on}
 use Rattle.pingora_cache.specs.PutsSound.{EndedIn, EndsWhole, HasEnded, HasSome, PutTurn, PutsSound, TakenIn}
 use Rattle.pcache_history.specs.Rules.{IsCopy, IsIdle}
 use Rattle.pingora_cache.specs.Sound.{AreOpen, IsSound, readers, record_of}
@@ -76,6 +76,16 @@ closes-untold : (says : Says) (act : Act) (q : Option Ongoing) (pieces : List Pi
 closes-untold says C.Close None pieces f reply c = c
 closes-untold says C.Close (Some x) pieces f reply c = tells-alike says x.put pieces f reply c
 closes-untold says act q pieces f reply c = tt
+
+-- and a write begins so
+begins-alike : (says : Says) (p : Option Taking) (pieces : List Piece) (events : List Event) → BeginsOf says p pieces events → BeginsOf says (option_map untold_put p) pieces events
+begins-alike says None pieces events begins = begins
+begins-alike says (Some p) pieces events begins = subst (λ n. SayBegins says n pieces events) (sym (limits-alike p.size)) begins
+
+begins-untold : (says : Says) (act : Act) (q : Option Ongoing) (pieces : List Piece) (events : List Event) → BeginsBy says act q pieces events → BeginsBy says act (option_map untold q) pieces events
+begins-untold says (C.Feed bytes t) None pieces events begins = begins
+begins-untold says (C.Feed bytes t) (Some x) pieces events begins = begins-alike says x.put pieces events begins
+begins-untold says act q pieces events begins = tt
 
 -- if memory runs out nothing is said
 starved-tells : (says : Says) (p : Option Taking) (pieces : List Piece) (f : Option Filled) → TellsOf says p pieces f (R.Refused OutOfMemory)
@@ -130,7 +140,9 @@ puts-after says all h n act reply told events q' k are turn now copy =
           stands = subst (λ p. WasAtStage says p (pieces_on act (kind_of_reply told) pieces) (filled_after act (kind_of_reply told) events f)) row-is (stood-in says q' (pieces_on act (kind_of_reply told) pieces) (filled_after act (kind_of_reply told) events f) taken);
           closes = subst (λ p. ClosesBy says act p pieces f told) (are n) (closes-untold says act q pieces f told (copied-closes says act q pieces f reply told copy (turn.closes pieces f (k.taken n))));
           ignores = subst (λ p. IgnoresBy act p pieces told events) (are n) (ignored-by pieces events reply told copy act q (turn.ignores pieces f (k.taken n)));
-          ends = subst (λ o. EndsBy act o (pieces_on act o pieces) events) (sym same) (turn.ends pieces f (k.taken n));
+          begins = subst (λ p. BeginsBy says act p (pieces_on act (kind_of_reply told) pieces) events) (are n)
+              (begins-untold says act q (pieces_on act (kind_of_reply told) pieces) events (subst (λ o. BeginsBy says act q (pieces_on act o pieces) events) (sym same) (turn.begins pieces f (k.taken n))));
+          ends = subst (λ o. EndsBy act (pieces_on act o pieces) events) (sym same) (turn.ends pieces f (k.taken n));
         },
         k.follow,
       );
@@ -154,6 +166,7 @@ puts-given says all new h from to reply told events k are moved = record {
       stands = row-given (λ q. WasAtStage says q (pieces_of from h) (filled_of from h)) (λ x is. is) to told events (request_of from h) (subst (λ q. WasAtStage says q (pieces_of from h) (filled_of from h)) (are from) (stood-in says (get all from) (pieces_of from h) (filled_of from h) (k.taken from)));
       closes = tt;
       ignores = tt;
+      begins = tt;
       ends = tt;
     },
     k.follow,

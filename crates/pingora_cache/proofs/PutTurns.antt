@@ -20,7 +20,7 @@ use Rattle.pingora_cache.specs.PartFacts.{facts_in, no_facts}
 use Rattle.pcache_history.specs.Ongoing.{Ongoing, IsOngoingPut, ReplyKind, was_wrong, ongoing_put, is_done, is_wrong, kind_of_reply, row}
 use Rattle.pingora_cache.specs.Handing.{open_at}
 use Rattle.pingora_cache.specs.Moved.{Moves, MovesRequest, MovesStore}
-use Rattle.pcache_history.specs.PutHistory.{ClosesBy, EndsBy, IgnoresBy, IgnoresIn, IgnoresOf, filled_after, pieces_on}
+use Rattle.pcache_history.specs.PutHistory.{BeginsBy, BeginsIn, BeginsOf, ClosesBy, EndsBy, IgnoresBy, IgnoresIn, IgnoresOf, filled_after, pieces_on}
 use Rattle.pingora_cache.specs.PutsSound.{HasSome, PutTurn, TakenIn}
 use Rattle.pcache_history.specs.Rules.{Feeds, FindsKind, IsIdle, IsOfKind, IsOther, MayBe, Replies}
 use Rattle.pingora_cache.specs.Step.{IsRow, IsRowed, Turn}
@@ -43,9 +43,13 @@ no-ignoring : (act : Act) (x : Ongoing) (pieces : List Piece) (reply : Reply) (e
 no-ignoring (C.Feed bytes t) x pieces reply events none = subst (λ p. IgnoresOf p pieces reply events) (sym none) tt
 no-ignoring act x pieces reply events none = tt
 
+no-begin : (says : Says) (act : Act) (x : Ongoing) (pieces : List Piece) (events : List Event) → x.put ≡ None → BeginsBy says act (Some x) pieces events
+no-begin says (C.Feed bytes t) x pieces events none = subst (λ p. BeginsOf says p pieces events) (sym none) tt
+no-begin says act x pieces events none = tt
+
 -- a call that announces no end of a put's body
 abbrev pub SaysNoEnd : Act → Type 0
-SaysNoEnd act = (o : ReplyKind) (pieces : List Piece) (events : List Event) → EndsBy act o pieces events
+SaysNoEnd act = (pieces : List Piece) (events : List Event) → EndsBy act pieces events
 
 -- of a request nothing is said
 pub puts-plain : (says : Says) (act : Act) (reply : Reply) (events : List Event) (q q' : Option Ongoing) (x y : Ongoing) → q ≡ Some x → q' ≡ Some y → x.put ≡ None → y.put ≡ None → SaysNoEnd act → PutTurn says act reply events q q'
@@ -55,7 +59,8 @@ puts-plain says act reply events q q' x y is now before after none =
       taken = λ pieces f _. no-put says y (pieces_on act (kind_of_reply reply) pieces) (filled_after act (kind_of_reply reply) events f) after;
       closes = λ pieces f _. no-close says act x pieces f reply before;
       ignores = λ pieces f _. no-ignoring act x pieces reply events before;
-      ends = λ pieces f _. none (kind_of_reply reply) (pieces_on act (kind_of_reply reply) pieces) events;
+      begins = λ pieces f _. no-begin says act x (pieces_on act (kind_of_reply reply) pieces) events before;
+      ends = λ pieces f _. none (pieces_on act (kind_of_reply reply) pieces) events;
     }))
 
 none-told : (says : Says) (p : Option Ongoing) (pieces : List Piece) (f : Option Filled) → ClosesBy says C.Close p pieces f R.WrongCall
@@ -66,7 +71,15 @@ wrong-closes : (says : Says) (act : Act) (q : Option Ongoing) (pieces : List Pie
 wrong-closes says C.Close q pieces f = none-told says q pieces f
 wrong-closes says act q pieces f = tt
 
-wrong-ends : (act : Act) (pieces : List Piece) → EndsBy act was_wrong pieces []
+none-begun : (says : Says) (q : Option Ongoing) (pieces : List Piece) → BeginsIn says q pieces []
+none-begun says None pieces = tt
+none-begun says (Some x) pieces = elim x.put as (λ o. BeginsOf says o pieces []) [ None ↦ tt | Some p ↦ tt ]
+
+wrong-begins : (says : Says) (act : Act) (q : Option Ongoing) (pieces : List Piece) → BeginsBy says act q pieces []
+wrong-begins says (C.Feed bytes t) q pieces = none-begun says q pieces
+wrong-begins says act q pieces = tt
+
+wrong-ends : (act : Act) (pieces : List Piece) → EndsBy act pieces []
 wrong-ends (C.Feed bytes t) pieces = tt
 wrong-ends act pieces = tt
 
@@ -90,6 +103,7 @@ puts-wrong says act reply events q q' idle now never =
       taken = λ pieces f t. subst (λ xs. TakenIn says q xs (filled_after act was_wrong [] f)) (sym (wrong-pieces act pieces)) (subst (TakenIn says q pieces) (sym (wrong-filled act f)) t);
       closes = λ pieces f t. wrong-closes says act q pieces f;
       ignores = λ pieces f t. never pieces;
+      begins = λ pieces f t. wrong-begins says act q (pieces_on act was_wrong pieces);
       ends = λ pieces f t. wrong-ends act (pieces_on act was_wrong pieces);
     })))
 
@@ -100,19 +114,19 @@ cond-taken says false q r pieces f a b = b
 -- what is opened or ended
 pub puts-opened : (says : Says) (options : Option CacheOptionOverrides) (reply : Reply) (events : List Event) (q q' : Option Ongoing) → q' ≡ row (C.Open options) reply [] q → PutTurn says (C.Open options) reply events q q'
 puts-opened says options reply events q q' now =
-    subst (λ (p : Option Ongoing). PutTurn says (C.Open options) reply events q p) (sym now) (record { taken = λ pieces f t. cond-taken says (is_done (kind_of_reply reply)) _ q pieces f tt t; closes = λ pieces f t. tt; ignores = λ pieces f t. tt; ends = λ pieces f t. tt })
+    subst (λ (p : Option Ongoing). PutTurn says (C.Open options) reply events q p) (sym now) (record { taken = λ pieces f t. cond-taken says (is_done (kind_of_reply reply)) _ q pieces f tt t; closes = λ pieces f t. tt; ignores = λ pieces f t. tt; begins = λ pieces f t. tt; ends = λ pieces f t. tt })
 
 pub puts-ended : (says : Says) (reply : Reply) (events : List Event) (q q' : Option Ongoing) → q' ≡ row C.End reply events q → PutTurn says C.End reply events q q'
 puts-ended says reply events q q' now =
-    subst (λ (p : Option Ongoing). PutTurn says C.End reply events q p) (sym now) (record { taken = λ pieces f t. cond-taken says (is_done (kind_of_reply reply)) None q pieces f tt t; closes = λ pieces f t. tt; ignores = λ pieces f t. tt; ends = λ pieces f t. tt })
+    subst (λ (p : Option Ongoing). PutTurn says C.End reply events q p) (sym now) (record { taken = λ pieces f t. cond-taken says (is_done (kind_of_reply reply)) None q pieces f tt t; closes = λ pieces f t. tt; ignores = λ pieces f t. tt; begins = λ pieces f t. tt; ends = λ pieces f t. tt })
 
 pub puts-dropped : (says : Says) (reply : Reply) (events : List Event) (q q' : Option Ongoing) → q' ≡ row C.Drop reply events q → PutTurn says C.Drop reply events q q'
 puts-dropped says reply events q q' now =
-    subst (λ (p : Option Ongoing). PutTurn says C.Drop reply events q p) (sym now) (record { taken = λ pieces f t. cond-taken says (is_done (kind_of_reply reply)) None q pieces f tt t; closes = λ pieces f t. tt; ignores = λ pieces f t. tt; ends = λ pieces f t. tt })
+    subst (λ (p : Option Ongoing). PutTurn says C.Drop reply events q p) (sym now) (record { taken = λ pieces f t. cond-taken says (is_done (kind_of_reply reply)) None q pieces f tt t; closes = λ pieces f t. tt; ignores = λ pieces f t. tt; begins = λ pieces f t. tt; ends = λ pieces f t. tt })
 
 pub puts-closed : (says : Says) (reply : Reply) (events : List Event) (q q' : Option Ongoing) → q' ≡ row C.Close reply events q → ((pieces : List Piece) (f : Option Filled) → TakenIn says q pieces f → ClosesBy says C.Close q pieces f reply) → PutTurn says C.Close reply events q q'
 puts-closed says reply events q q' now closes =
-    subst (λ (p : Option Ongoing). PutTurn says C.Close reply events q p) (sym now) (record { taken = λ pieces f t. cond-taken says (is_wrong (kind_of_reply reply)) q None pieces f t tt; closes = closes; ignores = λ pieces f t. tt; ends = λ pieces f t. tt })
+    subst (λ (p : Option Ongoing). PutTurn says C.Close reply events q p) (sym now) (record { taken = λ pieces f t. cond-taken says (is_wrong (kind_of_reply reply)) q None pieces f t tt; closes = closes; ignores = λ pieces f t. tt; begins = λ pieces f t. tt; ends = λ pieces f t. tt })
 
 pub puts-pushed : (says : Says) (k : Key) (limit : Option ℕ) (reply : Reply) (events : List Event) (q q' : Option Ongoing) → q' ≡ row (C.Put k limit) reply [] q → events ≡ [] → PutTurn says (C.Put k limit) reply [] q (row (C.Put k limit) reply [] q) → PutTurn says (C.Put k limit) reply events q q'
 puts-pushed says k limit reply events q q' now none turn =

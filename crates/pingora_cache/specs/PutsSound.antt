@@ -10,7 +10,7 @@ use Rattle.pcache_history.specs.declared.call.Reply.{Reply}
 use Rattle.pcache_history.specs.declared.entry.Entry.{Entry}
 use Rattle.pcache_history.specs.declared.entry.Event.{Event}
 use Rattle.pcache_history.specs.Ongoing.{Ongoing, kind_of_reply}
-use Rattle.pcache_history.specs.PutHistory.{FollowPolicy, AreWhole, ClosesBy, EndsBy, IgnoresBy, filled_after, filled_of, pieces_of, pieces_on}
+use Rattle.pcache_history.specs.PutHistory.{FollowPolicy, AreWhole, BeginsBy, ClosesBy, EndsBy, IgnoresBy, filled_after, filled_of, pieces_of, pieces_on}
 use Rattle.pcache_history.specs.Taking.{Taking}
 
 abbrev pub HasTakenIn : Says → Option Taking → List Piece → Option Filled → Type 0
@@ -26,7 +26,8 @@ pub record PutTurn (says : Says) (act : Act) (reply : Reply) (events : List Even
   pub taken : (pieces : List Piece) (f : Option Filled) → TakenIn says q pieces f → TakenIn says q' (pieces_on act (kind_of_reply reply) pieces) (filled_after act (kind_of_reply reply) events f)
   pub closes : (pieces : List Piece) (f : Option Filled) → TakenIn says q pieces f → ClosesBy says act q pieces f reply
   pub ignores : (pieces : List Piece) (f : Option Filled) → TakenIn says q pieces f → IgnoresBy act q pieces reply events
-  pub ends : (pieces : List Piece) (f : Option Filled) → TakenIn says q pieces f → EndsBy act (kind_of_reply reply) (pieces_on act (kind_of_reply reply) pieces) events
+  pub begins : (pieces : List Piece) (f : Option Filled) → TakenIn says q pieces f → BeginsBy says act q (pieces_on act (kind_of_reply reply) pieces) events
+  pub ends : (pieces : List Piece) (f : Option Filled) → TakenIn says q pieces f → EndsBy act (pieces_on act (kind_of_reply reply) pieces) events
 
 -- the end of this write was announced in the store only if these pieces are whole
 abbrev pub EndsWhole : Store → Option ℕ → List Piece → Type 0

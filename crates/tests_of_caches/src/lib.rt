@@ -5,6 +5,8 @@
 #[cfg(test)]
 mod bodies;
 #[cfg(test)]
+mod lifetimes;
+#[cfg(test)]
 mod loaded;
 #[cfg(test)]
 mod managers;

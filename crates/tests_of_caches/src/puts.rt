@@ -3,8 +3,11 @@
 //!
 //! The result is that of each call, then what is stored and what is tracked. Every response is fresh for a second unless
 //! it says something else.
+ghost use Rattle.pcache_put_ctx.specs.Policies.{SaysByDefault};
+ghost use Rattle.tests_of_caches.specs.Lifetimes.{IsOneSecond};
+
+use crate::lifetimes::{by_one_second, one_second};
 use crate::requests::{OfTest, finds, list_of, purges};
-use http::StatusCode;
 use pcache_base::error::Result;
 use pcache_base::key::CacheKey;
 use pcache_base::moment::Moment;
@@ -14,23 +17,19 @@ use pcache_control::{CacheMetaDefaults, RespCacheable};
 use pcache_evict::eviction::{EvictionManager, simple_lru};
 use pcache_meta::header::ResponseHeader;
 use pcache_policies::s3_fifo;
-use pcache_put_ctx::policy::{CachePut, default_cacheable};
+use pcache_put_ctx::policy::CachePut;
 use pcache_put_ctx::report::PutOutcome;
 use std::alloc::Global;
 use std::process::Abort;
 use std::time::Duration;
 use test_rows::{Desk, Told, first_wrong, size, unescape, word};
 
-fn one_second(_status: StatusCode) -> Option<Duration> {
-    Some(Duration::from_secs(1))
-}
-
-// A policy that goes by defaults under which every status is fresh for a second. It promises nothing.
+// A policy that goes by defaults under which every status is fresh for a second.
 #[derive(Drop)]
 struct OneSecond;
 
 impl CachePut for OneSecond {
-    ghost says = { λ p header now answer. Unit {0} };
+    ghost says = { λ p. SaysByDefault (0, 0) IsOneSecond };
 
     fn cacheable(
         &self,
@@ -38,12 +37,8 @@ impl CachePut for OneSecond {
         header: ResponseHeader,
         now: Moment,
     ) -> Result<RespCacheable> {
-        default_cacheable(
-            alloc,
-            header,
-            &CacheMetaDefaults::new(one_second, 0, 0),
-            now,
-        )
+        let defaults = CacheMetaDefaults::new(one_second, 0, 0);
+        by_one_second(alloc, header, &defaults, now)
     }
 }
 

@@ -5,6 +5,8 @@ mod alone;
 #[cfg(test)]
 mod gates;
 #[cfg(test)]
+mod lifetimes;
+#[cfg(test)]
 mod many;
 #[cfg(test)]
 mod puts;

@@ -1,14 +1,17 @@
 //! Puts of a cache in parts: responses that are pushed in, in pieces. A bar stands between two pieces.
+ghost use Rattle.pcache_put_ctx.specs.Policies.{SaysByDefault};
+ghost use Rattle.tests_of_parts.specs.Lifetimes.{IsOneSecond};
+
 use crate::gates::Gate;
+use crate::lifetimes::{by_one_second, one_second};
 use crate::requests::{Lists, NOW, OfTest, fill, finds, lists_of};
-use http::StatusCode;
 use pcache_base::error::{ErrorType, Result};
 use pcache_base::key::CacheKey;
 use pcache_base::moment::Moment;
 use pcache_base::reason::NoCacheReason;
 use pcache_control::{CacheMetaDefaults, RespCacheable};
 use pcache_meta::header::ResponseHeader;
-use pcache_put_ctx::policy::{CachePut, default_cacheable};
+use pcache_put_ctx::policy::CachePut;
 use pcache_put_ctx::report::PutOutcome;
 use pcache_shared_cache::SharedPut;
 use std::alloc::Global;
@@ -16,20 +19,15 @@ use std::sync::{Arc, Wait};
 use std::test::Fail;
 use std::thread;
 use std::thread::Threads;
-use std::time::Duration;
 
-fn one_second(_status: StatusCode) -> Option<Duration> {
-    Some(Duration::from_secs(1))
-}
-
-// A policy that passes a gate, and then goes by defaults under which every status is fresh for a second. It promises nothing.
+// A policy that passes a gate, and then goes by defaults under which every status is fresh for a second.
 #[derive(Drop)]
 struct OneSecond {
     gate: Arc<Gate, Global>,
 }
 
 impl CachePut for OneSecond {
-    ghost says = { λ p header now answer. Unit {0} };
+    ghost says = { λ p. SaysByDefault (0, 0) IsOneSecond };
 
     fn cacheable(
         &self,
@@ -38,12 +36,8 @@ impl CachePut for OneSecond {
         now: Moment,
     ) -> Result<RespCacheable> {
         self.gate.pass();
-        default_cacheable(
-            alloc,
-            header,
-            &CacheMetaDefaults::new(one_second, 0, 0),
-            now,
-        )
+        let defaults = CacheMetaDefaults::new(one_second, 0, 0);
+        by_one_second(alloc, header, &defaults, now)
     }
 }
 

@@ -1,5 +1,5 @@
 //! Recency lists in shards.
-ghost use Rattle.std.specs.Prelude.{◌≡◌, ◌∷◌, ◌++◌, ◌+◌, ◌-◌, ◌<◌, ◌≤◌, ◌^◌, ℕ, [], true, false, None, is_some, length, OnOk, OnErr, IfOk, IfErr, IfSome, IfNone, IsSome, List, min, slice_set, take, unwrap_or};
+ghost use Rattle.std.specs.Prelude.{◌≡◌, ◌↔◌, ◌∷◌, ◌++◌, ◌+◌, ◌-◌, ◌<◌, ◌≤◌, ◌^◌, IsTrue, ℕ, [], true, false, None, is_some, length, OnOk, OnErr, IfOk, IfErr, IfSome, IfNone, IsSome, List, min, slice_set, take, unwrap_or};
 ghost use Rattle.std.specs.Vec.{vec_capacity};
 ghost use Rattle.pcache_base.specs.declared.error.ErrorType.TheVariants.{OutOfMemory};
 ghost use Rattle.pcache_evict.specs.Tracked.{limits_of};
@@ -18,6 +18,13 @@ use std::marker::Model;
 
 /// The most entries that all shards may have together, which is the most that one list may have.
 const MOST_ENTRIES: usize = (1 << 63) - 1;
+
+// Whether shards with so many entries take no more. That counts as a lack of memory, which no machine has left by then.
+fn is_full(count: usize) -> bool
+    ensures { IsTrue result ↔ (2 ^ 63 - 1 ≤ count) }
+{
+    count >= MOST_ENTRIES
+}
 
 /// `N` lists of entries with their weights, each entry in the list of its key's shard. A contract
 /// sees the lists.
@@ -118,7 +125,7 @@ impl<const N: usize> RecencyShards<N> {
         ensures err { OnErr result (self.new ≡ self.old) }
     {
         let rest = self.others(&item);
-        if rest.1 >= MOST_ENTRIES {
+        if is_full(rest.1) {
             return Err(Error::new(ErrorType::OutOfMemory));
         }
         let place = self.place_of(&item);
@@ -234,7 +241,7 @@ impl<const N: usize> RecencyShards<N> {
         ensures kind { IfErr result (λ e. e ≡ OutOfMemory) }
         ensures err { OnErr result (self.new ≡ self.old) }
     {
-        if self.items >= MOST_ENTRIES {
+        if is_full(self.items) {
             return Err(Error::new(ErrorType::OutOfMemory));
         }
         let shard = self.place_of(&item);

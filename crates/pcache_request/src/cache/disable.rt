@@ -58,7 +58,8 @@ impl<S: Storage> HttpCache<S> {
     ghost use Rattle.pcache_request.specs.Reports.{name_of};
     ghost use Rattle.pcache_request.specs.Requests.{HoldsNothing, settled, left_by, dropped_by};
 
-    /// Bypasses the cache. The key and all that is held are kept.
+    /// Bypasses the cache. The key and all that is held are kept. It asks no predictor, also if one is in use: then
+    /// `bypass_with` is the call.
     /// Requires the phase CacheKey; ask `phase().may_bypass()`.
     pub fn bypass(&mut self)
         requires { MayBypass self.old.phase }

@@ -147,7 +147,7 @@ impl<S: Storage> HttpCache<S> {
 
     /// Looks the key up in the store, hides what was created before the moment from which variants
     /// count, and asks for the key's lock if it hands nothing on and a lock is in use. It asks no
-    /// policy (`cache_lookup_with` does). If it fails, the request and the lock table are
+    /// policy, also if one is in use: then `cache_lookup_with` is the call. If it fails, the request and the lock table are
     /// unchanged; if it was the lock that failed, a hidden pair was let go.
     /// Requires the phase CacheKey or Stale; ask `phase().may_look_up()`.
     pub fn cache_lookup<L: CacheKeyLock>(

@@ -8,7 +8,7 @@ ghost use Rattle.pcache_store.specs.Store.{Written, followed_on, left_on, wrote_
 
 use crate::memory::body::Body;
 use crate::memory::draft::Draft;
-use crate::memory::slot_table::{SHARDS, one_if};
+use crate::memory::slot_table::{SHARDS, is_full, one_if};
 use bytes::Bytes;
 use pcache_base::error::{Error, ErrorType, Result};
 use pcache_base::seed::Seed;
@@ -16,9 +16,6 @@ use pcache_meta::meta::CacheMeta;
 use pcache_table::hashtable::HashedTable;
 use std::alloc::Global;
 use std::marker::Model;
-
-/// The most records that all shards may have together, which is the most that one table may have.
-const MOST_RECORDS: usize = (1 << 63) - 1;
 
 /// The records of writes by number, each in the shard of its key, of which there are 16. A contract
 /// sees one map.
@@ -99,7 +96,7 @@ impl DraftTable {
         ensures kind { IfErr result (λ e. e ≡ OutOfMemory) }
         ensures err { OnErr result (self.new ≡ self.old) }
     {
-        if self.count >= MOST_RECORDS {
+        if is_full(self.count) {
             return Err(Error::new(ErrorType::OutOfMemory));
         }
         let place = (draft.slot() % SHARDS) as usize;
@@ -135,14 +132,14 @@ impl DraftTable {
         write_in(table, alloc, number, bytes, eof)
     }
 
-    // Counts one more reader of a write, and returns its meta.
+    // Counts one more reader of a write, and returns its meta and its slot.
     pub(crate) fn follow(
         &mut self,
         alloc: Global,
         slot: u128,
         number: u128,
-    ) -> Result<Option<CacheMeta>>
-        ensures meta { IfOk result (λ m. m ≡ option_map (λ w. w.meta) (map.get self.old number)) }
+    ) -> Result<Option<(CacheMeta, u128)>>
+        ensures meta { IfOk result (λ m. m ≡ option_map (λ w. (w.meta, w.slot)) (map.get self.old number)) }
         ensures ok { OnOk result (self.new ≡ followed_on self.old number (map.get self.old number)) }
         ensures something { OnErr result (IsSome (map.get self.old number)) }
         ensures kind { IfErr result (λ e. e ≡ OutOfMemory) }
@@ -240,8 +237,8 @@ fn follow_in(
     writes: &mut HashedTable<Draft>,
     alloc: Global,
     number: u128,
-) -> Result<Option<CacheMeta>>
-    ensures meta { IfOk result (λ m. m ≡ option_map (λ w. w.meta) (map.get writes.old number)) }
+) -> Result<Option<(CacheMeta, u128)>>
+    ensures meta { IfOk result (λ m. m ≡ option_map (λ w. (w.meta, w.slot)) (map.get writes.old number)) }
     ensures ok { OnOk result (writes.new ≡ followed_on writes.old number (map.get writes.old number)) }
     ensures something { OnErr result (IsSome (map.get writes.old number)) }
     ensures kind { IfErr result (λ e. e ≡ OutOfMemory) }
@@ -251,7 +248,7 @@ fn follow_in(
         return Ok(None);
     };
     match draft.follow(alloc) {
-        Ok(meta) => Ok(Some(meta)),
+        Ok(meta) => Ok(Some((meta, draft.slot()))),
         Err(refused) => Err(refused),
     }
 }

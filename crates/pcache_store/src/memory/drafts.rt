@@ -117,14 +117,14 @@ impl Drafts {
         self.writes.write(alloc, slot, number, bytes, eof)
     }
 
-    // Counts one more reader of a write, and returns its meta.
+    // Counts one more reader of a write, and returns its meta and its slot.
     pub(crate) fn follow(
         &mut self,
         alloc: Global,
         slot: u128,
         number: u128,
-    ) -> Result<Option<CacheMeta>>
-        ensures meta { IfOk result (λ m. m ≡ option_map (λ w. w.meta) (map.get self.old.writes number)) }
+    ) -> Result<Option<(CacheMeta, u128)>>
+        ensures meta { IfOk result (λ m. m ≡ option_map (λ w. (w.meta, w.slot)) (map.get self.old.writes number)) }
         ensures small { IfOk result (λ m. IfSome m (λ _. number < 2 ^ 64)) }
         ensures ok { OnOk result (self.new ≡ record self.old { writes = followed_on self.old.writes number (map.get self.old.writes number) }) }
         ensures something { OnErr result (IsSome (map.get self.old.writes number)) }

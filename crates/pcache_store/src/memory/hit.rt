@@ -102,6 +102,7 @@ impl PartialHit {
     // A reader of a write of this slot, which has read nothing yet.
     pub(crate) fn new(slot: u128, write: u64) -> PartialHit
         ensures write { result.write ≡ write }
+        ensures slot { result.slot ≡ slot }
         ensures place { result.place ≡ 0 }
     {
         PartialHit {

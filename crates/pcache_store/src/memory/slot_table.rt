@@ -1,5 +1,5 @@
 //! The slots by key, in shards.
-ghost use Rattle.std.specs.Prelude.{◌≡◌, ◌<◌, ◌^◌, ℕ, Option, Some, None, IsSome, IfOk, IfErr, OnOk, OnErr, option_copied, is_some, true, cond, ◌+◌};
+ghost use Rattle.std.specs.Prelude.{◌≡◌, ◌<◌, ◌≤◌, ◌^◌, ◌-◌, ◌↔◌, ℕ, Option, Some, None, IsSome, IsTrue, IfOk, IfErr, OnOk, OnErr, option_copied, is_some, true, cond, ◌+◌};
 ghost use Rattle.std.specs.FinMap as map;
 ghost use Rattle.pcache_meta.specs.Meta as meta_of;
 ghost use Rattle.pcache_base.specs.declared.error.ErrorType.TheVariants.{OutOfMemory};
@@ -20,8 +20,16 @@ use std::marker::Model;
 /// How many shards there are. The shard of a key is the key modulo their number.
 pub(crate) const SHARDS: u128 = 16;
 
-/// The most keys that all shards may have together, which is the most that one table may have.
+/// The most keys, or records of writes, that all shards may have together, which is the most that one table may have.
 const MOST_KEYS: usize = (1 << 63) - 1;
+
+// Whether shards that have so many keys, or records, take no more. That counts as a lack of memory, which no machine has left
+// by then.
+pub(crate) fn is_full(count: usize) -> bool
+    ensures { IsTrue result ↔ (2 ^ 63 - 1 ≤ count) }
+{
+    count >= MOST_KEYS
+}
 
 /// The slots by key, in 16 shards. A contract sees one map.
 #[derive(Drop)]
@@ -95,7 +103,7 @@ impl SlotTable {
         ensures kind { IfErr result (λ e. e ≡ OutOfMemory) }
         ensures err { OnErr result (self.new ≡ self.old) }
     {
-        if self.count >= MOST_KEYS {
+        if is_full(self.count) {
             return Err(Error::new(ErrorType::OutOfMemory));
         }
         let place = (key % SHARDS) as usize;

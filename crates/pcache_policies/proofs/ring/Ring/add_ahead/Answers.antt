@@ -1,7 +1,7 @@
 use Rattle.std.proofs.Common.{◌≡◌, ◌∷◌, ◌∙◌, ◌++◌, ◌<◌, ◌-◌, ◌^◌, None, sym, subst, ap, arith, length}
 use Rattle.pcache_policies.specs.Queue.{seen_of}
 use Rattle.pcache_policies.specs.Ring.{IsRing, all}
-use Rattle.pcache_policies.proofs.Rings.{absent_ahead, ring-entered}
+use Rattle.pcache_policies.proofs.Rings.{not-full, absent_ahead, ring-entered}
 use Rattle.pcache_policies.proofs.ring.Ring.add_ahead.Goals as goal
 
 pub push-requires : goal.push-requires
@@ -12,4 +12,4 @@ invariant_of-self-2 c =
     subst (λ a. IsRing a c.self.inside.leaving c.self.inside.passed) (sym c.in_ok-push.ensures.ok)
     (ring-entered c.self.inside.ahead c.self.inside.leaving c.self.inside.passed c.args.item c.unused.result c.self.invariant
     (ap (λ r. seen_of c.args.item (all r)) c.self.view_is ∙ c.requires)
-    (let same = ap (λ r. length (all r)) c.self.view_is in let long = c.len.ensures.value in omega arith))
+    (let same = ap (λ r. length (all r)) c.self.view_is in let long = c.len.ensures.value in let few = not-full c.is_full.result c.len.result c.is_full.ensures c.if-is_full.false in omega arith))

@@ -1,6 +1,6 @@
 use Rattle.std.proofs.Common.{◌≡◌, ℕ, Option, None}
 use Rattle.std.specs.declared.time.Duration.{Duration}
-use Rattle.pingora_cache.proofs.BySelf.{answered-more}
+use Rattle.pcache_put_ctx.proofs.Answered.{answered-more}
 use Rattle.pingora_cache.proofs.world.policy.by_none.Goals as goal
 
 pub returns-clause-says : goal.returns-clause-says

@@ -18,7 +18,7 @@ returns-in-Request-clause-turn g c world some =
     c.turn-reply.ensures.moves c.turn-reply.ensures.keeps (row-kept (Request c.args.act.now) _ _ _ _ c.turn-reply.ensures.row) (c.turn-reply.ensures.locks _) world
 
 pub returns-in-Request-clause-puts : goal.returns-in-Request-clause-puts
-returns-in-Request-clause-puts g c = puts-plain _ (Request c.args.act.now) c.turn-reply.result c.turn-reply.new.events.items _ _ c.in-Request.request c.turn-reply.new.request (search rules) (search rules) c.is_plain.ensures c.is_plain-in-Request.ensures (λ o pieces events. tt)
+returns-in-Request-clause-puts g c = puts-plain _ (Request c.args.act.now) c.turn-reply.result c.turn-reply.new.events.items _ _ c.in-Request.request c.turn-reply.new.request (search rules) (search rules) c.is_plain.ensures c.is_plain-in-Request.ensures (λ pieces events. tt)
 
 pub returns-in-Put-clause-turn : goal.returns-in-Put-clause-turn
 returns-in-Put-clause-turn g c world some =

@@ -17,7 +17,7 @@ returns-in-Request-clause-turn g c world some =
     (λ world. c.wait-reply.ensures.moves _ _ _) c.wait-reply.ensures.keeps c.wait-reply.ensures.row (c.wait-reply.ensures.locks _) world
 
 pub returns-in-Request-clause-puts : goal.returns-in-Request-clause-puts
-returns-in-Request-clause-puts g c = puts-plain _ (Wait c.args.now) c.wait-reply.result c.wait-reply.new.events.items _ _ c.in-Request.request c.wait-reply.new.request (search rules) (search rules) c.is_plain.ensures c.is_plain-in-Request.ensures (λ o pieces events. tt)
+returns-in-Request-clause-puts g c = puts-plain _ (Wait c.args.now) c.wait-reply.result c.wait-reply.new.events.items _ _ c.in-Request.request c.wait-reply.new.request (search rules) (search rules) c.is_plain.ensures c.is_plain-in-Request.ensures (λ pieces events. tt)
 
 pub returns-in-Put-clause-turn : goal.returns-in-Put-clause-turn
 returns-in-Put-clause-turn g c world some =

@@ -20,7 +20,7 @@ pub returns-clause-ok : goal.returns-clause-ok
 returns-clause-ok c = on_ok_weaker c.follow_in.result (λ e. ap (λ x. one_map (parts 0 (slice_set c.self.inside.shards c.place_of-place.result x))) e ∙ (changed-joined c.self.invariant c.place_of-place.result c.args.number c.place_of-place.ensures.within c.place_of-place.ensures.place c.index-self-place.result).whole ∙ ap (λ m. followed_on m c.args.number (map.get m c.args.number)) c.self.view_is) c.follow_in.ensures.ok
 
 pub returns-clause-meta : goal.returns-clause-meta
-returns-clause-meta c = IfOk-weaker c.follow_in.result _ _ (λ m h. h ∙ ap (λ o. option_map (λ w. w.meta) o) (here c.self.invariant c.place_of-place.result c.args.number c.place_of-place.ensures.within c.place_of-place.ensures.place c.index-self-place.result ∙ ap (λ m. map.get m c.args.number) c.self.view_is)) c.follow_in.ensures.meta
+returns-clause-meta c = IfOk-weaker c.follow_in.result _ _ (λ m h. h ∙ ap (λ o. option_map (λ w. (w.meta, w.slot)) o) (here c.self.invariant c.place_of-place.result c.args.number c.place_of-place.ensures.within c.place_of-place.ensures.place c.index-self-place.result ∙ ap (λ m. map.get m c.args.number) c.self.view_is)) c.follow_in.ensures.meta
 
 pub returns-clause-something : goal.returns-clause-something
 returns-clause-something c = on_err_weaker c.follow_in.result (λ h. subst IsSome (here c.self.invariant c.place_of-place.result c.args.number c.place_of-place.ensures.within c.place_of-place.ensures.place c.index-self-place.result ∙ ap (λ m. map.get m c.args.number) c.self.view_is) h) c.follow_in.ensures.something

@@ -9,4 +9,4 @@ invariant_of-self c = on_both c.follow.result (λ e. subst (λ m. AreBefore m c.
 
 pub returns-clause-small : goal.returns-clause-small
 returns-clause-small c =
-    IfOk-weaker c.follow.result _ _ (λ m is. subst (λ n. IfSome m (λ _. n < 2 ^ 64)) refl (given_before c.self.inside.writes c.self.inside.next c.args.number (2 ^ 64) (λ w. w.meta) m c.self.invariant c.self.inside.numbers is)) c.follow.ensures.meta
+    IfOk-weaker c.follow.result _ _ (λ m is. subst (λ n. IfSome m (λ _. n < 2 ^ 64)) refl (given_before c.self.inside.writes c.self.inside.next c.args.number (2 ^ 64) (λ w. (w.meta, w.slot)) m c.self.invariant c.self.inside.numbers is)) c.follow.ensures.meta
