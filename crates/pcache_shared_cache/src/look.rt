@@ -101,9 +101,11 @@ impl<M: EvictionManager, K, const N: usize> SharedCache<M, K, N> {
         ensures phase { request.new.cache.phase ≡ request.old.cache.phase }
         ensures place { request.new.place ≡ request.old.place }
     {
-        self.part(request.place())
-            .lock(rt)
-            .read_body(&mut request.request)
+        let part = self.part(request.place());
+        if request.request.cache.reads_alone() {
+            return request.request.cache.read_body_alone();
+        }
+        part.lock(rt).read_body(&mut request.request)
     }
 
     /// Reads on, and asks up to so many times while there is nothing yet. In between other threads can run, and nothing is
@@ -143,9 +145,12 @@ impl<M: EvictionManager, K, const N: usize> SharedCache<M, K, N> {
         ensures kind { IfErr result (λ e. e ≡ OutOfMemory) }
         ensures none { request.old.cache.reader ≡ None → IsOk result }
     {
-        self.part(request.place())
-            .lock(rt)
-            .finish_hit_handler(&mut request.request)
+        let part = self.part(request.place());
+        if request.request.cache.reads_alone() {
+            request.request.cache.finish_hit_handler_alone();
+            return Ok(());
+        }
+        part.lock(rt).finish_hit_handler(&mut request.request)
     }
 
     /// `Cache::disable`: turns caching off, and gives back all that is held.
@@ -174,6 +179,10 @@ impl<M: EvictionManager, K, const N: usize> SharedCache<M, K, N> {
     {
         let part = self.part(request.place());
         let request = request.into_request();
+        if request.cache.may_end_alone() {
+            request.end_alone();
+            return None;
+        }
         part.lock(rt).end(request)
     }
 }
