@@ -361,10 +361,10 @@ def sample(crates, minutes, seed):
         if left < most / 10:
             break
         try:
-            seen = outcome_alone(crate, edit, min(left, most / 2))
+            seen = outcome_alone(crate, edit, left)
         except NoTime:
             # what a check took that was ended is not told
-            seen, lost = "not tried, for want of time", lost + min(left, most / 2)
+            seen, lost = "not tried, for want of time", lost + left
         except (NotLookedAt, OSError) as why:
             seen = f"not tried: {why}"
         print(f"wrong body {crate}/{file}: {edit.name}: {seen}", flush=True)

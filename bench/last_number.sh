@@ -3,7 +3,7 @@
 # a copy of the sources, so that the store of the world begins at the number before the last, and runs a script over the program
 # that `rt try` builds there without a proof. Each line of the script has the reply that it must have; it ends non-zero if one has
 # another: 1, or 2 if the program did not run to its end, which says nothing of a reply. (The same through the store, a request
-# and a put alone are tests of `tests_of_stores`.)
+# and a put alone are tests of `tests_of_requests`.)
 . "$(dirname "$0")/in_a_copy.sh"
 drafts=crates/pcache_store/src/memory/drafts.rt
 sed -i 's/Drafts::starting_at(alloc, seed, 0)/Drafts::starting_at(alloc, seed, u64::MAX - 1)/' "$drafts"

@@ -14,6 +14,7 @@ most, but for what a put repeats; a run with none answers none; nothing leaks. I
 says which, and with 2 if it could not begin.
 """
 import argparse
+import concurrent.futures
 import hashlib
 import multiprocessing
 import os
@@ -210,14 +211,27 @@ def main():
         return tell(said, tasks)
 
 
+def begin_worker():
+    """A worker ends at once when it is told to. With the handler of `main` one was seen to wait for ever, told so just before it waited."""
+    signal.signal(signal.SIGTERM, signal.SIG_DFL)
+
+
 def tell(said, tasks):
     scripts_run = runs = answers = failed = 0
-    with multiprocessing.Pool(said.jobs) as pool:
-        for name, manager, made, answered, wrong in pool.imap_unordered(torment, tasks):
+    # unlike those of a `multiprocessing.Pool`, its results end when a worker is killed
+    pool = concurrent.futures.ProcessPoolExecutor(said.jobs, initializer=begin_worker)
+    try:
+        for name, manager, made, answered, wrong in pool.map(torment, tasks):
             runs, answers, scripts_run = runs + made, answers + answered, scripts_run + (made > 0)
             if wrong:
                 failed += 1
                 print(f"torment: {name}, {manager}: {wrong}", flush=True)
+    except BaseException:
+        for worker in multiprocessing.active_children():
+            worker.terminate()
+        raise
+    finally:
+        pool.shutdown(cancel_futures=True)
     print(f"torment: seed '{said.seed}': {scripts_run} of {len(tasks)} scripts, {runs} runs, {answers} refusals answered, {failed} wrong")
     return 1 if failed else 0
 

@@ -1,7 +1,7 @@
 pub mod Changed
 pub mod Copies
 pub mod Given
-pub mod HeldSteps
+pub mod ObjectSteps
 pub mod LooseValues
 pub mod MetaBytes
 pub mod Numbered

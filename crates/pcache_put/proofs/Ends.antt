@@ -10,7 +10,7 @@ use Rattle.pcache_put.specs.HeadEnd.{IsEmpty, IsFull, IsWhole, EndsAt, IsUnfinis
 use Rattle.pcache_put.specs.HeadStates.{next, state_after, CutsAt, NeverCuts}
 use Rattle.pcache_put.specs.declared.head_end.HeadState.{HeadState}
 use Rattle.pcache_put.specs.declared.head_end.HeadState.TheVariants.{Blank, BlankReturn, Inside, LineStart, LineReturn, Ended}
-use Rattle.pcache_put.proofs.Joins.{place-append, CutsAt-unique}
+use Rattle.pcache_put.proofs.Joins.{state-append, CutsAt-unique}
 
 joined-cons : (l : List ℕ) (ls : List (List ℕ)) → joined (l ∷ ls) ≡ l ++ joined ls
 joined-cons l ls = flat_map-cons (λ (x : List ℕ). x) l ls
@@ -24,7 +24,7 @@ text_inside (b ∷ text) all =
     rw feed (text_inside text (All-tail (λ x. x ≢ 0x0A) b text all))
 
 line_inside : (text : List ℕ) → All (λ b. b ≢ 0x0A) text → state_after Inside (text ++ 0x0A ∷ []) ≡ LineStart
-line_inside text all = place-append Inside text (0x0A ∷ []) ∙ ap (λ p. state_after p (0x0A ∷ [])) (text_inside text all)
+line_inside text all = state-append Inside text (0x0A ∷ []) ∙ ap (λ p. state_after p (0x0A ∷ [])) (text_inside text all)
 
 -- a line that is not empty, from a state at the start of a line
 full_from : (p q : HeadState) → ((b : ℕ) → b ≢ 0x0A → b ≢ 0x0D → next p b ≡ Inside) → next p 0x0D ≡ q → ((b : ℕ) → b ≢ 0x0A → next q b ≡ Inside) → (l : List ℕ) → IsFull l → state_after p l ≡ LineStart
@@ -65,19 +65,19 @@ empty_skipped l (inr is) = ap (state_after Blank) is
 all_skipped : (ls : List (List ℕ)) → All IsEmpty ls → state_after Blank (joined ls) ≡ Blank
 all_skipped [] all = refl
 all_skipped (l ∷ ls) all =
-    ap (state_after Blank) (joined-cons l ls) ∙ place-append Blank l (joined ls) ∙ ap (λ p. state_after p (joined ls)) (empty_skipped l (All-head IsEmpty l ls all)) ∙ all_skipped ls (All-tail IsEmpty l ls all)
+    ap (state_after Blank) (joined-cons l ls) ∙ state-append Blank l (joined ls) ∙ ap (λ p. state_after p (joined ls)) (empty_skipped l (All-head IsEmpty l ls all)) ∙ all_skipped ls (All-tail IsEmpty l ls all)
 
 all_fresh : (ls : List (List ℕ)) → All IsFull ls → state_after LineStart (joined ls) ≡ LineStart
 all_fresh [] all = refl
 all_fresh (l ∷ ls) all =
-    ap (state_after LineStart) (joined-cons l ls) ∙ place-append LineStart l (joined ls)
+    ap (state_after LineStart) (joined-cons l ls) ∙ state-append LineStart l (joined ls)
     ∙ ap (λ p. state_after p (joined ls)) (full_from LineStart LineReturn line_start_other refl fresh_return l (All-head IsFull l ls all)) ∙ all_fresh ls (All-tail IsFull l ls all)
 
 -- the state before the last line
 before_last : (h : List ℕ) (w : IsWhole h) → state_after Blank (joined w.skipped ++ (w.first ++ joined w.lines)) ≡ LineStart
 before_last h w =
-    place-append Blank (joined w.skipped) (w.first ++ joined w.lines) ∙ ap (λ p. state_after p (w.first ++ joined w.lines)) (all_skipped w.skipped w.empty)
-    ∙ place-append Blank w.first (joined w.lines) ∙ ap (λ p. state_after p (joined w.lines)) (full_from Blank BlankReturn blank_other refl blank_return w.first w.begins) ∙ all_fresh w.lines w.full
+    state-append Blank (joined w.skipped) (w.first ++ joined w.lines) ∙ ap (λ p. state_after p (w.first ++ joined w.lines)) (all_skipped w.skipped w.empty)
+    ∙ state-append Blank w.first (joined w.lines) ∙ ap (λ p. state_after p (joined w.lines)) (full_from Blank BlankReturn blank_other refl blank_return w.first w.begins) ∙ all_fresh w.lines w.full
 
 ended_stays : (xs : List ℕ) → state_after Ended xs ≡ Ended
 ended_stays [] = refl
@@ -102,26 +102,26 @@ last_of h w = by_last w.ends where
   by_last : IsEmpty w.last → Last h
   by_last (inl is) =
       let front = front_of h w in
-      let place = before_last h w in
+      let state = before_last h w in
       let parts : h ≡ front ++ 0x0A ∷ [] = whole_of h w ∙ ap (λ x. front ++ x) is in
       record {
         front = front;
         byte = 0x0A;
         parts = parts;
-        open_there = λ e. (let both : LineStart ≡ Ended = sym place ∙ e in cc both);
-        ended_there = ap (state_after Blank) parts ∙ place-append Blank front (0x0A ∷ []) ∙ ap (λ p. state_after p (0x0A ∷ [])) place;
+        open_there = λ e. (let both : LineStart ≡ Ended = sym state ∙ e in cc both);
+        ended_there = ap (state_after Blank) parts ∙ state-append Blank front (0x0A ∷ []) ∙ ap (λ p. state_after p (0x0A ∷ [])) state;
       }
   by_last (inr is) =
       let front = front_of h w in
-      let place = before_last h w in
+      let state = before_last h w in
       let parts : h ≡ (front ++ 0x0D ∷ []) ++ 0x0A ∷ [] = whole_of h w ∙ ap (λ x. front ++ x) is ∙ sym (append_assoc front (0x0D ∷ []) (0x0A ∷ [])) in
-      let there : state_after Blank (front ++ 0x0D ∷ []) ≡ LineReturn = place-append Blank front (0x0D ∷ []) ∙ ap (λ p. state_after p (0x0D ∷ [])) place in
+      let there : state_after Blank (front ++ 0x0D ∷ []) ≡ LineReturn = state-append Blank front (0x0D ∷ []) ∙ ap (λ p. state_after p (0x0D ∷ [])) state in
       record {
         front = front ++ 0x0D ∷ [];
         byte = 0x0A;
         parts = parts;
         open_there = λ e. (let both : LineReturn ≡ Ended = sym there ∙ e in cc both);
-        ended_there = ap (state_after Blank) parts ∙ place-append Blank (front ++ 0x0D ∷ []) (0x0A ∷ []) ∙ ap (λ p. state_after p (0x0A ∷ [])) there;
+        ended_there = ap (state_after Blank) parts ∙ state-append Blank (front ++ 0x0D ∷ []) (0x0A ∷ []) ∙ ap (λ p. state_after p (0x0A ∷ [])) there;
       }
 
 pub ends_cut : (bytes : List ℕ) (n : ℕ) → EndsAt bytes n → CutsAt Blank bytes n
@@ -136,7 +136,7 @@ ends_cut bytes n h =
       no_sooner = λ k lt e.
           let le : k ≤ length last.front = omega (arith, h.size, size) in
           let early : state_after Blank (take k last.front) ≡ Ended = ap (state_after Blank) (sym (take-append-le k last.front ((last.byte ∷ []) ++ h.behind) le)) ∙ ap (λ x. state_after Blank (take k x)) (sym bytes_are) ∙ e in
-          last.open_there (ap (state_after Blank) (sym (take-append-drop k last.front)) ∙ place-append Blank (take k last.front) (drop k last.front) ∙ ap (λ p. state_after p (drop k last.front)) early ∙ ended_stays (drop k last.front));
+          last.open_there (ap (state_after Blank) (sym (take-append-drop k last.front)) ∙ state-append Blank (take k last.front) (drop k last.front) ∙ ap (λ p. state_after p (drop k last.front)) early ∙ ended_stays (drop k last.front));
     }
 
 pub ends_within : (bytes : List ℕ) (n : ℕ) → EndsAt bytes n → n ≤ length bytes

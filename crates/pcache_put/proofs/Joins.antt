@@ -9,12 +9,12 @@ use Rattle.pcache_put.specs.declared.head_end.HeadState.{HeadState}
 use Rattle.pcache_put.specs.declared.head_end.HeadState.TheVariants.{Blank, Inside, Ended}
 
 -- the state after two pieces
-pub place-append : (p : HeadState) (a b : List ℕ) → state_after p (a ++ b) ≡ state_after (state_after p a) b
-place-append p a b = fold-append next p a b
+pub state-append : (p : HeadState) (a b : List ℕ) → state_after p (a ++ b) ≡ state_after (state_after p a) b
+state-append p a b = fold-append next p a b
 
 -- after the first piece and a front of the second
 past : (p : HeadState) (a b : List ℕ) (k : ℕ) → state_after p (take (length a + k) (a ++ b)) ≡ state_after (state_after p a) (take k b)
-past p a b k = ap (state_after p) (take-append-add a b k) ∙ place-append p a (take k b)
+past p a b k = ap (state_after p) (take-append-add a b k) ∙ state-append p a (take k b)
 
 -- after a front of the first
 within_first : (p : HeadState) (a b : List ℕ) (k : ℕ) → k ≤ length a → state_after p (take k (a ++ b)) ≡ state_after p (take k a)
@@ -54,7 +54,7 @@ CutsAt-unique p a n k h g =
 -- the same, with the state kept beside the first piece
 pub joined_open : (p q : HeadState) (a b c : List ℕ) → p ≡ state_after Blank a → NeverCuts a → q ≡ state_after p b → ((k : ℕ) → k ≤ length b → state_after p (take k b) ≢ Ended) → c ≡ a ++ b → (q ≡ state_after Blank c) × NeverCuts c
 joined_open p q a b c e unended moved later whole =
-    let here : q ≡ state_after Blank (a ++ b) = moved ∙ ap (λ r. state_after r b) e ∙ sym (place-append Blank a b) in
+    let here : q ≡ state_after Blank (a ++ b) = moved ∙ ap (λ r. state_after r b) e ∙ sym (state-append Blank a b) in
     let rest : NeverCuts (a ++ b) = NeverCuts-append a b unended (subst (λ r. (k : ℕ) → k ≤ length b → state_after r (take k b) ≢ Ended) e later) in
     rw whole (here, rest)
 
@@ -81,12 +81,12 @@ inside_run (b ∷ bytes) n none (suc k) le =
 -- the byte after it
 pub place_next : (p q : HeadState) (bytes : List ℕ) (j : ℕ) → j < length bytes → state_after p (take j bytes) ≡ q → state_after p (take (j + 1) bytes) ≡ next q (slice_index bytes j)
 place_next p q bytes j lt there =
-    ap (state_after p) (take_more bytes j 0 lt) ∙ place-append p (take j bytes) (slice_index bytes j ∷ []) ∙ ap (λ r. next r (slice_index bytes j)) there
+    ap (state_after p) (take_more bytes j 0 lt) ∙ state-append p (take j bytes) (slice_index bytes j ∷ []) ∙ ap (λ r. next r (slice_index bytes j)) there
 
 -- after a run, and at each byte of it
 pub place_stays : (p q : HeadState) (bytes : List ℕ) (i n : ℕ) → q ≡ state_after p (take i bytes) → ((k : ℕ) → k ≤ n → state_after q (take k (drop i bytes)) ≡ q) → (k : ℕ) → k ≤ n → state_after p (take (i + k) bytes) ≡ q
 place_stays p q bytes i n there stays k le =
-    ap (state_after p) (take-add i k bytes) ∙ place-append p (take i bytes) (take k (drop i bytes)) ∙ ap (λ r. state_after r (take k (drop i bytes))) (sym there) ∙ stays k le
+    ap (state_after p) (take-add i k bytes) ∙ state-append p (take i bytes) (take k (drop i bytes)) ∙ ap (λ r. state_after r (take k (drop i bytes))) (sym there) ∙ stays k le
 
 -- if the head did not end before a run, it does not end in it
 pub run_goes_on : (p q : HeadState) (bytes : List ℕ) (i n : ℕ) → q ≡ state_after p (take i bytes) → q ≢ Ended → ((k : ℕ) → k ≤ i → state_after p (take k bytes) ≢ Ended) → ((k : ℕ) → k ≤ n → state_after q (take k (drop i bytes)) ≡ q)

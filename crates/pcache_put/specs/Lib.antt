@@ -3,7 +3,7 @@ pub mod Fields
 pub mod Head
 pub mod HeadEnd
 pub mod HeadPiece
-pub mod HeadStates
 pub mod Parts
+pub mod HeadStates
 pub mod Progress
 pub mod Response

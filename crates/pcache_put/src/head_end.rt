@@ -25,10 +25,10 @@ pub(crate) enum HeadState {
     Ended,
 }
 
-fn next(place: HeadState, byte: u8) -> HeadState
-    ensures { result ≡ next place byte }
+fn next(state: HeadState, byte: u8) -> HeadState
+    ensures { result ≡ next state byte }
 {
-    match (place, byte) {
+    match (state, byte) {
         (HeadState::Blank, b'\n') | (HeadState::BlankReturn, b'\n') => HeadState::Blank,
         (HeadState::Blank, b'\r') => HeadState::BlankReturn,
         (HeadState::Inside, b'\n') => HeadState::LineStart,
@@ -51,11 +51,11 @@ fn line_rest(bytes: &[u8]) -> usize
 }
 
 // A number of next bytes that surely leave the state as it is.
-fn passed(place: HeadState, bytes: &[u8]) -> usize
+fn passed(state: HeadState, bytes: &[u8]) -> usize
     ensures within { result ≤ length bytes.now }
-    ensures stays { (k : ℕ) → k ≤ result → state_after place (take k bytes.now) ≡ place }
+    ensures stays { (k : ℕ) → k ≤ result → state_after state (take k bytes.now) ≡ state }
 {
-    match place {
+    match state {
         HeadState::Inside => line_rest(bytes),
         _ => 0,
     }
@@ -63,21 +63,21 @@ fn passed(place: HeadState, bytes: &[u8]) -> usize
 
 // How many of the next bytes still belong to the head, if it ends among them; otherwise the state
 // advances past them.
-fn cut(place: &mut HeadState, piece: &[u8]) -> Option<usize>
-    requires { place.old ≢ HeadState.Ended }
-    ensures found { IfSome result (λ n. CutsAt place.old piece.now n) }
-    ensures none { IfNone result ((k : ℕ) → k ≤ length piece.now → state_after place.old (take k piece.now) ≢ HeadState.Ended) }
-    ensures moved { IfNone result (place.new ≡ state_after place.old piece.now) }
+fn cut(state: &mut HeadState, piece: &[u8]) -> Option<usize>
+    requires { state.old ≢ HeadState.Ended }
+    ensures found { IfSome result (λ n. CutsAt state.old piece.now n) }
+    ensures none { IfNone result ((k : ℕ) → k ≤ length piece.now → state_after state.old (take k piece.now) ≢ HeadState.Ended) }
+    ensures moved { IfNone result (state.new ≡ state_after state.old piece.now) }
 {
     let mut at = 0;
     'bytes: while at < piece.len() {
-        at += passed(*place, &piece[at..]);
+        at += passed(*state, &piece[at..]);
         if at == piece.len() {
             return None;
         }
-        *place = next(*place, piece[at]);
+        *state = next(*state, piece[at]);
         at += 1;
-        if let HeadState::Ended = *place {
+        if let HeadState::Ended = *state {
             return Some(at);
         }
     }
@@ -88,7 +88,7 @@ fn cut(place: &mut HeadState, piece: &[u8]) -> Option<usize>
 #[derive(Drop)]
 pub(crate) struct HeadBytes {
     bytes: Vec<u8>,
-    place: HeadState,
+    state: HeadState,
 }
 
 impl Model for HeadBytes {
@@ -100,7 +100,7 @@ impl Model for HeadBytes {
 
     ghost view = { λ h. h.bytes.items };
 
-    ghost invariant = { λ h. (h.place ≡ state_after Blank h.bytes.items) × NeverCuts h.bytes.items };
+    ghost invariant = { λ h. (h.state ≡ state_after Blank h.bytes.items) × NeverCuts h.bytes.items };
 }
 
 // A head with one more piece.
@@ -121,7 +121,7 @@ impl HeadBytes {
     {
         HeadBytes {
             bytes: Vec::new(alloc),
-            place: HeadState::Blank,
+            state: HeadState::Blank,
         }
     }
 
@@ -132,16 +132,16 @@ impl HeadBytes {
     {
         let HeadBytes {
             mut bytes,
-            mut place,
+            mut state,
         } = self;
-        match cut(&mut place, piece) {
+        match cut(&mut state, piece) {
             Some(used) => {
                 bytes.extend_from_slice(&piece[..used])?;
                 Ok(HeadPiece::Ended(bytes, used))
             }
             None => {
                 bytes.extend_from_slice(piece)?;
-                Ok(HeadPiece::Open(HeadBytes { bytes, place }))
+                Ok(HeadPiece::Open(HeadBytes { bytes, state }))
             }
         }
     }

@@ -1,14 +1,12 @@
 #![tactic(auto)]
-//! Tests of the containers of entries: tables, managers, locks, the store in memory, and a request over them. They are a
-//! crate of their own, so that each library is proved once, and not again with its tests. Expected values are hand-computed
-//! from the definitions; a file that has them from elsewhere says so.
+//! Tests of the containers of entries: tables, managers, locks and the store in memory. They are a crate of their own, so
+//! that each library is proved once, and not again with its tests. Expected values are hand-computed from the definitions; a
+//! file that has them from elsewhere says so.
 
 #[cfg(test)]
 mod entry_key;
 #[cfg(test)]
 mod hashtable;
-#[cfg(test)]
-mod lifetimes;
 #[cfg(test)]
 mod lock;
 #[cfg(test)]
@@ -18,17 +16,11 @@ mod many;
 #[cfg(test)]
 mod memory;
 #[cfg(test)]
-mod noted;
-#[cfg(test)]
 mod plain_store;
-#[cfg(test)]
-mod puts;
 #[cfg(test)]
 mod random_locks;
 #[cfg(test)]
 mod random_publications;
-#[cfg(test)]
-mod request;
 #[cfg(test)]
 mod rows;
 #[cfg(test)]
@@ -37,5 +29,3 @@ mod sharded_lru;
 mod simple_lru;
 #[cfg(test)]
 mod storage;
-#[cfg(test)]
-mod whole_store;

@@ -6,8 +6,8 @@ use Rattle.pcache_put.proofs.head_end.cut.Given as goal
 abbrev pub invariant-bytes : goal.invariant-bytes
 invariant-bytes l = record {
   within : l.at ≤ length l.piece;
-  moved : l.place ≡ state_after l.initial.place (take l.at l.piece);
-  none : (k : ℕ) → k ≤ l.at → state_after l.initial.place (take k l.piece) ≡ Ended → ⊥;
+  moved : l.state ≡ state_after l.initial.state (take l.at l.piece);
+  none : (k : ℕ) → k ≤ l.at → state_after l.initial.state (take k l.piece) ≡ Ended → ⊥;
 }
 
 abbrev pub decreases-bytes : goal.decreases-bytes

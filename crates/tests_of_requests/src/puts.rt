@@ -1,6 +1,6 @@
 //! Puts: responses that are pushed into a store in memory, in pieces.
 ghost use Rattle.pcache_put_ctx.specs.Policies.{SaysByDefault};
-ghost use Rattle.tests_of_stores.specs.Lifetimes.{IsSeconds};
+ghost use Rattle.tests_of_requests.specs.Lifetimes.{IsSeconds};
 
 use crate::lifetimes::{by_seconds, one_second};
 use crate::rows::{Desk, Told, number, play, size, unescape};

@@ -1,6 +1,6 @@
 //! The arguments that requests and puts pass to their parts, which no contract sees: a manager, a storage, a lock table
 //! and a policy of a put record what they got, or what was called.
-use crate::memory::{key_of, meta_until};
+use crate::made::{key_of, meta_until};
 use crate::whole_store::WholeStore;
 use bytes::Bytes;
 use pcache_base::error::Result;

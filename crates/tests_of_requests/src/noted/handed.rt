@@ -1,6 +1,6 @@
 //! Ends of freshness, why something is purged, and heads that were read.
 ghost use Rattle.pcache_put_ctx.specs.Policies.{SaysByDefault};
-ghost use Rattle.tests_of_stores.specs.Lifetimes.{IsSeconds};
+ghost use Rattle.tests_of_requests.specs.Lifetimes.{IsSeconds};
 
 use super::*;
 use crate::lifetimes::{by_seconds, twenty_seconds};

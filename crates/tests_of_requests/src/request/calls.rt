@@ -195,9 +195,9 @@ fn begin_telling(parts: &mut Parts, cache: &mut Request) -> Result<Said> {
     }
     let WriteBegin {
         released: name,
-        joined,
+        following,
     } = cache.begin_write(&mut parts.store, &mut parts.lock)?;
-    joined?;
+    following?;
     Ok(released(name))
 }
 

@@ -3,7 +3,7 @@ ghost use Rattle.std.specs.Prelude.{◌≡◌, ℕ, IfErr, IfOk, Option};
 ghost use Rattle.std.specs.declared.time.Duration.{Duration};
 ghost use Rattle.pcache_base.specs.declared.error.ErrorType.TheVariants.{OutOfMemory};
 ghost use Rattle.pcache_put_ctx.specs.Policies.{SaysByDefault};
-ghost use Rattle.tests_of_stores.specs.Lifetimes.{IsSeconds};
+ghost use Rattle.tests_of_requests.specs.Lifetimes.{IsSeconds};
 
 use http::StatusCode;
 use pcache_base::error::Result;

@@ -236,7 +236,7 @@ impl HandleMiss<WholeStore> for WholeMiss {
 
 // Stores nothing more than an empty body, and returns whether the write says a number of its entry.
 fn is_numbered<S: Storage>(alloc: Global, store: &mut S, key: &CacheKey) -> Result<bool> {
-    let meta = crate::memory::meta_until(alloc, 300);
+    let meta = crate::made::meta_until(alloc, 300);
     let writer = store.get_miss_handler(alloc, key, &meta)?;
     let is_numbered = writer.entry_id().is_some();
     writer.finish(store)?;
@@ -263,7 +263,7 @@ fn entry_of(key: CompactCacheKey, id: Option<CacheEntryId>) -> CacheEntryKey {
 }
 
 fn has_one_entry_a_key(alloc: Global) -> Result<bool> {
-    let key = crate::memory::key_of(alloc, "aa")?;
+    let key = crate::made::key_of(alloc, "aa")?;
     let numbered = entry_of(key.to_compact()?, Some(CacheEntryId::new(0)));
     let whole = entry_of(key.to_compact()?, None);
     let mut store = WholeStore::new(alloc, Seed::fixed());
