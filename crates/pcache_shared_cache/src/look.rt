@@ -85,7 +85,7 @@ impl<M: EvictionManager, K, const N: usize> SharedCache<M, K, N> {
     }
 
     /// `Cache::read_body`: reads on. Requires a reader. A request that follows a write gets `Pending` if there is nothing yet,
-    /// and may ask again, or call `read_in_turns`.
+    /// and may ask again, or call `read_in_turns`. Of a complete body nothing is locked: the reader has its bytes.
     pub fn read_body<R: Wait>(
         &self,
         rt: &R,
@@ -132,7 +132,7 @@ impl<M: EvictionManager, K, const N: usize> SharedCache<M, K, N> {
         Ok(Poll::Pending)
     }
 
-    /// `Cache::finish_hit_handler`: ends the reader.
+    /// `Cache::finish_hit_handler`: ends the reader. Of a complete body nothing is locked.
     /// Requires a phase after a look-up (not Disabled, Uninit, CacheKey or Bypass); ask
     /// `phase().may_finish_hit()` of `cache()`.
     pub fn finish_hit_handler<R: Wait>(
@@ -173,7 +173,7 @@ impl<M: EvictionManager, K, const N: usize> SharedCache<M, K, N> {
             .disable(&mut request.request, reason)
     }
 
-    /// `Cache::end`: gives back all that a request holds.
+    /// `Cache::end`: gives back all that a request holds. Nothing is locked if that is no lock, no write and no reader of a write.
     pub fn end<R: Wait>(&self, rt: &R, request: SharedRequest<K, N>) -> Option<LockName>
         ensures { result ≡ option_map name_of request.cache.held }
     {
