@@ -1,6 +1,9 @@
 //! A request of a cache.
 ghost use Rattle.std.specs.Prelude.{◌≡◌, true, false};
-ghost use Rattle.pcache_request.specs.Requests.{new_request, enabled_with};
+ghost use Rattle.pcache_lock.specs.Locks.{Locks};
+ghost use Rattle.pcache_request.specs.Alone.{MayEndAlone};
+ghost use Rattle.pcache_request.specs.Requests.{dropped_by, enabled_with, left_by, let_go_by, new_request};
+ghost use Rattle.pcache_store.specs.Store.{Store};
 
 use pcache_request::cache::HttpCache;
 use pcache_request::phase::InUse;
@@ -31,6 +34,16 @@ impl<K> CacheRequest<K> {
             cache,
             of: PhantomData,
         }
+    }
+
+    /// Ends a request that holds nothing of its cache, as `Cache::end` does: any parts would stay as they are, and no lock is let go.
+    /// Ask `may_end_alone()` of `cache`.
+    pub fn end_alone(self)
+        requires { MayEndAlone self.cache }
+        ensures store { (s : Store) → left_by self.cache.reader (dropped_by self.cache.write s) ≡ s }
+        ensures table { (t : Locks) → let_go_by self.cache.held t ≡ t }
+    {
+        self.into_cache().end_alone();
     }
 
     // The request itself.

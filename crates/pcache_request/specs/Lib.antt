@@ -1,4 +1,5 @@
 pub mod Admissions
+pub mod Alone
 pub mod Digest
 pub mod Finishing
 pub mod LockUse

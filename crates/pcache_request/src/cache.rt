@@ -15,6 +15,7 @@ ghost use Rattle.pcache_request.specs.Requests.{settled, let_go_by, table_asked,
 ghost use Rattle.pcache_request.specs.Reports.{name_of, asked_with};
 
 mod admission;
+mod alone;
 mod disable;
 pub mod ending;
 mod finish;

@@ -2,4 +2,5 @@ pub mod Adding
 pub mod InPart
 pub mod Parting
 pub mod Together
+pub mod Unlocked
 pub mod Waiting

@@ -85,7 +85,7 @@ impl<M: EvictionManager, K, const N: usize> SharedCache<M, K, N> {
     }
 
     /// `Cache::read_body`: reads on. Requires a reader. A request that follows a write gets `Pending` if there is nothing yet,
-    /// and may ask again, or call `read_in_turns`.
+    /// and may ask again, or call `read_in_turns`. Of a complete body nothing is locked: the reader has its bytes.
     pub fn read_body<R: Wait>(
         &self,
         rt: &R,
@@ -101,9 +101,11 @@ impl<M: EvictionManager, K, const N: usize> SharedCache<M, K, N> {
         ensures phase { request.new.cache.phase ≡ request.old.cache.phase }
         ensures place { request.new.place ≡ request.old.place }
     {
-        self.part(request.place())
-            .lock(rt)
-            .read_body(&mut request.request)
+        let part = self.part(request.place());
+        if request.request.cache.reads_alone() {
+            return request.request.cache.read_body_alone();
+        }
+        part.lock(rt).read_body(&mut request.request)
     }
 
     /// Reads on, and asks up to so many times while there is nothing yet. In between other threads can run, and nothing is
@@ -130,7 +132,7 @@ impl<M: EvictionManager, K, const N: usize> SharedCache<M, K, N> {
         Ok(Poll::Pending)
     }
 
-    /// `Cache::finish_hit_handler`: ends the reader.
+    /// `Cache::finish_hit_handler`: ends the reader. Of a complete body nothing is locked.
     /// Requires a phase after a look-up (not Disabled, Uninit, CacheKey or Bypass); ask
     /// `phase().may_finish_hit()` of `cache()`.
     pub fn finish_hit_handler<R: Wait>(
@@ -143,9 +145,12 @@ impl<M: EvictionManager, K, const N: usize> SharedCache<M, K, N> {
         ensures kind { IfErr result (λ e. e ≡ OutOfMemory) }
         ensures none { request.old.cache.reader ≡ None → IsOk result }
     {
-        self.part(request.place())
-            .lock(rt)
-            .finish_hit_handler(&mut request.request)
+        let part = self.part(request.place());
+        if request.request.cache.reads_alone() {
+            request.request.cache.finish_hit_handler_alone();
+            return Ok(());
+        }
+        part.lock(rt).finish_hit_handler(&mut request.request)
     }
 
     /// `Cache::disable`: turns caching off, and gives back all that is held.
@@ -168,12 +173,16 @@ impl<M: EvictionManager, K, const N: usize> SharedCache<M, K, N> {
             .disable(&mut request.request, reason)
     }
 
-    /// `Cache::end`: gives back all that a request holds.
+    /// `Cache::end`: gives back all that a request holds. Nothing is locked if that is no lock, no write and no reader of a write.
     pub fn end<R: Wait>(&self, rt: &R, request: SharedRequest<K, N>) -> Option<LockName>
         ensures { result ≡ option_map name_of request.cache.held }
     {
         let part = self.part(request.place());
         let request = request.into_request();
+        if request.cache.may_end_alone() {
+            request.end_alone();
+            return None;
+        }
         part.lock(rt).end(request)
     }
 }

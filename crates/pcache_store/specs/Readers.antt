@@ -1,6 +1,6 @@
 -- The meaning of the readers and handlers of the store in memory, and what that store promises of all its calls
 -- (own).
-use Rattle.std.specs.Prelude.{ℕ, true, Option, None, Some}
+use Rattle.std.specs.Prelude.{ℕ, Bool, true, false, Option, None, Some}
 use Rattle.pcache_store.specs.Store.{Reader, Whole, Part, Guarantees}
 use Rattle.pcache_store.specs.declared.memory.hit.MemHitHandler.{MemHitHandler}
 use Rattle.pcache_store.specs.declared.memory.hit.MemHitHandler.TheVariants.{Complete, Partial}
@@ -13,6 +13,11 @@ reader_of (Partial p) = Part p.write p.place
 abbrev pub slot_named : MemHitHandler → Option ℕ
 slot_named (Complete h) = None
 slot_named (Partial p) = Some p.slot
+
+-- a reader needs no store: it reads a complete body, whose bytes it has
+abbrev pub needs_no_store : Reader → Bool
+needs_no_store (Whole id body start stop done) = true
+needs_no_store (Part n place) = false
 
 -- removals always succeed, and an entry has the number of its write
 abbrev pub in_memory : Guarantees

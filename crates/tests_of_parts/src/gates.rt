@@ -1,10 +1,15 @@
 //! A part whose lock is held while others are called.
-use crate::requests::{Parts, fill, finds};
+ghost use Rattle.std.specs.Prelude.{◌≡◌, IsSome};
+ghost use Rattle.pcache_request.specs.declared.phase.CachePhase.TheVariants.{CacheKey};
+
+use crate::requests::{NOW, Parts, Request, fill, finds, request_for};
 use pcache_base::error::Result;
 use pcache_base::moment::Moment;
+use pcache_base::poll::Poll;
 use pcache_base::seed::Seed;
 use pcache_evict::eviction::simple_lru::Manager;
 use pcache_evict::eviction::{CacheEntryKey, EvictionManager};
+use pcache_request::HitStatus;
 use pcache_shared_cache::{Portion, SharedCache};
 use std::alloc::Global;
 use std::sync::atomic::{AtomicU64, Ordering};
@@ -50,6 +55,12 @@ impl Gate {
     /// Opens it once.
     pub fn open(&self) {
         self.opened.fetch_add(1, Ordering::SeqCst);
+    }
+
+    /// Shuts it: the next who comes is held.
+    pub fn shut(&self) {
+        self.opened.store(0, Ordering::SeqCst);
+        self.is_held.store(0, Ordering::SeqCst);
     }
 
     /// Waits until somebody is held. Answers whether somebody was, within so many turns.
@@ -196,6 +207,98 @@ fn keys_of_other_parts_go_on_while_a_part_is_held(
     rt: HostRuntime,
 ) -> std::result::Result<(), Fail> {
     let went_on = all_work(&rt, rt.alloc())?;
+    assert!(rt; went_on);
+    Ok(())
+}
+
+type GatedParts = Parts<Gated<Manager>>;
+
+// Reads to the end, and ends the reader.
+fn reads_on<R: Wait>(rt: &R, cache: &GatedParts, request: &mut Request) -> Result<bool>
+    requires { IsSome request.old.cache.reader }
+{
+    let body = cache.read_body(rt, request)?;
+    let end = cache.read_body(rt, request)?;
+    if !request.cache().phase().may_finish_hit() {
+        return Ok(false);
+    }
+    cache.finish_hit_handler(rt, request)?;
+    Ok(
+        matches!(body, Poll::Ready(Some(bytes)) if bytes.as_slice() == b"one".as_slice())
+            && matches!(end, Poll::Ready(None)),
+    )
+}
+
+// Finds the body, and reads it once the part is held.
+fn reads_beside<R: Wait>(
+    rt: &R,
+    cache: &GatedParts,
+    gate: &Gate,
+    found: &Gate,
+    request: &mut Request,
+) -> Result<bool>
+    requires { request.old.cache.phase ≡ CacheKey }
+{
+    let Some((meta, hit)) = cache.cache_lookup(rt, request, NOW)? else {
+        return Ok(false);
+    };
+    cache.cache_found(rt, request, meta, hit, HitStatus::Fresh, NOW)?;
+    found.open();
+    if !gate.is_reached() || !request.cache().has_body_reader() {
+        return Ok(false);
+    }
+    reads_on(rt, cache, request)
+}
+
+fn ends_beside<R: Wait>(rt: &R, cache: &GatedParts, gate: &Gate, found: &Gate) -> Result<bool> {
+    let mut request = request_for(cache, "a")?;
+    let read = reads_beside(rt, cache, gate, found, &mut request);
+    cache.end(rt, request);
+    read
+}
+
+// The first worker fills another key of the part once the body was found, and is held under the lock of the part. The other reads
+// the body and ends its request meanwhile, and only then lets the first through.
+fn work_without<R: Wait>(
+    rt: &R,
+    cache: &GatedParts,
+    gate: &Gate,
+    found: &Gate,
+    worker: usize,
+) -> bool {
+    if worker == 0 {
+        found.pass();
+        return matches!(fill(rt, cache, "f", b"two"), Ok(true));
+    }
+    let is_beside = matches!(ends_beside(rt, cache, gate, found), Ok(true));
+    gate.open();
+    is_beside
+}
+
+fn goes_on_without_the_part<R: Threads + Wait + Sync>(rt: &R, alloc: Global) -> Result<bool> {
+    let gate = Arc::new(alloc, Gate::new(1))?;
+    let found = Gate::new(1);
+    let cache = parts_of(alloc, &gate)?;
+    gate.open();
+    let is_filled = matches!(fill(rt, &cache, "a", b"one"), Ok(true));
+    gate.shut();
+    let mut done = [false; 2];
+    thread::for_each_mut(
+        rt,
+        &mut done,
+        2,
+        &|worker, done| {
+            *done = work_without(rt, &cache, &gate, &found, worker);
+        },
+    );
+    Ok(is_filled && done == [true; 2] && !gate.is_late() && !found.is_late())
+}
+
+#[test]
+fn a_complete_body_is_read_while_its_part_is_held(
+    rt: HostRuntime,
+) -> std::result::Result<(), Fail> {
+    let went_on = goes_on_without_the_part(&rt, rt.alloc())?;
     assert!(rt; went_on);
     Ok(())
 }

@@ -88,6 +88,17 @@ impl CompleteHit {
         self.done = false;
         Ok(())
     }
+
+    fn end(self) {
+        let CompleteHit {
+            id: _,
+            body,
+            start: _,
+            stop: _,
+            done: _,
+        } = self;
+        drop(body);
+    }
 }
 
 /// A reader of a write, also of one whose handler is gone: it gives all unread bytes, and the end
@@ -136,16 +147,7 @@ impl MemHitHandler {
         ensures { store.new ≡ left store.old (reader_of self) }
     {
         match self {
-            MemHitHandler::Complete(hit) => {
-                let CompleteHit {
-                    id: _,
-                    body,
-                    start: _,
-                    stop: _,
-                    done: _,
-                } = hit;
-                drop(body);
-            }
+            MemHitHandler::Complete(hit) => hit.end(),
             MemHitHandler::Partial(part) => {
                 let PartialHit {
                     write,
@@ -154,6 +156,46 @@ impl MemHitHandler {
                 } = part;
                 store.leave(slot, write as u128);
             }
+        }
+    }
+}
+
+impl MemHitHandler {
+    ghost use Rattle.pcache_store.specs.Readers.{needs_no_store, reader_of};
+    ghost use Rattle.pcache_store.specs.Store.{Store, gives_piece, left, read_of, reader_after};
+
+    /// Whether it needs no store: it reads a complete body, whose bytes it has.
+    pub fn needs_no_store(&self) -> bool
+        ensures { result ≡ needs_no_store (reader_of self.now) }
+    {
+        !matches!(self, MemHitHandler::Partial(_))
+    }
+
+    /// `read_body` without the store: it gives what it would give with any store.
+    /// Requires a reader of a complete body; ask `needs_no_store()`.
+    pub fn read_body_alone(&mut self) -> Result<Poll<Option<Bytes>>>
+        requires { needs_no_store (reader_of self.old) ≡ true }
+        ensures read { IfOk result (λ p. (s : Store) → p ≡ read_of s (reader_of self.old)) }
+        ensures ok { OnOk result ((s : Store) → reader_of self.new ≡ reader_after s (reader_of self.old)) }
+        ensures something { OnErr result ((s : Store) → gives_piece (read_of s (reader_of self.old)) ≡ true) }
+        ensures kind { IfErr result (λ e. e ≡ OutOfMemory) }
+        ensures err { OnErr result (reader_of self.new ≡ reader_of self.old) }
+    {
+        let MemHitHandler::Complete(hit) = self else {
+            unreachable!()
+        };
+        Ok(Poll::Ready(hit.read()?))
+    }
+
+    /// `let_go` without the store: any store would stay as it is.
+    /// Requires a reader of a complete body; ask `needs_no_store()`.
+    pub fn let_go_alone(self)
+        requires { needs_no_store (reader_of self) ≡ true }
+        ensures { (s : Store) → left s (reader_of self) ≡ s }
+    {
+        match self {
+            MemHitHandler::Complete(hit) => hit.end(),
+            MemHitHandler::Partial(_part) => unreachable!(),
         }
     }
 }
