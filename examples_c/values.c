@@ -44,6 +44,7 @@ static void responses(void) {
     pcache_handle head = {0, 0}, control = {0, 0}, meta = {0, 0}, again = {0, 0};
     check("head", pcache_head_new(&head, 200), PCACHE_OK);
     check("no control", pcache_control_read(&control, &head), PCACHE_NONE);
+    check("not stored", pcache_resp_cacheable(&meta, &head, 0, 0, 5, 1000, 0), PCACHE_NONE);
     add(&head, "Cache-Control", "public, max-age=60, stale-while-revalidate=10");
     add(&head, "Content-Type", "text/html");
     check("control", pcache_control_read(&control, &head), PCACHE_OK);

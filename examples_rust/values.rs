@@ -28,6 +28,7 @@ fn hashes() -> Result<(), Refused> {
 fn responses() -> Result<(), Refused> {
     let mut head = Head::new(200)?;
     assert_eq!(head.answers().err(), Some(NONE));
+    assert_eq!(head.meta(false, (0, 5), at(1000)).err(), Some(NONE));
     head.add("Cache-Control", b"public, max-age=60, stale-while-revalidate=10")?;
     head.add("Content-Type", b"text/html")?;
     let said = head.answers()?;

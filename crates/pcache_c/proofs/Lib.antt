@@ -1,5 +1,6 @@
 pub mod Changed
 pub mod Copies
+pub mod Decisions
 pub mod Given
 pub mod ObjectSteps
 pub mod LooseValues

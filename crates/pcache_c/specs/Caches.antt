@@ -27,7 +27,8 @@ pub record IsNewCache (limit : ℕ) (watermark : Option ℕ) (age : ℕ) (s : Se
 
 -- a handle gets a new cache, or there was no memory for its manager
 abbrev pub MakesCache : ℕ → Option ℕ → ℕ → PcacheHandle → PcacheHandle → ℕ → Type 0
-MakesCache limit watermark age old new code = ((code ≡ no_memory) × IsSame old new) ⊎ ((s : Served) × IsNewCache limit watermark age s × Fills (object.Cache s) old new code)
+MakesCache limit watermark age old new code = ((code ≡ no_memory) × IsSame old new)
+    ⊎ ((s : Served) × IsNewCache limit watermark age s × Fills (object.Cache s) old new code)
 
 pub record SaysCounts (c : Parts) (out : PcacheCacheCounts) : Type 0 where
   pub stored : out.stored_bytes ≡ min (stored_bytes c.store) (2 ^ 64 - 1)

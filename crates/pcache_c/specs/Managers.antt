@@ -32,7 +32,13 @@ pub record Managing : Type 0 where
   pub shown : Option CacheEntryKey
 
 abbrev pub managing : {M : Type 0} → (M → Tracked) → (M → Limits) → (M → Evicted) → Managed M → Managing
-managing tracked limits evicted m = record { tracked = tracked m.manager; limits = limits m.manager; evicted = evicted m.manager; waiting = m.waiting.items; shown = m.shown }
+managing tracked limits evicted m = record {
+  tracked = tracked m.manager;
+  limits = limits m.manager;
+  evicted = evicted m.manager;
+  waiting = m.waiting.items;
+  shown = m.shown;
+}
 
 abbrev pub managing_list : Managed Listed → Managing
 managing_list m = managing (λ x. map_of x.entries) (λ x. x.limits) (λ x. x.evicted) m
@@ -64,7 +70,8 @@ pub record Evicts (target : Tracked) (old new : Managing) : Type 0 where
 
 -- an admission: the wrong call as long as something waits to be handed over
 abbrev pub Admits : CacheEntryKey → ℕ → Managing → Managing → ℕ → Type 0
-Admits item size old new code = Outcome (old.waiting ≡ []) (Evicts (insert old.tracked item size) old new) ⊥ (λ e. (e ≡ OutOfMemory) × IsLeft old new) (IsLeft old new) code
+Admits item size old new code = Outcome (old.waiting ≡ []) (Evicts (insert old.tracked item size) old new) ⊥
+    (λ e. (e ≡ OutOfMemory) × IsLeft old new) (IsLeft old new) code
 
 -- no memory is wanted for an entry that is there if the limits hold
 pub record RefusesIncrement (item : CacheEntryKey) (delta : ℕ) (most : Option ℕ) (old new : Managing) (e : ErrorType) : Type 0 where
@@ -146,9 +153,14 @@ abbrev pub NextOf : List CacheEntryKey → Managing → Managing → (CacheEntry
 NextOf [] old new shows code = (code ≡ nothing) × IsLeft old new
 NextOf (e ∷ rest) old new shows code = (code ≡ ok) × HandsNext e rest old new × shows e
 
+-- the first entry that waits is handed over, with what is said of it, if any waits
+abbrev pub HandsFirst : Managing → Managing → List ℕ → List ℕ → List ℕ → PcacheEntry → ℕ → Type 0
+HandsFirst old new primary variance variance_before out code = NextOf old.waiting old new (λ e. Shows e primary variance variance_before out) code
+
 -- bytes are at the start of a buffer, if it has room for all of them; else it is left as it was
 abbrev pub IsWritten : List ℕ → List ℕ → List ℕ → ℕ → Type 0
-IsWritten bytes old new code = ((code ≡ ok) × (length bytes ≤ length old) × (new ≡ bytes ++ drop (length bytes) old)) ⊎ ((code ≡ bad_value) × (length old < length bytes) × (new ≡ old))
+IsWritten bytes old new code = ((code ≡ ok) × (length bytes ≤ length old) × (new ≡ bytes ++ drop (length bytes) old))
+    ⊎ ((code ≡ bad_value) × (length old < length bytes) × (new ≡ old))
 
 -- the tag of the entry that was handed over last
 abbrev pub WritesTag : Option CacheEntryKey → List ℕ → List ℕ → ℕ → Type 0
@@ -194,8 +206,10 @@ Loads a b bytes code = (code ≡ wrong_kind) × (b ≡ a)
 -- a handle gets an empty manager, of which nothing waits, or there was no memory for it
 abbrev pub MakesList : ℕ → Option ℕ → PcacheHandle → PcacheHandle → ℕ → Type 0
 MakesList limit watermark old new code = ((code ≡ no_memory) × IsSame old new)
-    ⊎ ((m : Managed Listed) × (m.manager ≡ empty_list limit watermark) × (m.waiting.items ≡ []) × (m.shown ≡ None) × Fills (object.Simple m) old new code)
+    ⊎ ((m : Managed Listed) × (m.manager ≡ empty_list limit watermark) × (m.waiting.items ≡ []) × (m.shown ≡ None)
+    × Fills (object.Simple m) old new code)
 
 abbrev pub MakesShards : ℕ → Option ℕ → PcacheHandle → PcacheHandle → ℕ → Type 0
 MakesShards limit watermark old new code = ((code ≡ no_memory) × IsSame old new)
-    ⊎ ((m : Managed Sharded) × (m.manager ≡ empty_shards 16 limit watermark) × (m.waiting.items ≡ []) × (m.shown ≡ None) × Fills (object.Sharded m) old new code)
+    ⊎ ((m : Managed Sharded) × (m.manager ≡ empty_shards 16 limit watermark) × (m.waiting.items ≡ []) × (m.shown ≡ None)
+    × Fills (object.Sharded m) old new code)

@@ -16,7 +16,13 @@ use Rattle.pcache_c.specs.declared.served.Served.{Served}
 
 -- a cache over a manager with one list, with nothing stored, whose permits age out after so many nanoseconds
 abbrev pub new_cache : Listed → ℕ → Parts
-new_cache m age = record { store = record { slots = empty; writes = empty; next = 0 }; tracked = map_of m.entries; limits = m.limits; evicted = m.evicted; locks = no_locks age }
+new_cache m age = record {
+  store = record { slots = empty; writes = empty; next = 0 };
+  tracked = map_of m.entries;
+  limits = m.limits;
+  evicted = m.evicted;
+  locks = no_locks age;
+}
 
 -- a request of a key before its look-up
 pub record IsNew (key : Key) (o : Open) : Type 0 where
@@ -27,7 +33,8 @@ pub record IsNew (key : Key) (o : Open) : Type 0 where
 -- a request of a key is open under a number that none had, or there was no memory for it
 pub record OpensRequest (key : Key) (s t : Served) (number code : ℕ) : Type 0 where
   pub cache : t.cache ≡ s.cache
-  pub how : ((code ≡ ok) × (request_at s.seats number ≡ None) × (o : Open) × IsNew key o × IsSet number o s.seats t.seats) ⊎ ((code ≡ no_memory) × AreSame s.seats t.seats)
+  pub how : ((code ≡ ok) × (request_at s.seats number ≡ None) × (o : Open) × IsNew key o × IsSet number o s.seats t.seats)
+      ⊎ ((code ≡ no_memory) × AreSame s.seats t.seats)
 
 abbrev pub Opens : Key → Object → Object → ℕ → ℕ → Type 0
 Opens key (object.Cache s) new number code = (t : Served) × (new ≡ object.Cache t) × OpensRequest key s t number code

@@ -37,6 +37,14 @@ pub record IsUnchanged (c d : Parts) (o p : Open) : Type 0 where
   pub parts : d ≡ c
   pub request : p ≡ o
 
+-- the number of where a request stands, or of what it holds of its lock, is said
+
+abbrev pub SaysPhase : Parts → Parts → Open → Open → ℕ → ℕ → Type 0
+SaysPhase c d o p out code = IsUnchanged c d o p × (code ≡ ok) × (out ≡ phase_number o.request.cache.phase)
+
+abbrev pub SaysHeld : Parts → Parts → Open → Open → ℕ → ℕ → Type 0
+SaysHeld c d o p out code = IsUnchanged c d o p × (code ≡ ok) × (out ≡ held_number o.request.cache.held)
+
 -- of the request, all but the cache's own part of it is as it was
 abbrev pub KeepsFound : Open → Open → Type 0
 KeepsFound o p = (p.found ≡ o.found) × (p.piece ≡ o.piece) × (p.next_byte ≡ o.next_byte)
@@ -212,7 +220,8 @@ pub record NotBegun (c d : Parts) (o p : Open) (e : ErrorType) : Type 0 where
   pub rest : KeepsFound o p
 
 abbrev pub Begins : Parts → Parts → Open → Open → ℕ → Type 0
-Begins c d o p code = Outcome (MayWrite o.request.cache) (Begun c d o p) ⊥ (λ e. NotBegun c d o p e ⊎ ((e ≡ OutOfMemory) × HalfBegun c d o p)) (IsUnchanged c d o p) code
+Begins c d o p code = Outcome (MayWrite o.request.cache) (Begun c d o p) ⊥
+    (λ e. NotBegun c d o p e ⊎ ((e ≡ OutOfMemory) × HalfBegun c d o p)) (IsUnchanged c d o p) code
 
 -- bytes are added to the write: the wrong call where there is no write, or its last bytes were said
 
@@ -239,7 +248,8 @@ pub record EndsSo (result : Result (Option FinishReport) ErrorType) (c d : Parts
   pub request : p.request.cache ≡ after_finish o.request.cache
   pub end : EndsAs result (λ e. Ends in_memory o.request.cache o.request.cache.key o.request.cache.write (finishes_of (created c.store) o.request.cache.write)
       c.limits e c.store d.store c.tracked d.tracked c.locks d.locks)
-  pub evicted : EndsAs result (λ e. d.evicted ≡ evicted_after o.request.cache o.request.cache.key (finishes_of (created c.store) o.request.cache.write) c.tracked c.evicted e)
+  pub evicted : EndsAs result (λ e. d.evicted
+      ≡ evicted_after o.request.cache o.request.cache.key (finishes_of (created c.store) o.request.cache.write) c.tracked c.evicted e)
   pub limits : d.limits ≡ c.limits
   pub rest : KeepsFound o p
 
@@ -248,7 +258,8 @@ abbrev pub Stored : ℕ → ℕ → Parts → Parts → Open → Open → Type 0
 Stored size evicted c d o p = (f : FinishReport) × (size ≡ f.size) × (evicted ≡ length f.evicted.items) × EndsSo (Ok (Some f)) c d o p
 
 abbrev pub Finishes : ℕ → ℕ → Parts → Parts → Open → Open → ℕ → Type 0
-Finishes size evicted c d o p code = Outcome (MayEndWrite c o) (Stored size evicted c d o p) (EndsSo (Ok None) c d o p) (λ e. EndsSo (Err e) c d o p) (IsUnchanged c d o p) code
+Finishes size evicted c d o p code = Outcome (MayEndWrite c o) (Stored size evicted c d o p) (EndsSo (Ok None) c d o p)
+    (λ e. EndsSo (Err e) c d o p) (IsUnchanged c d o p) code
 
 -- the body is read on: what was read and found no room comes first, and then what the reader gives
 
@@ -301,7 +312,8 @@ pub record RefusesRead (c d : Parts) (o p : Open) (old new : List ℕ) (e : Erro
   pub buffer : new ≡ old
 
 abbrev pub Reads : List ℕ → List ℕ → ℕ → ℕ → Parts → Parts → Open → Open → ℕ → Type 0
-Reads old new count more c d o p code = Outcome (IsSome (comes_next c o)) (ReadOn c d o p old new count more) ⊥ (RefusesRead c d o p old new) (IsUnchanged c d o p × (new ≡ old)) code
+Reads old new count more c d o p code = Outcome (IsSome (comes_next c o)) (ReadOn c d o p old new count more) ⊥
+    (RefusesRead c d o p old new) (IsUnchanged c d o p × (new ≡ old)) code
 
 -- the reader is ended
 

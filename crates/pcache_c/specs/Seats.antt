@@ -1,5 +1,5 @@
 -- The open requests of a cache, by their numbers (own).
-use Rattle.std.specs.Prelude.{◌≡◌, ◌≢◌, ◌==◌, ◌/◌, ◌%◌, ◌^◌, ℕ, List, Option, None, Some, cond, slice_get, option_and_then}
+use Rattle.std.specs.Prelude.{◌≡◌, ◌≢◌, ◌==◌, ◌/◌, ◌%◌, ◌^◌, ℕ, List, Option, None, Some, OnSome, cond, slice_get, option_and_then}
 use Rattle.pcache_c.specs.declared.seats.Seats.{Seats}
 use Rattle.pcache_c.specs.declared.seats.Seat.{Seat}
 
@@ -27,6 +27,10 @@ AreSame old new = (number : ℕ) → request_at new number ≡ request_at old nu
 pub record IsSet {X : Type 0} (number : ℕ) (o : X) (old new : Seats X) : Type 0 where
   pub this : request_at new number ≡ Some o
   pub others : AreElseSame number old new
+
+-- if a request was found, the one that is left in its place is the one of this number now
+abbrev pub IsSetIf : {A X : Type 0} → Option A → ℕ → Seats X → Seats X → X → Type 0
+IsSetIf found number old new o = OnSome found (IsSet number o old new)
 
 -- there is no request of this number any more, and each other is as it was
 pub record IsGone {X : Type 0} (number : ℕ) (old new : Seats X) : Type 0 where

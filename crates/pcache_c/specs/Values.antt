@@ -10,11 +10,14 @@ use Rattle.http_header.specs.Token.{lowercase}
 use Rattle.pcache_base.specs.Blake2b.{blake2b_128}
 use Rattle.pcache_base.specs.Key.{combined_of}
 use Rattle.pcache_base.specs.Variance.{Varied, message}
-use Rattle.pcache_control.specs.Control.{ReadsField, allows_authorized, as_duration, cacheable_of, fresh_seconds, stale_seconds}
+use Rattle.pcache_control.specs.Control.{ReadsField, ReadsOneMap, allows_authorized, as_duration, cacheable_of, fresh_seconds, stale_seconds}
+use Rattle.pcache_control.specs.Responses.{IsDecision}
 use Rattle.pcache_control.specs.declared.cache_control.CacheControl.{CacheControl}
 use Rattle.pcache_control.specs.declared.cache_control.Cacheable.{Cacheable}
 use Rattle.pcache_control.specs.declared.cache_control.Cacheable.TheVariants.{Default, No, Yes}
 use Rattle.pcache_control.specs.declared.key.DirectiveKey.TheVariants.{StaleIfError, StaleWhileRevalidate}
+use Rattle.pcache_control.specs.declared.response.RespCacheable.{RespCacheable}
+use Rattle.pcache_control.specs.declared.response.RespCacheable.TheVariants as decision
 use Rattle.pcache_meta.specs.Header.{shown}
 use Rattle.pcache_meta.specs.Internal.{first_said}
 use Rattle.pcache_meta.specs.Meta.{MayServeStale, Meta}
@@ -83,14 +86,18 @@ pub record AddsField (name value : List ℕ) (old new : ResponseHeader) (code : 
   pub bad : code ≡ bad_value → ¬ (IsFieldName name × IsFieldValue value)
   pub how : (code ≡ ok) ⊎ (((code ≡ bad_value) ⊎ (code ≡ no_memory)) × (new ≡ old))
 
--- a handle gets what a head's Cache-Control says, if it has one
+-- what a head's Cache-Control says, if it has one
+abbrev pub IsControlOf : ResponseHeader → Option CacheControl → Type 0
+IsControlOf h cc = ReadsField h.headers (codes "cache-control") cc × ReadsOneMap h.headers (codes "cache-control") cc
+
+-- a handle gets what a Cache-Control says, if there is one
 abbrev pub GivesControl : Option CacheControl → PcacheHandle → PcacheHandle → ℕ → Type 0
 GivesControl None old new code = (code ≡ nothing) × IsSame old new
 GivesControl (Some c) old new code = Fills (object.Control c) old new code
 
 abbrev pub ReadsControl : ResponseHeader → PcacheHandle → PcacheHandle → ℕ → Type 0
 ReadsControl h old new code = ((code ≡ no_memory) × IsSame old new)
-    ⊎ ((cc : Option CacheControl) × ReadsField h.headers (codes "cache-control") cc × GivesControl cc old new code)
+    ⊎ ((cc : Option CacheControl) × IsControlOf h cc × GivesControl cc old new code)
 
 -- no, yes, or what is the default
 abbrev pub cacheable_number : Cacheable → ℕ
@@ -142,10 +149,27 @@ pub record SaysServable (m : Meta) (now : ℕ) (out : PcacheServable) : Type 0 w
   pub revalidating : (out.while_revalidating ≡ 1) ↔ MayServeStale m.fresh_until m.stale_while_revalidate_sec now
   pub failing : (out.after_error ≡ 1) ↔ MayServeStale m.fresh_until m.stale_if_error_sec now
 
+-- ---- whether a response is stored
+
+-- a handle gets the meta of a response that is to be stored; of one that is not, there is nothing to hand over
+abbrev pub GivesMeta : RespCacheable → PcacheHandle → PcacheHandle → ℕ → Type 0
+GivesMeta (decision.Cacheable m) old new code = Fills (object.Meta m) old new code
+GivesMeta (decision.Uncacheable reason) old new code = (code ≡ nothing) × IsSame old new
+
+-- the decision at a moment on the response of a head, where no status has a default lifetime, or there was no memory; `authorized` if
+-- its request had an Authorization, and `windows` are the default ones
+abbrev pub Decides : ℕ → Bool → ℕ × ℕ → ResponseHeader → PcacheHandle → PcacheHandle → ℕ → Type 0
+Decides now authorized windows h old new code = ((code ≡ no_memory) × IsSame old new)
+    ⊎ ((cc : Option CacheControl) × (d : RespCacheable) × IsControlOf h cc
+    × IsDecision now cc windows h authorized (λ lifetime. lifetime ≡ None) d × GivesMeta d old new code)
+
+-- ---- the bytes of metas
+
 -- two byte strings are at the start of two buffers, if both have room; else neither is
 abbrev pub AreWritten : List ℕ → List ℕ → List ℕ → List ℕ → List ℕ → List ℕ → ℕ → Type 0
 AreWritten first second one one_after two two_after code =
-    ((code ≡ ok) × (length first ≤ length one) × (length second ≤ length two) × (one_after ≡ first ++ drop (length first) one) × (two_after ≡ second ++ drop (length second) two))
+    ((code ≡ ok) × (length first ≤ length one) × (length second ≤ length two)
+    × (one_after ≡ first ++ drop (length first) one) × (two_after ≡ second ++ drop (length second) two))
     ⊎ ((code ≡ bad_value) × ((length first ≤ length one) → ¬ (length second ≤ length two)) × (one_after ≡ one) × (two_after ≡ two))
 
 -- the byte strings of a meta: their lengths are said, and both are written if both have room
@@ -157,4 +181,5 @@ pub record WritesMeta (m : Meta) (internal internal_after header header_after : 
 
 abbrev pub SavesMeta : Meta → List ℕ → List ℕ → List ℕ → List ℕ → ℕ → ℕ → ℕ → Type 0
 SavesMeta m internal internal_after header header_after internal_said header_said code =
-    ((code ≡ no_memory) × (internal_after ≡ internal) × (header_after ≡ header)) ⊎ WritesMeta m internal internal_after header header_after internal_said header_said code
+    ((code ≡ no_memory) × (internal_after ≡ internal) × (header_after ≡ header))
+    ⊎ WritesMeta m internal internal_after header header_after internal_said header_said code

@@ -4,11 +4,10 @@ ghost use Rattle.std.specs.Prelude.{◌≡◌, ◌⊎◌, ◌*◌, IfErr, IfOk, 
 ghost use Rattle.pcache_c.specs.Caches.{CopiesMeta, MakesCache, SaysCounts, key_with};
 ghost use Rattle.pcache_c.specs.Codes.{OnGood, OnText, bad_value, hash_at, no_memory, watermark_at};
 ghost use Rattle.pcache_c.specs.Handles.{AsksOf, IsSame, OnHandle, OnKind};
-ghost use Rattle.pcache_c.specs.Numbers.{held_number, phase_number};
 ghost use Rattle.pcache_c.specs.Objects.{as_cache, as_meta};
 ghost use Rattle.pcache_c.specs.Opening.{Ends, Opens};
 ghost use Rattle.pcache_c.specs.Reached.{OnRequest};
-ghost use Rattle.pcache_c.specs.Requests.{IsUnchanged, Renews, SetsMeta, meta_shown};
+ghost use Rattle.pcache_c.specs.Requests.{IsUnchanged, Renews, SaysHeld, SaysPhase, SetsMeta, meta_shown};
 
 use crate::codes::{BAD_HANDLE, BAD_VALUE, NO_MEMORY, OK, WRONG_KIND, code_of};
 use crate::handle::PcacheHandle;
@@ -171,7 +170,7 @@ pub extern "C" fn pcache_request_phase(
     request: u64,
     phase: &mut u32,
 ) -> u32
-    ensures { OnRequest request cache.old cache.new result (λ c d o p. IsUnchanged c d o p × (result ≡ 0) × (phase.new ≡ phase_number o.request.cache.phase)) }
+    ensures { OnRequest request cache.old cache.new result (λ c d o p. SaysPhase c d o p phase.new result) }
 {
     let Some(mut object) = cache.take(alloc) else {
         return BAD_HANDLE;
@@ -189,7 +188,7 @@ pub extern "C" fn pcache_request_held(
     request: u64,
     held: &mut u32,
 ) -> u32
-    ensures { OnRequest request cache.old cache.new result (λ c d o p. IsUnchanged c d o p × (result ≡ 0) × (held.new ≡ held_number o.request.cache.held)) }
+    ensures { OnRequest request cache.old cache.new result (λ c d o p. SaysHeld c d o p held.new result) }
 {
     let Some(mut object) = cache.take(alloc) else {
         return BAD_HANDLE;

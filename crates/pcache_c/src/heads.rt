@@ -1,9 +1,13 @@
 //! Heads of responses, what Cache-Control says of them, and whether they are to be stored.
-ghost use Rattle.std.specs.Prelude.{◌≡◌, None, option_map};
+ghost use Rattle.std.specs.Prelude.{◌≡◌, ℕ, None, Option, option_map};
 ghost use Rattle.std.specs.Duration.{as_nanos};
+ghost use Rattle.std.specs.Option.{option_copied};
+ghost use Rattle.std.specs.declared.time.Duration.{Duration};
+ghost use Rattle.pcache_control.specs.Responses.{IsDecision};
+ghost use Rattle.pcache_c.specs.Codes.{OnGood, is_flag, moment_at};
 ghost use Rattle.pcache_c.specs.Handles.{AsksOf, ChangesOf, IsSame, OnKind, Turns};
 ghost use Rattle.pcache_c.specs.Objects.{as_control, as_head};
-ghost use Rattle.pcache_c.specs.Values.{AddsField, IsSeconds, MakesHead, ReadsControl, SaysControl};
+ghost use Rattle.pcache_c.specs.Values.{AddsField, Decides, IsSeconds, MakesHead, ReadsControl, SaysControl};
 
 use crate::codes::{BAD_HANDLE, BAD_VALUE, NO_MEMORY, NONE, OK, WRONG_KIND, code_of};
 use crate::handle::PcacheHandle;
@@ -13,7 +17,7 @@ use http::StatusCode;
 use http_header::{HeaderName, HeaderNameError, HeaderValue, HeaderValueError};
 use pcache_base::moment::Moment;
 use pcache_control::cache_control::{CacheControl, Cacheable};
-use pcache_control::defaults::CacheMetaDefaults;
+use pcache_control::defaults::{CacheMetaDefaults, FreshDurationByStatusFn};
 use pcache_control::filters::resp_cacheable;
 use pcache_control::interpret::InterpretCacheControl;
 use pcache_control::response::RespCacheable;
@@ -201,14 +205,34 @@ fn no_default(_status: StatusCode) -> Option<Duration>
     None
 }
 
+// The decision on the response of a head by defaults that give no lifetime.
+fn decide(
+    control: Option<&CacheControl>,
+    head: ResponseHeader,
+    authorized: bool,
+    windows: (u32, u32),
+    defaults: &CacheMetaDefaults,
+    now: Moment,
+) -> RespCacheable
+    requires none { (status : ℕ) (lifetime : Option Duration) → FreshDurationByStatusFn.post defaults.now.fresh_sec_fn status lifetime → lifetime ≡ None }
+    requires revalidating { defaults.now.stale_while_revalidate_sec ≡ windows.0 }
+    requires failing { defaults.now.stale_if_error_sec ≡ windows.1 }
+    ensures { IsDecision now (option_copied control.entry) windows head authorized (λ lifetime. lifetime ≡ None) result }
+{
+    resp_cacheable(control, head, authorized, defaults, now)
+}
+
+// Puts the meta of a response that is to be stored into its handle.
 fn fill_meta(
     alloc: Global,
     head: &ResponseHeader,
-    authorization: u32,
+    authorized: bool,
     windows: (u32, u32),
     now: Moment,
     meta: &mut PcacheHandle,
-) -> u32 {
+) -> u32
+    ensures { Decides now authorized windows head.now meta.old meta.new result }
+{
     let control = match CacheControl::from_resp_headers(alloc, head) {
         Ok(control) => control,
         Err(e) => return code_of(e),
@@ -218,29 +242,32 @@ fn fill_meta(
         Err(e) => return code_of(e),
     };
     let defaults = CacheMetaDefaults::new(no_default, windows.0, windows.1);
-    match resp_cacheable(control.as_ref(), head, authorization != 0, &defaults, now) {
+    match decide(control.as_ref(), head, authorized, windows, &defaults, now) {
         RespCacheable::Cacheable(made) => meta.fill(alloc, Object::Meta(made)),
         RespCacheable::Uncacheable(_) => NONE,
     }
 }
 
-fn judge(
+fn decide_on(
     alloc: Global,
     object: &Object,
-    authorization: u32,
+    authorized: bool,
     windows: (u32, u32),
     now: Moment,
     meta: &mut PcacheHandle,
-) -> u32 {
+) -> u32
+    ensures { OnKind (as_head object.now) result (IsSame meta.old meta.new) (λ h. Decides now authorized windows h meta.old meta.new result) }
+{
     match object {
-        Object::Head(head) => fill_meta(alloc, head, authorization, windows, now, meta),
+        Object::Head(head) => fill_meta(alloc, head, authorized, windows, now, meta),
         _ => WRONG_KIND,
     }
 }
 
 /// Whether the response of a head is to be stored: if so, its meta goes to a second handle, and if
 /// not, there is nothing to hand over. A response that says nothing of its lifetime is not stored.
-/// The windows are what holds in seconds if it says nothing of being served stale.
+/// An authorization that is not 0 means that the request had one. The windows are what holds in
+/// seconds if the response says nothing of being served stale.
 #[unsafe(no_mangle)]
 pub extern "C" fn pcache_resp_cacheable(
     alloc: Global,
@@ -252,7 +279,10 @@ pub extern "C" fn pcache_resp_cacheable(
     now_secs: u64,
     now_nanos: u32,
 ) -> u32
-    ensures { IsSame head.old head.new }
+    ensures decides { OnGood (moment_at now_secs now_nanos) result (IsSame meta.old meta.new) (λ now.
+        AsksOf as_head head.old result (IsSame meta.old meta.new) (λ h.
+        Decides now (is_flag authorization) (stale_while_revalidate_secs, stale_if_error_secs) h meta.old meta.new result)) }
+    ensures head { IsSame head.old head.new }
 {
     let Some(now) = moment_of(now_secs, now_nanos) else {
         return BAD_VALUE;
@@ -261,7 +291,7 @@ pub extern "C" fn pcache_resp_cacheable(
         return BAD_HANDLE;
     };
     let windows = (stale_while_revalidate_secs, stale_if_error_secs);
-    let code = judge(alloc, &*object, authorization, windows, now, meta);
+    let code = decide_on(alloc, &*object, authorization != 0, windows, now, meta);
     head.put(object);
     code
 }

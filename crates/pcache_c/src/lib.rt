@@ -12,8 +12,8 @@
 //! - `entries`: the keys of entries of eviction managers
 //! - `managers`: the eviction managers
 //! - `caches`: a cache, and its requests opened and ended; `calls`: what its requests do
-//! - `seats`: the numbers of open requests; `served`: a cache with its requests as one object; `reached`: the way from a number to its request; `requests`: the calls
-//!   themselves
+//! - `seats`: the numbers of open requests; `served`: a cache with its requests as one object
+//! - `reached`: the way from a number to its request; `requests`: the calls themselves
 
 mod caches;
 mod calls;

@@ -2,7 +2,7 @@
 ghost use Rattle.std.specs.Prelude.{◌≡◌, [], None, is_some, length, ⊤};
 ghost use Rattle.pcache_c.specs.Codes.{OnGood, code_in, hash_at, hashes_at, moment_at, watermark_at};
 ghost use Rattle.pcache_c.specs.Handles.{AsksOf, ChangesOf, IsSame, OnHandle, OnKind, Turns};
-ghost use Rattle.pcache_c.specs.Managers.{Accesses, Admits, Increments, IsFileOf, Loads, LoadsInto, MakesList, MakesShards, NextOf, OnEntry, Peeks, Removes, Saves, SaysTotals, Shows, WritesTag, as_manager, list_saved, managing, with_list, with_shards};
+ghost use Rattle.pcache_c.specs.Managers.{Accesses, Admits, HandsFirst, Increments, IsFileOf, Loads, LoadsInto, MakesList, MakesShards, OnEntry, Peeks, Removes, Saves, SaysTotals, Shows, WritesTag, as_manager, list_saved, managing, with_list, with_shards};
 
 use crate::codes::{BAD_HANDLE, BAD_VALUE, NONE, OK, WRONG_CALL, WRONG_KIND, code_of};
 use crate::entries::{PcacheEntry, entry_from};
@@ -124,7 +124,8 @@ impl<M: EvictionManager> Managed<M> {
     fn next(&mut self, primary: &mut [u8], variance: &mut [u8], out: &mut PcacheEntry) -> u32
         requires primary { length primary.old ≡ 16 }
         requires variance { length variance.old ≡ 16 }
-        ensures { NextOf self.old.waiting.items (managing M.tracked M.limits M.evicted self.old) (managing M.tracked M.limits M.evicted self.new) (λ e. Shows e primary.new variance.new variance.old out.new) result }
+        ensures { HandsFirst (managing M.tracked M.limits M.evicted self.old) (managing M.tracked M.limits M.evicted self.new)
+            primary.new variance.new variance.old out.new result }
     {
         let Some(entry) = self.waiting.pop_front() else {
             return NONE;
@@ -483,7 +484,7 @@ fn next(object: &mut Object, primary: &mut [u8], variance: &mut [u8], out: &mut 
     requires primary { length primary.old ≡ 16 }
     requires variance { length variance.old ≡ 16 }
     ensures { Turns as_manager object.old object.new result (λ m n.
-        NextOf m.waiting m n (λ e. Shows e primary.new variance.new variance.old out.new) result) }
+        HandsFirst m n primary.new variance.new variance.old out.new result) }
 {
     match object {
         Object::Simple(managed) => managed.next(primary, variance, out),
@@ -503,7 +504,7 @@ pub extern "C" fn pcache_manager_next(
     out: &mut PcacheEntry,
 ) -> u32
     ensures { OnGood (hashes_at primary.old variance.old) result (IsSame manager.old manager.new) (λ room.
-        ChangesOf as_manager manager.old manager.new result (λ m n. NextOf m.waiting m n (λ e. Shows e primary.new variance.new variance.old out.new) result)) }
+        ChangesOf as_manager manager.old manager.new result (λ m n. HandsFirst m n primary.new variance.new variance.old out.new result)) }
 {
     if primary.len() != 16 || variance.len() != 16 {
         return BAD_VALUE;

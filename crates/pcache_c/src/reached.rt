@@ -1,10 +1,9 @@
 //! The calls on a request, by its number in the cache of an object.
 ghost use Rattle.std.specs.Prelude.{◌≡◌};
 ghost use Rattle.pcache_c.specs.Codes.{code_in};
-ghost use Rattle.pcache_c.specs.Numbers.{held_number, phase_number};
 ghost use Rattle.pcache_c.specs.Opening.{Ends, Opens};
 ghost use Rattle.pcache_c.specs.Reached.{OnNumber};
-ghost use Rattle.pcache_c.specs.Requests.{Adds, Begins, CopyOf, EndsHit, Expires, Finishes, IsUnchanged, Looks, Misses, Passes, Purges, Reads, Releases, Renews, SetsMeta, Takes, TurnsOff, Varies, Waits, meta_shown};
+ghost use Rattle.pcache_c.specs.Requests.{Adds, Begins, CopyOf, EndsHit, Expires, Finishes, IsUnchanged, Looks, Misses, Passes, Purges, Reads, Releases, Renews, SaysHeld, SaysPhase, SetsMeta, Takes, TurnsOff, Varies, Waits, meta_shown};
 
 use crate::codes::{BAD_HANDLE, OK, WRONG_KIND};
 use crate::object::Object;
@@ -39,7 +38,7 @@ pub(crate) fn end(object: &mut Object, number: u64) -> u32
 
 /// The number of where the request stands.
 pub(crate) fn phase(object: &mut Object, number: u64, out: &mut u32) -> u32
-    ensures { OnNumber number object.old object.new result (λ c d o p. IsUnchanged c d o p × (result ≡ 0) × (out.new ≡ phase_number o.request.cache.phase)) }
+    ensures { OnNumber number object.old object.new result (λ c d o p. SaysPhase c d o p out.new result) }
 {
     let Object::Cache(Served { cache: _, seats }) = object else {
         return WRONG_KIND;
@@ -53,7 +52,7 @@ pub(crate) fn phase(object: &mut Object, number: u64, out: &mut u32) -> u32
 
 /// The number of what the request holds of its lock.
 pub(crate) fn held(object: &mut Object, number: u64, out: &mut u32) -> u32
-    ensures { OnNumber number object.old object.new result (λ c d o p. IsUnchanged c d o p × (result ≡ 0) × (out.new ≡ held_number o.request.cache.held)) }
+    ensures { OnNumber number object.old object.new result (λ c d o p. SaysHeld c d o p out.new result) }
 {
     let Object::Cache(Served { cache: _, seats }) = object else {
         return WRONG_KIND;

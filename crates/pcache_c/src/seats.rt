@@ -1,7 +1,7 @@
 //! Numbers of open requests: each is a place, with how often the place was free before.
-ghost use Rattle.std.specs.Prelude.{◌≡◌, ◌/◌, ◌%◌, ◌^◌, ℕ, None, Some, IfSome, IsTrue, OnSome, option_map};
+ghost use Rattle.std.specs.Prelude.{◌≡◌, ◌/◌, ◌%◌, ◌^◌, ℕ, None, Some, IfSome, IsTrue, option_map};
 ghost use Rattle.std.specs.Borrow.{LendsIf, LendsSo, sem};
-ghost use Rattle.pcache_c.specs.Seats.{AreSame, IsFree, IsGone, IsSet, request_at};
+ghost use Rattle.pcache_c.specs.Seats.{AreSame, IsFree, IsGone, IsSet, IsSetIf, request_at};
 ghost use Rattle.pcache_c.specs.contracts.seats.Seat as seat;
 ghost use Rattle.pcache_c.specs.contracts.seats.Seats as seats;
 
@@ -57,7 +57,7 @@ impl<T> Seats<T> {
 
     /// The open request with a number.
     pub(crate) fn find(&mut self, number: u64) -> Option<&mut T>
-        ensures* writes_back { sem 𝓛 (LendsSo (seats.the_row T.row) T.row self.entry result (λ n w. OnSome result (IsSet number w self.old n)) (λ n. AreSame self.old n)) }
+        ensures* writes_back { sem 𝓛 (LendsSo (seats.the_row T.row) T.row self.entry result (IsSetIf result number self.old) (AreSame self.old)) }
         ensures value { option_map (λ r. r.now) result ≡ request_at self.old number }
     {
         let place = (number % PLACES) as usize;

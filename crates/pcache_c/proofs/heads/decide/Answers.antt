@@ -1,0 +1,9 @@
+use Rattle.std.proofs.Common.{◌≡◌, Option, None}
+use Rattle.std.specs.declared.time.Duration.{Duration}
+use Rattle.pcache_c.proofs.Decisions.{decided}
+use Rattle.pcache_c.proofs.heads.decide.Goals as goal
+
+pub returns : goal.returns
+returns g c =
+    decided c.args.now _ _ c.args.windows c.args.head c.args.authorized _ (λ (lifetime : Option Duration). lifetime ≡ None) _
+    (λ i. (c.requires.revalidating i, c.requires.failing i)) (λ lifetime is. c.requires.none _ lifetime is) c.resp_cacheable.ensures
