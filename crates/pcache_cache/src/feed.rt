@@ -2,7 +2,7 @@
 ghost use Rattle.std.specs.Prelude.{◌≡◌, Some, IfErr, option_map};
 ghost use Rattle.pcache_request.specs.Requests.{dropped_by};
 ghost use Rattle.pcache_cache.specs.OwnPut.{MayEndPut, store_put};
-ghost use Rattle.pcache_put_ctx.specs.Readings.{IsReadAt, MayRefuseRead, StoresPiece};
+ghost use Rattle.pcache_put_ctx.specs.Readings.{IsReadAt, MayFailOnceRead, StoresPiece};
 ghost use Rattle.pcache_put_ctx.specs.Steps.{Done, RepeatsResult, IsStageAfter};
 
 use crate::cache::Cache;
@@ -22,7 +22,7 @@ impl<M: EvictionManager, K> Cache<M, K> {
     ghost use Rattle.std.specs.Prelude.{◌≡◌, ◌⊎◌, ◌↔◌, Some, IsTrue, IfErr, List, OnErr, Option};
     ghost use Rattle.pcache_put.specs.Progress.{HasFailed};
     ghost use Rattle.pcache_put_ctx.specs.Puts.{IsResult, Piece};
-    ghost use Rattle.pcache_put_ctx.specs.Readings.{IsReadAt, MayRefuseRead, StoresPiece};
+    ghost use Rattle.pcache_put_ctx.specs.Readings.{IsReadAt, MayFailOnceRead, StoresPiece};
     ghost use Rattle.pcache_put_ctx.specs.State.{Filled, HasTaken, limit_of, write_in};
     ghost use Rattle.pcache_put_ctx.specs.Steps.{Done, EndsAs, MayFailPiece, RepeatsResult, IsStageAfter, TakesPiece, TellsResult, stage_ended};
     ghost use Rattle.pcache_request.specs.NoBody.{LeavesNone};
@@ -73,7 +73,7 @@ impl<M: EvictionManager, K> Cache<M, K> {
             × (self.new.store ≡ store_put put.old.put d result self.old.store) }
         ensures stands { IsStageAfter result put.new.put.stage }
         ensures again { RepeatsResult put.old.put.stage result }
-        ensures kind { IfErr result (MayRefuseRead put.old.put.stage self.old.store read) }
+        ensures kind { IfErr result (MayFailOnceRead put.old.put.stage self.old.store read) }
         ensures own { MayEndPut self.old.store put.old.put → MayEndPut self.new.store put.new.put }
         ensures rest { self.new ≡ record self.old { store = self.new.store } }
     {
@@ -128,7 +128,7 @@ fn store_in<C: CachePut>(
     ensures step { (d : Done) × StoresPiece (C.says put.old.policy) put.old put.new read d × (store.new ≡ store_put put.old d result store.old) }
     ensures stands { IsStageAfter result put.new.stage }
     ensures again { RepeatsResult put.old.stage result }
-    ensures kind { IfErr result (MayRefuseRead put.old.stage store.old read) }
+    ensures kind { IfErr result (MayFailOnceRead put.old.stage store.old read) }
     ensures own { MayEndPut store.old put.old → MayEndPut store.new put.new }
 {
     let PieceReport {

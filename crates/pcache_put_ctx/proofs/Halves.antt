@@ -11,7 +11,7 @@ use Rattle.pcache_put_ctx.proofs.Results.{taken_declined, taken_over}
 use Rattle.pcache_put_ctx.proofs.Why.{refused_as}
 use Rattle.pcache_put_ctx.specs.Openings.{HasOpened}
 use Rattle.pcache_put_ctx.specs.Puts.{Piece, Says}
-use Rattle.pcache_put_ctx.specs.Readings.{IfUnread, IsBegunRead, MayFailRead, MayRefuseRead, ReadBy, ReadsPiece, StoresPiece}
+use Rattle.pcache_put_ctx.specs.Readings.{IfUnread, IsBegunRead, MayFailRead, MayFailOnceRead, ReadBy, ReadsPiece, StoresPiece}
 use Rattle.pcache_put_ctx.specs.State.{Stage, InHead, InBody, HasDeclined, IsOver, Put, Filled, limit_of}
 use Rattle.pcache_put_ctx.specs.Steps.{Done, IfRefused, IsBegunBefore, MayFailPiece, TakesPiece}
 use Rattle.pcache_put_ctx.specs.declared.reading.ReadPiece.{ReadPiece}
@@ -43,7 +43,7 @@ why_unread (HasDeclined reason) s parser e may = absurd may
 why_unread (IsOver kind) s parser e may = absurd may
 
 -- why a piece that was read and then stored fails
-pub why_both : (stage : Stage) (s : Store) (parser : Parsed) (part : ReadPiece) (e : ErrorType) → IfUnread part (MayFailRead stage parser) → MayRefuseRead stage s part e → MayFailPiece stage s e ⊎ (parser ≡ HasFailed e)
+pub why_both : (stage : Stage) (s : Store) (parser : Parsed) (part : ReadPiece) (e : ErrorType) → IfUnread part (MayFailRead stage parser) → MayFailOnceRead stage s part e → MayFailPiece stage s e ⊎ (parser ≡ HasFailed e)
 why_both stage s parser part e unread (inr may) = inl may
 why_both stage s parser (read.Refused kind) e unread (inl is) = subst (λ x. MayFailPiece stage s x ⊎ (parser ≡ HasFailed x)) (sym is) (why_unread stage s parser kind unread)
 why_both stage s parser read.Unfinished e unread (inl is) = absurd is
@@ -53,9 +53,9 @@ why_both stage s parser (read.Brings part) e unread (inl is) = absurd is
 why_both stage s parser read.Ignored e unread (inl is) = absurd is
 
 pub why_answered : {A : Type 0} (at stage : Stage) (s : Store) (parser : Parsed) (part : ReadPiece) (result : Result A ErrorType) → at ≡ stage → IfUnread part (MayFailRead stage parser)
-    → IfErr result (MayRefuseRead at s part) → IfErr result (λ e. MayFailPiece stage s e ⊎ (parser ≡ HasFailed e))
+    → IfErr result (MayFailOnceRead at s part) → IfErr result (λ e. MayFailPiece stage s e ⊎ (parser ≡ HasFailed e))
 why_answered at stage s parser part (Ok a) is unread may = tt
-why_answered at stage s parser part (Err e) is unread may = why_both stage s parser part e unread (subst (λ x. MayRefuseRead x s part e) is may)
+why_answered at stage s parser part (Err e) is unread may = why_both stage s parser part e unread (subst (λ x. MayFailOnceRead x s part e) is may)
 
 -- whether a write began before a piece that was read and then stored failed
 began-both : (stage : Stage) (parser : Parsed) (part : ReadPiece) (e : ErrorType) (began : Option Meta) → IfUnread part (MayFailRead stage parser) → IsBegunRead stage part e began → IsBegunBefore stage e began ⊎ (parser ≡ HasFailed e)

@@ -86,8 +86,8 @@ IsUnreadAs (read.Refused kind) e = e ≡ kind
 IsUnreadAs _ e = ⊥
 
 -- why a piece that was read may fail: it could not be read, or as any piece
-abbrev pub MayRefuseRead : Stage → Store → ReadPiece → ErrorType → Type 0
-MayRefuseRead stage s piece e = IsUnreadAs piece e ⊎ MayFailPiece stage s e
+abbrev pub MayFailOnceRead : Stage → Store → ReadPiece → ErrorType → Type 0
+MayFailOnceRead stage s piece e = IsUnreadAs piece e ⊎ MayFailPiece stage s e
 
 -- nothing of the piece is written: what comes after a whole body
 abbrev pub BringsNothing : Stage → ReadPiece → Type 0

@@ -90,7 +90,7 @@ impl<C: CachePut, S: Storage> CachePutCtx<C, S> {
     ghost use Rattle.pcache_request.specs.NoBody.{HasNoBody, LeavesNone};
     ghost use Rattle.pcache_request.specs.Requests.{dropped_by};
     ghost use Rattle.pcache_put_ctx.specs.Puts.{Piece, IsResult};
-    ghost use Rattle.pcache_put_ctx.specs.Readings.{BringsNothing, HasRead, IfUnread, IsBegunRead, IsReadAt, MayFailRead, MayRefuseRead, ReadsPiece};
+    ghost use Rattle.pcache_put_ctx.specs.Readings.{BringsNothing, HasRead, IfUnread, IsBegunRead, IsReadAt, MayFailRead, MayFailOnceRead, ReadsPiece};
     ghost use Rattle.pcache_store.specs.Store.{Store};
     ghost use Rattle.std.specs.Option.{option_and_then};
     ghost use Rattle.pcache_put_ctx.specs.State.{Accepted, InHead, Filled, HasTaken, entry_in, limit_of, write_in};
@@ -251,7 +251,7 @@ impl<C: CachePut, S: Storage> CachePutCtx<C, S> {
 
         ensures again { ReturnsAgain self.old.stage result.end }
         ensures ignored { BringsNothing self.old.stage read → result ≡ record { began = None; wrote = None; end = PieceEnd.GoesOn } }
-        ensures kind { IfRefused result.end (MayRefuseRead self.old.stage (S.state storage.old) read) }
+        ensures kind { IfRefused result.end (MayFailOnceRead self.old.stage (S.state storage.old) read) }
     {
         match take_stage(&mut self.stage) {
             Stage::Head => {

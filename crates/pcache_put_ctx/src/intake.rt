@@ -11,7 +11,7 @@ ghost use Rattle.pcache_store.specs.Refusals.{MayFailWrite};
 ghost use Rattle.pcache_store.specs.Store.{Store, begun, is_told};
 ghost use Rattle.pcache_put_ctx.specs.Openings.{IsVerdict, IsBegun, IsDue, HasOpened};
 ghost use Rattle.pcache_put_ctx.specs.Puts.{Piece, IsResult, joined};
-ghost use Rattle.pcache_put_ctx.specs.Readings.{BodyDue, IfUnread, IsBegunRead, IsOfBody, IsOfHead, MayRefuseRead};
+ghost use Rattle.pcache_put_ctx.specs.Readings.{BodyDue, IfUnread, IsBegunRead, IsOfBody, IsOfHead, MayFailOnceRead};
 ghost use Rattle.pcache_put_ctx.specs.Stages.{stage_of};
 ghost use Rattle.pcache_put_ctx.specs.State.{Accepted, InHead, InBody, Filled, HeadTaken, BodyRead, BodyTaken, Counts, limit_of, TakenBy};
 ghost use Rattle.pcache_put_ctx.specs.Steps.{counted_part, IsAllowed, IsBegunBefore, IfRefused, MayFailFill, written, store_wrote, store_after, stage_begun, filled_on, filled_wrote, EndsPiece, EndsPut, TellsResult, entry_reported, evicted_ended, MayFailPiece, is_done};
@@ -295,7 +295,7 @@ impl<C: CachePut> Intake<C> {
         ensures begun { (pieces : List Piece) → HasOpened (C.says self.old.policy) self.old.size self.old.parser pieces read
             → IfSome result.report.began (λ m. Accepted (C.says self.old.policy) (limit_of self.old.size) m pieces) }
         ensures whether { IfRefused result.report.end (λ e. IsBegunRead InHead read e result.report.began) }
-        ensures kind { IfRefused result.report.end (MayRefuseRead InHead (S.state storage.old) read) }
+        ensures kind { IfRefused result.report.end (MayFailOnceRead InHead (S.state storage.old) read) }
     {
         match read {
             ReadPiece::Begins(meta, part) => self.begin_with(meta, part, storage),
@@ -330,7 +330,7 @@ impl<C: CachePut> Intake<C> {
             (filled_wrote result.report.wrote f) }
         ensures nothing { read ≡ Brings None → result.report ≡ record { began = None; wrote = None; end = GoesOn } }
         ensures refused { IfRefused result.report.end (λ _. result.report.wrote ≡ None) }
-        ensures kind { IfRefused result.report.end (MayRefuseRead
+        ensures kind { IfRefused result.report.end (MayFailOnceRead
             (InBody (S.Miss.write filling.writer) (S.Miss.entry_number filling.writer) filling.fresh_until) (S.state storage.old) read) }
     {
         match read {
