@@ -1,6 +1,7 @@
 -- What holds of a read with every store holds with this one.
-use Rattle.std.proofs.Common.{◌≡◌, ℕ, List, Option, None, Some, option_map, Result, Ok, Err}
-use Rattle.std.specs.Prelude.{IfOk, IfSome, OnOk}
+use Rattle.std.proofs.Common.{◌≡◌, ℕ, List, Option, None, Some, IsSome, option_map, Result, Ok, Err, ap, refl, subst, sym}
+use Rattle.std.specs.FinMap.{empty}
+use Rattle.std.specs.Prelude.{IfOk, IfSome, OnErr, OnOk}
 use Rattle.pcache_base.specs.declared.poll.Poll.{Poll}
 use Rattle.pcache_request.specs.Requests.{Request}
 use Rattle.pcache_store.specs.Store.{Reader, Store, read_of, reader_after}
@@ -13,3 +14,19 @@ read_with s (Err e) reader all = tt
 pub left_with : {A E : Type 0} (s : Store) (result : Result A E) (old new : Request) → OnOk result ((t : Store) → new ≡ record old { reader = option_map (reader_after t) old.reader }) → OnOk result (new ≡ record old { reader = option_map (reader_after s) old.reader })
 left_with s (Ok a) old new all = all s
 left_with s (Err e) old new all = tt
+
+-- a read leaves the request with a reader, and its phase
+with_nothing : Store
+with_nothing = record { slots = empty; writes = empty; next = 0 }
+
+pub keeps_reader : {A E : Type 0} (result : Result A E) (old new : Request) → OnOk result ((t : Store) → new ≡ record old { reader = option_map (reader_after t) old.reader }) → OnErr result (new ≡ old) → IsSome old.reader → IsSome new.reader
+keeps_reader (Ok a) old new all same some = subst (λ (x : Request). IsSome x.reader) (sym (all with_nothing)) (stays old.reader some)
+  where
+    stays : (r : Option Reader) → IsSome r → IsSome (option_map (reader_after with_nothing) r)
+    stays None some = some
+    stays (Some r) some = refl
+keeps_reader (Err e) old new all same some = subst (λ (x : Request). IsSome x.reader) (sym same) some
+
+pub keeps_phase : {A E : Type 0} (result : Result A E) (old new : Request) → OnOk result ((t : Store) → new ≡ record old { reader = option_map (reader_after t) old.reader }) → OnErr result (new ≡ old) → new.phase ≡ old.phase
+keeps_phase (Ok a) old new all same = ap (λ (x : Request). x.phase) (all with_nothing)
+keeps_phase (Err e) old new all same = ap (λ (x : Request). x.phase) same
