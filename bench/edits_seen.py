@@ -320,6 +320,17 @@ def path_of(module, owner, name, trait):
     return "::".join(it for it in (module, name) if it)
 
 
+def paths_named(crate, place, folder):
+    """The paths of the functions that the prover may mean by a function's name alone: it lists them if there are several."""
+    module, owner, name, _ = place
+    lines = said_by(["rt", "check", "--jobs", "1", "--only", name], folder)
+    several = [it for it in lines if f"several functions are named `{name}`" in it]
+    if not several:
+        return [name]
+    found = re.findall(rf"`{crate}::([^`]+)`", several[0])
+    return [it for it in found if is_named(it, module, owner, name)]
+
+
 def outcome_alone(crate, edit, seconds):
     """What comes of one edit, of which only what it turns is checked: 'refused', or what is wrong with it."""
     until = time.monotonic() + seconds
@@ -331,9 +342,14 @@ def outcome_alone(crate, edit, seconds):
         why = why_it_does_not_read(folder, max(1, until - time.monotonic()))
         if why:
             return f"DOES NOT READ: {why}"
-        only = [it for place in turned if place[2] for it in ("--only", path_of(*place))]
-        lines = said_by(["rt", "check", "--jobs", "1", *only], folder, max(1, until - time.monotonic())) if only else []
-    seen = outcome(of_functions(crate, lines), turned)
+        seen = None
+        # a method whose type has parameters filled in, or that is in a file outside its type's, has another path than one would think
+        for find in (lambda place: [path_of(*place)], lambda place: paths_named(crate, place, folder)):
+            only = [it for place in turned if place[2] for path in find(place) for it in ("--only", path)]
+            lines = said_by(["rt", "check", "--jobs", "1", *only], folder, max(1, until - time.monotonic())) if only else []
+            seen = outcome(of_functions(crate, lines), turned)
+            if seen is not None:
+                break
     if seen == "by itself":
         return "refused"
     if seen is None:
