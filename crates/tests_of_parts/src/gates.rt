@@ -3,6 +3,7 @@ ghost use Rattle.std.specs.Prelude.{◌≡◌, IsSome};
 ghost use Rattle.pcache_request.specs.declared.phase.CachePhase.TheVariants.{CacheKey};
 
 use crate::requests::{NOW, Parts, Request, fill, finds, request_for};
+use bytes::Bytes;
 use pcache_base::error::Result;
 use pcache_base::moment::Moment;
 use pcache_base::poll::Poll;
@@ -218,15 +219,23 @@ fn reads_on<R: Wait>(rt: &R, cache: &GatedParts, request: &mut Request) -> Resul
     requires { IsSome request.old.cache.reader }
 {
     let body = cache.read_body(rt, request)?;
+    if !request.cache().has_body_reader() {
+        return Ok(false);
+    }
     let end = cache.read_body(rt, request)?;
     if !request.cache().phase().may_finish_hit() {
         return Ok(false);
     }
     cache.finish_hit_handler(rt, request)?;
-    Ok(
-        matches!(body, Poll::Ready(Some(bytes)) if bytes.as_slice() == b"one".as_slice())
-            && matches!(end, Poll::Ready(None)),
-    )
+    Ok(brings(&body, b"one") && matches!(&end, Poll::Ready(None)))
+}
+
+// Whether a read gave these bytes.
+fn brings(read: &Poll<Option<Bytes>>, wanted: &[u8]) -> bool {
+    match read {
+        Poll::Ready(Some(bytes)) => bytes.as_slice() == wanted,
+        _ => false,
+    }
 }
 
 // Finds the body, and reads it once the part is held.
