@@ -20,7 +20,10 @@ pub struct Counts {
 impl Counts {
     /// Counts of zero.
     pub fn none() -> Counts
-        ensures { (result.requests ≡ 0) × (result.hits ≡ 0) × (result.bytes ≡ 0) × (result.hit_bytes ≡ 0) }
+        ensures { (result.requests ≡ 0)
+            × (result.hits ≡ 0)
+            × (result.bytes ≡ 0)
+            × (result.hit_bytes ≡ 0) }
     {
         Counts {
             requests: 0,

@@ -63,7 +63,8 @@ impl Freshness {
 
     /// Records when a body was added.
     pub fn set(&mut self, item: CacheEntryKey, now: Moment) -> Result<()>
-        ensures ok { OnOk result (self.new ≡ record self.old { came = map.insert self.old.came item now }) }
+        ensures ok { OnOk result (self.new
+            ≡ record self.old { came = map.insert self.old.came item now }) }
         ensures kind { IfErr result (λ e. e ≡ OutOfMemory) }
     {
         self.came.insert(item, now)?;

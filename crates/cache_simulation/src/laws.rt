@@ -10,15 +10,22 @@ ghost use Rattle.cache_simulation.specs.Plays.{Rules, State, Plays};
 /// In every run that begins empty, a hit is of an entry that was added before and has not left
 /// since.
 pub fn hits_stand()
-    ensures { (limits : Limits) (es : List Event) (after : Tracked) → RunsTo limits map.empty es after → HitsStand [] es }
+    ensures { (limits : Limits) (es : List Event) (after : Tracked)
+        → RunsTo limits map.empty es after
+        → HitsStand [] es }
 {}
 
 /// The tracked entries are within the limits after every event, if they were before.
 pub fn stays_within()
-    ensures { (limits : Limits) (m : Tracked) (es : List Event) (after : Tracked) → IsWithin limits m → RunsTo limits m es after → IsWithin limits after }
+    ensures { (limits : Limits) (m : Tracked) (es : List Event) (after : Tracked)
+        → IsWithin limits m
+        → RunsTo limits m es after
+        → IsWithin limits after }
 {}
 
 /// The events of requests are a run.
 pub fn plays_are_runs()
-    ensures { (rules : Rules) (s t : State) (requests : List Request) (es : List Event) → Plays rules s requests es t → RunsTo rules.limits s.tracked es t.tracked }
+    ensures { (rules : Rules) (s t : State) (requests : List Request) (es : List Event)
+        → Plays rules s requests es t
+        → RunsTo rules.limits s.tracked es t.tracked }
 {}

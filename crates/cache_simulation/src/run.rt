@@ -45,7 +45,10 @@ impl<M: EvictionManager> Run<M> {
     /// `time`, or without end if that is `None`.
     pub fn new(alloc: Global, manager: M, most: usize, time: Option<Duration>) -> Run<M>
         ensures manager { result.manager ≡ manager }
-        ensures counts { (result.counts.requests ≡ 0) × (result.counts.hits ≡ 0) × (result.counts.bytes ≡ 0) × (result.counts.hit_bytes ≡ 0) }
+        ensures counts { (result.counts.requests ≡ 0)
+            × (result.counts.hits ≡ 0)
+            × (result.counts.bytes ≡ 0)
+            × (result.counts.hit_bytes ≡ 0) }
         ensures most { result.most ≡ most }
         ensures fresh { result.freshness ≡ option_map (λ t. none_fresh (as_nanos t)) time }
     {
@@ -65,9 +68,11 @@ impl<M: EvictionManager> Run<M> {
     /// large. A request that fails for memory is not counted; its body may have been added then.
     pub fn request(&mut self, asked: &Request) -> Result<()>
         requires { self.old.counts.requests < 2 ^ 64 - 1 }
-        ensures ok { OnOk result ((e : Event) × IsCounted self.old.counts (e ∷ []) self.new.counts
-            × Becomes (record { limits = M.limits self.old.manager; most = self.old.most }) (state (M.tracked self.old.manager) self.old.freshness)
-            asked.now e (state (M.tracked self.new.manager) self.new.freshness)) }
+        ensures ok { OnOk result ((e : Event)
+            × IsCounted self.old.counts (e ∷ []) self.new.counts
+            × Becomes (record { limits = M.limits self.old.manager; most = self.old.most })
+            (state (M.tracked self.old.manager) self.old.freshness) asked.now e
+            (state (M.tracked self.new.manager) self.new.freshness)) }
         ensures limits { M.limits self.new.manager ≡ M.limits self.old.manager }
         ensures most { self.new.most ≡ self.old.most }
         ensures kind { IfErr result (λ e. e ≡ OutOfMemory) }
@@ -90,12 +95,15 @@ impl<M: EvictionManager> Run<M> {
     /// Makes these requests, one after the other. Fails when memory runs out, or once 2^64 - 1
     /// requests are counted.
     pub fn play(&mut self, requests: &[Request]) -> Result<()>
-        ensures ok { OnOk result ((es : List Event) × IsCounted self.old.counts es self.new.counts
-            × Plays (record { limits = M.limits self.old.manager; most = self.old.most }) (state (M.tracked self.old.manager) self.old.freshness)
-            requests.now es (state (M.tracked self.new.manager) self.new.freshness)) }
+        ensures ok { OnOk result ((es : List Event)
+            × IsCounted self.old.counts es self.new.counts
+            × Plays (record { limits = M.limits self.old.manager; most = self.old.most })
+            (state (M.tracked self.old.manager) self.old.freshness) requests.now es
+            (state (M.tracked self.new.manager) self.new.freshness)) }
         ensures limits { M.limits self.new.manager ≡ M.limits self.old.manager }
         ensures most { self.new.most ≡ self.old.most }
-        ensures kind { IfErr result (λ e. (e ≡ OutOfMemory) ⊎ ((e ≡ NumbersExhausted) × (self.new.counts.requests ≡ 2 ^ 64 - 1))) }
+        ensures kind { IfErr result (λ e. (e ≡ OutOfMemory)
+            ⊎ ((e ≡ NumbersExhausted) × (self.new.counts.requests ≡ 2 ^ 64 - 1))) }
     {
         for asked in requests {
             if self.counts.is_full() {
@@ -109,7 +117,8 @@ impl<M: EvictionManager> Run<M> {
     // Adds a body.
     fn fill(&mut self, asked: &Request) -> Result<()>
         ensures leads { OnOk result ((out : List CacheEntryKey)
-            × Leads (M.limits self.old.manager) (M.tracked self.old.manager) (Came asked.now.item asked.now.size out) (M.tracked self.new.manager)
+            × Leads (M.limits self.old.manager) (M.tracked self.old.manager)
+            (Came asked.now.item asked.now.size out) (M.tracked self.new.manager)
             × (self.new.freshness ≡ noted asked.now.item asked.now.time out self.old.freshness)) }
         ensures limits { M.limits self.new.manager ≡ M.limits self.old.manager }
         ensures most { self.new.most ≡ self.old.most }
@@ -123,7 +132,8 @@ impl<M: EvictionManager> Run<M> {
 
     // Records when a body was added, and forgets those that were evicted.
     fn remember(&mut self, asked: &Request, gone: Vec<CacheEntryKey>) -> Result<()>
-        ensures fresh { OnOk result (self.new.freshness ≡ noted asked.now.item asked.now.time gone.items self.old.freshness) }
+        ensures fresh { OnOk result (self.new.freshness
+            ≡ noted asked.now.item asked.now.time gone.items self.old.freshness) }
         ensures manager { self.new.manager ≡ self.old.manager }
         ensures most { self.new.most ≡ self.old.most }
         ensures counts { self.new.counts ≡ self.old.counts }
@@ -139,7 +149,9 @@ impl<M: EvictionManager> Run<M> {
 
     // Whether a body is stored and fresh at the moment of a request.
     fn has_fresh(&self, asked: &Request) -> bool
-        ensures { result ≡ (map.contains_key (M.tracked self.now.manager) asked.now.item && is_fresh self.now.freshness asked.now.item asked.now.time) }
+        ensures { result
+            ≡ (map.contains_key (M.tracked self.now.manager) asked.now.item
+            && is_fresh self.now.freshness asked.now.item asked.now.time) }
     {
         self.manager.peek(&asked.item) && self.is_fresh(asked)
     }

@@ -109,7 +109,7 @@ fn read_along(
     requires reader { reader.old.cache.phase ≡ CacheKey }
     ensures { writer.new.cache.phase ≡ Miss }
 {
-    if let Some((meta, hit)) = cache.cache_lookup(reader, now)? {
+    if let Some((meta, hit)) = cache.cache_lookup_without_policy(reader, now)? {
         cache.cache_found(reader, meta, hit, HitStatus::Fresh, now)?;
     }
     let first = read(cache, reader)?;

@@ -31,7 +31,7 @@ fn find_or_fill(
     requires phase { request.old.cache.phase ≡ CacheKey }
     requires uses { request.old.cache.uses.eviction ≡ true }
 {
-    if let Some((meta, hit)) = cache.cache_lookup(request, now)? {
+    if let Some((meta, hit)) = cache.cache_lookup_without_policy(request, now)? {
         // Nothing gets old here; else `meta.is_fresh(now)` decides how the hit counts.
         cache.cache_found(request, meta, hit, HitStatus::Fresh, now)?;
         return Ok(match cache.read_body(request)? {

@@ -59,7 +59,7 @@ fn found(
     requires { request.old.phase ≡ CacheKey }
     ensures { OnOk result (request.new.phase ≡ CacheKey) }
 {
-    request.cache_lookup(&mut parts.store, &mut parts.lock, now)
+    request.cache_lookup_without_policy(&mut parts.store, &mut parts.lock, now)
 }
 
 // Takes the found pair: a fresh body is read, and a stale one asks for the key's lock.

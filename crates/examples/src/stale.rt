@@ -60,7 +60,7 @@ fn end_if_any(cache: &mut FrontCache, request: Option<Request>) {
 fn look_for(cache: &mut FrontCache, request: &mut Request, now: Moment) -> Result<Answer>
     requires { request.old.cache.phase ≡ CacheKey }
 {
-    let Some((meta, hit)) = cache.cache_lookup(request, now)? else {
+    let Some((meta, hit)) = cache.cache_lookup_without_policy(request, now)? else {
         return Ok(Answer::Nothing);
     };
     if meta.is_fresh(now) {

@@ -69,7 +69,7 @@ fn find(
     ensures phase { OnOk result (request.new.cache.phase ≡ CacheKey) }
     ensures uses { OnOk result (request.new.cache.uses ≡ request.old.cache.uses) }
 {
-    let Some((meta, hit)) = cache.cache_lookup(request, now)? else {
+    let Some((meta, hit)) = cache.cache_lookup_without_policy(request, now)? else {
         return Ok(None);
     };
     let Some(variance) = variance else {
@@ -79,7 +79,7 @@ fn find(
         return Ok(Some((meta, hit)));
     }
     cache.let_go(hit);
-    cache.cache_lookup(request, now)
+    cache.cache_lookup_without_policy(request, now)
 }
 
 // The response's own variance is set before its write begins.

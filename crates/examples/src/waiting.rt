@@ -104,7 +104,7 @@ fn play_both(
 pub fn look(cache: &mut FrontCache, request: &mut Request, now: Moment) -> Result<()>
     requires { request.old.cache.phase ≡ CacheKey }
 {
-    if let Some((_meta, hit)) = cache.cache_lookup(request, now)? {
+    if let Some((_meta, hit)) = cache.cache_lookup_without_policy(request, now)? {
         cache.let_go(hit);
     }
     Ok(())

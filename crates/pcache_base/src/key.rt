@@ -106,8 +106,10 @@ pub trait CacheHashKey {
 
     /// The primary hash in lower-case hexadecimal digits. Fails only when memory runs out.
     fn primary(&self, alloc: Global) -> Result<String>
-        ensures text { IfOk result (λ text. string_bytes text ≡ encode_lower (primary_hash self.now)) }
-        ensures spelled { IfOk result (λ text. SpellsHash (string_bytes text) (primary_hash self.now)) }
+        ensures text { IfOk result (λ text.
+            string_bytes text ≡ encode_lower (primary_hash self.now)) }
+        ensures spelled { IfOk result (λ text.
+            SpellsHash (string_bytes text) (primary_hash self.now)) }
         ensures kind { IfErr result (λ e. e ≡ OutOfMemory) }
     {
         hex_text(alloc, &self.primary_bin())
@@ -115,7 +117,8 @@ pub trait CacheHashKey {
 
     /// The variance in lower-case hexadecimal digits. Fails only when memory runs out.
     fn variance(&self, alloc: Global) -> Result<Option<String>>
-        ensures text { IfOk result (λ text. option_map string_bytes text ≡ option_map encode_lower (variance_hash self.now)) }
+        ensures text { IfOk result (λ text.
+            option_map string_bytes text ≡ option_map encode_lower (variance_hash self.now)) }
         ensures kind { IfErr result (λ e. e ≡ OutOfMemory) }
     {
         match self.variance_bin() {
@@ -126,8 +129,10 @@ pub trait CacheHashKey {
 
     /// The combined hash in lower-case hexadecimal digits. Fails only when memory runs out.
     fn combined(&self, alloc: Global) -> Result<String>
-        ensures text { IfOk result (λ text. string_bytes text ≡ encode_lower (combined_of (primary_hash self.now) (variance_hash self.now))) }
-        ensures spelled { IfOk result (λ text. SpellsHash (string_bytes text) (combined_of (primary_hash self.now) (variance_hash self.now))) }
+        ensures text { IfOk result (λ text. string_bytes text
+            ≡ encode_lower (combined_of (primary_hash self.now) (variance_hash self.now))) }
+        ensures spelled { IfOk result (λ text. SpellsHash (string_bytes text)
+            (combined_of (primary_hash self.now) (variance_hash self.now))) }
         ensures kind { IfErr result (λ e. e ≡ OutOfMemory) }
     {
         hex_text(alloc, &self.combined_bin())
@@ -184,7 +189,14 @@ impl CacheKey {
 
     /// A key of these primary bytes, with no variance, for which any fill can be used.
     pub fn new(primary: Vec<u8>, user_tag: String) -> CacheKey
-        ensures { result ≡ record { primary = primary.items; primary_override = None; variance = None; user_tag = string_bytes user_tag; unusable = None } }
+        ensures { result
+            ≡ record {
+              primary = primary.items;
+              primary_override = None;
+              variance = None;
+              user_tag = string_bytes user_tag;
+              unusable = None;
+            } }
     {
         let own_hash = hash_key(primary.as_slice());
         CacheKey {

@@ -141,7 +141,9 @@ impl<'a> Value<'a> {
 // Adds a name and its value to the message that is hashed.
 #[tactic(auto, unfolding(crate::specs::Variance::spelled))]
 fn absorb(hasher: &mut Hasher, name: &[u8], value: &[u8])
-    ensures { (m : List ℕ) → Holds hasher.old m → Holds hasher.new (m ++ spelled (name.now, value.now)) }
+    ensures { (m : List ℕ)
+        → Holds hasher.old m
+        → Holds hasher.new (m ++ spelled (name.now, value.now)) }
 {
     hasher.update(name);
     hasher.update(&[0]);

@@ -50,8 +50,8 @@ pub extern "C" fn pcache_cache_new(
     watermark: usize,
     age_timeout_millis: u64,
 ) -> u32
-    ensures { OnGood (hash_at seed.now) result (IsSame cache.old cache.new) (λ s.
-        MakesCache limit (watermark_at watermark) (age_timeout_millis * 1000000) cache.old cache.new result) }
+    ensures { OnGood (hash_at seed.now) result (IsSame cache.old cache.new) (λ s. MakesCache limit
+        (watermark_at watermark) (age_timeout_millis * 1000000) cache.old cache.new result) }
 {
     let Some(seed) = seed_of(seed) else {
         return BAD_VALUE;
@@ -81,7 +81,8 @@ fn totals(served: &Served, out: &mut PcacheCacheCounts) -> u32
 }
 
 fn totals_of(object: &Object, out: &mut PcacheCacheCounts) -> u32
-    ensures { OnKind (as_cache object.now) result (out.new ≡ out.old) (λ s. (result ≡ 0) × SaysCounts s.cache out.new) }
+    ensures { OnKind (as_cache object.now) result (out.new ≡ out.old) (λ s.
+        (result ≡ 0) × SaysCounts s.cache out.new) }
 {
     match object {
         Object::Cache(served) => totals(served, out),
@@ -96,7 +97,8 @@ pub extern "C" fn pcache_cache_totals(
     cache: &mut PcacheHandle,
     out: &mut PcacheCacheCounts,
 ) -> u32
-    ensures says { AsksOf as_cache cache.old result (out.new ≡ out.old) (λ s. (result ≡ 0) × SaysCounts s.cache out.new) }
+    ensures says { AsksOf as_cache cache.old result (out.new ≡ out.old) (λ s.
+        (result ≡ 0) × SaysCounts s.cache out.new) }
     ensures same { IsSame cache.old cache.new }
 {
     let Some(object) = cache.take(alloc) else {
@@ -110,7 +112,8 @@ pub extern "C" fn pcache_cache_totals(
 fn key_from(alloc: Global, key: &[u8], tag: &[u8]) -> Result<CacheKey, u32>
     ensures key { IfOk result (λ k. k ≡ key_with key.now tag.now) }
     ensures text { OnOk result (IsUtf8 tag.now) }
-    ensures refused { IfErr result (λ k. ((k ≡ bad_value) × (¬ IsUtf8 tag.now)) ⊎ ((k ≡ no_memory) × IsUtf8 tag.now)) }
+    ensures refused { IfErr result (λ k.
+        ((k ≡ bad_value) × (¬ IsUtf8 tag.now)) ⊎ ((k ≡ no_memory) × IsUtf8 tag.now)) }
 {
     let Ok(tag) = std::str::from_utf8(tag) else {
         return Err(BAD_VALUE);
@@ -134,8 +137,8 @@ pub extern "C" fn pcache_request_new(
     tag: &[u8],
     request: &mut u64,
 ) -> u32
-    ensures opens { OnText tag.now result (IsSame cache.old cache.new)
-        (OnHandle cache.old cache.new result (λ a b. Opens (key_with key.now tag.now) a b request.new result)) }
+    ensures opens { OnText tag.now result (IsSame cache.old cache.new) (OnHandle cache.old cache.new
+        result (λ a b. Opens (key_with key.now tag.now) a b request.new result)) }
 {
     let key = match key_from(alloc, key, tag) {
         Ok(key) => key,
@@ -170,7 +173,8 @@ pub extern "C" fn pcache_request_phase(
     request: u64,
     phase: &mut u32,
 ) -> u32
-    ensures { OnRequest request cache.old cache.new result (λ c d o p. SaysPhase c d o p phase.new result) }
+    ensures { OnRequest request cache.old cache.new result (λ c d o p.
+        SaysPhase c d o p phase.new result) }
 {
     let Some(mut object) = cache.take(alloc) else {
         return BAD_HANDLE;
@@ -188,7 +192,8 @@ pub extern "C" fn pcache_request_held(
     request: u64,
     held: &mut u32,
 ) -> u32
-    ensures { OnRequest request cache.old cache.new result (λ c d o p. SaysHeld c d o p held.new result) }
+    ensures { OnRequest request cache.old cache.new result (λ c d o p.
+        SaysHeld c d o p held.new result) }
 {
     let Some(mut object) = cache.take(alloc) else {
         return BAD_HANDLE;
@@ -206,7 +211,8 @@ pub extern "C" fn pcache_request_meta(
     request: u64,
     meta: &mut PcacheHandle,
 ) -> u32
-    ensures { OnRequest request cache.old cache.new result (λ c d o p. IsUnchanged c d o p × CopiesMeta (meta_shown o) meta.old meta.new result) }
+    ensures { OnRequest request cache.old cache.new result (λ c d o p.
+        IsUnchanged c d o p × CopiesMeta (meta_shown o) meta.old meta.new result) }
 {
     let Some(mut object) = cache.take(alloc) else {
         return BAD_HANDLE;
@@ -221,8 +227,8 @@ pub extern "C" fn pcache_request_meta(
 
 // The same with the meta itself.
 fn set_meta_to(alloc: Global, cache: &mut PcacheHandle, request: u64, object: &Object) -> u32
-    ensures { OnKind (as_meta object.now) result (IsSame cache.old cache.new) (λ m. OnRequest request cache.old cache.new result (λ c d o p.
-        (d ≡ c) × SetsMeta m o p result)) }
+    ensures { OnKind (as_meta object.now) result (IsSame cache.old cache.new) (λ m.
+        OnRequest request cache.old cache.new result (λ c d o p. (d ≡ c) × SetsMeta m o p result)) }
 {
     let Object::Meta(meta) = object else {
         return WRONG_KIND;
@@ -257,8 +263,8 @@ pub extern "C" fn pcache_request_set_meta(
 
 // The same with the meta itself.
 fn renew_to(alloc: Global, cache: &mut PcacheHandle, request: u64, object: &Object) -> u32
-    ensures { OnKind (as_meta object.now) result (IsSame cache.old cache.new) (λ m. OnRequest request cache.old cache.new result (λ c d o p.
-        Renews m c d o p result)) }
+    ensures { OnKind (as_meta object.now) result (IsSame cache.old cache.new) (λ m.
+        OnRequest request cache.old cache.new result (λ c d o p. Renews m c d o p result)) }
 {
     let Object::Meta(meta) = object else {
         return WRONG_KIND;

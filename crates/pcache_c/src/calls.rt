@@ -26,8 +26,9 @@ pub extern "C" fn pcache_request_look(
     now_nanos: u32,
     found: &mut u32,
 ) -> u32
-    ensures { OnGood (moment_at now_secs now_nanos) result (IsSame cache.old cache.new) (λ now.
-        OnRequest request cache.old cache.new result (λ c d o p. Looks now c d o p found.new result)) }
+    ensures { OnGood (moment_at now_secs now_nanos) result (IsSame cache.old cache.new)
+        (λ now. OnRequest request cache.old cache.new result (λ c d o p.
+        Looks now c d o p found.new result)) }
 {
     let Some(now) = moment_of(now_secs, now_nanos) else {
         return BAD_VALUE;
@@ -50,9 +51,11 @@ pub extern "C" fn pcache_request_take(
     now_secs: u64,
     now_nanos: u32,
 ) -> u32
-    ensures { OnGood (moment_at now_secs now_nanos) result (IsSame cache.old cache.new) (λ now.
-        (s : Option HitStatus) × IsNumber status_number 7 status s × OnGood s result (IsSame cache.old cache.new) (λ worth.
-        OnRequest request cache.old cache.new result (λ c d o p. Takes worth now c d o p result))) }
+    ensures { OnGood (moment_at now_secs now_nanos) result (IsSame cache.old cache.new)
+        (λ now. (s : Option HitStatus)
+        × IsNumber status_number 7 status s
+        × OnGood s result (IsSame cache.old cache.new) (λ worth. OnRequest request cache.old
+        cache.new result (λ c d o p. Takes worth now c d o p result))) }
 {
     let Some(now) = moment_of(now_secs, now_nanos) else {
         return BAD_VALUE;
@@ -84,7 +87,8 @@ pub extern "C" fn pcache_request_pass(alloc: Global, cache: &mut PcacheHandle, r
 /// Goes on as a miss.
 #[unsafe(no_mangle)]
 pub extern "C" fn pcache_request_miss(alloc: Global, cache: &mut PcacheHandle, request: u64) -> u32
-    ensures { OnRequest request cache.old cache.new result (λ c d o p. (d ≡ c) × Misses o p result) }
+    ensures { OnRequest request cache.old cache.new result (λ c d o p.
+        (d ≡ c) × Misses o p result) }
 {
     let Some(mut object) = cache.take(alloc) else {
         return BAD_HANDLE;
@@ -139,7 +143,8 @@ pub extern "C" fn pcache_request_write(
     bytes: &[u8],
     eof: u32,
 ) -> u32
-    ensures { OnRequest request cache.old cache.new result (λ c d o p. Adds bytes.now (is_flag eof) c d o p result) }
+    ensures { OnRequest request cache.old cache.new result (λ c d o p.
+        Adds bytes.now (is_flag eof) c d o p result) }
 {
     let Some(mut object) = cache.take(alloc) else {
         return BAD_HANDLE;
@@ -159,7 +164,8 @@ pub extern "C" fn pcache_request_finish(
     stored: &mut usize,
     evicted: &mut usize,
 ) -> u32
-    ensures { OnRequest request cache.old cache.new result (λ c d o p. Finishes stored.new evicted.new c d o p result) }
+    ensures { OnRequest request cache.old cache.new result (λ c d o p.
+        Finishes stored.new evicted.new c d o p result) }
 {
     let Some(mut object) = cache.take(alloc) else {
         return BAD_HANDLE;
@@ -180,8 +186,9 @@ pub extern "C" fn pcache_request_read(
     len: &mut usize,
     more: &mut u32,
 ) -> u32
-    ensures { OnGood (nonempty out.old) result (IsSame cache.old cache.new × (out.new ≡ out.old)) (λ room.
-        OnRequest request cache.old cache.new result (λ c d o p. Reads room out.new len.new more.new c d o p result)) }
+    ensures { OnGood (nonempty out.old) result (IsSame cache.old cache.new × (out.new ≡ out.old))
+        (λ room. OnRequest request cache.old cache.new result (λ c d o p.
+        Reads room out.new len.new more.new c d o p result)) }
 {
     if out.is_empty() {
         return BAD_VALUE;
@@ -222,8 +229,9 @@ pub extern "C" fn pcache_request_wait(
     now_nanos: u32,
     outcome: &mut u32,
 ) -> u32
-    ensures { OnGood (moment_at now_secs now_nanos) result (IsSame cache.old cache.new) (λ now.
-        OnRequest request cache.old cache.new result (λ c d o p. Waits now outcome.new c d o p result)) }
+    ensures { OnGood (moment_at now_secs now_nanos) result (IsSame cache.old cache.new)
+        (λ now. OnRequest request cache.old cache.new result (λ c d o p.
+        Waits now outcome.new c d o p result)) }
 {
     let Some(now) = moment_of(now_secs, now_nanos) else {
         return BAD_VALUE;
@@ -244,7 +252,9 @@ pub extern "C" fn pcache_request_release(
     request: u64,
     reason: u32,
 ) -> u32
-    ensures { (r : Option NoCacheReason) × IsNumber reason_number 13 reason r × OnGood r result (IsSame cache.old cache.new) (λ why.
+    ensures { (r : Option NoCacheReason)
+        × IsNumber reason_number 13 reason r
+        × OnGood r result (IsSame cache.old cache.new) (λ why.
         OnRequest request cache.old cache.new result (λ c d o p. Releases why c d o p result)) }
 {
     let Some(reason) = requests::reason_of(reason) else {
@@ -266,7 +276,9 @@ pub extern "C" fn pcache_request_disable(
     request: u64,
     reason: u32,
 ) -> u32
-    ensures { (r : Option NoCacheReason) × IsNumber reason_number 13 reason r × OnGood r result (IsSame cache.old cache.new) (λ why.
+    ensures { (r : Option NoCacheReason)
+        × IsNumber reason_number 13 reason r
+        × OnGood r result (IsSame cache.old cache.new) (λ why.
         OnRequest request cache.old cache.new result (λ c d o p. TurnsOff why c d o p result)) }
 {
     let Some(reason) = requests::reason_of(reason) else {
@@ -289,7 +301,8 @@ pub extern "C" fn pcache_request_purge(
     request: u64,
     was: &mut u32,
 ) -> u32
-    ensures { OnRequest request cache.old cache.new result (λ c d o p. Purges was.new c d o p result) }
+    ensures { OnRequest request cache.old cache.new result (λ c d o p.
+        Purges was.new c d o p result) }
 {
     let Some(mut object) = cache.take(alloc) else {
         return BAD_HANDLE;
@@ -309,8 +322,9 @@ pub extern "C" fn pcache_request_expire(
     now_nanos: u32,
     was: &mut u32,
 ) -> u32
-    ensures { OnGood (moment_at now_secs now_nanos) result (IsSame cache.old cache.new) (λ now.
-        OnRequest request cache.old cache.new result (λ c d o p. Expires now was.new c d o p result)) }
+    ensures { OnGood (moment_at now_secs now_nanos) result (IsSame cache.old cache.new)
+        (λ now. OnRequest request cache.old cache.new result (λ c d o p.
+        Expires now was.new c d o p result)) }
 {
     let Some(now) = moment_of(now_secs, now_nanos) else {
         return BAD_VALUE;

@@ -61,7 +61,8 @@ pub(crate) fn put(bytes: &[u8], out: &mut [u8])
 /// The hash of bytes, to a buffer of 16: BLAKE2b with 16 bytes out (RFC 7693).
 #[unsafe(no_mangle)]
 pub extern "C" fn pcache_hash_key(key: &[u8], out: &mut [u8]) -> u32
-    ensures { OnGood (hash_at out.old) result (out.new ≡ out.old) (λ room. MakesHash key.now out.new result) }
+    ensures { OnGood (hash_at out.old) result (out.new ≡ out.old) (λ room.
+        MakesHash key.now out.new result) }
 {
     if out.len() != 16 {
         return BAD_VALUE;
@@ -79,8 +80,10 @@ pub extern "C" fn pcache_combined_hash(
     variance: &[u8],
     out: &mut [u8],
 ) -> u32
-    ensures { OnGood (hash_at primary.now) result (out.new ≡ out.old) (λ p. OnGood (variance_at variance.now) result (out.new ≡ out.old) (λ v.
-        OnGood (hash_at out.old) result (out.new ≡ out.old) (λ room. MakesCombined p v out.new result))) }
+    ensures { OnGood (hash_at primary.now) result (out.new ≡ out.old) (λ p. OnGood
+        (variance_at variance.now) result (out.new ≡ out.old)
+        (λ v. OnGood (hash_at out.old) result (out.new ≡ out.old) (λ room.
+        MakesCombined p v out.new result))) }
 {
     let Some(primary) = hash_from(primary) else {
         return BAD_VALUE;
@@ -129,7 +132,8 @@ fn add_to(alloc: Global, builder: &mut VarianceBuilder<'static>, name: &[u8], va
 }
 
 fn add(alloc: Global, object: &mut Object, name: &[u8], value: &[u8]) -> u32
-    ensures { Turns as_variance object.old object.new result (λ v w. AddsTo name.now value.now v w result) }
+    ensures { Turns as_variance object.old object.new result (λ v w.
+        AddsTo name.now value.now v w result) }
 {
     match object {
         Object::Variance(builder) => add_to(alloc, builder, name, value),
@@ -146,7 +150,8 @@ pub extern "C" fn pcache_variance_add(
     name: &[u8],
     value: &[u8],
 ) -> u32
-    ensures { ChangesOf as_variance handle.old handle.new result (λ v w. AddsTo name.now value.now v w result) }
+    ensures { ChangesOf as_variance handle.old handle.new result (λ v w.
+        AddsTo name.now value.now v w result) }
 {
     let Some(mut object) = handle.take(alloc) else {
         return BAD_HANDLE;
@@ -177,7 +182,8 @@ pub extern "C" fn pcache_variance_finish(
     handle: &mut PcacheHandle,
     out: &mut [u8],
 ) -> u32
-    ensures { OnGood (hash_at out.old) result ((out.new ≡ out.old) × IsSame handle.old handle.new) (λ room.
+    ensures { OnGood (hash_at out.old) result ((out.new ≡ out.old) × IsSame handle.old handle.new)
+        (λ room.
         EndsVariance (object_of handle.old) (object_of handle.new) out.old out.new result) }
 {
     if out.len() != 16 {

@@ -56,7 +56,8 @@ fn add_field(alloc: Global, head: &mut ResponseHeader, name: &[u8], value: &[u8]
 }
 
 fn add(alloc: Global, object: &mut Object, name: &[u8], value: &[u8]) -> u32
-    ensures { Turns as_head object.old object.new result (λ h k. AddsField name.now value.now h k result) }
+    ensures { Turns as_head object.old object.new result (λ h k.
+        AddsField name.now value.now h k result) }
 {
     match object {
         Object::Head(head) => add_field(alloc, head, name, value),
@@ -72,7 +73,8 @@ pub extern "C" fn pcache_head_add(
     name: &[u8],
     value: &[u8],
 ) -> u32
-    ensures { ChangesOf as_head handle.old handle.new result (λ h k. AddsField name.now value.now h k result) }
+    ensures { ChangesOf as_head handle.old handle.new result (λ h k.
+        AddsField name.now value.now h k result) }
 {
     let Some(mut object) = handle.take(alloc) else {
         return BAD_HANDLE;
@@ -93,7 +95,8 @@ fn read_control(alloc: Global, head: &ResponseHeader, control: &mut PcacheHandle
 }
 
 fn read(alloc: Global, object: &Object, control: &mut PcacheHandle) -> u32
-    ensures { OnKind (as_head object.now) result (IsSame control.old control.new) (λ h. ReadsControl h control.old control.new result) }
+    ensures { OnKind (as_head object.now) result (IsSame control.old control.new) (λ h.
+        ReadsControl h control.old control.new result) }
 {
     match object {
         Object::Head(head) => read_control(alloc, head, control),
@@ -108,7 +111,8 @@ pub extern "C" fn pcache_control_read(
     control: &mut PcacheHandle,
     head: &mut PcacheHandle,
 ) -> u32
-    ensures reads { AsksOf as_head head.old result (IsSame control.old control.new) (λ h. ReadsControl h control.old control.new result) }
+    ensures reads { AsksOf as_head head.old result (IsSame control.old control.new) (λ h.
+        ReadsControl h control.old control.new result) }
     ensures head { IsSame head.old head.new }
 {
     let Some(object) = head.take(alloc) else {
@@ -173,7 +177,8 @@ fn answer(control: &CacheControl, out: &mut PcacheAnswers) -> u32
 }
 
 fn answers(object: &Object, out: &mut PcacheAnswers) -> u32
-    ensures { OnKind (as_control object.now) result (out.new ≡ out.old) (λ c. (result ≡ 0) × SaysControl c out.new) }
+    ensures { OnKind (as_control object.now) result (out.new ≡ out.old) (λ c.
+        (result ≡ 0) × SaysControl c out.new) }
 {
     match object {
         Object::Control(control) => answer(control, out),
@@ -188,7 +193,8 @@ pub extern "C" fn pcache_control_answers(
     control: &mut PcacheHandle,
     out: &mut PcacheAnswers,
 ) -> u32
-    ensures says { AsksOf as_control control.old result (out.new ≡ out.old) (λ c. (result ≡ 0) × SaysControl c out.new) }
+    ensures says { AsksOf as_control control.old result (out.new ≡ out.old) (λ c.
+        (result ≡ 0) × SaysControl c out.new) }
     ensures same { IsSame control.old control.new }
 {
     let Some(object) = control.take(alloc) else {
@@ -214,10 +220,13 @@ fn decide(
     defaults: &CacheMetaDefaults,
     now: Moment,
 ) -> RespCacheable
-    requires none { (status : ℕ) (lifetime : Option Duration) → FreshDurationByStatusFn.post defaults.now.fresh_sec_fn status lifetime → lifetime ≡ None }
+    requires none { (status : ℕ) (lifetime : Option Duration)
+        → FreshDurationByStatusFn.post defaults.now.fresh_sec_fn status lifetime
+        → lifetime ≡ None }
     requires revalidating { defaults.now.stale_while_revalidate_sec ≡ windows.0 }
     requires failing { defaults.now.stale_if_error_sec ≡ windows.1 }
-    ensures { IsDecision now (option_copied control.entry) windows head authorized (λ lifetime. lifetime ≡ None) result }
+    ensures { IsDecision now (option_copied control.entry) windows head authorized
+        (λ lifetime. lifetime ≡ None) result }
 {
     resp_cacheable(control, head, authorized, defaults, now)
 }
@@ -256,7 +265,8 @@ fn decide_on(
     now: Moment,
     meta: &mut PcacheHandle,
 ) -> u32
-    ensures { OnKind (as_head object.now) result (IsSame meta.old meta.new) (λ h. Decides now authorized windows h meta.old meta.new result) }
+    ensures { OnKind (as_head object.now) result (IsSame meta.old meta.new) (λ h.
+        Decides now authorized windows h meta.old meta.new result) }
 {
     match object {
         Object::Head(head) => fill_meta(alloc, head, authorized, windows, now, meta),
@@ -279,9 +289,10 @@ pub extern "C" fn pcache_resp_cacheable(
     now_secs: u64,
     now_nanos: u32,
 ) -> u32
-    ensures decides { OnGood (moment_at now_secs now_nanos) result (IsSame meta.old meta.new) (λ now.
-        AsksOf as_head head.old result (IsSame meta.old meta.new) (λ h.
-        Decides now (is_flag authorization) (stale_while_revalidate_secs, stale_if_error_secs) h meta.old meta.new result)) }
+    ensures decides { OnGood (moment_at now_secs now_nanos) result (IsSame meta.old meta.new)
+        (λ now. AsksOf as_head head.old result (IsSame meta.old meta.new) (λ h. Decides now
+        (is_flag authorization) (stale_while_revalidate_secs, stale_if_error_secs) h meta.old
+        meta.new result)) }
     ensures head { IsSame head.old head.new }
 {
     let Some(now) = moment_of(now_secs, now_nanos) else {

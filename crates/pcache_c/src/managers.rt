@@ -43,7 +43,8 @@ impl<M: EvictionManager> Managed<M> {
 
     // Admits, unless evicted entries wait.
     fn admit(&mut self, item: CacheEntryKey, weight: usize, fresh_until: Moment) -> u32
-        ensures { Admits item weight (managing M.tracked M.limits M.evicted self.old) (managing M.tracked M.limits M.evicted self.new) result }
+        ensures { Admits item weight (managing M.tracked M.limits M.evicted self.old)
+            (managing M.tracked M.limits M.evicted self.new) result }
     {
         if !self.waiting.is_empty() {
             return WRONG_CALL;
@@ -59,7 +60,8 @@ impl<M: EvictionManager> Managed<M> {
 
     // Adds to a weight, unless evicted entries wait.
     fn increment(&mut self, item: &CacheEntryKey, delta: usize, most: Option<usize>) -> u32
-        ensures { Increments item.now delta most (managing M.tracked M.limits M.evicted self.old) (managing M.tracked M.limits M.evicted self.new) result }
+        ensures { Increments item.now delta most (managing M.tracked M.limits M.evicted self.old)
+            (managing M.tracked M.limits M.evicted self.new) result }
     {
         if !self.waiting.is_empty() {
             return WRONG_CALL;
@@ -81,7 +83,8 @@ impl<M: EvictionManager> Managed<M> {
         fresh_until: Moment,
         was: &mut u32,
     ) -> u32
-        ensures { Accesses item.now weight (managing M.tracked M.limits M.evicted self.old) (managing M.tracked M.limits M.evicted self.new) was.new result }
+        ensures { Accesses item.now weight (managing M.tracked M.limits M.evicted self.old)
+            (managing M.tracked M.limits M.evicted self.new) was.new result }
     {
         match self.manager.access(item, weight, fresh_until) {
             Ok(found) => {
@@ -94,7 +97,8 @@ impl<M: EvictionManager> Managed<M> {
 
     // Removes an entry.
     fn remove(&mut self, item: &CacheEntryKey) -> u32
-        ensures { Removes item.now (managing M.tracked M.limits M.evicted self.old) (managing M.tracked M.limits M.evicted self.new) result }
+        ensures { Removes item.now (managing M.tracked M.limits M.evicted self.old)
+            (managing M.tracked M.limits M.evicted self.new) result }
     {
         self.manager.remove(item);
         OK
@@ -124,8 +128,9 @@ impl<M: EvictionManager> Managed<M> {
     fn next(&mut self, primary: &mut [u8], variance: &mut [u8], out: &mut PcacheEntry) -> u32
         requires primary { length primary.old ≡ 16 }
         requires variance { length variance.old ≡ 16 }
-        ensures { HandsFirst (managing M.tracked M.limits M.evicted self.old) (managing M.tracked M.limits M.evicted self.new)
-            primary.new variance.new variance.old out.new result }
+        ensures { HandsFirst (managing M.tracked M.limits M.evicted self.old)
+            (managing M.tracked M.limits M.evicted self.new) primary.new variance.new variance.old
+            out.new result }
     {
         let Some(entry) = self.waiting.pop_front() else {
             return NONE;
@@ -215,7 +220,8 @@ pub extern "C" fn pcache_simple_lru_new(
     limit: usize,
     watermark: usize,
 ) -> u32
-    ensures { OnGood (hash_at seed.now) result (IsSame handle.old handle.new) (λ s. MakesList limit (watermark_at watermark) handle.old handle.new result) }
+    ensures { OnGood (hash_at seed.now) result (IsSame handle.old handle.new) (λ s.
+        MakesList limit (watermark_at watermark) handle.old handle.new result) }
 {
     let Some(seed) = seed_of(seed) else {
         return BAD_VALUE;
@@ -235,7 +241,8 @@ pub extern "C" fn pcache_sharded_lru_new(
     limit: usize,
     watermark: usize,
 ) -> u32
-    ensures { OnGood (hash_at seed.now) result (IsSame handle.old handle.new) (λ s. MakesShards limit (watermark_at watermark) handle.old handle.new result) }
+    ensures { OnGood (hash_at seed.now) result (IsSame handle.old handle.new) (λ s.
+        MakesShards limit (watermark_at watermark) handle.old handle.new result) }
 {
     let Some(seed) = seed_of(seed) else {
         return BAD_VALUE;
@@ -273,9 +280,12 @@ pub extern "C" fn pcache_manager_admit(
     fresh_until_secs: u64,
     fresh_until_nanos: u32,
 ) -> u32
-    ensures { OnGood (moment_at fresh_until_secs fresh_until_nanos) result (IsSame manager.old manager.new) (λ until.
-        OnEntry primary.now variance.now tag.now entry.now result (IsSame manager.old manager.new) (λ item.
-        ChangesOf as_manager manager.old manager.new result (λ m n. Admits item weight m n result))) }
+    ensures { OnGood (moment_at fresh_until_secs fresh_until_nanos) result
+        (IsSame manager.old manager.new)
+        (λ until. OnEntry primary.now variance.now tag.now entry.now result
+        (IsSame manager.old manager.new)
+        (λ item. ChangesOf as_manager manager.old manager.new result (λ m n.
+        Admits item weight m n result))) }
 {
     let Some(fresh_until) = moment_of(fresh_until_secs, fresh_until_nanos) else {
         return BAD_VALUE;
@@ -293,7 +303,8 @@ pub extern "C" fn pcache_manager_admit(
 }
 
 fn increment(object: &mut Object, item: &CacheEntryKey, delta: usize, most: Option<usize>) -> u32
-    ensures { Turns as_manager object.old object.new result (λ m n. Increments item.now delta most m n result) }
+    ensures { Turns as_manager object.old object.new result (λ m n.
+        Increments item.now delta most m n result) }
 {
     match object {
         Object::Simple(managed) => managed.increment(item, delta, most),
@@ -315,8 +326,10 @@ pub extern "C" fn pcache_manager_increment(
     delta: usize,
     most: usize,
 ) -> u32
-    ensures { OnEntry primary.now variance.now tag.now entry.now result (IsSame manager.old manager.new) (λ item.
-        ChangesOf as_manager manager.old manager.new result (λ m n. Increments item delta (watermark_at most) m n result)) }
+    ensures { OnEntry primary.now variance.now tag.now entry.now result
+        (IsSame manager.old manager.new)
+        (λ item. ChangesOf as_manager manager.old manager.new result (λ m n.
+        Increments item delta (watermark_at most) m n result)) }
 {
     let item = match entry_from(alloc, primary, variance, tag, entry) {
         Ok(item) => item,
@@ -337,7 +350,8 @@ fn access(
     fresh_until: Moment,
     was: &mut u32,
 ) -> u32
-    ensures { Turns as_manager object.old object.new result (λ m n. Accesses item.now weight m n was.new result) }
+    ensures { Turns as_manager object.old object.new result (λ m n.
+        Accesses item.now weight m n was.new result) }
 {
     match object {
         Object::Simple(managed) => managed.access(item, weight, fresh_until, was),
@@ -361,9 +375,12 @@ pub extern "C" fn pcache_manager_access(
     fresh_until_nanos: u32,
     was: &mut u32,
 ) -> u32
-    ensures { OnGood (moment_at fresh_until_secs fresh_until_nanos) result (IsSame manager.old manager.new) (λ until.
-        OnEntry primary.now variance.now tag.now entry.now result (IsSame manager.old manager.new) (λ item.
-        ChangesOf as_manager manager.old manager.new result (λ m n. Accesses item weight m n was.new result))) }
+    ensures { OnGood (moment_at fresh_until_secs fresh_until_nanos) result
+        (IsSame manager.old manager.new)
+        (λ until. OnEntry primary.now variance.now tag.now entry.now result
+        (IsSame manager.old manager.new)
+        (λ item. ChangesOf as_manager manager.old manager.new result (λ m n.
+        Accesses item weight m n was.new result))) }
 {
     let Some(fresh_until) = moment_of(fresh_until_secs, fresh_until_nanos) else {
         return BAD_VALUE;
@@ -400,7 +417,9 @@ pub extern "C" fn pcache_manager_remove(
     tag: &[u8],
     entry: &PcacheEntry,
 ) -> u32
-    ensures { OnEntry primary.now variance.now tag.now entry.now result (IsSame manager.old manager.new) (λ item.
+    ensures { OnEntry primary.now variance.now tag.now entry.now result
+        (IsSame manager.old manager.new)
+        (λ item.
         ChangesOf as_manager manager.old manager.new result (λ m n. Removes item m n result)) }
 {
     let item = match entry_from(alloc, primary, variance, tag, entry) {
@@ -436,8 +455,9 @@ pub extern "C" fn pcache_manager_peek(
     entry: &PcacheEntry,
     was: &mut u32,
 ) -> u32
-    ensures says { OnEntry primary.now variance.now tag.now entry.now result (IsSame manager.old manager.new) (λ item.
-        AsksOf as_manager manager.old result ⊤ (λ m. Peeks item m was.new result)) }
+    ensures says { OnEntry primary.now variance.now tag.now entry.now result
+        (IsSame manager.old manager.new)
+        (λ item. AsksOf as_manager manager.old result ⊤ (λ m. Peeks item m was.new result)) }
     ensures same { IsSame manager.old manager.new }
 {
     let item = match entry_from(alloc, primary, variance, tag, entry) {
@@ -453,7 +473,8 @@ pub extern "C" fn pcache_manager_peek(
 }
 
 fn totals(object: &Object, out: &mut PcacheTotals) -> u32
-    ensures { OnKind (as_manager object.now) result (out.new ≡ out.old) (λ m. (result ≡ 0) × SaysTotals m out.new) }
+    ensures { OnKind (as_manager object.now) result (out.new ≡ out.old) (λ m.
+        (result ≡ 0) × SaysTotals m out.new) }
 {
     match object {
         Object::Simple(managed) => managed.totals(out),
@@ -469,7 +490,8 @@ pub extern "C" fn pcache_manager_totals(
     manager: &mut PcacheHandle,
     out: &mut PcacheTotals,
 ) -> u32
-    ensures says { AsksOf as_manager manager.old result (out.new ≡ out.old) (λ m. (result ≡ 0) × SaysTotals m out.new) }
+    ensures says { AsksOf as_manager manager.old result (out.new ≡ out.old) (λ m.
+        (result ≡ 0) × SaysTotals m out.new) }
     ensures same { IsSame manager.old manager.new }
 {
     let Some(object) = manager.take(alloc) else {
@@ -503,8 +525,9 @@ pub extern "C" fn pcache_manager_next(
     variance: &mut [u8],
     out: &mut PcacheEntry,
 ) -> u32
-    ensures { OnGood (hashes_at primary.old variance.old) result (IsSame manager.old manager.new) (λ room.
-        ChangesOf as_manager manager.old manager.new result (λ m n. HandsFirst m n primary.new variance.new variance.old out.new result)) }
+    ensures { OnGood (hashes_at primary.old variance.old) result (IsSame manager.old manager.new)
+        (λ room. ChangesOf as_manager manager.old manager.new result (λ m n.
+        HandsFirst m n primary.new variance.new variance.old out.new result)) }
 {
     if primary.len() != 16 || variance.len() != 16 {
         return BAD_VALUE;
@@ -518,7 +541,8 @@ pub extern "C" fn pcache_manager_next(
 }
 
 fn tag(object: &Object, out: &mut [u8]) -> u32
-    ensures { OnKind (as_manager object.now) result (out.new ≡ out.old) (λ m. WritesTag m.shown out.old out.new result) }
+    ensures { OnKind (as_manager object.now) result (out.new ≡ out.old) (λ m.
+        WritesTag m.shown out.old out.new result) }
 {
     match object {
         Object::Simple(managed) => managed.tag(out),
@@ -534,7 +558,8 @@ pub extern "C" fn pcache_manager_tag(
     manager: &mut PcacheHandle,
     out: &mut [u8],
 ) -> u32
-    ensures writes { AsksOf as_manager manager.old result (out.new ≡ out.old) (λ m. WritesTag m.shown out.old out.new result) }
+    ensures writes { AsksOf as_manager manager.old result (out.new ≡ out.old) (λ m.
+        WritesTag m.shown out.old out.new result) }
     ensures same { IsSame manager.old manager.new }
 {
     let Some(object) = manager.take(alloc) else {
@@ -547,7 +572,8 @@ pub extern "C" fn pcache_manager_tag(
 
 // The file of a list of one list, or of a shard of 16.
 fn bytes_of(alloc: Global, object: &Object, shard: usize) -> Result<Vec<u8>, u32>
-    ensures { OnKind (list_saved object.now shard) (code_in result) ⊤ (λ list. OnGood list (code_in result) ⊤ (λ l. IsFileOf l result)) }
+    ensures { OnKind (list_saved object.now shard) (code_in result) ⊤ (λ list.
+        OnGood list (code_in result) ⊤ (λ l. IsFileOf l result)) }
 {
     let bytes = match object {
         Object::Simple(managed) if shard == 0 => simple_files::serialize(alloc, &managed.manager),

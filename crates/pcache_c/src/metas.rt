@@ -59,8 +59,11 @@ pub struct PcacheMeta {
 }
 
 fn new_meta(alloc: Global, head: &ResponseHeader, said: &PcacheMeta, meta: &mut PcacheHandle) -> u32
-    ensures { OnGood (moment_at said.now.created.secs said.now.created.nanos) result (IsSame meta.old meta.new) (λ created.
-        OnGood (moment_at said.now.fresh_until.secs said.now.fresh_until.nanos) result (IsSame meta.old meta.new) (λ until.
+    ensures { OnGood (moment_at said.now.created.secs said.now.created.nanos) result
+        (IsSame meta.old meta.new)
+        (λ created. OnGood (moment_at said.now.fresh_until.secs said.now.fresh_until.nanos) result
+        (IsSame meta.old meta.new)
+        (λ until.
         MakesMeta (meta_said created until said.now head.now) meta.old meta.new result)) }
 {
     let Some(created) = moment_of(said.created.secs, said.created.nanos) else {
@@ -84,10 +87,11 @@ fn new_meta(alloc: Global, head: &ResponseHeader, said: &PcacheMeta, meta: &mut 
 }
 
 fn make(alloc: Global, object: &Object, said: &PcacheMeta, meta: &mut PcacheHandle) -> u32
-    ensures { OnKind (as_head object.now) result (IsSame meta.old meta.new) (λ h.
-        OnGood (moment_at said.now.created.secs said.now.created.nanos) result (IsSame meta.old meta.new) (λ created.
-        OnGood (moment_at said.now.fresh_until.secs said.now.fresh_until.nanos) result (IsSame meta.old meta.new) (λ until.
-        MakesMeta (meta_said created until said.now h) meta.old meta.new result))) }
+    ensures { OnKind (as_head object.now) result (IsSame meta.old meta.new) (λ h. OnGood
+        (moment_at said.now.created.secs said.now.created.nanos) result (IsSame meta.old meta.new)
+        (λ created. OnGood (moment_at said.now.fresh_until.secs said.now.fresh_until.nanos) result
+        (IsSame meta.old meta.new)
+        (λ until. MakesMeta (meta_said created until said.now h) meta.old meta.new result))) }
 {
     match object {
         Object::Head(head) => new_meta(alloc, head, said, meta),
@@ -103,10 +107,11 @@ pub extern "C" fn pcache_meta_new(
     head: &mut PcacheHandle,
     said: &PcacheMeta,
 ) -> u32
-    ensures makes { AsksOf as_head head.old result (IsSame meta.old meta.new) (λ h.
-        OnGood (moment_at said.now.created.secs said.now.created.nanos) result (IsSame meta.old meta.new) (λ created.
-        OnGood (moment_at said.now.fresh_until.secs said.now.fresh_until.nanos) result (IsSame meta.old meta.new) (λ until.
-        MakesMeta (meta_said created until said.now h) meta.old meta.new result))) }
+    ensures makes { AsksOf as_head head.old result (IsSame meta.old meta.new) (λ h. OnGood
+        (moment_at said.now.created.secs said.now.created.nanos) result (IsSame meta.old meta.new)
+        (λ created. OnGood (moment_at said.now.fresh_until.secs said.now.fresh_until.nanos) result
+        (IsSame meta.old meta.new)
+        (λ until. MakesMeta (meta_said created until said.now h) meta.old meta.new result))) }
     ensures head { IsSame head.old head.new }
 {
     let Some(object) = head.take(alloc) else {
@@ -146,7 +151,8 @@ fn say(meta: &CacheMeta, out: &mut PcacheMeta) -> u32
 }
 
 fn says(object: &Object, out: &mut PcacheMeta) -> u32
-    ensures { OnKind (as_meta object.now) result (out.new ≡ out.old) (λ m. (result ≡ 0) × SaysMeta m out.new) }
+    ensures { OnKind (as_meta object.now) result (out.new ≡ out.old) (λ m.
+        (result ≡ 0) × SaysMeta m out.new) }
 {
     match object {
         Object::Meta(meta) => say(meta, out),
@@ -161,7 +167,8 @@ pub extern "C" fn pcache_meta_says(
     meta: &mut PcacheHandle,
     out: &mut PcacheMeta,
 ) -> u32
-    ensures says { AsksOf as_meta meta.old result (out.new ≡ out.old) (λ m. (result ≡ 0) × SaysMeta m out.new) }
+    ensures says { AsksOf as_meta meta.old result (out.new ≡ out.old) (λ m.
+        (result ≡ 0) × SaysMeta m out.new) }
     ensures same { IsSame meta.old meta.new }
 {
     let Some(object) = meta.take(alloc) else {
@@ -195,7 +202,8 @@ fn serve(meta: &CacheMeta, now: Moment, out: &mut PcacheServable) -> u32
 }
 
 fn servable(object: &Object, now: Moment, out: &mut PcacheServable) -> u32
-    ensures { OnKind (as_meta object.now) result (out.new ≡ out.old) (λ m. (result ≡ 0) × SaysServable m now out.new) }
+    ensures { OnKind (as_meta object.now) result (out.new ≡ out.old) (λ m.
+        (result ≡ 0) × SaysServable m now out.new) }
 {
     match object {
         Object::Meta(meta) => serve(meta, now, out),
@@ -212,8 +220,9 @@ pub extern "C" fn pcache_meta_servable(
     now_nanos: u32,
     out: &mut PcacheServable,
 ) -> u32
-    ensures says { OnGood (moment_at now_secs now_nanos) result (out.new ≡ out.old) (λ now.
-        AsksOf as_meta meta.old result (out.new ≡ out.old) (λ m. (result ≡ 0) × SaysServable m now out.new)) }
+    ensures says { OnGood (moment_at now_secs now_nanos) result (out.new ≡ out.old) (λ now. AsksOf
+        as_meta meta.old result (out.new ≡ out.old)
+        (λ m. (result ≡ 0) × SaysServable m now out.new)) }
     ensures same { IsSame meta.old meta.new }
 {
     let Some(now) = moment_of(now_secs, now_nanos) else {
@@ -229,7 +238,8 @@ pub extern "C" fn pcache_meta_servable(
 
 // Writes two byte strings to two buffers, if both have room.
 fn write_both(first: &[u8], second: &[u8], internal: &mut [u8], header: &mut [u8]) -> u32
-    ensures { AreWritten first.now second.now internal.old internal.new header.old header.new result }
+    ensures { AreWritten first.now second.now internal.old internal.new header.old header.new
+        result }
 {
     if internal.len() < first.len() {
         return BAD_VALUE;
@@ -250,7 +260,8 @@ fn write_meta(
     internal_len: &mut usize,
     header_len: &mut usize,
 ) -> u32
-    ensures { SavesMeta meta.now internal.old internal.new header.old header.new internal_len.new header_len.new result }
+    ensures { SavesMeta meta.now internal.old internal.new header.old header.new internal_len.new
+        header_len.new result }
 {
     match meta.serialize(alloc) {
         Ok((first, second)) => {
@@ -270,8 +281,10 @@ fn write(
     internal_len: &mut usize,
     header_len: &mut usize,
 ) -> u32
-    ensures { OnKind (as_meta object.now) result ((internal.new ≡ internal.old) × (header.new ≡ header.old)) (λ m.
-        SavesMeta m internal.old internal.new header.old header.new internal_len.new header_len.new result) }
+    ensures { OnKind (as_meta object.now) result
+        ((internal.new ≡ internal.old) × (header.new ≡ header.old))
+        (λ m. SavesMeta m internal.old internal.new header.old header.new internal_len.new
+        header_len.new result) }
 {
     match object {
         Object::Meta(meta) => write_meta(alloc, meta, internal, header, internal_len, header_len),
@@ -290,8 +303,10 @@ pub extern "C" fn pcache_meta_write(
     internal_len: &mut usize,
     header_len: &mut usize,
 ) -> u32
-    ensures writes { AsksOf as_meta meta.old result ((internal.new ≡ internal.old) × (header.new ≡ header.old)) (λ m.
-        SavesMeta m internal.old internal.new header.old header.new internal_len.new header_len.new result) }
+    ensures writes { AsksOf as_meta meta.old result
+        ((internal.new ≡ internal.old) × (header.new ≡ header.old))
+        (λ m. SavesMeta m internal.old internal.new header.old header.new internal_len.new
+        header_len.new result) }
     ensures same { IsSame meta.old meta.new }
 {
     let Some(object) = meta.take(alloc) else {

@@ -38,7 +38,8 @@ pub(crate) fn end(object: &mut Object, number: u64) -> u32
 
 /// The number of where the request stands.
 pub(crate) fn phase(object: &mut Object, number: u64, out: &mut u32) -> u32
-    ensures { OnNumber number object.old object.new result (λ c d o p. SaysPhase c d o p out.new result) }
+    ensures { OnNumber number object.old object.new result (λ c d o p.
+        SaysPhase c d o p out.new result) }
 {
     let Object::Cache(Served { cache: _, seats }) = object else {
         return WRONG_KIND;
@@ -52,7 +53,8 @@ pub(crate) fn phase(object: &mut Object, number: u64, out: &mut u32) -> u32
 
 /// The number of what the request holds of its lock.
 pub(crate) fn held(object: &mut Object, number: u64, out: &mut u32) -> u32
-    ensures { OnNumber number object.old object.new result (λ c d o p. SaysHeld c d o p out.new result) }
+    ensures { OnNumber number object.old object.new result (λ c d o p.
+        SaysHeld c d o p out.new result) }
 {
     let Object::Cache(Served { cache: _, seats }) = object else {
         return WRONG_KIND;
@@ -66,7 +68,8 @@ pub(crate) fn held(object: &mut Object, number: u64, out: &mut u32) -> u32
 
 /// Asks the store.
 pub(crate) fn look(object: &mut Object, number: u64, now: Moment, found: &mut u32) -> u32
-    ensures { OnNumber number object.old object.new result (λ c d o p. Looks now c d o p found.new result) }
+    ensures { OnNumber number object.old object.new result (λ c d o p.
+        Looks now c d o p found.new result) }
 {
     let Object::Cache(served) = object else {
         return WRONG_KIND;
@@ -79,7 +82,8 @@ pub(crate) fn look(object: &mut Object, number: u64, now: Moment, found: &mut u3
 
 /// Takes what a look-up found.
 pub(crate) fn take(object: &mut Object, number: u64, status: HitStatus, now: Moment) -> u32
-    ensures { OnNumber number object.old object.new result (λ c d o p. Takes status now c d o p result) }
+    ensures { OnNumber number object.old object.new result (λ c d o p.
+        Takes status now c d o p result) }
 {
     let Object::Cache(served) = object else {
         return WRONG_KIND;
@@ -105,7 +109,8 @@ pub(crate) fn pass(object: &mut Object, number: u64) -> u32
 
 /// Goes on as a miss.
 pub(crate) fn miss(object: &mut Object, number: u64) -> u32
-    ensures { OnNumber number object.old object.new result (λ c d o p. (d ≡ c) × Misses o p result) }
+    ensures { OnNumber number object.old object.new result (λ c d o p.
+        (d ≡ c) × Misses o p result) }
 {
     let Object::Cache(Served { cache: _, seats }) = object else {
         return WRONG_KIND;
@@ -118,7 +123,8 @@ pub(crate) fn miss(object: &mut Object, number: u64) -> u32
 
 /// Takes a copy of a meta for what is to be stored.
 pub(crate) fn set_meta(object: &mut Object, number: u64, meta: &CacheMeta) -> u32
-    ensures { OnNumber number object.old object.new result (λ c d o p. (d ≡ c) × SetsMeta meta.now o p result) }
+    ensures { OnNumber number object.old object.new result (λ c d o p.
+        (d ≡ c) × SetsMeta meta.now o p result) }
 {
     let Object::Cache(Served { cache: _, seats }) = object else {
         return WRONG_KIND;
@@ -131,7 +137,8 @@ pub(crate) fn set_meta(object: &mut Object, number: u64, meta: &CacheMeta) -> u3
 
 /// Renews a stale body.
 pub(crate) fn renew(object: &mut Object, number: u64, meta: &CacheMeta) -> u32
-    ensures { OnNumber number object.old object.new result (λ c d o p. Renews meta.now c d o p result) }
+    ensures { OnNumber number object.old object.new result (λ c d o p.
+        Renews meta.now c d o p result) }
 {
     let Object::Cache(served) = object else {
         return WRONG_KIND;
@@ -144,7 +151,8 @@ pub(crate) fn renew(object: &mut Object, number: u64, meta: &CacheMeta) -> u32
 
 /// Sets what the response varies on.
 pub(crate) fn vary(object: &mut Object, number: u64, variance: Option<HashBinary>) -> u32
-    ensures { OnNumber number object.old object.new result (λ c d o p. Varies variance c d o p result) }
+    ensures { OnNumber number object.old object.new result (λ c d o p.
+        Varies variance c d o p result) }
 {
     let Object::Cache(served) = object else {
         return WRONG_KIND;
@@ -170,7 +178,8 @@ pub(crate) fn begin(object: &mut Object, number: u64) -> u32
 
 /// Adds bytes to the write.
 pub(crate) fn write(object: &mut Object, number: u64, alloc: Global, bytes: &[u8], eof: bool) -> u32
-    ensures { OnNumber number object.old object.new result (λ c d o p. Adds bytes.now eof c d o p result) }
+    ensures { OnNumber number object.old object.new result (λ c d o p.
+        Adds bytes.now eof c d o p result) }
 {
     let Object::Cache(served) = object else {
         return WRONG_KIND;
@@ -188,7 +197,8 @@ pub(crate) fn finish(
     stored: &mut usize,
     evicted: &mut usize,
 ) -> u32
-    ensures { OnNumber number object.old object.new result (λ c d o p. Finishes stored.new evicted.new c d o p result) }
+    ensures { OnNumber number object.old object.new result (λ c d o p.
+        Finishes stored.new evicted.new c d o p result) }
 {
     let Object::Cache(served) = object else {
         return WRONG_KIND;
@@ -207,7 +217,8 @@ pub(crate) fn read(
     len: &mut usize,
     more: &mut u32,
 ) -> u32
-    ensures { OnNumber number object.old object.new result (λ c d o p. Reads out.old out.new len.new more.new c d o p result) }
+    ensures { OnNumber number object.old object.new result (λ c d o p.
+        Reads out.old out.new len.new more.new c d o p result) }
 {
     let Object::Cache(served) = object else {
         return WRONG_KIND;
@@ -233,7 +244,8 @@ pub(crate) fn finish_hit(object: &mut Object, number: u64) -> u32
 
 /// Whether the wait is over.
 pub(crate) fn wait(object: &mut Object, number: u64, now: Moment, outcome: &mut u32) -> u32
-    ensures { OnNumber number object.old object.new result (λ c d o p. Waits now outcome.new c d o p result) }
+    ensures { OnNumber number object.old object.new result (λ c d o p.
+        Waits now outcome.new c d o p result) }
 {
     let Object::Cache(served) = object else {
         return WRONG_KIND;
@@ -246,7 +258,8 @@ pub(crate) fn wait(object: &mut Object, number: u64, now: Moment, outcome: &mut 
 
 /// Releases the permit.
 pub(crate) fn release(object: &mut Object, number: u64, reason: NoCacheReason) -> u32
-    ensures { OnNumber number object.old object.new result (λ c d o p. Releases reason c d o p result) }
+    ensures { OnNumber number object.old object.new result (λ c d o p.
+        Releases reason c d o p result) }
 {
     let Object::Cache(served) = object else {
         return WRONG_KIND;
@@ -259,7 +272,8 @@ pub(crate) fn release(object: &mut Object, number: u64, reason: NoCacheReason) -
 
 /// Turns caching off.
 pub(crate) fn disable(object: &mut Object, number: u64, reason: NoCacheReason) -> u32
-    ensures { OnNumber number object.old object.new result (λ c d o p. TurnsOff reason c d o p result) }
+    ensures { OnNumber number object.old object.new result (λ c d o p.
+        TurnsOff reason c d o p result) }
 {
     let Object::Cache(served) = object else {
         return WRONG_KIND;
@@ -272,7 +286,8 @@ pub(crate) fn disable(object: &mut Object, number: u64, reason: NoCacheReason) -
 
 /// Removes what stands under the key.
 pub(crate) fn purge(object: &mut Object, number: u64, was: &mut u32) -> u32
-    ensures { OnNumber number object.old object.new result (λ c d o p. Purges was.new c d o p result) }
+    ensures { OnNumber number object.old object.new result (λ c d o p.
+        Purges was.new c d o p result) }
 {
     let Object::Cache(served) = object else {
         return WRONG_KIND;
@@ -285,7 +300,8 @@ pub(crate) fn purge(object: &mut Object, number: u64, was: &mut u32) -> u32
 
 /// Ends the freshness of what stands under the key.
 pub(crate) fn expire(object: &mut Object, number: u64, now: Moment, was: &mut u32) -> u32
-    ensures { OnNumber number object.old object.new result (λ c d o p. Expires now was.new c d o p result) }
+    ensures { OnNumber number object.old object.new result (λ c d o p.
+        Expires now was.new c d o p result) }
 {
     let Object::Cache(served) = object else {
         return WRONG_KIND;
@@ -298,7 +314,8 @@ pub(crate) fn expire(object: &mut Object, number: u64, now: Moment, was: &mut u3
 
 /// A copy of the meta of what a look-up found, else of the request's own.
 pub(crate) fn meta_of(object: &mut Object, number: u64) -> Result<CacheMeta, u32>
-    ensures { OnNumber number object.old object.new (code_in result) (λ c d o p. IsUnchanged c d o p × CopyOf (meta_shown o) result) }
+    ensures { OnNumber number object.old object.new (code_in result) (λ c d o p.
+        IsUnchanged c d o p × CopyOf (meta_shown o) result) }
 {
     let Object::Cache(Served { cache: _, seats }) = object else {
         return Err(WRONG_KIND);

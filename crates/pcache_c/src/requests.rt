@@ -97,7 +97,7 @@ pub(crate) fn look(cache: &mut ListCache, open: &mut Open, now: Moment, found: &
     if open.found.is_some() || !open.request.cache.phase().may_look_up() {
         return WRONG_CALL;
     }
-    match cache.cache_lookup(&mut open.request, now) {
+    match cache.cache_lookup_without_policy(&mut open.request, now) {
         Ok(pair) => {
             *found = u32::from(pair.is_some());
             if let Some((_meta, hit)) = mem::replace(&mut open.found, pair) {

@@ -18,7 +18,8 @@ pub(crate) struct Seat<T> {
 
 impl<T> Seat<T> {
     fn request_mut(&mut self) -> Option<&mut T>
-        ensures* writes_back { sem 𝓛 (LendsIf (seat.the_row T.row) T.row self.entry result (λ o. record self.old { request = Some o }) self.old) }
+        ensures* writes_back { sem 𝓛 (LendsIf (seat.the_row T.row) T.row self.entry result
+            (λ o. record self.old { request = Some o }) self.old) }
         ensures value { option_map (λ r. r.now) result ≡ self.old.request }
     {
         self.request.as_mut()
@@ -57,7 +58,8 @@ impl<T> Seats<T> {
 
     /// The open request with a number.
     pub(crate) fn find(&mut self, number: u64) -> Option<&mut T>
-        ensures* writes_back { sem 𝓛 (LendsSo (seats.the_row T.row) T.row self.entry result (IsSetIf result number self.old) (AreSame self.old)) }
+        ensures* writes_back { sem 𝓛 (LendsSo (seats.the_row T.row) T.row self.entry result
+            (IsSetIf result number self.old) (AreSame self.old)) }
         ensures value { option_map (λ r. r.now) result ≡ request_at self.old number }
     {
         let place = (number % PLACES) as usize;

@@ -53,7 +53,11 @@ impl Open {
 
 /// Lets go what a look-up found.
 pub(crate) fn let_go(cache: &mut ListCache, found: Option<(CacheMeta, MemHitHandler)>)
-    ensures { cache.new ≡ record cache.old { store = left_found (option_map (λ q. (q.0, reader_of q.1)) found) cache.old.store } }
+    ensures { cache.new
+        ≡ record cache.old {
+          store = left_found (option_map (λ q. (q.0, reader_of q.1)) found)
+              cache.old.store;
+        } }
 {
     if let Some((_meta, hit)) = found {
         cache.let_go(hit);

@@ -66,7 +66,14 @@ impl<M: EvictionManager, K> Cache<M, K> {
     /// An empty cache. Permits age out after `age_timeout`. The store's tables hash under the seed, on which no result
     /// depends. The manager may track entries already, for example loaded ones.
     pub fn new(alloc: Global, seed: Seed, manager: M, age_timeout: Duration) -> Cache<M, K>
-        ensures { result ≡ record { store = record { slots = map.empty; writes = map.empty; next = 0 }; tracked = M.tracked manager; limits = M.limits manager; evicted = M.evicted manager; locks = no_locks (as_nanos age_timeout) } }
+        ensures { result
+            ≡ record {
+              store = record { slots = map.empty; writes = map.empty; next = 0 };
+              tracked = M.tracked manager;
+              limits = M.limits manager;
+              evicted = M.evicted manager;
+              locks = no_locks (as_nanos age_timeout);
+            } }
     {
         Cache {
             alloc,

@@ -49,11 +49,14 @@ impl<M: EvictionManager, K> Cache<M, K> {
         piece: &[u8],
         now: Moment,
     ) -> Result<Option<NoCacheReason>>
-        ensures step { (d : Done) × TakesPiece (C.says put.old.put.policy) put.old.put put.new.put (record { bytes = piece.now; now = now }) d
+        ensures step { (d : Done)
+            × TakesPiece (C.says put.old.put.policy) put.old.put put.new.put
+            (record { bytes = piece.now; now = now }) d
             × (self.new.store ≡ store_put put.old.put d result self.old.store) }
         ensures stands { IsStageAfter result put.new.put.stage }
         ensures again { RepeatsResult put.old.put.stage result }
-        ensures kind { IfErr result (λ e. MayFailPiece put.old.put.stage self.old.store e ⊎ (put.old.put.parser ≡ HasFailed e)) }
+        ensures kind { IfErr result (λ e.
+            MayFailPiece put.old.put.stage self.old.store e ⊎ (put.old.put.parser ≡ HasFailed e)) }
         ensures own { MayEndPut self.old.store put.old.put → MayEndPut self.new.store put.new.put }
         ensures rest { self.new ≡ record self.old { store = self.new.store } }
     {
@@ -69,7 +72,8 @@ impl<M: EvictionManager, K> Cache<M, K> {
         read: ReadPiece,
     ) -> Result<Option<NoCacheReason>>
         requires at { IsReadAt put.old.put.stage read }
-        ensures step { (d : Done) × StoresPiece (C.says put.old.put.policy) put.old.put put.new.put read d
+        ensures step { (d : Done)
+            × StoresPiece (C.says put.old.put.policy) put.old.put put.new.put read d
             × (self.new.store ≡ store_put put.old.put d result self.old.store) }
         ensures stands { IsStageAfter result put.new.put.stage }
         ensures again { RepeatsResult put.old.put.stage result }
@@ -87,11 +91,15 @@ impl<M: EvictionManager, K> Cache<M, K> {
     pub fn finish_put<C: CachePut>(&mut self, put: &mut PendingPut<C, K>) -> Result<PutOutcome>
         requires own { MayEndPut self.old.store put.old.put }
         ensures ends { EndsAs result (λ end. EndsOwnPut put.old.put end self.old self.new) }
-        ensures evicted { EndsAs result (λ end. self.new.evicted ≡ evicted_put put.old.put end self.old) }
+        ensures evicted { EndsAs result (λ end.
+            self.new.evicted ≡ evicted_put put.old.put end self.old) }
         ensures stage { EndsAs result (λ end. put.new.put.stage ≡ stage_ended end) }
-        ensures tells { (pieces : List Piece) (f : Option Filled) → HasTaken (C.says put.old.put.policy) put.old.put pieces f
-            → EndsAs result (TellsResult (IsResult (C.says put.old.put.policy) (limit_of put.old.put.size) pieces) f) }
-        ensures withdrawn { OnErr result (LeavesNone (Some put.old.put.key) (write_in put.old.put.stage) self.old.store self.new.store) }
+        ensures tells { (pieces : List Piece) (f : Option Filled)
+            → HasTaken (C.says put.old.put.policy) put.old.put pieces f
+            → EndsAs result (TellsResult
+            (IsResult (C.says put.old.put.policy) (limit_of put.old.put.size) pieces) f) }
+        ensures withdrawn { OnErr result (LeavesNone (Some put.old.put.key)
+            (write_in put.old.put.stage) self.old.store self.new.store) }
         ensures limits { self.new.limits ≡ self.old.limits }
         ensures locks { self.new.locks ≡ self.old.locks }
     {
@@ -125,7 +133,9 @@ fn store_in<C: CachePut>(
     store: &mut MemCache,
 ) -> Result<Option<NoCacheReason>>
     requires at { IsReadAt put.old.stage read }
-    ensures step { (d : Done) × StoresPiece (C.says put.old.policy) put.old put.new read d × (store.new ≡ store_put put.old d result store.old) }
+    ensures step { (d : Done)
+        × StoresPiece (C.says put.old.policy) put.old put.new read d
+        × (store.new ≡ store_put put.old d result store.old) }
     ensures stands { IsStageAfter result put.new.stage }
     ensures again { RepeatsResult put.old.stage result }
     ensures kind { IfErr result (MayFailOnceRead put.old.stage store.old read) }

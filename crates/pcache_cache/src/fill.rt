@@ -28,15 +28,34 @@ impl<M: EvictionManager, K> Cache<M, K> {
     /// `may_write` of the request.
     pub fn set_miss_handler(&mut self, request: &mut CacheRequest<K>) -> Result<()>
         requires { MayWrite request.old.cache }
-        ensures request { OnOk result (request.new.cache ≡ writing true self.old.store.next (Some self.old.store.next) (begun_for request.old.cache.key request.old.cache.meta self.old.store) request.old.cache) }
-        ensures store { OnOk result (self.new.store ≡ store_writing true self.old.store.next request.old.cache self.old.store) }
-        ensures table { OnOk result (self.new.locks ≡ settled Done request.old.cache.held self.old.locks) }
-        ensures err { IfErr result (λ e. ((request.new.cache ≡ request.old.cache) × (self.new.store ≡ self.old.store) × (self.new.locks ≡ self.old.locks) × MayFailWrite self.old.store e)
-            ⊎ ((request.new.cache ≡ record request.old.cache { write = Some self.old.store.next; entry = Some self.old.store.next; held = None }) × (self.new.store ≡ begun_for request.old.cache.key request.old.cache.meta self.old.store) × (self.new.locks ≡ settled Done request.old.cache.held self.old.locks) × (e ≡ OutOfMemory))) }
+        ensures request { OnOk result (request.new.cache
+            ≡ writing true self.old.store.next (Some self.old.store.next)
+            (begun_for request.old.cache.key request.old.cache.meta self.old.store)
+            request.old.cache) }
+        ensures store { OnOk result (self.new.store
+            ≡ store_writing true self.old.store.next request.old.cache self.old.store) }
+        ensures table { OnOk result (self.new.locks
+            ≡ settled Done request.old.cache.held self.old.locks) }
+        ensures err { IfErr result (λ e. ((request.new.cache ≡ request.old.cache)
+            × (self.new.store ≡ self.old.store)
+            × (self.new.locks ≡ self.old.locks)
+            × MayFailWrite self.old.store e)
+            ⊎ ((request.new.cache
+            ≡ record request.old.cache {
+              write = Some self.old.store.next;
+              entry = Some self.old.store.next;
+              held = None;
+            })
+            × (self.new.store
+            ≡ begun_for request.old.cache.key request.old.cache.meta self.old.store)
+            × (self.new.locks ≡ settled Done request.old.cache.held self.old.locks)
+            × (e ≡ OutOfMemory))) }
         ensures kind { IfErr result (λ e. (e ≡ OutOfMemory) ⊎ MayFailWrite self.old.store e) }
         ensures phase { request.new.cache.phase ≡ request.old.cache.phase }
-        ensures own { request.old.cache.uses.eviction ≡ true → OnOk result (MayEnd self.new.store request.new.cache) }
-        ensures rest { self.new ≡ record self.old { store = self.new.store; locks = self.new.locks } }
+        ensures own { request.old.cache.uses.eviction ≡ true
+            → OnOk result (MayEnd self.new.store request.new.cache) }
+        ensures rest { self.new
+            ≡ record self.old { store = self.new.store; locks = self.new.locks } }
     {
         // For the prover: the contract of the call says that a request which fills has a key.
         let _key = request.cache.key();
@@ -56,10 +75,13 @@ impl<M: EvictionManager, K> Cache<M, K> {
     ) -> Result<bool>
         requires { IsFilling request.old.cache.phase }
         ensures request { request.new.cache ≡ request.old.cache }
-        ensures written { IfOk result (λ b. b ≡ takes_bytes self.old.store request.old.cache.write) }
-        ensures store { OnOk result (self.new.store ≡ written_by request.old.cache.write bytes eof self.old.store) }
+        ensures written { IfOk result (λ b.
+            b ≡ takes_bytes self.old.store request.old.cache.write) }
+        ensures store { OnOk result (self.new.store
+            ≡ written_by request.old.cache.write bytes eof self.old.store) }
         ensures same { OnErr result (self.new ≡ self.old) }
-        ensures own { MayEnd self.old.store request.old.cache → MayEnd self.new.store request.new.cache }
+        ensures own { MayEnd self.old.store request.old.cache
+            → MayEnd self.new.store request.new.cache }
         ensures rest { self.new ≡ record self.old { store = self.new.store } }
         ensures kind { IfErr result (λ e. e ≡ OutOfMemory) }
     {
@@ -82,8 +104,14 @@ impl<M: EvictionManager, K> Cache<M, K> {
         requires phase { IsFilling request.old.cache.phase }
         requires own { MayEnd self.old.store request.old.cache }
         ensures request { request.new.cache ≡ after_finish request.old.cache }
-        ensures end { EndsAs result (λ end. Ends in_memory request.old.cache request.old.cache.key request.old.cache.write (finishes_of (created self.old.store) request.old.cache.write) self.old.limits end self.old.store self.new.store self.old.tracked self.new.tracked self.old.locks self.new.locks) }
-        ensures evicted { EndsAs result (λ end. self.new.evicted ≡ evicted_after request.old.cache request.old.cache.key (finishes_of (created self.old.store) request.old.cache.write) self.old.tracked self.old.evicted end) }
+        ensures end { EndsAs result (λ end. Ends in_memory request.old.cache request.old.cache.key
+            request.old.cache.write (finishes_of (created self.old.store) request.old.cache.write)
+            self.old.limits end self.old.store self.new.store self.old.tracked self.new.tracked
+            self.old.locks self.new.locks) }
+        ensures evicted { EndsAs result (λ end. self.new.evicted
+            ≡ evicted_after request.old.cache request.old.cache.key
+            (finishes_of (created self.old.store) request.old.cache.write) self.old.tracked
+            self.old.evicted end) }
         ensures limits { self.new.limits ≡ self.old.limits }
     {
         // For the prover: the contract of the call says that the entry of the write has the write's

@@ -28,13 +28,17 @@ impl<M: EvictionManager, K> Cache<M, K> {
         now: Moment,
     ) -> Result<Poll<LockWaitOutcome>>
         requires { IsSome (read_in request.old.cache.held) }
-        ensures answer { IfOk result (λ p. p ≡ wait_result self.old.locks now request.old.cache.held request.old.cache) }
-        ensures request { OnOk result (request.new.cache ≡ waited self.old.locks now request.old.cache.held request.old.cache) }
-        ensures table { OnOk result (self.new.locks ≡ table_waited self.old.locks now request.old.cache.held request.old.cache) }
+        ensures answer { IfOk result (λ p.
+            p ≡ wait_result self.old.locks now request.old.cache.held request.old.cache) }
+        ensures request { OnOk result (request.new.cache
+            ≡ waited self.old.locks now request.old.cache.held request.old.cache) }
+        ensures table { OnOk result (self.new.locks
+            ≡ table_waited self.old.locks now request.old.cache.held request.old.cache) }
         ensures same_request { OnErr result (request.new.cache ≡ request.old.cache) }
         ensures same_table { OnErr result (self.new.locks ≡ self.old.locks) }
         ensures kind { IfErr result (λ e. e ≡ OutOfMemory) }
-        ensures later { IfSome (read_in request.old.cache.held) (λ rd. IsSome rd.watch → IsOk result) }
+        ensures later { IfSome (read_in request.old.cache.held) (λ rd.
+            IsSome rd.watch → IsOk result) }
         ensures unnamed { unusable_in request.old.cache.key ≡ None → IsOk result }
         ensures rest { self.new ≡ record self.old { locks = self.new.locks } }
     {
@@ -49,8 +53,10 @@ impl<M: EvictionManager, K> Cache<M, K> {
     ) -> Option<ReleasedLock>
         requires { MayRelease reason request.old.cache.held }
         ensures request { request.new.cache ≡ unheld request.old.cache }
-        ensures table { self.new.locks ≡ settled (status_for (λ text. GiveUp) reason) request.old.cache.held self.old.locks }
-        ensures released { result ≡ option_map (released_as (status_for (λ text. GiveUp) reason)) request.old.cache.held }
+        ensures table { self.new.locks
+            ≡ settled (status_for (λ text. GiveUp) reason) request.old.cache.held self.old.locks }
+        ensures released { result
+            ≡ option_map (released_as (status_for (λ text. GiveUp) reason)) request.old.cache.held }
         ensures rest { self.new ≡ record self.old { locks = self.new.locks } }
     {
         request.cache.release_write_lock(&mut self.lock, reason)
@@ -79,8 +85,10 @@ impl<M: EvictionManager, K> Cache<M, K> {
         request: &CacheRequest<K>,
         tokens: &[u64],
     ) -> Result<Option<LockName>>
-        ensures published { IfOk result (λ p. p ≡ option_map (λ w. name_of (Write w)) (permit_in request.now.cache.held)) }
-        ensures table { OnOk result (self.new.locks ≡ published_by tokens.now request.now.cache.held self.old.locks) }
+        ensures published { IfOk result (λ p.
+            p ≡ option_map (λ w. name_of (Write w)) (permit_in request.now.cache.held)) }
+        ensures table { OnOk result (self.new.locks
+            ≡ published_by tokens.now request.now.cache.held self.old.locks) }
         ensures same_table { OnErr result (self.new.locks ≡ self.old.locks) }
         ensures kind { IfErr result (λ e. e ≡ OutOfMemory) }
         ensures clears { tokens.now ≡ [] → IsOk result }

@@ -28,61 +28,84 @@ impl<M: EvictionManager, K> Cache<M, K> {
     ghost use Rattle.pcache_store.specs.Readers.{reader_of};
     ghost use Rattle.pcache_store.specs.Store.{gives_piece, left, read_of, reader_after, write_read};
 
-    /// `HttpCache::cache_lookup`: what the store has for the request's key, unless it is hidden; if nothing is handed on, the
+    /// `HttpCache::cache_lookup_without_policy`: what the store has for the request's key, unless it is hidden; if nothing is handed on, the
     /// key's lock is asked for. Requires a key that was set, or a stale body that was found. A pair that is handed on has to be
     /// taken by `cache_found` or let go.
     #[tactic(auto, using(crate::proofs::Own::looked_phase, crate::proofs::Own::looked_uses))]
-    pub fn cache_lookup(
+    pub fn cache_lookup_without_policy(
         &mut self,
         request: &mut CacheRequest<K>,
         now: Moment,
     ) -> Result<Option<(CacheMeta, MemHitHandler)>>
         requires { MayLookUp request.old.cache.phase }
-        ensures found { IfOk result (λ r. option_map (λ p. (p.0, reader_of p.1)) r ≡ seen_for self.old.store request.old.cache) }
-        ensures request { OnOk result (request.new.cache ≡ looked_for self.old.store self.old.locks request.old.cache) }
+        ensures found { IfOk result (λ r.
+            option_map (λ p. (p.0, reader_of p.1)) r ≡ seen_for self.old.store request.old.cache) }
+        ensures request { OnOk result (request.new.cache
+            ≡ looked_for self.old.store self.old.locks request.old.cache) }
         ensures store { OnOk result (self.new.store ≡ searched self.old.store request.old.cache) }
-        ensures table { OnOk result (self.new.locks ≡ table_looked_for self.old.store now request.old.cache self.old.locks) }
+        ensures table { OnOk result (self.new.locks
+            ≡ table_looked_for self.old.store now request.old.cache self.old.locks) }
         ensures same_request { OnErr result (request.new.cache ≡ request.old.cache) }
-        ensures left_store { OnErr result ((self.new.store ≡ self.old.store) ⊎ (self.new.store ≡ searched self.old.store request.old.cache)) }
-        ensures same_store { OnErr result (hides_for self.old.store request.old.cache ≡ false → self.new.store ≡ self.old.store) }
+        ensures left_store { OnErr result ((self.new.store ≡ self.old.store)
+            ⊎ (self.new.store ≡ searched self.old.store request.old.cache)) }
+        ensures same_store { OnErr result (hides_for self.old.store request.old.cache ≡ false
+            → self.new.store ≡ self.old.store) }
         ensures same_table { OnErr result (self.new.locks ≡ self.old.locks) }
         ensures kind { IfErr result (λ e. MayFailLock self.old.locks e) }
-        ensures numbers { IfErr result (λ e. e ≡ NumbersExhausted → IsTrue (asks_unseen self.old.store request.old.cache)) }
+        ensures numbers { IfErr result (λ e.
+            e ≡ NumbersExhausted → IsTrue (asks_unseen self.old.store request.old.cache)) }
         ensures phase { OnOk result (request.new.cache.phase ≡ request.old.cache.phase) }
         ensures uses { OnOk result (request.new.cache.uses ≡ request.old.cache.uses) }
-        ensures rest { self.new ≡ record self.old { store = self.new.store; locks = self.new.locks } }
+        ensures rest { self.new
+            ≡ record self.old { store = self.new.store; locks = self.new.locks } }
     {
         request
             .cache
-            .cache_lookup(&mut self.store, &mut self.lock, now)
+            .cache_lookup_without_policy(&mut self.store, &mut self.lock, now)
     }
 
-    /// `HttpCache::cache_lookup_with`: as `cache_lookup`, but if the store has nothing, a policy in use is asked first.
+    /// `HttpCache::cache_lookup`: as `cache_lookup_without_policy`, but if the store has nothing, a policy in use is asked first.
     /// Requires the phase CacheKey or Stale; ask `phase().may_look_up()` of the request.
-    pub fn cache_lookup_with<A: AdmissionPolicy>(
+    pub fn cache_lookup<A: AdmissionPolicy>(
         &mut self,
         request: &mut CacheRequest<K>,
         policy: &mut A,
         now: Moment,
     ) -> Result<Option<(CacheMeta, MemHitHandler)>>
         requires { MayLookUp request.old.cache.phase }
-        ensures found { IfOk result (λ r. option_map (λ p. (p.0, reader_of p.1)) r ≡ seen_for self.old.store request.old.cache) }
-        ensures decides { IsTrue (asks_policy self.old.store request.old.cache) → Decides (λ k d. A.decides policy.old k d policy.new) request.old.cache.key request.new.cache.digest.admission }
-        ensures same_policy { asks_policy self.old.store request.old.cache ≡ false → policy.new ≡ policy.old }
-        ensures request { OnOk result (request.new.cache ≡ looked_with (decision_taken self.old.store request.old.cache request.new.cache) self.old.store self.old.locks request.old.cache) }
-        ensures store { OnOk result (self.new.store ≡ store_looked_with (decision_taken self.old.store request.old.cache request.new.cache) request.old.cache self.old.store) }
-        ensures table { OnOk result (self.new.locks ≡ table_looked_with (decision_taken self.old.store request.old.cache request.new.cache) self.old.store now request.old.cache self.old.locks) }
-        ensures decided { OnErr result (request.new.cache ≡ with_decision (decision_taken self.old.store request.old.cache request.new.cache) request.old.cache) }
-        ensures left_store { OnErr result ((self.new.store ≡ self.old.store) ⊎ (self.new.store ≡ searched self.old.store request.old.cache)) }
-        ensures same_store { OnErr result (hides_for self.old.store request.old.cache ≡ false → self.new.store ≡ self.old.store) }
+        ensures found { IfOk result (λ r.
+            option_map (λ p. (p.0, reader_of p.1)) r ≡ seen_for self.old.store request.old.cache) }
+        ensures decides { IsTrue (asks_policy self.old.store request.old.cache)
+            → Decides (λ k d. A.decides policy.old k d policy.new) request.old.cache.key
+            request.new.cache.digest.admission }
+        ensures same_policy { asks_policy self.old.store request.old.cache ≡ false
+            → policy.new ≡ policy.old }
+        ensures request { OnOk result (request.new.cache
+            ≡ looked_with (decision_taken self.old.store request.old.cache request.new.cache)
+            self.old.store self.old.locks request.old.cache) }
+        ensures store { OnOk result (self.new.store
+            ≡ store_looked_with (decision_taken self.old.store request.old.cache request.new.cache)
+            request.old.cache self.old.store) }
+        ensures table { OnOk result (self.new.locks
+            ≡ table_looked_with (decision_taken self.old.store request.old.cache request.new.cache)
+            self.old.store now request.old.cache self.old.locks) }
+        ensures decided { OnErr result (request.new.cache
+            ≡ with_decision (decision_taken self.old.store request.old.cache request.new.cache)
+            request.old.cache) }
+        ensures left_store { OnErr result ((self.new.store ≡ self.old.store)
+            ⊎ (self.new.store ≡ searched self.old.store request.old.cache)) }
+        ensures same_store { OnErr result (hides_for self.old.store request.old.cache ≡ false
+            → self.new.store ≡ self.old.store) }
         ensures same_table { OnErr result (self.new.locks ≡ self.old.locks) }
         ensures kind { IfErr result (λ e. MayFailLock self.old.locks e) }
-        ensures numbers { IfErr result (λ e. e ≡ NumbersExhausted → IsTrue (asks_unseen self.old.store request.old.cache)) }
-        ensures rest { self.new ≡ record self.old { store = self.new.store; locks = self.new.locks } }
+        ensures numbers { IfErr result (λ e.
+            e ≡ NumbersExhausted → IsTrue (asks_unseen self.old.store request.old.cache)) }
+        ensures rest { self.new
+            ≡ record self.old { store = self.new.store; locks = self.new.locks } }
     {
         request
             .cache
-            .cache_lookup_with(&mut self.store, &mut self.lock, policy, now)
+            .cache_lookup(&mut self.store, &mut self.lock, policy, now)
     }
 
     /// `HttpCache::cache_found`: takes the pair that a look-up found.
@@ -96,18 +119,27 @@ impl<M: EvictionManager, K> Cache<M, K> {
         now: Moment,
     ) -> Result<()>
         requires { MayLookUp request.old.cache.phase }
-        ensures request { OnOk result (request.new.cache ≡ found_row status meta (reader_of hit) self.old.locks request.old.cache) }
-        ensures store { OnOk result (self.new.store ≡ store_found status (reader_of hit) request.old.cache self.old.store) }
-        ensures table { OnOk result (self.new.locks ≡ table_found status now request.old.cache self.old.locks) }
-        ensures tracked { OnOk result (self.new.tracked ≡ tracked_found status (reader_of hit) (write_read (reader_of hit)) request.old.cache self.old.tracked) }
+        ensures request { OnOk result (request.new.cache
+            ≡ found_row status meta (reader_of hit) self.old.locks request.old.cache) }
+        ensures store { OnOk result (self.new.store
+            ≡ store_found status (reader_of hit) request.old.cache self.old.store) }
+        ensures table { OnOk result (self.new.locks
+            ≡ table_found status now request.old.cache self.old.locks) }
+        ensures tracked { OnOk result (self.new.tracked
+            ≡ tracked_found status (reader_of hit) (write_read (reader_of hit)) request.old.cache
+            self.old.tracked) }
         ensures same_request { OnErr result (request.new.cache ≡ request.old.cache) }
         ensures left_store { OnErr result (self.new.store ≡ left self.old.store (reader_of hit)) }
         ensures same_table { OnErr result (self.new.locks ≡ self.old.locks) }
-        ensures noted { OnErr result ((self.new.tracked ≡ self.old.tracked) ⊎ (self.new.tracked ≡ tracked_found status (reader_of hit) (write_read (reader_of hit)) request.old.cache self.old.tracked)) }
+        ensures noted { OnErr result ((self.new.tracked ≡ self.old.tracked)
+            ⊎ (self.new.tracked
+            ≡ tracked_found status (reader_of hit) (write_read (reader_of hit))
+            request.old.cache self.old.tracked)) }
         ensures limits { self.new.limits ≡ self.old.limits }
         ensures evicted { self.new.evicted ≡ self.old.evicted }
         ensures kind { IfErr result (λ e. MayFailLock self.old.locks e) }
-        ensures numbers { IfErr result (λ e. e ≡ NumbersExhausted → IsTrue (asks_for_hit status request.old.cache)) }
+        ensures numbers { IfErr result (λ e.
+            e ≡ NumbersExhausted → IsTrue (asks_for_hit status request.old.cache)) }
     {
         request.cache.cache_found(
             &mut self.store,
@@ -130,11 +162,17 @@ impl<M: EvictionManager, K> Cache<M, K> {
     /// `HttpCache::read_body`: reads on. Requires a reader. Fails only if there is a piece to give.
     pub fn read_body(&mut self, request: &mut CacheRequest<K>) -> Result<Poll<Option<Bytes>>>
         requires { IsSome request.old.cache.reader }
-        ensures read { IfOk result (λ p. IfSome request.old.cache.reader (λ r. p ≡ read_of self.old.store r)) }
-        ensures request { OnOk result (request.new.cache ≡ record request.old.cache { reader = option_map (reader_after self.old.store) request.old.cache.reader }) }
+        ensures read { IfOk result (λ p.
+            IfSome request.old.cache.reader (λ r. p ≡ read_of self.old.store r)) }
+        ensures request { OnOk result (request.new.cache
+            ≡ record request.old.cache {
+              reader = option_map (reader_after self.old.store)
+                  request.old.cache.reader;
+            }) }
         ensures same_request { OnErr result (request.new.cache ≡ request.old.cache) }
         ensures same_store { self.new.store ≡ self.old.store }
-        ensures something { OnErr result (IfSome request.old.cache.reader (λ r. gives_piece (read_of self.old.store r) ≡ true)) }
+        ensures something { OnErr result
+            (IfSome request.old.cache.reader (λ r. gives_piece (read_of self.old.store r) ≡ true)) }
         ensures kind { IfErr result (λ e. e ≡ OutOfMemory) }
         ensures rest { self.new ≡ self.old }
     {
@@ -167,10 +205,13 @@ impl<M: EvictionManager, K> Cache<M, K> {
         ensures request { request.new.cache ≡ disabled_for reason request.old.cache }
         ensures off { IsDisabled request.new.cache.phase }
         ensures held { HoldsNothing request.new.cache }
-        ensures store { self.new.store ≡ left_by request.old.cache.reader (dropped_by request.old.cache.write self.old.store) }
-        ensures table { self.new.locks ≡ settled (status_for (λ text. GiveUp) reason) request.old.cache.held self.old.locks }
+        ensures store { self.new.store
+            ≡ left_by request.old.cache.reader (dropped_by request.old.cache.write self.old.store) }
+        ensures table { self.new.locks
+            ≡ settled (status_for (λ text. GiveUp) reason) request.old.cache.held self.old.locks }
         ensures released { result ≡ option_map name_of request.old.cache.held }
-        ensures rest { self.new ≡ record self.old { store = self.new.store; locks = self.new.locks } }
+        ensures rest { self.new
+            ≡ record self.old { store = self.new.store; locks = self.new.locks } }
     {
         request
             .cache
@@ -180,9 +221,11 @@ impl<M: EvictionManager, K> Cache<M, K> {
     /// `HttpCache::end`: gives back all that a request holds.
     pub fn end(&mut self, request: CacheRequest<K>) -> Option<LockName>
         ensures let_go { result ≡ option_map name_of request.cache.held }
-        ensures store { self.new.store ≡ left_by request.cache.reader (dropped_by request.cache.write self.old.store) }
+        ensures store { self.new.store
+            ≡ left_by request.cache.reader (dropped_by request.cache.write self.old.store) }
         ensures table { self.new.locks ≡ let_go_by request.cache.held self.old.locks }
-        ensures rest { self.new ≡ record self.old { store = self.new.store; locks = self.new.locks } }
+        ensures rest { self.new
+            ≡ record self.old { store = self.new.store; locks = self.new.locks } }
     {
         request.into_cache().end(&mut self.store, &mut self.lock)
     }

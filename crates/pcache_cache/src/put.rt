@@ -22,7 +22,14 @@ pub struct PendingPut<C: CachePut, K> {
 impl<C: CachePut, K> PendingPut<C, K> {
     /// A put of a key, with no limit on its body.
     pub fn new(alloc: Global, policy: C, key: CacheKey) -> PendingPut<C, K>
-        ensures put { result.put ≡ record { policy = policy; key = key; size = None; parser = AtHead []; stage = InHead } }
+        ensures put { result.put
+            ≡ record {
+              policy = policy;
+              key = key;
+              size = None;
+              parser = AtHead [];
+              stage = InHead;
+            } }
         ensures taken { HasTaken (C.says policy) result.put [] None }
     {
         PendingPut {

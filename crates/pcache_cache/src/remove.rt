@@ -19,9 +19,15 @@ impl<M: EvictionManager, K> Cache<M, K> {
     pub fn purge(&mut self, request: &mut CacheRequest<K>) -> Result<bool>
         requires { MayPurge request.old.cache.phase }
         ensures same { request.new.cache ≡ request.old.cache }
-        ensures there { IfOk result (λ there. there ≡ is_removed_by (purge_outcome true self.old.store (option_map slot request.old.cache.key))) }
-        ensures store { OnOk result (self.new.store ≡ purged_at self.old.store (option_map slot request.old.cache.key)) }
-        ensures tracked { OnOk result (self.new.tracked ≡ tracked_gone_for request.old.cache.uses.eviction request.old.cache.key (purge_outcome true self.old.store (option_map slot request.old.cache.key)) self.old.tracked) }
+        ensures there { IfOk result (λ there. there
+            ≡ is_removed_by
+            (purge_outcome true self.old.store (option_map slot request.old.cache.key))) }
+        ensures store { OnOk result (self.new.store
+            ≡ purged_at self.old.store (option_map slot request.old.cache.key)) }
+        ensures tracked { OnOk result (self.new.tracked
+            ≡ tracked_gone_for request.old.cache.uses.eviction request.old.cache.key
+            (purge_outcome true self.old.store (option_map slot request.old.cache.key))
+            self.old.tracked) }
         ensures same_store { OnErr result (self.new.store ≡ self.old.store) }
         ensures same_tracked { OnErr result (self.new.tracked ≡ self.old.tracked) }
         ensures limits { self.new.limits ≡ self.old.limits }
@@ -42,9 +48,15 @@ impl<M: EvictionManager, K> Cache<M, K> {
     ) -> Result<bool>
         requires { MaySpawnPurge request.old.cache.phase }
         ensures same { request.new.cache ≡ request.old.cache }
-        ensures there { IfOk result (λ there. there ≡ is_removed_by (purge_outcome true self.old.store (option_map slot request.old.cache.key))) }
-        ensures store { OnOk result (self.new.store ≡ purged_at self.old.store (option_map slot request.old.cache.key)) }
-        ensures tracked { OnOk result (self.new.tracked ≡ tracked_gone_for request.old.cache.uses.eviction request.old.cache.key (purge_outcome true self.old.store (option_map slot request.old.cache.key)) self.old.tracked) }
+        ensures there { IfOk result (λ there. there
+            ≡ is_removed_by
+            (purge_outcome true self.old.store (option_map slot request.old.cache.key))) }
+        ensures store { OnOk result (self.new.store
+            ≡ purged_at self.old.store (option_map slot request.old.cache.key)) }
+        ensures tracked { OnOk result (self.new.tracked
+            ≡ tracked_gone_for request.old.cache.uses.eviction request.old.cache.key
+            (purge_outcome true self.old.store (option_map slot request.old.cache.key))
+            self.old.tracked) }
         ensures same_store { OnErr result (self.new.store ≡ self.old.store) }
         ensures same_tracked { OnErr result (self.new.tracked ≡ self.old.tracked) }
         ensures limits { self.new.limits ≡ self.old.limits }
@@ -63,9 +75,15 @@ impl<M: EvictionManager, K> Cache<M, K> {
     pub fn expire(&mut self, request: &mut CacheRequest<K>, now: Moment) -> Result<bool>
         requires { MayPurge request.old.cache.phase }
         ensures same { request.new.cache ≡ request.old.cache }
-        ensures there { IfOk result (λ there. there ≡ is_removed_by (expire_outcome self.old.store (option_map slot request.old.cache.key))) }
-        ensures store { OnOk result (self.new.store ≡ expired_at now self.old.store (option_map slot request.old.cache.key)) }
-        ensures tracked { OnOk result (self.new.tracked ≡ tracked_gone_for request.old.cache.uses.eviction request.old.cache.key (expire_outcome self.old.store (option_map slot request.old.cache.key)) self.old.tracked) }
+        ensures there { IfOk result (λ there. there
+            ≡ is_removed_by
+            (expire_outcome self.old.store (option_map slot request.old.cache.key))) }
+        ensures store { OnOk result (self.new.store
+            ≡ expired_at now self.old.store (option_map slot request.old.cache.key)) }
+        ensures tracked { OnOk result (self.new.tracked
+            ≡ tracked_gone_for request.old.cache.uses.eviction request.old.cache.key
+            (expire_outcome self.old.store (option_map slot request.old.cache.key))
+            self.old.tracked) }
         ensures same_store { OnErr result (self.new.store ≡ self.old.store) }
         ensures same_tracked { OnErr result (self.new.tracked ≡ self.old.tracked) }
         ensures limits { self.new.limits ≡ self.old.limits }

@@ -31,12 +31,15 @@ impl<M: EvictionManager, K> Cache<M, K> {
         requires { MayRevalidate request.old.cache }
         ensures request { request.new.cache ≡ renewed meta request.old.cache }
         ensures there { IfOk result (λ b. b ≡ has_body self.old.store request.old.cache.key) }
-        ensures store { OnOk result (self.new.store ≡ with_meta_of (renewed_by meta request.old.cache.meta) request.old.cache.key self.old.store) }
+        ensures store { OnOk result (self.new.store
+            ≡ with_meta_of (renewed_by meta request.old.cache.meta) request.old.cache.key
+            self.old.store) }
         ensures same_store { OnErr result (self.new.store ≡ self.old.store) }
         ensures something { OnErr result (IsTrue (has_body self.old.store request.old.cache.key)) }
         ensures kind { IfErr result (λ e. e ≡ OutOfMemory) }
         ensures table { self.new.locks ≡ settled Done request.old.cache.held self.old.locks }
-        ensures rest { self.new ≡ record self.old { store = self.new.store; locks = self.new.locks } }
+        ensures rest { self.new
+            ≡ record self.old { store = self.new.store; locks = self.new.locks } }
     {
         request
             .cache
@@ -56,7 +59,8 @@ impl<M: EvictionManager, K> Cache<M, K> {
         requires stale { MayRevalidate request.old.cache }
         requires reason { MayRelease reason request.old.cache.held }
         ensures request { request.new.cache ≡ uncacheable (shown header) reason request.old.cache }
-        ensures table { self.new.locks ≡ settled (status_for (λ text. GiveUp) reason) request.old.cache.held self.old.locks }
+        ensures table { self.new.locks
+            ≡ settled (status_for (λ text. GiveUp) reason) request.old.cache.held self.old.locks }
         ensures released { result ≡ option_map name_of request.old.cache.held }
         ensures rest { self.new ≡ record self.old { locks = self.new.locks } }
     {

@@ -22,7 +22,9 @@ pub struct CacheRequest<K> {
 impl<K> CacheRequest<K> {
     /// A request with caching turned on, which uses the eviction manager and the lock table.
     pub fn new(alloc: Global) -> CacheRequest<K>
-        ensures { result.cache ≡ enabled_with (record { eviction = true; predictor = false; lock = true }) new_request }
+        ensures { result.cache
+            ≡ enabled_with (record { eviction = true; predictor = false; lock = true })
+            new_request }
     {
         let mut cache = HttpCache::new(alloc);
         cache.enable(InUse {
@@ -40,7 +42,8 @@ impl<K> CacheRequest<K> {
     /// Ask `may_end_alone()` of `cache`.
     pub fn end_alone(self)
         requires { MayEndAlone self.cache }
-        ensures store { (s : Store) → left_by self.cache.reader (dropped_by self.cache.write s) ≡ s }
+        ensures store { (s : Store)
+            → left_by self.cache.reader (dropped_by self.cache.write s) ≡ s }
         ensures table { (t : Locks) → let_go_by self.cache.held t ≡ t }
     {
         self.into_cache().end_alone();

@@ -50,7 +50,8 @@ fn value_at(
     place: Option<(usize, usize)>,
 ) -> Result<Option<DirectiveValue>>
     requires { IfSome place (λ v. (v.0 ≤ v.1) × (v.1 ≤ length line.now)) }
-    ensures ok { IfOk result (λ value. value_of value ≡ option_map (λ v. slice_range line.now v.0 v.1) place) }
+    ensures ok { IfOk result (λ value.
+        value_of value ≡ option_map (λ v. slice_range line.now v.0 v.1) place) }
     ensures kind { IfErr result (λ e. e ≡ OutOfMemory) }
 {
     match place {
@@ -68,7 +69,8 @@ fn add(
     requires { is_known key ≡ is_known_name (name_of key) }
     ensures added { OnOk result (AreNamed directives.old.entries →
         Adds directives.old.entries ((name_of key, value_of value) ∷ []) directives.new.entries) }
-    ensures named { OnOk result (AreNamed directives.old.entries → AreNamed directives.new.entries) }
+    ensures named { OnOk result (AreNamed directives.old.entries
+        → AreNamed directives.new.entries) }
     ensures kind { IfErr result (λ e. e ≡ OutOfMemory) }
 {
     directives.insert(key, value)?;
@@ -85,7 +87,8 @@ fn add_directive(
     requires { LiesWithin (length line.now) span }
     ensures added { OnOk result (AreNamed directives.old.entries →
         Adds directives.old.entries (directives_at line.now (span ∷ [])) directives.new.entries) }
-    ensures named { OnOk result (AreNamed directives.old.entries → AreNamed directives.new.entries) }
+    ensures named { OnOk result (AreNamed directives.old.entries
+        → AreNamed directives.new.entries) }
     ensures kind { IfErr result (λ e. e ≡ OutOfMemory) }
 {
     let Some(key) = key_of(alloc, &line[span.start..span.name_end])? else {
@@ -101,7 +104,8 @@ fn add_line(alloc: Global, directives: &mut DirectiveMap, line: &[u8]) -> Result
         (spans : List Span) → AreDirectives line.now spans →
         Adds directives.old.entries (directives_at line.now spans) directives.new.entries) }
     ensures there { OnOk result ((spans : List Span) × AreDirectives line.now spans) }
-    ensures named { OnOk result (AreNamed directives.old.entries → AreNamed directives.new.entries) }
+    ensures named { OnOk result (AreNamed directives.old.entries
+        → AreNamed directives.new.entries) }
     ensures kind { IfErr result (λ e. e ≡ OutOfMemory) }
 {
     'spans: for span in Directives::new(line) {
@@ -126,7 +130,8 @@ fn from_lines(
     lines: GetAll<'_, HeaderValue>,
 ) -> Result<DirectiveMap>
     ensures read { IfOk result (λ directives. AreRead (lines_of lines.entry) directives.entries) }
-    ensures only { IfOk result (λ directives. AreReadOnce (lines_of lines.entry) directives.entries) }
+    ensures only { IfOk result (λ directives.
+        AreReadOnce (lines_of lines.entry) directives.entries) }
     ensures kind { IfErr result (λ e. e ≡ OutOfMemory) }
 {
     let mut directives = IndexMap::with_hasher(alloc, names);
@@ -194,7 +199,8 @@ impl CacheControl {
         req_header: &ReqHeader,
     ) -> Result<Option<CacheControl>>
         ensures read { IfOk result (ReadsField req_header.now.headers (lowercase header_name.now)) }
-        ensures only { IfOk result (ReadsOneMap req_header.now.headers (lowercase header_name.now)) }
+        ensures only { IfOk result
+            (ReadsOneMap req_header.now.headers (lowercase header_name.now)) }
         ensures kind { IfErr result (λ e. e ≡ OutOfMemory) }
     {
         CacheControl::from_headers_named(alloc, header_name, &req_header.headers)
@@ -215,8 +221,10 @@ impl CacheControl {
         header_name: &str,
         resp_header: &RespHeader,
     ) -> Result<Option<CacheControl>>
-        ensures read { IfOk result (ReadsField resp_header.now.headers (lowercase header_name.now)) }
-        ensures only { IfOk result (ReadsOneMap resp_header.now.headers (lowercase header_name.now)) }
+        ensures read { IfOk result
+            (ReadsField resp_header.now.headers (lowercase header_name.now)) }
+        ensures only { IfOk result
+            (ReadsOneMap resp_header.now.headers (lowercase header_name.now)) }
         ensures kind { IfErr result (λ e. e ≡ OutOfMemory) }
     {
         CacheControl::from_headers_named(alloc, header_name, &resp_header.headers)

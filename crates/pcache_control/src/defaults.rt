@@ -31,7 +31,8 @@ impl CacheMetaDefaults {
     ) -> CacheMetaDefaults
         requires { IsAlwaysCallable fresh_sec_fn }
         ensures function { result.fresh_sec_fn ≡ fresh_sec_fn }
-        ensures while_revalidating { result.stale_while_revalidate_sec ≡ stale_while_revalidate_sec }
+        ensures while_revalidating { result.stale_while_revalidate_sec
+            ≡ stale_while_revalidate_sec }
         ensures after_error { result.stale_if_error_sec ≡ stale_if_error_sec }
     {
         CacheMetaDefaults {
@@ -44,7 +45,8 @@ impl CacheMetaDefaults {
     /// The default lifetime of a status. A 304 confirms the response that it revalidates, so it
     /// gets the lifetime of 200.
     pub fn fresh_sec(&self, resp_status: StatusCode) -> Option<Duration>
-        ensures { FreshDurationByStatusFn.post self.now.fresh_sec_fn (asked_status resp_status) result }
+        ensures { FreshDurationByStatusFn.post self.now.fresh_sec_fn (asked_status resp_status)
+            result }
     {
         let asked = if resp_status == StatusCode::NOT_MODIFIED {
             StatusCode::OK

@@ -111,9 +111,10 @@ pub fn calculate_fresh_until(
     authorization_present: bool,
     defaults: &CacheMetaDefaults,
 ) -> Option<Moment>
-    ensures { FreshUntil now (option_copied cache_control.entry) resp_header.now.headers authorization_present
-        (FreshDurationByStatusFn.post defaults.now.fresh_sec_fn (asked_status resp_header.now.status))
-        result }
+    ensures { FreshUntil now (option_copied cache_control.entry) resp_header.now.headers
+        authorization_present
+        (FreshDurationByStatusFn.post defaults.now.fresh_sec_fn
+        (asked_status resp_header.now.status)) result }
 {
     if forbids(cache_control, authorization_present) {
         return None;

@@ -246,7 +246,8 @@ pub(crate) fn tag_len(bytes: &[u8]) -> Result<usize>
 /// The head of the array that comes first: how many items it has, and how many bytes follow the
 /// head.
 pub(crate) fn first_count(bytes: &[u8]) -> Result<(u64, usize)>
-    ensures found { IfOk result (λ x. ArrayThen bytes.now x.0 (drop (length bytes.now - x.1) bytes.now)) }
+    ensures found { IfOk result (λ x.
+        ArrayThen bytes.now x.0 (drop (length bytes.now - x.1) bytes.now)) }
     ensures within { IfOk result (λ x. x.1 ≤ length bytes.now) }
     ensures refused { OnErr result (array_at bytes.now ≡ None) }
     ensures kind { IfErr result (λ e. e ≡ InternalError) }
@@ -258,7 +259,8 @@ pub(crate) fn first_count(bytes: &[u8]) -> Result<(u64, usize)>
 
 /// The node that comes first, and how many bytes follow it.
 pub(crate) fn first_node(alloc: Global, bytes: &[u8]) -> Result<((CacheEntryKey, usize), usize)>
-    ensures found { IfOk result (λ x. NodeThen bytes.now x.0 (drop (length bytes.now - x.1) bytes.now)) }
+    ensures found { IfOk result (λ x.
+        NodeThen bytes.now x.0 (drop (length bytes.now - x.1) bytes.now)) }
     ensures within { IfOk result (λ x. x.1 ≤ length bytes.now) }
     ensures refused { IsErrOf result InternalError → node_at bytes.now ≡ None }
     ensures kinds { IfErr result (λ e. (e ≡ OutOfMemory) ⊎ (e ≡ InternalError)) }
@@ -305,7 +307,8 @@ fn put_entry(out: &mut Vec<u8>, entry: &CacheEntryKey) -> Result<()>
 
 #[tactic(auto, unfolding(crate::specs::FileWriting::node_written))]
 fn put_node(out: &mut Vec<u8>, entry: &CacheEntryKey, weight: usize) -> Result<()>
-    ensures written { OnOk result (out.new.items ≡ out.old.items ++ node_written (entry.now, weight)) }
+    ensures written { OnOk result (out.new.items
+        ≡ out.old.items ++ node_written (entry.now, weight)) }
     ensures range { OnOk result (IsNode (entry.now, weight)) }
     ensures too_long { IsErrOf result InternalError → 2 ^ 32 ≤ length (key_of entry.now).user_tag }
     ensures kinds { IfErr result (λ e. (e ≡ OutOfMemory) ⊎ (e ≡ InternalError)) }

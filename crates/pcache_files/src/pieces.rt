@@ -104,7 +104,8 @@ fn fill<D: CountedRead>(
 ) -> Result<()>
     requires { IsTrue ended.old → IsAtEnd (D.remaining from.old) }
     ensures end { OnOk result (IsTrue ended.new → IsAtEnd (D.remaining from.new)) }
-    ensures more { OnOk result ((piece : List ℕ) × Consumes (D.remaining from.old) (D.remaining from.new) piece
+    ensures more { OnOk result ((piece : List ℕ)
+        × Consumes (D.remaining from.old) (D.remaining from.new) piece
         × (ahead.new ≡ ahead.old ++ piece)) }
     ensures enough { OnOk result ((wanted ≤ length ahead.new) ⊎ IsAtEnd (D.remaining from.new)) }
     ensures counted { Counts (D.failed from.old) (D.failed from.new) result }
@@ -129,10 +130,14 @@ fn fill<D: CountedRead>(
 fn read_count<D: CountedRead>(from: &mut D, ahead: &mut Ahead, ended: &mut bool) -> Result<u64>
     requires { IsTrue ended.old → IsAtEnd (D.remaining from.old) }
     ensures end { OnOk result (IsTrue ended.new → IsAtEnd (D.remaining from.new)) }
-    ensures found { IfOk result (λ n. (piece : List ℕ) × Consumes (D.remaining from.old) (D.remaining from.new) piece
+    ensures found { IfOk result (λ n. (piece : List ℕ)
+        × Consumes (D.remaining from.old) (D.remaining from.new) piece
         × ArrayThen (ahead.old ++ piece) n ahead.new) }
-    ensures refused { IsErrOf result InternalError → (rest : List ℕ) → D.remaining from.old ≡ Some rest
-        → (n : ℕ) (later : List ℕ) → ¬ (ArrayThen (ahead.old ++ rest) n later) }
+    ensures refused { IsErrOf result InternalError
+        → (rest : List ℕ)
+        → D.remaining from.old ≡ Some rest
+        → (n : ℕ) (later : List ℕ)
+        → ¬ (ArrayThen (ahead.old ++ rest) n later) }
     ensures counted { Counts (D.failed from.old) (D.failed from.new) result }
     ensures kinds { IfErr result (λ e. (e ≡ OutOfMemory) ⊎ (e ≡ InternalError) ⊎ (e ≡ Io)) }
 {
@@ -151,10 +156,14 @@ fn read_next<D: CountedRead>(
 ) -> Result<(CacheEntryKey, usize)>
     requires { IsTrue ended.old → IsAtEnd (D.remaining from.old) }
     ensures end { OnOk result (IsTrue ended.new → IsAtEnd (D.remaining from.new)) }
-    ensures found { IfOk result (λ node. (piece : List ℕ) × Consumes (D.remaining from.old) (D.remaining from.new) piece
+    ensures found { IfOk result (λ node. (piece : List ℕ)
+        × Consumes (D.remaining from.old) (D.remaining from.new) piece
         × NodeThen (ahead.old ++ piece) node ahead.new) }
-    ensures refused { IsErrOf result InternalError → (rest : List ℕ) → D.remaining from.old ≡ Some rest
-        → (node : CacheEntryKey × ℕ) (later : List ℕ) → ¬ (NodeThen (ahead.old ++ rest) node later) }
+    ensures refused { IsErrOf result InternalError
+        → (rest : List ℕ)
+        → D.remaining from.old ≡ Some rest
+        → (node : CacheEntryKey × ℕ) (later : List ℕ)
+        → ¬ (NodeThen (ahead.old ++ rest) node later) }
     ensures counted { Counts (D.failed from.old) (D.failed from.new) result }
     ensures kinds { IfErr result (λ e. (e ≡ OutOfMemory) ⊎ (e ≡ InternalError) ⊎ (e ≡ Io)) }
 {
@@ -176,11 +185,16 @@ fn read_nodes<D: CountedRead>(
 ) -> Result<Vec<(CacheEntryKey, usize)>>
     requires { IsTrue ended.old → IsAtEnd (D.remaining from.old) }
     ensures end { OnOk result (IsTrue ended.new → IsAtEnd (D.remaining from.new)) }
-    ensures found { IfOk result (λ v. (piece : List ℕ) × Consumes (D.remaining from.old) (D.remaining from.new) piece
+    ensures found { IfOk result (λ v. (piece : List ℕ)
+        × Consumes (D.remaining from.old) (D.remaining from.new) piece
         × NodesThen (ahead.old ++ piece) v.items ahead.new) }
     ensures many { IfOk result (λ v. length v.items ≡ count) }
-    ensures refused { IsErrOf result InternalError → (rest : List ℕ) → D.remaining from.old ≡ Some rest
-        → (l : Recency) (later : List ℕ) → length l ≡ count → ¬ (NodesThen (ahead.old ++ rest) l later) }
+    ensures refused { IsErrOf result InternalError
+        → (rest : List ℕ)
+        → D.remaining from.old ≡ Some rest
+        → (l : Recency) (later : List ℕ)
+        → length l ≡ count
+        → ¬ (NodesThen (ahead.old ++ rest) l later) }
     ensures counted { Counts (D.failed from.old) (D.failed from.new) result }
     ensures kinds { IfErr result (λ e. (e ≡ OutOfMemory) ⊎ (e ≡ InternalError) ⊎ (e ≡ Io)) }
 {
@@ -198,10 +212,14 @@ pub(crate) fn read_list_from<D: CountedRead>(
     alloc: Global,
     from: &mut D,
 ) -> Result<Vec<(CacheEntryKey, usize)>>
-    ensures found { IfOk result (λ v. (bytes : List ℕ) × Gave (D.remaining from.old) (D.remaining from.new) bytes
+    ensures found { IfOk result (λ v. (bytes : List ℕ)
+        × Gave (D.remaining from.old) (D.remaining from.new) bytes
         × SpellsFile bytes v.items) }
-    ensures refused { IsErrOf result InternalError → (rest : List ℕ) → D.remaining from.old ≡ Some rest
-        → (l : Recency) → ¬ (SpellsFile rest l) }
+    ensures refused { IsErrOf result InternalError
+        → (rest : List ℕ)
+        → D.remaining from.old ≡ Some rest
+        → (l : Recency)
+        → ¬ (SpellsFile rest l) }
     ensures counted { Counts (D.failed from.old) (D.failed from.new) result }
     ensures kinds { IfErr result (λ e. (e ≡ OutOfMemory) ⊎ (e ≡ InternalError) ⊎ (e ≡ Io)) }
 {

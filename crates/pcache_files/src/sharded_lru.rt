@@ -125,8 +125,10 @@ fn take_in(
     list: Option<Vec<(CacheEntryKey, usize)>>,
 ) -> Result<()>
     requires { skipped.old + 1 < 2 ^ 64 }
-    ensures added { OnOk result (IfSome list (λ v. (entries.new.items ≡ entries.old.items ++ v.items) × (skipped.new ≡ skipped.old))) }
-    ensures missed { OnOk result (IfNone list ((entries.new.items ≡ entries.old.items) × (skipped.new ≡ skipped.old + 1))) }
+    ensures added { OnOk result (IfSome list (λ v.
+        (entries.new.items ≡ entries.old.items ++ v.items) × (skipped.new ≡ skipped.old))) }
+    ensures missed { OnOk result
+        (IfNone list ((entries.new.items ≡ entries.old.items) × (skipped.new ≡ skipped.old + 1))) }
     ensures kind { IfErr result (λ e. e ≡ OutOfMemory) }
 {
     match list {

@@ -49,10 +49,13 @@ pub fn deserialize(alloc: Global, manager: &mut Manager, bytes: &[u8]) -> Result
 /// Writes the manager's file, and flushes. If the writer fails, it has taken a prefix of the file;
 /// if memory ran out, or the list has no file, it has taken nothing.
 pub fn save_to<W: CountedWrite>(alloc: Global, manager: &Manager, to: &mut W) -> Result<()>
-    ensures ok { OnOk result (Appends (W.contents to.old) (W.contents to.new) (file_written manager.now.entries)) }
-    ensures spelled { OnOk result (SpellsFile (file_written manager.now.entries) manager.now.entries) }
+    ensures ok { OnOk result
+        (Appends (W.contents to.old) (W.contents to.new) (file_written manager.now.entries)) }
+    ensures spelled { OnOk result
+        (SpellsFile (file_written manager.now.entries) manager.now.entries) }
     ensures flushed { OnOk result (W.is_flushed to.new) }
-    ensures torn { OnErr result (TookBeginning (W.contents to.old) (W.contents to.new) (file_written manager.now.entries)) }
+    ensures torn { OnErr result
+        (TookBeginning (W.contents to.old) (W.contents to.new) (file_written manager.now.entries)) }
     ensures unwritten { IfErr result (λ e. e ≢ Io → Keeps (W.contents to.old) (W.contents to.new)) }
     ensures counted { Counts (W.failed to.old) (W.failed to.new) result }
     ensures too_long { IsErrOf result InternalError → IsTooLong manager.now.entries }
@@ -69,8 +72,11 @@ pub fn load_from<D: CountedRead>(alloc: Global, manager: &mut Manager, from: &mu
     ensures ok { OnOk result ((bytes : List ℕ) × (l : Recency)
         × Gave (D.remaining from.old) (D.remaining from.new) bytes × SpellsFile bytes l
         × (manager.new ≡ record manager.old { entries = loaded_all l manager.old.entries })) }
-    ensures refused { IsErrOf result InternalError → (bytes : List ℕ) → D.remaining from.old ≡ Some bytes
-        → (l : Recency) → ¬ (SpellsFile bytes l) }
+    ensures refused { IsErrOf result InternalError
+        → (bytes : List ℕ)
+        → D.remaining from.old ≡ Some bytes
+        → (l : Recency)
+        → ¬ (SpellsFile bytes l) }
     ensures counted { Counts (D.failed from.old) (D.failed from.new) result }
     ensures kinds { IfErr result (λ e. (e ≡ OutOfMemory) ⊎ (e ≡ InternalError) ⊎ (e ≡ Io)) }
     ensures err { OnErr result (manager.new ≡ manager.old) }

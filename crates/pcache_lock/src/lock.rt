@@ -57,8 +57,11 @@ pub trait CacheKeyLock {
         stale_writer: bool,
         now: Moment,
     ) -> Result<Locked>
-        ensures gives { IfOk result (λ l. l ≡ lock_given (table self.old) stale_writer (holder (table self.old) (slot key.now))) }
-        ensures ok { OnOk result (table self.new ≡ after_request (table self.old) (slot key.now) stale_writer now (holder (table self.old) (slot key.now))) }
+        ensures gives { IfOk result (λ l.
+            l ≡ lock_given (table self.old) stale_writer (holder (table self.old) (slot key.now))) }
+        ensures ok { OnOk result (table self.new
+            ≡ after_request (table self.old) (slot key.now) stale_writer now
+            (holder (table self.old) (slot key.now))) }
         ensures err { OnErr result (table self.new ≡ table self.old) }
         ensures joins { IsSome (holder (table self.old) (slot key.now)) → IsOk result }
         ensures kind { IfErr result (λ e. MayFailLock (table self.old) e) };
@@ -88,9 +91,15 @@ pub trait CacheKeyLock {
         fills: Option<&UnusableFills>,
         now: Moment,
     ) -> Result<Poll<WaitOutcome>>
-        ensures answer { IfOk result (λ p. p ≡ polled now (option_copied fills.entry) read.old.watch (get (table self.old).cores read.old.number)) }
-        ensures read_lock { OnOk result (read.new ≡ reader_polled now (option_copied fills.entry) read.old (get (table self.old).cores read.old.number)) }
-        ensures ok { OnOk result (table self.new ≡ after_poll (table self.old) now read.old.number (get (table self.old).cores read.old.number)) }
+        ensures answer { IfOk result (λ p. p
+            ≡ polled now (option_copied fills.entry) read.old.watch
+            (get (table self.old).cores read.old.number)) }
+        ensures read_lock { OnOk result (read.new
+            ≡ reader_polled now (option_copied fills.entry) read.old
+            (get (table self.old).cores read.old.number)) }
+        ensures ok { OnOk result (table self.new
+            ≡ after_poll (table self.old) now read.old.number
+            (get (table self.old).cores read.old.number)) }
         ensures err { OnErr result (table self.new ≡ table self.old) }
         ensures same_read_lock { OnErr result (read.new ≡ read.old) }
         ensures kind { IfErr result (λ e. e ≡ OutOfMemory) }
@@ -107,7 +116,8 @@ pub trait CacheKeyLock {
     /// Fails only when memory runs out, and then changes nothing. An empty list clears the
     /// publication, which never fails.
     fn publish(&mut self, alloc: Global, permit: &WritePermit, tokens: &[u64]) -> Result<()>
-        ensures ok { OnOk result (table self.new ≡ published (table self.old) permit.now.number tokens.now) }
+        ensures ok { OnOk result (table self.new
+            ≡ published (table self.old) permit.now.number tokens.now) }
         ensures clears { tokens.now ≡ [] → IsOk result }
         ensures err { OnErr result (table self.new ≡ table self.old) }
         ensures kind { IfErr result (λ e. e ≡ OutOfMemory) };

@@ -105,14 +105,16 @@ impl CacheMeta {
 
     /// Sets when the body was fetched.
     pub fn set_provenance(&mut self, provenance: Moment)
-        ensures { self.new ≡ internal_changed (λ x. record x { provenance = Some provenance }) self.old }
+        ensures { self.new
+            ≡ internal_changed (λ x. record x { provenance = Some provenance }) self.old }
     {
         self.internal.provenance = Some(provenance);
     }
 
     /// Sets the moment when the body was fetched to the one when the response was first stored.
     pub fn reset_provenance_to_created(&mut self)
-        ensures { self.new ≡ internal_changed (λ x. record x { provenance = Some x.created }) self.old }
+        ensures { self.new
+            ≡ internal_changed (λ x. record x { provenance = Some x.created }) self.old }
     {
         self.internal.provenance = Some(self.internal.created);
     }
@@ -135,7 +137,8 @@ impl CacheMeta {
 
     /// Sets the moment from which ages count.
     pub fn set_epoch_override(&mut self, epoch: Moment)
-        ensures { self.new ≡ internal_changed (λ x. record x { epoch_override = Some epoch }) self.old }
+        ensures { self.new
+            ≡ internal_changed (λ x. record x { epoch_override = Some epoch }) self.old }
     {
         self.internal.epoch_override = Some(epoch);
     }
@@ -192,14 +195,16 @@ impl CacheMeta {
 
     /// Whether the response may be served at a moment while it is revalidated.
     pub fn serve_stale_while_revalidate(&self, time: Moment) -> bool
-        ensures { IsTrue result ↔ MayServeStale self.now.fresh_until self.now.stale_while_revalidate_sec time }
+        ensures { IsTrue result
+            ↔ MayServeStale self.now.fresh_until self.now.stale_while_revalidate_sec time }
     {
         self.can_serve_stale(self.internal.stale_while_revalidate_sec, time)
     }
 
     /// Whether the response may be served at a moment after an error.
     pub fn serve_stale_if_error(&self, time: Moment) -> bool
-        ensures { IsTrue result ↔ MayServeStale self.now.fresh_until self.now.stale_if_error_sec time }
+        ensures { IsTrue result
+            ↔ MayServeStale self.now.fresh_until self.now.stale_if_error_sec time }
     {
         self.can_serve_stale(self.internal.stale_if_error_sec, time)
     }
@@ -220,7 +225,10 @@ impl CacheMeta {
 
     /// Sets both windows to zero, so that a stale response may not be served.
     pub fn disable_serve_stale(&mut self)
-        ensures { self.new ≡ internal_changed (λ x. record x { stale_while_revalidate_sec = 0; stale_if_error_sec = 0 }) self.old }
+        ensures { self.new
+            ≡ internal_changed
+            (λ x. record x { stale_while_revalidate_sec = 0; stale_if_error_sec = 0 })
+            self.old }
     {
         self.internal.stale_while_revalidate_sec = 0;
         self.internal.stale_if_error_sec = 0;
@@ -265,14 +273,16 @@ impl CacheMeta {
 
     /// Sets the hash of what the response varies on.
     pub fn set_variance_key(&mut self, variance: HashBinary)
-        ensures { self.new ≡ internal_changed (λ x. record x { variance = Some variance }) self.old }
+        ensures { self.new
+            ≡ internal_changed (λ x. record x { variance = Some variance }) self.old }
     {
         self.internal.variance = Some(variance);
     }
 
     /// Sets the hash of what the response varies on.
     pub fn set_variance(&mut self, variance: HashBinary)
-        ensures { self.new ≡ internal_changed (λ x. record x { variance = Some variance }) self.old }
+        ensures { self.new
+            ≡ internal_changed (λ x. record x { variance = Some variance }) self.old }
     {
         self.set_variance_key(variance);
     }
@@ -293,7 +303,8 @@ impl CacheMeta {
 
     /// The response's head, mutably.
     pub fn response_header_mut(&mut self) -> &mut ResponseHeader
-        ensures* writes_back { sem 𝓛 (Lends the_row head.the_row self.entry result (λ h. record self.old { header = shown h })) }
+        ensures* writes_back { sem 𝓛 (Lends the_row head.the_row self.entry result (λ h.
+            record self.old { header = shown h })) }
         ensures value { shown result.now ≡ self.old.header }
     {
         &mut self.header

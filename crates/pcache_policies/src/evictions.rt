@@ -50,8 +50,10 @@ pub(crate) fn let_go(
     ensures out { result.items ≡ ring_specs.chosen ring.old }
     ensures long { length result.items ≡ length ring.old.leaving }
     ensures capacity { vec_capacity result ≡ vec_capacity out }
-    ensures weight { evicted.new.weight ≡ min (evicted.old.weight + weight (plain ring.old.leaving)) (2 ^ 64 - 1) }
-    ensures count { evicted.new.count ≡ min (evicted.old.count + length ring.old.leaving) (2 ^ 64 - 1) }
+    ensures weight { evicted.new.weight
+        ≡ min (evicted.old.weight + weight (plain ring.old.leaving)) (2 ^ 64 - 1) }
+    ensures count { evicted.new.count
+        ≡ min (evicted.old.count + length ring.old.leaving) (2 ^ 64 - 1) }
 {
     evicted.add(ring.leaving_weight(), ring.leaving_len());
     ring.drain(&mut out);

@@ -48,7 +48,8 @@ impl Fifos {
     ) -> Result<()>
         requires none { self.old.ring.leaving ≡ [] }
         requires few { count < 2 ^ 63 }
-        ensures ok { OnOk result (Chooses (limits_of limit watermark) size count self.old self.new) }
+        ensures ok { OnOk result
+            (Chooses (limits_of limit watermark) size count self.old self.new) }
         ensures same { SameEntries self.old.ring self.new.ring }
         ensures kind { IfErr result (λ e. e ≡ OutOfMemory) }
     {
@@ -71,8 +72,10 @@ impl Fifos {
         watermark: Option<usize>,
     ) -> Result<Vec<CacheEntryKey>>
         requires { count < 2 ^ 63 }
-        ensures room { IfOk result (λ out. MakesRoom (limits_of limit watermark) size count (shown self.old) (chosen self.new.ring) (left_of self.new)) }
-        ensures out { IfOk result (λ out. (out.items ≡ []) × (length self.new.ring.leaving + 1 ≤ vec_capacity out)) }
+        ensures room { IfOk result (λ out. MakesRoom (limits_of limit watermark) size count
+            (shown self.old) (chosen self.new.ring) (left_of self.new)) }
+        ensures out { IfOk result (λ out.
+            (out.items ≡ []) × (length self.new.ring.leaving + 1 ≤ vec_capacity out)) }
         ensures same { SameEntries self.old.ring self.new.ring }
         ensures once { IfOk result (λ out. IsOnce (all self.new.ring)) }
         ensures kind { IfErr result (λ e. e ≡ OutOfMemory) }

@@ -174,7 +174,9 @@ impl Queue {
 
     // Moves an entry of the queue to the front.
     fn promote(&mut self, item: &CacheEntryKey)
-        ensures { (v : Seen) → seen_of item.now self.old ≡ Some v → self.new ≡ (item.now, v) ∷ rest_of item.now self.old }
+        ensures { (v : Seen)
+            → seen_of item.now self.old ≡ Some v
+            → self.new ≡ (item.now, v) ∷ rest_of item.now self.old }
     {
         self.cache.promote(item);
         self.cache.len(); // for the prover: its contract says that the list is valid
@@ -228,9 +230,14 @@ fn write_seen(
     item: &CacheEntryKey,
     seen: Seen,
 ) -> Option<usize>
-    ensures there { IfSome result (λ before. (v : Seen) × (seen_of item.now cache.old.entries ≡ Some v) × (before ≡ v.weight)
-        × (cache.new ≡ lru_cache (set_value (entry_eq item.now) cache.old.entries seen) cache.old.cap)) }
-    ensures missing { IfNone result ((seen_of item.now cache.old.entries ≡ None) × (cache.new.entries ≡ cache.old.entries) × (cache.new.cap ≡ cache.old.cap)) }
+    ensures there { IfSome result (λ before. (v : Seen)
+        × (seen_of item.now cache.old.entries ≡ Some v)
+        × (before ≡ v.weight)
+        × (cache.new
+        ≡ lru_cache (set_value (entry_eq item.now) cache.old.entries seen) cache.old.cap)) }
+    ensures missing { IfNone result ((seen_of item.now cache.old.entries ≡ None)
+        × (cache.new.entries ≡ cache.old.entries)
+        × (cache.new.cap ≡ cache.old.cap)) }
 {
     let Some(place) = cache.peek_mut(item) else {
         return None;

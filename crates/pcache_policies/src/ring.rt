@@ -99,7 +99,9 @@ impl Ring {
 
     /// Sets what is known of an entry in place.
     pub(crate) fn set(&mut self, item: &CacheEntryKey, seen: Seen)
-        ensures { self.new ≡ ring (reseen item.now seen self.old.ahead) (reseen item.now seen self.old.leaving) (reseen item.now seen self.old.passed) }
+        ensures { self.new
+            ≡ ring (reseen item.now seen self.old.ahead) (reseen item.now seen self.old.leaving)
+            (reseen item.now seen self.old.passed) }
     {
         self.ahead.set(item, seen);
         self.leaving.set(item, seen);
@@ -108,7 +110,9 @@ impl Ring {
 
     /// Removes an entry.
     pub(crate) fn remove(&mut self, item: &CacheEntryKey)
-        ensures { self.new ≡ ring (rest_of item.now self.old.ahead) (rest_of item.now self.old.leaving) (rest_of item.now self.old.passed) }
+        ensures { self.new
+            ≡ ring (rest_of item.now self.old.ahead) (rest_of item.now self.old.leaving)
+            (rest_of item.now self.old.passed) }
     {
         self.ahead.remove(item);
         self.leaving.remove(item);
@@ -142,8 +146,10 @@ impl Ring {
         watermark: Option<usize>,
     ) -> bool
         requires { count < 2 ^ 63 }
-        ensures room { result ≡ true → HasRoom (limits_of limit watermark) size count (entries (left_of self.now)) }
-        ensures none { result ≡ false → ¬ HasRoom (limits_of limit watermark) size count (entries (left_of self.now)) }
+        ensures room { result ≡ true
+            → HasRoom (limits_of limit watermark) size count (entries (left_of self.now)) }
+        ensures none { result ≡ false
+            → ¬ HasRoom (limits_of limit watermark) size count (entries (left_of self.now)) }
     {
         let weight = size as u128 + self.ahead.weight() + self.passed.weight();
         let items = count + (self.ahead.len() + self.passed.len());
@@ -163,7 +169,8 @@ impl Ring {
     // One entry that was chosen counts as passed, if there is one.
     fn settle_one(&mut self) -> Result<bool>
         ensures shown { shown self.new ≡ shown self.old }
-        ensures more { IfOk result (λ more. more ≡ true → length self.new.leaving < length self.old.leaving) }
+        ensures more { IfOk result (λ more.
+            more ≡ true → length self.new.leaving < length self.old.leaving) }
         ensures none { IfOk result (λ more. more ≡ false → self.new.leaving ≡ []) }
         ensures kind { IfErr result (λ e. e ≡ OutOfMemory) }
     {
@@ -186,7 +193,8 @@ impl Ring {
     ) -> Result<()>
         requires none { self.old.leaving ≡ [] }
         requires few { count < 2 ^ 63 }
-        ensures ok { OnOk result (Chooses (limits_of limit watermark) size count self.old self.new) }
+        ensures ok { OnOk result
+            (Chooses (limits_of limit watermark) size count self.old self.new) }
         ensures same { SameEntries self.old self.new }
         ensures kind { IfErr result (λ e. e ≡ OutOfMemory) }
     {
@@ -209,8 +217,10 @@ impl Ring {
         watermark: Option<usize>,
     ) -> Result<Vec<CacheEntryKey>>
         requires { count < 2 ^ 63 }
-        ensures room { IfOk result (λ out. MakesRoom (limits_of limit watermark) size count (shown self.old) (chosen self.new) (left_of self.new)) }
-        ensures out { IfOk result (λ out. (out.items ≡ []) × (length self.new.leaving + 1 ≤ vec_capacity out)) }
+        ensures room { IfOk result (λ out. MakesRoom (limits_of limit watermark) size count
+            (shown self.old) (chosen self.new) (left_of self.new)) }
+        ensures out { IfOk result (λ out.
+            (out.items ≡ []) × (length self.new.leaving + 1 ≤ vec_capacity out)) }
         ensures same { SameEntries self.old self.new }
         ensures once { IfOk result (λ out. IsOnce (all self.new)) }
         ensures kind { IfErr result (λ e. e ≡ OutOfMemory) }
@@ -266,7 +276,8 @@ impl Ring {
     pub(crate) fn choose_ahead(&mut self, key: CacheEntryKey, seen: Seen) -> Result<()>
         requires { last_entry self.old.ahead ≡ Some (key, seen) }
         ensures ahead { OnOk result (self.old.ahead ≡ self.new.ahead ++ (key, seen) ∷ []) }
-        ensures others { OnOk result ((self.new.leaving ≡ (key, seen) ∷ self.old.leaving) × (self.new.passed ≡ self.old.passed)) }
+        ensures others { OnOk result ((self.new.leaving ≡ (key, seen) ∷ self.old.leaving)
+            × (self.new.passed ≡ self.old.passed)) }
         ensures kind { IfErr result (λ e. e ≡ OutOfMemory) }
         ensures err { OnErr result (self.new ≡ self.old) }
     {
@@ -279,7 +290,8 @@ impl Ring {
     pub(crate) fn pass_unused(&mut self, key: CacheEntryKey, seen: Seen) -> Result<()>
         requires { last_entry self.old.ahead ≡ Some (key, seen) }
         ensures ahead { OnOk result (self.old.ahead ≡ self.new.ahead ++ (key, seen) ∷ []) }
-        ensures others { OnOk result ((self.new.leaving ≡ self.old.leaving) × (self.new.passed ≡ (key, unused seen.weight) ∷ self.old.passed)) }
+        ensures others { OnOk result ((self.new.leaving ≡ self.old.leaving)
+            × (self.new.passed ≡ (key, unused seen.weight) ∷ self.old.passed)) }
         ensures kind { IfErr result (λ e. e ≡ OutOfMemory) }
         ensures err { OnErr result (self.new ≡ self.old) }
     {
@@ -292,7 +304,8 @@ impl Ring {
     pub(crate) fn choose_passed(&mut self, key: CacheEntryKey, seen: Seen) -> Result<()>
         requires { last_entry self.old.passed ≡ Some (key, seen) }
         ensures passed { OnOk result (self.old.passed ≡ self.new.passed ++ (key, seen) ∷ []) }
-        ensures others { OnOk result ((self.new.leaving ≡ (key, seen) ∷ self.old.leaving) × (self.new.ahead ≡ self.old.ahead)) }
+        ensures others { OnOk result ((self.new.leaving ≡ (key, seen) ∷ self.old.leaving)
+            × (self.new.ahead ≡ self.old.ahead)) }
         ensures kind { IfErr result (λ e. e ≡ OutOfMemory) }
         ensures err { OnErr result (self.new ≡ self.old) }
     {
@@ -305,7 +318,9 @@ impl Ring {
     pub(crate) fn pass_again(&mut self, key: &CacheEntryKey, before: Seen, after: Seen)
         requires last { last_entry self.old.passed ≡ Some (key.now, before) }
         requires weight { after.weight ≡ before.weight }
-        ensures passed { (rest : Queue) × (self.old.passed ≡ rest ++ (key.now, before) ∷ []) × (self.new.passed ≡ (key.now, after) ∷ rest) }
+        ensures passed { (rest : Queue)
+            × (self.old.passed ≡ rest ++ (key.now, before) ∷ [])
+            × (self.new.passed ≡ (key.now, after) ∷ rest) }
         ensures others { (self.new.leaving ≡ self.old.leaving) × (self.new.ahead ≡ self.old.ahead) }
     {
         self.passed.requeue(key, after);
@@ -354,7 +369,8 @@ impl Ring {
     /// Adds a new entry as the newest ahead.
     pub(crate) fn add_ahead(&mut self, item: CacheEntryKey, size: usize) -> Result<()>
         requires { seen_of item (all self.old) ≡ None }
-        ensures ok { OnOk result (self.new ≡ ring ((item, unused size) ∷ self.old.ahead) self.old.leaving self.old.passed) }
+        ensures ok { OnOk result (self.new
+            ≡ ring ((item, unused size) ∷ self.old.ahead) self.old.leaving self.old.passed) }
         ensures kind { IfErr result (λ e. e ≡ OutOfMemory) }
         ensures err { OnErr result (self.new ≡ self.old) }
     {
@@ -368,7 +384,8 @@ impl Ring {
     /// Adds a new entry as the newest of the passed ones.
     pub(crate) fn add_passed(&mut self, item: CacheEntryKey, size: usize) -> Result<()>
         requires { seen_of item (all self.old) ≡ None }
-        ensures ok { OnOk result (self.new ≡ ring self.old.ahead self.old.leaving ((item, unused size) ∷ self.old.passed)) }
+        ensures ok { OnOk result (self.new
+            ≡ ring self.old.ahead self.old.leaving ((item, unused size) ∷ self.old.passed)) }
         ensures kind { IfErr result (λ e. e ≡ OutOfMemory) }
         ensures err { OnErr result (self.new ≡ self.old) }
     {
@@ -396,7 +413,9 @@ impl Ring {
         ensures hand { left_of self.new ≡ turned self.old.ahead self.old.passed }
         ensures leaving { self.new.leaving ≡ self.old.leaving }
         ensures same { SameEntries self.old self.new }
-        ensures absent { (k : CacheEntryKey) → seen_of k (all self.old) ≡ None → seen_of k (all self.new) ≡ None }
+        ensures absent { (k : CacheEntryKey)
+            → seen_of k (all self.old) ≡ None
+            → seen_of k (all self.new) ≡ None }
     {
         if self.ahead.len() == 0 {
             mem::swap(&mut self.ahead, &mut self.passed);
@@ -430,7 +449,8 @@ impl Ring {
 
     // Removes the next of the chosen entries.
     fn pop_leaving(&mut self) -> Option<CacheEntryKey>
-        ensures last { IfSome result (λ k. (v : Seen) × (self.old.leaving ≡ self.new.leaving ++ (k, v) ∷ [])) }
+        ensures last { IfSome result (λ k.
+            (v : Seen) × (self.old.leaving ≡ self.new.leaving ++ (k, v) ∷ [])) }
         ensures empty { IfNone result (self.old.leaving ≡ []) }
         ensures others { (self.new.ahead ≡ self.old.ahead) × (self.new.passed ≡ self.old.passed) }
         ensures none { IfNone result (self.new.leaving ≡ []) }

@@ -137,7 +137,8 @@ impl Manager {
         size: usize,
         _fresh_until: Moment,
     ) -> Result<Vec<CacheEntryKey>>
-        ensures ok { IfOk result (λ out. Admission (seen_of item (whole self.old.fifos)) self.old item size self.new out.items) }
+        ensures ok { IfOk result (λ out.
+            Admission (seen_of item (whole self.old.fifos)) self.old item size self.new out.items) }
         ensures once { IsOnce (whole self.old.fifos) }
         ensures kind { IfErr result (λ e. e ≡ OutOfMemory) }
         ensures err { OnErr result (HasFailed self.old self.new) }
@@ -158,9 +159,13 @@ impl Manager {
         delta: usize,
         max_weight: Option<usize>,
     ) -> Result<Vec<CacheEntryKey>>
-        ensures ok { IfOk result (λ out. Increment (seen_of item.now (whole self.old.fifos)) self.old item.now delta max_weight self.new out.items) }
-        ensures within { (v : Seen) → seen_of item.now (whole self.old.fifos) ≡ Some v
-            → IsWithinAsList self.old.limits (entries (reseen_in item.now (record v { weight = raised delta max_weight (Some v.weight) }) self.old.fifos)) → IsOk result }
+        ensures ok { IfOk result (λ out. Increment (seen_of item.now (whole self.old.fifos))
+            self.old item.now delta max_weight self.new out.items) }
+        ensures within { (v : Seen)
+            → seen_of item.now (whole self.old.fifos) ≡ Some v
+            → IsWithinAsList self.old.limits (entries (reseen_in item.now
+            (record v { weight = raised delta max_weight (Some v.weight) }) self.old.fifos))
+            → IsOk result }
         ensures once { IsOnce (whole self.old.fifos) }
         ensures kind { IfErr result (λ e. e ≡ OutOfMemory) }
         ensures err { OnErr result (HasFailed self.old self.new) }
@@ -194,7 +199,11 @@ impl Manager {
         _fresh_until: Moment,
     ) -> Result<bool>
         ensures was { IfOk result (λ was. was ≡ is_some (seen_of item.now (whole self.old.fifos))) }
-        ensures ok { OnOk result (self.new ≡ record self.old { fifos = accessed (seen_of item.now (whole self.old.fifos)) item.now size self.old.fifos }) }
+        ensures ok { OnOk result (self.new
+            ≡ record self.old {
+              fifos = accessed (seen_of item.now (whole self.old.fifos)) item.now
+                  size self.old.fifos;
+            }) }
         ensures there { IsSome (seen_of item.now (whole self.old.fifos)) → IsOk result }
         ensures once { IsOnce (whole self.old.fifos) }
         ensures kind { IfErr result (λ e. e ≡ OutOfMemory) }
@@ -213,7 +222,8 @@ impl Manager {
     fn add(&mut self, item: &CacheEntryKey, size: usize) -> Result<bool>
         requires { seen_of item.now (whole self.old.fifos) ≡ None }
         ensures was { IfOk result (λ was. was ≡ false) }
-        ensures ok { OnOk result (self.new ≡ record self.old { fifos = entered item.now size self.old.fifos }) }
+        ensures ok { OnOk result (self.new
+            ≡ record self.old { fifos = entered item.now size self.old.fifos }) }
         ensures kind { IfErr result (λ e. e ≡ OutOfMemory) }
         ensures err { OnErr result (HasFailed self.old self.new) }
     {
@@ -257,8 +267,11 @@ impl Manager {
         after: Seen,
     ) -> Result<Vec<CacheEntryKey>>
         requires { seen_of item.now (whole self.old.fifos) ≡ Some before }
-        ensures ok { IfOk result (λ out. KeepsLimits self.old (reseen_in item.now after self.old.fifos) self.new out.items) }
-        ensures within { IsWithinAsList self.old.limits (entries (reseen_in item.now after self.old.fifos)) → IsOk result }
+        ensures ok { IfOk result (λ out.
+            KeepsLimits self.old (reseen_in item.now after self.old.fifos) self.new out.items) }
+        ensures within { IsWithinAsList self.old.limits
+            (entries (reseen_in item.now after self.old.fifos))
+            → IsOk result }
         ensures kind { IfErr result (λ e. e ≡ OutOfMemory) }
         ensures err { OnErr result (HasFailed self.old self.new) }
     {

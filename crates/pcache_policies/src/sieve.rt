@@ -135,7 +135,8 @@ impl Manager {
         size: usize,
         _fresh_until: Moment,
     ) -> Result<Vec<CacheEntryKey>>
-        ensures ok { IfOk result (λ out. Admission (seen_of item (whole self.old.sieve)) self.old item size self.new out.items) }
+        ensures ok { IfOk result (λ out.
+            Admission (seen_of item (whole self.old.sieve)) self.old item size self.new out.items) }
         ensures once { IsOnce (whole self.old.sieve) }
         ensures kind { IfErr result (λ e. e ≡ OutOfMemory) }
         ensures err { OnErr result (HasFailed self.old self.new) }
@@ -156,9 +157,13 @@ impl Manager {
         delta: usize,
         max_weight: Option<usize>,
     ) -> Result<Vec<CacheEntryKey>>
-        ensures ok { IfOk result (λ out. Increment (seen_of item.now (whole self.old.sieve)) self.old item.now delta max_weight self.new out.items) }
-        ensures within { (v : Seen) → seen_of item.now (whole self.old.sieve) ≡ Some v
-            → IsWithinAsList self.old.limits (entries (reseen_in item.now (record v { weight = raised delta max_weight (Some v.weight) }) self.old.sieve)) → IsOk result }
+        ensures ok { IfOk result (λ out. Increment (seen_of item.now (whole self.old.sieve))
+            self.old item.now delta max_weight self.new out.items) }
+        ensures within { (v : Seen)
+            → seen_of item.now (whole self.old.sieve) ≡ Some v
+            → IsWithinAsList self.old.limits (entries (reseen_in item.now
+            (record v { weight = raised delta max_weight (Some v.weight) }) self.old.sieve))
+            → IsOk result }
         ensures once { IsOnce (whole self.old.sieve) }
         ensures kind { IfErr result (λ e. e ≡ OutOfMemory) }
         ensures err { OnErr result (HasFailed self.old self.new) }
@@ -192,7 +197,11 @@ impl Manager {
         _fresh_until: Moment,
     ) -> Result<bool>
         ensures was { IfOk result (λ was. was ≡ is_some (seen_of item.now (whole self.old.sieve))) }
-        ensures ok { OnOk result (self.new ≡ record self.old { sieve = accessed (seen_of item.now (whole self.old.sieve)) item.now size self.old.sieve }) }
+        ensures ok { OnOk result (self.new
+            ≡ record self.old {
+              sieve = accessed (seen_of item.now (whole self.old.sieve)) item.now
+                  size self.old.sieve;
+            }) }
         ensures there { IsSome (seen_of item.now (whole self.old.sieve)) → IsOk result }
         ensures once { IsOnce (whole self.old.sieve) }
         ensures kind { IfErr result (λ e. e ≡ OutOfMemory) }
@@ -211,7 +220,8 @@ impl Manager {
     fn add(&mut self, item: &CacheEntryKey, size: usize) -> Result<bool>
         requires { seen_of item.now (whole self.old.sieve) ≡ None }
         ensures was { IfOk result (λ was. was ≡ false) }
-        ensures ok { OnOk result (self.new ≡ record self.old { sieve = entered item.now size self.old.sieve }) }
+        ensures ok { OnOk result (self.new
+            ≡ record self.old { sieve = entered item.now size self.old.sieve }) }
         ensures kind { IfErr result (λ e. e ≡ OutOfMemory) }
         ensures err { OnErr result (HasFailed self.old self.new) }
     {
@@ -251,8 +261,11 @@ impl Manager {
         after: Seen,
     ) -> Result<Vec<CacheEntryKey>>
         requires { seen_of item.now (whole self.old.sieve) ≡ Some before }
-        ensures ok { IfOk result (λ out. KeepsLimits self.old (reseen_in item.now after self.old.sieve) self.new out.items) }
-        ensures within { IsWithinAsList self.old.limits (entries (reseen_in item.now after self.old.sieve)) → IsOk result }
+        ensures ok { IfOk result (λ out.
+            KeepsLimits self.old (reseen_in item.now after self.old.sieve) self.new out.items) }
+        ensures within { IsWithinAsList self.old.limits
+            (entries (reseen_in item.now after self.old.sieve))
+            → IsOk result }
         ensures kind { IfErr result (λ e. e ≡ OutOfMemory) }
         ensures err { OnErr result (HasFailed self.old self.new) }
     {

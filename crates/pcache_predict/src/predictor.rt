@@ -53,7 +53,8 @@ pub trait CacheablePredictor {
     /// reason does not count, otherwise whether the key was predicted to be cacheable. Fails only
     /// when memory runs out, for a reason that may count, and then changes nothing.
     fn mark_uncacheable(&mut self, key: &CacheKey, why: NoCacheReason) -> Result<Option<bool>>
-        ensures ok { IfOk result (λ answer. marks self.old (primary_of key.now) why answer self.new) }
+        ensures ok { IfOk result (λ answer.
+            marks self.old (primary_of key.now) why answer self.new) }
         ensures err { OnErr result (self.new ≡ self.old) }
         ensures kind { IfErr result (λ e. e ≡ OutOfMemory) }
         ensures counted { OnErr result (may_count self.old why) };
@@ -106,7 +107,8 @@ impl<const N_SHARDS: usize> Predictor<N_SHARDS> {
     ) -> Result<Predictor<N_SHARDS>>
         requires shards { 0 < N_SHARDS }
         requires callable { ForSome skip_custom_reasons IsAlwaysCallable }
-        ensures memory { IfOk result (λ made. memory_of made ≡ replicate N_SHARDS (empty_shard shard_capacity)) }
+        ensures memory { IfOk result (λ made.
+            memory_of made ≡ replicate N_SHARDS (empty_shard shard_capacity)) }
         ensures predicate { IfOk result (λ made. predicate_of made ≡ skip_custom_reasons) }
         ensures kind { IfErr result (λ e. e ≡ OutOfMemory) }
     {
@@ -122,7 +124,8 @@ impl<const N_SHARDS: usize> Predictor<N_SHARDS> {
 
     // Whether a mark with this reason is remembered.
     fn remembers(&self, reason: NoCacheReason) -> bool
-        ensures { (skipped : Bool) × Skips CustomReasonPredicate.post (predicate_of self.now) reason skipped
+        ensures { (skipped : Bool)
+            × Skips CustomReasonPredicate.post (predicate_of self.now) reason skipped
             × (result ≡ counts reason skipped) }
     {
         match reason {

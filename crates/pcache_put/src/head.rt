@@ -26,9 +26,13 @@ const MAX_NAME_LEN: usize = 65535;
 
 // The spans of the parts of the head that all of the bytes are.
 fn parts_of(bytes: &[u8], room: &mut [HeaderSpan]) -> Result<ResponseSpans>
-    ensures found { IfOk result (λ r. (h : ResponseHead) × IsHead (length room.old) bytes.now h
-        × (r.code ≡ status_code h) × (r.version ≡ h.minor) × AreFieldsAt bytes.now room.new r.headers h.fields) }
-    ensures within { IfOk result (λ r. (r.headers ≤ length room.new) × All (IsHeaderWithin (length bytes.now)) (take r.headers room.new)) }
+    ensures found { IfOk result (λ r. (h : ResponseHead)
+        × IsHead (length room.old) bytes.now h
+        × (r.code ≡ status_code h)
+        × (r.version ≡ h.minor)
+        × AreFieldsAt bytes.now room.new r.headers h.fields) }
+    ensures within { IfOk result (λ r. (r.headers ≤ length room.new)
+        × All (IsHeaderWithin (length bytes.now)) (take r.headers room.new)) }
     ensures invalid { OnErr result ((h : ResponseHead) → ¬ (IsHead (length room.old) bytes.now h)) }
     ensures kind { IfErr result (λ e. e ≡ InvalidHttpHeader) }
 {
@@ -65,8 +69,10 @@ fn add_span(alloc: Global, fields: &mut HeaderMap, bytes: &Bytes, span: HeaderSp
     requires values { value_count fields.old + 1 < 2 ^ 64 }
     ensures ok { OnOk result (fields.new ≡ append_pair fields.old (header_bytes bytes.now span)) }
     ensures short { OnOk result (IsShort (header_bytes bytes.now span)) }
-    ensures long { IfErr result (λ e. e ≡ InvalidHttpHeader → ¬ (IsShort (header_bytes bytes.now span))) }
-    ensures too_long { ¬ (IsShort (header_bytes bytes.now span)) → IsErrOf result InvalidHttpHeader }
+    ensures long { IfErr result (λ e.
+        e ≡ InvalidHttpHeader → ¬ (IsShort (header_bytes bytes.now span))) }
+    ensures too_long { ¬ (IsShort (header_bytes bytes.now span))
+        → IsErrOf result InvalidHttpHeader }
     ensures kind { IfErr result (λ e. (e ≡ OutOfMemory) ⊎ (e ≡ InvalidHttpHeader)) }
 {
     let name = field_name(alloc, span.name.of(bytes.as_slice()))?;
@@ -97,9 +103,11 @@ fn fields_of(alloc: Global, bytes: &Bytes, spans: &[HeaderSpan]) -> Result<Heade
     requires few { length spans.now ≤ 256 }
     requires within { All (IsHeaderWithin (length bytes.now)) spans.now }
     requires pairs { All IsPair (map (header_bytes bytes.now) spans.now) }
-    ensures ok { IfOk result (λ fields. fields ≡ fields_after (map (header_bytes bytes.now) spans.now)) }
+    ensures ok { IfOk result (λ fields.
+        fields ≡ fields_after (map (header_bytes bytes.now) spans.now)) }
     ensures short { OnOk result (All IsShort (map (header_bytes bytes.now) spans.now)) }
-    ensures long { IfErr result (λ e. e ≡ InvalidHttpHeader → ¬ (All IsShort (map (header_bytes bytes.now) spans.now))) }
+    ensures long { IfErr result (λ e.
+        e ≡ InvalidHttpHeader → ¬ (All IsShort (map (header_bytes bytes.now) spans.now))) }
     ensures kind { IfErr result (λ e. (e ≡ OutOfMemory) ⊎ (e ≡ InvalidHttpHeader)) }
 {
     let mut fields = room_for(alloc, spans.len())?;
@@ -122,8 +130,10 @@ fn version_of(minor: u8) -> HttpVersion
 // The head that all of the bytes are.
 pub(crate) fn read_header(alloc: Global, bytes: Vec<u8>) -> Result<ResponseHeader>
     ensures ok { IfOk result (ReadsHeader bytes.items) }
-    ensures invalid { IfErr result (λ e. e ≡ InvalidHttpHeader → (header : _) → ¬ (ReadsHeader bytes.items header)) }
-    ensures no_head { ((h : ResponseHead) → ¬ (IsHead 256 bytes.items h)) → IsErrOf result InvalidHttpHeader }
+    ensures invalid { IfErr result (λ e.
+        e ≡ InvalidHttpHeader → (header : _) → ¬ (ReadsHeader bytes.items header)) }
+    ensures no_head { ((h : ResponseHead) → ¬ (IsHead 256 bytes.items h))
+        → IsErrOf result InvalidHttpHeader }
     ensures kind { IfErr result (λ e. (e ≡ OutOfMemory) ⊎ (e ≡ InvalidHttpHeader)) }
 {
     let mut room = [EMPTY_HEADER_SPAN; MAX_FIELDS];

@@ -42,7 +42,9 @@ fn next(state: HeadState, byte: u8) -> HeadState
 // How many of the next bytes come before the end of their line, found by one search.
 fn line_rest(bytes: &[u8]) -> usize
     ensures within { result ≤ length bytes.now }
-    ensures stays { (k : ℕ) → k ≤ result → state_after HeadState.Inside (take k bytes.now) ≡ HeadState.Inside }
+    ensures stays { (k : ℕ)
+        → k ≤ result
+        → state_after HeadState.Inside (take k bytes.now) ≡ HeadState.Inside }
 {
     match memchr(b'\n', bytes) {
         Some(end) => end,
@@ -66,7 +68,9 @@ fn passed(state: HeadState, bytes: &[u8]) -> usize
 fn cut(state: &mut HeadState, piece: &[u8]) -> Option<usize>
     requires { state.old ≢ HeadState.Ended }
     ensures found { IfSome result (λ n. CutsAt state.old piece.now n) }
-    ensures none { IfNone result ((k : ℕ) → k ≤ length piece.now → state_after state.old (take k piece.now) ≢ HeadState.Ended) }
+    ensures none { IfNone result ((k : ℕ)
+        → k ≤ length piece.now
+        → state_after state.old (take k piece.now) ≢ HeadState.Ended) }
     ensures moved { IfNone result (state.new ≡ state_after state.old piece.now) }
 {
     let mut at = 0;

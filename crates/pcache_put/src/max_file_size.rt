@@ -36,7 +36,8 @@ impl MaxFileSizeTracker {
     /// Counts so many more bytes, up to the largest `usize`, and returns whether the count is at most
     /// the limit.
     pub fn add_body_bytes(&mut self, bytes: usize) -> bool
-        ensures counted { self.new ≡ record self.old { bytes = min (self.old.bytes + bytes) (2 ^ 64 - 1) } }
+        ensures counted { self.new
+            ≡ record self.old { bytes = min (self.old.bytes + bytes) (2 ^ 64 - 1) } }
         ensures allowed { IsTrue result ↔ (self.new.bytes ≤ self.new.limit) }
     {
         self.body_bytes = self.body_bytes.saturating_add(bytes);

@@ -82,7 +82,8 @@ fn read_head(alloc: Global, bytes: Vec<u8>) -> Result<((ResponseHeader, bool), O
     ensures reads { IfOk result (λ r. ReadsHeader bytes.items r.0.0) }
     ensures size { IfOk result (λ r. HasSize r.0.0 r.1) }
     ensures whole { IfOk result (λ r. r.0.1 ≡ is_whole r.1 []) }
-    ensures invalid { IfErr result (λ e. e ≡ InvalidHttpHeader → (head : ResponseHeader) → ¬ (ReadsHeader bytes.items head)) }
+    ensures invalid { IfErr result (λ e.
+        e ≡ InvalidHttpHeader → (head : ResponseHeader) → ¬ (ReadsHeader bytes.items head)) }
     ensures kind { IfErr result (λ e. (e ≡ OutOfMemory) ⊎ (e ≡ InvalidHttpHeader)) }
 {
     let head = read_header(alloc, bytes)?;
@@ -118,7 +119,8 @@ fn read_body(
 
 // Takes in a piece while the head has not ended.
 fn take_head(alloc: Global, head: HeadBytes, piece: &[u8]) -> Result<(Progress, PieceParts)>
-    ensures joined { IfOk result (λ r. TakenIn (parsed_of r.0) (head ++ piece.now) (add_all nothing (parts_of r.1))) }
+    ensures joined { IfOk result (λ r.
+        TakenIn (parsed_of r.0) (head ++ piece.now) (add_all nothing (parts_of r.1))) }
     ensures gives { IfOk result (λ r. GivesParts (AtHead head) piece.now (parts_of r.1)) }
     ensures invalid { IfErr result (λ e. e ≡ InvalidHttpHeader → IsUnreadable (head ++ piece.now)) }
     ensures kind { IfErr result (λ e. (e ≡ OutOfMemory) ⊎ (e ≡ InvalidHttpHeader)) }
@@ -149,15 +151,20 @@ fn no_parts() -> PieceParts
 
 // Takes in a piece.
 fn take_in(alloc: Global, progress: Progress, piece: &[u8]) -> Result<(Progress, PieceParts)>
-    ensures joined { IfOk result (λ r. (bytes : List ℕ) (g : Given) → TakenIn (parsed_of progress) bytes g
+    ensures joined { IfOk result (λ r. (bytes : List ℕ) (g : Given)
+        → TakenIn (parsed_of progress) bytes g
         → TakenIn (parsed_of r.0) (bytes ++ piece.now) (add_all g (parts_of r.1))) }
     ensures gives { IfOk result (λ r. GivesParts (parsed_of progress) piece.now (parts_of r.1)) }
-    ensures finished { parsed_of progress ≡ AtEnd → IfOk result (λ r. r.0 ≡ Progress.Finished) × IsOk result }
+    ensures finished { parsed_of progress ≡ AtEnd
+        → IfOk result (λ r. r.0 ≡ Progress.Finished) × IsOk result }
     ensures whole { parsed_of progress ≡ AtBody (Some 0) → IsOk result }
     ensures failed { (kind : ErrorType) → parsed_of progress ≡ HasFailed kind → result ≡ Err kind }
-    ensures invalid { IfErr result (λ e. e ≡ InvalidHttpHeader → (bytes : List ℕ) (g : Given) → TakenIn (parsed_of progress) bytes g
+    ensures invalid { IfErr result (λ e. e ≡ InvalidHttpHeader
+        → (bytes : List ℕ) (g : Given)
+        → TakenIn (parsed_of progress) bytes g
         → IsUnreadable (bytes ++ piece.now)) }
-    ensures kind { IfErr result (λ e. (e ≡ OutOfMemory) ⊎ (e ≡ InvalidHttpHeader) ⊎ (parsed_of progress ≡ HasFailed e)) }
+    ensures kind { IfErr result (λ e.
+        (e ≡ OutOfMemory) ⊎ (e ≡ InvalidHttpHeader) ⊎ (parsed_of progress ≡ HasFailed e)) }
 {
     match progress {
         Progress::Head(head) => take_head(alloc, head, piece),
@@ -197,12 +204,19 @@ fn is_missing(left: Option<usize>) -> bool
 
 // The reason why a response may not end in this state; `None` if it may.
 fn missing(progress: &Progress) -> Option<ErrorType>
-    ensures complete { IfNone result ((bytes : List ℕ) (g : Given) → TakenIn (parsed_of progress.now) bytes g → IsComplete bytes) }
-    ensures early { IfSome result (λ e. e ≡ IncompleteHttpBody → (bytes : List ℕ) (g : Given) → TakenIn (parsed_of progress.now) bytes g
+    ensures complete { IfNone result ((bytes : List ℕ) (g : Given)
+        → TakenIn (parsed_of progress.now) bytes g
+        → IsComplete bytes) }
+    ensures early { IfSome result (λ e. e ≡ IncompleteHttpBody
+        → (bytes : List ℕ) (g : Given)
+        → TakenIn (parsed_of progress.now) bytes g
         → ¬ (IsComplete bytes)) }
-    ensures kind { IfSome result (λ e. (e ≡ IncompleteHttpBody) ⊎ (parsed_of progress.now ≡ HasFailed e)) }
+    ensures kind { IfSome result (λ e.
+        (e ≡ IncompleteHttpBody) ⊎ (parsed_of progress.now ≡ HasFailed e)) }
     ensures finished { parsed_of progress.now ≡ AtEnd → result ≡ None }
-    ensures failed { (kind : ErrorType) → parsed_of progress.now ≡ HasFailed kind → result ≡ Some kind }
+    ensures failed { (kind : ErrorType)
+        → parsed_of progress.now ≡ HasFailed kind
+        → result ≡ Some kind }
 {
     match progress {
         Progress::Head(_) => Some(INCOMPLETE_BODY),
@@ -221,8 +235,13 @@ fn missing(progress: &Progress) -> Option<ErrorType>
 /// Two parsers that took in the same bytes, split in whatever way, have given the same and are in the same
 /// state, and the head of these bytes can be read if it has ended. A law; the call does nothing.
 pub fn same_however_cut()
-    ensures given { (p q : Parsed) (bytes : List ℕ) (g h : Given) → TakenIn p bytes g → TakenIn q bytes h → (p ≡ q) × (g ≡ h) }
-    ensures readable { (p : Parsed) (bytes : List ℕ) (g : Given) → TakenIn p bytes g → ¬ (IsUnreadable bytes) }
+    ensures given { (p q : Parsed) (bytes : List ℕ) (g h : Given)
+        → TakenIn p bytes g
+        → TakenIn q bytes h
+        → (p ≡ q) × (g ≡ h) }
+    ensures readable { (p : Parsed) (bytes : List ℕ) (g : Given)
+        → TakenIn p bytes g
+        → ¬ (IsUnreadable bytes) }
 {}
 
 /// Reads a response whose bytes come in pieces of any size.
@@ -265,12 +284,16 @@ impl ResponseParse {
     ///
     /// Fails when memory runs out, and if the head has ended and can't be read.
     pub fn take_piece(&mut self, piece: &[u8]) -> Result<PieceParts>
-        ensures joined { IfOk result (λ parts. (bytes : List ℕ) (g : Given) → TakenIn self.old bytes g
+        ensures joined { IfOk result (λ parts. (bytes : List ℕ) (g : Given)
+            → TakenIn self.old bytes g
             → TakenIn self.new (bytes ++ piece.now) (add_all g (parts_of parts))) }
         ensures gives { IfOk result (λ parts. GivesParts self.old piece.now (parts_of parts)) }
-        ensures invalid { IfErr result (λ e. e ≡ InvalidHttpHeader → (bytes : List ℕ) (g : Given) → TakenIn self.old bytes g
+        ensures invalid { IfErr result (λ e. e ≡ InvalidHttpHeader
+            → (bytes : List ℕ) (g : Given)
+            → TakenIn self.old bytes g
             → IsUnreadable (bytes ++ piece.now)) }
-        ensures kind { IfErr result (λ e. (e ≡ OutOfMemory) ⊎ (e ≡ InvalidHttpHeader) ⊎ (self.old ≡ HasFailed e)) }
+        ensures kind { IfErr result (λ e.
+            (e ≡ OutOfMemory) ⊎ (e ≡ InvalidHttpHeader) ⊎ (self.old ≡ HasFailed e)) }
 
         // After the end, and after a whole body, pieces are ignored. After a failure each fails with the same
         // kind.
@@ -294,12 +317,16 @@ impl ResponseParse {
 
     /// The same as `take_piece`, with the parts in a list.
     pub fn inject_data(&mut self, piece: &[u8]) -> Result<Vec<ParsePart>>
-        ensures joined { IfOk result (λ parts. (bytes : List ℕ) (g : Given) → TakenIn self.old bytes g
+        ensures joined { IfOk result (λ parts. (bytes : List ℕ) (g : Given)
+            → TakenIn self.old bytes g
             → TakenIn self.new (bytes ++ piece.now) (add_all g parts.items)) }
         ensures gives { IfOk result (λ parts. GivesParts self.old piece.now parts.items) }
-        ensures invalid { IfErr result (λ e. e ≡ InvalidHttpHeader → (bytes : List ℕ) (g : Given) → TakenIn self.old bytes g
+        ensures invalid { IfErr result (λ e. e ≡ InvalidHttpHeader
+            → (bytes : List ℕ) (g : Given)
+            → TakenIn self.old bytes g
             → IsUnreadable (bytes ++ piece.now)) }
-        ensures kind { IfErr result (λ e. (e ≡ OutOfMemory) ⊎ (e ≡ InvalidHttpHeader) ⊎ (self.old ≡ HasFailed e)) }
+        ensures kind { IfErr result (λ e.
+            (e ≡ OutOfMemory) ⊎ (e ≡ InvalidHttpHeader) ⊎ (self.old ≡ HasFailed e)) }
         ensures finished { self.old ≡ AtEnd → IsOk result × (self.new ≡ AtEnd) }
         ensures whole { self.old ≡ AtBody (Some 0) → IsOk result }
         ensures failed { (kind : ErrorType) → self.old ≡ HasFailed kind → result ≡ Err kind }
@@ -316,8 +343,12 @@ impl ResponseParse {
     /// Ends the response: no more pieces come. Fails if the head has not ended, or if bytes of a
     /// body with a length are missing. Takes no memory.
     pub fn finish(&mut self) -> Result<()>
-        ensures complete { OnOk result ((bytes : List ℕ) (g : Given) → TakenIn self.old bytes g → IsComplete bytes) }
-        ensures early { IfErr result (λ e. e ≡ IncompleteHttpBody → (bytes : List ℕ) (g : Given) → TakenIn self.old bytes g
+        ensures complete { OnOk result ((bytes : List ℕ) (g : Given)
+            → TakenIn self.old bytes g
+            → IsComplete bytes) }
+        ensures early { IfErr result (λ e. e ≡ IncompleteHttpBody
+            → (bytes : List ℕ) (g : Given)
+            → TakenIn self.old bytes g
             → ¬ (IsComplete bytes)) }
         ensures kind { IfErr result (λ e. (e ≡ IncompleteHttpBody) ⊎ (self.old ≡ HasFailed e)) }
         ensures finished { OnOk result (self.new ≡ AtEnd) }

@@ -52,7 +52,8 @@ impl<T: Drop> Boxed<T> {
 impl Boxed<CacheMeta> {
     /// Sets when the body was fetched.
     pub fn set_provenance(&mut self, provenance: Moment)
-        ensures { self.new ≡ internal_changed (λ x. record x { provenance = Some provenance }) self.old }
+        ensures { self.new
+            ≡ internal_changed (λ x. record x { provenance = Some provenance }) self.old }
     {
         self.place.set_provenance(provenance);
     }

@@ -64,7 +64,8 @@ fn stand<M>(place: &mut Stage<M>, taken: Taken<M>) -> PieceReport<M>
 
 // Drops a write, if there is one.
 fn drop_writer<S: Storage>(storage: &mut S, writer: Option<S::Miss>)
-    ensures { S.state storage.new ≡ dropped_by (option_map S.Miss.write writer) (S.state storage.old) }
+    ensures { S.state storage.new
+        ≡ dropped_by (option_map S.Miss.write writer) (S.state storage.old) }
 {
     if let Some(writer) = writer {
         writer.drop_write(storage);
@@ -98,7 +99,14 @@ impl<C: CachePut, S: Storage> CachePutCtx<C, S> {
 
     /// A put of a key, with no limit on its body.
     pub fn new(alloc: Global, policy: C, key: CacheKey) -> CachePutCtx<C, S>
-        ensures put { result ≡ record { policy = policy; key = key; size = None; parser = AtHead []; stage = InHead } }
+        ensures put { result
+            ≡ record {
+              policy = policy;
+              key = key;
+              size = None;
+              parser = AtHead [];
+              stage = InHead;
+            } }
         ensures taken { HasTaken (C.says policy) result [] None }
     {
         CachePutCtx {
@@ -115,8 +123,12 @@ impl<C: CachePut, S: Storage> CachePutCtx<C, S> {
 
     /// Limits the number of the body's bytes, and sets their count to zero; to be called before the body begins.
     pub fn set_max_file_size_bytes(&mut self, max_file_size_bytes: usize)
-        ensures put { self.new ≡ record self.old { size = Some (record { bytes = 0; limit = max_file_size_bytes }) } }
-        ensures taken { (pieces : List Piece) → self.old.stage ≡ InHead → HasTaken (C.says self.old.policy) self.old pieces None → HasTaken (C.says self.old.policy) self.new pieces None }
+        ensures put { self.new
+            ≡ record self.old { size = Some (record { bytes = 0; limit = max_file_size_bytes }) } }
+        ensures taken { (pieces : List Piece)
+            → self.old.stage ≡ InHead
+            → HasTaken (C.says self.old.policy) self.old pieces None
+            → HasTaken (C.says self.old.policy) self.new pieces None }
     {
         self.intake.size = Some(MaxFileSizeTracker::new(max_file_size_bytes));
     }
@@ -131,7 +143,8 @@ impl<C: CachePut, S: Storage> CachePutCtx<C, S> {
     /// The handler of the write, if one is in flight.
     pub fn writer(&self) -> Option<&S::Miss>
         ensures write { option_map (λ w. S.Miss.write w.now) result ≡ write_in self.now.stage }
-        ensures entry { option_and_then (λ w. S.Miss.entry_number w.now) result ≡ entry_in self.now.stage }
+        ensures entry { option_and_then (λ w. S.Miss.entry_number w.now) result
+            ≡ entry_in self.now.stage }
     {
         match &self.stage {
             Stage::Body(filling) => Some(&filling.writer),
@@ -149,12 +162,24 @@ impl<C: CachePut, S: Storage> CachePutCtx<C, S> {
         storage: &mut S,
         now: Moment,
     ) -> Result<Option<NoCacheReason>>
-        ensures step { (d : Done) × TakesPiece (C.says self.old.policy) self.old self.new (record { bytes = piece.now; now = now }) d
-            × (S.state storage.new ≡ store_left result (stage_begun self.old.stage d.began (S.state storage.old).next (entry_given S.guarantees.numbers (S.state storage.old).next)) (store_after self.old.key self.old.stage d.began d.wrote (entry_given S.guarantees.numbers (S.state storage.old).next) (S.state storage.old))) }
+        ensures step { (d : Done)
+            × TakesPiece (C.says self.old.policy) self.old self.new
+            (record { bytes = piece.now; now = now }) d
+            × (S.state storage.new
+            ≡ store_left result
+            (stage_begun self.old.stage d.began (S.state storage.old).next
+            (entry_given S.guarantees.numbers (S.state storage.old).next))
+            (store_after self.old.key self.old.stage d.began d.wrote
+            (entry_given S.guarantees.numbers (S.state storage.old).next)
+            (S.state storage.old))) }
         ensures stands { IsStageAfter result self.new.stage }
         ensures again { RepeatsResult self.old.stage result }
-        ensures ignored { HasWholeBody self.old.stage self.old.parser → (result ≡ Ok None) × (self.new.stage ≡ self.old.stage) × (S.state storage.new ≡ S.state storage.old) }
-        ensures kind { IfErr result (λ e. MayFailPiece self.old.stage (S.state storage.old) e ⊎ (self.old.parser ≡ HasFailed e)) }
+        ensures ignored { HasWholeBody self.old.stage self.old.parser
+            → (result ≡ Ok None)
+            × (self.new.stage ≡ self.old.stage)
+            × (S.state storage.new ≡ S.state storage.old) }
+        ensures kind { IfErr result (λ e.
+            MayFailPiece self.old.stage (S.state storage.old) e ⊎ (self.old.parser ≡ HasFailed e)) }
     {
         let PieceReport {
             began: _,
@@ -179,28 +204,41 @@ impl<C: CachePut, S: Storage> CachePutCtx<C, S> {
         ensures limit { limit_of self.new.size ≡ limit_of self.old.size }
 
         // What the piece did: a write began, and bytes were written.
-        ensures store { S.state storage.new ≡ store_after self.old.key self.old.stage result.began result.wrote
-            (entry_given S.guarantees.numbers (S.state storage.old).next) (S.state storage.old) }
+        ensures store { S.state storage.new
+            ≡ store_after self.old.key self.old.stage result.began result.wrote
+            (entry_given S.guarantees.numbers (S.state storage.old).next)
+            (S.state storage.old) }
         ensures began { BeginsAtHead self.old.stage result.began }
         ensures ends { EndsPiece S.Miss.write result.end
-            (stage_begun self.old.stage result.began (S.state storage.old).next (entry_given S.guarantees.numbers (S.state storage.old).next)) self.new.stage }
+            (stage_begun self.old.stage result.began (S.state storage.old).next
+            (entry_given S.guarantees.numbers (S.state storage.old).next)) self.new.stage }
 
         // The put has taken in this piece too; and the end is announced for the bytes that complete a body.
-        ensures taken { (pieces : List Piece) (f : Option Filled) → HasTaken (C.says self.old.policy) self.old pieces f
-            → HasTaken (C.says self.old.policy) self.new (pieces ++ record { bytes = piece.now; now = now } ∷ []) (filled_on result.began result.wrote f) }
-        ensures last { (pieces : List Piece) (f : Option Filled) → HasTaken (C.says self.old.policy) self.old pieces f → IfSome result.wrote (λ w. w.eof ≡ is_done self.new.parser) }
+        ensures taken { (pieces : List Piece) (f : Option Filled)
+            → HasTaken (C.says self.old.policy) self.old pieces f
+            → HasTaken (C.says self.old.policy) self.new
+            (pieces ++ record { bytes = piece.now; now = now } ∷ [])
+            (filled_on result.began result.wrote f) }
+        ensures last { (pieces : List Piece) (f : Option Filled)
+            → HasTaken (C.says self.old.policy) self.old pieces f
+            → IfSome result.wrote (λ w. w.eof ≡ is_done self.new.parser) }
 
         // A write begins with the meta that the policy gives the response. A piece that fails has written nothing, though its write
         // may have begun.
-        ensures begun { (pieces : List Piece) (f : Option Filled) → HasTaken (C.says self.old.policy) self.old pieces f
-            → IfSome result.began (λ m. Accepted (C.says self.old.policy) (limit_of self.old.size) m (pieces ++ record { bytes = piece.now; now = now } ∷ [])) }
+        ensures begun { (pieces : List Piece) (f : Option Filled)
+            → HasTaken (C.says self.old.policy) self.old pieces f
+            → IfSome result.began (λ m. Accepted (C.says self.old.policy) (limit_of self.old.size) m
+            (pieces ++ record { bytes = piece.now; now = now } ∷ [])) }
         ensures refused { IfRefused result.end (λ _. result.wrote ≡ None) }
-        ensures whether { IfRefused result.end (λ e. IsBegunBefore self.old.stage e result.began ⊎ (self.old.parser ≡ HasFailed e)) }
+        ensures whether { IfRefused result.end (λ e.
+            IsBegunBefore self.old.stage e result.began ⊎ (self.old.parser ≡ HasFailed e)) }
 
         // A reason is returned again, and so is an error. Bytes after a whole body are ignored.
         ensures again { ReturnsAgain self.old.stage result.end }
-        ensures ignored { HasWholeBody self.old.stage self.old.parser → result ≡ record { began = None; wrote = None; end = PieceEnd.GoesOn } }
-        ensures kind { IfRefused result.end (λ e. MayFailPiece self.old.stage (S.state storage.old) e ⊎ (self.old.parser ≡ HasFailed e)) }
+        ensures ignored { HasWholeBody self.old.stage self.old.parser
+            → result ≡ record { began = None; wrote = None; end = PieceEnd.GoesOn } }
+        ensures kind { IfRefused result.end (λ e.
+            MayFailPiece self.old.stage (S.state storage.old) e ⊎ (self.old.parser ≡ HasFailed e)) }
     {
         let read = self.read_piece(piece, now);
         self.store_piece(read, storage)
@@ -209,9 +247,11 @@ impl<C: CachePut, S: Storage> CachePutCtx<C, S> {
     /// The first half of `take_piece`, which needs no storage: reads the next piece of the response, at a moment, and asks the policy
     /// once the head has come. What was read is to be stored by `store_piece` next.
     pub fn read_piece(&mut self, piece: &[u8], now: Moment) -> ReadPiece
-        ensures read { ReadsPiece (C.says self.old.policy) self.old self.new (record { bytes = piece.now; now = now }) result }
+        ensures read { ReadsPiece (C.says self.old.policy) self.old self.new
+            (record { bytes = piece.now; now = now }) result }
         ensures at { IsReadAt self.new.stage result }
-        ensures ignored { HasWholeBody self.old.stage self.old.parser → BringsNothing self.new.stage result }
+        ensures ignored { HasWholeBody self.old.stage self.old.parser
+            → BringsNothing self.new.stage result }
         ensures kind { IfUnread result (MayFailRead self.old.stage self.old.parser) }
     {
         match &self.stage {
@@ -231,27 +271,38 @@ impl<C: CachePut, S: Storage> CachePutCtx<C, S> {
         ensures limit { limit_of self.new.size ≡ limit_of self.old.size }
 
         // What was done: a write began, and bytes were written.
-        ensures store { S.state storage.new ≡ store_after self.old.key self.old.stage result.began result.wrote
-            (entry_given S.guarantees.numbers (S.state storage.old).next) (S.state storage.old) }
+        ensures store { S.state storage.new
+            ≡ store_after self.old.key self.old.stage result.began result.wrote
+            (entry_given S.guarantees.numbers (S.state storage.old).next)
+            (S.state storage.old) }
         ensures began { BeginsAtHead self.old.stage result.began }
         ensures ends { EndsPiece S.Miss.write result.end
-            (stage_begun self.old.stage result.began (S.state storage.old).next (entry_given S.guarantees.numbers (S.state storage.old).next)) self.new.stage }
+            (stage_begun self.old.stage result.began (S.state storage.old).next
+            (entry_given S.guarantees.numbers (S.state storage.old).next)) self.new.stage }
 
         // The put has taken in what it has read; and the end is announced with the bytes that complete a body.
-        ensures taken { (pieces : List Piece) (f : Option Filled) → HasRead (C.says self.old.policy) self.old pieces f read
-            → HasTaken (C.says self.old.policy) self.new pieces (filled_on result.began result.wrote f) }
-        ensures last { (pieces : List Piece) (f : Option Filled) → HasRead (C.says self.old.policy) self.old pieces f read
+        ensures taken { (pieces : List Piece) (f : Option Filled)
+            → HasRead (C.says self.old.policy) self.old pieces f read
+            → HasTaken (C.says self.old.policy) self.new pieces
+            (filled_on result.began result.wrote f) }
+        ensures last { (pieces : List Piece) (f : Option Filled)
+            → HasRead (C.says self.old.policy) self.old pieces f read
             → IfSome result.wrote (λ w. w.eof ≡ is_done self.new.parser) }
 
         // A write begins with the meta that was read. A piece that fails has written nothing, though its write may have begun.
-        ensures begun { (pieces : List Piece) (f : Option Filled) → HasRead (C.says self.old.policy) self.old pieces f read
-            → IfSome result.began (λ m. Accepted (C.says self.old.policy) (limit_of self.old.size) m pieces) }
+        ensures begun { (pieces : List Piece) (f : Option Filled)
+            → HasRead (C.says self.old.policy) self.old pieces f read
+            → IfSome result.began (λ m.
+            Accepted (C.says self.old.policy) (limit_of self.old.size) m pieces) }
         ensures refused { IfRefused result.end (λ _. result.wrote ≡ None) }
-        ensures whether { IfRefused result.end (λ e. IsBegunRead self.old.stage read e result.began) }
+        ensures whether { IfRefused result.end (λ e.
+            IsBegunRead self.old.stage read e result.began) }
 
         ensures again { ReturnsAgain self.old.stage result.end }
-        ensures ignored { BringsNothing self.old.stage read → result ≡ record { began = None; wrote = None; end = PieceEnd.GoesOn } }
-        ensures kind { IfRefused result.end (MayFailOnceRead self.old.stage (S.state storage.old) read) }
+        ensures ignored { BringsNothing self.old.stage read
+            → result ≡ record { began = None; wrote = None; end = PieceEnd.GoesOn } }
+        ensures kind { IfRefused result.end
+            (MayFailOnceRead self.old.stage (S.state storage.old) read) }
     {
         match take_stage(&mut self.stage) {
             Stage::Head => {
@@ -275,16 +326,26 @@ impl<C: CachePut, S: Storage> CachePutCtx<C, S> {
         storage: &mut S,
         eviction: &mut E,
     ) -> Result<PutOutcome>
-        ensures ends { EndsAs result (λ end. EndsPut S.guarantees self.old.key self.old.parser (S.finishes storage.old) (E.limits eviction.old) self.old.stage end (S.state storage.old) (S.state storage.new) (E.tracked eviction.old) (E.tracked eviction.new)) }
-        ensures evicted { EndsAs result (λ end. E.evicted eviction.new ≡ evicted_ended self.old.key (S.finishes storage.old) self.old.stage (E.tracked eviction.old) (E.evicted eviction.old) end) }
+        ensures ends { EndsAs result (λ end. EndsPut S.guarantees self.old.key self.old.parser
+            (S.finishes storage.old) (E.limits eviction.old) self.old.stage end
+            (S.state storage.old) (S.state storage.new) (E.tracked eviction.old)
+            (E.tracked eviction.new)) }
+        ensures evicted { EndsAs result (λ end. E.evicted eviction.new
+            ≡ evicted_ended self.old.key (S.finishes storage.old) self.old.stage
+            (E.tracked eviction.old) (E.evicted eviction.old) end) }
         ensures limits { E.limits eviction.new ≡ E.limits eviction.old }
         ensures stage { EndsAs result (λ end. self.new.stage ≡ stage_ended end) }
 
         // The outcome of the put is that of its bytes, all pieces together.
-        ensures tells { (pieces : List Piece) (f : Option Filled) → HasTaken (C.says self.old.policy) self.old pieces f → EndsAs result (TellsResult (IsResult (C.says self.old.policy) (limit_of self.old.size) pieces) f) }
+        ensures tells { (pieces : List Piece) (f : Option Filled)
+            → HasTaken (C.says self.old.policy) self.old pieces f
+            → EndsAs result (TellsResult
+            (IsResult (C.says self.old.policy) (limit_of self.old.size) pieces) f) }
 
         // If the admission failed, the key has no body in the store after the call.
-        ensures withdrawn { IsTrue S.guarantees.purges → OnErr result (LeavesNone (Some self.old.key) (write_in self.old.stage) (S.state storage.old) (S.state storage.new)) }
+        ensures withdrawn { IsTrue S.guarantees.purges
+            → OnErr result (LeavesNone (Some self.old.key) (write_in self.old.stage)
+            (S.state storage.old) (S.state storage.new)) }
     {
         let PutReport { end, entry: _ } = self.end_put(storage, eviction);
         match end {
@@ -300,15 +361,23 @@ impl<C: CachePut, S: Storage> CachePutCtx<C, S> {
     pub fn end_put<E: EvictionManager>(&mut self, storage: &mut S, eviction: &mut E) -> PutReport
         ensures policy { self.new.policy ≡ self.old.policy }
         ensures key { self.new.key ≡ self.old.key }
-        ensures ends { EndsPut S.guarantees self.old.key self.old.parser (S.finishes storage.old) (E.limits eviction.old) self.old.stage result.end (S.state storage.old) (S.state storage.new) (E.tracked eviction.old) (E.tracked eviction.new) }
+        ensures ends { EndsPut S.guarantees self.old.key self.old.parser (S.finishes storage.old)
+            (E.limits eviction.old) self.old.stage result.end (S.state storage.old)
+            (S.state storage.new) (E.tracked eviction.old) (E.tracked eviction.new) }
         ensures entry { result.entry ≡ entry_reported self.old.key self.old.stage result.end }
-        ensures evicted { E.evicted eviction.new ≡ evicted_ended self.old.key (S.finishes storage.old) self.old.stage (E.tracked eviction.old) (E.evicted eviction.old) result.end }
+        ensures evicted { E.evicted eviction.new
+            ≡ evicted_ended self.old.key (S.finishes storage.old) self.old.stage
+            (E.tracked eviction.old) (E.evicted eviction.old) result.end }
         ensures limits { E.limits eviction.new ≡ E.limits eviction.old }
         ensures stage { self.new.stage ≡ stage_ended result.end }
 
         // The outcome of the put is that of its bytes, all pieces together.
-        ensures tells { (pieces : List Piece) (f : Option Filled) → HasTaken (C.says self.old.policy) self.old pieces f → TellsResult (IsResult (C.says self.old.policy) (limit_of self.old.size) pieces) f result.end }
-        ensures withdrawn { IsTrue S.guarantees.purges → IfWithdrawn result.end (HasNoBody (S.state storage.new) self.old.key) }
+        ensures tells { (pieces : List Piece) (f : Option Filled)
+            → HasTaken (C.says self.old.policy) self.old pieces f
+            → TellsResult (IsResult (C.says self.old.policy) (limit_of self.old.size) pieces) f
+            result.end }
+        ensures withdrawn { IsTrue S.guarantees.purges
+            → IfWithdrawn result.end (HasNoBody (S.state storage.new) self.old.key) }
     {
         match take_stage(&mut self.stage) {
             Stage::Head => leave(

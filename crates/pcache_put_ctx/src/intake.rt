@@ -68,13 +68,15 @@ fn write_part<S: Storage>(
     part: Option<BodyPart>,
 ) -> Result<Option<Written>>
     ensures wrote { IfOk result (λ w. w ≡ option_map written part) }
-    ensures ok { IfOk result (λ w. S.state storage.new ≡ store_wrote (Some (S.Miss.write writer.old)) w (S.state storage.old)) }
+    ensures ok { IfOk result (λ w. S.state storage.new
+        ≡ store_wrote (Some (S.Miss.write writer.old)) w (S.state storage.old)) }
     ensures size { size.new ≡ counted_part size.old part }
     ensures allowed { OnOk result (IfSome part (λ _. IsAllowed size.new)) }
     ensures over { IfErr result (λ e. e ≡ ResponseTooLarge → ¬ (IsAllowed size.new)) }
     ensures fits { IfErr result (λ e. e ≢ ResponseTooLarge → IsAllowed size.new) }
     ensures nothing { part ≡ None → result ≡ Ok None }
-    ensures kind { IfErr result (λ e. MayFailFill (S.state storage.old) (S.Miss.write writer.old) e) }
+    ensures kind { IfErr result (λ e.
+        MayFailFill (S.state storage.old) (S.Miss.write writer.old) e) }
     ensures err { OnErr result (S.state storage.new ≡ S.state storage.old) }
     ensures same { S.Miss.write writer.new ≡ S.Miss.write writer.old }
     ensures entry { S.Miss.entry_number writer.new ≡ S.Miss.entry_number writer.old }
@@ -112,7 +114,8 @@ impl<C: CachePut> Intake<C> {
 
     // What a piece in which the head ends is read as.
     fn open(&self, header: ResponseHeader, body: Option<BodyPart>, now: Moment) -> Result<ReadPiece>
-        ensures begun { IfOk result (IsBegun (IsVerdict (C.says self.now.policy) (limit_of self.now.size) header now) body) }
+        ensures begun { IfOk result (IsBegun
+            (IsVerdict (C.says self.now.policy) (limit_of self.now.size) header now) body) }
         ensures head { IfOk result IsOfHead }
         ensures read { IfOk result (λ o. IfUnread o (λ _. ⊥)) }
         ensures kind { IfErr result (λ e. e ≡ OutOfMemory) }
@@ -129,12 +132,17 @@ impl<C: CachePut> Intake<C> {
     fn read_opening(&mut self, piece: &[u8], now: Moment) -> Result<ReadPiece>
         ensures same { self.new ≡ record self.old { parser = self.new.parser } }
         ensures head { IfOk result IsOfHead }
-        ensures opened { IfOk result (λ o. (pieces : List Piece) → HeadTaken self.old.size self.old.parser pieces
-            → HasOpened (C.says self.old.policy) self.old.size self.new.parser (pieces ++ record { bytes = piece.now; now = now } ∷ []) o) }
+        ensures opened { IfOk result (λ o. (pieces : List Piece)
+            → HeadTaken self.old.size self.old.parser pieces
+            → HasOpened (C.says self.old.policy) self.old.size self.new.parser
+            (pieces ++ record { bytes = piece.now; now = now } ∷ []) o) }
         ensures read { IfOk result (λ o. IfUnread o (λ _. ⊥)) }
-        ensures invalid { IfErr result (λ e. e ≡ InvalidHttpHeader → (pieces : List Piece) → HeadTaken self.old.size self.old.parser pieces
+        ensures invalid { IfErr result (λ e. e ≡ InvalidHttpHeader
+            → (pieces : List Piece)
+            → HeadTaken self.old.size self.old.parser pieces
             → IsUnreadable (joined (pieces ++ record { bytes = piece.now; now = now } ∷ []))) }
-        ensures kind { IfErr result (λ e. (e ≡ InvalidHttpHeader) ⊎ (e ≡ OutOfMemory) ⊎ (self.old.parser ≡ HasFailed e)) }
+        ensures kind { IfErr result (λ e.
+            (e ≡ InvalidHttpHeader) ⊎ (e ≡ OutOfMemory) ⊎ (self.old.parser ≡ HasFailed e)) }
     {
         let parts = self.parser.take_piece(piece)?;
         let Brought { head, body } = Brought::from_parts(parts);
@@ -147,10 +155,19 @@ impl<C: CachePut> Intake<C> {
     // Reads a piece of the body, if it can be read, and returns what is to be written of it.
     fn read_body(&mut self, piece: &[u8]) -> Result<Option<BodyPart>>
         ensures same { self.new ≡ record self.old { parser = self.new.parser } }
-        ensures due { IfOk result (λ part. (pieces : List Piece) (now : ℕ) (meta : Meta) (body : List ℕ) → BodyRead (C.says self.old.policy) (limit_of self.old.size) self.old.parser meta pieces body → IsDue (C.says self.old.policy) (limit_of self.old.size) self.new.parser meta (pieces ++ record { bytes = piece.now; now = now } ∷ []) body part) }
-        ensures invalid { IfErr result (λ e. e ≡ InvalidHttpHeader → (pieces : List Piece) (meta : Meta) (body : List ℕ) → ¬ (BodyRead (C.says self.old.policy) (limit_of self.old.size) self.old.parser meta pieces body)) }
+        ensures due { IfOk result (λ part. (pieces : List Piece) (now : ℕ) (meta : Meta)
+            (body : List ℕ)
+            → BodyRead (C.says self.old.policy) (limit_of self.old.size) self.old.parser meta pieces
+            body
+            → IsDue (C.says self.old.policy) (limit_of self.old.size) self.new.parser meta
+            (pieces ++ record { bytes = piece.now; now = now } ∷ []) body part) }
+        ensures invalid { IfErr result (λ e. e ≡ InvalidHttpHeader
+            → (pieces : List Piece) (meta : Meta) (body : List ℕ)
+            → ¬ (BodyRead (C.says self.old.policy) (limit_of self.old.size) self.old.parser meta
+            pieces body)) }
         ensures whole { is_done self.old.parser ≡ true → result ≡ Ok None }
-        ensures kind { IfErr result (λ e. (e ≡ InvalidHttpHeader) ⊎ (e ≡ OutOfMemory) ⊎ (self.old.parser ≡ HasFailed e)) }
+        ensures kind { IfErr result (λ e.
+            (e ≡ InvalidHttpHeader) ⊎ (e ≡ OutOfMemory) ⊎ (self.old.parser ≡ HasFailed e)) }
     {
         let parts = self.parser.take_piece(piece)?;
         let brought = Brought::from_parts(parts);
@@ -168,17 +185,27 @@ impl<C: CachePut> Intake<C> {
         ensures same { self.new ≡ record self.old { size = self.new.size } }
         ensures limit { limit_of self.new.size ≡ limit_of self.old.size }
         ensures began { result.report.began ≡ began }
-        ensures store { S.state storage.new ≡ store_wrote (Some (S.Miss.write filling.writer)) result.report.wrote (S.state storage.old) }
+        ensures store { S.state storage.new
+            ≡ store_wrote (Some (S.Miss.write filling.writer)) result.report.wrote
+            (S.state storage.old) }
         ensures ends { EndsPiece S.Miss.write result.report.end
-            (InBody (S.Miss.write filling.writer) (S.Miss.entry_number filling.writer) filling.fresh_until)
-            (stage_of S.Miss.write S.Miss.entry_number result.stage) }
-        ensures last { IfSome result.report.wrote (λ w. (b : BodyPart) × (part ≡ Some b) × (w.eof ≡ b.is_last)) }
-        ensures taken { (pieces : List Piece) (meta : Meta) (body : List ℕ) → filling.fresh_until ≡ meta.fresh_until → IsDue (C.says self.old.policy) (limit_of self.old.size) self.old.parser meta pieces body part → Counts self.old.size body
+            (InBody (S.Miss.write filling.writer) (S.Miss.entry_number filling.writer)
+            filling.fresh_until) (stage_of S.Miss.write S.Miss.entry_number result.stage) }
+        ensures last { IfSome result.report.wrote (λ w.
+            (b : BodyPart) × (part ≡ Some b) × (w.eof ≡ b.is_last)) }
+        ensures taken { (pieces : List Piece) (meta : Meta) (body : List ℕ)
+            → filling.fresh_until ≡ meta.fresh_until
+            → IsDue (C.says self.old.policy) (limit_of self.old.size) self.old.parser meta pieces
+            body part
+            → Counts self.old.size body
             → TakenBy (C.says self.old.policy) self.new.size self.new.parser
-            (stage_of S.Miss.write S.Miss.entry_number result.stage) pieces (filled_wrote result.report.wrote (Some (record { meta = meta; body = body }))) }
-        ensures nothing { part ≡ None → result.report ≡ record { began = began; wrote = None; end = GoesOn } }
+            (stage_of S.Miss.write S.Miss.entry_number result.stage) pieces
+            (filled_wrote result.report.wrote (Some (record { meta = meta; body = body }))) }
+        ensures nothing { part ≡ None
+            → result.report ≡ record { began = began; wrote = None; end = GoesOn } }
         ensures refused { IfRefused result.report.end (λ _. result.report.wrote ≡ None) }
-        ensures kind { IfRefused result.report.end (MayFailFill (S.state storage.old) (S.Miss.write filling.writer)) }
+        ensures kind { IfRefused result.report.end
+            (MayFailFill (S.state storage.old) (S.Miss.write filling.writer)) }
     {
         let Filling {
             mut writer,
@@ -200,9 +227,12 @@ impl<C: CachePut> Intake<C> {
     pub(crate) fn read_head(&mut self, piece: &[u8], now: Moment) -> ReadPiece
         ensures same { self.new ≡ record self.old { parser = self.new.parser } }
         ensures head { IsOfHead result }
-        ensures opened { (pieces : List Piece) → HeadTaken self.old.size self.old.parser pieces
-            → HasOpened (C.says self.old.policy) self.old.size self.new.parser (pieces ++ record { bytes = piece.now; now = now } ∷ []) result }
-        ensures kind { IfUnread result (λ e. (e ≡ InvalidHttpHeader) ⊎ (e ≡ OutOfMemory) ⊎ (self.old.parser ≡ HasFailed e)) }
+        ensures opened { (pieces : List Piece)
+            → HeadTaken self.old.size self.old.parser pieces
+            → HasOpened (C.says self.old.policy) self.old.size self.new.parser
+            (pieces ++ record { bytes = piece.now; now = now } ∷ []) result }
+        ensures kind { IfUnread result (λ e.
+            (e ≡ InvalidHttpHeader) ⊎ (e ≡ OutOfMemory) ⊎ (self.old.parser ≡ HasFailed e)) }
     {
         match self.read_opening(piece, now) {
             Ok(read) => read,
@@ -216,9 +246,11 @@ impl<C: CachePut> Intake<C> {
         ensures body { IsOfBody result }
         ensures due { (pieces : List Piece) (now fresh_until : ℕ) (f : Option Filled)
             → BodyTaken (C.says self.old.policy) self.old.size self.old.parser fresh_until pieces f
-            → BodyDue (C.says self.old.policy) self.old.size self.new.parser fresh_until (pieces ++ record { bytes = piece.now; now = now } ∷ []) f result }
+            → BodyDue (C.says self.old.policy) self.old.size self.new.parser fresh_until
+            (pieces ++ record { bytes = piece.now; now = now } ∷ []) f result }
         ensures whole { is_done self.old.parser ≡ true → result ≡ Brings None }
-        ensures kind { IfUnread result (λ e. (e ≡ InvalidHttpHeader) ⊎ (e ≡ OutOfMemory) ⊎ (self.old.parser ≡ HasFailed e)) }
+        ensures kind { IfUnread result (λ e.
+            (e ≡ InvalidHttpHeader) ⊎ (e ≡ OutOfMemory) ⊎ (self.old.parser ≡ HasFailed e)) }
     {
         match self.read_body(piece) {
             Ok(part) => ReadPiece::Brings(part),
@@ -229,9 +261,11 @@ impl<C: CachePut> Intake<C> {
     // Begins the write of a response that is to be stored with this meta.
     fn begin<S: Storage>(&self, meta: &CacheMeta, storage: &mut S) -> Result<Filling<S::Miss>>
         ensures write { IfOk result (λ f. S.Miss.write f.writer ≡ (S.state storage.old).next) }
-        ensures entry { IfOk result (λ f. S.Miss.entry_number f.writer ≡ entry_given S.guarantees.numbers (S.state storage.old).next) }
+        ensures entry { IfOk result (λ f. S.Miss.entry_number f.writer
+            ≡ entry_given S.guarantees.numbers (S.state storage.old).next) }
         ensures fresh { IfOk result (λ f. f.fresh_until ≡ meta.now.fresh_until) }
-        ensures store { OnOk result (S.state storage.new ≡ begun (S.state storage.old) (slot self.now.key) meta.now) }
+        ensures store { OnOk result (S.state storage.new
+            ≡ begun (S.state storage.old) (slot self.now.key) meta.now) }
         ensures err { OnErr result (S.state storage.new ≡ S.state storage.old) }
         ensures kind { IfErr result (MayFailWrite (S.state storage.old)) }
     {
@@ -251,19 +285,27 @@ impl<C: CachePut> Intake<C> {
     ) -> Taken<S::Miss>
         ensures same { self.new ≡ record self.old { size = self.new.size } }
         ensures limit { limit_of self.new.size ≡ limit_of self.old.size }
-        ensures store { S.state storage.new ≡ store_after self.old.key InHead result.report.began result.report.wrote
-            (entry_given S.guarantees.numbers (S.state storage.old).next) (S.state storage.old) }
+        ensures store { S.state storage.new
+            ≡ store_after self.old.key InHead result.report.began result.report.wrote
+            (entry_given S.guarantees.numbers (S.state storage.old).next)
+            (S.state storage.old) }
         ensures ends { EndsPiece S.Miss.write result.report.end
-            (stage_begun InHead result.report.began (S.state storage.old).next (entry_given S.guarantees.numbers (S.state storage.old).next))
+            (stage_begun InHead result.report.began (S.state storage.old).next
+            (entry_given S.guarantees.numbers (S.state storage.old).next))
             (stage_of S.Miss.write S.Miss.entry_number result.stage) }
-        ensures last { IfSome result.report.wrote (λ w. (b : BodyPart) × (part ≡ Some b) × (w.eof ≡ b.is_last)) }
-        ensures taken { (pieces : List Piece) → IsDue (C.says self.old.policy) (limit_of self.old.size) self.old.parser meta pieces [] part
+        ensures last { IfSome result.report.wrote (λ w.
+            (b : BodyPart) × (part ≡ Some b) × (w.eof ≡ b.is_last)) }
+        ensures taken { (pieces : List Piece)
+            → IsDue (C.says self.old.policy) (limit_of self.old.size) self.old.parser meta pieces []
+            part
             → Counts self.old.size []
-            → TakenBy (C.says self.old.policy) self.new.size self.new.parser (stage_of S.Miss.write S.Miss.entry_number result.stage) pieces
+            → TakenBy (C.says self.old.policy) self.new.size self.new.parser
+            (stage_of S.Miss.write S.Miss.entry_number result.stage) pieces
             (filled_on result.report.began result.report.wrote None) }
         ensures refused { IfRefused result.report.end (λ _. result.report.wrote ≡ None) }
         ensures begun { IfSome result.report.began (λ m. m ≡ meta) }
-        ensures whether { IfRefused result.report.end (λ e. IsBegunBefore InHead e result.report.began) }
+        ensures whether { IfRefused result.report.end (λ e.
+            IsBegunBefore InHead e result.report.began) }
         ensures kind { IfRefused result.report.end (MayFailPiece InHead (S.state storage.old)) }
     {
         match self.begin(meta.get(), storage) {
@@ -281,21 +323,31 @@ impl<C: CachePut> Intake<C> {
         requires head { IsOfHead read }
         ensures same { self.new ≡ record self.old { size = self.new.size } }
         ensures limit { limit_of self.new.size ≡ limit_of self.old.size }
-        ensures store { S.state storage.new ≡ store_after self.old.key InHead result.report.began result.report.wrote
-            (entry_given S.guarantees.numbers (S.state storage.old).next) (S.state storage.old) }
+        ensures store { S.state storage.new
+            ≡ store_after self.old.key InHead result.report.began result.report.wrote
+            (entry_given S.guarantees.numbers (S.state storage.old).next)
+            (S.state storage.old) }
         ensures ends { EndsPiece S.Miss.write result.report.end
-            (stage_begun InHead result.report.began (S.state storage.old).next (entry_given S.guarantees.numbers (S.state storage.old).next))
+            (stage_begun InHead result.report.began (S.state storage.old).next
+            (entry_given S.guarantees.numbers (S.state storage.old).next))
             (stage_of S.Miss.write S.Miss.entry_number result.stage) }
-        ensures last { (pieces : List Piece) → HasOpened (C.says self.old.policy) self.old.size self.old.parser pieces read
+        ensures last { (pieces : List Piece)
+            → HasOpened (C.says self.old.policy) self.old.size self.old.parser pieces read
             → IfSome result.report.wrote (λ w. w.eof ≡ is_done self.new.parser) }
-        ensures taken { (pieces : List Piece) → HasOpened (C.says self.old.policy) self.old.size self.old.parser pieces read
-            → TakenBy (C.says self.old.policy) self.new.size self.new.parser (stage_of S.Miss.write S.Miss.entry_number result.stage) pieces
+        ensures taken { (pieces : List Piece)
+            → HasOpened (C.says self.old.policy) self.old.size self.old.parser pieces read
+            → TakenBy (C.says self.old.policy) self.new.size self.new.parser
+            (stage_of S.Miss.write S.Miss.entry_number result.stage) pieces
             (filled_on result.report.began result.report.wrote None) }
         ensures refused { IfRefused result.report.end (λ _. result.report.wrote ≡ None) }
-        ensures begun { (pieces : List Piece) → HasOpened (C.says self.old.policy) self.old.size self.old.parser pieces read
-            → IfSome result.report.began (λ m. Accepted (C.says self.old.policy) (limit_of self.old.size) m pieces) }
-        ensures whether { IfRefused result.report.end (λ e. IsBegunRead InHead read e result.report.began) }
-        ensures kind { IfRefused result.report.end (MayFailOnceRead InHead (S.state storage.old) read) }
+        ensures begun { (pieces : List Piece)
+            → HasOpened (C.says self.old.policy) self.old.size self.old.parser pieces read
+            → IfSome result.report.began (λ m.
+            Accepted (C.says self.old.policy) (limit_of self.old.size) m pieces) }
+        ensures whether { IfRefused result.report.end (λ e.
+            IsBegunRead InHead read e result.report.began) }
+        ensures kind { IfRefused result.report.end
+            (MayFailOnceRead InHead (S.state storage.old) read) }
     {
         match read {
             ReadPiece::Begins(meta, part) => self.begin_with(meta, part, storage),
@@ -317,21 +369,28 @@ impl<C: CachePut> Intake<C> {
         ensures same { self.new ≡ record self.old { size = self.new.size } }
         ensures limit { limit_of self.new.size ≡ limit_of self.old.size }
         ensures began { result.report.began ≡ None }
-        ensures store { S.state storage.new ≡ store_wrote (Some (S.Miss.write filling.writer)) result.report.wrote (S.state storage.old) }
+        ensures store { S.state storage.new
+            ≡ store_wrote (Some (S.Miss.write filling.writer)) result.report.wrote
+            (S.state storage.old) }
         ensures ends { EndsPiece S.Miss.write result.report.end
-            (InBody (S.Miss.write filling.writer) (S.Miss.entry_number filling.writer) filling.fresh_until)
-            (stage_of S.Miss.write S.Miss.entry_number result.stage) }
+            (InBody (S.Miss.write filling.writer) (S.Miss.entry_number filling.writer)
+            filling.fresh_until) (stage_of S.Miss.write S.Miss.entry_number result.stage) }
         ensures last { (pieces : List Piece) (f : Option Filled)
-            → BodyDue (C.says self.old.policy) self.old.size self.old.parser filling.fresh_until pieces f read
+            → BodyDue (C.says self.old.policy) self.old.size self.old.parser filling.fresh_until
+            pieces f read
             → IfSome result.report.wrote (λ w. w.eof ≡ is_done self.new.parser) }
         ensures taken { (pieces : List Piece) (f : Option Filled)
-            → BodyDue (C.says self.old.policy) self.old.size self.old.parser filling.fresh_until pieces f read
-            → TakenBy (C.says self.old.policy) self.new.size self.new.parser (stage_of S.Miss.write S.Miss.entry_number result.stage) pieces
+            → BodyDue (C.says self.old.policy) self.old.size self.old.parser filling.fresh_until
+            pieces f read
+            → TakenBy (C.says self.old.policy) self.new.size self.new.parser
+            (stage_of S.Miss.write S.Miss.entry_number result.stage) pieces
             (filled_wrote result.report.wrote f) }
-        ensures nothing { read ≡ Brings None → result.report ≡ record { began = None; wrote = None; end = GoesOn } }
+        ensures nothing { read ≡ Brings None
+            → result.report ≡ record { began = None; wrote = None; end = GoesOn } }
         ensures refused { IfRefused result.report.end (λ _. result.report.wrote ≡ None) }
         ensures kind { IfRefused result.report.end (MayFailOnceRead
-            (InBody (S.Miss.write filling.writer) (S.Miss.entry_number filling.writer) filling.fresh_until) (S.state storage.old) read) }
+            (InBody (S.Miss.write filling.writer) (S.Miss.entry_number filling.writer)
+            filling.fresh_until) (S.state storage.old) read) }
     {
         match read {
             ReadPiece::Brings(part) => self.fill(filling, None, part, storage),
@@ -358,11 +417,26 @@ impl<C: CachePut> Intake<C> {
         filling: Filling<S::Miss>,
     ) -> (PutEnd, Option<CacheEntryKey>)
         ensures same { self.new ≡ record self.old { parser = self.new.parser } }
-        ensures ends { EndsPut S.guarantees self.old.key self.old.parser (S.finishes storage.old) (E.limits eviction.old) (InBody (S.Miss.write filling.writer) (S.Miss.entry_number filling.writer) filling.fresh_until) result.0 (S.state storage.old) (S.state storage.new) (E.tracked eviction.old) (E.tracked eviction.new) }
-        ensures entry { result.1 ≡ entry_reported self.old.key (InBody (S.Miss.write filling.writer) (S.Miss.entry_number filling.writer) filling.fresh_until) result.0 }
-        ensures evicted { E.evicted eviction.new ≡ evicted_ended self.old.key (S.finishes storage.old) (InBody (S.Miss.write filling.writer) (S.Miss.entry_number filling.writer) filling.fresh_until) (E.tracked eviction.old) (E.evicted eviction.old) result.0 }
+        ensures ends { EndsPut S.guarantees self.old.key self.old.parser (S.finishes storage.old)
+            (E.limits eviction.old)
+            (InBody (S.Miss.write filling.writer) (S.Miss.entry_number filling.writer)
+            filling.fresh_until) result.0 (S.state storage.old) (S.state storage.new)
+            (E.tracked eviction.old) (E.tracked eviction.new) }
+        ensures entry { result.1
+            ≡ entry_reported self.old.key
+            (InBody (S.Miss.write filling.writer) (S.Miss.entry_number filling.writer)
+            filling.fresh_until) result.0 }
+        ensures evicted { E.evicted eviction.new
+            ≡ evicted_ended self.old.key (S.finishes storage.old)
+            (InBody (S.Miss.write filling.writer) (S.Miss.entry_number filling.writer)
+            filling.fresh_until) (E.tracked eviction.old) (E.evicted eviction.old)
+            result.0 }
         ensures limits { E.limits eviction.new ≡ E.limits eviction.old }
-        ensures tells { (pieces : List Piece) (f : Option Filled) → BodyTaken (C.says self.old.policy) self.old.size self.old.parser filling.fresh_until pieces f → TellsResult (IsResult (C.says self.old.policy) (limit_of self.old.size) pieces) f result.0 }
+        ensures tells { (pieces : List Piece) (f : Option Filled)
+            → BodyTaken (C.says self.old.policy) self.old.size self.old.parser filling.fresh_until
+            pieces f
+            → TellsResult (IsResult (C.says self.old.policy) (limit_of self.old.size) pieces) f
+            result.0 }
     {
         let Filling {
             writer,

@@ -13,8 +13,14 @@ use pcache_control::FreshDurationByStatusFn;
 /// Two puts of the same bytes, whose heads ended at one moment and whose policy decides one way on a head at a moment,
 /// have the same outcome, however the bytes were split into pieces. A law; the call does nothing.
 pub fn same_put_however_cut<C: CachePut>(policy: &C)
-    ensures { ((header : ResponseHeader) (now : ℕ) (a b : RespCacheable) → C.says policy.now header now a → C.says policy.now header now b → a ≡ b)
-        → (limit : Option ℕ) (bytes : List ℕ) (now : ℕ) (o q : Outcome) → ComesTo (C.says policy.now) limit bytes now o → ComesTo (C.says policy.now) limit bytes now q → o ≡ q }
+    ensures { ((header : ResponseHeader) (now : ℕ) (a b : RespCacheable)
+        → C.says policy.now header now a
+        → C.says policy.now header now b
+        → a ≡ b)
+        → (limit : Option ℕ) (bytes : List ℕ) (now : ℕ) (o q : Outcome)
+        → ComesTo (C.says policy.now) limit bytes now o
+        → ComesTo (C.says policy.now) limit bytes now q
+        → o ≡ q }
 {
     let _ = policy;
 }
@@ -23,7 +29,9 @@ pub fn same_put_however_cut<C: CachePut>(policy: &C)
 /// only one lifetime. So `same_put_however_cut` holds for its puts. A law; the call does nothing.
 pub fn one_decision_by_defaults(policy: &ByDefaults)
     ensures { HaveOneLifetime (FreshDurationByStatusFn.post policy.now.defaults.fresh_sec_fn)
-        → DecidesOneWay (SaysByDefault (policy.now.defaults.stale_while_revalidate_sec, policy.now.defaults.stale_if_error_sec) (FreshDurationByStatusFn.post policy.now.defaults.fresh_sec_fn)) }
+        → DecidesOneWay (SaysByDefault
+        (policy.now.defaults.stale_while_revalidate_sec, policy.now.defaults.stale_if_error_sec)
+        (FreshDurationByStatusFn.post policy.now.defaults.fresh_sec_fn)) }
 {
     let _ = policy;
 }
@@ -31,6 +39,9 @@ pub fn one_decision_by_defaults(policy: &ByDefaults)
 /// So does every policy whose default lifetimes are a function of the status, or that has none. A law; the call does
 /// nothing.
 pub fn one_decision_by_lifetimes()
-    ensures timed { (windows : ℕ × ℕ) (lifetimes : ℕ → Option ℕ) → DecidesOneWay (SaysByDefault windows (λ status lifetime. option_map as_nanos lifetime ≡ lifetimes status)) }
-    ensures none { (windows : ℕ × ℕ) → DecidesOneWay (SaysByDefault windows (λ status lifetime. lifetime ≡ None)) }
+    ensures timed { (windows : ℕ × ℕ) (lifetimes : ℕ → Option ℕ)
+        → DecidesOneWay (SaysByDefault windows (λ status lifetime.
+        option_map as_nanos lifetime ≡ lifetimes status)) }
+    ensures none { (windows : ℕ × ℕ)
+        → DecidesOneWay (SaysByDefault windows (λ status lifetime. lifetime ≡ None)) }
 {}

@@ -41,7 +41,9 @@ pub fn default_cacheable(
     defaults: &CacheMetaDefaults,
     now: Moment,
 ) -> Result<RespCacheable>
-    ensures says { IfOk result (SaysByDefault (defaults.now.stale_while_revalidate_sec, defaults.now.stale_if_error_sec) (FreshDurationByStatusFn.post defaults.now.fresh_sec_fn) header now) }
+    ensures says { IfOk result (SaysByDefault
+        (defaults.now.stale_while_revalidate_sec, defaults.now.stale_if_error_sec)
+        (FreshDurationByStatusFn.post defaults.now.fresh_sec_fn) header now) }
     ensures kind { IfErr result (λ e. e ≡ OutOfMemory) }
 {
     let cache_control = CacheControl::from_resp_headers(alloc, &header)?;
@@ -105,7 +107,9 @@ pub(crate) fn judge<C: CachePut>(
     header: ResponseHeader,
     now: Moment,
 ) -> Result<RespCacheable>
-    ensures judged { IfOk result (λ verdict. (answer : RespCacheable) × C.says policy.now header now answer × Judges limit answer verdict) }
+    ensures judged { IfOk result (λ verdict. (answer : RespCacheable)
+        × C.says policy.now header now answer
+        × Judges limit answer verdict) }
     ensures kind { IfErr result (λ e. e ≡ OutOfMemory) }
 {
     policy.trace_header(&header);

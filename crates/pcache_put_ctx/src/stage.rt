@@ -64,7 +64,11 @@ pub(crate) fn goes_on<M>(
     began: Option<Boxed<CacheMeta>>,
     wrote: Option<Written>,
 ) -> Taken<M>
-    ensures { result ≡ record { stage = stage; report = record { began = began; wrote = wrote; end = PieceEnd.GoesOn } } }
+    ensures { result
+        ≡ record {
+          stage = stage;
+          report = record { began = began; wrote = wrote; end = PieceEnd.GoesOn };
+        } }
 {
     Taken {
         stage,
@@ -78,7 +82,11 @@ pub(crate) fn goes_on<M>(
 
 // Nothing is stored.
 pub(crate) fn declines<M>(reason: NoCacheReason) -> Taken<M>
-    ensures { result ≡ record { stage = Stage.Declined reason; report = record { began = None; wrote = None; end = PieceEnd.NotCached reason } } }
+    ensures { result
+        ≡ record {
+          stage = Stage.Declined reason;
+          report = record { began = None; wrote = None; end = PieceEnd.NotCached reason };
+        } }
 {
     Taken {
         stage: Stage::Declined(reason),
@@ -96,7 +104,15 @@ pub(crate) fn refuses<M>(
     began: Option<Boxed<CacheMeta>>,
     writer: Option<M>,
 ) -> Taken<M>
-    ensures { result ≡ record { stage = Stage.Over refused; report = record { began = began; wrote = None; end = PieceEnd.Refused refused writer } } }
+    ensures { result
+        ≡ record {
+          stage = Stage.Over refused;
+          report = record {
+            began = began;
+            wrote = None;
+            end = PieceEnd.Refused refused writer;
+          };
+        } }
 {
     Taken {
         stage: Stage::Over(refused.etype()),

@@ -137,9 +137,13 @@ fn take_lock<L: CacheKeyLock>(
     stale_writer: bool,
     now: Moment,
 ) -> Result<AskedLock>
-    ensures asked { IfOk result (λ a. a ≡ asked_with stale_writer (L.table lock.old) key.now held.old) }
-    ensures table { OnOk result (L.table lock.new ≡ table_asked stale_writer now (Some key.now) held.old (L.table lock.old)) }
-    ensures held { OnOk result (held.new ≡ Some (lock_given (L.table lock.old) stale_writer (holder (L.table lock.old) (slot key.now)))) }
+    ensures asked { IfOk result (λ a.
+        a ≡ asked_with stale_writer (L.table lock.old) key.now held.old) }
+    ensures table { OnOk result (L.table lock.new
+        ≡ table_asked stale_writer now (Some key.now) held.old (L.table lock.old)) }
+    ensures held { OnOk result (held.new
+        ≡ Some (lock_given (L.table lock.old) stale_writer
+        (holder (L.table lock.old) (slot key.now)))) }
     ensures same_table { OnErr result (L.table lock.new ≡ L.table lock.old) }
     ensures same_held { OnErr result (held.new ≡ held.old) }
     ensures kind { IfErr result (λ e. MayFailLock (L.table lock.old) e) }
@@ -163,9 +167,15 @@ fn take_lock_if<L: CacheKeyLock>(
     stale_writer: bool,
     now: Moment,
 ) -> Result<Option<AskedLock>>
-    ensures asked { IfOk result (λ a. a ≡ cond asks (Some (asked_with stale_writer (L.table lock.old) key.now held.old)) None) }
-    ensures held { OnOk result (held.new ≡ cond asks (Some (lock_given (L.table lock.old) stale_writer (holder (L.table lock.old) (slot key.now)))) held.old) }
-    ensures table { OnOk result (L.table lock.new ≡ cond asks (table_asked stale_writer now (Some key.now) held.old (L.table lock.old)) (L.table lock.old)) }
+    ensures asked { IfOk result (λ a.
+        a ≡ cond asks (Some (asked_with stale_writer (L.table lock.old) key.now held.old)) None) }
+    ensures held { OnOk result (held.new
+        ≡ cond asks
+        (Some (lock_given (L.table lock.old) stale_writer
+        (holder (L.table lock.old) (slot key.now)))) held.old) }
+    ensures table { OnOk result (L.table lock.new
+        ≡ cond asks (table_asked stale_writer now (Some key.now) held.old (L.table lock.old))
+        (L.table lock.old)) }
     ensures same_table { OnErr result (L.table lock.new ≡ L.table lock.old) }
     ensures same_held { OnErr result (held.new ≡ held.old) }
     ensures kind { IfErr result (λ e. MayFailLock (L.table lock.old) e) }
@@ -214,9 +224,14 @@ fn join_write<S: Storage>(
     key: &CacheKey,
     tag: Option<&[u8]>,
 ) -> Result<Option<S::Hit>>
-    ensures following { IfOk result (λ r. option_map S.Hit.reader r ≡ reader_in (find_write (S.state storage.old) (slot key.now) (named_by (option_copied tag.entry)))) }
-    ensures ok { OnOk result (S.state storage.new ≡ followed (S.state storage.old) (find_write (S.state storage.old) (slot key.now) (named_by (option_copied tag.entry)))) }
-    ensures something { OnErr result (IsSome (find_write (S.state storage.old) (slot key.now) (named_by (option_copied tag.entry)))) }
+    ensures following { IfOk result (λ r. option_map S.Hit.reader r
+        ≡ reader_in (find_write (S.state storage.old) (slot key.now)
+        (named_by (option_copied tag.entry)))) }
+    ensures ok { OnOk result (S.state storage.new
+        ≡ followed (S.state storage.old) (find_write (S.state storage.old) (slot key.now)
+        (named_by (option_copied tag.entry)))) }
+    ensures something { OnErr result (IsSome
+        (find_write (S.state storage.old) (slot key.now) (named_by (option_copied tag.entry)))) }
     ensures err { OnErr result (S.state storage.new ≡ S.state storage.old) }
     ensures kind { IfErr result (λ e. e ≡ OutOfMemory) }
 {
@@ -237,7 +252,8 @@ fn entry_for(key: &CacheKey, id: Option<CacheEntryId>) -> Result<CacheEntryKey>
 // Replaces the reader, perhaps by none. The old one is let go.
 fn replace_reader<S: Storage>(place: &mut Option<S::Hit>, reader: Option<S::Hit>, storage: &mut S)
     ensures place { place.new ≡ reader }
-    ensures store { S.state storage.new ≡ left_by (option_map S.Hit.reader place.old) (S.state storage.old) }
+    ensures store { S.state storage.new
+        ≡ left_by (option_map S.Hit.reader place.old) (S.state storage.old) }
 {
     if let Some(older) = std::mem::replace(place, reader) {
         older.let_go(storage);
@@ -387,11 +403,17 @@ impl<S: Storage> HttpCache<S> {
     /// Requires a reader; ask `has_body_reader()`.
     pub fn read_body(&mut self, storage: &mut S) -> Result<Poll<Option<Bytes>>>
         requires { IsSome self.old.reader }
-        ensures read { IfOk result (λ p. IfSome self.old.reader (λ r. p ≡ read_of (S.state storage.old) r)) }
-        ensures request { OnOk result (self.new ≡ record self.old { reader = option_map (reader_after (S.state storage.old)) self.old.reader }) }
+        ensures read { IfOk result (λ p.
+            IfSome self.old.reader (λ r. p ≡ read_of (S.state storage.old) r)) }
+        ensures request { OnOk result (self.new
+            ≡ record self.old {
+              reader = option_map (reader_after (S.state storage.old))
+                  self.old.reader;
+            }) }
         ensures same_request { OnErr result (self.new ≡ self.old) }
         ensures same_store { S.state storage.new ≡ S.state storage.old }
-        ensures something { OnErr result (IfSome self.old.reader (λ r. gives_piece (read_of (S.state storage.old) r) ≡ true)) }
+        ensures something { OnErr result
+            (IfSome self.old.reader (λ r. gives_piece (read_of (S.state storage.old) r) ≡ true)) }
         ensures kind { IfErr result (λ e. e ≡ OutOfMemory) }
     {
         let Some(reader) = &mut self.reader else {
@@ -406,9 +428,14 @@ impl<S: Storage> HttpCache<S> {
     /// Requires a reader; ask `has_body_reader()`.
     pub fn seek(&mut self, start: usize, end: Option<usize>) -> Result<()>
         requires { IsSome self.old.reader }
-        ensures ok { OnOk result (self.new ≡ record self.old { reader = option_and_then (λ r. sought r start end) self.old.reader }) }
+        ensures ok { OnOk result (self.new
+            ≡ record self.old {
+              reader = option_and_then (λ r. sought r start end)
+                  self.old.reader;
+            }) }
         ensures there { OnOk result (IsSome self.new.reader) }
-        ensures refused { OnErr result (option_and_then (λ r. sought r start end) self.old.reader ≡ None) }
+        ensures refused { OnErr result (option_and_then (λ r. sought r start end) self.old.reader
+            ≡ None) }
         ensures same { OnErr result (self.new ≡ self.old) }
         ensures kind { IfErr result (λ e. e ≡ InternalError) }
     {
@@ -424,7 +451,9 @@ impl<S: Storage> HttpCache<S> {
     pub fn hit_handler(&mut self) -> &mut S::Hit
         requires phase { IsReading self.old.phase }
         requires reader { IsSome self.old.reader }
-        ensures* writes_back { sem 𝓛 (Lends (the_row S.row S.Hit.row S.Miss.row S.StoreMeaning S.Hit.HandleHit S.Miss.HandleMiss) S.Hit.row self.entry result (λ h. record self.old { reader = Some (S.Hit.reader h) })) }
+        ensures* writes_back { sem 𝓛 (Lends
+            (the_row S.row S.Hit.row S.Miss.row S.StoreMeaning S.Hit.HandleHit S.Miss.HandleMiss)
+            S.Hit.row self.entry result (λ h. record self.old { reader = Some (S.Hit.reader h) })) }
         ensures value { Some (S.Hit.reader result.now) ≡ self.old.reader }
     {
         self.reader.as_mut().unwrap()
@@ -452,8 +481,12 @@ impl<S: Storage> HttpCache<S> {
     /// The reader of the write that fills the cache, in a storage whose writes can be read while they
     /// are made.
     pub fn miss_body_reader(&mut self, storage: &S) -> Option<&mut S::Hit>
-        ensures* writes_back { sem 𝓛 (LendsIf (the_row S.row S.Hit.row S.Miss.row S.StoreMeaning S.Hit.HandleHit S.Miss.HandleMiss) S.Hit.row self.entry result (λ h. record self.old { reader = Some (S.Hit.reader h) }) self.old) }
-        ensures value { option_map (λ r. S.Hit.reader r.now) result ≡ cond (is_filling self.old.phase && S.streams storage.now) self.old.reader None }
+        ensures* writes_back { sem 𝓛 (LendsIf
+            (the_row S.row S.Hit.row S.Miss.row S.StoreMeaning S.Hit.HandleHit S.Miss.HandleMiss)
+            S.Hit.row self.entry result (λ h. record self.old { reader = Some (S.Hit.reader h) })
+            self.old) }
+        ensures value { option_map (λ r. S.Hit.reader r.now) result
+            ≡ cond (is_filling self.old.phase && S.streams storage.now) self.old.reader None }
     {
         if self.phase.is_filling() && storage.support_streaming_partial_write() {
             self.reader.as_mut()
@@ -512,13 +545,34 @@ impl<S: Storage> HttpCache<S> {
     /// Requires a phase that fills, a meta, and no write; ask `may_write()`.
     pub fn set_miss_handler<L: CacheKeyLock>(&mut self, storage: &mut S, lock: &mut L) -> Result<()>
         requires { MayWrite self.old }
-        ensures request { OnOk result (self.new ≡ writing (S.streams storage.old) (S.state storage.old).next (entry_given S.guarantees.numbers (S.state storage.old).next) (begun_for self.old.key self.old.meta (S.state storage.old)) self.old) }
-        ensures store { OnOk result (S.state storage.new ≡ store_writing (S.streams storage.old) (S.state storage.old).next self.old (S.state storage.old)) }
-        ensures table { OnOk result (L.table lock.new ≡ cond (S.streams storage.old) (settled Done self.old.held (L.table lock.old)) (L.table lock.old)) }
-        ensures err { IfErr result (λ e. ((self.new ≡ self.old) × (S.state storage.new ≡ S.state storage.old) × (L.table lock.new ≡ L.table lock.old) × MayFailWrite (S.state storage.old) e)
-            ⊎ ((self.new ≡ record self.old { write = Some (S.state storage.old).next; entry = entry_given S.guarantees.numbers (S.state storage.old).next; held = None }) × (S.state storage.new ≡ begun_for self.old.key self.old.meta (S.state storage.old)) × (L.table lock.new ≡ settled Done self.old.held (L.table lock.old)) × (e ≡ OutOfMemory))) }
-        ensures kind { IfErr result (λ e. (e ≡ OutOfMemory) ⊎ MayFailWrite (S.state storage.old) e) }
-        ensures something { OnErr result ((S.state storage.new ≡ S.state storage.old) ⊎ IsSome (followed_for self.old.key (S.state storage.old).next (begun_for self.old.key self.old.meta (S.state storage.old)))) }
+        ensures request { OnOk result (self.new
+            ≡ writing (S.streams storage.old) (S.state storage.old).next
+            (entry_given S.guarantees.numbers (S.state storage.old).next)
+            (begun_for self.old.key self.old.meta (S.state storage.old)) self.old) }
+        ensures store { OnOk result (S.state storage.new
+            ≡ store_writing (S.streams storage.old) (S.state storage.old).next self.old
+            (S.state storage.old)) }
+        ensures table { OnOk result (L.table lock.new
+            ≡ cond (S.streams storage.old) (settled Done self.old.held (L.table lock.old))
+            (L.table lock.old)) }
+        ensures err { IfErr result (λ e. ((self.new ≡ self.old)
+            × (S.state storage.new ≡ S.state storage.old)
+            × (L.table lock.new ≡ L.table lock.old)
+            × MayFailWrite (S.state storage.old) e)
+            ⊎ ((self.new
+            ≡ record self.old {
+              write = Some (S.state storage.old).next;
+              entry = entry_given S.guarantees.numbers (S.state storage.old).next;
+              held = None;
+            })
+            × (S.state storage.new ≡ begun_for self.old.key self.old.meta (S.state storage.old))
+            × (L.table lock.new ≡ settled Done self.old.held (L.table lock.old))
+            × (e ≡ OutOfMemory))) }
+        ensures kind { IfErr result (λ e.
+            (e ≡ OutOfMemory) ⊎ MayFailWrite (S.state storage.old) e) }
+        ensures something { OnErr result ((S.state storage.new ≡ S.state storage.old)
+            ⊎ IsSome (followed_for self.old.key (S.state storage.old).next
+            (begun_for self.old.key self.old.meta (S.state storage.old)))) }
         ensures unfollowed { OnErr result ((self.new ≡ self.old) ⊎ (S.streams storage.old ≡ true)) }
     {
         self.begin_write(storage, lock)?.following
@@ -533,15 +587,32 @@ impl<S: Storage> HttpCache<S> {
         lock: &mut L,
     ) -> Result<WriteBegin>
         requires { MayWrite self.old }
-        ensures released { IfOk result (λ b. b.released ≡ cond (S.streams storage.old) (option_map name_of self.old.held) None) }
-        ensures request { IfOk result (λ b. OnOk b.following (self.new ≡ writing (S.streams storage.old) (S.state storage.old).next (entry_given S.guarantees.numbers (S.state storage.old).next) (begun_for self.old.key self.old.meta (S.state storage.old)) self.old)) }
-        ensures store { IfOk result (λ b. OnOk b.following (S.state storage.new ≡ store_writing (S.streams storage.old) (S.state storage.old).next self.old (S.state storage.old))) }
-        ensures table { OnOk result (L.table lock.new ≡ cond (S.streams storage.old) (settled Done self.old.held (L.table lock.old)) (L.table lock.old)) }
-        ensures unfollowed_streams { IfOk result (λ b. OnErr b.following (S.streams storage.old ≡ true)) }
-        ensures unfollowed_request { IfOk result (λ b. OnErr b.following (self.new ≡ record self.old { write = Some (S.state storage.old).next; entry = entry_given S.guarantees.numbers (S.state storage.old).next; held = None })) }
-        ensures unfollowed_store { IfOk result (λ b. OnErr b.following (S.state storage.new ≡ begun_for self.old.key self.old.meta (S.state storage.old))) }
+        ensures released { IfOk result (λ b.
+            b.released ≡ cond (S.streams storage.old) (option_map name_of self.old.held) None) }
+        ensures request { IfOk result (λ b. OnOk b.following (self.new
+            ≡ writing (S.streams storage.old) (S.state storage.old).next
+            (entry_given S.guarantees.numbers (S.state storage.old).next)
+            (begun_for self.old.key self.old.meta (S.state storage.old)) self.old)) }
+        ensures store { IfOk result (λ b. OnOk b.following (S.state storage.new
+            ≡ store_writing (S.streams storage.old) (S.state storage.old).next self.old
+            (S.state storage.old))) }
+        ensures table { OnOk result (L.table lock.new
+            ≡ cond (S.streams storage.old) (settled Done self.old.held (L.table lock.old))
+            (L.table lock.old)) }
+        ensures unfollowed_streams { IfOk result (λ b.
+            OnErr b.following (S.streams storage.old ≡ true)) }
+        ensures unfollowed_request { IfOk result (λ b. OnErr b.following (self.new
+            ≡ record self.old {
+              write = Some (S.state storage.old).next;
+              entry = entry_given S.guarantees.numbers (S.state storage.old).next;
+              held = None;
+            })) }
+        ensures unfollowed_store { IfOk result (λ b. OnErr b.following (S.state storage.new
+            ≡ begun_for self.old.key self.old.meta (S.state storage.old))) }
         ensures unfollowed_kind { IfOk result (λ b. IfErr b.following (λ e. e ≡ OutOfMemory)) }
-        ensures unfollowed_something { IfOk result (λ b. OnErr b.following (IsSome (followed_for self.old.key (S.state storage.old).next (begun_for self.old.key self.old.meta (S.state storage.old))))) }
+        ensures unfollowed_something { IfOk result (λ b. OnErr b.following (IsSome (followed_for
+            self.old.key (S.state storage.old).next
+            (begun_for self.old.key self.old.meta (S.state storage.old))))) }
         ensures same_request { OnErr result (self.new ≡ self.old) }
         ensures same_store { OnErr result (S.state storage.new ≡ S.state storage.old) }
         ensures same_table { OnErr result (L.table lock.new ≡ L.table lock.old) }
@@ -587,7 +658,11 @@ impl<S: Storage> HttpCache<S> {
     /// Requires the phase Miss or Expired; ask `phase().is_filling()`.
     pub fn miss_handler(&mut self) -> Option<&mut S::Miss>
         requires { IsFilling self.old.phase }
-        ensures* writes_back { sem 𝓛 (LendsIf (the_row S.row S.Hit.row S.Miss.row S.StoreMeaning S.Hit.HandleHit S.Miss.HandleMiss) S.Miss.row self.entry result (λ w. record self.old { write = Some (S.Miss.write w); entry = S.Miss.entry_number w }) self.old) }
+        ensures* writes_back { sem 𝓛 (LendsIf
+            (the_row S.row S.Hit.row S.Miss.row S.StoreMeaning S.Hit.HandleHit S.Miss.HandleMiss)
+            S.Miss.row self.entry result
+            (λ w. record self.old { write = Some (S.Miss.write w); entry = S.Miss.entry_number w })
+            self.old) }
         ensures value { option_map (λ r. S.Miss.write r.now) result ≡ self.old.write }
         ensures entry { option_and_then (λ r. S.Miss.entry_number r.now) result ≡ self.old.entry }
     {
@@ -601,7 +676,8 @@ impl<S: Storage> HttpCache<S> {
     /// Returns the lock that was let go.
     pub fn end<L: CacheKeyLock>(self, storage: &mut S, lock: &mut L) -> Option<LockName>
         ensures let_go { result ≡ option_map name_of self.held }
-        ensures store { S.state storage.new ≡ left_by self.reader (dropped_by self.write (S.state storage.old)) }
+        ensures store { S.state storage.new
+            ≡ left_by self.reader (dropped_by self.write (S.state storage.old)) }
         ensures table { L.table lock.new ≡ let_go_by self.held (L.table lock.old) }
     {
         let HttpCache {

@@ -64,14 +64,16 @@ impl HttpCacheDigest {
     }
 
     pub(crate) fn add_lookup_duration(&mut self, extra: Duration)
-        ensures { self.new ≡ record self.old { look_ups = time_added self.old.look_ups (as_nanos extra) } }
+        ensures { self.new
+            ≡ record self.old { look_ups = time_added self.old.look_ups (as_nanos extra) } }
     {
         let before = self.lookup_duration;
         self.lookup_duration = Some(longer(before, extra));
     }
 
     pub(crate) fn add_lock_duration(&mut self, extra: Duration)
-        ensures { self.new ≡ record self.old { waits = time_added self.old.waits (as_nanos extra) } }
+        ensures { self.new
+            ≡ record self.old { waits = time_added self.old.waits (as_nanos extra) } }
     {
         let before = self.lock_duration;
         self.lock_duration = Some(longer(before, extra));

@@ -79,7 +79,13 @@ impl<M: EvictionManager, P: PutPolicy, K: Mark> Desk<M, P, K> {
         ensures kept { seat.new.table_id ≡ K.opened.table }
         ensures world { IfOk result (λ r. Adds self.old call r.reply self.new) }
         ensures same { OnErr result (self.new ≡ self.old) }
-        ensures ok { IfOk result (λ r. (r.call ≡ call) × ((n : ℕ) × ((e : Entry) × (IsOf e r) × (r.index ≡ length K.opened.log.history + n) × (seat.new.me ≡ (slip (seat.old.me.0.claims ++ (n, e) ∷ []), [])) × All (λ c. c.0 < n) seat.old.me.0.claims))) }
+        ensures ok { IfOk result (λ r. (r.call ≡ call)
+            × ((n : ℕ)
+            × ((e : Entry)
+            × (IsOf e r)
+            × (r.index ≡ length K.opened.log.history + n)
+            × (seat.new.me ≡ (slip (seat.old.me.0.claims ++ (n, e) ∷ []), []))
+            × All (λ c. c.0 < n) seat.old.me.0.claims))) }
         ensures err { OnErr result (seat.new.me ≡ seat.old.me) }
         ensures kind { IfErr result (λ e. e ≡ OutOfMemory) }
     {

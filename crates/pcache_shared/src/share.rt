@@ -68,7 +68,10 @@ impl<K: Mark> Share<K> {
         shared: &SharedWorld<M, P, K>,
         call: Call,
     ) -> Result<(), AllocError>
-        ensures ok { IfOk result (λ _. (index : ℕ) × (reply : Reply) × (self.new ≡ self.old ++ (record { index = index; call = call; reply = reply }) ∷ [])) }
+        ensures ok { IfOk result (λ _. (index : ℕ)
+            × (reply : Reply)
+            × (self.new
+            ≡ self.old ++ (record { index = index; call = call; reply = reply }) ∷ [])) }
         ensures err { OnErr result (self.new ≡ self.old) }
     {
         self.receipts.reserve(1)?;

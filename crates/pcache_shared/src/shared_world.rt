@@ -75,7 +75,9 @@ impl<M: EvictionManager, P: PutPolicy, K: Mark> SharedWorld<M, P, K> {
     ) -> SharedWorld<M, P, K>
         requires room { (room.shared.table_id ≡ K.opened.table) × (0 < K.opened.table.words) }
         requires world { world ≡ K.opened.log }
-        requires seat { (seat.table_id ≡ K.opened.table) × (seat.me ≡ (keeper seat.me.0.parts [] [], [])) × (seat.me.0.parts + K.opened.shares ≡ whole) }
+        requires seat { (seat.table_id ≡ K.opened.table)
+            × (seat.me ≡ (keeper seat.me.0.parts [] [], []))
+            × (seat.me.0.parts + K.opened.shares ≡ whole) }
         requires space { (out.items ≡ []) × (K.opened.shares ≤ vec_capacity out) }
     {
         let desk = Mutex::new(Desk {

@@ -44,7 +44,8 @@ pub fn run_workers<
     ensures count { length shares.new ≡ length shares.old }
     ensures runs { EachRuns Runs scripts.now shares.old shares.new }
     ensures ok { IfOk result (λ _. EachRuns RunsWhole scripts.now shares.old shares.new) }
-    ensures refused { OnErr result ((shares.new ≡ shares.old) ⊎ (EachRuns RunsWhole scripts.now shares.old shares.new → ⊥)) }
+    ensures refused { OnErr result ((shares.new ≡ shares.old)
+        ⊎ (EachRuns RunsWhole scripts.now shares.old shares.new → ⊥)) }
 {
     let before = counts_of(shared.alloc, shares)?;
     let workers = shares.len();

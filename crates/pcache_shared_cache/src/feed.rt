@@ -28,11 +28,13 @@ impl<M: EvictionManager, K, const N: usize> SharedCache<M, K, N> {
         piece: &[u8],
         now: Moment,
     ) -> Result<Option<NoCacheReason>>
-        ensures step { (d : Done) × TakesPiece (C.says put.old.put.policy) put.old.put put.new.put (record { bytes = piece.now; now = now }) d }
+        ensures step { (d : Done)
+            × TakesPiece (C.says put.old.put.policy) put.old.put put.new.put
+            (record { bytes = piece.now; now = now }) d }
         ensures stands { IsStageAfter result put.new.put.stage }
         ensures again { RepeatsResult put.old.put.stage result }
-        ensures kind { InPart self.now put.old.place (λ p.
-            IfErr result (λ e. MayFailPiece put.old.put.stage p.store e ⊎ (put.old.put.parser ≡ HasFailed e))) }
+        ensures kind { InPart self.now put.old.place (λ p. IfErr result (λ e.
+            MayFailPiece put.old.put.stage p.store e ⊎ (put.old.put.parser ≡ HasFailed e))) }
         ensures place { put.new.place ≡ put.old.place }
     {
         let read = put.read_piece(piece, now);
@@ -48,9 +50,12 @@ impl<M: EvictionManager, K, const N: usize> SharedCache<M, K, N> {
         rt: &R,
         put: &mut SharedPut<C, K, N>,
     ) -> Result<PutOutcome>
-        ensures ends { MovesPart self.now put.old.place (λ p q. MayEndPut p.store put.old.put → EndsAs result (λ end. EndsOwnPut put.old.put end p q)) }
-        ensures tells { (pieces : List Piece) (f : Option Filled) → HasTaken (C.says put.old.put.policy) put.old.put pieces f
-            → EndsAs result (TellsResult (IsResult (C.says put.old.put.policy) (limit_of put.old.put.size) pieces) f) }
+        ensures ends { MovesPart self.now put.old.place (λ p q.
+            MayEndPut p.store put.old.put → EndsAs result (λ end. EndsOwnPut put.old.put end p q)) }
+        ensures tells { (pieces : List Piece) (f : Option Filled)
+            → HasTaken (C.says put.old.put.policy) put.old.put pieces f
+            → EndsAs result (TellsResult
+            (IsResult (C.says put.old.put.policy) (limit_of put.old.put.size) pieces) f) }
         ensures place { put.new.place ≡ put.old.place }
     {
         let mut part = self.part(put.place()).lock(rt);
@@ -64,7 +69,8 @@ impl<M: EvictionManager, K, const N: usize> SharedCache<M, K, N> {
 
     /// `Cache::end_put`: ends the put, and drops a write that is still in flight. The policy is dropped before the part is locked.
     pub fn end_put<C: CachePut, R: Wait>(&self, rt: &R, put: SharedPut<C, K, N>)
-        ensures { MovesPart self.now put.place (λ p q. q ≡ record p { store = dropped_by (write_in put.put.stage) p.store }) }
+        ensures { MovesPart self.now put.place (λ p q.
+            q ≡ record p { store = dropped_by (write_in put.put.stage) p.store }) }
     {
         let place = put.place();
         let left = put.into_left();

@@ -24,9 +24,12 @@ impl<M: EvictionManager, K, const N: usize> SharedCache<M, K, N> {
     /// `may_write` of the request.
     pub fn set_miss_handler<R: Wait>(&self, rt: &R, request: &mut SharedRequest<K, N>) -> Result<()>
         requires { MayWrite request.old.cache }
-        ensures begins { InPart self.now request.old.place (λ p.
-            OnOk result (request.new.cache ≡ writing true p.store.next (Some p.store.next) (begun_for request.old.cache.key request.old.cache.meta p.store) request.old.cache)) }
-        ensures kind { InPart self.now request.old.place (λ p. IfErr result (λ e. (e ≡ OutOfMemory) ⊎ MayFailWrite p.store e)) }
+        ensures begins { InPart self.now request.old.place (λ p. OnOk result (request.new.cache
+            ≡ writing true p.store.next (Some p.store.next)
+            (begun_for request.old.cache.key request.old.cache.meta p.store)
+            request.old.cache)) }
+        ensures kind { InPart self.now request.old.place (λ p.
+            IfErr result (λ e. (e ≡ OutOfMemory) ⊎ MayFailWrite p.store e)) }
         ensures phase { request.new.cache.phase ≡ request.old.cache.phase }
         ensures place { request.new.place ≡ request.old.place }
     {
@@ -47,7 +50,8 @@ impl<M: EvictionManager, K, const N: usize> SharedCache<M, K, N> {
     ) -> Result<bool>
         requires { IsFilling request.old.cache.phase }
         ensures same { request.new ≡ request.old }
-        ensures written { InPart self.now request.old.place (λ p. IfOk result (λ b. b ≡ takes_bytes p.store request.old.cache.write)) }
+        ensures written { InPart self.now request.old.place (λ p.
+            IfOk result (λ b. b ≡ takes_bytes p.store request.old.cache.write)) }
         ensures kind { IfErr result (λ e. e ≡ OutOfMemory) }
     {
         self.part(request.place())
@@ -65,9 +69,13 @@ impl<M: EvictionManager, K, const N: usize> SharedCache<M, K, N> {
     ) -> Result<Option<FinishReport>>
         requires { IsFilling request.old.cache.phase }
         ensures ends { MovesPart self.now request.old.place (λ p q. MayEnd p.store request.old.cache
-            → EndsAs result (λ end. Ends in_memory request.old.cache request.old.cache.key request.old.cache.write (finishes_of (created p.store) request.old.cache.write) p.limits end p.store q.store p.tracked q.tracked p.locks q.locks)) }
-        ensures request { OnOk result (request.new ≡ record request.old { cache = after_finish request.old.cache }) }
-        ensures refused { OnErr result ((request.new ≡ request.old) ⊎ (request.new ≡ record request.old { cache = after_finish request.old.cache })) }
+            → EndsAs result (λ end. Ends in_memory request.old.cache request.old.cache.key
+            request.old.cache.write (finishes_of (created p.store) request.old.cache.write)
+            p.limits end p.store q.store p.tracked q.tracked p.locks q.locks)) }
+        ensures request { OnOk result (request.new
+            ≡ record request.old { cache = after_finish request.old.cache }) }
+        ensures refused { OnErr result ((request.new ≡ request.old)
+            ⊎ (request.new ≡ record request.old { cache = after_finish request.old.cache })) }
         ensures place { request.new.place ≡ request.old.place }
     {
         let mut part = self.part(request.place()).lock(rt);

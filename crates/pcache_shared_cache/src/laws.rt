@@ -7,13 +7,22 @@ ghost use Rattle.pcache_shared_cache.specs.Portions.{portion, portions, whole_wa
 
 /// The portions of a whole sum to the whole.
 pub fn portions_add_up()
-    ensures parts { (whole n : ℕ) → 0 < n → sum (map (portion whole n) (range_with_len 0 n)) ≡ whole }
-    ensures limits { (n limit : ℕ) (watermark : Option ℕ) → 0 < n → whole_weight (portions n limit watermark) ≡ limit }
+    ensures parts { (whole n : ℕ)
+        → 0 < n
+        → sum (map (portion whole n) (range_with_len 0 n)) ≡ whole }
+    ensures limits { (n limit : ℕ) (watermark : Option ℕ)
+        → 0 < n
+        → whole_weight (portions n limit watermark) ≡ limit }
 {}
 
 /// Parts that each keep their own limits together keep the whole limits, at any moment: the sum of the lengths of their
 /// complete bodies is at most the sum of all limits, and their number at most the sum of all watermarks if each part has one.
 pub fn parts_keep_the_whole()
-    ensures bytes { (ps : List Parts) → All (λ p. IsKept p.limits p.tracked p.store) ps → sum_by (λ p. stored_bytes p.store) ps ≤ whole_weight (map (λ p. p.limits) ps) }
-    ensures count { (ps : List Parts) → All (λ p. IsKept p.limits p.tracked p.store) ps → IfSome (whole_watermark (map (λ p. p.limits) ps)) (λ most. sum_by (λ p. slots p.store) ps ≤ most) }
+    ensures bytes { (ps : List Parts)
+        → All (λ p. IsKept p.limits p.tracked p.store) ps
+        → sum_by (λ p. stored_bytes p.store) ps ≤ whole_weight (map (λ p. p.limits) ps) }
+    ensures count { (ps : List Parts)
+        → All (λ p. IsKept p.limits p.tracked p.store) ps
+        → IfSome (whole_watermark (map (λ p. p.limits) ps)) (λ most.
+        sum_by (λ p. slots p.store) ps ≤ most) }
 {}

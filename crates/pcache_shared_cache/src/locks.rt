@@ -34,9 +34,10 @@ impl<M: EvictionManager, K, const N: usize> SharedCache<M, K, N> {
         now: Moment,
     ) -> Result<Poll<LockWaitOutcome>>
         requires { IsSome (read_in request.old.cache.held) }
-        ensures waits { InPart self.now request.old.place (λ p.
-            IfOk result (λ a. a ≡ wait_result p.locks now request.old.cache.held request.old.cache)
-            × OnOk result (request.new.cache ≡ waited p.locks now request.old.cache.held request.old.cache)) }
+        ensures waits { InPart self.now request.old.place (λ p. IfOk result (λ a.
+            a ≡ wait_result p.locks now request.old.cache.held request.old.cache)
+            × OnOk result (request.new.cache
+            ≡ waited p.locks now request.old.cache.held request.old.cache)) }
         ensures goes_on { IfOk result (λ a. a ≡ Pending → IsSome (read_in request.new.cache.held)) }
         ensures same { OnErr result (request.new ≡ request.old) }
         ensures kind { IfErr result (λ e. e ≡ OutOfMemory) }
@@ -79,7 +80,8 @@ impl<M: EvictionManager, K, const N: usize> SharedCache<M, K, N> {
     ) -> Option<ReleasedLock>
         requires { MayRelease reason request.old.cache.held }
         ensures request { request.new ≡ record request.old { cache = unheld request.old.cache } }
-        ensures released { result ≡ option_map (released_as (status_for (λ text. GiveUp) reason)) request.old.cache.held }
+        ensures released { result
+            ≡ option_map (released_as (status_for (λ text. GiveUp) reason)) request.old.cache.held }
     {
         self.part(request.place())
             .lock(rt)
@@ -96,7 +98,8 @@ impl<M: EvictionManager, K, const N: usize> SharedCache<M, K, N> {
     ) -> Option<LockName>
         requires phase { IsOn request.old.cache.phase }
         requires place { permit.place ≡ request.old.place }
-        ensures request { request.new ≡ record request.old { cache = handed permit.permit request.old.cache } }
+        ensures request { request.new
+            ≡ record request.old { cache = handed permit.permit request.old.cache } }
         ensures let_go { result ≡ option_map name_of (gone_for permit.permit request.old.cache) }
     {
         let part = self.part(request.place());
@@ -112,7 +115,8 @@ impl<M: EvictionManager, K, const N: usize> SharedCache<M, K, N> {
         request: &SharedRequest<K, N>,
         tokens: &[u64],
     ) -> Result<Option<LockName>>
-        ensures published { IfOk result (λ l. l ≡ option_map (λ w. name_of (Write w)) (permit_in request.now.cache.held)) }
+        ensures published { IfOk result (λ l.
+            l ≡ option_map (λ w. name_of (Write w)) (permit_in request.now.cache.held)) }
         ensures kind { IfErr result (λ e. e ≡ OutOfMemory) }
         ensures clears { tokens.now ≡ [] → IsOk result }
         ensures none { permit_in request.now.cache.held ≡ None → IsOk result }

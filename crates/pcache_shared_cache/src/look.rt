@@ -37,8 +37,8 @@ impl<M: EvictionManager, K, const N: usize> SharedCache<M, K, N> {
         now: Moment,
     ) -> Result<Option<(CacheMeta, MemHitHandler)>>
         requires { MayLookUp request.old.cache.phase }
-        ensures looks { InPart self.now request.old.place (λ p.
-            IfOk result (λ r. option_map (λ f. (f.0, reader_of f.1)) r ≡ seen_for p.store request.old.cache)
+        ensures looks { InPart self.now request.old.place (λ p. IfOk result (λ r.
+            option_map (λ f. (f.0, reader_of f.1)) r ≡ seen_for p.store request.old.cache)
             × OnOk result (request.new.cache ≡ looked_for p.store p.locks request.old.cache)
             × IfErr result (λ e. MayFailLock p.locks e)) }
         ensures same { OnErr result (request.new ≡ request.old) }
@@ -48,7 +48,7 @@ impl<M: EvictionManager, K, const N: usize> SharedCache<M, K, N> {
     {
         self.part(request.place())
             .lock(rt)
-            .cache_lookup(&mut request.request, now)
+            .cache_lookup_without_policy(&mut request.request, now)
     }
 
     /// `Cache::cache_found`: takes the pair that a look-up found.
@@ -63,10 +63,11 @@ impl<M: EvictionManager, K, const N: usize> SharedCache<M, K, N> {
         now: Moment,
     ) -> Result<()>
         requires { MayLookUp request.old.cache.phase }
-        ensures takes { InPart self.now request.old.place (λ p.
-            OnOk result (request.new.cache ≡ found_row status meta (reader_of hit) p.locks request.old.cache)
+        ensures takes { InPart self.now request.old.place (λ p. OnOk result (request.new.cache
+            ≡ found_row status meta (reader_of hit) p.locks request.old.cache)
             × IfErr result (λ e. MayFailLock p.locks e)) }
-        ensures numbers { IfErr result (λ e. e ≡ NumbersExhausted → IsTrue (asks_for_hit status request.old.cache)) }
+        ensures numbers { IfErr result (λ e.
+            e ≡ NumbersExhausted → IsTrue (asks_for_hit status request.old.cache)) }
         ensures same { OnErr result (request.new ≡ request.old) }
         ensures place { request.new.place ≡ request.old.place }
     {
@@ -77,7 +78,8 @@ impl<M: EvictionManager, K, const N: usize> SharedCache<M, K, N> {
 
     /// `Cache::let_go`: lets go the reader that a look-up of the request found.
     pub fn let_go<R: Wait>(&self, rt: &R, request: &SharedRequest<K, N>, hit: MemHitHandler)
-        ensures { MovesPart self.now request.now.place (λ p q. q ≡ record p { store = left p.store (reader_of hit) }) }
+        ensures { MovesPart self.now request.now.place (λ p q.
+            q ≡ record p { store = left p.store (reader_of hit) }) }
     {
         let mut part = self.part(request.place()).lock(rt);
         part.let_go(hit);
@@ -92,9 +94,13 @@ impl<M: EvictionManager, K, const N: usize> SharedCache<M, K, N> {
         request: &mut SharedRequest<K, N>,
     ) -> Result<Poll<Option<Bytes>>>
         requires { IsSome request.old.cache.reader }
-        ensures reads { InPart self.now request.old.place (λ p.
-            IfOk result (λ b. IfSome request.old.cache.reader (λ r. b ≡ read_of p.store r))
-            × OnOk result (request.new.cache ≡ record request.old.cache { reader = option_map (reader_after p.store) request.old.cache.reader })) }
+        ensures reads { InPart self.now request.old.place (λ p. IfOk result (λ b.
+            IfSome request.old.cache.reader (λ r. b ≡ read_of p.store r))
+            × OnOk result (request.new.cache
+            ≡ record request.old.cache {
+              reader = option_map (reader_after p.store)
+                  request.old.cache.reader;
+            })) }
         ensures same { OnErr result (request.new ≡ request.old) }
         ensures kind { IfErr result (λ e. e ≡ OutOfMemory) }
         ensures reader { IsSome request.new.cache.reader }
@@ -141,7 +147,8 @@ impl<M: EvictionManager, K, const N: usize> SharedCache<M, K, N> {
         request: &mut SharedRequest<K, N>,
     ) -> Result<()>
         requires { MayFinishHit request.old.cache.phase }
-        ensures request { request.new ≡ record request.old { cache = without_reader request.old.cache } }
+        ensures request { request.new
+            ≡ record request.old { cache = without_reader request.old.cache } }
         ensures kind { IfErr result (λ e. e ≡ OutOfMemory) }
         ensures none { request.old.cache.reader ≡ None → IsOk result }
     {
@@ -163,7 +170,8 @@ impl<M: EvictionManager, K, const N: usize> SharedCache<M, K, N> {
         reason: NoCacheReason,
     ) -> Option<LockName>
         requires { MayDisable reason request.old.cache }
-        ensures request { request.new ≡ record request.old { cache = disabled_for reason request.old.cache } }
+        ensures request { request.new
+            ≡ record request.old { cache = disabled_for reason request.old.cache } }
         ensures off { IsDisabled request.new.cache.phase }
         ensures held { HoldsNothing request.new.cache }
         ensures released { result ≡ option_map name_of request.old.cache.held }

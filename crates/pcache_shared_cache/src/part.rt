@@ -63,7 +63,8 @@ impl<M: EvictionManager, K> PartLock<M, K> {
     // the part.
     pub(crate) fn lock<R: Wait>(&self, rt: &R) -> MutexGuard<'_, Cache<Portion<M>, K>>
         ensures limits { (mutex_guard_value result).limits ≡ self.now }
-        ensures kept { IsKept (mutex_guard_value result).limits (mutex_guard_value result).tracked (mutex_guard_value result).store }
+        ensures kept { IsKept (mutex_guard_value result).limits (mutex_guard_value result).tracked
+            (mutex_guard_value result).store }
     {
         // The first round returns (see the type); the test provides the clause of the contract.
         for _ in rt.forever() {

@@ -35,7 +35,12 @@ impl<M: EvictionManager> Portion<M> {
     /// A manager, together with its limits.
     pub fn new(manager: M, limit: usize, watermark: Option<usize>) -> Portion<M>
         requires { M.limits manager ≡ limits_of limit watermark }
-        ensures { result ≡ record { tracked = M.tracked manager; limits = limits_of limit watermark; evicted = M.evicted manager } }
+        ensures { result
+            ≡ record {
+              tracked = M.tracked manager;
+              limits = limits_of limit watermark;
+              evicted = M.evicted manager;
+            } }
     {
         Portion {
             manager,

@@ -40,7 +40,14 @@ impl<C: CachePut, K, const N: usize> SharedPut<C, K, N> {
     pub(crate) fn new(alloc: Global, policy: C, key: CacheKey) -> SharedPut<C, K, N>
         requires { 0 < N }
         ensures place { result.place ≡ place_of N key }
-        ensures put { result.put ≡ record { policy = policy; key = key; size = None; parser = AtHead []; stage = InHead } }
+        ensures put { result.put
+            ≡ record {
+              policy = policy;
+              key = key;
+              size = None;
+              parser = AtHead [];
+              stage = InHead;
+            } }
         ensures taken { HasTaken (C.says policy) result.put [] None }
     {
         let place = place_of::<N>(&key);
@@ -68,8 +75,16 @@ impl<C: CachePut, K, const N: usize> SharedPut<C, K, N> {
     /// `CachePutCtx::set_max_file_size_bytes`: limits the number of the body's bytes, and sets their count to zero; to be called
     /// before the body begins.
     pub fn set_max_file_size_bytes(&mut self, max_file_size_bytes: usize)
-        ensures put { self.new ≡ record self.old { put = record self.old.put { size = Some (record { bytes = 0; limit = max_file_size_bytes }) } } }
-        ensures taken { (pieces : List Piece) → self.old.put.stage ≡ InHead → HasTaken (C.says self.old.put.policy) self.old.put pieces None
+        ensures put { self.new
+            ≡ record self.old {
+              put = record self.old.put {
+                size = Some
+                    (record { bytes = 0; limit = max_file_size_bytes });
+              };
+            } }
+        ensures taken { (pieces : List Piece)
+            → self.old.put.stage ≡ InHead
+            → HasTaken (C.says self.old.put.policy) self.old.put pieces None
             → HasTaken (C.says self.old.put.policy) self.new.put pieces None }
     {
         self.pending
@@ -87,7 +102,8 @@ impl<C: CachePut, K, const N: usize> SharedPut<C, K, N> {
 
     // Reads the next piece, which needs no part.
     pub(crate) fn read_piece(&mut self, piece: &[u8], now: Moment) -> ReadPiece
-        ensures read { ReadsPiece (C.says self.old.put.policy) self.old.put self.new.put (record { bytes = piece.now; now = now }) result }
+        ensures read { ReadsPiece (C.says self.old.put.policy) self.old.put self.new.put
+            (record { bytes = piece.now; now = now }) result }
         ensures at { IsReadAt self.new.put.stage result }
         ensures kind { IfUnread result (MayFailRead self.old.put.stage self.old.put.parser) }
         ensures place { self.new.place ≡ self.old.place }

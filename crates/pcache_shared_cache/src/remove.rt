@@ -20,7 +20,8 @@ impl<M: EvictionManager, K, const N: usize> SharedCache<M, K, N> {
     pub fn purge<R: Wait>(&self, rt: &R, request: &mut SharedRequest<K, N>) -> Result<bool>
         requires { MayPurge request.old.cache.phase }
         ensures same { request.new ≡ request.old }
-        ensures there { InPart self.now request.old.place (λ p. IfOk result (λ there. there ≡ is_removed_by (purge_outcome true p.store (option_map slot request.old.cache.key)))) }
+        ensures there { InPart self.now request.old.place (λ p. IfOk result (λ there. there
+            ≡ is_removed_by (purge_outcome true p.store (option_map slot request.old.cache.key)))) }
         ensures kind { IfErr result (λ e. e ≡ OutOfMemory) }
     {
         self.part(request.place())
@@ -39,7 +40,8 @@ impl<M: EvictionManager, K, const N: usize> SharedCache<M, K, N> {
     ) -> Result<bool>
         requires { MaySpawnPurge request.old.cache.phase }
         ensures same { request.new ≡ request.old }
-        ensures there { InPart self.now request.old.place (λ p. IfOk result (λ there. there ≡ is_removed_by (purge_outcome true p.store (option_map slot request.old.cache.key)))) }
+        ensures there { InPart self.now request.old.place (λ p. IfOk result (λ there. there
+            ≡ is_removed_by (purge_outcome true p.store (option_map slot request.old.cache.key)))) }
         ensures kind { IfErr result (λ e. e ≡ OutOfMemory) }
     {
         self.part(request.place())
@@ -58,7 +60,8 @@ impl<M: EvictionManager, K, const N: usize> SharedCache<M, K, N> {
     ) -> Result<bool>
         requires { MayPurge request.old.cache.phase }
         ensures same { request.new ≡ request.old }
-        ensures there { InPart self.now request.old.place (λ p. IfOk result (λ there. there ≡ is_removed_by (expire_outcome p.store (option_map slot request.old.cache.key)))) }
+        ensures there { InPart self.now request.old.place (λ p. IfOk result (λ there. there
+            ≡ is_removed_by (expire_outcome p.store (option_map slot request.old.cache.key)))) }
         ensures kind { IfErr result (λ e. e ≡ OutOfMemory) }
     {
         self.part(request.place())

@@ -31,7 +31,8 @@ impl<M: EvictionManager, K, const N: usize> SharedCache<M, K, N> {
         meta: CacheMeta,
     ) -> Result<bool>
         requires { MayRevalidate request.old.cache }
-        ensures request { request.new ≡ record request.old { cache = renewed meta request.old.cache } }
+        ensures request { request.new
+            ≡ record request.old { cache = renewed meta request.old.cache } }
         ensures there { InPart self.now request.old.place (λ p.
             IfOk result (λ b. b ≡ has_body p.store request.old.cache.key)
             × OnErr result (IsTrue (has_body p.store request.old.cache.key))) }
@@ -55,7 +56,8 @@ impl<M: EvictionManager, K, const N: usize> SharedCache<M, K, N> {
     ) -> Option<LockName>
         requires stale { MayRevalidate request.old.cache }
         requires reason { MayRelease reason request.old.cache.held }
-        ensures request { request.new ≡ record request.old { cache = uncacheable (shown header) reason request.old.cache } }
+        ensures request { request.new
+            ≡ record request.old { cache = uncacheable (shown header) reason request.old.cache } }
         ensures released { result ≡ option_map name_of request.old.cache.held }
     {
         self.part(request.place())
@@ -71,7 +73,8 @@ impl<M: EvictionManager, K, const N: usize> SharedCache<M, K, N> {
         variance: Option<HashBinary>,
     ) -> Option<LockName>
         requires { MayWrite request.old.cache }
-        ensures request { request.new ≡ record request.old { cache = varied variance request.old.cache } }
+        ensures request { request.new
+            ≡ record request.old { cache = varied variance request.old.cache } }
         ensures released { result ≡ released_by_variance variance request.old.cache }
     {
         self.part(request.place())

@@ -46,7 +46,9 @@ impl<K, const N: usize> SharedRequest<K, N> {
     pub(crate) fn new(alloc: Global, key: CacheKey) -> SharedRequest<K, N>
         requires { 0 < N }
         ensures place { result.place ≡ place_of N key }
-        ensures request { result.cache ≡ with_key key (enabled_with (record { eviction = true; predictor = false; lock = true }) new_request) }
+        ensures request { result.cache
+            ≡ with_key key (enabled_with
+            (record { eviction = true; predictor = false; lock = true }) new_request) }
     {
         let place = place_of::<N>(&key);
         let mut request = CacheRequest::new(alloc);
@@ -94,7 +96,7 @@ impl<K, const N: usize> SharedRequest<K, N> {
         requires { MayBypass self.old.cache.phase }
         ensures { self.new ≡ record self.old { cache = bypassed self.old.cache } }
     {
-        self.request.cache.bypass();
+        self.request.cache.bypass_without_predictor();
     }
 
     /// `HttpCache::set_stale_updating`: serves the stale body while another request renews it.
@@ -111,7 +113,8 @@ impl<K, const N: usize> SharedRequest<K, N> {
     pub fn cache_vary_lookup(&mut self, variance: HashBinary, meta: &CacheMeta) -> bool
         requires { MayLookUp self.old.cache.phase }
         ensures matches { result ≡ same_variance meta.now.variance (Some variance) }
-        ensures request { self.new ≡ record self.old { cache = looks_for_variance variance meta.now self.old.cache } }
+        ensures request { self.new
+            ≡ record self.old { cache = looks_for_variance variance meta.now self.old.cache } }
     {
         self.request.cache.cache_vary_lookup(variance, meta)
     }
@@ -121,9 +124,17 @@ impl<K, const N: usize> SharedRequest<K, N> {
     /// it, and then changes nothing.
     pub fn seek(&mut self, start: usize, end: Option<usize>) -> Result<()>
         requires { IsSome self.old.cache.reader }
-        ensures ok { OnOk result (self.new ≡ record self.old { cache = record self.old.cache { reader = option_and_then (λ r. sought r start end) self.old.cache.reader } }) }
+        ensures ok { OnOk result (self.new
+            ≡ record self.old {
+              cache = record self.old.cache {
+                reader = option_and_then
+                    (λ r. sought r start end) self.old.cache.reader;
+              };
+            }) }
         ensures there { IsSome self.new.cache.reader }
-        ensures refused { OnErr result (option_and_then (λ r. sought r start end) self.old.cache.reader ≡ None) }
+        ensures refused { OnErr result (option_and_then (λ r. sought r start end)
+            self.old.cache.reader
+            ≡ None) }
         ensures same { OnErr result (self.new ≡ self.old) }
         ensures kind { IfErr result (λ e. e ≡ InternalError) }
     {
@@ -133,7 +144,8 @@ impl<K, const N: usize> SharedRequest<K, N> {
     /// `HttpCache::set_max_file_size_bytes`: limits the number of the body's bytes, and sets their count to zero.
     pub fn set_max_file_size_bytes(&mut self, max_file_size_bytes: usize)
         requires { IsOn self.old.cache.phase }
-        ensures { self.new ≡ record self.old { cache = with_limit max_file_size_bytes self.old.cache } }
+        ensures { self.new
+            ≡ record self.old { cache = with_limit max_file_size_bytes self.old.cache } }
     {
         self.request
             .cache
@@ -152,7 +164,8 @@ impl<K, const N: usize> SharedRequest<K, N> {
     /// within the limit. Without a limit it counts nothing, and returns true.
     pub fn track_body_bytes_for_max_file_size(&mut self, bytes_len: usize) -> bool
         requires { WasEnabled self.old.cache.phase }
-        ensures request { self.new ≡ record self.old { cache = with_bytes bytes_len self.old.cache } }
+        ensures request { self.new
+            ≡ record self.old { cache = with_bytes bytes_len self.old.cache } }
         ensures within { result ≡ is_within self.new.cache.size }
     {
         self.request

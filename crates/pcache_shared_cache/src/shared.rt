@@ -100,7 +100,9 @@ impl<M: EvictionManager, K, const N: usize> SharedCache<M, K, N> {
     /// A request for a key, with caching turned on, which uses the eviction manager and the lock table. It takes no lock.
     pub fn request(&self, key: CacheKey) -> SharedRequest<K, N>
         ensures place { result.place ≡ place_of N key }
-        ensures request { result.cache ≡ with_key key (enabled_with (record { eviction = true; predictor = false; lock = true }) new_request) }
+        ensures request { result.cache
+            ≡ with_key key (enabled_with
+            (record { eviction = true; predictor = false; lock = true }) new_request) }
     {
         let _parts = &self.parts; // for the prover: once a field is used, the invariant is known
         SharedRequest::new(self.alloc, key)
@@ -109,7 +111,14 @@ impl<M: EvictionManager, K, const N: usize> SharedCache<M, K, N> {
     /// A put of a key, with no limit on its body. It takes no lock.
     pub fn put<C: CachePut>(&self, policy: C, key: CacheKey) -> SharedPut<C, K, N>
         ensures place { result.place ≡ place_of N key }
-        ensures put { result.put ≡ record { policy = policy; key = key; size = None; parser = AtHead []; stage = InHead } }
+        ensures put { result.put
+            ≡ record {
+              policy = policy;
+              key = key;
+              size = None;
+              parser = AtHead [];
+              stage = InHead;
+            } }
         ensures taken { HasTaken (C.says policy) result.put [] None }
     {
         let _parts = &self.parts; // for the prover, as above

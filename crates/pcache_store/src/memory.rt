@@ -159,8 +159,10 @@ impl MemCache {
         slot: u128,
         number: u128,
     ) -> Result<Option<(CacheMeta, MemHitHandler)>>
-        ensures found { IfOk result (λ r. option_map (λ p. (p.0, reader_of p.1)) r ≡ found_part number (map.get self.old.writes number)) }
-        ensures slot { IfOk result (λ r. option_map (λ p. slot_named p.1) r ≡ option_map (λ w. Some w.slot) (map.get self.old.writes number)) }
+        ensures found { IfOk result (λ r. option_map (λ p. (p.0, reader_of p.1)) r
+            ≡ found_part number (map.get self.old.writes number)) }
+        ensures slot { IfOk result (λ r. option_map (λ p. slot_named p.1) r
+            ≡ option_map (λ w. Some w.slot) (map.get self.old.writes number)) }
         ensures ok { OnOk result (self.new ≡ joined self.old number) }
         ensures something { OnErr result (IsSome (map.get self.old.writes number)) }
         ensures kind { IfErr result (λ e. e ≡ OutOfMemory) }
@@ -177,7 +179,11 @@ impl MemCache {
     }
 
     pub(crate) fn leave(&mut self, slot: u128, number: u128)
-        ensures { self.new ≡ record self.old { writes = left_on self.old.writes number (map.get self.old.writes number) } }
+        ensures { self.new
+            ≡ record self.old {
+              writes = left_on self.old.writes number
+                  (map.get self.old.writes number);
+            } }
     {
         self.drafts.leave(slot, number);
     }

@@ -140,8 +140,10 @@ pub trait Storage: StoreMeaning + Sized {
     /// met no removal, or else the complete body. Fails only when memory runs out, and only if there
     /// is something to read.
     fn lookup(&mut self, alloc: Global, key: &CacheKey) -> Result<Option<(CacheMeta, Self::Hit)>>
-        ensures found { IfOk result (λ r. option_map (λ p. (p.0, Self.Hit.reader p.1)) r ≡ find (Self.state self.old) (slot key.now)) }
-        ensures ok { OnOk result (Self.state self.new ≡ followed (Self.state self.old) (find (Self.state self.old) (slot key.now))) }
+        ensures found { IfOk result (λ r. option_map (λ p. (p.0, Self.Hit.reader p.1)) r
+            ≡ find (Self.state self.old) (slot key.now)) }
+        ensures ok { OnOk result (Self.state self.new
+            ≡ followed (Self.state self.old) (find (Self.state self.old) (slot key.now))) }
         ensures something { OnErr result (IsSome (find (Self.state self.old) (slot key.now))) }
         ensures kind { IfErr result (λ e. e ≡ OutOfMemory) }
         ensures err { OnErr result (Self.state self.new ≡ Self.state self.old) };
@@ -154,9 +156,14 @@ pub trait Storage: StoreMeaning + Sized {
         key: &CacheKey,
         streaming_write_tag: Option<&[u8]>,
     ) -> Result<Option<(CacheMeta, Self::Hit)>>
-        ensures found { IfOk result (λ r. option_map (λ p. (p.0, Self.Hit.reader p.1)) r ≡ find_write (Self.state self.old) (slot key.now) (named_by (option_copied streaming_write_tag.entry))) }
-        ensures ok { OnOk result (Self.state self.new ≡ followed (Self.state self.old) (find_write (Self.state self.old) (slot key.now) (named_by (option_copied streaming_write_tag.entry)))) }
-        ensures something { OnErr result (IsSome (find_write (Self.state self.old) (slot key.now) (named_by (option_copied streaming_write_tag.entry)))) }
+        ensures found { IfOk result (λ r. option_map (λ p. (p.0, Self.Hit.reader p.1)) r
+            ≡ find_write (Self.state self.old) (slot key.now)
+            (named_by (option_copied streaming_write_tag.entry))) }
+        ensures ok { OnOk result (Self.state self.new
+            ≡ followed (Self.state self.old) (find_write (Self.state self.old) (slot key.now)
+            (named_by (option_copied streaming_write_tag.entry)))) }
+        ensures something { OnErr result (IsSome (find_write (Self.state self.old) (slot key.now)
+            (named_by (option_copied streaming_write_tag.entry)))) }
         ensures kind { IfErr result (λ e. e ≡ OutOfMemory) }
         ensures err { OnErr result (Self.state self.new ≡ Self.state self.old) };
 
@@ -169,8 +176,10 @@ pub trait Storage: StoreMeaning + Sized {
         meta: &CacheMeta,
     ) -> Result<Self::Miss>
         ensures write { IfOk result (λ m. Self.Miss.write m ≡ (Self.state self.old).next) }
-        ensures entry { IfOk result (λ m. Self.Miss.entry_number m ≡ entry_given Self.guarantees.numbers (Self.state self.old).next) }
-        ensures ok { OnOk result (Self.state self.new ≡ begun (Self.state self.old) (slot key.now) meta.now) }
+        ensures entry { IfOk result (λ m. Self.Miss.entry_number m
+            ≡ entry_given Self.guarantees.numbers (Self.state self.old).next) }
+        ensures ok { OnOk result (Self.state self.new
+            ≡ begun (Self.state self.old) (slot key.now) meta.now) }
         ensures numbers { OnOk result ((Self.state self.old).next < 2 ^ 64) }
         ensures kind { IfErr result (λ e. MayFailWrite (Self.state self.old) e) }
         ensures err { OnErr result (Self.state self.new ≡ Self.state self.old) };
@@ -180,8 +189,10 @@ pub trait Storage: StoreMeaning + Sized {
     /// number of the complete body or write that was removed, and none for an entry without a number. Fails only when
     /// memory runs out.
     fn purge(&mut self, target: PurgeTarget<'_>, purge_type: PurgeType) -> Result<PurgeOutcome>
-        ensures answer { IfOk result (λ o. o ≡ target_outcome Self.guarantees.numbers (Self.state self.old) target.entry) }
-        ensures ok { OnOk result (Self.state self.new ≡ target_purged Self.guarantees.numbers (Self.state self.old) target.entry) }
+        ensures answer { IfOk result (λ o.
+            o ≡ target_outcome Self.guarantees.numbers (Self.state self.old) target.entry) }
+        ensures ok { OnOk result (Self.state self.new
+            ≡ target_purged Self.guarantees.numbers (Self.state self.old) target.entry) }
         ensures sure { IsTrue Self.guarantees.purges → IsOk result }
         ensures kind { IfErr result (λ e. e ≡ OutOfMemory) }
         ensures err { OnErr result (Self.state self.new ≡ Self.state self.old) };
@@ -194,18 +205,28 @@ pub trait Storage: StoreMeaning + Sized {
         target: PurgeTarget<'_>,
         now: Moment,
     ) -> Result<PurgeOutcome>
-        ensures answer { IfOk result (λ o. o ≡ expire_outcome (Self.state self.old) (slot_expired Self.guarantees.numbers (Self.state self.old) target.entry)) }
-        ensures ok { OnOk result (Self.state self.new ≡ expired_at now (Self.state self.old) (slot_expired Self.guarantees.numbers (Self.state self.old) target.entry)) }
-        ensures something { OnErr result (expire_outcome (Self.state self.old) (slot_expired Self.guarantees.numbers (Self.state self.old) target.entry) ≡ Expired) }
+        ensures answer { IfOk result (λ o. o
+            ≡ expire_outcome (Self.state self.old)
+            (slot_expired Self.guarantees.numbers (Self.state self.old) target.entry)) }
+        ensures ok { OnOk result (Self.state self.new
+            ≡ expired_at now (Self.state self.old)
+            (slot_expired Self.guarantees.numbers (Self.state self.old) target.entry)) }
+        ensures something { OnErr result (expire_outcome (Self.state self.old)
+            (slot_expired Self.guarantees.numbers (Self.state self.old) target.entry)
+            ≡ Expired) }
         ensures kind { IfErr result (λ e. e ≡ OutOfMemory) }
         ensures err { OnErr result (Self.state self.new ≡ Self.state self.old) };
 
     /// Sets the meta of a key's complete body, and returns whether there is one. The body keeps the number of the write that
     /// stored it, whatever number the new meta has. Fails only when memory runs out, and only if there is one.
     fn update_meta(&mut self, alloc: Global, key: &CacheKey, meta: &CacheMeta) -> Result<bool>
-        ensures there { IfOk result (λ b. b ≡ is_some (complete_body (map.get (Self.state self.old).slots (slot key.now)))) }
-        ensures ok { OnOk result (Self.state self.new ≡ meta_set meta.now (Self.state self.old) (slot key.now)) }
-        ensures something { OnErr result (is_some (complete_body (map.get (Self.state self.old).slots (slot key.now))) ≡ true) }
+        ensures there { IfOk result (λ b.
+            b ≡ is_some (complete_body (map.get (Self.state self.old).slots (slot key.now)))) }
+        ensures ok { OnOk result (Self.state self.new
+            ≡ meta_set meta.now (Self.state self.old) (slot key.now)) }
+        ensures something { OnErr result (is_some
+            (complete_body (map.get (Self.state self.old).slots (slot key.now)))
+            ≡ true) }
         ensures kind { IfErr result (λ e. e ≡ OutOfMemory) }
         ensures err { OnErr result (Self.state self.new ≡ Self.state self.old) };
 
@@ -223,8 +244,11 @@ pub trait HandleHit<S: StoreMeaning> {
     /// runs out, and only if there is a piece; then the reader is unchanged.
     fn read_body(&mut self, alloc: Global, store: &mut S) -> Result<Poll<Option<Bytes>>>
         ensures read { IfOk result (λ p. p ≡ read_of (S.state store.old) (reader self.old)) }
-        ensures ok { OnOk result (reader self.new ≡ reader_after (S.state store.old) (reader self.old)) }
-        ensures something { OnErr result (gives_piece (read_of (S.state store.old) (reader self.old)) ≡ true) }
+        ensures ok { OnOk result (reader self.new
+            ≡ reader_after (S.state store.old) (reader self.old)) }
+        ensures something { OnErr result (gives_piece
+            (read_of (S.state store.old) (reader self.old))
+            ≡ true) }
         ensures kind { IfErr result (λ e. e ≡ OutOfMemory) }
         ensures err { OnErr result (reader self.new ≡ reader self.old) }
         ensures same { S.state store.new ≡ S.state store.old };
@@ -294,7 +318,8 @@ pub trait HandleMiss<S: StoreMeaning> {
     /// was removed is written like any other. Fails only when memory runs out.
     fn write_body(&mut self, store: &mut S, bytes: Bytes, eof: bool) -> Result<()>
         requires { is_told (map.get (S.state store.old).writes (write self.old)) ≡ false }
-        ensures ok { OnOk result (S.state store.new ≡ wrote (S.state store.old) (write self.old) bytes eof) }
+        ensures ok { OnOk result (S.state store.new
+            ≡ wrote (S.state store.old) (write self.old) bytes eof) }
         ensures kind { IfErr result (λ e. e ≡ OutOfMemory) }
         ensures err { OnErr result (S.state store.new ≡ S.state store.old) }
         ensures same { write self.new ≡ write self.old }

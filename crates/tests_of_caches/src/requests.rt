@@ -71,7 +71,7 @@ fn fill_in<M: EvictionManager>(
     requires phase { request.old.cache.phase ≡ CacheKey }
     requires uses { request.old.cache.uses.eviction ≡ true }
 {
-    if let Some((_meta, hit)) = cache.cache_lookup(request, NOW)? {
+    if let Some((_meta, hit)) = cache.cache_lookup_without_policy(request, NOW)? {
         cache.let_go(hit);
         return Ok(false);
     }
@@ -107,7 +107,7 @@ fn find_in<M: EvictionManager>(
 ) -> Result<bool>
     requires { request.old.cache.phase ≡ CacheKey }
 {
-    let Some((meta, hit)) = cache.cache_lookup(request, NOW)? else {
+    let Some((meta, hit)) = cache.cache_lookup_without_policy(request, NOW)? else {
         return Ok(false);
     };
     cache.cache_found(request, meta, hit, HitStatus::Fresh, NOW)?;

@@ -178,7 +178,7 @@ fn ask(cache: &mut List, request: &mut Request, now: Moment, told: &mut Told) {
     if !request.cache.phase().may_look_up() {
         return told.say("wrong");
     }
-    match cache.cache_lookup(request, now) {
+    match cache.cache_lookup_without_policy(request, now) {
         Ok(Some((_meta, hit))) => {
             cache.let_go(hit);
             told.say("hit");

@@ -28,7 +28,9 @@ pub(crate) fn by_one_second(
     defaults: &CacheMetaDefaults,
     now: Moment,
 ) -> Result<RespCacheable>
-    requires one { (status : ℕ) (lifetime : Option Duration) → FreshDurationByStatusFn.post defaults.now.fresh_sec_fn status lifetime → IsOneSecond status lifetime }
+    requires one { (status : ℕ) (lifetime : Option Duration)
+        → FreshDurationByStatusFn.post defaults.now.fresh_sec_fn status lifetime
+        → IsOneSecond status lifetime }
     requires revalidating { defaults.now.stale_while_revalidate_sec ≡ 0 }
     requires erring { defaults.now.stale_if_error_sec ≡ 0 }
     ensures says { IfOk result (SaysByDefault (0, 0) IsOneSecond header now) }

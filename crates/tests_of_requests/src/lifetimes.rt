@@ -36,7 +36,9 @@ pub(crate) fn by_seconds(
     now: Moment,
     seconds: u64,
 ) -> Result<RespCacheable>
-    requires lasts { (status : ℕ) (lifetime : Option Duration) → FreshDurationByStatusFn.post defaults.now.fresh_sec_fn status lifetime → IsSeconds seconds status lifetime }
+    requires lasts { (status : ℕ) (lifetime : Option Duration)
+        → FreshDurationByStatusFn.post defaults.now.fresh_sec_fn status lifetime
+        → IsSeconds seconds status lifetime }
     requires revalidating { defaults.now.stale_while_revalidate_sec ≡ 0 }
     requires erring { defaults.now.stale_if_error_sec ≡ 0 }
     ensures says { IfOk result (SaysByDefault (0, 0) (IsSeconds seconds) header now) }

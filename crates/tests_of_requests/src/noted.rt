@@ -143,7 +143,7 @@ fn takes<M: EvictionManager>(
         return Ok(());
     }
     let now = Moment::from_secs(110);
-    let found = request.cache_lookup(&mut parts.store, &mut parts.lock, now)?;
+    let found = request.cache_lookup_without_policy(&mut parts.store, &mut parts.lock, now)?;
     let Some((meta, hit)) = found else {
         return Ok(());
     };

@@ -77,7 +77,8 @@ impl StoreMeaning for WholeStore {
 
 // The result of a look-up, with the reader of this storage.
 fn wrapped(found: Option<(CacheMeta, MemHitHandler)>) -> Option<(CacheMeta, WholeHit)>
-    ensures { option_map {U = Meta × Reader} (λ p. (p.0, reader_of p.1.hit)) result ≡ option_map {U = Meta × Reader} (λ p. (p.0, reader_of p.1)) found }
+    ensures { option_map {U = Meta × Reader} (λ p. (p.0, reader_of p.1.hit)) result
+        ≡ option_map {U = Meta × Reader} (λ p. (p.0, reader_of p.1)) found }
 {
     match found {
         Some((meta, hit)) => Some((meta, WholeHit { hit })),

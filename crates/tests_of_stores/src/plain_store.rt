@@ -110,7 +110,9 @@ impl RangeHit {
     }
 
     fn read(&mut self) -> Result<Option<Bytes>>
-        ensures read { IfOk result (λ r. r ≡ cond self.old.done None (Some (slice_range self.old.body self.old.start self.old.stop))) }
+        ensures read { IfOk result (λ r. r
+            ≡ cond self.old.done None
+            (Some (slice_range self.old.body self.old.start self.old.stop))) }
         ensures id { self.new.id ≡ self.old.id }
         ensures body { self.new.body ≡ self.old.body }
         ensures start { self.new.start ≡ self.old.start }
@@ -129,8 +131,14 @@ impl RangeHit {
     }
 
     fn seek(&mut self, start: usize, end: Option<usize>) -> Result<()>
-        ensures ok { OnOk result (Some (Whole self.new.id self.new.body self.new.start self.new.stop self.new.done) ≡ sought (Whole self.old.id self.old.body self.old.start self.old.stop self.old.done) start end) }
-        ensures refused { OnErr result (sought (Whole self.old.id self.old.body self.old.start self.old.stop self.old.done) start end ≡ None) }
+        ensures ok { OnOk result (Some
+            (Whole self.new.id self.new.body self.new.start self.new.stop self.new.done)
+            ≡ sought (Whole self.old.id self.old.body self.old.start self.old.stop self.old.done)
+            start end) }
+        ensures refused { OnErr result (sought
+            (Whole self.old.id self.old.body self.old.start self.old.stop self.old.done) start
+            end
+            ≡ None) }
         ensures kind { IfErr result (λ e. e ≡ InternalError) }
         ensures id { self.new.id ≡ self.old.id }
         ensures body { self.new.body ≡ self.old.body }
@@ -154,7 +162,9 @@ impl RangeHit {
 
 impl PlainHit {
     fn of_body(hit: RangeHit) -> PlainHit
-        ensures { unwrap_or (option_map (λ r. Whole r.id r.body r.start r.stop r.done) result.range) (Part result.write result.place) ≡ Whole hit.id hit.body hit.start hit.stop hit.done }
+        ensures { unwrap_or (option_map (λ r. Whole r.id r.body r.start r.stop r.done) result.range)
+            (Part result.write result.place)
+            ≡ Whole hit.id hit.body hit.start hit.stop hit.done }
     {
         PlainHit {
             range: Some(hit),
@@ -164,7 +174,9 @@ impl PlainHit {
     }
 
     fn of_write(write: u128) -> PlainHit
-        ensures { unwrap_or (option_map (λ r. Whole r.id r.body r.start r.stop r.done) result.range) (Part result.write result.place) ≡ Part write 0 }
+        ensures { unwrap_or (option_map (λ r. Whole r.id r.body r.start r.stop r.done) result.range)
+            (Part result.write result.place)
+            ≡ Part write 0 }
     {
         PlainHit {
             range: None,
@@ -174,7 +186,10 @@ impl PlainHit {
     }
 
     fn leave(self, store: &mut PlainStore)
-        ensures { store.new ≡ left store.old (unwrap_or (option_map (λ r. Whole r.id r.body r.start r.stop r.done) self.range) (Part self.write self.place)) }
+        ensures { store.new
+            ≡ left store.old (unwrap_or
+            (option_map (λ r. Whole r.id r.body r.start r.stop r.done) self.range)
+            (Part self.write self.place)) }
     {
         let PlainHit {
             range,
@@ -214,7 +229,14 @@ impl PlainStore {
     }
 
     fn follow(&mut self, alloc: Global, number: u128) -> Result<Option<(CacheMeta, PlainHit)>>
-        ensures found { IfOk result (λ r. option_map {U = Meta × Reader} (λ p. (p.0, unwrap_or (option_map (λ r. Whole r.id r.body r.start r.stop r.done) p.1.range) (Part p.1.write p.1.place))) r ≡ found_part number (map.get self.old.writes number)) }
+        ensures found { IfOk result (λ r. option_map {U = Meta × Reader}
+            (λ p. (
+              p.0,
+              unwrap_or
+                  (option_map (λ r. Whole r.id r.body r.start r.stop r.done) p.1.range)
+                  (Part p.1.write p.1.place),
+            )) r
+            ≡ found_part number (map.get self.old.writes number)) }
         ensures ok { OnOk result (self.new ≡ joined self.old number) }
         ensures something { OnErr result (IsSome (map.get self.old.writes number)) }
         ensures kind { IfErr result (λ e. e ≡ OutOfMemory) }

@@ -28,7 +28,9 @@ fn send_as_get(method: &mut Method)
 fn take_out(headers: &mut HeaderMap, name: &HeaderName)
     ensures out { headers.new ≡ remove headers.old name.now }
     ensures gone { get_all headers.new name.now ≡ [] }
-    ensures others { (other : List ℕ) → name.now ≢ other → get_all headers.new other ≡ get_all headers.old other }
+    ensures others { (other : List ℕ)
+        → name.now ≢ other
+        → get_all headers.new other ≡ get_all headers.old other }
 {
     // For the prover: its contract says what holds of each map.
     let _names = headers.keys_len();
@@ -160,8 +162,8 @@ pub fn request_filter(req: &mut RequestHeader, meta: Option<&CacheMeta>) -> Resu
     ensures target { req.new.target ≡ req.old.target }
     ensures asks { OnOk result
         (AsksFor (option_copied meta.entry) (without_conditions req.old.headers) req.new.headers) }
-    ensures refused { OnErr result
-        (AsksInPartFor (option_copied meta.entry) (without_conditions req.old.headers) req.new.headers) }
+    ensures refused { OnErr result (AsksInPartFor (option_copied meta.entry)
+        (without_conditions req.old.headers) req.new.headers) }
     ensures kind { IfErr result (λ e. (e ≡ OutOfMemory) ⊎ (e ≡ InternalError)) }
     ensures full { IfErr result (λ e. e ≡ InternalError → IsFullOfNames req.new.headers) }
     ensures memory { IfErr result (λ e. e ≡ OutOfMemory → ¬ (IsFullOfNames req.new.headers)) }

@@ -274,7 +274,10 @@ impl RecencyList {
     ) -> bool
         requires { count < 2 ^ 63 }
         ensures once { IsOnce self.now }
-        ensures inside { result ≡ true → (l : Recency) → weight l ≤ weight self.now + size → length l ≤ length self.now + count
+        ensures inside { result ≡ true
+            → (l : Recency)
+            → weight l ≤ weight self.now + size
+            → length l ≤ length self.now + count
             → IsWithinAsList (limits_of limit watermark) l }
     {
         !exceeds(
@@ -299,8 +302,10 @@ impl RecencyList {
         requires sum_fits { rest.0 + 2 ^ 64 < 2 ^ 128 }
         requires count { rest.1 ≡ length (others item.now self.now) }
         requires count_fits { rest.1 < 2 ^ 63 }
-        ensures inside { result ≡ true → IsWithinAsList (limits_of limit watermark) (moved item.now size self.now) }
-        ensures outside { result ≡ false → ¬ IsWithinAsList (limits_of limit watermark) (moved item.now size self.now) }
+        ensures inside { result ≡ true
+            → IsWithinAsList (limits_of limit watermark) (moved item.now size self.now) }
+        ensures outside { result ≡ false
+            → ¬ IsWithinAsList (limits_of limit watermark) (moved item.now size self.now) }
     {
         !exceeds(rest.0 + size as u128, rest.1 + 1, limit, watermark)
     }
@@ -458,10 +463,13 @@ fn raise_in(
     delta: usize,
     max_weight: Option<usize>,
 ) -> Option<(usize, usize)>
-    ensures there { IfSome result (λ p. (weight_of item.now cache.old.entries ≡ Some p.0) × (p.1 ≡ raised delta max_weight (Some p.0))
+    ensures there { IfSome result (λ p. (weight_of item.now cache.old.entries ≡ Some p.0)
+        × (p.1 ≡ raised delta max_weight (Some p.0))
         × (cache.new ≡ lru_cache (put_entries entry_eq cache.old item.now p.1) cache.old.cap)) }
     ensures fits { IfSome result (λ p. p.1 < 2 ^ 64) }
-    ensures missing { IfNone result ((weight_of item.now cache.old.entries ≡ None) × (cache.new.entries ≡ cache.old.entries) × (cache.new.cap ≡ cache.old.cap)) }
+    ensures missing { IfNone result ((weight_of item.now cache.old.entries ≡ None)
+        × (cache.new.entries ≡ cache.old.entries)
+        × (cache.new.cap ≡ cache.old.cap)) }
 {
     let Some(weight) = cache.get_mut(item) else {
         return None;

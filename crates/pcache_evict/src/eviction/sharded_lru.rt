@@ -97,7 +97,8 @@ impl<const N: usize> Manager<N> {
 
     /// Sets the most that the entries may weigh. Nothing is evicted before the next admission.
     pub fn set_weight_limit(&mut self, limit: usize)
-        ensures { self.new ≡ record self.old { limits = limits_of limit self.old.limits.watermark } }
+        ensures { self.new
+            ≡ record self.old { limits = limits_of limit self.old.limits.watermark } }
     {
         self.limit = limit;
     }
@@ -150,7 +151,8 @@ impl<const N: usize> Manager<N> {
 
     /// The weight of an entry; `None` if it is not tracked. That does not count as a use.
     pub fn peek_weight(&self, item: &CacheEntryKey) -> Option<usize>
-        ensures value { result ≡ weight_of item.now (list_at self.now.shards (shard_of N item.now)) }
+        ensures value { result
+            ≡ weight_of item.now (list_at self.now.shards (shard_of N item.now)) }
         ensures placed { ArePlaced N self.now.shards }
     {
         self.shards.len(); // for the prover: once it is asked, the invariant is known
@@ -199,7 +201,8 @@ impl<const N: usize> Manager<N> {
 
     /// Whether an entry is tracked. That does not count as a use.
     pub fn peek(&self, item: &CacheEntryKey) -> bool
-        ensures value { result ≡ is_some (weight_of item.now (list_at self.now.shards (shard_of N item.now))) }
+        ensures value { result
+            ≡ is_some (weight_of item.now (list_at self.now.shards (shard_of N item.now))) }
         ensures placed { ArePlaced N self.now.shards }
     {
         self.peek_weight(item).is_some()
@@ -234,9 +237,11 @@ impl<const N: usize> Manager<N> {
         max_weight: Option<usize>,
     ) -> Result<Vec<CacheEntryKey>>
         ensures ok { IfOk result (λ out. Runs N self.old
-            (in_shard N item.now (grown item.now delta max_weight) self.old.shards) self.new out.items) }
+            (in_shard N item.now (grown item.now delta max_weight) self.old.shards) self.new
+            out.items) }
         ensures within { IsSome (weight_of item.now (list_at self.old.shards (shard_of N item.now)))
-            → IsWithinAsList self.old.limits (all (in_shard N item.now (grown item.now delta max_weight) self.old.shards))
+            → IsWithinAsList self.old.limits
+            (all (in_shard N item.now (grown item.now delta max_weight) self.old.shards))
             → IsOk result }
         ensures placed { ArePlaced N self.old.shards }
         ensures kind { IfErr result (λ e. e ≡ OutOfMemory) }
@@ -253,7 +258,8 @@ impl<const N: usize> Manager<N> {
 
     /// Removes an entry, if it is tracked. That is no eviction.
     pub fn remove(&mut self, item: &CacheEntryKey)
-        ensures ok { self.new ≡ record self.old { shards = in_shard N item.now (others item.now) self.old.shards } }
+        ensures ok { self.new
+            ≡ record self.old { shards = in_shard N item.now (others item.now) self.old.shards } }
         ensures placed { ArePlaced N self.old.shards }
     {
         self.shards.len(); // for the prover: once it is asked, the invariant is known
@@ -269,10 +275,15 @@ impl<const N: usize> Manager<N> {
         size: usize,
         _fresh_until: Moment,
     ) -> Result<bool>
-        ensures was { IfOk result (λ was. was ≡ is_some (weight_of item.now (list_at self.old.shards (shard_of N item.now)))) }
+        ensures was { IfOk result (λ was.
+            was ≡ is_some (weight_of item.now (list_at self.old.shards (shard_of N item.now)))) }
         ensures ok { OnOk result (self.new
-            ≡ record self.old { shards = in_shard N item.now (accessed item.now size) self.old.shards }) }
-        ensures there { IsSome (weight_of item.now (list_at self.old.shards (shard_of N item.now))) → IsOk result }
+            ≡ record self.old {
+              shards = in_shard N item.now (accessed item.now size)
+                  self.old.shards;
+            }) }
+        ensures there { IsSome (weight_of item.now (list_at self.old.shards (shard_of N item.now)))
+            → IsOk result }
         ensures placed { ArePlaced N self.old.shards }
         ensures kind { IfErr result (λ e. e ≡ OutOfMemory) }
         ensures err { OnErr result (self.new ≡ self.old) }
@@ -330,10 +341,12 @@ impl<const N: usize> Manager<N> {
 
     // The same for the weight of a tracked entry.
     fn set_and_evict(&mut self, item: &CacheEntryKey, size: usize) -> Result<Vec<CacheEntryKey>>
-        requires there { IsSome (weight_of item.now (list_at self.old.shards (shard_of N item.now))) }
+        requires there { IsSome
+            (weight_of item.now (list_at self.old.shards (shard_of N item.now))) }
         ensures ok { IfOk result (λ out. Runs N self.old
             (in_shard N item.now (reweighed item.now size) self.old.shards) self.new out.items) }
-        ensures within { IsWithinAsList self.old.limits (all (in_shard N item.now (reweighed item.now size) self.old.shards))
+        ensures within { IsWithinAsList self.old.limits
+            (all (in_shard N item.now (reweighed item.now size) self.old.shards))
             → IsOk result }
         ensures placed { ArePlaced N self.old.shards }
         ensures kind { IfErr result (λ e. e ≡ OutOfMemory) }
@@ -361,7 +374,8 @@ impl<const N: usize> Manager<N> {
     fn keep_limits(&mut self, place: usize, mut out: Vec<CacheEntryKey>) -> Vec<CacheEntryKey>
         requires within { place < N }
         requires none { out.items ≡ [] }
-        requires room { IsEnough self.old.limits (chain N place self.old.shards) (vec_capacity out) }
+        requires room { IsEnough self.old.limits (chain N place self.old.shards)
+            (vec_capacity out) }
         ensures { Runs N self.old self.old.shards self.new result.items }
     {
         self.shards.len(); // for the prover: once it is asked, the invariant is known

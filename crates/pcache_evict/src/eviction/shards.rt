@@ -107,7 +107,8 @@ impl<const N: usize> RecencyShards<N> {
         ensures sum_fits { result.0 + 2 ^ 64 < 2 ^ 128 }
         ensures count { result.1 ≡ length (others item.now (all self.now)) }
         ensures count_fits { result.1 < 2 ^ 63 }
-        ensures present { (w : ℕ) → weight_of item.now (list_at self.now (shard_of N item.now)) ≡ Some w
+        ensures present { (w : ℕ)
+            → weight_of item.now (list_at self.now (shard_of N item.now)) ≡ Some w
             → weight (all self.now) ≡ result.0 + w }
     {
         let place = self.place_of(item);
@@ -153,9 +154,10 @@ impl<const N: usize> RecencyShards<N> {
 
     /// Moves an entry to the front of its list, if it is tracked. Returns whether it is.
     pub(super) fn promote(&mut self, item: &CacheEntryKey) -> bool
-        ensures was { result ≡ is_some (weight_of item.now (list_at self.old (shard_of N item.now))) }
-        ensures there { IfSome (weight_of item.now (list_at self.old (shard_of N item.now))) (λ w. self.new
-            ≡ in_shard N item.now (moved item.now w) self.old) }
+        ensures was { result
+            ≡ is_some (weight_of item.now (list_at self.old (shard_of N item.now))) }
+        ensures there { IfSome (weight_of item.now (list_at self.old (shard_of N item.now)))
+            (λ w. self.new ≡ in_shard N item.now (moved item.now w) self.old) }
         ensures missing { result ≡ false → self.new ≡ self.old }
     {
         let place = self.place_of(item);
@@ -237,7 +239,8 @@ impl<const N: usize> RecencyShards<N> {
     /// Adds a new entry at the back of its list.
     fn push_last(&mut self, item: CacheEntryKey, size: usize) -> Result<()>
         requires { weight_of item (list_at self.old (shard_of N item)) ≡ None }
-        ensures ok { OnOk result (self.new ≡ in_shard N item (λ l. l ++ (item, size) ∷ []) self.old) }
+        ensures ok { OnOk result (self.new
+            ≡ in_shard N item (λ l. l ++ (item, size) ∷ []) self.old) }
         ensures kind { IfErr result (λ e. e ≡ OutOfMemory) }
         ensures err { OnErr result (self.new ≡ self.old) }
     {
@@ -281,7 +284,9 @@ impl<const N: usize> RecencyShards<N> {
     fn pop(&mut self, place: usize)
         requires within { place < N }
         requires some { 0 < length (list_at self.old place) }
-        ensures { self.new ≡ slice_set self.old place (take (length (list_at self.old place) - 1) (list_at self.old place)) }
+        ensures { self.new
+            ≡ slice_set self.old place
+            (take (length (list_at self.old place) - 1) (list_at self.old place)) }
     {
         let list = &mut self.lists[place];
         let Some((_key, size)) = list.pop_last() else {
@@ -319,8 +324,12 @@ impl<const N: usize> RecencyShards<N> {
         requires sum_fits { rest.0 + 2 ^ 64 < 2 ^ 128 }
         requires count { rest.1 ≡ length (others item.now (all self.now)) }
         requires count_fits { rest.1 < 2 ^ 63 }
-        ensures inside { result ≡ true → IsWithinAsList (limits_of limit watermark) (all (in_shard N item.now (reweighed item.now size) self.now)) }
-        ensures outside { result ≡ false → ¬ IsWithinAsList (limits_of limit watermark) (all (in_shard N item.now (reweighed item.now size) self.now)) }
+        ensures inside { result ≡ true
+            → IsWithinAsList (limits_of limit watermark)
+            (all (in_shard N item.now (reweighed item.now size) self.now)) }
+        ensures outside { result ≡ false
+            → ¬ IsWithinAsList (limits_of limit watermark)
+            (all (in_shard N item.now (reweighed item.now size) self.now)) }
     {
         let _ = &self.lists; // for the prover: once a field is used, the invariant is known
         !exceeds(rest.0 + size as u128, rest.1 + 1, limit, watermark)
@@ -376,7 +385,8 @@ impl<const N: usize> RecencyShards<N> {
         requires sum { weight (others item.now (span self.now from (to - from))) ≤ start.sum }
         requires count { length (others item.now (span self.now from (to - from))) ≤ start.count }
         requires fits { start.room + start.count ≤ 2 ^ 63 }
-        ensures { Walks (limits_of limit watermark) item.now (span self.now from (to - from)) start result }
+        ensures { Walks (limits_of limit watermark) item.now (span self.now from (to - from)) start
+            result }
     {
         let mut walk = start;
         for place in from..to {
@@ -401,7 +411,8 @@ impl<const N: usize> RecencyShards<N> {
     ) -> usize
         requires within { place < N }
         requires none { out.old.items ≡ [] }
-        requires room { IsEnough (limits_of limit watermark) (chain N place self.old) (vec_capacity out.old) }
+        requires room { IsEnough (limits_of limit watermark) (chain N place self.old)
+            (vec_capacity out.old) }
         ensures runs { RunsOut (limits_of limit watermark) self.old out.new.items self.new }
         ensures gone { result ≡ min (weight (all self.old) - weight (all self.new)) (2 ^ 64 - 1) }
     {

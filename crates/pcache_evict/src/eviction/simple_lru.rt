@@ -147,7 +147,8 @@ impl Manager {
         ensures ok { IfOk result (λ out. Moves self.old
             (incremented item.now delta max_weight self.old.entries) self.new out.items) }
         ensures within { IsSome (weight_of item.now self.old.entries)
-            → IsWithinAsList self.old.limits (incremented item.now delta max_weight self.old.entries)
+            → IsWithinAsList self.old.limits
+            (incremented item.now delta max_weight self.old.entries)
             → IsOk result }
         ensures once { IsOnce self.old.entries }
         ensures kind { IfErr result (λ e. e ≡ OutOfMemory) }

@@ -93,7 +93,8 @@ fn forget_reader(cores: &mut Table<LockCore>, number: u128)
 
 // Records that the permit is gone.
 fn spend(cores: &mut Table<LockCore>, number: u128, status: LockStatus)
-    ensures { cores.new ≡ changed (λ c. spent c status) cores.old number (map.get cores.old number) }
+    ensures { cores.new
+        ≡ changed (λ c. spent c status) cores.old number (map.get cores.old number) }
 {
     let Some(core) = cores.get_mut(number) else {
         return;
@@ -124,7 +125,8 @@ fn age(cores: &mut Table<LockCore>, number: u128)
 
 // Replaces the current publication.
 fn publish(alloc: Global, cores: &mut Table<LockCore>, number: u128, tokens: &[u64]) -> Result<()>
-    ensures ok { OnOk result (cores.new ≡ changed (with_publication tokens.now) cores.old number (map.get cores.old number)) }
+    ensures ok { OnOk result (cores.new
+        ≡ changed (with_publication tokens.now) cores.old number (map.get cores.old number)) }
     ensures clears { tokens.now ≡ [] → IsOk result }
     ensures err { OnErr result (cores.new ≡ cores.old) }
     ensures kind { IfErr result (λ e. e ≡ OutOfMemory) }
@@ -194,9 +196,11 @@ impl CacheLock {
         stale_writer: bool,
         now: Moment,
     ) -> Result<(WritePermit, LockStub)>
-        ensures permit { IfOk result (λ p. p.0 ≡ record { number = self.old.next; stale_writer = stale_writer }) }
+        ensures permit { IfOk result (λ p.
+            p.0 ≡ record { number = self.old.next; stale_writer = stale_writer }) }
         ensures stub { IfOk result (λ p. p.1 ≡ self.old.next) }
-        ensures ok { OnOk result (self.new ≡ with_free_permit self.old (as_nanos age_timeout) stale_writer now) }
+        ensures ok { OnOk result (self.new
+            ≡ with_free_permit self.old (as_nanos age_timeout) stale_writer now) }
         ensures err { OnErr result (self.new ≡ self.old) }
         ensures kind { IfErr result (λ e. MayFailLock self.old e) }
     {
@@ -275,7 +279,11 @@ impl CacheLock {
 
     // Removes a lock that nothing names any more, and its entry.
     fn forget(&mut self, number: u128, slot: Option<u128>)
-        ensures { self.new ≡ record self.old { cores = map.remove self.old.cores number; current = without_entry number slot self.old.current } }
+        ensures { self.new
+            ≡ record self.old {
+              cores = map.remove self.old.cores number;
+              current = without_entry number slot self.old.current;
+            } }
     {
         self.cores.remove(number);
         leave_entry(&mut self.current, number, slot);

@@ -81,7 +81,8 @@ impl Model for Watch {
 impl Watch {
     // What a reader that was not told of a fill watches for from now on.
     fn first(alloc: Global, core: &LockCore, fills: Option<&UnusableFills>) -> Result<Watch>
-        ensures made { IfOk result (λ w. w ≡ first_watch core.now (unwrap_or (option_copied fills.entry) [])) }
+        ensures made { IfOk result (λ w.
+            w ≡ first_watch core.now (unwrap_or (option_copied fills.entry) [])) }
         ensures kind { IfErr result (λ e. e ≡ OutOfMemory) }
         ensures unnamed { option_copied fills.entry ≡ None → IsOk result }
     {
@@ -155,8 +156,13 @@ impl ReadLock {
         core: &LockCore,
         fills: Option<&UnusableFills>,
     ) -> Result<Option<UnusableFill>>
-        ensures ok { OnOk result (self.new ≡ record self.old { watch = Some (watched core.now (watch_at core.now (option_copied fills.entry) self.old.watch)) }) }
-        ensures told { IfOk result (λ told. told ≡ (watched core.now (watch_at core.now (option_copied fills.entry) self.old.watch)).told) }
+        ensures ok { OnOk result (self.new
+            ≡ record self.old {
+              watch = Some (watched core.now
+                  (watch_at core.now (option_copied fills.entry) self.old.watch));
+            }) }
+        ensures told { IfOk result (λ told. told
+            ≡ (watched core.now (watch_at core.now (option_copied fills.entry) self.old.watch)).told) }
         ensures err { OnErr result (self.new ≡ self.old) }
         ensures kind { IfErr result (λ e. e ≡ OutOfMemory) }
         ensures later { IsSome self.old.watch → IsOk result }

@@ -48,7 +48,8 @@ impl WritePermit {
         lock: &mut L,
         tokens: &[u64],
     ) -> Result<()>
-        ensures ok { OnOk result (L.table lock.new ≡ published (L.table lock.old) self.now.number tokens.now) }
+        ensures ok { OnOk result (L.table lock.new
+            ≡ published (L.table lock.old) self.now.number tokens.now) }
         ensures clears { tokens.now ≡ [] → IsOk result }
         ensures err { OnErr result (L.table lock.new ≡ L.table lock.old) }
         ensures kind { IfErr result (λ e. e ≡ OutOfMemory) }
@@ -65,9 +66,13 @@ impl ReadLock {
         lock: &mut L,
         now: Moment,
     ) -> Poll<WaitOutcome>
-        ensures answer { result ≡ polled now None self.old.watch (get (L.table lock.old).cores self.old.number) }
-        ensures read_lock { self.new ≡ reader_polled now None self.old (get (L.table lock.old).cores self.old.number) }
-        ensures table { L.table lock.new ≡ after_poll (L.table lock.old) now self.old.number (get (L.table lock.old).cores self.old.number) }
+        ensures answer { result
+            ≡ polled now None self.old.watch (get (L.table lock.old).cores self.old.number) }
+        ensures read_lock { self.new
+            ≡ reader_polled now None self.old (get (L.table lock.old).cores self.old.number) }
+        ensures table { L.table lock.new
+            ≡ after_poll (L.table lock.old) now self.old.number
+            (get (L.table lock.old).cores self.old.number) }
     {
         match lock.poll_wait(alloc, self, None, now) {
             Ok(answer) => answer,
@@ -85,9 +90,15 @@ impl ReadLock {
         unusable: &UnusableFills,
         now: Moment,
     ) -> Result<Poll<WaitOutcome>>
-        ensures answer { IfOk result (λ p. p ≡ polled now (Some unusable.now) self.old.watch (get (L.table lock.old).cores self.old.number)) }
-        ensures read_lock { OnOk result (self.new ≡ reader_polled now (Some unusable.now) self.old (get (L.table lock.old).cores self.old.number)) }
-        ensures ok { OnOk result (L.table lock.new ≡ after_poll (L.table lock.old) now self.old.number (get (L.table lock.old).cores self.old.number)) }
+        ensures answer { IfOk result (λ p. p
+            ≡ polled now (Some unusable.now) self.old.watch
+            (get (L.table lock.old).cores self.old.number)) }
+        ensures read_lock { OnOk result (self.new
+            ≡ reader_polled now (Some unusable.now) self.old
+            (get (L.table lock.old).cores self.old.number)) }
+        ensures ok { OnOk result (L.table lock.new
+            ≡ after_poll (L.table lock.old) now self.old.number
+            (get (L.table lock.old).cores self.old.number)) }
         ensures err { OnErr result (L.table lock.new ≡ L.table lock.old) }
         ensures same_read_lock { OnErr result (self.new ≡ self.old) }
         ensures kind { IfErr result (λ e. e ≡ OutOfMemory) }

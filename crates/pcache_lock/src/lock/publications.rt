@@ -49,9 +49,14 @@ fn entry(token: u64, place: usize) -> u128
 
 // Adds the tokens of the publication at this position to the index.
 fn mark(index: &mut BTreeSet<u128>, place: usize, tokens: &[u64]) -> Result<()>
-    requires { (q : ℕ) → is_entry_for place tokens.now q ≡ true → contains nat_cmp index.old q ≡ false }
-    ensures ok { OnOk result ((q : ℕ) → contains nat_cmp index.new q ≡ (contains nat_cmp index.old q || is_entry_for place tokens.now q)) }
-    ensures err { OnErr result ((q : ℕ) → contains nat_cmp index.new q ≡ contains nat_cmp index.old q) }
+    requires { (q : ℕ)
+        → is_entry_for place tokens.now q ≡ true
+        → contains nat_cmp index.old q ≡ false }
+    ensures ok { OnOk result ((q : ℕ)
+        → contains nat_cmp index.new q
+        ≡ (contains nat_cmp index.old q || is_entry_for place tokens.now q)) }
+    ensures err { OnErr result ((q : ℕ)
+        → contains nat_cmp index.new q ≡ contains nat_cmp index.old q) }
     ensures kind { IfErr result (λ e. e ≡ OutOfMemory) }
 {
     for token in tokens {
@@ -65,7 +70,9 @@ fn mark(index: &mut BTreeSet<u128>, place: usize, tokens: &[u64]) -> Result<()>
 
 // Removes them from the index.
 fn unmark(index: &mut BTreeSet<u128>, place: usize, tokens: &[u64])
-    ensures { (q : ℕ) → contains nat_cmp index.new q ≡ (contains nat_cmp index.old q && not (is_entry_for place tokens.now q)) }
+    ensures { (q : ℕ)
+        → contains nat_cmp index.new q
+        ≡ (contains nat_cmp index.old q && not (is_entry_for place tokens.now q)) }
 {
     for token in tokens {
         index.remove(&entry(*token, place));

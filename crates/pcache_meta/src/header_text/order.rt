@@ -16,8 +16,10 @@ fn behind<'a>(bytes: &'a [u8], text: &[u8]) -> Option<&'a [u8]>
 
 // The bytes after a field's line that they begin with.
 fn behind_line<'a>(bytes: &'a [u8], name: &HeaderName, value: &HeaderValue) -> Option<&'a [u8]>
-    ensures some { IfSome result (λ rest. bytes.now ≡ field_line (name.now, value.now.bytes) ++ rest.now) }
-    ensures none { IfNone result ((rest : List ℕ) → ¬ (bytes.now ≡ field_line (name.now, value.now.bytes) ++ rest)) }
+    ensures some { IfSome result (λ rest.
+        bytes.now ≡ field_line (name.now, value.now.bytes) ++ rest.now) }
+    ensures none { IfNone result ((rest : List ℕ)
+        → ¬ (bytes.now ≡ field_line (name.now, value.now.bytes) ++ rest)) }
 {
     let Some(first) = behind(bytes, name.as_bytes()) else {
         return None;

@@ -147,7 +147,8 @@ pub(super) fn behind_space(bytes: &[u8]) -> Result<&[u8]>
 // Adds a value to a map. If the map is full, fails as for bytes that can't be read, even when
 // memory runs out.
 fn append_field(headers: &mut HeaderMap, name: HeaderName, value: HeaderValue) -> Result<()>
-    ensures reads { GivesOrWants (λ _. shown_fields headers.new) result (append_at (shown_fields headers.old) (name, value.bytes)) }
+    ensures reads { GivesOrWants (λ _. shown_fields headers.new) result
+        (append_at (shown_fields headers.old) (name, value.bytes)) }
     ensures full { RefusesAppend headers.old name → IsErrOf result InternalError }
 {
     match headers.append(name, value) {
@@ -185,7 +186,8 @@ fn read_fields(alloc: Global, bytes: &[u8]) -> Result<HeaderMap>
 // Fails if the lines are in another order than that of the map that they made.
 #[tactic(auto, unfolding(crate::specs::HeaderReading::ordered_at))]
 fn in_order(bytes: &[u8], headers: &HeaderMap) -> Result<()>
-    ensures { Gives (λ _. shown_fields headers.now) result (ordered_at bytes.now (shown_fields headers.now)) }
+    ensures { Gives (λ _. shown_fields headers.now) result
+        (ordered_at bytes.now (shown_fields headers.now)) }
 {
     if are_lines_of(bytes, headers) {
         Ok(())
@@ -215,7 +217,9 @@ fn read_header(alloc: Global, bytes: &[u8]) -> Result<ResponseHeader>
 /// memory ran out says nothing of the rest, so the bytes are then checked without memory.
 pub fn header_deserialize(alloc: Global, bytes: &[u8]) -> Result<ResponseHeader>
     ensures found { IfOk result (λ h. SpellsHeader bytes.now (shown h)) }
-    ensures same { (h : Header) → SpellsHeader bytes.now h → IfOk result (λ found. shown found ≡ h) }
+    ensures same { (h : Header)
+        → SpellsHeader bytes.now h
+        → IfOk result (λ found. shown found ≡ h) }
     ensures refused { IsErrOf result InternalError → (h : Header) → ¬ (SpellsHeader bytes.now h) }
     ensures kinds { IfErr result (λ e. (e ≡ OutOfMemory) ⊎ (e ≡ InternalError)) }
     ensures memory { IfErr result (λ e. e ≡ OutOfMemory → IsHeaderText bytes.now) }

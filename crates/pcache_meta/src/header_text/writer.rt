@@ -26,7 +26,8 @@ fn version_text(version: HttpVersion) -> &'static [u8]
 
 #[tactic(auto, unfolding(crate::specs::HeaderText::field_text, crate::specs::HeaderText::field_line))]
 fn put_field(out: &mut Vec<u8>, name: &HeaderName, value: &HeaderValue) -> Result<()>
-    ensures written { OnOk result (out.new.items ≡ out.old.items ++ field_line (name.now, value.now.bytes)) }
+    ensures written { OnOk result (out.new.items
+        ≡ out.old.items ++ field_line (name.now, value.now.bytes)) }
     ensures valid { OnOk result (IsField (name.now, value.now.bytes)) }
     ensures kind { IfErr result (λ e. e ≡ OutOfMemory) }
 {
@@ -39,7 +40,8 @@ fn put_field(out: &mut Vec<u8>, name: &HeaderName, value: &HeaderValue) -> Resul
 
 #[tactic(auto, unfolding(crate::specs::HeaderText::fields_text))]
 fn put_fields(out: &mut Vec<u8>, headers: &HeaderMap) -> Result<()>
-    ensures written { OnOk result (out.new.items ≡ out.old.items ++ fields_text (shown_lines (pairs headers.now))) }
+    ensures written { OnOk result (out.new.items
+        ≡ out.old.items ++ fields_text (shown_lines (pairs headers.now))) }
     ensures valid { OnOk result (All IsField (shown_lines (pairs headers.now))) }
     ensures kind { IfErr result (λ e. e ≡ OutOfMemory) }
 {
@@ -53,7 +55,8 @@ fn put_fields(out: &mut Vec<u8>, headers: &HeaderMap) -> Result<()>
 // The line of version and status, and its end.
 #[tactic(auto, unfolding(crate::specs::HeaderText::status_text))]
 fn put_status_line(out: &mut Vec<u8>, version: HttpVersion, status: StatusCode) -> Result<()>
-    ensures written { OnOk result (out.new.items ≡ out.old.items ++ (status_text version status ++ line_end)) }
+    ensures written { OnOk result (out.new.items
+        ≡ out.old.items ++ (status_text version status ++ line_end)) }
     ensures valid { OnOk result (IsStatusCode status) }
     ensures kind { IfErr result (λ e. e ≡ OutOfMemory) }
 {
@@ -80,7 +83,9 @@ fn text_len(headers: &HeaderMap) -> usize {
 
 #[tactic(auto, unfolding(crate::specs::HeaderText::header_text))]
 fn write_header(alloc: Global, header: &ResponseHeader) -> Result<Vec<u8>>
-    ensures written { IfOk result (λ v. v.items ≡ header_text header.now.version header.now.status (shown_lines (pairs header.now.headers))) }
+    ensures written { IfOk result (λ v. v.items
+        ≡ header_text header.now.version header.now.status
+        (shown_lines (pairs header.now.headers))) }
     ensures status { OnOk result (IsStatusCode header.now.status) }
     ensures valid { OnOk result (All IsField (shown_lines (pairs header.now.headers))) }
     ensures map { OnOk result (IsHeaderMap header.now.headers) }

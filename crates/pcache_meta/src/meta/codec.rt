@@ -197,7 +197,8 @@ fn put_moment(out: &mut Vec<u8>, moment: Moment) -> Result<()>
 
 #[tactic(auto, unfolding(crate::specs::Writing::optional_written))]
 fn put_optional_moment(out: &mut Vec<u8>, moment: Option<Moment>) -> Result<()>
-    ensures written { OnOk result (out.new.items ≡ out.old.items ++ optional_written moment_written moment) }
+    ensures written { OnOk result (out.new.items
+        ≡ out.old.items ++ optional_written moment_written moment) }
     ensures range { OnOk result (IfSome moment IsMoment) }
     ensures kind { IfErr result (λ e. e ≡ OutOfMemory) }
 {
@@ -210,7 +211,8 @@ fn put_optional_moment(out: &mut Vec<u8>, moment: Option<Moment>) -> Result<()>
 
 #[tactic(auto, unfolding(crate::specs::Writing::optional_written))]
 fn put_optional_number(out: &mut Vec<u8>, id: Option<CacheEntryId>) -> Result<()>
-    ensures written { OnOk result (out.new.items ≡ out.old.items ++ optional_written number_written id) }
+    ensures written { OnOk result (out.new.items
+        ≡ out.old.items ++ optional_written number_written id) }
     ensures range { OnOk result (IfSome id (λ n. n < 2 ^ 64)) }
     ensures kind { IfErr result (λ e. e ≡ OutOfMemory) }
 {
@@ -402,7 +404,8 @@ impl CacheMeta {
     /// The meta as two byte strings: what it says beside its head, in version 3, and the text of
     /// its head. The two read back as this meta. Fails only when memory runs out.
     pub fn serialize(&self, alloc: Global) -> Result<(Vec<u8>, Vec<u8>)>
-        ensures written_internal { IfOk result (λ p. p.0.items ≡ internal_written self.now.internal) }
+        ensures written_internal { IfOk result (λ p.
+            p.0.items ≡ internal_written self.now.internal) }
         ensures written_header { IfOk result (λ p. p.1.items ≡ header_written self.now.header) }
         ensures spelled { IfOk result (λ p. SpellsMeta p.0.items p.1.items self.now) }
         ensures kind { IfErr result (λ e. e ≡ OutOfMemory) }
@@ -420,7 +423,8 @@ impl CacheMeta {
             → IfOk result (λ found. found ≡ m) }
         ensures refused { IsErrOf result InternalError
             → (m : Meta) → ¬ (SpellsMeta internal.now header.now m) }
-        ensures memory { IfErr result (λ e. e ≡ OutOfMemory → AreMetaBytes internal.now header.now) }
+        ensures memory { IfErr result (λ e.
+            e ≡ OutOfMemory → AreMetaBytes internal.now header.now) }
         ensures kinds { IfErr result (λ e. (e ≡ OutOfMemory) ⊎ (e ≡ InternalError)) }
     {
         let internal = deserialize_internal(internal)?;

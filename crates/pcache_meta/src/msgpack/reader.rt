@@ -305,7 +305,8 @@ impl<'a> Reader<'a> {
     /// Reads nil, if it comes next. Returns whether it did.
     pub fn skip_nil(&mut self) -> bool
         ensures value { result ≡ starts_with_nil self.old }
-        ensures after { self.new ≡ (if starts_with_nil self.old then drop 1 self.old else self.old) }
+        ensures after { self.new
+            ≡ (if starts_with_nil self.old then drop 1 self.old else self.old) }
     {
         match self.rest {
             [0xC0, rest @ ..] => {

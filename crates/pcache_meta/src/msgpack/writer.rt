@@ -128,7 +128,8 @@ pub fn put_hash(out: &mut Vec<u8>, hash: &HashBinary) -> Result<()>
 /// Writes a hash, or nil.
 #[tactic(auto, unfolding(crate::specs::Writing::optional_written))]
 pub fn put_optional_hash(out: &mut Vec<u8>, hash: Option<HashBinary>) -> Result<()>
-    ensures written { OnOk result (out.new.items ≡ out.old.items ++ optional_written hash_written hash) }
+    ensures written { OnOk result (out.new.items
+        ≡ out.old.items ++ optional_written hash_written hash) }
     ensures range { OnOk result (IfSome hash IsHash) }
     ensures unwritten { OnErr result (out.new.items ≡ out.old.items) }
     ensures kind { IfErr result (λ e. e ≡ OutOfMemory) }

@@ -48,7 +48,8 @@ impl<S: Storage> HttpCache<S> {
     // Asks the policy, which counts one more request for the key, and keeps its decision.
     fn observe<A: AdmissionPolicy>(&mut self, policy: &mut A) -> Decision
         requires { IsTrue (observes self.old) }
-        ensures decides { Decides (λ k d. A.decides policy.old k d policy.new) self.old.key (Some result) }
+        ensures decides { Decides (λ k d. A.decides policy.old k d policy.new) self.old.key
+            (Some result) }
         ensures request { self.new ≡ decided result self.old }
     {
         let Some(key) = &self.key else { unreachable!() };
@@ -63,11 +64,14 @@ impl<S: Storage> HttpCache<S> {
         policy: &mut A,
         has_policy: bool,
     ) -> Option<Decision>
-        ensures decides { IsTrue (has_policy && observes self.old) → Decides (λ k d. A.decides policy.old k d policy.new) self.old.key self.new.digest.admission }
+        ensures decides { IsTrue (has_policy && observes self.old)
+            → Decides (λ k d. A.decides policy.old k d policy.new) self.old.key
+            self.new.digest.admission }
         ensures same_policy { result ≡ None → policy.new ≡ policy.old }
         ensures asked { is_some result ≡ (has_policy && observes self.old) }
         ensures request { self.new ≡ with_decision result self.old }
-        ensures kept { kept_if (has_policy && observes self.old) self.new.digest.admission ≡ result }
+        ensures kept { kept_if (has_policy && observes self.old) self.new.digest.admission
+            ≡ result }
         ensures key { is_deferral result ≡ true → self.new.phase ≡ CacheKey }
     {
         if !has_policy || !self.observes() {
@@ -84,7 +88,8 @@ impl<S: Storage> HttpCache<S> {
     ) -> Option<LockName>
         requires { self.old.phase ≡ CacheKey }
         ensures request { self.new ≡ switched_off Deferred self.old }
-        ensures store { S.state storage.new ≡ left_by self.old.reader (dropped_by self.old.write (S.state storage.old)) }
+        ensures store { S.state storage.new
+            ≡ left_by self.old.reader (dropped_by self.old.write (S.state storage.old)) }
         ensures table { L.table lock.new ≡ settled TransientError self.old.held (L.table lock.old) }
         ensures released { result ≡ option_map name_of self.old.held }
     {

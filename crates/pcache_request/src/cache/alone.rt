@@ -36,10 +36,13 @@ impl HttpCache<MemCache> {
     pub fn read_body_alone(&mut self) -> Result<Poll<Option<Bytes>>>
         requires reader { IsSome self.old.reader }
         requires alone { reads_alone self.old.reader ≡ true }
-        ensures read { IfOk result (λ p. IfSome self.old.reader (λ r. (s : Store) → p ≡ read_of s r)) }
-        ensures request { OnOk result ((s : Store) → self.new ≡ record self.old { reader = option_map (reader_after s) self.old.reader }) }
+        ensures read { IfOk result (λ p.
+            IfSome self.old.reader (λ r. (s : Store) → p ≡ read_of s r)) }
+        ensures request { OnOk result ((s : Store)
+            → self.new ≡ record self.old { reader = option_map (reader_after s) self.old.reader }) }
         ensures same_request { OnErr result (self.new ≡ self.old) }
-        ensures something { OnErr result (IfSome self.old.reader (λ r. (s : Store) → gives_piece (read_of s r) ≡ true)) }
+        ensures something { OnErr result
+            (IfSome self.old.reader (λ r. (s : Store) → gives_piece (read_of s r) ≡ true)) }
         ensures kind { IfErr result (λ e. e ≡ OutOfMemory) }
     {
         let Some(reader) = &mut self.reader else {

@@ -58,10 +58,10 @@ impl<S: Storage> HttpCache<S> {
     ghost use Rattle.pcache_request.specs.Reports.{name_of};
     ghost use Rattle.pcache_request.specs.Requests.{HoldsNothing, settled, left_by, dropped_by};
 
-    /// Bypasses the cache. The key and all that is held are kept. It asks no predictor, also if one is in use: then
-    /// `bypass_with` is the call.
+    /// `bypass` for requests that use no predictor: it asks none, and leaves the reason that is kept, which is none in a request
+    /// that was not bypassed since it was enabled.
     /// Requires the phase CacheKey; ask `phase().may_bypass()`.
-    pub fn bypass(&mut self)
+    pub fn bypass_without_predictor(&mut self)
         requires { MayBypass self.old.phase }
         ensures { self.new ≡ bypassed self.old }
     {
@@ -101,8 +101,11 @@ impl<S: Storage> HttpCache<S> {
         ensures request { self.new ≡ disabled_for reason self.old }
         ensures off { IsDisabled self.new.phase }
         ensures held { HoldsNothing self.new }
-        ensures store { S.state storage.new ≡ left_by self.old.reader (dropped_by self.old.write (S.state storage.old)) }
-        ensures table { L.table lock.new ≡ settled (status_for (L.custom_status lock.old) reason) self.old.held (L.table lock.old) }
+        ensures store { S.state storage.new
+            ≡ left_by self.old.reader (dropped_by self.old.write (S.state storage.old)) }
+        ensures table { L.table lock.new
+            ≡ settled (status_for (L.custom_status lock.old) reason) self.old.held
+            (L.table lock.old) }
         ensures released { result ≡ option_map name_of self.old.held }
     {
         if matches!(

@@ -33,7 +33,8 @@ pub struct EndedWrite {
 // Purges an entry, and returns whether that failed.
 fn has_purge_failed<S: Storage>(storage: &mut S, entry: &CacheEntryKey) -> bool
     ensures refused { result ≡ true → S.state storage.new ≡ S.state storage.old }
-    ensures purged { result ≡ false → S.state storage.new ≡ entry_purged S.guarantees.numbers (S.state storage.old) entry.now }
+    ensures purged { result ≡ false
+        → S.state storage.new ≡ entry_purged S.guarantees.numbers (S.state storage.old) entry.now }
     ensures sure { S.guarantees.purges ≡ true → result ≡ false }
 {
     storage
@@ -43,7 +44,8 @@ fn has_purge_failed<S: Storage>(storage: &mut S, entry: &CacheEntryKey) -> bool
 
 // Purges each entry in order, and returns for how many that failed.
 fn purge_all<S: Storage>(storage: &mut S, entries: &[CacheEntryKey]) -> usize
-    ensures purges { PurgesAll S.guarantees.numbers (S.state storage.old) entries.now result (S.state storage.new) }
+    ensures purges { PurgesAll S.guarantees.numbers (S.state storage.old) entries.now result
+        (S.state storage.new) }
     ensures sure { S.guarantees.purges ≡ true → result ≡ 0 }
 {
     let mut failed = 0usize;
@@ -64,8 +66,12 @@ fn admit<E: EvictionManager>(
     kind: MissFinishType,
     fresh_until: Moment,
 ) -> Result<Vec<CacheEntryKey>>
-    ensures admits { IfOk result (λ out. Admits is_used (E.limits eviction.old) kind entry (E.tracked eviction.old) out.items (E.tracked eviction.new)) }
-    ensures evicted { IfOk result (λ out. E.evicted eviction.new ≡ cond is_used (evicted_with (E.evicted eviction.old) (with_entry kind entry (E.tracked eviction.old)) out.items) (E.evicted eviction.old)) }
+    ensures admits { IfOk result (λ out. Admits is_used (E.limits eviction.old) kind entry
+        (E.tracked eviction.old) out.items (E.tracked eviction.new)) }
+    ensures evicted { IfOk result (λ out. E.evicted eviction.new
+        ≡ cond is_used
+        (evicted_with (E.evicted eviction.old) (with_entry kind entry (E.tracked eviction.old))
+        out.items) (E.evicted eviction.old)) }
     ensures err { OnErr result (E.tracked eviction.new ≡ E.tracked eviction.old) }
     ensures err_evicted { OnErr result (E.evicted eviction.new ≡ E.evicted eviction.old) }
     ensures limits { E.limits eviction.new ≡ E.limits eviction.old }
@@ -91,10 +97,15 @@ fn admit_and_purge<S: Storage, E: EvictionManager>(
     fresh_until: Moment,
 ) -> Result<FinishReport>
     ensures size { IfOk result (λ f. f.size ≡ size_reported kind) }
-    ensures admits { IfOk result (λ f. Admits is_used (E.limits eviction.old) kind entry (E.tracked eviction.old) f.evicted.items (E.tracked eviction.new)) }
-    ensures purges { IfOk result (λ f. PurgesAll S.guarantees.numbers (S.state storage.old) f.evicted.items f.failed_purges (S.state storage.new)) }
+    ensures admits { IfOk result (λ f. Admits is_used (E.limits eviction.old) kind entry
+        (E.tracked eviction.old) f.evicted.items (E.tracked eviction.new)) }
+    ensures purges { IfOk result (λ f. PurgesAll S.guarantees.numbers (S.state storage.old)
+        f.evicted.items f.failed_purges (S.state storage.new)) }
     ensures sure { IfOk result (λ f. S.guarantees.purges ≡ true → f.failed_purges ≡ 0) }
-    ensures evicted { IfOk result (λ f. E.evicted eviction.new ≡ cond is_used (evicted_with (E.evicted eviction.old) (with_entry kind entry (E.tracked eviction.old)) f.evicted.items) (E.evicted eviction.old)) }
+    ensures evicted { IfOk result (λ f. E.evicted eviction.new
+        ≡ cond is_used
+        (evicted_with (E.evicted eviction.old) (with_entry kind entry (E.tracked eviction.old))
+        f.evicted.items) (E.evicted eviction.old)) }
     ensures same_store { OnErr result (S.state storage.new ≡ S.state storage.old) }
     ensures same_tracked { OnErr result (E.tracked eviction.new ≡ E.tracked eviction.old) }
     ensures same_evicted { OnErr result (E.evicted eviction.new ≡ E.evicted eviction.old) }
@@ -133,10 +144,14 @@ fn finish_writer<S: Storage>(
     ensures entry { IfOk result (λ p. p.0 ≡ entry_of key.now (S.Miss.entry_number writer)) }
     ensures compact { IfOk result (λ p. p.1 ≡ compact_of key.now) }
     ensures answer { IfOk result (λ p. p.2 ≡ S.finishes storage.old (S.Miss.write writer)) }
-    ensures ok { OnOk result (S.state storage.new ≡ finished (S.state storage.old) (S.Miss.write writer)) }
-    ensures untouched { OnOk result (is_untouched (S.state storage.old) (S.Miss.write writer) ≡ true) }
-    ensures err { OnErr result (S.state storage.new ≡ dropped (S.state storage.old) (S.Miss.write writer)) }
-    ensures kind { IfErr result (λ e. (e ≡ OutOfMemory) ⊎ MayFailFinish (S.state storage.old) (S.Miss.write writer) e) }
+    ensures ok { OnOk result (S.state storage.new
+        ≡ finished (S.state storage.old) (S.Miss.write writer)) }
+    ensures untouched { OnOk result (is_untouched (S.state storage.old) (S.Miss.write writer)
+        ≡ true) }
+    ensures err { OnErr result (S.state storage.new
+        ≡ dropped (S.state storage.old) (S.Miss.write writer)) }
+    ensures kind { IfErr result (λ e.
+        (e ≡ OutOfMemory) ⊎ MayFailFinish (S.state storage.old) (S.Miss.write writer) e) }
 {
     let (entry, compact) = match entry_and_key(key, writer.entry_id()) {
         Ok(made) => made,
@@ -170,9 +185,16 @@ pub fn end_writer<S: Storage, E: EvictionManager>(
     writer: S::Miss,
     fresh_until: Moment,
 ) -> EndedWrite
-    ensures end { EndsBody S.guarantees is_used (S.Miss.entry_number writer) HoldsNoLock key.now (S.Miss.write writer) (S.finishes storage.old (S.Miss.write writer)) (E.limits eviction.old) result.end (S.state storage.old) (S.state storage.new) (E.tracked eviction.old) (E.tracked eviction.new) }
-    ensures entry { result.entry ≡ entry_stored (Some key.now) (S.Miss.entry_number writer) result.end }
-    ensures evicted { E.evicted eviction.new ≡ evicted_by is_used (S.Miss.entry_number writer) key.now (S.finishes storage.old (S.Miss.write writer)) (E.tracked eviction.old) (E.evicted eviction.old) result.end }
+    ensures end { EndsBody S.guarantees is_used (S.Miss.entry_number writer) HoldsNoLock key.now
+        (S.Miss.write writer) (S.finishes storage.old (S.Miss.write writer)) (E.limits eviction.old)
+        result.end (S.state storage.old) (S.state storage.new) (E.tracked eviction.old)
+        (E.tracked eviction.new) }
+    ensures entry { result.entry
+        ≡ entry_stored (Some key.now) (S.Miss.entry_number writer) result.end }
+    ensures evicted { E.evicted eviction.new
+        ≡ evicted_by is_used (S.Miss.entry_number writer) key.now
+        (S.finishes storage.old (S.Miss.write writer)) (E.tracked eviction.old)
+        (E.evicted eviction.old) result.end }
     ensures limits { E.limits eviction.new ≡ E.limits eviction.old }
 {
     let id = writer.entry_id();

@@ -80,12 +80,20 @@ impl<S: Storage> HttpCache<S> {
     ) -> Result<Option<FinishReport>>
         requires { IsFilling self.old.phase }
         ensures request { self.new ≡ after_finish self.old }
-        ensures end { EndsAs result (λ end. Ends S.guarantees self.old self.old.key self.old.write (finishes_of (S.finishes storage.old) self.old.write) (E.limits eviction.old) end (S.state storage.old) (S.state storage.new) (E.tracked eviction.old) (E.tracked eviction.new) (L.table lock.old) (L.table lock.new)) }
-        ensures evicted { EndsAs result (λ end. E.evicted eviction.new ≡ evicted_after self.old self.old.key (finishes_of (S.finishes storage.old) self.old.write) (E.tracked eviction.old) (E.evicted eviction.old) end) }
+        ensures end { EndsAs result (λ end. Ends S.guarantees self.old self.old.key self.old.write
+            (finishes_of (S.finishes storage.old) self.old.write) (E.limits eviction.old) end
+            (S.state storage.old) (S.state storage.new) (E.tracked eviction.old)
+            (E.tracked eviction.new) (L.table lock.old) (L.table lock.new)) }
+        ensures evicted { EndsAs result (λ end. E.evicted eviction.new
+            ≡ evicted_after self.old self.old.key
+            (finishes_of (S.finishes storage.old) self.old.write) (E.tracked eviction.old)
+            (E.evicted eviction.old) end) }
         ensures limits { E.limits eviction.new ≡ E.limits eviction.old }
 
         // If the admission failed, the key has no body in the store after the call.
-        ensures withdrawn { IsTrue S.guarantees.purges → OnErr result (LeavesNone self.old.key self.old.write (S.state storage.old) (S.state storage.new)) }
+        ensures withdrawn { IsTrue S.guarantees.purges
+            → OnErr result (LeavesNone self.old.key self.old.write (S.state storage.old)
+            (S.state storage.new)) }
     {
         let WriteReport {
             end,
@@ -110,12 +118,20 @@ impl<S: Storage> HttpCache<S> {
     ) -> WriteReport
         requires { IsFilling self.old.phase }
         ensures request { self.new ≡ after_finish self.old }
-        ensures end { Ends S.guarantees self.old self.old.key self.old.write (finishes_of (S.finishes storage.old) self.old.write) (E.limits eviction.old) result.end (S.state storage.old) (S.state storage.new) (E.tracked eviction.old) (E.tracked eviction.new) (L.table lock.old) (L.table lock.new) }
+        ensures end { Ends S.guarantees self.old self.old.key self.old.write
+            (finishes_of (S.finishes storage.old) self.old.write) (E.limits eviction.old) result.end
+            (S.state storage.old) (S.state storage.new) (E.tracked eviction.old)
+            (E.tracked eviction.new) (L.table lock.old) (L.table lock.new) }
         ensures entry { result.entry ≡ entry_stored self.old.key self.old.entry result.end }
-        ensures released { result.released ≡ cond (is_some self.old.write) (option_map name_of self.old.held) None }
-        ensures evicted { E.evicted eviction.new ≡ evicted_after self.old self.old.key (finishes_of (S.finishes storage.old) self.old.write) (E.tracked eviction.old) (E.evicted eviction.old) result.end }
+        ensures released { result.released
+            ≡ cond (is_some self.old.write) (option_map name_of self.old.held) None }
+        ensures evicted { E.evicted eviction.new
+            ≡ evicted_after self.old self.old.key
+            (finishes_of (S.finishes storage.old) self.old.write) (E.tracked eviction.old)
+            (E.evicted eviction.old) result.end }
         ensures limits { E.limits eviction.new ≡ E.limits eviction.old }
-        ensures withdrawn { IsTrue S.guarantees.purges → IfWithdrawn result.end (HasNoBodyFor (S.state storage.new) self.old.key) }
+        ensures withdrawn { IsTrue S.guarantees.purges
+            → IfWithdrawn result.end (HasNoBodyFor (S.state storage.new) self.old.key) }
     {
         let Some(key) = &self.key else { unreachable!() };
         let Some(writer) = self.writer.take() else {

@@ -26,13 +26,28 @@ fn note_access<S: Storage, E: EvictionManager>(
     hit: &S::Hit,
     status: HitStatus,
 ) -> Result<Option<Access>>
-    ensures access { IfOk result (λ a. a ≡ cond (counts_access (S.Hit.reader hit.now) && not (phases.is_treated_as_miss status)) (Some (record { entry = entry_of key.now (entry_read S.guarantees.numbers (S.Hit.reader hit.now)); weight = reader_weight (S.Hit.reader hit.now) })) None) }
-    ensures tracked { OnOk result (E.tracked eviction.new ≡ cond (counts_access (S.Hit.reader hit.now) && not (phases.is_treated_as_miss status)) (added (E.tracked eviction.old) (entry_of key.now (entry_read S.guarantees.numbers (S.Hit.reader hit.now))) (reader_weight (S.Hit.reader hit.now))) (E.tracked eviction.old)) }
-    ensures unused { (counts_access (S.Hit.reader hit.now) && not (phases.is_treated_as_miss status)) ≡ false → eviction.new ≡ eviction.old }
+    ensures access { IfOk result (λ a. a
+        ≡ cond (counts_access (S.Hit.reader hit.now) && not (phases.is_treated_as_miss status))
+        (Some (record {
+          entry = entry_of key.now
+              (entry_read S.guarantees.numbers (S.Hit.reader hit.now));
+          weight = reader_weight (S.Hit.reader hit.now);
+        })) None) }
+    ensures tracked { OnOk result (E.tracked eviction.new
+        ≡ cond (counts_access (S.Hit.reader hit.now) && not (phases.is_treated_as_miss status))
+        (added (E.tracked eviction.old)
+        (entry_of key.now (entry_read S.guarantees.numbers (S.Hit.reader hit.now)))
+        (reader_weight (S.Hit.reader hit.now))) (E.tracked eviction.old)) }
+    ensures unused { (counts_access (S.Hit.reader hit.now)
+        && not (phases.is_treated_as_miss status))
+        ≡ false
+        → eviction.new ≡ eviction.old }
     ensures err { OnErr result (E.tracked eviction.new ≡ E.tracked eviction.old) }
     ensures limits { E.limits eviction.new ≡ E.limits eviction.old }
     ensures evicted { E.evicted eviction.new ≡ E.evicted eviction.old }
-    ensures counts { OnErr result ((counts_access (S.Hit.reader hit.now) && not (phases.is_treated_as_miss status)) ≡ true) }
+    ensures counts { OnErr result ((counts_access (S.Hit.reader hit.now)
+        && not (phases.is_treated_as_miss status))
+        ≡ true) }
     ensures kind { IfErr result (λ e. e ≡ OutOfMemory) }
 {
     if !hit.should_count_access() || status.is_treated_as_miss() {
@@ -77,13 +92,20 @@ impl<S: Storage> HttpCache<S> {
         status: HitStatus,
     ) -> Result<Option<Access>>
         requires { MayLookUp self.now.phase }
-        ensures access { IfOk result (λ a. a ≡ access_by_found status (S.Hit.reader hit.now) (entry_read S.guarantees.numbers (S.Hit.reader hit.now)) self.now) }
-        ensures tracked { OnOk result (E.tracked eviction.new ≡ tracked_found status (S.Hit.reader hit.now) (entry_read S.guarantees.numbers (S.Hit.reader hit.now)) self.now (E.tracked eviction.old)) }
-        ensures unused { counts_found status (S.Hit.reader hit.now) self.now ≡ false → eviction.new ≡ eviction.old }
+        ensures access { IfOk result (λ a. a
+            ≡ access_by_found status (S.Hit.reader hit.now)
+            (entry_read S.guarantees.numbers (S.Hit.reader hit.now)) self.now) }
+        ensures tracked { OnOk result (E.tracked eviction.new
+            ≡ tracked_found status (S.Hit.reader hit.now)
+            (entry_read S.guarantees.numbers (S.Hit.reader hit.now)) self.now
+            (E.tracked eviction.old)) }
+        ensures unused { counts_found status (S.Hit.reader hit.now) self.now ≡ false
+            → eviction.new ≡ eviction.old }
         ensures err { OnErr result (E.tracked eviction.new ≡ E.tracked eviction.old) }
         ensures limits { E.limits eviction.new ≡ E.limits eviction.old }
         ensures evicted { E.evicted eviction.new ≡ E.evicted eviction.old }
-        ensures counts { OnErr result (IsTrue (counts_found status (S.Hit.reader hit.now) self.now)) }
+        ensures counts { OnErr result
+            (IsTrue (counts_found status (S.Hit.reader hit.now) self.now)) }
         ensures kind { IfErr result (λ e. e ≡ OutOfMemory) }
     {
         let Some(key) = &self.key else { unreachable!() };
@@ -106,15 +128,20 @@ impl<S: Storage> HttpCache<S> {
     ) -> Result<Option<AskedLock>>
         requires { MayLookUp self.old.phase }
         ensures asked { IfOk result (λ a. a ≡ asked_by_found status (L.table lock.old) self.old) }
-        ensures request { OnOk result (self.new ≡ found_row status meta (S.Hit.reader hit) (L.table lock.old) self.old) }
-        ensures store { OnOk result (S.state storage.new ≡ store_found status (S.Hit.reader hit) self.old (S.state storage.old)) }
-        ensures table { OnOk result (L.table lock.new ≡ table_found status now self.old (L.table lock.old)) }
+        ensures request { OnOk result (self.new
+            ≡ found_row status meta (S.Hit.reader hit) (L.table lock.old) self.old) }
+        ensures store { OnOk result (S.state storage.new
+            ≡ store_found status (S.Hit.reader hit) self.old (S.state storage.old)) }
+        ensures table { OnOk result (L.table lock.new
+            ≡ table_found status now self.old (L.table lock.old)) }
         ensures same_request { OnErr result (self.new ≡ self.old) }
-        ensures left_store { OnErr result (S.state storage.new ≡ left (S.state storage.old) (S.Hit.reader hit)) }
+        ensures left_store { OnErr result (S.state storage.new
+            ≡ left (S.state storage.old) (S.Hit.reader hit)) }
         ensures same_table { OnErr result (L.table lock.new ≡ L.table lock.old) }
         ensures asks { OnErr result (IsTrue (asks_for_hit status self.old)) }
         ensures kind { IfErr result (λ e. MayFailLock (L.table lock.old) e) }
-        ensures numbers { IfErr result (λ e. e ≡ NumbersExhausted → IsTrue (asks_for_hit status self.old)) }
+        ensures numbers { IfErr result (λ e.
+            e ≡ NumbersExhausted → IsTrue (asks_for_hit status self.old)) }
     {
         let Some(key) = &self.key else { unreachable!() };
         let phase = phase_found(status, self.phase);
@@ -164,21 +191,36 @@ impl<S: Storage> HttpCache<S> {
         now: Moment,
     ) -> Result<()>
         requires { MayLookUp self.old.phase }
-        ensures request { OnOk result (self.new ≡ found_row status meta (S.Hit.reader hit) (L.table lock.old) self.old) }
-        ensures store { OnOk result (S.state storage.new ≡ store_found status (S.Hit.reader hit) self.old (S.state storage.old)) }
-        ensures table { OnOk result (L.table lock.new ≡ table_found status now self.old (L.table lock.old)) }
-        ensures tracked { OnOk result (E.tracked eviction.new ≡ tracked_found status (S.Hit.reader hit) (entry_read S.guarantees.numbers (S.Hit.reader hit)) self.old (E.tracked eviction.old)) }
+        ensures request { OnOk result (self.new
+            ≡ found_row status meta (S.Hit.reader hit) (L.table lock.old) self.old) }
+        ensures store { OnOk result (S.state storage.new
+            ≡ store_found status (S.Hit.reader hit) self.old (S.state storage.old)) }
+        ensures table { OnOk result (L.table lock.new
+            ≡ table_found status now self.old (L.table lock.old)) }
+        ensures tracked { OnOk result (E.tracked eviction.new
+            ≡ tracked_found status (S.Hit.reader hit)
+            (entry_read S.guarantees.numbers (S.Hit.reader hit)) self.old
+            (E.tracked eviction.old)) }
         ensures same_request { OnErr result (self.new ≡ self.old) }
-        ensures left_store { OnErr result (S.state storage.new ≡ left (S.state storage.old) (S.Hit.reader hit)) }
+        ensures left_store { OnErr result (S.state storage.new
+            ≡ left (S.state storage.old) (S.Hit.reader hit)) }
         ensures same_table { OnErr result (L.table lock.new ≡ L.table lock.old) }
-        ensures noted { OnErr result ((E.tracked eviction.new ≡ E.tracked eviction.old) ⊎ (E.tracked eviction.new ≡ tracked_found status (S.Hit.reader hit) (entry_read S.guarantees.numbers (S.Hit.reader hit)) self.old (E.tracked eviction.old))) }
-        ensures stays { OnErr result ((E.tracked eviction.new ≡ E.tracked eviction.old) ⊎ IsTrue (asks_for_hit status self.old)) }
-        ensures unused { counts_found status (S.Hit.reader hit) self.old ≡ false → eviction.new ≡ eviction.old }
-        ensures something { OnErr result (IsTrue (counts_found status (S.Hit.reader hit) self.old) ⊎ IsTrue (asks_for_hit status self.old)) }
+        ensures noted { OnErr result ((E.tracked eviction.new ≡ E.tracked eviction.old)
+            ⊎ (E.tracked eviction.new
+            ≡ tracked_found status (S.Hit.reader hit)
+            (entry_read S.guarantees.numbers (S.Hit.reader hit)) self.old
+            (E.tracked eviction.old))) }
+        ensures stays { OnErr result ((E.tracked eviction.new ≡ E.tracked eviction.old)
+            ⊎ IsTrue (asks_for_hit status self.old)) }
+        ensures unused { counts_found status (S.Hit.reader hit) self.old ≡ false
+            → eviction.new ≡ eviction.old }
+        ensures something { OnErr result (IsTrue (counts_found status (S.Hit.reader hit) self.old)
+            ⊎ IsTrue (asks_for_hit status self.old)) }
         ensures limits { E.limits eviction.new ≡ E.limits eviction.old }
         ensures evicted { E.evicted eviction.new ≡ E.evicted eviction.old }
         ensures kind { IfErr result (λ e. MayFailLock (L.table lock.old) e) }
-        ensures numbers { IfErr result (λ e. e ≡ NumbersExhausted → IsTrue (asks_for_hit status self.old)) }
+        ensures numbers { IfErr result (λ e.
+            e ≡ NumbersExhausted → IsTrue (asks_for_hit status self.old)) }
     {
         let FoundReport { access: _, asked } = self.take_found(
             storage, eviction, lock, meta, hit, status, now,
@@ -203,26 +245,42 @@ impl<S: Storage> HttpCache<S> {
         now: Moment,
     ) -> Result<FoundReport>
         requires { MayLookUp self.old.phase }
-        ensures access { IfOk result (λ f. f.access ≡ access_by_found status (S.Hit.reader hit) (entry_read S.guarantees.numbers (S.Hit.reader hit)) self.old) }
-        ensures tracked { OnOk result (E.tracked eviction.new ≡ tracked_found status (S.Hit.reader hit) (entry_read S.guarantees.numbers (S.Hit.reader hit)) self.old (E.tracked eviction.old)) }
-        ensures asked { IfOk result (λ f. IfOk f.asked (λ a. a ≡ asked_by_found status (L.table lock.old) self.old)) }
-        ensures request { IfOk result (λ f. OnOk f.asked (self.new ≡ found_row status meta (S.Hit.reader hit) (L.table lock.old) self.old)) }
-        ensures store { IfOk result (λ f. OnOk f.asked (S.state storage.new ≡ store_found status (S.Hit.reader hit) self.old (S.state storage.old))) }
-        ensures table { IfOk result (λ f. OnOk f.asked (L.table lock.new ≡ table_found status now self.old (L.table lock.old))) }
+        ensures access { IfOk result (λ f. f.access
+            ≡ access_by_found status (S.Hit.reader hit)
+            (entry_read S.guarantees.numbers (S.Hit.reader hit)) self.old) }
+        ensures tracked { OnOk result (E.tracked eviction.new
+            ≡ tracked_found status (S.Hit.reader hit)
+            (entry_read S.guarantees.numbers (S.Hit.reader hit)) self.old
+            (E.tracked eviction.old)) }
+        ensures asked { IfOk result (λ f.
+            IfOk f.asked (λ a. a ≡ asked_by_found status (L.table lock.old) self.old)) }
+        ensures request { IfOk result (λ f. OnOk f.asked (self.new
+            ≡ found_row status meta (S.Hit.reader hit) (L.table lock.old) self.old)) }
+        ensures store { IfOk result (λ f. OnOk f.asked (S.state storage.new
+            ≡ store_found status (S.Hit.reader hit) self.old (S.state storage.old))) }
+        ensures table { IfOk result (λ f.
+            OnOk f.asked (L.table lock.new ≡ table_found status now self.old (L.table lock.old))) }
 
         // The lock failed.
         ensures unlocked_request { IfOk result (λ f. OnErr f.asked (self.new ≡ self.old)) }
-        ensures unlocked_store { IfOk result (λ f. OnErr f.asked (S.state storage.new ≡ left (S.state storage.old) (S.Hit.reader hit))) }
-        ensures unlocked_table { IfOk result (λ f. OnErr f.asked (L.table lock.new ≡ L.table lock.old)) }
-        ensures unlocked_asks { IfOk result (λ f. OnErr f.asked (IsTrue (asks_for_hit status self.old))) }
-        ensures unlocked_kind { IfOk result (λ f. IfErr f.asked (λ e. MayFailLock (L.table lock.old) e)) }
-        ensures unlocked_numbers { IfOk result (λ f. IfErr f.asked (λ e. e ≡ NumbersExhausted → IsTrue (asks_for_hit status self.old))) }
+        ensures unlocked_store { IfOk result (λ f.
+            OnErr f.asked (S.state storage.new ≡ left (S.state storage.old) (S.Hit.reader hit))) }
+        ensures unlocked_table { IfOk result (λ f.
+            OnErr f.asked (L.table lock.new ≡ L.table lock.old)) }
+        ensures unlocked_asks { IfOk result (λ f.
+            OnErr f.asked (IsTrue (asks_for_hit status self.old))) }
+        ensures unlocked_kind { IfOk result (λ f.
+            IfErr f.asked (λ e. MayFailLock (L.table lock.old) e)) }
+        ensures unlocked_numbers { IfOk result (λ f.
+            IfErr f.asked (λ e. e ≡ NumbersExhausted → IsTrue (asks_for_hit status self.old))) }
 
         ensures same_request { OnErr result (self.new ≡ self.old) }
-        ensures left_store { OnErr result (S.state storage.new ≡ left (S.state storage.old) (S.Hit.reader hit)) }
+        ensures left_store { OnErr result (S.state storage.new
+            ≡ left (S.state storage.old) (S.Hit.reader hit)) }
         ensures same_table { OnErr result (L.table lock.new ≡ L.table lock.old) }
         ensures same_tracked { OnErr result (E.tracked eviction.new ≡ E.tracked eviction.old) }
-        ensures unused { counts_found status (S.Hit.reader hit) self.old ≡ false → eviction.new ≡ eviction.old }
+        ensures unused { counts_found status (S.Hit.reader hit) self.old ≡ false
+            → eviction.new ≡ eviction.old }
         ensures counts { OnErr result (IsTrue (counts_found status (S.Hit.reader hit) self.old)) }
         ensures limits { E.limits eviction.new ≡ E.limits eviction.old }
         ensures evicted { E.evicted eviction.new ≡ E.evicted eviction.old }

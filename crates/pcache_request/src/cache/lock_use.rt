@@ -45,7 +45,8 @@ impl LockCtx {
 
     // The limits that are set for a lock, if it is in use.
     fn of(is_used: bool, overrides: Option<CacheOptionOverrides>) -> LockCtx
-        ensures timeout { option_map as_nanos result.wait_timeout ≡ cond is_used (timeout_in overrides) None }
+        ensures timeout { option_map as_nanos result.wait_timeout
+            ≡ cond is_used (timeout_in overrides) None }
         ensures retries { result.max_retries ≡ cond is_used (retries_in overrides) None }
     {
         match overrides {
@@ -189,8 +190,12 @@ impl<S: Storage> HttpCache<S> {
     ) -> Option<ReleasedLock>
         requires { MayRelease reason self.old.held }
         ensures request { self.new ≡ unheld self.old }
-        ensures table { L.table lock.new ≡ settled (status_for (L.custom_status lock.old) reason) self.old.held (L.table lock.old) }
-        ensures released { result ≡ option_map (released_as (status_for (L.custom_status lock.old) reason)) self.old.held }
+        ensures table { L.table lock.new
+            ≡ settled (status_for (L.custom_status lock.old) reason) self.old.held
+            (L.table lock.old) }
+        ensures released { result
+            ≡ option_map (released_as (status_for (L.custom_status lock.old) reason))
+            self.old.held }
     {
         let status = status_for(lock, reason);
         let lock = settle(self.alloc, &self.key, &mut self.held, lock, status)?;
@@ -206,8 +211,10 @@ impl<S: Storage> HttpCache<S> {
         lock: &mut L,
         tokens: &[u64],
     ) -> Result<Option<LockName>>
-        ensures published { IfOk result (λ p. p ≡ option_map (λ w. name_of (Write w)) (permit_in self.now.held)) }
-        ensures table { OnOk result (L.table lock.new ≡ published_by tokens.now self.now.held (L.table lock.old)) }
+        ensures published { IfOk result (λ p.
+            p ≡ option_map (λ w. name_of (Write w)) (permit_in self.now.held)) }
+        ensures table { OnOk result (L.table lock.new
+            ≡ published_by tokens.now self.now.held (L.table lock.old)) }
         ensures same_table { OnErr result (L.table lock.new ≡ L.table lock.old) }
         ensures kind { IfErr result (λ e. e ≡ OutOfMemory) }
         ensures clears { tokens.now ≡ [] → IsOk result }

@@ -38,7 +38,8 @@ fn outcome_of(status: LockStatus) -> LockWaitOutcome
 
 // Whether a wait took all the time that earlier waits left of the timeout.
 fn has_waited(timeout: Option<Duration>, before: Option<Duration>, waited: Duration) -> bool
-    ensures { result ≡ has_waited (option_map as_nanos timeout) (option_map as_nanos before) (as_nanos waited) }
+    ensures { result
+        ≡ has_waited (option_map as_nanos timeout) (option_map as_nanos before) (as_nanos waited) }
 {
     let Some(timeout) = timeout else {
         return false;
@@ -91,12 +92,21 @@ fn poll_read<L: CacheKeyLock>(
     is_late: bool,
     now: Moment,
 ) -> Result<WaitReport>
-    ensures answer { IfOk result (λ w. w.answer ≡ result_by (status_seen now (get (L.table lock.old).cores read.old.number)) is_late (polled now (option_copied fills.entry) read.old.watch (get (L.table lock.old).cores read.old.number))) }
+    ensures answer { IfOk result (λ w. w.answer
+        ≡ result_by (status_seen now (get (L.table lock.old).cores read.old.number)) is_late
+        (polled now (option_copied fills.entry) read.old.watch
+        (get (L.table lock.old).cores read.old.number))) }
     ensures lock { IfOk result (λ w. w.lock ≡ name_of (Read read.old)) }
-    ensures too_old { IfOk result (λ w. w.is_too_old ≡ is_old_result (polled now (option_copied fills.entry) read.old.watch (get (L.table lock.old).cores read.old.number))) }
-    ensures read_lock { OnOk result (read.new ≡ reader_polled now (option_copied fills.entry) read.old (get (L.table lock.old).cores read.old.number)) }
+    ensures too_old { IfOk result (λ w. w.is_too_old
+        ≡ is_old_result (polled now (option_copied fills.entry) read.old.watch
+        (get (L.table lock.old).cores read.old.number))) }
+    ensures read_lock { OnOk result (read.new
+        ≡ reader_polled now (option_copied fills.entry) read.old
+        (get (L.table lock.old).cores read.old.number)) }
     ensures number { read.new.number ≡ read.old.number }
-    ensures table { OnOk result (L.table lock.new ≡ after_poll (L.table lock.old) now read.old.number (get (L.table lock.old).cores read.old.number)) }
+    ensures table { OnOk result (L.table lock.new
+        ≡ after_poll (L.table lock.old) now read.old.number
+        (get (L.table lock.old).cores read.old.number)) }
     ensures same_read_lock { OnErr result (read.new ≡ read.old) }
     ensures same_table { OnErr result (L.table lock.new ≡ L.table lock.old) }
     ensures kind { IfErr result (λ e. e ≡ OutOfMemory) }
@@ -178,13 +188,25 @@ fn wait_on<L: CacheKeyLock>(
     now: Moment,
 ) -> Result<WaitReport>
     requires { held.old ≡ None }
-    ensures answer { IfOk result (λ w. w.answer ≡ result_on (L.table lock.old) now read (option_copied fills.entry) (option_map as_nanos timeout) digest.old.waits waits_since.old) }
+    ensures answer { IfOk result (λ w. w.answer
+        ≡ result_on (L.table lock.old) now read (option_copied fills.entry)
+        (option_map as_nanos timeout) digest.old.waits waits_since.old) }
     ensures lock { IfOk result (λ w. w.lock ≡ name_of (Read read)) }
-    ensures too_old { IfOk result (λ w. w.is_too_old ≡ finds_too_old (L.table lock.old) now read (option_copied fills.entry)) }
-    ensures held { IfOk result (λ w. held.new ≡ held_after w.answer (reader_polled now (option_copied fills.entry) read (get (L.table lock.old).cores read.number))) }
-    ensures since { IfOk result (λ w. waits_since.new ≡ since_after w.answer (since_of now read.watch waits_since.old) waits_since.old) }
-    ensures digest { IfOk result (λ w. digest.new ≡ digest_after w.answer (now - since_of now read.watch waits_since.old) digest.old) }
-    ensures table { OnOk result (L.table lock.new ≡ let_go_after (result_on (L.table lock.old) now read (option_copied fills.entry) (option_map as_nanos timeout) digest.old.waits waits_since.old) read.number (after_poll (L.table lock.old) now read.number (get (L.table lock.old).cores read.number))) }
+    ensures too_old { IfOk result (λ w.
+        w.is_too_old ≡ finds_too_old (L.table lock.old) now read (option_copied fills.entry)) }
+    ensures held { IfOk result (λ w. held.new
+        ≡ held_after w.answer (reader_polled now (option_copied fills.entry) read
+        (get (L.table lock.old).cores read.number))) }
+    ensures since { IfOk result (λ w. waits_since.new
+        ≡ since_after w.answer (since_of now read.watch waits_since.old) waits_since.old) }
+    ensures digest { IfOk result (λ w. digest.new
+        ≡ digest_after w.answer (now - since_of now read.watch waits_since.old) digest.old) }
+    ensures table { OnOk result (L.table lock.new
+        ≡ let_go_after
+        (result_on (L.table lock.old) now read (option_copied fills.entry)
+        (option_map as_nanos timeout) digest.old.waits waits_since.old) read.number
+        (after_poll (L.table lock.old) now read.number
+        (get (L.table lock.old).cores read.number))) }
     ensures same_held { OnErr result (held.new ≡ Some (Read read)) }
     ensures same_since { OnErr result (waits_since.new ≡ waits_since.old) }
     ensures same_digest { OnErr result (digest.new ≡ digest.old) }
@@ -241,9 +263,12 @@ impl<S: Storage> HttpCache<S> {
         now: Moment,
     ) -> Result<Poll<LockWaitOutcome>>
         requires { IsSome (read_in self.old.held) }
-        ensures answer { IfOk result (λ p. p ≡ wait_result (L.table lock.old) now self.old.held self.old) }
-        ensures request { OnOk result (self.new ≡ waited (L.table lock.old) now self.old.held self.old) }
-        ensures table { OnOk result (L.table lock.new ≡ table_waited (L.table lock.old) now self.old.held self.old) }
+        ensures answer { IfOk result (λ p.
+            p ≡ wait_result (L.table lock.old) now self.old.held self.old) }
+        ensures request { OnOk result (self.new
+            ≡ waited (L.table lock.old) now self.old.held self.old) }
+        ensures table { OnOk result (L.table lock.new
+            ≡ table_waited (L.table lock.old) now self.old.held self.old) }
         ensures same_request { OnErr result (self.new ≡ self.old) }
         ensures same_table { OnErr result (L.table lock.new ≡ L.table lock.old) }
         ensures kind { IfErr result (λ e. e ≡ OutOfMemory) }
@@ -258,11 +283,15 @@ impl<S: Storage> HttpCache<S> {
     /// Requires a read lock; ask `is_cache_locked()`.
     pub fn wait<L: CacheKeyLock>(&mut self, lock: &mut L, now: Moment) -> Result<WaitReport>
         requires { IsSome (read_in self.old.held) }
-        ensures answer { IfOk result (λ w. w.answer ≡ wait_result (L.table lock.old) now self.old.held self.old) }
+        ensures answer { IfOk result (λ w.
+            w.answer ≡ wait_result (L.table lock.old) now self.old.held self.old) }
         ensures lock { IfOk result (λ w. Some w.lock ≡ option_map name_of self.old.held) }
-        ensures too_old { IfOk result (λ w. w.is_too_old ≡ too_old_for (L.table lock.old) now self.old.held (unusable_in self.old.key)) }
-        ensures request { OnOk result (self.new ≡ waited (L.table lock.old) now self.old.held self.old) }
-        ensures table { OnOk result (L.table lock.new ≡ table_waited (L.table lock.old) now self.old.held self.old) }
+        ensures too_old { IfOk result (λ w. w.is_too_old
+            ≡ too_old_for (L.table lock.old) now self.old.held (unusable_in self.old.key)) }
+        ensures request { OnOk result (self.new
+            ≡ waited (L.table lock.old) now self.old.held self.old) }
+        ensures table { OnOk result (L.table lock.new
+            ≡ table_waited (L.table lock.old) now self.old.held self.old) }
         ensures same_request { OnErr result (self.new ≡ self.old) }
         ensures same_table { OnErr result (L.table lock.new ≡ L.table lock.old) }
         ensures kind { IfErr result (λ e. e ≡ OutOfMemory) }

@@ -17,9 +17,11 @@ impl<S: Storage> HttpCache<S> {
     /// Bypasses the cache, and keeps the reason for which a predictor in use expects that the response
     /// cannot be cached. The key and all that is held are kept.
     /// Requires the phase CacheKey; ask `phase().may_bypass()`.
-    pub fn bypass_with<P: CacheablePredictor>(&mut self, predictor: &P)
+    pub fn bypass<P: CacheablePredictor>(&mut self, predictor: &P)
         requires { MayBypass self.old.phase }
-        ensures { self.new ≡ bypassed_for (foretold self.old.uses.predictor (P.reason predictor.now) self.old.key) self.old }
+        ensures { self.new
+            ≡ bypassed_for (foretold self.old.uses.predictor (P.reason predictor.now) self.old.key)
+            self.old }
     {
         let Some(key) = &self.key else { unreachable!() };
         self.predicted = if self.uses.predictor {
@@ -42,7 +44,9 @@ impl<S: Storage> HttpCache<S> {
     /// Requires a key, and that caching was enabled; ask `maybe_cache_key()`.
     pub fn cacheable_prediction<P: CacheablePredictor>(&self, predictor: &P) -> bool
         requires { IsSome (shown_key self.now) }
-        ensures { result ≡ expects_cacheable self.now.uses.predictor (P.uncacheable predictor.now) (shown_key self.now) }
+        ensures { result
+            ≡ expects_cacheable self.now.uses.predictor (P.uncacheable predictor.now)
+            (shown_key self.now) }
     {
         if !self.uses.predictor {
             return true;
@@ -59,7 +63,8 @@ impl<S: Storage> HttpCache<S> {
     ) -> Option<bool>
         requires { IsSome (shown_key self.now) }
         ensures used { is_some result ≡ self.now.uses.predictor }
-        ensures marked { IfSome (shown_key self.now) (λ k. IfSome result (λ b. P.unmarks predictor.old (primary_of k) b predictor.new)) }
+        ensures marked { IfSome (shown_key self.now) (λ k.
+            IfSome result (λ b. P.unmarks predictor.old (primary_of k) b predictor.new)) }
         ensures unused { result ≡ None → predictor.new ≡ predictor.old }
     {
         if !self.uses.predictor {
@@ -79,12 +84,15 @@ impl<S: Storage> HttpCache<S> {
         reason: NoCacheReason,
     ) -> Result<Option<bool>>
         requires { IsSome (shown_key self.now) }
-        ensures marked { IsTrue self.now.uses.predictor → IfSome (shown_key self.now) (λ k. IfOk result (λ b. P.marks predictor.old (primary_of k) reason b predictor.new)) }
+        ensures marked { IsTrue self.now.uses.predictor
+            → IfSome (shown_key self.now) (λ k.
+            IfOk result (λ b. P.marks predictor.old (primary_of k) reason b predictor.new)) }
         ensures unused { self.now.uses.predictor ≡ false → result ≡ Ok None }
         ensures untouched { self.now.uses.predictor ≡ false → predictor.new ≡ predictor.old }
         ensures err { OnErr result (predictor.new ≡ predictor.old) }
         ensures kind { IfErr result (λ e. e ≡ OutOfMemory) }
-        ensures counted { OnErr result (IsTrue self.now.uses.predictor × P.may_count predictor.old reason) }
+        ensures counted { OnErr result (IsTrue self.now.uses.predictor
+            × P.may_count predictor.old reason) }
     {
         if !self.uses.predictor {
             return Ok(None);

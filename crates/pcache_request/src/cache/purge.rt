@@ -23,7 +23,8 @@ fn untrack<E: EvictionManager>(
     outcome: &PurgeOutcome,
 ) -> Option<CacheEntryKey>
     ensures untracked { result ≡ untracked is_used key outcome.now }
-    ensures tracked { E.tracked eviction.new ≡ tracked_gone is_used key outcome.now (E.tracked eviction.old) }
+    ensures tracked { E.tracked eviction.new
+        ≡ tracked_gone is_used key outcome.now (E.tracked eviction.old) }
     ensures limits { E.limits eviction.new ≡ E.limits eviction.old }
     ensures evicted { E.evicted eviction.new ≡ E.evicted eviction.old }
 {
@@ -47,10 +48,16 @@ fn remove_key<S: Storage, E: EvictionManager>(
     is_used: bool,
     key: &CacheKey,
 ) -> Result<Removal>
-    ensures outcome { IfOk result (λ r. r.outcome ≡ purge_outcome S.guarantees.numbers (S.state storage.old) (Some (slot key.now))) }
-    ensures untracked { IfOk result (λ r. r.untracked ≡ untracked is_used (compact_of key.now) r.outcome) }
-    ensures store { OnOk result (S.state storage.new ≡ purged_at (S.state storage.old) (Some (slot key.now))) }
-    ensures tracked { OnOk result (E.tracked eviction.new ≡ tracked_gone is_used (compact_of key.now) (purge_outcome S.guarantees.numbers (S.state storage.old) (Some (slot key.now))) (E.tracked eviction.old)) }
+    ensures outcome { IfOk result (λ r. r.outcome
+        ≡ purge_outcome S.guarantees.numbers (S.state storage.old) (Some (slot key.now))) }
+    ensures untracked { IfOk result (λ r.
+        r.untracked ≡ untracked is_used (compact_of key.now) r.outcome) }
+    ensures store { OnOk result (S.state storage.new
+        ≡ purged_at (S.state storage.old) (Some (slot key.now))) }
+    ensures tracked { OnOk result (E.tracked eviction.new
+        ≡ tracked_gone is_used (compact_of key.now)
+        (purge_outcome S.guarantees.numbers (S.state storage.old) (Some (slot key.now)))
+        (E.tracked eviction.old)) }
     ensures same_store { OnErr result (S.state storage.new ≡ S.state storage.old) }
     ensures same_tracked { OnErr result (E.tracked eviction.new ≡ E.tracked eviction.old) }
     ensures limits { E.limits eviction.new ≡ E.limits eviction.old }
@@ -78,9 +85,15 @@ impl<S: Storage> HttpCache<S> {
     pub fn purge<E: EvictionManager>(&mut self, storage: &mut S, eviction: &mut E) -> Result<bool>
         requires { MayPurge self.old.phase }
         ensures same { self.new ≡ self.old }
-        ensures there { IfOk result (λ there. there ≡ is_removed_by (purge_outcome S.guarantees.numbers (S.state storage.old) (option_map slot self.old.key))) }
-        ensures store { OnOk result (S.state storage.new ≡ purged_at (S.state storage.old) (option_map slot self.old.key)) }
-        ensures tracked { OnOk result (E.tracked eviction.new ≡ tracked_gone_for self.old.uses.eviction self.old.key (purge_outcome S.guarantees.numbers (S.state storage.old) (option_map slot self.old.key)) (E.tracked eviction.old)) }
+        ensures there { IfOk result (λ there. there
+            ≡ is_removed_by (purge_outcome S.guarantees.numbers (S.state storage.old)
+            (option_map slot self.old.key))) }
+        ensures store { OnOk result (S.state storage.new
+            ≡ purged_at (S.state storage.old) (option_map slot self.old.key)) }
+        ensures tracked { OnOk result (E.tracked eviction.new
+            ≡ tracked_gone_for self.old.uses.eviction self.old.key
+            (purge_outcome S.guarantees.numbers (S.state storage.old)
+            (option_map slot self.old.key)) (E.tracked eviction.old)) }
         ensures same_store { OnErr result (S.state storage.new ≡ S.state storage.old) }
         ensures same_tracked { OnErr result (E.tracked eviction.new ≡ E.tracked eviction.old) }
         ensures limits { E.limits eviction.new ≡ E.limits eviction.old }
@@ -100,10 +113,17 @@ impl<S: Storage> HttpCache<S> {
     ) -> Result<Removal>
         requires { MayPurge self.old.phase }
         ensures same { self.new ≡ self.old }
-        ensures outcome { IfOk result (λ r. r.outcome ≡ purge_outcome S.guarantees.numbers (S.state storage.old) (option_map slot self.old.key)) }
-        ensures untracked { IfOk result (λ r. r.untracked ≡ untracked_for self.old.uses.eviction self.old.key r.outcome) }
-        ensures store { OnOk result (S.state storage.new ≡ purged_at (S.state storage.old) (option_map slot self.old.key)) }
-        ensures tracked { OnOk result (E.tracked eviction.new ≡ tracked_gone_for self.old.uses.eviction self.old.key (purge_outcome S.guarantees.numbers (S.state storage.old) (option_map slot self.old.key)) (E.tracked eviction.old)) }
+        ensures outcome { IfOk result (λ r. r.outcome
+            ≡ purge_outcome S.guarantees.numbers (S.state storage.old)
+            (option_map slot self.old.key)) }
+        ensures untracked { IfOk result (λ r.
+            r.untracked ≡ untracked_for self.old.uses.eviction self.old.key r.outcome) }
+        ensures store { OnOk result (S.state storage.new
+            ≡ purged_at (S.state storage.old) (option_map slot self.old.key)) }
+        ensures tracked { OnOk result (E.tracked eviction.new
+            ≡ tracked_gone_for self.old.uses.eviction self.old.key
+            (purge_outcome S.guarantees.numbers (S.state storage.old)
+            (option_map slot self.old.key)) (E.tracked eviction.old)) }
         ensures same_store { OnErr result (S.state storage.new ≡ S.state storage.old) }
         ensures same_tracked { OnErr result (E.tracked eviction.new ≡ E.tracked eviction.old) }
         ensures limits { E.limits eviction.new ≡ E.limits eviction.old }
@@ -125,9 +145,15 @@ impl<S: Storage> HttpCache<S> {
     ) -> Result<bool>
         requires { MaySpawnPurge self.old.phase }
         ensures same { self.new ≡ self.old }
-        ensures there { IfOk result (λ there. there ≡ is_removed_by (purge_outcome S.guarantees.numbers (S.state storage.old) (option_map slot self.old.key))) }
-        ensures store { OnOk result (S.state storage.new ≡ purged_at (S.state storage.old) (option_map slot self.old.key)) }
-        ensures tracked { OnOk result (E.tracked eviction.new ≡ tracked_gone_for self.old.uses.eviction self.old.key (purge_outcome S.guarantees.numbers (S.state storage.old) (option_map slot self.old.key)) (E.tracked eviction.old)) }
+        ensures there { IfOk result (λ there. there
+            ≡ is_removed_by (purge_outcome S.guarantees.numbers (S.state storage.old)
+            (option_map slot self.old.key))) }
+        ensures store { OnOk result (S.state storage.new
+            ≡ purged_at (S.state storage.old) (option_map slot self.old.key)) }
+        ensures tracked { OnOk result (E.tracked eviction.new
+            ≡ tracked_gone_for self.old.uses.eviction self.old.key
+            (purge_outcome S.guarantees.numbers (S.state storage.old)
+            (option_map slot self.old.key)) (E.tracked eviction.old)) }
         ensures same_store { OnErr result (S.state storage.new ≡ S.state storage.old) }
         ensures same_tracked { OnErr result (E.tracked eviction.new ≡ E.tracked eviction.old) }
         ensures limits { E.limits eviction.new ≡ E.limits eviction.old }
@@ -147,10 +173,17 @@ impl<S: Storage> HttpCache<S> {
     ) -> Result<Removal>
         requires { MaySpawnPurge self.old.phase }
         ensures same { self.new ≡ self.old }
-        ensures outcome { IfOk result (λ r. r.outcome ≡ purge_outcome S.guarantees.numbers (S.state storage.old) (option_map slot self.old.key)) }
-        ensures untracked { IfOk result (λ r. r.untracked ≡ untracked_for self.old.uses.eviction self.old.key r.outcome) }
-        ensures store { OnOk result (S.state storage.new ≡ purged_at (S.state storage.old) (option_map slot self.old.key)) }
-        ensures tracked { OnOk result (E.tracked eviction.new ≡ tracked_gone_for self.old.uses.eviction self.old.key (purge_outcome S.guarantees.numbers (S.state storage.old) (option_map slot self.old.key)) (E.tracked eviction.old)) }
+        ensures outcome { IfOk result (λ r. r.outcome
+            ≡ purge_outcome S.guarantees.numbers (S.state storage.old)
+            (option_map slot self.old.key)) }
+        ensures untracked { IfOk result (λ r.
+            r.untracked ≡ untracked_for self.old.uses.eviction self.old.key r.outcome) }
+        ensures store { OnOk result (S.state storage.new
+            ≡ purged_at (S.state storage.old) (option_map slot self.old.key)) }
+        ensures tracked { OnOk result (E.tracked eviction.new
+            ≡ tracked_gone_for self.old.uses.eviction self.old.key
+            (purge_outcome S.guarantees.numbers (S.state storage.old)
+            (option_map slot self.old.key)) (E.tracked eviction.old)) }
         ensures same_store { OnErr result (S.state storage.new ≡ S.state storage.old) }
         ensures same_tracked { OnErr result (E.tracked eviction.new ≡ E.tracked eviction.old) }
         ensures limits { E.limits eviction.new ≡ E.limits eviction.old }
@@ -171,9 +204,14 @@ impl<S: Storage> HttpCache<S> {
     ) -> Result<bool>
         requires { MayPurge self.old.phase }
         ensures same { self.new ≡ self.old }
-        ensures there { IfOk result (λ there. there ≡ is_removed_by (expire_outcome (S.state storage.old) (option_map slot self.old.key))) }
-        ensures store { OnOk result (S.state storage.new ≡ expired_at now (S.state storage.old) (option_map slot self.old.key)) }
-        ensures tracked { OnOk result (E.tracked eviction.new ≡ tracked_gone_for self.old.uses.eviction self.old.key (expire_outcome (S.state storage.old) (option_map slot self.old.key)) (E.tracked eviction.old)) }
+        ensures there { IfOk result (λ there. there
+            ≡ is_removed_by (expire_outcome (S.state storage.old) (option_map slot self.old.key))) }
+        ensures store { OnOk result (S.state storage.new
+            ≡ expired_at now (S.state storage.old) (option_map slot self.old.key)) }
+        ensures tracked { OnOk result (E.tracked eviction.new
+            ≡ tracked_gone_for self.old.uses.eviction self.old.key
+            (expire_outcome (S.state storage.old) (option_map slot self.old.key))
+            (E.tracked eviction.old)) }
         ensures same_store { OnErr result (S.state storage.new ≡ S.state storage.old) }
         ensures same_tracked { OnErr result (E.tracked eviction.new ≡ E.tracked eviction.old) }
         ensures limits { E.limits eviction.new ≡ E.limits eviction.old }
@@ -194,10 +232,16 @@ impl<S: Storage> HttpCache<S> {
     ) -> Result<Removal>
         requires { MayPurge self.old.phase }
         ensures same { self.new ≡ self.old }
-        ensures outcome { IfOk result (λ r. r.outcome ≡ expire_outcome (S.state storage.old) (option_map slot self.old.key)) }
-        ensures untracked { IfOk result (λ r. r.untracked ≡ untracked_for self.old.uses.eviction self.old.key r.outcome) }
-        ensures store { OnOk result (S.state storage.new ≡ expired_at now (S.state storage.old) (option_map slot self.old.key)) }
-        ensures tracked { OnOk result (E.tracked eviction.new ≡ tracked_gone_for self.old.uses.eviction self.old.key (expire_outcome (S.state storage.old) (option_map slot self.old.key)) (E.tracked eviction.old)) }
+        ensures outcome { IfOk result (λ r.
+            r.outcome ≡ expire_outcome (S.state storage.old) (option_map slot self.old.key)) }
+        ensures untracked { IfOk result (λ r.
+            r.untracked ≡ untracked_for self.old.uses.eviction self.old.key r.outcome) }
+        ensures store { OnOk result (S.state storage.new
+            ≡ expired_at now (S.state storage.old) (option_map slot self.old.key)) }
+        ensures tracked { OnOk result (E.tracked eviction.new
+            ≡ tracked_gone_for self.old.uses.eviction self.old.key
+            (expire_outcome (S.state storage.old) (option_map slot self.old.key))
+            (E.tracked eviction.old)) }
         ensures same_store { OnErr result (S.state storage.new ≡ S.state storage.old) }
         ensures same_tracked { OnErr result (E.tracked eviction.new ≡ E.tracked eviction.old) }
         ensures limits { E.limits eviction.new ≡ E.limits eviction.old }

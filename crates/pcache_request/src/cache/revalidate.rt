@@ -40,7 +40,8 @@ fn refusal(error: HeaderMapError) -> Error
 fn set_field(headers: &mut HeaderMap, name: &'static str, value: &HeaderValue) -> Result<()>
     requires { IsTrue (is_field_name name.now) }
     ensures ok { OnOk result (headers.new ≡ insert headers.old (lowercase name.now) value.now) }
-    ensures full { IfErr result (λ e. e ≡ InternalError → RefusesInsert headers.old (lowercase name.now)) }
+    ensures full { IfErr result (λ e.
+        e ≡ InternalError → RefusesInsert headers.old (lowercase name.now)) }
     ensures kind { IfErr result (λ e. (e ≡ OutOfMemory) ⊎ (e ≡ InternalError)) }
 {
     match headers.insert(name, value.clone()?) {
@@ -53,7 +54,8 @@ fn set_field(headers: &mut HeaderMap, name: &'static str, value: &HeaderValue) -
 fn add_field(headers: &mut HeaderMap, name: &'static str, value: &HeaderValue) -> Result<()>
     requires { IsTrue (is_field_name name.now) }
     ensures ok { OnOk result (headers.new ≡ append headers.old (lowercase name.now) value.now) }
-    ensures full { IfErr result (λ e. e ≡ InternalError → RefusesAppend headers.old (lowercase name.now)) }
+    ensures full { IfErr result (λ e.
+        e ≡ InternalError → RefusesAppend headers.old (lowercase name.now)) }
     ensures kind { IfErr result (λ e. (e ≡ OutOfMemory) ⊎ (e ≡ InternalError)) }
 {
     match headers.append(name, value.clone()?) {
@@ -70,8 +72,11 @@ fn add_fields(
     values: ValueIter<'_, HeaderValue>,
 ) -> Result<()>
     requires { IsTrue (is_field_name name.now) }
-    ensures ok { OnOk result (shown_fields headers.new ≡ added_all (shown_fields headers.old) (lowercase name.now) (shown_values values.entry)) }
-    ensures full { IfErr result (λ e. e ≡ InternalError → LacksRoomAfter (shown_fields headers.old) (lowercase name.now) (shown_values values.entry)) }
+    ensures ok { OnOk result (shown_fields headers.new
+        ≡ added_all (shown_fields headers.old) (lowercase name.now) (shown_values values.entry)) }
+    ensures full { IfErr result (λ e. e ≡ InternalError
+        → LacksRoomAfter (shown_fields headers.old) (lowercase name.now)
+        (shown_values values.entry)) }
     ensures kind { IfErr result (λ e. (e ≡ OutOfMemory) ⊎ (e ≡ InternalError)) }
 {
     'values: for value in values {
@@ -85,8 +90,11 @@ fn add_fields(
 #[tactic(auto, using(crate::proofs::Fields::renewed_none, crate::proofs::Fields::renewed_some, crate::proofs::Fields::lacks_first, crate::proofs::Fields::lacks_rest))]
 fn renew_field(headers: &mut HeaderMap, answer: &HeaderMap, name: &'static str) -> Result<()>
     requires { IsTrue (is_field_name name.now) }
-    ensures ok { OnOk result (shown_fields headers.new ≡ field_renewed (shown_fields answer.now) (shown_fields headers.old) (lowercase name.now)) }
-    ensures full { IfErr result (λ e. e ≡ InternalError → LacksRoomFor (shown_fields headers.old) (lowercase name.now) (get_all (shown_fields answer.now) (lowercase name.now))) }
+    ensures ok { OnOk result (shown_fields headers.new
+        ≡ field_renewed (shown_fields answer.now) (shown_fields headers.old) (lowercase name.now)) }
+    ensures full { IfErr result (λ e. e ≡ InternalError
+        → LacksRoomFor (shown_fields headers.old) (lowercase name.now)
+        (get_all (shown_fields answer.now) (lowercase name.now))) }
     ensures kind { IfErr result (λ e. (e ≡ OutOfMemory) ⊎ (e ≡ InternalError)) }
 {
     let mut values = answer.get_all(name).iter();
@@ -99,8 +107,10 @@ fn renew_field(headers: &mut HeaderMap, answer: &HeaderMap, name: &'static str) 
 
 // The same for each field that the new response renews.
 fn renew_fields(headers: &mut HeaderMap, answer: &HeaderMap) -> Result<()>
-    ensures ok { OnOk result (shown_fields headers.new ≡ fields_renewed (shown_fields answer.now) (shown_fields headers.old)) }
-    ensures full { IfErr result (λ e. e ≡ InternalError → LacksRoom (shown_fields answer.now) (shown_fields headers.old) renewed_names) }
+    ensures ok { OnOk result (shown_fields headers.new
+        ≡ fields_renewed (shown_fields answer.now) (shown_fields headers.old)) }
+    ensures full { IfErr result (λ e. e ≡ InternalError
+        → LacksRoom (shown_fields answer.now) (shown_fields headers.old) renewed_names) }
     ensures kind { IfErr result (λ e. (e ≡ OutOfMemory) ⊎ (e ≡ InternalError)) }
 {
     renew_field(headers, answer, "cache-control")?;
@@ -135,7 +145,8 @@ impl<S: Storage> HttpCache<S> {
         requires { MayRevalidate self.old }
         ensures request { self.new ≡ renewed meta self.old }
         ensures there { IfOk result (λ b. b ≡ has_body (S.state storage.old) self.old.key) }
-        ensures store { OnOk result (S.state storage.new ≡ with_meta_of (renewed_by meta self.old.meta) self.old.key (S.state storage.old)) }
+        ensures store { OnOk result (S.state storage.new
+            ≡ with_meta_of (renewed_by meta self.old.meta) self.old.key (S.state storage.old)) }
         ensures same_store { OnErr result (S.state storage.new ≡ S.state storage.old) }
         ensures something { OnErr result (IsTrue (has_body (S.state storage.old) self.old.key)) }
         ensures kind { IfErr result (λ e. e ≡ OutOfMemory) }
@@ -159,9 +170,11 @@ impl<S: Storage> HttpCache<S> {
         requires { MayRevalidate self.old }
         ensures request { self.new ≡ renewed meta self.old }
         ensures there { IfOk result.updated (λ b. b ≡ has_body (S.state storage.old) self.old.key) }
-        ensures store { OnOk result.updated (S.state storage.new ≡ with_meta_of (renewed_by meta self.old.meta) self.old.key (S.state storage.old)) }
+        ensures store { OnOk result.updated (S.state storage.new
+            ≡ with_meta_of (renewed_by meta self.old.meta) self.old.key (S.state storage.old)) }
         ensures same_store { OnErr result.updated (S.state storage.new ≡ S.state storage.old) }
-        ensures something { OnErr result.updated (IsTrue (has_body (S.state storage.old) self.old.key)) }
+        ensures something { OnErr result.updated
+            (IsTrue (has_body (S.state storage.old) self.old.key)) }
         ensures kind { IfErr result.updated (λ e. e ≡ OutOfMemory) }
         ensures table { L.table lock.new ≡ settled Done self.old.held (L.table lock.old) }
         ensures released { result.released ≡ option_map name_of self.old.held }
@@ -191,8 +204,11 @@ impl<S: Storage> HttpCache<S> {
     /// Requires the phase Stale, and a meta; ask `may_revalidate()`.
     pub fn revalidate_merge_header(&self, resp: &RespHeader) -> Result<ResponseHeader>
         requires { MayRevalidate self.now }
-        ensures ok { IfOk result (λ h. IfSome self.now.meta (λ m. shown h ≡ header_renewed (shown_fields resp.now.headers) m.header)) }
-        ensures full { IfErr result (λ e. e ≡ InternalError → IfSome self.now.meta (λ m. LacksRoom (shown_fields resp.now.headers) m.header.fields renewed_names)) }
+        ensures ok { IfOk result (λ h. IfSome self.now.meta (λ m.
+            shown h ≡ header_renewed (shown_fields resp.now.headers) m.header)) }
+        ensures full { IfErr result (λ e. e ≡ InternalError
+            → IfSome self.now.meta (λ m.
+            LacksRoom (shown_fields resp.now.headers) m.header.fields renewed_names)) }
         ensures kind { IfErr result (λ e. (e ≡ OutOfMemory) ⊎ (e ≡ InternalError)) }
     {
         let Some(meta) = &self.meta else {

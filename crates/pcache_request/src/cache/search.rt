@@ -1,7 +1,7 @@
 //! Looking a key up: what the store has, what is hidden of it, the policy for a key that has no
 //! body, and the key's lock.
 //!
-//! All look-ups are made by `search`: `cache_lookup` has no policy to ask, `cache_lookup_with` has
+//! All look-ups are made by `search`: `cache_lookup_without_policy` has no policy to ask, `cache_lookup` has
 //! one, and `look_up` also has a witness and reports what it did.
 use super::{AskedLock, HttpCache, LookUp, NoWitness, Witness, take_lock_if};
 use pcache_base::error::Result;
@@ -28,8 +28,10 @@ impl<S: Storage> HttpCache<S> {
     /// Requires the phase CacheKey or Stale; ask `phase().may_look_up()`.
     pub fn find(&self, storage: &mut S) -> Result<Option<(CacheMeta, S::Hit)>>
         requires { MayLookUp self.now.phase }
-        ensures found { IfOk result (λ r. option_map (λ p. (p.0, S.Hit.reader p.1)) r ≡ found_for (S.state storage.old) self.now.key) }
-        ensures store { OnOk result (S.state storage.new ≡ followed (S.state storage.old) (found_for (S.state storage.old) self.now.key)) }
+        ensures found { IfOk result (λ r. option_map (λ p. (p.0, S.Hit.reader p.1)) r
+            ≡ found_for (S.state storage.old) self.now.key) }
+        ensures store { OnOk result (S.state storage.new
+            ≡ followed (S.state storage.old) (found_for (S.state storage.old) self.now.key)) }
         ensures something { OnErr result (IsSome (found_for (S.state storage.old) self.now.key)) }
         ensures same_store { OnErr result (S.state storage.new ≡ S.state storage.old) }
         ensures kind { IfErr result (λ e. e ≡ OutOfMemory) }
@@ -59,7 +61,8 @@ impl<S: Storage> HttpCache<S> {
         requires { MayLookUp self.old.phase }
         ensures asked { IfOk result (λ a. a ≡ asked_for_key (L.table lock.old) self.old) }
         ensures request { OnOk result (self.new ≡ with_key_lock (L.table lock.old) self.old) }
-        ensures table { OnOk result (L.table lock.new ≡ table_key_locked now self.old (L.table lock.old)) }
+        ensures table { OnOk result (L.table lock.new
+            ≡ table_key_locked now self.old (L.table lock.old)) }
         ensures same_request { OnErr result (self.new ≡ self.old) }
         ensures same_table { OnErr result (L.table lock.new ≡ L.table lock.old) }
         ensures kind { IfErr result (λ e. MayFailLock (L.table lock.old) e) }
@@ -86,11 +89,17 @@ impl<S: Storage> HttpCache<S> {
         witness: &mut W,
     ) -> Result<Option<(CacheMeta, S::Hit)>>
         requires { MayLookUp self.now.phase }
-        ensures found { IfOk result (λ r. option_map (λ p. (p.0, S.Hit.reader p.1)) r ≡ found_for (S.state storage.old) self.now.key) }
-        ensures store { OnOk result (S.state storage.new ≡ followed (S.state storage.old) (found_for (S.state storage.old) self.now.key)) }
-        ensures heard { OnOk result (HasHeard W.hears witness.old (found_for (S.state storage.old) self.now.key) witness.new) }
+        ensures found { IfOk result (λ r. option_map (λ p. (p.0, S.Hit.reader p.1)) r
+            ≡ found_for (S.state storage.old) self.now.key) }
+        ensures store { OnOk result (S.state storage.new
+            ≡ followed (S.state storage.old) (found_for (S.state storage.old) self.now.key)) }
+        ensures heard { OnOk result (HasHeard W.hears witness.old
+            (found_for (S.state storage.old) self.now.key) witness.new) }
         ensures something { OnErr result (IsSome (found_for (S.state storage.old) self.now.key)) }
-        ensures refused { IfErr result (λ e. ((e ≡ OutOfMemory) × (S.state storage.new ≡ S.state storage.old)) ⊎ (W.may_refuse e × (S.state storage.new ≡ passed_over (S.state storage.old) self.now.key))) }
+        ensures refused { IfErr result (λ e. ((e ≡ OutOfMemory)
+            × (S.state storage.new ≡ S.state storage.old))
+            ⊎ (W.may_refuse e
+            × (S.state storage.new ≡ passed_over (S.state storage.old) self.now.key))) }
     {
         let Some((meta, hit)) = self.find(storage)? else {
             return Ok(None);
@@ -113,24 +122,46 @@ impl<S: Storage> HttpCache<S> {
         now: Moment,
     ) -> Result<LookUp<S::Hit>>
         requires { MayLookUp self.old.phase }
-        ensures found { IfOk result (λ l. option_map (λ p. (p.0, S.Hit.reader p.1)) (handed_on l) ≡ seen_for (S.state storage.old) self.old) }
-        ensures told { IfOk result (λ l. Tells (decision_of_any has_policy (S.state storage.old) self.old self.new) (S.state storage.old) (L.table lock.old) self.old l) }
-        ensures heard { OnOk result (HasHeard W.hears witness.old (found_for (S.state storage.old) self.old.key) witness.new) }
-        ensures decides { IsTrue (asks_any has_policy (S.state storage.old) self.old) → Decides (λ k d. A.decides policy.old k d policy.new) self.old.key self.new.digest.admission }
-        ensures same_policy { asks_any has_policy (S.state storage.old) self.old ≡ false → policy.new ≡ policy.old }
-        ensures request { IfOk result (λ l. OnLooked l (self.new ≡ looked_with (decision_of_any has_policy (S.state storage.old) self.old self.new) (S.state storage.old) (L.table lock.old) self.old)) }
-        ensures table { IfOk result (λ l. OnLooked l (L.table lock.new ≡ table_looked_with (decision_of_any has_policy (S.state storage.old) self.old self.new) (S.state storage.old) now self.old (L.table lock.old))) }
-        ensures store { OnOk result (S.state storage.new ≡ store_looked_with (decision_of_any has_policy (S.state storage.old) self.old self.new) self.old (S.state storage.old)) }
+        ensures found { IfOk result (λ l. option_map (λ p. (p.0, S.Hit.reader p.1)) (handed_on l)
+            ≡ seen_for (S.state storage.old) self.old) }
+        ensures told { IfOk result (λ l. Tells
+            (decision_of_any has_policy (S.state storage.old) self.old self.new)
+            (S.state storage.old) (L.table lock.old) self.old l) }
+        ensures heard { OnOk result (HasHeard W.hears witness.old
+            (found_for (S.state storage.old) self.old.key) witness.new) }
+        ensures decides { IsTrue (asks_any has_policy (S.state storage.old) self.old)
+            → Decides (λ k d. A.decides policy.old k d policy.new) self.old.key
+            self.new.digest.admission }
+        ensures same_policy { asks_any has_policy (S.state storage.old) self.old ≡ false
+            → policy.new ≡ policy.old }
+        ensures request { IfOk result (λ l. OnLooked l (self.new
+            ≡ looked_with (decision_of_any has_policy (S.state storage.old) self.old self.new)
+            (S.state storage.old) (L.table lock.old) self.old)) }
+        ensures table { IfOk result (λ l. OnLooked l (L.table lock.new
+            ≡ table_looked_with (decision_of_any has_policy (S.state storage.old) self.old self.new)
+            (S.state storage.old) now self.old (L.table lock.old))) }
+        ensures store { OnOk result (S.state storage.new
+            ≡ store_looked_with (decision_of_any has_policy (S.state storage.old) self.old self.new)
+            self.old (S.state storage.old)) }
 
         // The lock failed.
-        ensures unlocked_request { IfOk result (λ l. OnUnlocked l (self.new ≡ with_decision (decision_of_any has_policy (S.state storage.old) self.old self.new) self.old)) }
-        ensures unlocked_table { IfOk result (λ l. OnUnlocked l (L.table lock.new ≡ L.table lock.old)) }
-        ensures unlocked_store { IfOk result (λ l. OnUnlocked l (hides_for (S.state storage.old) self.old ≡ false → S.state storage.new ≡ S.state storage.old)) }
+        ensures unlocked_request { IfOk result (λ l. OnUnlocked l (self.new
+            ≡ with_decision (decision_of_any has_policy (S.state storage.old) self.old self.new)
+            self.old)) }
+        ensures unlocked_table { IfOk result (λ l.
+            OnUnlocked l (L.table lock.new ≡ L.table lock.old)) }
+        ensures unlocked_store { IfOk result (λ l. OnUnlocked l (hides_for (S.state storage.old)
+            self.old
+            ≡ false
+            → S.state storage.new ≡ S.state storage.old)) }
 
         ensures same_request { OnErr result (self.new ≡ self.old) }
         ensures same_table { OnErr result (L.table lock.new ≡ L.table lock.old) }
         ensures something { OnErr result (IsSome (found_for (S.state storage.old) self.old.key)) }
-        ensures refused { IfErr result (λ e. ((e ≡ OutOfMemory) × (S.state storage.new ≡ S.state storage.old)) ⊎ (W.may_refuse e × (S.state storage.new ≡ passed_over (S.state storage.old) self.old.key))) }
+        ensures refused { IfErr result (λ e. ((e ≡ OutOfMemory)
+            × (S.state storage.new ≡ S.state storage.old))
+            ⊎ (W.may_refuse e
+            × (S.state storage.new ≡ passed_over (S.state storage.old) self.old.key))) }
     {
         let Some((meta, hit)) = self.find_shown(storage, witness)? else {
             if let Some(Decision::Defer { .. }) = self.decide(policy, has_policy) {
@@ -147,27 +178,35 @@ impl<S: Storage> HttpCache<S> {
 
     /// Looks the key up in the store, hides what was created before the moment from which variants
     /// count, and asks for the key's lock if it hands nothing on and a lock is in use. It asks no
-    /// policy, also if one is in use: then `cache_lookup_with` is the call. If it fails, the request and the lock table are
+    /// policy, also if one is in use: then `cache_lookup` is the call. If it fails, the request and the lock table are
     /// unchanged; if it was the lock that failed, a hidden pair was let go.
     /// Requires the phase CacheKey or Stale; ask `phase().may_look_up()`.
-    pub fn cache_lookup<L: CacheKeyLock>(
+    pub fn cache_lookup_without_policy<L: CacheKeyLock>(
         &mut self,
         storage: &mut S,
         lock: &mut L,
         now: Moment,
     ) -> Result<Option<(CacheMeta, S::Hit)>>
         requires { MayLookUp self.old.phase }
-        ensures found { IfOk result (λ r. option_map (λ p. (p.0, S.Hit.reader p.1)) r ≡ seen_for (S.state storage.old) self.old) }
-        ensures request { OnOk result (self.new ≡ looked_for (S.state storage.old) (L.table lock.old) self.old) }
-        ensures store { OnOk result (S.state storage.new ≡ searched (S.state storage.old) self.old) }
-        ensures table { OnOk result (L.table lock.new ≡ table_looked_for (S.state storage.old) now self.old (L.table lock.old)) }
+        ensures found { IfOk result (λ r.
+            option_map (λ p. (p.0, S.Hit.reader p.1)) r ≡ seen_for (S.state storage.old) self.old) }
+        ensures request { OnOk result (self.new
+            ≡ looked_for (S.state storage.old) (L.table lock.old) self.old) }
+        ensures store { OnOk result (S.state storage.new
+            ≡ searched (S.state storage.old) self.old) }
+        ensures table { OnOk result (L.table lock.new
+            ≡ table_looked_for (S.state storage.old) now self.old (L.table lock.old)) }
         ensures same_request { OnErr result (self.new ≡ self.old) }
-        ensures left_store { OnErr result ((S.state storage.new ≡ S.state storage.old) ⊎ (S.state storage.new ≡ searched (S.state storage.old) self.old)) }
-        ensures same_store { OnErr result (hides_for (S.state storage.old) self.old ≡ false → S.state storage.new ≡ S.state storage.old) }
+        ensures left_store { OnErr result ((S.state storage.new ≡ S.state storage.old)
+            ⊎ (S.state storage.new ≡ searched (S.state storage.old) self.old)) }
+        ensures same_store { OnErr result (hides_for (S.state storage.old) self.old ≡ false
+            → S.state storage.new ≡ S.state storage.old) }
         ensures same_table { OnErr result (L.table lock.new ≡ L.table lock.old) }
         ensures kind { IfErr result (λ e. MayFailLock (L.table lock.old) e) }
-        ensures numbers { IfErr result (λ e. e ≡ NumbersExhausted → IsTrue (asks_unseen (S.state storage.old) self.old)) }
-        ensures something { OnErr result (IsSome (found_for (S.state storage.old) self.old.key) ⊎ IsTrue self.old.uses.lock) }
+        ensures numbers { IfErr result (λ e.
+            e ≡ NumbersExhausted → IsTrue (asks_unseen (S.state storage.old) self.old)) }
+        ensures something { OnErr result (IsSome (found_for (S.state storage.old) self.old.key)
+            ⊎ IsTrue self.old.uses.lock) }
     {
         let mut unasked = Decision::Ready { observed: 0 };
         match self.search(storage, lock, &mut unasked, false, &mut NoWitness, now)? {
@@ -178,13 +217,13 @@ impl<S: Storage> HttpCache<S> {
         }
     }
 
-    /// Looks the key up as `cache_lookup` does. If the store has nothing and a policy in use has not
+    /// Looks the key up as `cache_lookup_without_policy` does. If the store has nothing and a policy in use has not
     /// decided yet, it asks the policy first, and keeps its decision. If the policy defers, caching is
     /// turned off as deferred, and no lock is asked for. If the call fails, the request is unchanged but
     /// for a decision, and the lock table is unchanged; if it was the lock that failed, a hidden pair was
     /// let go.
     /// Requires the phase CacheKey or Stale; ask `phase().may_look_up()`.
-    pub fn cache_lookup_with<L: CacheKeyLock, A: AdmissionPolicy>(
+    pub fn cache_lookup<L: CacheKeyLock, A: AdmissionPolicy>(
         &mut self,
         storage: &mut S,
         lock: &mut L,
@@ -192,19 +231,34 @@ impl<S: Storage> HttpCache<S> {
         now: Moment,
     ) -> Result<Option<(CacheMeta, S::Hit)>>
         requires { MayLookUp self.old.phase }
-        ensures found { IfOk result (λ r. option_map (λ p. (p.0, S.Hit.reader p.1)) r ≡ seen_for (S.state storage.old) self.old) }
-        ensures decides { IsTrue (asks_policy (S.state storage.old) self.old) → Decides (λ k d. A.decides policy.old k d policy.new) self.old.key self.new.digest.admission }
-        ensures same_policy { asks_policy (S.state storage.old) self.old ≡ false → policy.new ≡ policy.old }
-        ensures request { OnOk result (self.new ≡ looked_with (decision_taken (S.state storage.old) self.old self.new) (S.state storage.old) (L.table lock.old) self.old) }
-        ensures store { OnOk result (S.state storage.new ≡ store_looked_with (decision_taken (S.state storage.old) self.old self.new) self.old (S.state storage.old)) }
-        ensures table { OnOk result (L.table lock.new ≡ table_looked_with (decision_taken (S.state storage.old) self.old self.new) (S.state storage.old) now self.old (L.table lock.old)) }
-        ensures decided { OnErr result (self.new ≡ with_decision (decision_taken (S.state storage.old) self.old self.new) self.old) }
-        ensures left_store { OnErr result ((S.state storage.new ≡ S.state storage.old) ⊎ (S.state storage.new ≡ searched (S.state storage.old) self.old)) }
-        ensures same_store { OnErr result (hides_for (S.state storage.old) self.old ≡ false → S.state storage.new ≡ S.state storage.old) }
+        ensures found { IfOk result (λ r.
+            option_map (λ p. (p.0, S.Hit.reader p.1)) r ≡ seen_for (S.state storage.old) self.old) }
+        ensures decides { IsTrue (asks_policy (S.state storage.old) self.old)
+            → Decides (λ k d. A.decides policy.old k d policy.new) self.old.key
+            self.new.digest.admission }
+        ensures same_policy { asks_policy (S.state storage.old) self.old ≡ false
+            → policy.new ≡ policy.old }
+        ensures request { OnOk result (self.new
+            ≡ looked_with (decision_taken (S.state storage.old) self.old self.new)
+            (S.state storage.old) (L.table lock.old) self.old) }
+        ensures store { OnOk result (S.state storage.new
+            ≡ store_looked_with (decision_taken (S.state storage.old) self.old self.new) self.old
+            (S.state storage.old)) }
+        ensures table { OnOk result (L.table lock.new
+            ≡ table_looked_with (decision_taken (S.state storage.old) self.old self.new)
+            (S.state storage.old) now self.old (L.table lock.old)) }
+        ensures decided { OnErr result (self.new
+            ≡ with_decision (decision_taken (S.state storage.old) self.old self.new) self.old) }
+        ensures left_store { OnErr result ((S.state storage.new ≡ S.state storage.old)
+            ⊎ (S.state storage.new ≡ searched (S.state storage.old) self.old)) }
+        ensures same_store { OnErr result (hides_for (S.state storage.old) self.old ≡ false
+            → S.state storage.new ≡ S.state storage.old) }
         ensures same_table { OnErr result (L.table lock.new ≡ L.table lock.old) }
         ensures kind { IfErr result (λ e. MayFailLock (L.table lock.old) e) }
-        ensures numbers { IfErr result (λ e. e ≡ NumbersExhausted → IsTrue (asks_unseen (S.state storage.old) self.old)) }
-        ensures something { OnErr result (IsSome (found_for (S.state storage.old) self.old.key) ⊎ IsTrue self.old.uses.lock) }
+        ensures numbers { IfErr result (λ e.
+            e ≡ NumbersExhausted → IsTrue (asks_unseen (S.state storage.old) self.old)) }
+        ensures something { OnErr result (IsSome (found_for (S.state storage.old) self.old.key)
+            ⊎ IsTrue self.old.uses.lock) }
     {
         match self.look_up(storage, lock, policy, &mut NoWitness, now)? {
             LookUp::Found(meta, hit) => Ok(Some((meta, hit))),
@@ -214,7 +268,7 @@ impl<S: Storage> HttpCache<S> {
         }
     }
 
-    /// `cache_lookup_with` with a result that says how far it came. Before anything else a witness is
+    /// `cache_lookup` with a result that says how far it came. Before anything else a witness is
     /// shown what the store has, even if it is hidden. If the call fails, the store's look-up failed or
     /// the witness did; then the request, the lock table and the policy are unchanged, and the found
     /// pair was let go.
@@ -228,24 +282,45 @@ impl<S: Storage> HttpCache<S> {
         now: Moment,
     ) -> Result<LookUp<S::Hit>>
         requires { MayLookUp self.old.phase }
-        ensures found { IfOk result (λ l. option_map (λ p. (p.0, S.Hit.reader p.1)) (handed_on l) ≡ seen_for (S.state storage.old) self.old) }
-        ensures told { IfOk result (λ l. Tells (decision_taken (S.state storage.old) self.old self.new) (S.state storage.old) (L.table lock.old) self.old l) }
-        ensures heard { OnOk result (HasHeard W.hears witness.old (found_for (S.state storage.old) self.old.key) witness.new) }
-        ensures decides { IsTrue (asks_policy (S.state storage.old) self.old) → Decides (λ k d. A.decides policy.old k d policy.new) self.old.key self.new.digest.admission }
-        ensures same_policy { asks_policy (S.state storage.old) self.old ≡ false → policy.new ≡ policy.old }
-        ensures request { IfOk result (λ l. OnLooked l (self.new ≡ looked_with (decision_taken (S.state storage.old) self.old self.new) (S.state storage.old) (L.table lock.old) self.old)) }
-        ensures table { IfOk result (λ l. OnLooked l (L.table lock.new ≡ table_looked_with (decision_taken (S.state storage.old) self.old self.new) (S.state storage.old) now self.old (L.table lock.old))) }
-        ensures store { OnOk result (S.state storage.new ≡ store_looked_with (decision_taken (S.state storage.old) self.old self.new) self.old (S.state storage.old)) }
+        ensures found { IfOk result (λ l. option_map (λ p. (p.0, S.Hit.reader p.1)) (handed_on l)
+            ≡ seen_for (S.state storage.old) self.old) }
+        ensures told { IfOk result (λ l. Tells
+            (decision_taken (S.state storage.old) self.old self.new) (S.state storage.old)
+            (L.table lock.old) self.old l) }
+        ensures heard { OnOk result (HasHeard W.hears witness.old
+            (found_for (S.state storage.old) self.old.key) witness.new) }
+        ensures decides { IsTrue (asks_policy (S.state storage.old) self.old)
+            → Decides (λ k d. A.decides policy.old k d policy.new) self.old.key
+            self.new.digest.admission }
+        ensures same_policy { asks_policy (S.state storage.old) self.old ≡ false
+            → policy.new ≡ policy.old }
+        ensures request { IfOk result (λ l. OnLooked l (self.new
+            ≡ looked_with (decision_taken (S.state storage.old) self.old self.new)
+            (S.state storage.old) (L.table lock.old) self.old)) }
+        ensures table { IfOk result (λ l. OnLooked l (L.table lock.new
+            ≡ table_looked_with (decision_taken (S.state storage.old) self.old self.new)
+            (S.state storage.old) now self.old (L.table lock.old))) }
+        ensures store { OnOk result (S.state storage.new
+            ≡ store_looked_with (decision_taken (S.state storage.old) self.old self.new) self.old
+            (S.state storage.old)) }
 
         // The lock failed.
-        ensures unlocked_request { IfOk result (λ l. OnUnlocked l (self.new ≡ with_decision (decision_taken (S.state storage.old) self.old self.new) self.old)) }
-        ensures unlocked_table { IfOk result (λ l. OnUnlocked l (L.table lock.new ≡ L.table lock.old)) }
-        ensures unlocked_store { IfOk result (λ l. OnUnlocked l (hides_for (S.state storage.old) self.old ≡ false → S.state storage.new ≡ S.state storage.old)) }
+        ensures unlocked_request { IfOk result (λ l. OnUnlocked l (self.new
+            ≡ with_decision (decision_taken (S.state storage.old) self.old self.new) self.old)) }
+        ensures unlocked_table { IfOk result (λ l.
+            OnUnlocked l (L.table lock.new ≡ L.table lock.old)) }
+        ensures unlocked_store { IfOk result (λ l. OnUnlocked l (hides_for (S.state storage.old)
+            self.old
+            ≡ false
+            → S.state storage.new ≡ S.state storage.old)) }
 
         ensures same_request { OnErr result (self.new ≡ self.old) }
         ensures same_table { OnErr result (L.table lock.new ≡ L.table lock.old) }
         ensures something { OnErr result (IsSome (found_for (S.state storage.old) self.old.key)) }
-        ensures refused { IfErr result (λ e. ((e ≡ OutOfMemory) × (S.state storage.new ≡ S.state storage.old)) ⊎ (W.may_refuse e × (S.state storage.new ≡ passed_over (S.state storage.old) self.old.key))) }
+        ensures refused { IfErr result (λ e. ((e ≡ OutOfMemory)
+            × (S.state storage.new ≡ S.state storage.old))
+            ⊎ (W.may_refuse e
+            × (S.state storage.new ≡ passed_over (S.state storage.old) self.old.key))) }
     {
         self.search(storage, lock, policy, true, witness, now)
     }

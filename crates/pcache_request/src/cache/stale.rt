@@ -46,7 +46,9 @@ impl<S: Storage> HttpCache<S> {
         requires stale { MayRevalidate self.old }
         requires reason { MayRelease reason self.old.held }
         ensures request { self.new ≡ uncacheable (shown header) reason self.old }
-        ensures table { L.table lock.new ≡ settled (status_for (L.custom_status lock.old) reason) self.old.held (L.table lock.old) }
+        ensures table { L.table lock.new
+            ≡ settled (status_for (L.custom_status lock.old) reason) self.old.held
+            (L.table lock.old) }
         ensures released { result ≡ option_map name_of self.old.held }
     {
         let Some(meta) = &mut self.meta else {

@@ -73,7 +73,8 @@ impl Body {
 
     // Ends the freshness: the bytes of the meta are written again.
     pub(crate) fn expire_at(&mut self, alloc: Global, now: Moment) -> Result<()>
-        ensures ok { OnOk result (self.new ≡ record self.old { meta = meta_of.expired_at now self.old.meta }) }
+        ensures ok { OnOk result (self.new
+            ≡ record self.old { meta = meta_of.expired_at now self.old.meta }) }
         ensures kind { IfErr result (λ e. e ≡ OutOfMemory) }
         ensures err { OnErr result (self.new ≡ self.old) }
     {
@@ -154,7 +155,8 @@ impl KeySlot {
     // Stores a body, and returns the one that it replaces.
     pub(crate) fn store(&mut self, number: u128, body: Body) -> Option<Body>
         ensures before { result ≡ self.old.body }
-        ensures after { self.new ≡ record { body = Some body; untouched = map.remove self.old.untouched number } }
+        ensures after { self.new
+            ≡ record { body = Some body; untouched = map.remove self.old.untouched number } }
     {
         self.untouched.remove(number);
         self.body.replace(body)
@@ -175,7 +177,8 @@ impl KeySlot {
     // Ends the body's freshness, and returns whether there is a body.
     pub(crate) fn expire(&mut self, alloc: Global, now: Moment) -> Result<bool>
         ensures there { IfOk result (λ b. b ≡ is_some self.old.body) }
-        ensures slot { OnOk result (self.new ≡ with_meta (meta_of.expired_at now) self.old self.old.body) }
+        ensures slot { OnOk result (self.new
+            ≡ with_meta (meta_of.expired_at now) self.old self.old.body) }
         ensures something { OnErr result (is_some self.old.body ≡ true) }
         ensures kind { IfErr result (λ e. e ≡ OutOfMemory) }
         ensures err { OnErr result (self.new ≡ self.old) }

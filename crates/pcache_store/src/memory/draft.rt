@@ -104,7 +104,8 @@ impl Draft {
     }
 
     pub(crate) fn write(&mut self, alloc: Global, bytes: Bytes, eof: bool) -> Result<()>
-        ensures ok { OnOk result (self.new ≡ record self.old { bytes = self.old.bytes ++ bytes; told = eof }) }
+        ensures ok { OnOk result (self.new
+            ≡ record self.old { bytes = self.old.bytes ++ bytes; told = eof }) }
         ensures kind { IfErr result (λ e. e ≡ OutOfMemory) }
         ensures err { OnErr result (self.new ≡ self.old) }
     {
@@ -143,7 +144,8 @@ impl Draft {
 
     // The write as a complete body, with which it shares its bytes from now on.
     pub(crate) fn to_body(&mut self, alloc: Global) -> Result<Body>
-        ensures ok { IfOk result (λ b. b ≡ record { meta = self.old.meta; bytes = self.old.bytes }) }
+        ensures ok { IfOk result (λ b.
+            b ≡ record { meta = self.old.meta; bytes = self.old.bytes }) }
         ensures kind { IfErr result (λ e. e ≡ OutOfMemory) }
         ensures same { self.new ≡ self.old }
     {

@@ -123,7 +123,8 @@ impl DraftTable {
         bytes: Bytes,
         eof: bool,
     ) -> Result<()>
-        ensures ok { OnOk result (self.new ≡ wrote_on self.old number bytes eof (map.get self.old number)) }
+        ensures ok { OnOk result (self.new
+            ≡ wrote_on self.old number bytes eof (map.get self.old number)) }
         ensures kind { IfErr result (λ e. e ≡ OutOfMemory) }
         ensures err { OnErr result (self.new ≡ self.old) }
     {
@@ -139,8 +140,10 @@ impl DraftTable {
         slot: u128,
         number: u128,
     ) -> Result<Option<(CacheMeta, u128)>>
-        ensures meta { IfOk result (λ m. m ≡ option_map (λ w. (w.meta, w.slot)) (map.get self.old number)) }
-        ensures ok { OnOk result (self.new ≡ followed_on self.old number (map.get self.old number)) }
+        ensures meta { IfOk result (λ m.
+            m ≡ option_map (λ w. (w.meta, w.slot)) (map.get self.old number)) }
+        ensures ok { OnOk result (self.new
+            ≡ followed_on self.old number (map.get self.old number)) }
         ensures something { OnErr result (IsSome (map.get self.old number)) }
         ensures kind { IfErr result (λ e. e ≡ OutOfMemory) }
         ensures err { OnErr result (self.new ≡ self.old) }
@@ -203,7 +206,9 @@ fn place_of(shards: &[HashedTable<Draft>; 16], slot: u128, number: u128) -> usiz
 fn place_with(shards: &[HashedTable<Draft>; 16], number: u128) -> Option<usize>
     ensures within { IfSome result (λ i. i < 16) }
     ensures there { IfSome result (λ i. IsSome (map.get (table_at shards.now i) number)) }
-    ensures none { IfNone result ((i : ℕ) → i < 16 → map.get (table_at shards.now i) number ≡ None) }
+    ensures none { IfNone result ((i : ℕ)
+        → i < 16
+        → map.get (table_at shards.now i) number ≡ None) }
 {
     for place in 0..16usize {
         let table = &shards[place];
@@ -223,7 +228,8 @@ fn write_in(
     bytes: Bytes,
     eof: bool,
 ) -> Result<()>
-    ensures ok { OnOk result (writes.new ≡ wrote_on writes.old number bytes eof (map.get writes.old number)) }
+    ensures ok { OnOk result (writes.new
+        ≡ wrote_on writes.old number bytes eof (map.get writes.old number)) }
     ensures kind { IfErr result (λ e. e ≡ OutOfMemory) }
     ensures err { OnErr result (writes.new ≡ writes.old) }
 {
@@ -238,8 +244,10 @@ fn follow_in(
     alloc: Global,
     number: u128,
 ) -> Result<Option<(CacheMeta, u128)>>
-    ensures meta { IfOk result (λ m. m ≡ option_map (λ w. (w.meta, w.slot)) (map.get writes.old number)) }
-    ensures ok { OnOk result (writes.new ≡ followed_on writes.old number (map.get writes.old number)) }
+    ensures meta { IfOk result (λ m.
+        m ≡ option_map (λ w. (w.meta, w.slot)) (map.get writes.old number)) }
+    ensures ok { OnOk result (writes.new
+        ≡ followed_on writes.old number (map.get writes.old number)) }
     ensures something { OnErr result (IsSome (map.get writes.old number)) }
     ensures kind { IfErr result (λ e. e ≡ OutOfMemory) }
     ensures err { OnErr result (writes.new ≡ writes.old) }
@@ -256,7 +264,8 @@ fn follow_in(
 // Returns how many records were removed.
 fn leave_in(writes: &mut HashedTable<Draft>, number: u128) -> usize
     ensures after { writes.new ≡ left_on writes.old number (map.get writes.old number) }
-    ensures gone { one_if_some (map.get writes.new number) + result ≡ one_if_some (map.get writes.old number) }
+    ensures gone { one_if_some (map.get writes.new number) + result
+        ≡ one_if_some (map.get writes.old number) }
 {
     let Some(draft) = writes.get_mut(number) else {
         return 0;
@@ -272,7 +281,8 @@ fn leave_in(writes: &mut HashedTable<Draft>, number: u128) -> usize
 // Returns how many records were removed.
 fn land_in(writes: &mut HashedTable<Draft>, number: u128) -> usize
     ensures after { writes.new ≡ grounded_on writes.old number (map.get writes.old number) }
-    ensures gone { one_if_some (map.get writes.new number) + result ≡ one_if_some (map.get writes.old number) }
+    ensures gone { one_if_some (map.get writes.new number) + result
+        ≡ one_if_some (map.get writes.old number) }
 {
     let Some(draft) = writes.get_mut(number) else {
         return 0;
@@ -291,7 +301,8 @@ fn end_in(writes: &mut HashedTable<Draft>, alloc: Global, number: u128) -> (Resu
     requires { IsSome (map.get writes.old number) }
     ensures body { IfOk result.0 (λ b. IsBodyOf (map.get writes.old number) b) }
     ensures after { writes.new ≡ grounded_on writes.old number (map.get writes.old number) }
-    ensures gone { one_if_some (map.get writes.new number) + result.1 ≡ one_if_some (map.get writes.old number) }
+    ensures gone { one_if_some (map.get writes.new number) + result.1
+        ≡ one_if_some (map.get writes.old number) }
     ensures kind { IfErr result.0 (λ e. e ≡ OutOfMemory) }
 {
     let Some(draft) = writes.get_mut(number) else {

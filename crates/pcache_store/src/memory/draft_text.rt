@@ -47,7 +47,8 @@ fn append(text: &mut Vec<u8>, pieces: &[Bytes]) -> Result<()>
 
 // Makes a piece of the gathered bytes. No byte is copied.
 fn settle(alloc: Global, pieces: &mut Vec<Bytes>, tail: &mut Vec<u8>) -> Result<()>
-    ensures same { concat pieces.new.items ++ tail.new.items ≡ concat pieces.old.items ++ tail.old.items }
+    ensures same { concat pieces.new.items ++ tail.new.items
+        ≡ concat pieces.old.items ++ tail.old.items }
     ensures ok { OnOk result (tail.new.items ≡ []) }
     ensures kind { IfErr result (λ e. e ≡ OutOfMemory) }
 {

@@ -84,7 +84,11 @@ impl Drafts {
     pub(crate) fn begin(&mut self, draft: Draft) -> Result<()>
         requires { self.old.next < 2 ^ 64 }
         ensures unused { map.get self.old.writes self.old.next ≡ None }
-        ensures ok { OnOk result (self.new ≡ record { writes = map.insert self.old.writes self.old.next draft; next = self.old.next + 1 }) }
+        ensures ok { OnOk result (self.new
+            ≡ record {
+              writes = map.insert self.old.writes self.old.next draft;
+              next = self.old.next + 1;
+            }) }
         ensures kind { IfErr result (λ e. e ≡ OutOfMemory) }
         ensures err { OnErr result (self.new ≡ self.old) }
     {
@@ -96,7 +100,11 @@ impl Drafts {
     // Undoes the begin of the last write.
     pub(crate) fn take_back(&mut self, slot: u128)
         requires { 0 < self.old.next }
-        ensures { self.new ≡ record { writes = map.remove self.old.writes (self.old.next - 1); next = self.old.next - 1 } }
+        ensures { self.new
+            ≡ record {
+              writes = map.remove self.old.writes (self.old.next - 1);
+              next = self.old.next - 1;
+            } }
     {
         self.next -= 1;
         self.writes.remove(slot, self.next);
@@ -110,7 +118,11 @@ impl Drafts {
         bytes: Bytes,
         eof: bool,
     ) -> Result<()>
-        ensures ok { OnOk result (self.new ≡ record self.old { writes = wrote_on self.old.writes number bytes eof (map.get self.old.writes number) }) }
+        ensures ok { OnOk result (self.new
+            ≡ record self.old {
+              writes = wrote_on self.old.writes number bytes eof
+                  (map.get self.old.writes number);
+            }) }
         ensures kind { IfErr result (λ e. e ≡ OutOfMemory) }
         ensures err { OnErr result (self.new ≡ self.old) }
     {
@@ -124,9 +136,14 @@ impl Drafts {
         slot: u128,
         number: u128,
     ) -> Result<Option<(CacheMeta, u128)>>
-        ensures meta { IfOk result (λ m. m ≡ option_map (λ w. (w.meta, w.slot)) (map.get self.old.writes number)) }
+        ensures meta { IfOk result (λ m.
+            m ≡ option_map (λ w. (w.meta, w.slot)) (map.get self.old.writes number)) }
         ensures small { IfOk result (λ m. IfSome m (λ _. number < 2 ^ 64)) }
-        ensures ok { OnOk result (self.new ≡ record self.old { writes = followed_on self.old.writes number (map.get self.old.writes number) }) }
+        ensures ok { OnOk result (self.new
+            ≡ record self.old {
+              writes = followed_on self.old.writes number
+                  (map.get self.old.writes number);
+            }) }
         ensures something { OnErr result (IsSome (map.get self.old.writes number)) }
         ensures kind { IfErr result (λ e. e ≡ OutOfMemory) }
         ensures err { OnErr result (self.new ≡ self.old) }
@@ -136,14 +153,22 @@ impl Drafts {
 
     // Counts one reader less.
     pub(crate) fn leave(&mut self, slot: u128, number: u128)
-        ensures { self.new ≡ record self.old { writes = left_on self.old.writes number (map.get self.old.writes number) } }
+        ensures { self.new
+            ≡ record self.old {
+              writes = left_on self.old.writes number
+                  (map.get self.old.writes number);
+            } }
     {
         self.writes.leave(slot, number);
     }
 
     // Records that the handler of a write is gone.
     pub(crate) fn land(&mut self, slot: u128, number: u128)
-        ensures { self.new ≡ record self.old { writes = grounded_on self.old.writes number (map.get self.old.writes number) } }
+        ensures { self.new
+            ≡ record self.old {
+              writes = grounded_on self.old.writes number
+                  (map.get self.old.writes number);
+            } }
     {
         self.writes.land(slot, number);
     }
@@ -152,7 +177,11 @@ impl Drafts {
     pub(crate) fn end(&mut self, alloc: Global, slot: u128, number: u128) -> Result<Body>
         requires { IsSome (map.get self.old.writes number) }
         ensures body { IfOk result (λ b. IsBodyOf (map.get self.old.writes number) b) }
-        ensures gone { self.new ≡ record self.old { writes = grounded_on self.old.writes number (map.get self.old.writes number) } }
+        ensures gone { self.new
+            ≡ record self.old {
+              writes = grounded_on self.old.writes number
+                  (map.get self.old.writes number);
+            } }
         ensures kind { IfErr result (λ e. e ≡ OutOfMemory) }
     {
         self.writes.end(alloc, slot, number)

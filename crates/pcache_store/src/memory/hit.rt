@@ -48,7 +48,9 @@ impl CompleteHit {
     }
 
     fn read(&mut self) -> Result<Option<Bytes>>
-        ensures read { IfOk result (λ r. r ≡ cond self.old.done None (Some (slice_range self.old.body self.old.start self.old.stop))) }
+        ensures read { IfOk result (λ r. r
+            ≡ cond self.old.done None
+            (Some (slice_range self.old.body self.old.start self.old.stop))) }
         ensures id { self.new.id ≡ self.old.id }
         ensures body { self.new.body ≡ self.old.body }
         ensures start { self.new.start ≡ self.old.start }
@@ -67,8 +69,14 @@ impl CompleteHit {
     }
 
     fn seek(&mut self, start: usize, end: Option<usize>) -> Result<()>
-        ensures ok { OnOk result (Some (Whole self.new.id self.new.body self.new.start self.new.stop self.new.done) ≡ sought (Whole self.old.id self.old.body self.old.start self.old.stop self.old.done) start end) }
-        ensures refused { OnErr result (sought (Whole self.old.id self.old.body self.old.start self.old.stop self.old.done) start end ≡ None) }
+        ensures ok { OnOk result (Some
+            (Whole self.new.id self.new.body self.new.start self.new.stop self.new.done)
+            ≡ sought (Whole self.old.id self.old.body self.old.start self.old.stop self.old.done)
+            start end) }
+        ensures refused { OnErr result (sought
+            (Whole self.old.id self.old.body self.old.start self.old.stop self.old.done) start
+            end
+            ≡ None) }
         ensures kind { IfErr result (λ e. e ≡ InternalError) }
         ensures id { self.new.id ≡ self.old.id }
         ensures body { self.new.body ≡ self.old.body }
@@ -176,8 +184,10 @@ impl MemHitHandler {
     pub fn read_body_alone(&mut self) -> Result<Poll<Option<Bytes>>>
         requires { needs_no_store (reader_of self.old) ≡ true }
         ensures read { IfOk result (λ p. (s : Store) → p ≡ read_of s (reader_of self.old)) }
-        ensures ok { OnOk result ((s : Store) → reader_of self.new ≡ reader_after s (reader_of self.old)) }
-        ensures something { OnErr result ((s : Store) → gives_piece (read_of s (reader_of self.old)) ≡ true) }
+        ensures ok { OnOk result ((s : Store)
+            → reader_of self.new ≡ reader_after s (reader_of self.old)) }
+        ensures something { OnErr result ((s : Store)
+            → gives_piece (read_of s (reader_of self.old)) ≡ true) }
         ensures kind { IfErr result (λ e. e ≡ OutOfMemory) }
         ensures err { OnErr result (reader_of self.new ≡ reader_of self.old) }
     {

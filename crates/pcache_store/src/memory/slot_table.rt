@@ -176,7 +176,8 @@ impl SlotTable {
     // Ends the freshness of the complete body, and returns whether there is one.
     pub(crate) fn expire(&mut self, alloc: Global, key: u128, now: Moment) -> Result<bool>
         ensures there { IfOk result (λ b. b ≡ is_some (complete_body (map.get self.old key))) }
-        ensures slots { OnOk result (self.new ≡ meta_changed_on (meta_of.expired_at now) self.old key (map.get self.old key)) }
+        ensures slots { OnOk result (self.new
+            ≡ meta_changed_on (meta_of.expired_at now) self.old key (map.get self.old key)) }
         ensures something { OnErr result (is_some (complete_body (map.get self.old key)) ≡ true) }
         ensures kind { IfErr result (λ e. e ≡ OutOfMemory) }
         ensures err { OnErr result (self.new ≡ self.old) }
@@ -218,7 +219,8 @@ fn open_in(slots: &mut HashedTable<KeySlot>, alloc: Global, key: u128, number: u
 // Returns how many keys were removed.
 fn shut_in(slots: &mut HashedTable<KeySlot>, key: u128, number: u128) -> usize
     ensures after { slots.new ≡ shut_on slots.old key number (map.get slots.old key) }
-    ensures gone { one_if_some (map.get slots.new key) + result ≡ one_if_some (map.get slots.old key) }
+    ensures gone { one_if_some (map.get slots.new key) + result
+        ≡ one_if_some (map.get slots.old key) }
 {
     let Some(slot) = slots.get_mut(key) else {
         return 0;
@@ -253,7 +255,8 @@ fn remove_write_in(
     ensures there { result.0 ≡ has_write id (map.get slots.old key) }
     ensures body { result.1 ≡ body_with id (complete_body (map.get slots.old key)) }
     ensures after { slots.new ≡ write_gone_on slots.old key id (map.get slots.old key) }
-    ensures gone { one_if_some (map.get slots.new key) + result.2 ≡ one_if_some (map.get slots.old key) }
+    ensures gone { one_if_some (map.get slots.new key) + result.2
+        ≡ one_if_some (map.get slots.old key) }
 {
     let Some(slot) = slots.get_mut(key) else {
         return (false, None, 0);
@@ -284,7 +287,8 @@ fn expire_in(
     now: Moment,
 ) -> Result<bool>
     ensures there { IfOk result (λ b. b ≡ is_some (complete_body (map.get slots.old key))) }
-    ensures slots { OnOk result (slots.new ≡ meta_changed_on (meta_of.expired_at now) slots.old key (map.get slots.old key)) }
+    ensures slots { OnOk result (slots.new
+        ≡ meta_changed_on (meta_of.expired_at now) slots.old key (map.get slots.old key)) }
     ensures something { OnErr result (is_some (complete_body (map.get slots.old key)) ≡ true) }
     ensures kind { IfErr result (λ e. e ≡ OutOfMemory) }
     ensures err { OnErr result (slots.new ≡ slots.old) }

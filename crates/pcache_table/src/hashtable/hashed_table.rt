@@ -85,7 +85,8 @@ impl<V> HashedTable<V> {
 
     /// The value of a number, mutably.
     pub fn get_mut(&mut self, number: u128) -> Option<&mut V>
-        ensures* writes_back { sem 𝓛 (LendsSo (the_row V.row) V.row self.entry result (λ n w. OnSome result (n ≡ map.insert self.old number w)) (λ n. n ≡ self.old)) }
+        ensures* writes_back { sem 𝓛 (LendsSo (the_row V.row) V.row self.entry result
+            (λ n w. OnSome result (n ≡ map.insert self.old number w)) (λ n. n ≡ self.old)) }
         ensures value { option_copied_mut result ≡ map.get self.old number }
     {
         self.entries.get_mut(&number)

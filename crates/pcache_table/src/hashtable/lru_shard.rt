@@ -46,7 +46,8 @@ impl<V: Drop, const N: usize> LruShard<V, N> {
         capacity: usize,
     ) -> Result<LruShard<V, N>>
         requires { place < N }
-        ensures made { IfOk result (λ s. s ≡ record { place = place; cap = max capacity 1; entries = [] }) }
+        ensures made { IfOk result (λ s.
+            s ≡ record { place = place; cap = max capacity 1; entries = [] }) }
         ensures kind { IfErr result (λ e. e ≡ OutOfMemory) }
     {
         let capacity = capacity.max(1);

@@ -66,8 +66,10 @@ impl<V: Drop, const N: usize> LruShards<V, N> {
         key: u128,
         value: V,
     ) -> std::result::Result<Option<V>, AllocFailed<(u128, V)>>
-        ensures before { IfOk result (λ old. old ≡ lookup (nat_eq key) (list_at self.old (key % N)).entries) }
-        ensures ok { OnOk result (self.new ≡ slice_set self.old (key % N) (part_with key value (list_at self.old (key % N)))) }
+        ensures before { IfOk result (λ old.
+            old ≡ lookup (nat_eq key) (list_at self.old (key % N)).entries) }
+        ensures ok { OnOk result (self.new
+            ≡ slice_set self.old (key % N) (part_with key value (list_at self.old (key % N)))) }
         ensures err { OnErr result (self.new ≡ self.old) }
         ensures value_returned { IfErr result (λ y. y.value ≡ (key, value)) }
     {
@@ -80,7 +82,8 @@ impl<V: Drop, const N: usize> LruShards<V, N> {
     /// Removes a key, and returns its value.
     pub fn pop(&mut self, key: u128) -> Option<V>
         ensures before { result ≡ lookup (nat_eq key) (list_at self.old (key % N)).entries }
-        ensures gone { self.new ≡ slice_set self.old (key % N) (part_without key (list_at self.old (key % N))) }
+        ensures gone { self.new
+            ≡ slice_set self.old (key % N) (part_without key (list_at self.old (key % N))) }
     {
         let _ = &self.shards; // for the prover: once a field is used, the invariant is known
         let place = (key % N as u128) as usize;

@@ -56,7 +56,8 @@ impl<V, const N: usize> WriteGuard<'_, Shard<V, N>> {
     pub fn insert(&mut self, key: u128, value: V) -> Result<Option<V>, AllocFailed<(u128, V)>>
         requires { key % N ≡ self.old.place }
         ensures before { IfOk result (λ old. old ≡ map.get self.old.map key) }
-        ensures ok { OnOk result (self.new ≡ record self.old { map = map.insert self.old.map key value }) }
+        ensures ok { OnOk result (self.new
+            ≡ record self.old { map = map.insert self.old.map key value }) }
         ensures err { OnErr result (self.new ≡ self.old) }
         ensures value_returned { IfErr result (λ y. y.value ≡ (key, value)) }
         ensures absent { OnErr result (map.get self.old.map key ≡ None) }

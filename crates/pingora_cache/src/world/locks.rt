@@ -35,10 +35,12 @@ use pcache_store::memory::MemCache;
 
 /// Takes the lock into use, or out of it.
 pub(crate) fn set_lock(request: &mut OpenRequest, is_used: bool) -> Reply
-    ensures answers { FollowsRule no_facts (acts.Request (asks.Lock is_used)) (Some request.old) result [] }
+    ensures answers { FollowsRule no_facts (acts.Request (asks.Lock is_used)) (Some request.old)
+        result [] }
     ensures moves { MovesRequest (Some request.old) (Some request.new) }
     ensures keeps { KeepsKey (Some request.old) (Some request.new) }
-    ensures row { Some request.new ≡ row (acts.Request (asks.Lock is_used)) result [] (Some request.old) }
+    ensures row { Some request.new
+        ≡ row (acts.Request (asks.Lock is_used)) result [] (Some request.old) }
     ensures held { request.new.request.held ≡ request.old.request.held }
 {
     if !request.cache.may_set_cache_lock() {
@@ -58,11 +60,18 @@ pub(crate) fn wait(
 ) -> Reply
     requires none { events.old.items ≡ [] }
     requires room { 3 ≤ vec_capacity events.old }
-    ensures answers { (s : Store) → FollowsRule (facts_in s lock.old request.old.request) (acts.Wait now) (Some request.old) result events.new.items }
-    ensures moves { (s : Store) → MovesStore (Some request.old) s events.new.items (Some request.new) s }
+    ensures answers { (s : Store)
+        → FollowsRule (facts_in s lock.old request.old.request) (acts.Wait now) (Some request.old)
+        result events.new.items }
+    ensures moves { (s : Store)
+        → MovesStore (Some request.old) s events.new.items (Some request.new) s }
     ensures keeps { KeepsKey (Some request.old) (Some request.new) }
-    ensures row { IsRow (acts.Wait now) result events.new.items (Some request.old) (Some request.new) }
-    ensures locks { (r : ℕ) → MovesLocks r (deeds_in r (acts.Wait now) (kind_of_reply result) events.new.items (Some request.old)) request.old.request.held lock.old request.new.request.held lock.new }
+    ensures row { IsRow (acts.Wait now) result events.new.items (Some request.old)
+        (Some request.new) }
+    ensures locks { (r : ℕ)
+        → MovesLocks r
+        (deeds_in r (acts.Wait now) (kind_of_reply result) events.new.items (Some request.old))
+        request.old.request.held lock.old request.new.request.held lock.new }
 {
     let Some(Locked::Read(_)) = request.cache.held() else {
         return Reply::WrongCall;
@@ -81,12 +90,19 @@ fn wait_on(
     requires may { IsSome (read_in cache.old.held) }
     requires none { events.old.items ≡ [] }
     requires room { 3 ≤ vec_capacity events.old }
-    ensures answers { (s : Store) → Waits (facts_in s lock.old cache.old) now cache.old result events.new.items }
+    ensures answers { (s : Store)
+        → Waits (facts_in s lock.old cache.old) now cache.old result events.new.items }
     ensures other { IsOther result }
-    ensures moves { (s : Store) (p : Option (Meta × Reader)) (d : Option Decision) → MovesStore (Some (record { request = cache.old; pair = p; carried = d; put = None })) s events.new.items (Some (record { request = cache.new; pair = p; carried = d; put = None })) s }
+    ensures moves { (s : Store) (p : Option (Meta × Reader)) (d : Option Decision)
+        → MovesStore (Some (record { request = cache.old; pair = p; carried = d; put = None })) s
+        events.new.items
+        (Some (record { request = cache.new; pair = p; carried = d; put = None })) s }
     ensures keeps { KeepsIn cache.old cache.new }
-    ensures row { untold_request cache.new ≡ untold_request (waited_by (kind_of_reply result) now cache.old) }
-    ensures locks { (r : ℕ) → MovesLocks r (deeds_in r (acts.Wait now) (kind_of_reply result) events.new.items None) cache.old.held lock.old cache.new.held lock.new }
+    ensures row { untold_request cache.new
+        ≡ untold_request (waited_by (kind_of_reply result) now cache.old) }
+    ensures locks { (r : ℕ)
+        → MovesLocks r (deeds_in r (acts.Wait now) (kind_of_reply result) events.new.items None)
+        cache.old.held lock.old cache.new.held lock.new }
 {
     let report = match cache.wait(lock, now) {
         Ok(report) => report,
@@ -118,9 +134,14 @@ fn reply_of(answer: Poll<LockWaitOutcome>) -> Reply
 
 /// Publishes tokens of what was found out about the fill.
 pub(crate) fn publish(request: &OpenRequest, lock: &mut CacheLock, tokens: &Tokens) -> Reply
-    ensures answers { FollowsRule no_facts (acts.Request (asks.Publish tokens.now)) (Some request.now) result [] }
+    ensures answers { FollowsRule no_facts (acts.Request (asks.Publish tokens.now))
+        (Some request.now) result [] }
     ensures moves { MovesRequest (Some request.now) (Some request.now) }
-    ensures locks { (r : ℕ) → MovesLocks r (deeds_in r (acts.Request (asks.Publish tokens.now)) (kind_of_reply result) [] (Some request.now)) request.now.request.held lock.old request.now.request.held lock.new }
+    ensures locks { (r : ℕ)
+        → MovesLocks r
+        (deeds_in r (acts.Request (asks.Publish tokens.now)) (kind_of_reply result) []
+        (Some request.now)) request.now.request.held lock.old request.now.request.held
+        lock.new }
 {
     match request
         .cache
@@ -141,11 +162,16 @@ pub(crate) fn release(
 ) -> Reply
     requires none { events.old.items ≡ [] }
     requires room { 3 ≤ vec_capacity events.old }
-    ensures answers { FollowsRule no_facts (acts.Request (asks.Release reason)) (Some request.old) result events.new.items }
-    ensures moves { (s : Store) → MovesStore (Some request.old) s events.new.items (Some request.new) s }
+    ensures answers { FollowsRule no_facts (acts.Request (asks.Release reason)) (Some request.old)
+        result events.new.items }
+    ensures moves { (s : Store)
+        → MovesStore (Some request.old) s events.new.items (Some request.new) s }
     ensures keeps { KeepsKey (Some request.old) (Some request.new) }
-    ensures row { Some request.new ≡ row (acts.Request (asks.Release reason)) result events.new.items (Some request.old) }
-    ensures locks { (r : ℕ) → MovesLocks r (deeds_by r 0 (status_for (λ text. GiveUp) reason) events.new.items) request.old.request.held lock.old request.new.request.held lock.new }
+    ensures row { Some request.new
+        ≡ row (acts.Request (asks.Release reason)) result events.new.items (Some request.old) }
+    ensures locks { (r : ℕ)
+        → MovesLocks r (deeds_by r 0 (status_for (λ text. GiveUp) reason) events.new.items)
+        request.old.request.held lock.old request.new.request.held lock.new }
 {
     if !request.cache.may_release(reason) {
         return Reply::WrongCall;
@@ -166,11 +192,17 @@ pub(crate) fn uncacheable(
 ) -> Reply
     requires none { events.old.items ≡ [] }
     requires room { 3 ≤ vec_capacity events.old }
-    ensures answers { FollowsRule no_facts (acts.Request (asks.Uncacheable header.now reason)) (Some request.old) result events.new.items }
-    ensures moves { (s : Store) → MovesStore (Some request.old) s events.new.items (Some request.new) s }
+    ensures answers { FollowsRule no_facts (acts.Request (asks.Uncacheable header.now reason))
+        (Some request.old) result events.new.items }
+    ensures moves { (s : Store)
+        → MovesStore (Some request.old) s events.new.items (Some request.new) s }
     ensures keeps { KeepsKey (Some request.old) (Some request.new) }
-    ensures row { Some request.new ≡ row (acts.Request (asks.Uncacheable header.now reason)) result events.new.items (Some request.old) }
-    ensures locks { (r : ℕ) → MovesLocks r (deeds_by r 0 (status_for (λ text. GiveUp) reason) events.new.items) request.old.request.held lock.old request.new.request.held lock.new }
+    ensures row { Some request.new
+        ≡ row (acts.Request (asks.Uncacheable header.now reason)) result events.new.items
+        (Some request.old) }
+    ensures locks { (r : ℕ)
+        → MovesLocks r (deeds_by r 0 (status_for (λ text. GiveUp) reason) events.new.items)
+        request.old.request.held lock.old request.new.request.held lock.new }
 {
     if !request.cache.may_revalidate() || !request.cache.may_release(reason) {
         return Reply::WrongCall;

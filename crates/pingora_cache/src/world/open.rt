@@ -89,7 +89,8 @@ impl<P: PutPolicy> Open<P> {
     pub(crate) fn take_permit(&mut self) -> Option<WritePermit>
         ensures permit { result ≡ permit_held (Some self.old) }
         ensures plain { IfSome result (λ _. self.old.put ≡ None) }
-        ensures left { Some self.new ≡ without_permit (permit_held (Some self.old)) (Some self.old) }
+        ensures left { Some self.new
+            ≡ without_permit (permit_held (Some self.old)) (Some self.old) }
     {
         match &mut self.kind {
             Kind::Request(request) => request.take_permit(),

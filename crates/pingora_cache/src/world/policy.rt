@@ -76,10 +76,13 @@ fn by_none(
     defaults: &CacheMetaDefaults,
     now: Moment,
 ) -> Result<RespCacheable>
-    requires none { (status : ℕ) (lifetime : Option Duration) → FreshDurationByStatusFn.post defaults.now.fresh_sec_fn status lifetime → lifetime ≡ None }
+    requires none { (status : ℕ) (lifetime : Option Duration)
+        → FreshDurationByStatusFn.post defaults.now.fresh_sec_fn status lifetime
+        → lifetime ≡ None }
     requires revalidating { defaults.now.stale_while_revalidate_sec ≡ 0 }
     requires erring { defaults.now.stale_if_error_sec ≡ 0 }
-    ensures says { IfOk result (SaysByDefault (0, 0) (λ status lifetime. lifetime ≡ None) header now) }
+    ensures says { IfOk result
+        (SaysByDefault (0, 0) (λ status lifetime. lifetime ≡ None) header now) }
     ensures kind { IfErr result (λ e. e ≡ OutOfMemory) }
 {
     default_cacheable(alloc, header, defaults, now)

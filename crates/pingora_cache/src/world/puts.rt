@@ -112,12 +112,16 @@ pub(crate) fn feed<P: PutPolicy>(
 ) -> Reply
     requires none { events.old.items ≡ [] }
     requires room { 3 ≤ vec_capacity events.old }
-    ensures answers { (t : Locks) → HasSome P.says store.old (Some put.old) → Feeds (facts_in store.old t put.old.request) put.old.put result events.new.items }
+    ensures answers { (t : Locks)
+        → HasSome P.says store.old (Some put.old)
+        → Feeds (facts_in store.old t put.old.request) put.old.put result events.new.items }
     ensures other { IsOther result }
     ensures moves { MovesStore (Some put.old) store.old events.new.items (Some put.new) store.new }
     ensures keeps { KeepsKey (Some put.old) (Some put.new) }
-    ensures row { IsRow (acts.Feed bytes.now now) result events.new.items (Some put.old) (Some put.new) }
-    ensures puts { PutTurn P.says (acts.Feed bytes.now now) result events.new.items (Some put.old) (Some put.new) }
+    ensures row { IsRow (acts.Feed bytes.now now) result events.new.items (Some put.old)
+        (Some put.new) }
+    ensures puts { PutTurn P.says (acts.Feed bytes.now now) result events.new.items (Some put.old)
+        (Some put.new) }
     ensures quiet { AreOfNoLock events.new.items }
 {
     feed_in(&mut put.ctx, store, events, bytes, now)
@@ -134,12 +138,19 @@ fn feed_in<P: PutPolicy>(
 ) -> Reply
     requires none { events.old.items ≡ [] }
     requires room { 3 ≤ vec_capacity events.old }
-    ensures answers { (t : Locks) → HasSome P.says store.old (Some (ongoing_put (taking ctx.old))) → Feeds (facts_in store.old t (ongoing_put (taking ctx.old)).request) (Some (taking ctx.old)) result events.new.items }
+    ensures answers { (t : Locks)
+        → HasSome P.says store.old (Some (ongoing_put (taking ctx.old)))
+        → Feeds (facts_in store.old t (ongoing_put (taking ctx.old)).request)
+        (Some (taking ctx.old)) result events.new.items }
     ensures other { IsOther result }
-    ensures moves { MovesStore (Some (ongoing_put (taking ctx.old))) store.old events.new.items (Some (ongoing_put (taking ctx.new))) store.new }
-    ensures keeps { KeepsKey (Some (ongoing_put (taking ctx.old))) (Some (ongoing_put (taking ctx.new))) }
-    ensures row { IsRow (acts.Feed bytes.now now) result events.new.items (Some (ongoing_put (taking ctx.old))) (Some (ongoing_put (taking ctx.new))) }
-    ensures puts { PutTurn P.says (acts.Feed bytes.now now) result events.new.items (Some (ongoing_put (taking ctx.old))) (Some (ongoing_put (taking ctx.new))) }
+    ensures moves { MovesStore (Some (ongoing_put (taking ctx.old))) store.old events.new.items
+        (Some (ongoing_put (taking ctx.new))) store.new }
+    ensures keeps { KeepsKey (Some (ongoing_put (taking ctx.old)))
+        (Some (ongoing_put (taking ctx.new))) }
+    ensures row { IsRow (acts.Feed bytes.now now) result events.new.items
+        (Some (ongoing_put (taking ctx.old))) (Some (ongoing_put (taking ctx.new))) }
+    ensures puts { PutTurn P.says (acts.Feed bytes.now now) result events.new.items
+        (Some (ongoing_put (taking ctx.old))) (Some (ongoing_put (taking ctx.new))) }
     ensures quiet { AreOfNoLock events.new.items }
 {
     let slot = ctx.key().slot();
@@ -185,7 +196,8 @@ fn note_piece(
 // Drops a write, if there is one, and adds the event of that.
 fn drop_write(writer: Option<MemMissHandler>, store: &mut MemCache, events: &mut Vec<Event>)
     requires { vec_len events.old + 1 ≤ vec_capacity events.old }
-    ensures events { events.new.items ≡ events.old.items ++ drop_of (option_map (λ w. w.number) writer) }
+    ensures events { events.new.items
+        ≡ events.old.items ++ drop_of (option_map (λ w. w.number) writer) }
     ensures store { store.new ≡ dropped_by (option_map (λ w. w.number) writer) store.old }
 {
     if let Some(writer) = writer {
@@ -218,14 +230,23 @@ pub(crate) fn close_put<M: EvictionManager, P: PutPolicy>(
 ) -> Reply
     requires none { events.old.items ≡ [] }
     requires room { 3 ≤ vec_capacity events.old }
-    ensures answers { HasSome P.says parts.old.store (Some put) → Closes (facts_in parts.old.store parts.old.lock put.request) put.put result events.new.items }
+    ensures answers { HasSome P.says parts.old.store (Some put)
+        → Closes (facts_in parts.old.store parts.old.lock put.request) put.put result
+        events.new.items }
     ensures other { IsOther result }
-    ensures moves { IsOfWorld put.request → HasSome P.says parts.old.store (Some put) → Moves (M.limits parts.old.manager) (Some put) parts.old.store (M.tracked parts.old.manager) events.new.items None parts.new.store (M.tracked parts.new.manager) }
-    ensures closes { (pieces : List Piece) (f : Option Filled) → TakenIn P.says (Some put) pieces f → ClosesBy P.says acts.Close (Some put) pieces f result }
+    ensures moves { IsOfWorld put.request
+        → HasSome P.says parts.old.store (Some put)
+        → Moves (M.limits parts.old.manager) (Some put) parts.old.store
+        (M.tracked parts.old.manager) events.new.items None parts.new.store
+        (M.tracked parts.new.manager) }
+    ensures closes { (pieces : List Piece) (f : Option Filled)
+        → TakenIn P.says (Some put) pieces f
+        → ClosesBy P.says acts.Close (Some put) pieces f result }
     ensures quiet { AreOfNoLock events.new.items }
     ensures lock { parts.new.lock ≡ parts.old.lock }
     ensures limits { M.limits parts.new.manager ≡ M.limits parts.old.manager }
-    ensures evicted { M.evicted parts.new.manager ≡ evicted_by (M.tracked parts.old.manager) (M.evicted parts.old.manager) events.new.items }
+    ensures evicted { M.evicted parts.new.manager
+        ≡ evicted_by (M.tracked parts.old.manager) (M.evicted parts.old.manager) events.new.items }
 {
     let OpenPut { ctx } = put;
     close_in(ctx, parts, events)
@@ -240,14 +261,23 @@ fn close_in<M: EvictionManager, P: PutPolicy>(
 ) -> Reply
     requires none { events.old.items ≡ [] }
     requires room { 3 ≤ vec_capacity events.old }
-    ensures answers { HasSome P.says parts.old.store (Some (ongoing_put (taking ctx))) → Closes (facts_in parts.old.store parts.old.lock (ongoing_put (taking ctx)).request) (Some (taking ctx)) result events.new.items }
+    ensures answers { HasSome P.says parts.old.store (Some (ongoing_put (taking ctx)))
+        → Closes (facts_in parts.old.store parts.old.lock (ongoing_put (taking ctx)).request)
+        (Some (taking ctx)) result events.new.items }
     ensures other { IsOther result }
-    ensures moves { IsOfWorld (ongoing_put (taking ctx)).request → HasSome P.says parts.old.store (Some (ongoing_put (taking ctx))) → Moves (M.limits parts.old.manager) (Some (ongoing_put (taking ctx))) parts.old.store (M.tracked parts.old.manager) events.new.items None parts.new.store (M.tracked parts.new.manager) }
-    ensures closes { (pieces : List Piece) (f : Option Filled) → TakenIn P.says (Some (ongoing_put (taking ctx))) pieces f → ClosesBy P.says acts.Close (Some (ongoing_put (taking ctx))) pieces f result }
+    ensures moves { IsOfWorld (ongoing_put (taking ctx)).request
+        → HasSome P.says parts.old.store (Some (ongoing_put (taking ctx)))
+        → Moves (M.limits parts.old.manager) (Some (ongoing_put (taking ctx))) parts.old.store
+        (M.tracked parts.old.manager) events.new.items None parts.new.store
+        (M.tracked parts.new.manager) }
+    ensures closes { (pieces : List Piece) (f : Option Filled)
+        → TakenIn P.says (Some (ongoing_put (taking ctx))) pieces f
+        → ClosesBy P.says acts.Close (Some (ongoing_put (taking ctx))) pieces f result }
     ensures quiet { AreOfNoLock events.new.items }
     ensures lock { parts.new.lock ≡ parts.old.lock }
     ensures limits { M.limits parts.new.manager ≡ M.limits parts.old.manager }
-    ensures evicted { M.evicted parts.new.manager ≡ evicted_by (M.tracked parts.old.manager) (M.evicted parts.old.manager) events.new.items }
+    ensures evicted { M.evicted parts.new.manager
+        ≡ evicted_by (M.tracked parts.old.manager) (M.evicted parts.old.manager) events.new.items }
 {
     let mut ctx = ctx;
     let write = write_of(&ctx);

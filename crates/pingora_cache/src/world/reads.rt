@@ -31,8 +31,10 @@ pub(crate) fn read(
 ) -> Reply
     requires none { events.old.items ≡ [] }
     requires room { 3 ≤ vec_capacity events.old }
-    ensures answers { FollowsRule (facts_in store.old (no_locks 0) request.old.request) (acts.Request asks.Read) (Some request.old) result events.new.items }
-    ensures moves { MovesStore (Some request.old) store.old events.new.items (Some request.new) store.new }
+    ensures answers { FollowsRule (facts_in store.old (no_locks 0) request.old.request)
+        (acts.Request asks.Read) (Some request.old) result events.new.items }
+    ensures moves { MovesStore (Some request.old) store.old events.new.items (Some request.new)
+        store.new }
     ensures keeps { KeepsKey (Some request.old) (Some request.new) }
     ensures row { request.new ≡ on_request (has_read events.new.items) request.old }
     ensures held { request.new.request.held ≡ request.old.request.held }
@@ -53,7 +55,8 @@ pub(crate) fn read(
 
 // The reply to a read. The bytes count as read even if copying them fails.
 fn reply_of(answer: &Poll<Option<Bytes>>) -> Reply
-    ensures reply { (result ≡ read_reply answer.now) ⊎ ((gives_piece answer.now ≡ true) × (result ≡ replies.Refused OutOfMemory)) }
+    ensures reply { (result ≡ read_reply answer.now)
+        ⊎ ((gives_piece answer.now ≡ true) × (result ≡ replies.Refused OutOfMemory)) }
     ensures other { IsOther result }
 {
     match answer {
@@ -68,10 +71,12 @@ fn reply_of(answer: &Poll<Option<Bytes>>) -> Reply
 
 /// Moves the reader to another range.
 pub(crate) fn seek(request: &mut OpenRequest, start: usize, end: Option<usize>) -> Reply
-    ensures answers { FollowsRule no_facts (acts.Request (asks.Seek start end)) (Some request.old) result [] }
+    ensures answers { FollowsRule no_facts (acts.Request (asks.Seek start end)) (Some request.old)
+        result [] }
     ensures moves { MovesRequest (Some request.old) (Some request.new) }
     ensures keeps { KeepsKey (Some request.old) (Some request.new) }
-    ensures row { Some request.new ≡ row (acts.Request (asks.Seek start end)) result [] (Some request.old) }
+    ensures row { Some request.new
+        ≡ row (acts.Request (asks.Seek start end)) result [] (Some request.old) }
     ensures held { request.new.request.held ≡ request.old.request.held }
 {
     if !request.cache.has_body_reader() {
@@ -84,7 +89,9 @@ pub(crate) fn seek(request: &mut OpenRequest, start: usize, end: Option<usize>) 
 fn seek_in(cache: &mut HttpCache<MemCache>, start: usize, end: Option<usize>) -> Reply
     requires { IsSome cache.old.reader }
     ensures reply { result ≡ seek_reply (sought_in start end cache.old.reader) }
-    ensures request { cache.new ≡ cond (is_some (sought_in start end cache.old.reader)) (with_sought start end cache.old) cache.old }
+    ensures request { cache.new
+        ≡ cond (is_some (sought_in start end cache.old.reader)) (with_sought start end cache.old)
+        cache.old }
     ensures held { cache.new.held ≡ cache.old.held }
 {
     if let Err(refused) = cache.seek(start, end) {

@@ -32,11 +32,17 @@ pub(crate) fn purge<M: EvictionManager>(
 ) -> Reply
     requires none { events.old.items ≡ [] }
     requires room { 3 ≤ vec_capacity events.old }
-    ensures answers { FollowsRule (facts_in parts.old.store parts.old.lock request.old.request) (acts.Request asks.Purge) (Some request.old) result events.new.items }
-    ensures moves { IsOfWorld request.old.request → Moves (M.limits parts.old.manager) (Some request.old) parts.old.store (M.tracked parts.old.manager) events.new.items (Some request.new) parts.new.store (M.tracked parts.new.manager) }
+    ensures answers { FollowsRule (facts_in parts.old.store parts.old.lock request.old.request)
+        (acts.Request asks.Purge) (Some request.old) result events.new.items }
+    ensures moves { IsOfWorld request.old.request
+        → Moves (M.limits parts.old.manager) (Some request.old) parts.old.store
+        (M.tracked parts.old.manager) events.new.items (Some request.new) parts.new.store
+        (M.tracked parts.new.manager) }
     ensures keeps { KeepsKey (Some request.old) (Some request.new) }
     ensures same { request.new ≡ request.old }
-    ensures locks { (r : ℕ) → MovesLocks r (deeds_by r 0 Done events.new.items) request.old.request.held parts.old.lock request.new.request.held parts.new.lock }
+    ensures locks { (r : ℕ)
+        → MovesLocks r (deeds_by r 0 Done events.new.items) request.old.request.held parts.old.lock
+        request.new.request.held parts.new.lock }
     ensures limits { M.limits parts.new.manager ≡ M.limits parts.old.manager }
     ensures evicted { M.evicted parts.new.manager ≡ M.evicted parts.old.manager }
 {
@@ -60,7 +66,8 @@ pub(crate) fn purge<M: EvictionManager>(
 fn note_removal(slot: u128, removal: Removal, events: &mut Vec<Event>) -> Reply
     requires { vec_len events.old + 2 ≤ vec_capacity events.old }
     ensures reply { result ≡ purge_reply (is_removed_by removal.outcome) }
-    ensures events { events.new.items ≡ events.old.items ++ Purge slot ∷ untracking removal.untracked }
+    ensures events { events.new.items
+        ≡ events.old.items ++ Purge slot ∷ untracking removal.untracked }
 {
     let was_there = removal.was_there();
     events.push_reserved(Event::Purge { slot });
@@ -84,11 +91,16 @@ pub(crate) fn expire<M: EvictionManager>(
 ) -> Reply
     requires none { events.old.items ≡ [] }
     requires room { 3 ≤ vec_capacity events.old }
-    ensures answers { FollowsRule (facts_in parts.old.store parts.old.lock request.old.request) (acts.Request (asks.Expire now)) (Some request.old) result events.new.items }
-    ensures moves { Moves (M.limits parts.old.manager) (Some request.old) parts.old.store (M.tracked parts.old.manager) events.new.items (Some request.new) parts.new.store (M.tracked parts.new.manager) }
+    ensures answers { FollowsRule (facts_in parts.old.store parts.old.lock request.old.request)
+        (acts.Request (asks.Expire now)) (Some request.old) result events.new.items }
+    ensures moves { Moves (M.limits parts.old.manager) (Some request.old) parts.old.store
+        (M.tracked parts.old.manager) events.new.items (Some request.new) parts.new.store
+        (M.tracked parts.new.manager) }
     ensures keeps { KeepsKey (Some request.old) (Some request.new) }
     ensures same { request.new ≡ request.old }
-    ensures locks { (r : ℕ) → MovesLocks r (deeds_by r 0 Done events.new.items) request.old.request.held parts.old.lock request.new.request.held parts.new.lock }
+    ensures locks { (r : ℕ)
+        → MovesLocks r (deeds_by r 0 Done events.new.items) request.old.request.held parts.old.lock
+        request.new.request.held parts.new.lock }
     ensures limits { M.limits parts.new.manager ≡ M.limits parts.old.manager }
     ensures evicted { M.evicted parts.new.manager ≡ M.evicted parts.old.manager }
 {

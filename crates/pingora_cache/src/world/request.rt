@@ -62,7 +62,8 @@ impl OpenRequest {
     pub(crate) fn take_permit(&mut self) -> Option<WritePermit>
         ensures permit { result ≡ permit_held (Some self.old) }
         ensures plain { self.old.put ≡ None }
-        ensures left { Some self.new ≡ without_permit (permit_held (Some self.old)) (Some self.old) }
+        ensures left { Some self.new
+            ≡ without_permit (permit_held (Some self.old)) (Some self.old) }
     {
         let Some(Locked::Write(_)) = self.cache.held() else {
             return None;
@@ -123,7 +124,8 @@ pub(crate) fn write_number(cache: &HttpCache<MemCache>) -> Option<u128>
 /// Replaces the held pair, perhaps by none. The old one is let go.
 pub(crate) fn hold(place: &mut Option<Pair>, pair: Option<Pair>, store: &mut MemCache)
     ensures place { place.new ≡ pair }
-    ensures store { store.new ≡ left_by (pair_reader (option_map (λ p. (p.0, reader_of p.1)) place.old)) store.old }
+    ensures store { store.new
+        ≡ left_by (pair_reader (option_map (λ p. (p.0, reader_of p.1)) place.old)) store.old }
 {
     if let Some((_meta, hit)) = std::mem::replace(place, pair) {
         hit.let_go(store);

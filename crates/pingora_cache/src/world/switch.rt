@@ -24,10 +24,12 @@ use pcache_store::memory::MemCache;
 
 /// Turns caching on again, with these options of the lock.
 pub(crate) fn enable(request: &mut OpenRequest, options: Option<CacheOptionOverrides>) -> Reply
-    ensures answers { FollowsRule no_facts (acts.Request (asks.Enable options)) (Some request.old) result [] }
+    ensures answers { FollowsRule no_facts (acts.Request (asks.Enable options)) (Some request.old)
+        result [] }
     ensures moves { MovesRequest (Some request.old) (Some request.new) }
     ensures keeps { KeepsKey (Some request.old) (Some request.new) }
-    ensures row { Some request.new ≡ row (acts.Request (asks.Enable options)) result [] (Some request.old) }
+    ensures row { Some request.new
+        ≡ row (acts.Request (asks.Enable options)) result [] (Some request.old) }
     ensures held { request.new.request.held ≡ request.old.request.held }
 {
     if !request.cache.phase().is_disabled() {
@@ -48,11 +50,16 @@ pub(crate) fn disable(
 ) -> Reply
     requires none { events.old.items ≡ [] }
     requires room { 3 ≤ vec_capacity events.old }
-    ensures answers { FollowsRule no_facts (acts.Request (asks.Disable reason)) (Some request.old) result events.new.items }
-    ensures moves { MovesStore (Some request.old) store.old events.new.items (Some request.new) store.new }
+    ensures answers { FollowsRule no_facts (acts.Request (asks.Disable reason)) (Some request.old)
+        result events.new.items }
+    ensures moves { MovesStore (Some request.old) store.old events.new.items (Some request.new)
+        store.new }
     ensures keeps { KeepsKey (Some request.old) (Some request.new) }
-    ensures row { Some request.new ≡ row (acts.Request (asks.Disable reason)) result events.new.items (Some request.old) }
-    ensures locks { (r : ℕ) → MovesLocks r (deeds_by r 0 (status_for (λ text. GiveUp) reason) events.new.items) request.old.request.held lock.old request.new.request.held lock.new }
+    ensures row { Some request.new
+        ≡ row (acts.Request (asks.Disable reason)) result events.new.items (Some request.old) }
+    ensures locks { (r : ℕ)
+        → MovesLocks r (deeds_by r 0 (status_for (λ text. GiveUp) reason) events.new.items)
+        request.old.request.held lock.old request.new.request.held lock.new }
 {
     if !request.cache.may_disable(reason) {
         return Reply::WrongCall;

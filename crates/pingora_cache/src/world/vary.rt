@@ -33,10 +33,12 @@ use pcache_store::memory::MemCache;
 
 /// Has the next look-up look for this variance.
 pub(crate) fn vary(request: &mut OpenRequest, variance: HashBinary) -> Reply
-    ensures answers { FollowsRule no_facts (acts.Request (asks.Vary variance)) (Some request.old) result [] }
+    ensures answers { FollowsRule no_facts (acts.Request (asks.Vary variance)) (Some request.old)
+        result [] }
     ensures moves { MovesRequest (Some request.old) (Some request.new) }
     ensures keeps { KeepsKey (Some request.old) (Some request.new) }
-    ensures row { Some request.new ≡ row (acts.Request (asks.Vary variance)) result [] (Some request.old) }
+    ensures row { Some request.new
+        ≡ row (acts.Request (asks.Vary variance)) result [] (Some request.old) }
     ensures held { request.new.request.held ≡ request.old.request.held }
 {
     if !request.cache.phase().may_look_up() {
@@ -62,11 +64,16 @@ pub(crate) fn variance(
 ) -> Reply
     requires none { events.old.items ≡ [] }
     requires room { 3 ≤ vec_capacity events.old }
-    ensures answers { FollowsRule no_facts (acts.Request (asks.Variance variance)) (Some request.old) result events.new.items }
-    ensures moves { (s : Store) → MovesStore (Some request.old) s events.new.items (Some request.new) s }
+    ensures answers { FollowsRule no_facts (acts.Request (asks.Variance variance))
+        (Some request.old) result events.new.items }
+    ensures moves { (s : Store)
+        → MovesStore (Some request.old) s events.new.items (Some request.new) s }
     ensures keeps { KeepsKey (Some request.old) (Some request.new) }
-    ensures row { Some request.new ≡ row (acts.Request (asks.Variance variance)) result events.new.items (Some request.old) }
-    ensures locks { (r : ℕ) → MovesLocks r (deeds_by r 0 Done events.new.items) request.old.request.held lock.old request.new.request.held lock.new }
+    ensures row { Some request.new
+        ≡ row (acts.Request (asks.Variance variance)) result events.new.items (Some request.old) }
+    ensures locks { (r : ℕ)
+        → MovesLocks r (deeds_by r 0 Done events.new.items) request.old.request.held lock.old
+        request.new.request.held lock.new }
 {
     if !request.cache.may_write() {
         return Reply::WrongCall;
@@ -107,11 +114,16 @@ pub(crate) fn revalidate(
     requires spare { spare.old ≡ Some (meta.now, meta.now) }
     requires none { events.old.items ≡ [] }
     requires room { 3 ≤ vec_capacity events.old }
-    ensures answers { FollowsRule (facts_in store.old lock.old request.old.request) (acts.Request (asks.Revalidate meta.now)) (Some request.old) result events.new.items }
-    ensures moves { MovesStore (Some request.old) store.old events.new.items (Some request.new) store.new }
+    ensures answers { FollowsRule (facts_in store.old lock.old request.old.request)
+        (acts.Request (asks.Revalidate meta.now)) (Some request.old) result events.new.items }
+    ensures moves { MovesStore (Some request.old) store.old events.new.items (Some request.new)
+        store.new }
     ensures keeps { KeepsKey (Some request.old) (Some request.new) }
-    ensures row { Some request.new ≡ row (acts.Request (asks.Revalidate meta.now)) result events.new.items (Some request.old) }
-    ensures locks { (r : ℕ) → MovesLocks r (deeds_by r 0 Done events.new.items) request.old.request.held lock.old request.new.request.held lock.new }
+    ensures row { Some request.new
+        ≡ row (acts.Request (asks.Revalidate meta.now)) result events.new.items (Some request.old) }
+    ensures locks { (r : ℕ)
+        → MovesLocks r (deeds_by r 0 Done events.new.items) request.old.request.held lock.old
+        request.new.request.held lock.new }
 {
     if !request.cache.may_revalidate() {
         return Reply::WrongCall;
@@ -135,11 +147,18 @@ fn renew(
     requires same { noted ≡ meta }
     requires none { events.old.items ≡ [] }
     requires room { 3 ≤ vec_capacity events.old }
-    ensures answers { Renews (facts_in store.old lock.old cache.old) meta cache.old result events.new.items }
+    ensures answers { Renews (facts_in store.old lock.old cache.old) meta cache.old result
+        events.new.items }
     ensures other { IsOther result }
     ensures request { cache.new ≡ renewed meta cache.old }
-    ensures moves { (p : Option (Meta × Reader)) (d : Option Decision) → MovesStore (Some (record { request = cache.old; pair = p; carried = d; put = None })) store.old events.new.items (Some (record { request = cache.new; pair = p; carried = d; put = None })) store.new }
-    ensures locks { (r : ℕ) → MovesLocks r (deeds_by r 0 Done events.new.items) cache.old.held lock.old cache.new.held lock.new }
+    ensures moves { (p : Option (Meta × Reader)) (d : Option Decision)
+        → MovesStore (Some (record { request = cache.old; pair = p; carried = d; put = None }))
+        store.old events.new.items
+        (Some (record { request = cache.new; pair = p; carried = d; put = None }))
+        store.new }
+    ensures locks { (r : ℕ)
+        → MovesLocks r (deeds_by r 0 Done events.new.items) cache.old.held lock.old cache.new.held
+        lock.new }
 {
     let Some(key) = cache.key() else {
         unreachable!()

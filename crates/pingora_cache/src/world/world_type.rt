@@ -97,7 +97,14 @@ impl<M: EvictionManager, P: PutPolicy> World<M, P> {
     /// `age_timeout`. The store's tables hash under the seed, on which no reply and no event
     /// depends.
     pub fn new(alloc: Global, seed: Seed, manager: M, age_timeout: Duration) -> World<M, P>
-        ensures { result ≡ record { history = []; start = M.tracked manager; limits = M.limits manager; evicted = M.evicted manager; age = as_nanos age_timeout } }
+        ensures { result
+            ≡ record {
+              history = [];
+              start = M.tracked manager;
+              limits = M.limits manager;
+              evicted = M.evicted manager;
+              age = as_nanos age_timeout;
+            } }
     {
         World {
             alloc,
@@ -146,7 +153,8 @@ impl<M: EvictionManager, P: PutPolicy> World<M, P> {
     /// The entries that the manager tracked before the first call that is no load, in no particular order;
     /// empty before that call.
     pub fn start(&self) -> &[(CacheEntryKey, usize)]
-        ensures { (map.from_entries result.now ≡ self.now.start) ⊎ ((result.now ≡ []) × (only_loads (reverse self.now.history) ≡ true)) }
+        ensures { (map.from_entries result.now ≡ self.now.start)
+            ⊎ ((result.now ≡ []) × (only_loads (reverse self.now.history) ≡ true)) }
     {
         match &self.start {
             Some(start) => start.as_slice(),
@@ -181,7 +189,8 @@ impl<M: EvictionManager, P: PutPolicy> World<M, P> {
 
     /// The manager's totals.
     pub fn totals(&self) -> Totals
-        ensures weight { result.weight ≡ min (weight (tracked self.now.start (events_in self.now))) (2 ^ 64 - 1) }
+        ensures weight { result.weight
+            ≡ min (weight (tracked self.now.start (events_in self.now))) (2 ^ 64 - 1) }
         ensures items { result.items ≡ map.len (tracked self.now.start (events_in self.now)) }
         ensures evicted_weight { result.evicted_weight ≡ self.now.evicted.weight }
         ensures evicted_items { result.evicted_items ≡ self.now.evicted.count }
@@ -331,7 +340,8 @@ impl<M: SavedManager, P: PutPolicy> World<M, P> {
     /// temporary name, which ends in the suffix, and then renamed. Fails when memory for the entry
     /// runs out, and then saves and records nothing.
     pub fn save<R: Files>(&mut self, files: &R, dir: &str, suffix: u32) -> Result<Reply>
-        ensures ok { IfOk result (λ reply. Adds self.old (record { request = 0; act = acts.Files Save }) reply self.new) }
+        ensures ok { IfOk result (λ reply.
+            Adds self.old (record { request = 0; act = acts.Files Save }) reply self.new) }
         ensures replies { IfOk result (λ reply. IsFilesReply Save reply) }
         ensures legal { HasLegal self.new }
         ensures puts { FollowPolicy P.says (reverse self.new.history) }
@@ -358,8 +368,16 @@ impl<M: SavedManager, P: PutPolicy> World<M, P> {
     /// unchanged. Nothing is evicted. The call fails when memory for the entry runs out, and then loads
     /// and records nothing.
     pub fn load<R: Files>(&mut self, files: &R, dir: &str) -> Result<Reply>
-        ensures history { IfOk result (λ reply. self.new.history ≡ self.old.history ++ record { call = record { request = 0; act = acts.Files Load }; reply = reply; events = [] } ∷ []) }
-        ensures loaded { IfOk result (λ reply. IsLoaded R.File.remaining M.file_count M.put_in self.old.start self.new.start reply) }
+        ensures history { IfOk result (λ reply. self.new.history
+            ≡ self.old.history
+            ++ record {
+              call = record { request = 0; act = acts.Files Load };
+              reply = reply;
+              events = [];
+            }
+            ∷ []) }
+        ensures loaded { IfOk result (λ reply.
+            IsLoaded R.File.remaining M.file_count M.put_in self.old.start self.new.start reply) }
         ensures limits { self.new.limits ≡ self.old.limits }
         ensures evicted { self.new.evicted ≡ self.old.evicted }
         ensures age { self.new.age ≡ self.old.age }
@@ -413,7 +431,8 @@ fn make_ready<M: EvictionManager>(
     manager: &M,
 ) -> Result<()>
     ensures same_history { history.new.items ≡ history.old.items }
-    ensures same_start { started (option_map (λ v. v.items) start.new) (M.tracked manager.now) ≡ started (option_map (λ v. v.items) start.old) (M.tracked manager.now) }
+    ensures same_start { started (option_map (λ v. v.items) start.new) (M.tracked manager.now)
+        ≡ started (option_map (λ v. v.items) start.old) (M.tracked manager.now) }
     ensures err { OnErr result (start.new ≡ start.old) }
     ensures known { OnOk result (IsSome start.new) }
     ensures room { OnOk result (vec_len history.new < vec_capacity history.new) }
@@ -457,7 +476,8 @@ fn load_if<M: SavedManager, R: Files>(
     is_early: bool,
 ) -> Reply
     ensures reply { AnswersFiles is_early Load result }
-    ensures loaded { IsLoaded R.File.remaining M.file_count M.put_in (M.tracked manager.old) (M.tracked manager.new) result }
+    ensures loaded { IsLoaded R.File.remaining M.file_count M.put_in (M.tracked manager.old)
+        (M.tracked manager.new) result }
     ensures late { is_early ≡ false → M.tracked manager.new ≡ M.tracked manager.old }
     ensures limits { M.limits manager.new ≡ M.limits manager.old }
     ensures evicted { M.evicted manager.new ≡ M.evicted manager.old }
@@ -502,7 +522,8 @@ fn fitted(alloc: Global, mut events: Vec<Event>) -> Vec<Event>
 // Adds an entry to a history that has room for it.
 fn note(alloc: Global, history: &mut Vec<Entry>, call: Call, reply: Reply, events: Vec<Event>)
     requires { vec_len history.old < vec_capacity history.old }
-    ensures { history.new.items ≡ history.old.items ++ record { call = call; reply = reply; events = events.items } ∷ [] }
+    ensures { history.new.items
+        ≡ history.old.items ++ record { call = call; reply = reply; events = events.items } ∷ [] }
 {
     history.push_reserved(Entry {
         call,

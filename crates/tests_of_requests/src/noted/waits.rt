@@ -81,7 +81,11 @@ fn look(shared: &mut Shared, request: &mut Request) -> Result<()> {
         return Ok(());
     }
     let now = Moment::from_secs(1);
-    if let Some((_meta, hit)) = request.cache_lookup(&mut shared.store, &mut shared.table, now)? {
+    if let Some((_meta, hit)) = request.cache_lookup_without_policy(
+        &mut shared.store,
+        &mut shared.table,
+        now,
+    )? {
         hit.let_go(&mut shared.store);
     }
     Ok(())

@@ -390,7 +390,7 @@ fn end_request(parts: &mut Parts, cache: &mut Request) -> Said {
 fn bypass(cache: &mut Request) -> Said {
     let may = cache.phase().may_bypass();
     if may {
-        cache.bypass();
+        cache.bypass_without_predictor();
     }
     made(may)
 }
@@ -398,7 +398,7 @@ fn bypass(cache: &mut Request) -> Said {
 fn bypass_foretold(parts: &mut Parts, cache: &mut Request) -> Said {
     let may = cache.phase().may_bypass();
     if may {
-        cache.bypass_with(&parts.predictor);
+        cache.bypass(&parts.predictor);
     }
     made(may)
 }

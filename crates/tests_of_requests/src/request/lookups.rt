@@ -37,7 +37,7 @@ fn look(parts: &mut Parts, cache: &mut Request) -> Result<Said> {
     if !cache.phase().may_look_up() {
         return Ok(word_of("wrong"));
     }
-    let it = cache.cache_lookup(&mut parts.store, &mut parts.lock, parts.now)?;
+    let it = cache.cache_lookup_without_policy(&mut parts.store, &mut parts.lock, parts.now)?;
     Ok(found(parts, it))
 }
 
@@ -56,7 +56,7 @@ fn look_with_policy(parts: &mut Parts, cache: &mut Request) -> Result<Said> {
     if !cache.phase().may_look_up() {
         return Ok(word_of("wrong"));
     }
-    let it = cache.cache_lookup_with(
+    let it = cache.cache_lookup(
         &mut parts.store,
         &mut parts.lock,
         &mut parts.policy,
@@ -71,7 +71,7 @@ fn look_deferred(parts: &mut Parts, cache: &mut Request) -> Result<Said> {
         return Ok(word_of("wrong"));
     }
     let mut policy = Decision::Defer { observed: 7 };
-    let it = cache.cache_lookup_with(&mut parts.store, &mut parts.lock, &mut policy, parts.now)?;
+    let it = cache.cache_lookup(&mut parts.store, &mut parts.lock, &mut policy, parts.now)?;
     Ok(found(parts, it))
 }
 
@@ -100,7 +100,7 @@ fn take(parts: &mut Parts, cache: &mut Request, status: HitStatus) -> Result<Sai
     if !cache.phase().may_look_up() {
         return Ok(word_of("wrong"));
     }
-    let found = cache.cache_lookup(&mut parts.store, &mut parts.lock, parts.now)?;
+    let found = cache.cache_lookup_without_policy(&mut parts.store, &mut parts.lock, parts.now)?;
     let Some((meta, hit)) = found else {
         return Ok(word_of("none"));
     };

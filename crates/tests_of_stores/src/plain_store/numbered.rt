@@ -62,7 +62,11 @@ impl PlainWrites {
     pub fn begin(&mut self, draft: PlainWrite) -> Result<()>
         requires { self.old.next < 2 ^ 64 }
         ensures unused { map.get self.old.writes self.old.next ≡ None }
-        ensures ok { OnOk result (self.new ≡ record { writes = map.insert self.old.writes self.old.next draft; next = self.old.next + 1 }) }
+        ensures ok { OnOk result (self.new
+            ≡ record {
+              writes = map.insert self.old.writes self.old.next draft;
+              next = self.old.next + 1;
+            }) }
         ensures kind { IfErr result (λ e. e ≡ OutOfMemory) }
         ensures err { OnErr result (self.new ≡ self.old) }
     {
@@ -74,7 +78,11 @@ impl PlainWrites {
     /// Undoes the begin of the last write.
     pub fn take_back(&mut self)
         requires { 0 < self.old.next }
-        ensures { self.new ≡ record { writes = map.remove self.old.writes (self.old.next - 1); next = self.old.next - 1 } }
+        ensures { self.new
+            ≡ record {
+              writes = map.remove self.old.writes (self.old.next - 1);
+              next = self.old.next - 1;
+            } }
     {
         self.next -= 1;
         self.writes.remove(self.next);
@@ -82,7 +90,11 @@ impl PlainWrites {
 
     /// Adds bytes to a write.
     pub fn write(&mut self, number: u128, bytes: &Bytes, eof: bool) -> Result<()>
-        ensures ok { OnOk result (self.new ≡ record self.old { writes = wrote_on self.old.writes number bytes.now eof (map.get self.old.writes number) }) }
+        ensures ok { OnOk result (self.new
+            ≡ record self.old {
+              writes = wrote_on self.old.writes number bytes.now eof
+                  (map.get self.old.writes number);
+            }) }
         ensures kind { IfErr result (λ e. e ≡ OutOfMemory) }
         ensures err { OnErr result (self.new ≡ self.old) }
     {
@@ -91,8 +103,13 @@ impl PlainWrites {
 
     /// One more reader of a write, and its meta.
     pub fn join(&mut self, alloc: Global, number: u128) -> Result<Option<CacheMeta>>
-        ensures meta { IfOk result (λ m. m ≡ option_map (λ w. w.meta) (map.get self.old.writes number)) }
-        ensures ok { OnOk result (self.new ≡ record self.old { writes = followed_on self.old.writes number (map.get self.old.writes number) }) }
+        ensures meta { IfOk result (λ m.
+            m ≡ option_map (λ w. w.meta) (map.get self.old.writes number)) }
+        ensures ok { OnOk result (self.new
+            ≡ record self.old {
+              writes = followed_on self.old.writes number
+                  (map.get self.old.writes number);
+            }) }
         ensures something { OnErr result (IsSome (map.get self.old.writes number)) }
         ensures kind { IfErr result (λ e. e ≡ OutOfMemory) }
         ensures err { OnErr result (self.new ≡ self.old) }
@@ -102,14 +119,22 @@ impl PlainWrites {
 
     /// One reader less.
     pub fn leave(&mut self, number: u128)
-        ensures { self.new ≡ record self.old { writes = left_on self.old.writes number (map.get self.old.writes number) } }
+        ensures { self.new
+            ≡ record self.old {
+              writes = left_on self.old.writes number
+                  (map.get self.old.writes number);
+            } }
     {
         leave(&mut self.writes, number);
     }
 
     /// A write whose handler is gone.
     pub fn land(&mut self, number: u128)
-        ensures { self.new ≡ record self.old { writes = grounded_on self.old.writes number (map.get self.old.writes number) } }
+        ensures { self.new
+            ≡ record self.old {
+              writes = grounded_on self.old.writes number
+                  (map.get self.old.writes number);
+            } }
     {
         land(&mut self.writes, number);
     }

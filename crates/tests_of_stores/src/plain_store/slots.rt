@@ -81,7 +81,8 @@ impl PlainSlot {
     }
 
     fn store(&mut self, number: u128, body: PlainBody)
-        ensures { self.new ≡ record { body = Some body; untouched = map.remove self.old.untouched number } }
+        ensures { self.new
+            ≡ record { body = Some body; untouched = map.remove self.old.untouched number } }
     {
         self.untouched.remove(number);
         self.body = Some(body);
@@ -100,7 +101,8 @@ impl PlainSlot {
 
     fn expire(&mut self, alloc: Global, now: Moment) -> Result<bool>
         ensures there { IfOk result (λ b. b ≡ is_some self.old.body) }
-        ensures slot { OnOk result (self.new ≡ with_meta (meta_of.expired_at now) self.old self.old.body) }
+        ensures slot { OnOk result (self.new
+            ≡ with_meta (meta_of.expired_at now) self.old self.old.body) }
         ensures something { OnErr result (is_some self.old.body ≡ true) }
         ensures kind { IfErr result (λ e. e ≡ OutOfMemory) }
         ensures err { OnErr result (self.new ≡ self.old) }
@@ -169,7 +171,8 @@ pub fn set_meta(slots: &mut Table<PlainSlot>, key: u128, meta: SpelledMeta) -> b
 /// Ends the freshness of the complete body, and returns whether there is one.
 pub fn expire(slots: &mut Table<PlainSlot>, alloc: Global, key: u128, now: Moment) -> Result<bool>
     ensures there { IfOk result (λ b. b ≡ is_some (complete_body (map.get slots.old key))) }
-    ensures slots { OnOk result (slots.new ≡ meta_changed_on (meta_of.expired_at now) slots.old key (map.get slots.old key)) }
+    ensures slots { OnOk result (slots.new
+        ≡ meta_changed_on (meta_of.expired_at now) slots.old key (map.get slots.old key)) }
     ensures something { OnErr result (is_some (complete_body (map.get slots.old key)) ≡ true) }
     ensures kind { IfErr result (λ e. e ≡ OutOfMemory) }
     ensures err { OnErr result (slots.new ≡ slots.old) }

@@ -102,7 +102,8 @@ impl PlainWrite {
 
     /// The write as a complete body.
     pub fn to_body(&self, alloc: Global) -> Result<PlainBody>
-        ensures ok { IfOk result (λ b. b ≡ record { meta = self.now.meta; bytes = self.now.bytes }) }
+        ensures ok { IfOk result (λ b.
+            b ≡ record { meta = self.now.meta; bytes = self.now.bytes }) }
         ensures kind { IfErr result (λ e. e ≡ OutOfMemory) }
     {
         let meta = self.meta.copied(alloc)?;
@@ -111,7 +112,8 @@ impl PlainWrite {
     }
 
     fn write(&mut self, bytes: &Bytes, eof: bool) -> Result<()>
-        ensures ok { OnOk result (self.new ≡ record self.old { bytes = self.old.bytes ++ bytes.now; told = eof }) }
+        ensures ok { OnOk result (self.new
+            ≡ record self.old { bytes = self.old.bytes ++ bytes.now; told = eof }) }
         ensures kind { IfErr result (λ e. e ≡ OutOfMemory) }
         ensures err { OnErr result (self.new ≡ self.old) }
     {
@@ -149,7 +151,8 @@ impl PlainWrite {
 
 /// More bytes of a write.
 pub fn write(writes: &mut Table<PlainWrite>, number: u128, bytes: &Bytes, eof: bool) -> Result<()>
-    ensures ok { OnOk result (writes.new ≡ wrote_on writes.old number bytes.now eof (map.get writes.old number)) }
+    ensures ok { OnOk result (writes.new
+        ≡ wrote_on writes.old number bytes.now eof (map.get writes.old number)) }
     ensures kind { IfErr result (λ e. e ≡ OutOfMemory) }
     ensures err { OnErr result (writes.new ≡ writes.old) }
 {
@@ -166,7 +169,8 @@ pub fn join(
     number: u128,
 ) -> Result<Option<CacheMeta>>
     ensures meta { IfOk result (λ m. m ≡ option_map (λ w. w.meta) (map.get writes.old number)) }
-    ensures ok { OnOk result (writes.new ≡ followed_on writes.old number (map.get writes.old number)) }
+    ensures ok { OnOk result (writes.new
+        ≡ followed_on writes.old number (map.get writes.old number)) }
     ensures something { OnErr result (IsSome (map.get writes.old number)) }
     ensures kind { IfErr result (λ e. e ≡ OutOfMemory) }
     ensures err { OnErr result (writes.new ≡ writes.old) }
