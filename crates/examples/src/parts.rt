@@ -49,11 +49,12 @@ pub fn request_for(alloc: Global, path: &str) -> Result<Request>
     let primary = path.as_bytes().to_vec(alloc)?;
     let key = pingora_cache::CacheKey::new(primary, String::new(alloc));
     let mut request = HttpCache::new(alloc);
-    request.enable(InUse {
+    let uses = InUse {
         eviction: true,
         predictor: false,
         lock: true,
-    });
+    };
+    request.enable(uses, None);
     request.set_cache_key(key);
     Ok(request)
 }

@@ -12,12 +12,12 @@ use pcache_store::memory::MemCache;
 use pcache_store::storage::HandleMiss;
 
 impl<M: EvictionManager, K> Cache<M, K> {
-    ghost use Rattle.std.specs.Prelude.{◌≡◌, ◌⊎◌, true, IfOk, IfErr, OnOk, OnErr, None, Some};
+    ghost use Rattle.std.specs.Prelude.{◌≡◌, ◌⊎◌, true, IfOk, IfErr, OnOk, OnErr};
     ghost use Rattle.pcache_base.specs.declared.error.ErrorType.TheVariants.{OutOfMemory};
     ghost use Rattle.pcache_lock.specs.declared.lock.status.LockStatus.TheVariants.{Done};
     ghost use Rattle.pcache_request.specs.Finishing.{after_finish};
     ghost use Rattle.pcache_request.specs.Phases.{IsFilling};
-    ghost use Rattle.pcache_request.specs.Requests.{MayWrite, begun_for, settled, store_writing, writing};
+    ghost use Rattle.pcache_request.specs.Requests.{FailsToBegin, MayWrite, settled, store_begun, write_begun};
     ghost use Rattle.pcache_request.specs.WriteEnds.{Ends, EndsAs, evicted_after, finishes_of};
     ghost use Rattle.pcache_store.specs.Finishes.{created};
     ghost use Rattle.pcache_store.specs.Readers.{in_memory};
@@ -29,27 +29,13 @@ impl<M: EvictionManager, K> Cache<M, K> {
     pub fn set_miss_handler(&mut self, request: &mut CacheRequest<K>) -> Result<()>
         requires { MayWrite request.old.cache }
         ensures request { OnOk result (request.new.cache
-            ≡ writing true self.old.store.next (Some self.old.store.next)
-            (begun_for request.old.cache.key request.old.cache.meta self.old.store)
-            request.old.cache) }
+            ≡ write_begun true true self.old.store request.old.cache) }
         ensures store { OnOk result (self.new.store
-            ≡ store_writing true self.old.store.next request.old.cache self.old.store) }
+            ≡ store_begun true self.old.store request.old.cache) }
         ensures table { OnOk result (self.new.locks
             ≡ settled Done request.old.cache.held self.old.locks) }
-        ensures err { IfErr result (λ e. ((request.new.cache ≡ request.old.cache)
-            × (self.new.store ≡ self.old.store)
-            × (self.new.locks ≡ self.old.locks)
-            × MayFailWrite self.old.store e)
-            ⊎ ((request.new.cache
-            ≡ record request.old.cache {
-              write = Some self.old.store.next;
-              entry = Some self.old.store.next;
-              held = None;
-            })
-            × (self.new.store
-            ≡ begun_for request.old.cache.key request.old.cache.meta self.old.store)
-            × (self.new.locks ≡ settled Done request.old.cache.held self.old.locks)
-            × (e ≡ OutOfMemory))) }
+        ensures err { IfErr result (λ e. FailsToBegin true self.old.store self.old.locks
+            request.old.cache e self.new.store self.new.locks request.new.cache) }
         ensures kind { IfErr result (λ e. (e ≡ OutOfMemory) ⊎ MayFailWrite self.old.store e) }
         ensures phase { request.new.cache.phase ≡ request.old.cache.phase }
         ensures own { request.old.cache.uses.eviction ≡ true

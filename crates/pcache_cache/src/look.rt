@@ -28,9 +28,9 @@ impl<M: EvictionManager, K> Cache<M, K> {
     ghost use Rattle.pcache_store.specs.Readers.{reader_of};
     ghost use Rattle.pcache_store.specs.Store.{gives_piece, left, read_of, reader_after, write_read};
 
-    /// `HttpCache::cache_lookup_without_policy`: what the store has for the request's key, unless it is hidden; if nothing is handed on, the
-    /// key's lock is asked for. Requires a key that was set, or a stale body that was found. A pair that is handed on has to be
-    /// taken by `cache_found` or let go.
+    /// `HttpCache::cache_lookup_without_policy`: what the store has for the request's key, unless it is hidden; if nothing is
+    /// handed on, the key's lock is asked for. No policy is asked. A pair that is handed on has to be taken by `cache_found` or
+    /// let go. Requires the phase CacheKey or Stale; ask `phase().may_look_up()` of the request.
     #[tactic(auto, using(crate::proofs::Own::looked_phase, crate::proofs::Own::looked_uses))]
     pub fn cache_lookup_without_policy(
         &mut self,
@@ -64,7 +64,8 @@ impl<M: EvictionManager, K> Cache<M, K> {
             .cache_lookup_without_policy(&mut self.store, &mut self.lock, now)
     }
 
-    /// `HttpCache::cache_lookup`: as `cache_lookup_without_policy`, but if the store has nothing, a policy in use is asked first.
+    /// `HttpCache::cache_lookup`: as `cache_lookup_without_policy`, but if the store has nothing, a policy in use is asked
+    /// first.
     /// Requires the phase CacheKey or Stale; ask `phase().may_look_up()` of the request.
     pub fn cache_lookup<A: AdmissionPolicy>(
         &mut self,

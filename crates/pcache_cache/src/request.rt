@@ -27,11 +27,12 @@ impl<K> CacheRequest<K> {
             new_request }
     {
         let mut cache = HttpCache::new(alloc);
-        cache.enable(InUse {
+        let uses = InUse {
             eviction: true,
             predictor: false,
             lock: true,
-        });
+        };
+        cache.enable(uses, None);
         CacheRequest {
             cache,
             of: PhantomData,

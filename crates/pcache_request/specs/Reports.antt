@@ -8,6 +8,8 @@ use Rattle.pcache_evict.specs.declared.eviction.entry_key.CacheEntryKey.{CacheEn
 use Rattle.pcache_lock.specs.Locks.{Locks, lock_given, holder, is_permit, number_of_lock}
 use Rattle.pcache_lock.specs.declared.lock.permit.Locked.{Locked}
 use Rattle.pcache_lock.specs.declared.lock.status.LockStatus.{LockStatus}
+use Rattle.pcache_evict.specs.Tracked.{Tracked, added}
+use Rattle.pcache_store.specs.Purge.{entry_read}
 use Rattle.pcache_store.specs.Store.{Reader, reader_weight}
 use Rattle.pcache_store.specs.declared.storage.PurgeOutcome.{PurgeOutcome}
 use Rattle.pcache_store.specs.declared.storage.PurgeOutcome.TheVariants.{NotFound, Purged, Expired}
@@ -32,9 +34,21 @@ asked_with stale t k h = record { given = name_of (lock_given t stale (holder t 
 abbrev pub asked_by_found : HitStatus → Locks → Request → Option AskedLock
 asked_by_found s t r = cond (asks_for_hit s r) (option_map (λ k. asked_with (asks_as_stale s r.phase) t k r.held) r.key) None
 
+-- the access of a key's hit, in a storage where entries may have numbers
+abbrev pub access_of : Bool → Key → Reader → Access
+access_of numbers k h = record { entry = entry_of k (entry_read numbers h); weight = reader_weight h }
+
+-- the tracked entries after an access
+abbrev pub noted_in : Tracked → Access → Tracked
+noted_in m a = added m a.entry a.weight
+
 -- the access of a found hit that counts
 abbrev pub access_by_found : HitStatus → Reader → Option ℕ → Request → Option Access
 access_by_found s h id r = cond (counts_found s h r) (option_map (λ k. record { entry = entry_of k id; weight = reader_weight h }) r.key) None
+
+-- the same by a reader of a storage where entries may have numbers
+abbrev pub access_by_hit : Bool → HitStatus → Reader → Request → Option Access
+access_by_hit numbers s h r = access_by_found s h (entry_read numbers h) r
 
 -- the entry of a body that was stored and not withdrawn
 abbrev pub entry_stored : Option Key → Option ℕ → WriteEnd → Option CacheEntryKey

@@ -1,11 +1,13 @@
 -- What a request is, and the rows of its phase table: how each call changes the request, the store, the lock table
 -- and the tracked entries (own, after the phases of pingora-cache).
-use Rattle.std.specs.Prelude.{ℕ, ◌≡◌, ◌&&◌, List, Bool, true, false, not, Option, Some, None, cond, IsSome, is_some, option_map}
+use Rattle.std.specs.Prelude.{ℕ, ◌≡◌, ◌&&◌, ◌⊎◌, List, Bool, true, false, not, Option, Some, None, cond, IsSome, is_some, option_map}
 use Rattle.std.specs.FinMap.{remove}
 use Rattle.pcache_base.specs.Key.{Key, slot}
 use Rattle.pcache_base.specs.CompactKey.{compact_of}
 use Rattle.pcache_base.specs.declared.key.CompactCacheKey.{CompactCacheKey}
 use Rattle.pcache_meta.specs.Meta.{Meta, internal_changed, provenance_of}
+use Rattle.pcache_base.specs.declared.error.ErrorType.{ErrorType}
+use Rattle.pcache_base.specs.declared.error.ErrorType.TheVariants.{OutOfMemory}
 use Rattle.pcache_base.specs.declared.reason.NoCacheReason.{NoCacheReason}
 use Rattle.pcache_base.specs.declared.reason.NoCacheReason.TheVariants as reason
 use Rattle.pcache_evict.specs.declared.eviction.entry_key.CacheEntryKey.{CacheEntryKey}
@@ -15,7 +17,10 @@ use Rattle.pcache_lock.specs.Locks.{Locks, lock_given, holder, after_request, le
 use Rattle.pcache_lock.specs.declared.lock.permit.Locked.{Locked}
 use Rattle.pcache_lock.specs.declared.lock.permit.Locked.TheVariants.{Write, Read}
 use Rattle.pcache_lock.specs.declared.lock.status.LockStatus.{LockStatus}
+use Rattle.pcache_lock.specs.declared.lock.status.LockStatus.TheVariants.{Done}
 use Rattle.pcache_put.specs.Counted.{Counted}
+use Rattle.pcache_store.specs.Purge.{entry_given, entry_read, expire_outcome, purge_outcome}
+use Rattle.pcache_store.specs.Refusals.{MayFailWrite}
 use Rattle.pcache_store.specs.Store.{Store, Reader, find, find_write, followed, left, begun, dropped, counts_access, reader_weight}
 use Rattle.pcache_store.specs.declared.storage.PurgeOutcome.{PurgeOutcome}
 use Rattle.pcache_store.specs.declared.storage.PurgeOutcome.TheVariants.{NotFound, Purged, Expired}
@@ -175,9 +180,13 @@ found_row s m h t r = placed s m h (locked_found s t r)
 abbrev pub store_found : HitStatus → Reader → Request → Store → Store
 store_found s h r st = left_by r.reader (cond (is_treated_as_miss s) (left st h) st)
 
--- an access is recorded for a hit that counts as accessed and is not treated as a miss
+-- a hit counts if it counts as accessed and is not treated as a miss
+abbrev pub counts_hit : HitStatus → Reader → Bool
+counts_hit s h = counts_access h && not (is_treated_as_miss s)
+
+-- an access is recorded for a hit that counts, if the manager is in use
 abbrev pub counts_found : HitStatus → Reader → Request → Bool
-counts_found s h r = r.uses.eviction && (counts_access h && not (is_treated_as_miss s))
+counts_found s h r = r.uses.eviction && counts_hit s h
 
 -- the tracked entries after that: an access is recorded for a hit that counts
 abbrev pub tracked_found_at : HitStatus → Reader → Option ℕ → Request → Option Key → Tracked → Tracked
@@ -186,6 +195,10 @@ tracked_found_at s h id r (Some k) m = cond (counts_found s h r) (added m (entry
 
 abbrev pub tracked_found : HitStatus → Reader → Option ℕ → Request → Tracked → Tracked
 tracked_found s h id r m = tracked_found_at s h id r r.key m
+
+-- the same by a reader of a storage where entries may have numbers
+abbrev pub tracked_by_hit : Bool → HitStatus → Reader → Request → Tracked → Tracked
+tracked_by_hit numbers s h r m = tracked_found s h (entry_read numbers h) r m
 
 -- the reader is ended
 abbrev pub without_reader : Request → Request
@@ -262,6 +275,28 @@ store_writing streams n r s =
     let t = begun_for r.key r.meta s in
     cond streams (left_by r.reader (followed t (followed_for r.key n t))) t
 
+-- the request after it began its write in this store, which may be read while it is made, and where entries may have numbers
+abbrev pub write_begun : Bool → Bool → Store → Request → Request
+write_begun streams numbers s r = writing streams s.next (entry_given numbers s.next) (begun_for r.key r.meta s) r
+
+-- the store after it
+abbrev pub store_begun : Bool → Store → Request → Store
+store_begun streams s r = store_writing streams s.next r s
+
+-- what a reader that follows the write finds
+abbrev pub begin_followed : Store → Request → Option (Meta × Reader)
+begin_followed s r = followed_for r.key s.next (begun_for r.key r.meta s)
+
+-- the request after its write began, if its reader could not follow it: the permit is released
+abbrev pub begun_unfollowed : Bool → Store → Request → Request
+begun_unfollowed numbers s r = record r { write = Some s.next; entry = entry_given numbers s.next; held = None }
+
+-- a begin that fails with this error: nothing is changed, or the write began and no reader follows it
+abbrev pub FailsToBegin : Bool → Store → Locks → Request → ErrorType → Store → Locks → Request → Type 0
+FailsToBegin numbers s t r e s' t' r' =
+    ((r' ≡ r) × (s' ≡ s) × (t' ≡ t) × MayFailWrite s e)
+    ⊎ ((r' ≡ begun_unfollowed numbers s r) × (s' ≡ begun_for r.key r.meta s) × (t' ≡ settled Done r.held t) × (e ≡ OutOfMemory))
+
 -- the tracked entries after a removal: without the removed entry
 abbrev pub tracked_gone : Bool → CompactCacheKey → PurgeOutcome → Tracked → Tracked
 tracked_gone uses k NotFound m = m
@@ -278,6 +313,13 @@ is_removed_by Expired = true
 abbrev pub tracked_gone_for : Bool → Option Key → PurgeOutcome → Tracked → Tracked
 tracked_gone_for uses None o m = m
 tracked_gone_for uses (Some k) o m = tracked_gone uses (compact_of k) o m
+
+-- the tracked entries after a purge of the request's key, and after an expiry
+abbrev pub tracked_purged : Bool → Request → Store → Tracked → Tracked
+tracked_purged numbers r s m = tracked_gone_for r.uses.eviction r.key (purge_outcome numbers s (option_map slot r.key)) m
+
+abbrev pub tracked_expired : Request → Store → Tracked → Tracked
+tracked_expired r s m = tracked_gone_for r.uses.eviction r.key (expire_outcome s (option_map slot r.key)) m
 
 -- the request after a look-up took so many nanoseconds
 abbrev pub with_look_up_time : ℕ → Request → Request

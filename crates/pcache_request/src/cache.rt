@@ -266,12 +266,12 @@ impl<S: Storage> HttpCache<S> {
     ghost use Rattle.pcache_base.specs.Key.{Key, slot};
     ghost use Rattle.pcache_base.specs.declared.error.ErrorType.TheVariants.{InternalError, OutOfMemory};
     ghost use Rattle.pcache_lock.specs.declared.lock.status.LockStatus.TheVariants.{Done};
-    ghost use Rattle.pcache_store.specs.Purge.{entry_given};
     ghost use Rattle.pcache_store.specs.Store.{gives_piece, read_of, reader_after, sought};
     ghost use Rattle.std.specs.Option.{option_copied, option_and_then};
     ghost use Rattle.pcache_store.specs.Refusals.{MayFailWrite};
+    ghost use Rattle.pcache_request.specs.LockUse.{enabled_waiting};
     ghost use Rattle.pcache_request.specs.Phases.{IsDisabled, MayTakeKey, MayMiss, IsStale, IsFilling, IsReading, MayFinishHit, is_filling};
-    ghost use Rattle.pcache_request.specs.Requests.{HasKey, HoldsNothing, Request, new_request, enabled_with, with_key, missed, without_reader, MayTakeMeta, with_meta, MayWrite, writing, store_writing, begun_for, followed_for, settled, left_by, dropped_by, let_go_by};
+    ghost use Rattle.pcache_request.specs.Requests.{HasKey, HoldsNothing, Request, new_request, with_key, missed, without_reader, MayTakeMeta, with_meta, MayWrite, FailsToBegin, begin_followed, begun_for, begun_unfollowed, store_begun, write_begun, settled, left_by, dropped_by, let_go_by};
     ghost use Rattle.pcache_request.specs.Reports.{name_of};
     ghost use Rattle.pcache_request.specs.contracts.cache.HttpCache.{the_row};
 
@@ -304,19 +304,19 @@ impl<S: Storage> HttpCache<S> {
         }
     }
 
-    /// Turns caching on, with these parts in use, and with no options of its lock (`enable_with` takes them). All else
-    /// but the digest is as in a new request. A disabled request holds nothing, so nothing is lost.
+    /// Turns caching on, with these parts in use and these options of its lock. All else but the digest is as in a new
+    /// request. A disabled request holds nothing, so nothing is lost.
     /// Requires the phase Disabled; ask `phase().is_disabled()`.
-    pub fn enable(&mut self, uses: InUse)
+    pub fn enable(&mut self, uses: InUse, overrides: Option<CacheOptionOverrides>)
         requires { IsDisabled self.old.phase }
-        ensures request { self.new ≡ enabled_with uses self.old }
+        ensures request { self.new ≡ enabled_waiting uses overrides self.old }
         ensures held { HoldsNothing self.old }
     {
         self.phase = CachePhase::Uninit;
         self.uses = uses;
         self.key = None;
         self.meta = None;
-        self.lock_ctx = LockCtx::new();
+        self.lock_ctx = LockCtx::of(uses.lock, overrides);
         self.waits_since = None;
         self.valid_after = None;
         self.stale_variance = None;
@@ -546,33 +546,19 @@ impl<S: Storage> HttpCache<S> {
     pub fn set_miss_handler<L: CacheKeyLock>(&mut self, storage: &mut S, lock: &mut L) -> Result<()>
         requires { MayWrite self.old }
         ensures request { OnOk result (self.new
-            ≡ writing (S.streams storage.old) (S.state storage.old).next
-            (entry_given S.guarantees.numbers (S.state storage.old).next)
-            (begun_for self.old.key self.old.meta (S.state storage.old)) self.old) }
+            ≡ write_begun (S.streams storage.old) S.guarantees.numbers (S.state storage.old)
+            self.old) }
         ensures store { OnOk result (S.state storage.new
-            ≡ store_writing (S.streams storage.old) (S.state storage.old).next self.old
-            (S.state storage.old)) }
+            ≡ store_begun (S.streams storage.old) (S.state storage.old) self.old) }
         ensures table { OnOk result (L.table lock.new
             ≡ cond (S.streams storage.old) (settled Done self.old.held (L.table lock.old))
             (L.table lock.old)) }
-        ensures err { IfErr result (λ e. ((self.new ≡ self.old)
-            × (S.state storage.new ≡ S.state storage.old)
-            × (L.table lock.new ≡ L.table lock.old)
-            × MayFailWrite (S.state storage.old) e)
-            ⊎ ((self.new
-            ≡ record self.old {
-              write = Some (S.state storage.old).next;
-              entry = entry_given S.guarantees.numbers (S.state storage.old).next;
-              held = None;
-            })
-            × (S.state storage.new ≡ begun_for self.old.key self.old.meta (S.state storage.old))
-            × (L.table lock.new ≡ settled Done self.old.held (L.table lock.old))
-            × (e ≡ OutOfMemory))) }
+        ensures err { IfErr result (λ e. FailsToBegin S.guarantees.numbers (S.state storage.old)
+            (L.table lock.old) self.old e (S.state storage.new) (L.table lock.new) self.new) }
         ensures kind { IfErr result (λ e.
             (e ≡ OutOfMemory) ⊎ MayFailWrite (S.state storage.old) e) }
         ensures something { OnErr result ((S.state storage.new ≡ S.state storage.old)
-            ⊎ IsSome (followed_for self.old.key (S.state storage.old).next
-            (begun_for self.old.key self.old.meta (S.state storage.old)))) }
+            ⊎ IsSome (begin_followed (S.state storage.old) self.old)) }
         ensures unfollowed { OnErr result ((self.new ≡ self.old) ⊎ (S.streams storage.old ≡ true)) }
     {
         self.begin_write(storage, lock)?.following
@@ -590,29 +576,22 @@ impl<S: Storage> HttpCache<S> {
         ensures released { IfOk result (λ b.
             b.released ≡ cond (S.streams storage.old) (option_map name_of self.old.held) None) }
         ensures request { IfOk result (λ b. OnOk b.following (self.new
-            ≡ writing (S.streams storage.old) (S.state storage.old).next
-            (entry_given S.guarantees.numbers (S.state storage.old).next)
-            (begun_for self.old.key self.old.meta (S.state storage.old)) self.old)) }
+            ≡ write_begun (S.streams storage.old) S.guarantees.numbers (S.state storage.old)
+            self.old)) }
         ensures store { IfOk result (λ b. OnOk b.following (S.state storage.new
-            ≡ store_writing (S.streams storage.old) (S.state storage.old).next self.old
-            (S.state storage.old))) }
+            ≡ store_begun (S.streams storage.old) (S.state storage.old) self.old)) }
         ensures table { OnOk result (L.table lock.new
             ≡ cond (S.streams storage.old) (settled Done self.old.held (L.table lock.old))
             (L.table lock.old)) }
         ensures unfollowed_streams { IfOk result (λ b.
             OnErr b.following (S.streams storage.old ≡ true)) }
         ensures unfollowed_request { IfOk result (λ b. OnErr b.following (self.new
-            ≡ record self.old {
-              write = Some (S.state storage.old).next;
-              entry = entry_given S.guarantees.numbers (S.state storage.old).next;
-              held = None;
-            })) }
+            ≡ begun_unfollowed S.guarantees.numbers (S.state storage.old) self.old)) }
         ensures unfollowed_store { IfOk result (λ b. OnErr b.following (S.state storage.new
             ≡ begun_for self.old.key self.old.meta (S.state storage.old))) }
         ensures unfollowed_kind { IfOk result (λ b. IfErr b.following (λ e. e ≡ OutOfMemory)) }
-        ensures unfollowed_something { IfOk result (λ b. OnErr b.following (IsSome (followed_for
-            self.old.key (S.state storage.old).next
-            (begun_for self.old.key self.old.meta (S.state storage.old))))) }
+        ensures unfollowed_something { IfOk result (λ b.
+            OnErr b.following (IsSome (begin_followed (S.state storage.old) self.old))) }
         ensures same_request { OnErr result (self.new ≡ self.old) }
         ensures same_store { OnErr result (S.state storage.new ≡ S.state storage.old) }
         ensures same_table { OnErr result (L.table lock.new ≡ L.table lock.old) }

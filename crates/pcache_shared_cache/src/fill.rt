@@ -8,11 +8,11 @@ use pcache_request::cache::FinishReport;
 use std::sync::Wait;
 
 impl<M: EvictionManager, K, const N: usize> SharedCache<M, K, N> {
-    ghost use Rattle.std.specs.Prelude.{◌≡◌, ◌⊎◌, true, IfOk, IfErr, OnOk, OnErr, Some};
+    ghost use Rattle.std.specs.Prelude.{◌≡◌, ◌⊎◌, true, IfOk, IfErr, OnOk, OnErr};
     ghost use Rattle.pcache_base.specs.declared.error.ErrorType.TheVariants.{InternalError, OutOfMemory};
     ghost use Rattle.pcache_request.specs.Finishing.{after_finish};
     ghost use Rattle.pcache_request.specs.Phases.{IsFilling};
-    ghost use Rattle.pcache_request.specs.Requests.{MayWrite, begun_for, writing};
+    ghost use Rattle.pcache_request.specs.Requests.{MayWrite, write_begun};
     ghost use Rattle.pcache_request.specs.WriteEnds.{Ends, EndsAs, finishes_of};
     ghost use Rattle.pcache_store.specs.Finishes.{created};
     ghost use Rattle.pcache_store.specs.Readers.{in_memory};
@@ -24,10 +24,8 @@ impl<M: EvictionManager, K, const N: usize> SharedCache<M, K, N> {
     /// `may_write` of the request.
     pub fn set_miss_handler<R: Wait>(&self, rt: &R, request: &mut SharedRequest<K, N>) -> Result<()>
         requires { MayWrite request.old.cache }
-        ensures begins { InPart self.now request.old.place (λ p. OnOk result (request.new.cache
-            ≡ writing true p.store.next (Some p.store.next)
-            (begun_for request.old.cache.key request.old.cache.meta p.store)
-            request.old.cache)) }
+        ensures begins { InPart self.now request.old.place (λ p.
+            OnOk result (request.new.cache ≡ write_begun true true p.store request.old.cache)) }
         ensures kind { InPart self.now request.old.place (λ p.
             IfErr result (λ e. (e ≡ OutOfMemory) ⊎ MayFailWrite p.store e)) }
         ensures phase { request.new.cache.phase ≡ request.old.cache.phase }

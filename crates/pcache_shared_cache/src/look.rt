@@ -28,7 +28,8 @@ impl<M: EvictionManager, K, const N: usize> SharedCache<M, K, N> {
     ghost use Rattle.pcache_shared_cache.specs.Shared.{InPart, MovesPart};
 
     /// `Cache::cache_lookup` in the request's part: what its store has for the key; if nothing is handed on, the key's lock is
-    /// asked for. A pair that is handed on has to be taken by `cache_found` or let go.
+    /// asked for. No call of a shared request takes a policy into use, so there is none to ask. A pair that is handed on has to
+    /// be taken by `cache_found` or let go.
     /// Requires the phase CacheKey or Stale; ask `phase().may_look_up()` of `cache()`.
     pub fn cache_lookup<R: Wait>(
         &self,

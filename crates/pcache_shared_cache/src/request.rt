@@ -90,7 +90,7 @@ impl<K, const N: usize> SharedRequest<K, N> {
         self.request.cache.set_cache_meta(meta);
     }
 
-    /// `HttpCache::bypass`: bypasses the cache.
+    /// `HttpCache::bypass`: bypasses the cache. No shared request uses a predictor, so there is no reason to keep.
     /// Requires the phase CacheKey; ask `phase().may_bypass()` of `cache()`.
     pub fn bypass(&mut self)
         requires { MayBypass self.old.cache.phase }

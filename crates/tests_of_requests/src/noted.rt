@@ -114,11 +114,12 @@ type Request = HttpCache<WholeStore>;
 
 fn asks(request: &mut Request, key: CacheKey, lock: bool) {
     if request.phase().is_disabled() {
-        request.enable(InUse {
+        let uses = InUse {
             eviction: true,
             predictor: false,
             lock,
-        });
+        };
+        request.enable(uses, None);
     }
     if request.phase().may_take_key() {
         request.set_cache_key(key);

@@ -1,11 +1,8 @@
 //! Taking the pair that a look-up found.
-ghost use Rattle.std.specs.Prelude.{◌≡◌, IfOk, IfErr, OnOk, OnErr, Some, None, cond, not, ◌&&◌, true, false};
+ghost use Rattle.std.specs.Prelude.{◌≡◌, IfOk, IfErr, OnOk, OnErr, Some, None, cond, true, false};
 ghost use Rattle.pcache_base.specs.declared.error.ErrorType.TheVariants.{OutOfMemory};
-ghost use Rattle.pcache_store.specs.Purge.{entry_read};
-ghost use Rattle.pcache_store.specs.Store.{counts_access, reader_weight};
-ghost use Rattle.pcache_evict.specs.Tracked.{added};
-ghost use Rattle.pcache_request.specs.Phases as phases;
-ghost use Rattle.pcache_request.specs.Requests.{entry_of, phase_found};
+ghost use Rattle.pcache_request.specs.Reports.{access_of, noted_in};
+ghost use Rattle.pcache_request.specs.Requests.{counts_hit, phase_found};
 
 use super::{Access, AskedLock, FoundReport, HttpCache, entry_for, replace_reader, take_lock_if};
 use crate::phase::{CachePhase, HitStatus};
@@ -26,28 +23,18 @@ fn note_access<S: Storage, E: EvictionManager>(
     hit: &S::Hit,
     status: HitStatus,
 ) -> Result<Option<Access>>
-    ensures access { IfOk result (λ a. a
-        ≡ cond (counts_access (S.Hit.reader hit.now) && not (phases.is_treated_as_miss status))
-        (Some (record {
-          entry = entry_of key.now
-              (entry_read S.guarantees.numbers (S.Hit.reader hit.now));
-          weight = reader_weight (S.Hit.reader hit.now);
-        })) None) }
+    ensures access { IfOk result (λ a. a ≡ cond (counts_hit status (S.Hit.reader hit.now))
+        (Some (access_of S.guarantees.numbers key.now (S.Hit.reader hit.now))) None) }
     ensures tracked { OnOk result (E.tracked eviction.new
-        ≡ cond (counts_access (S.Hit.reader hit.now) && not (phases.is_treated_as_miss status))
-        (added (E.tracked eviction.old)
-        (entry_of key.now (entry_read S.guarantees.numbers (S.Hit.reader hit.now)))
-        (reader_weight (S.Hit.reader hit.now))) (E.tracked eviction.old)) }
-    ensures unused { (counts_access (S.Hit.reader hit.now)
-        && not (phases.is_treated_as_miss status))
-        ≡ false
+        ≡ cond (counts_hit status (S.Hit.reader hit.now))
+        (noted_in (E.tracked eviction.old)
+        (access_of S.guarantees.numbers key.now (S.Hit.reader hit.now))) (E.tracked eviction.old)) }
+    ensures unused { counts_hit status (S.Hit.reader hit.now) ≡ false
         → eviction.new ≡ eviction.old }
     ensures err { OnErr result (E.tracked eviction.new ≡ E.tracked eviction.old) }
     ensures limits { E.limits eviction.new ≡ E.limits eviction.old }
     ensures evicted { E.evicted eviction.new ≡ E.evicted eviction.old }
-    ensures counts { OnErr result ((counts_access (S.Hit.reader hit.now)
-        && not (phases.is_treated_as_miss status))
-        ≡ true) }
+    ensures counts { OnErr result (counts_hit status (S.Hit.reader hit.now) ≡ true) }
     ensures kind { IfErr result (λ e. e ≡ OutOfMemory) }
 {
     if !hit.should_count_access() || status.is_treated_as_miss() {
@@ -76,11 +63,10 @@ impl<S: Storage> HttpCache<S> {
     ghost use Rattle.std.specs.Prelude.{◌≡◌, ◌⊎◌, IfOk, IfErr, OnOk, OnErr, IsTrue, false};
     ghost use Rattle.pcache_base.specs.declared.error.ErrorType.TheVariants.{OutOfMemory, NumbersExhausted};
     ghost use Rattle.pcache_lock.specs.Locks.{MayFailLock};
-    ghost use Rattle.pcache_store.specs.Purge.{entry_read};
     ghost use Rattle.pcache_store.specs.Store.{left};
     ghost use Rattle.pcache_request.specs.Phases.{MayLookUp};
-    ghost use Rattle.pcache_request.specs.Requests.{found_row, asks_for_hit, counts_found, store_found, table_found, tracked_found};
-    ghost use Rattle.pcache_request.specs.Reports.{asked_by_found, access_by_found};
+    ghost use Rattle.pcache_request.specs.Requests.{found_row, asks_for_hit, counts_found, store_found, table_found, tracked_by_hit};
+    ghost use Rattle.pcache_request.specs.Reports.{asked_by_found, access_by_hit};
 
     // Records the use of the found entry with the manager, if one is in use and the hit counts and
     // is not treated as a miss. Returns the access.
@@ -92,12 +78,10 @@ impl<S: Storage> HttpCache<S> {
         status: HitStatus,
     ) -> Result<Option<Access>>
         requires { MayLookUp self.now.phase }
-        ensures access { IfOk result (λ a. a
-            ≡ access_by_found status (S.Hit.reader hit.now)
-            (entry_read S.guarantees.numbers (S.Hit.reader hit.now)) self.now) }
+        ensures access { IfOk result (λ a.
+            a ≡ access_by_hit S.guarantees.numbers status (S.Hit.reader hit.now) self.now) }
         ensures tracked { OnOk result (E.tracked eviction.new
-            ≡ tracked_found status (S.Hit.reader hit.now)
-            (entry_read S.guarantees.numbers (S.Hit.reader hit.now)) self.now
+            ≡ tracked_by_hit S.guarantees.numbers status (S.Hit.reader hit.now) self.now
             (E.tracked eviction.old)) }
         ensures unused { counts_found status (S.Hit.reader hit.now) self.now ≡ false
             → eviction.new ≡ eviction.old }
@@ -198,8 +182,7 @@ impl<S: Storage> HttpCache<S> {
         ensures table { OnOk result (L.table lock.new
             ≡ table_found status now self.old (L.table lock.old)) }
         ensures tracked { OnOk result (E.tracked eviction.new
-            ≡ tracked_found status (S.Hit.reader hit)
-            (entry_read S.guarantees.numbers (S.Hit.reader hit)) self.old
+            ≡ tracked_by_hit S.guarantees.numbers status (S.Hit.reader hit) self.old
             (E.tracked eviction.old)) }
         ensures same_request { OnErr result (self.new ≡ self.old) }
         ensures left_store { OnErr result (S.state storage.new
@@ -207,8 +190,7 @@ impl<S: Storage> HttpCache<S> {
         ensures same_table { OnErr result (L.table lock.new ≡ L.table lock.old) }
         ensures noted { OnErr result ((E.tracked eviction.new ≡ E.tracked eviction.old)
             ⊎ (E.tracked eviction.new
-            ≡ tracked_found status (S.Hit.reader hit)
-            (entry_read S.guarantees.numbers (S.Hit.reader hit)) self.old
+            ≡ tracked_by_hit S.guarantees.numbers status (S.Hit.reader hit) self.old
             (E.tracked eviction.old))) }
         ensures stays { OnErr result ((E.tracked eviction.new ≡ E.tracked eviction.old)
             ⊎ IsTrue (asks_for_hit status self.old)) }
@@ -245,12 +227,10 @@ impl<S: Storage> HttpCache<S> {
         now: Moment,
     ) -> Result<FoundReport>
         requires { MayLookUp self.old.phase }
-        ensures access { IfOk result (λ f. f.access
-            ≡ access_by_found status (S.Hit.reader hit)
-            (entry_read S.guarantees.numbers (S.Hit.reader hit)) self.old) }
+        ensures access { IfOk result (λ f.
+            f.access ≡ access_by_hit S.guarantees.numbers status (S.Hit.reader hit) self.old) }
         ensures tracked { OnOk result (E.tracked eviction.new
-            ≡ tracked_found status (S.Hit.reader hit)
-            (entry_read S.guarantees.numbers (S.Hit.reader hit)) self.old
+            ≡ tracked_by_hit S.guarantees.numbers status (S.Hit.reader hit) self.old
             (E.tracked eviction.old)) }
         ensures asked { IfOk result (λ f.
             IfOk f.asked (λ a. a ≡ asked_by_found status (L.table lock.old) self.old)) }

@@ -3,7 +3,7 @@ ghost use Rattle.std.specs.Prelude.{◌≡◌, None, Some};
 
 use super::disable::status_for;
 use super::{HttpCache, LockName, ReleasedLock, name_of, settle};
-use crate::phase::{CachePhase, InUse};
+use crate::phase::CachePhase;
 use pcache_base::error::Result;
 use pcache_base::reason::NoCacheReason;
 use pcache_lock::lock::{CacheKeyLock, Locked, WritePermit};
@@ -44,7 +44,7 @@ impl LockCtx {
     }
 
     // The limits that are set for a lock, if it is in use.
-    fn of(is_used: bool, overrides: Option<CacheOptionOverrides>) -> LockCtx
+    pub(super) fn of(is_used: bool, overrides: Option<CacheOptionOverrides>) -> LockCtx
         ensures timeout { option_map as_nanos result.wait_timeout
             ≡ cond is_used (timeout_in overrides) None }
         ensures retries { result.max_retries ≡ cond is_used (retries_in overrides) None }
@@ -64,23 +64,11 @@ impl<S: Storage> HttpCache<S> {
     ghost use Rattle.std.specs.Duration.{as_nanos};
     ghost use Rattle.pcache_base.specs.declared.error.ErrorType.TheVariants.{OutOfMemory};
     ghost use Rattle.pcache_lock.specs.declared.lock.permit.Locked.TheVariants.{Write};
-    ghost use Rattle.pcache_request.specs.LockUse.{MaySetLock, enabled_waiting, gone_for, handed, permit_in, published_by, read_in, table_handed, unheld, with_cache_lock};
+    ghost use Rattle.pcache_request.specs.LockUse.{MaySetLock, gone_for, handed, permit_in, published_by, read_in, table_handed, unheld, with_cache_lock};
     ghost use Rattle.pcache_request.specs.Phases.{IsDisabled, IsOn};
     ghost use Rattle.pcache_request.specs.Releasing.{MayRelease, status_for};
     ghost use Rattle.pcache_request.specs.Reports.{name_of, released_as};
     ghost use Rattle.pcache_request.specs.Requests.{HoldsNothing, settled};
-
-    /// Turns caching on, with these parts in use and these options of its lock. All else but the
-    /// digest is as in a new request. A disabled request holds nothing, so nothing is lost.
-    /// Requires the phase Disabled; ask `phase().is_disabled()`.
-    pub fn enable_with(&mut self, uses: InUse, overrides: Option<CacheOptionOverrides>)
-        requires { IsDisabled self.old.phase }
-        ensures request { self.new ≡ enabled_waiting uses overrides self.old }
-        ensures held { HoldsNothing self.old }
-    {
-        self.enable(uses);
-        self.lock_ctx = LockCtx::of(uses.lock, overrides);
-    }
 
     /// Whether `set_cache_lock` may be called: the phase is CacheKey, Stale or Hit, and no lock is
     /// held.

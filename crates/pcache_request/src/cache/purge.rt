@@ -77,7 +77,7 @@ impl<S: Storage> HttpCache<S> {
     ghost use Rattle.pcache_store.specs.Purge.{purge_outcome, purged_at, expire_outcome, expired_at};
     ghost use Rattle.pcache_request.specs.Phases.{MayPurge, MaySpawnPurge};
     ghost use Rattle.pcache_request.specs.Reports.{untracked_for};
-    ghost use Rattle.pcache_request.specs.Requests.{tracked_gone_for, is_removed_by};
+    ghost use Rattle.pcache_request.specs.Requests.{is_removed_by, tracked_expired, tracked_purged};
 
     /// Removes what is stored for the key, and its entry from the manager. Returns whether anything
     /// was stored.
@@ -91,9 +91,8 @@ impl<S: Storage> HttpCache<S> {
         ensures store { OnOk result (S.state storage.new
             ≡ purged_at (S.state storage.old) (option_map slot self.old.key)) }
         ensures tracked { OnOk result (E.tracked eviction.new
-            ≡ tracked_gone_for self.old.uses.eviction self.old.key
-            (purge_outcome S.guarantees.numbers (S.state storage.old)
-            (option_map slot self.old.key)) (E.tracked eviction.old)) }
+            ≡ tracked_purged S.guarantees.numbers self.old (S.state storage.old)
+            (E.tracked eviction.old)) }
         ensures same_store { OnErr result (S.state storage.new ≡ S.state storage.old) }
         ensures same_tracked { OnErr result (E.tracked eviction.new ≡ E.tracked eviction.old) }
         ensures limits { E.limits eviction.new ≡ E.limits eviction.old }
@@ -121,9 +120,8 @@ impl<S: Storage> HttpCache<S> {
         ensures store { OnOk result (S.state storage.new
             ≡ purged_at (S.state storage.old) (option_map slot self.old.key)) }
         ensures tracked { OnOk result (E.tracked eviction.new
-            ≡ tracked_gone_for self.old.uses.eviction self.old.key
-            (purge_outcome S.guarantees.numbers (S.state storage.old)
-            (option_map slot self.old.key)) (E.tracked eviction.old)) }
+            ≡ tracked_purged S.guarantees.numbers self.old (S.state storage.old)
+            (E.tracked eviction.old)) }
         ensures same_store { OnErr result (S.state storage.new ≡ S.state storage.old) }
         ensures same_tracked { OnErr result (E.tracked eviction.new ≡ E.tracked eviction.old) }
         ensures limits { E.limits eviction.new ≡ E.limits eviction.old }
@@ -151,9 +149,8 @@ impl<S: Storage> HttpCache<S> {
         ensures store { OnOk result (S.state storage.new
             ≡ purged_at (S.state storage.old) (option_map slot self.old.key)) }
         ensures tracked { OnOk result (E.tracked eviction.new
-            ≡ tracked_gone_for self.old.uses.eviction self.old.key
-            (purge_outcome S.guarantees.numbers (S.state storage.old)
-            (option_map slot self.old.key)) (E.tracked eviction.old)) }
+            ≡ tracked_purged S.guarantees.numbers self.old (S.state storage.old)
+            (E.tracked eviction.old)) }
         ensures same_store { OnErr result (S.state storage.new ≡ S.state storage.old) }
         ensures same_tracked { OnErr result (E.tracked eviction.new ≡ E.tracked eviction.old) }
         ensures limits { E.limits eviction.new ≡ E.limits eviction.old }
@@ -181,9 +178,8 @@ impl<S: Storage> HttpCache<S> {
         ensures store { OnOk result (S.state storage.new
             ≡ purged_at (S.state storage.old) (option_map slot self.old.key)) }
         ensures tracked { OnOk result (E.tracked eviction.new
-            ≡ tracked_gone_for self.old.uses.eviction self.old.key
-            (purge_outcome S.guarantees.numbers (S.state storage.old)
-            (option_map slot self.old.key)) (E.tracked eviction.old)) }
+            ≡ tracked_purged S.guarantees.numbers self.old (S.state storage.old)
+            (E.tracked eviction.old)) }
         ensures same_store { OnErr result (S.state storage.new ≡ S.state storage.old) }
         ensures same_tracked { OnErr result (E.tracked eviction.new ≡ E.tracked eviction.old) }
         ensures limits { E.limits eviction.new ≡ E.limits eviction.old }
@@ -209,9 +205,7 @@ impl<S: Storage> HttpCache<S> {
         ensures store { OnOk result (S.state storage.new
             ≡ expired_at now (S.state storage.old) (option_map slot self.old.key)) }
         ensures tracked { OnOk result (E.tracked eviction.new
-            ≡ tracked_gone_for self.old.uses.eviction self.old.key
-            (expire_outcome (S.state storage.old) (option_map slot self.old.key))
-            (E.tracked eviction.old)) }
+            ≡ tracked_expired self.old (S.state storage.old) (E.tracked eviction.old)) }
         ensures same_store { OnErr result (S.state storage.new ≡ S.state storage.old) }
         ensures same_tracked { OnErr result (E.tracked eviction.new ≡ E.tracked eviction.old) }
         ensures limits { E.limits eviction.new ≡ E.limits eviction.old }
@@ -239,9 +233,7 @@ impl<S: Storage> HttpCache<S> {
         ensures store { OnOk result (S.state storage.new
             ≡ expired_at now (S.state storage.old) (option_map slot self.old.key)) }
         ensures tracked { OnOk result (E.tracked eviction.new
-            ≡ tracked_gone_for self.old.uses.eviction self.old.key
-            (expire_outcome (S.state storage.old) (option_map slot self.old.key))
-            (E.tracked eviction.old)) }
+            ≡ tracked_expired self.old (S.state storage.old) (E.tracked eviction.old)) }
         ensures same_store { OnErr result (S.state storage.new ≡ S.state storage.old) }
         ensures same_tracked { OnErr result (E.tracked eviction.new ≡ E.tracked eviction.old) }
         ensures limits { E.limits eviction.new ≡ E.limits eviction.old }

@@ -1,8 +1,8 @@
 //! Looking a key up: what the store has, what is hidden of it, the policy for a key that has no
 //! body, and the key's lock.
 //!
-//! All look-ups are made by `search`: `cache_lookup_without_policy` has no policy to ask, `cache_lookup` has
-//! one, and `look_up` also has a witness and reports what it did.
+//! All look-ups are made by `search`: `cache_lookup` is lent the policy that it may ask, `cache_lookup_without_policy` has
+//! none, and `look_up` also has a witness and reports what it did.
 use super::{AskedLock, HttpCache, LookUp, NoWitness, Witness, take_lock_if};
 use pcache_base::error::Result;
 use pcache_base::moment::Moment;
@@ -176,10 +176,8 @@ impl<S: Storage> HttpCache<S> {
         Ok(LookUp::NotFound(self.ask_for_key(lock, now)))
     }
 
-    /// Looks the key up in the store, hides what was created before the moment from which variants
-    /// count, and asks for the key's lock if it hands nothing on and a lock is in use. It asks no
-    /// policy, also if one is in use: then `cache_lookup` is the call. If it fails, the request and the lock table are
-    /// unchanged; if it was the lock that failed, a hidden pair was let go.
+    /// `cache_lookup` for requests that use no policy: it asks none and keeps no decision. If it fails, the request and
+    /// the lock table are unchanged; if it was the lock that failed, a hidden pair was let go.
     /// Requires the phase CacheKey or Stale; ask `phase().may_look_up()`.
     pub fn cache_lookup_without_policy<L: CacheKeyLock>(
         &mut self,
@@ -217,11 +215,12 @@ impl<S: Storage> HttpCache<S> {
         }
     }
 
-    /// Looks the key up as `cache_lookup_without_policy` does. If the store has nothing and a policy in use has not
-    /// decided yet, it asks the policy first, and keeps its decision. If the policy defers, caching is
-    /// turned off as deferred, and no lock is asked for. If the call fails, the request is unchanged but
-    /// for a decision, and the lock table is unchanged; if it was the lock that failed, a hidden pair was
-    /// let go.
+    /// Looks the key up in the store, hides what was created before the moment from which variants
+    /// count, and asks for the key's lock if it hands nothing on and a lock is in use. If the store has
+    /// nothing and a policy in use has not decided yet, it asks the policy first, and keeps its decision. If
+    /// the policy defers, caching is turned off as deferred, and no lock is asked for. If the call fails, the
+    /// request is unchanged but for a decision, and the lock table is unchanged; if it was the lock that
+    /// failed, a hidden pair was let go.
     /// Requires the phase CacheKey or Stale; ask `phase().may_look_up()`.
     pub fn cache_lookup<L: CacheKeyLock, A: AdmissionPolicy>(
         &mut self,

@@ -35,7 +35,7 @@ pub(crate) fn enable(request: &mut OpenRequest, options: Option<CacheOptionOverr
     if !request.cache.phase().is_disabled() {
         return Reply::WrongCall;
     }
-    request.cache.enable_with(world_use(), options);
+    request.cache.enable(world_use(), options);
     Reply::Done
 }
 

@@ -92,7 +92,7 @@ fn made_of_policies(parts: &mut Parts, cache: &mut Request, call: &'static str) 
 fn enable(cache: &mut Request, uses: InUse) -> Said {
     let may = cache.phase().is_disabled();
     if may {
-        cache.enable(uses);
+        cache.enable(uses, None);
     }
     made(may)
 }
@@ -112,7 +112,7 @@ fn open(
         wait_timeout: seconds.map(Duration::from_secs),
         max_lock_retries: Some(2),
     };
-    cache.enable_with(ALL_BUT_THE_PREDICTOR, Some(overrides));
+    cache.enable(ALL_BUT_THE_PREDICTOR, Some(overrides));
     if cache.phase().may_take_key() {
         cache.set_cache_key(key);
     }
