@@ -151,13 +151,13 @@ impl MemCache {
         ensures kind { IfErr result (λ e. e ≡ OutOfMemory) }
     {
         let slot = key.slot();
-        let Some(held) = self.slots.get(slot) else {
+        let Some(there) = self.slots.get(slot) else {
             return Ok(None);
         };
-        if let Some(number) = held.least() {
+        if let Some(number) = there.least() {
             return self.spelled_of(alloc, slot, number);
         }
-        let Some(body) = held.body() else {
+        let Some(body) = there.body() else {
             return Ok(None);
         };
         Ok(Some(body.spelled(alloc)?))
