@@ -17,7 +17,7 @@ pub enum Answer {
     /// A complete body, with its meta.
     Complete { meta: Boxed<CacheMeta>, body: Bytes },
     /// A write in flight, with its meta.
-    Streaming { meta: Boxed<CacheMeta>, write: u128 },
+    Streaming { meta: Boxed<CacheMeta>, write: u64 },
 }
 
 /// One thing that a call did.
@@ -41,24 +41,24 @@ pub enum Event {
     },
     /// A write began.
     Begin {
-        write: u128,
+        write: u64,
         slot: u128,
         meta: Boxed<CacheMeta>,
     },
     /// Bytes were added to a write; `eof`: they were announced as the last.
     Wrote {
-        write: u128,
+        write: u64,
         bytes: Bytes,
         eof: bool,
     },
     /// A write was finished: its body is stored, or its key was removed since it began.
     Finish {
-        write: u128,
+        write: u64,
         is_stored: bool,
     },
     /// A write was dropped.
     Dropped {
-        write: u128,
+        write: u64,
     },
     /// A permit was released.
     Release {

@@ -82,22 +82,22 @@ impl<P: PutPolicy> OpenPut<P> {
 }
 
 // The number of the write of a put, if one is in flight; the write's entry has the same number.
-fn write_of<P: PutPolicy>(ctx: &CachePutCtx<ByType<P>, MemCache>) -> Option<u128>
+fn write_of<P: PutPolicy>(ctx: &CachePutCtx<ByType<P>, MemCache>) -> Option<u64>
     ensures write { result ≡ write_in ctx.now.stage }
     ensures entry { result ≡ entry_in ctx.now.stage }
 {
     match ctx.writer() {
-        Some(writer) => Some(u128::from(writer.number())),
+        Some(writer) => Some(writer.number()),
         None => None,
     }
 }
 
 // The number of a write that was returned, if one was.
-fn number_in(writer: &Option<MemMissHandler>) -> Option<u128>
+fn number_in(writer: &Option<MemMissHandler>) -> Option<u64>
     ensures { result ≡ option_map (λ w. w.number) writer.now }
 {
     match writer {
-        Some(writer) => Some(u128::from(writer.number())),
+        Some(writer) => Some(writer.number()),
         None => None,
     }
 }
@@ -172,7 +172,7 @@ fn feed_in<P: PutPolicy>(
 // Adds the events of what a piece did to the write that is in flight.
 fn note_piece(
     slot: u128,
-    write: Option<u128>,
+    write: Option<u64>,
     began: Option<Boxed<CacheMeta>>,
     wrote: Option<Written>,
     events: &mut Vec<Event>,
@@ -201,7 +201,7 @@ fn drop_write(writer: Option<MemMissHandler>, store: &mut MemCache, events: &mut
     ensures store { store.new ≡ dropped_by (option_map (λ w. w.number) writer) store.old }
 {
     if let Some(writer) = writer {
-        let write = u128::from(writer.number());
+        let write = writer.number();
         writer.drop_write(store);
         events.push_reserved(Event::Dropped { write });
     }
@@ -304,7 +304,7 @@ fn end_unwritten(end: PutEnd) -> Reply
 
 // The events and the reply at the end of a put's write.
 fn end_written(
-    write: u128,
+    write: u64,
     slot: u128,
     end: PutEnd,
     entry: Option<CacheEntryKey>,

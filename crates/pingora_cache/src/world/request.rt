@@ -111,12 +111,12 @@ pub(crate) fn world_use() -> InUse
 
 /// The number of the write that a request holds, if it holds one; the write's entry has the same
 /// number.
-pub(crate) fn write_number(cache: &HttpCache<MemCache>) -> Option<u128>
+pub(crate) fn write_number(cache: &HttpCache<MemCache>) -> Option<u64>
     ensures write { result ≡ cache.now.write }
     ensures entry { result ≡ cache.now.entry }
 {
     match cache.writer() {
-        Some(writer) => Some(u128::from(writer.number())),
+        Some(writer) => Some(writer.number()),
         None => None,
     }
 }
