@@ -17,6 +17,10 @@ pub record Piece : Type 0 where
   pub bytes : List ℕ
   pub now : ℕ
 
+-- the pieces, and one more with these bytes, which came at this moment
+abbrev pub and_piece : List Piece → List ℕ → ℕ → List Piece
+and_piece pieces bytes now = pieces ++ record { bytes = bytes; now = now } ∷ []
+
 -- the bytes of the pieces, one piece after another
 abbrev pub joined : List Piece → List ℕ
 joined [] = []

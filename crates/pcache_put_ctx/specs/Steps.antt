@@ -15,6 +15,7 @@ use Rattle.pcache_request.specs.Requests.{dropped_by}
 use Rattle.pcache_request.specs.WriteEnds.{EndsBody, HoldsNoLock, evicted_by}
 use Rattle.pcache_request.specs.declared.cache.finish.WriteEnd.{WriteEnd}
 use Rattle.pcache_request.specs.declared.cache.finish.WriteEnd.TheVariants as writes
+use Rattle.pcache_store.specs.Purge.{entry_given}
 use Rattle.pcache_store.specs.Store.{Store, Guarantees, begun, wrote, dropped, is_told}
 use Rattle.pcache_store.specs.declared.storage.MissFinishType.{MissFinishType}
 use Rattle.pcache_put_ctx.specs.Puts.{Piece, Says, Outcome, Stores, Declines, Refuses}
@@ -72,9 +73,17 @@ abbrev pub stage_begun : Stage → Option Meta → ℕ → Option ℕ → Stage
 stage_begun stage None next entry = stage
 stage_begun stage (Some m) next entry = InBody next entry m.fresh_until
 
+-- the same in a store where entries may have numbers
+abbrev pub stage_at : Bool → Store → Stage → Option Meta → Stage
+stage_at numbers s stage began = stage_begun stage began s.next (entry_given numbers s.next)
+
 -- the store after a piece
 abbrev pub store_after : Key → Stage → Option Meta → Option Written → Option ℕ → Store → Store
 store_after k stage began b entry s = store_wrote (write_in (stage_begun stage began s.next entry)) b (store_begun (slot k) began s)
+
+-- the same in a store where entries may have numbers
+abbrev pub store_at : Bool → Key → Stage → Option Meta → Option Written → Store → Store
+store_at numbers k stage began b s = store_after k stage began b (entry_given numbers s.next) s
 
 -- the stage after a piece: unchanged, or with the write that began; nothing is stored, and there was no write; or
 -- every call fails, and the write is returned

@@ -87,15 +87,14 @@ impl<C: CachePut, S: Storage> CachePutCtx<C, S> {
     ghost use Rattle.pcache_base.specs.declared.error.ErrorType.TheVariants.{InternalError};
     ghost use Rattle.pcache_meta.specs.Meta.{Meta};
     ghost use Rattle.pcache_put.specs.Progress.{AtHead, HasFailed};
-    ghost use Rattle.pcache_store.specs.Purge.{entry_given};
     ghost use Rattle.pcache_request.specs.NoBody.{HasNoBody, LeavesNone};
     ghost use Rattle.pcache_request.specs.Requests.{dropped_by};
-    ghost use Rattle.pcache_put_ctx.specs.Puts.{Piece, IsResult};
+    ghost use Rattle.pcache_put_ctx.specs.Puts.{Piece, IsResult, and_piece};
     ghost use Rattle.pcache_put_ctx.specs.Readings.{BringsNothing, HasRead, IfUnread, IsBegunRead, IsReadAt, MayFailRead, MayFailOnceRead, ReadsPiece};
     ghost use Rattle.pcache_store.specs.Store.{Store};
     ghost use Rattle.std.specs.Option.{option_and_then};
     ghost use Rattle.pcache_put_ctx.specs.State.{Accepted, InHead, Filled, HasTaken, entry_in, limit_of, write_in};
-    ghost use Rattle.pcache_put_ctx.specs.Steps.{Done, HasWholeBody, store_after, store_left, stage_begun, filled_on, BeginsAtHead, EndsPiece, TakesPiece, IsStageAfter, RepeatsResult, ReturnsAgain, IfRefused, IsBegunBefore, MayFailPiece, is_done, EndsPut, EndsAs, stage_ended, entry_reported, evicted_ended, IfWithdrawn, TellsResult};
+    ghost use Rattle.pcache_put_ctx.specs.Steps.{Done, HasWholeBody, store_at, store_left, stage_at, filled_on, BeginsAtHead, EndsPiece, TakesPiece, IsStageAfter, RepeatsResult, ReturnsAgain, IfRefused, IsBegunBefore, MayFailPiece, is_done, EndsPut, EndsAs, stage_ended, entry_reported, evicted_ended, IfWithdrawn, TellsResult};
 
     /// A put of a key, with no limit on its body.
     pub fn new(alloc: Global, policy: C, key: CacheKey) -> CachePutCtx<C, S>
@@ -167,10 +166,8 @@ impl<C: CachePut, S: Storage> CachePutCtx<C, S> {
             (record { bytes = piece.now; now = now }) d
             × (S.state storage.new
             ≡ store_left result
-            (stage_begun self.old.stage d.began (S.state storage.old).next
-            (entry_given S.guarantees.numbers (S.state storage.old).next))
-            (store_after self.old.key self.old.stage d.began d.wrote
-            (entry_given S.guarantees.numbers (S.state storage.old).next)
+            (stage_at S.guarantees.numbers (S.state storage.old) self.old.stage d.began)
+            (store_at S.guarantees.numbers self.old.key self.old.stage d.began d.wrote
             (S.state storage.old))) }
         ensures stands { IsStageAfter result self.new.stage }
         ensures again { RepeatsResult self.old.stage result }
@@ -205,19 +202,17 @@ impl<C: CachePut, S: Storage> CachePutCtx<C, S> {
 
         // What the piece did: a write began, and bytes were written.
         ensures store { S.state storage.new
-            ≡ store_after self.old.key self.old.stage result.began result.wrote
-            (entry_given S.guarantees.numbers (S.state storage.old).next)
+            ≡ store_at S.guarantees.numbers self.old.key self.old.stage result.began result.wrote
             (S.state storage.old) }
         ensures began { BeginsAtHead self.old.stage result.began }
         ensures ends { EndsPiece S.Miss.write result.end
-            (stage_begun self.old.stage result.began (S.state storage.old).next
-            (entry_given S.guarantees.numbers (S.state storage.old).next)) self.new.stage }
+            (stage_at S.guarantees.numbers (S.state storage.old) self.old.stage result.began)
+            self.new.stage }
 
         // The put has taken in this piece too; and the end is announced for the bytes that complete a body.
         ensures taken { (pieces : List Piece) (f : Option Filled)
             → HasTaken (C.says self.old.policy) self.old pieces f
-            → HasTaken (C.says self.old.policy) self.new
-            (pieces ++ record { bytes = piece.now; now = now } ∷ [])
+            → HasTaken (C.says self.old.policy) self.new (and_piece pieces piece.now now)
             (filled_on result.began result.wrote f) }
         ensures last { (pieces : List Piece) (f : Option Filled)
             → HasTaken (C.says self.old.policy) self.old pieces f
@@ -228,7 +223,7 @@ impl<C: CachePut, S: Storage> CachePutCtx<C, S> {
         ensures begun { (pieces : List Piece) (f : Option Filled)
             → HasTaken (C.says self.old.policy) self.old pieces f
             → IfSome result.began (λ m. Accepted (C.says self.old.policy) (limit_of self.old.size) m
-            (pieces ++ record { bytes = piece.now; now = now } ∷ [])) }
+            (and_piece pieces piece.now now)) }
         ensures refused { IfRefused result.end (λ _. result.wrote ≡ None) }
         ensures whether { IfRefused result.end (λ e.
             IsBegunBefore self.old.stage e result.began ⊎ (self.old.parser ≡ HasFailed e)) }
@@ -272,13 +267,12 @@ impl<C: CachePut, S: Storage> CachePutCtx<C, S> {
 
         // What was done: a write began, and bytes were written.
         ensures store { S.state storage.new
-            ≡ store_after self.old.key self.old.stage result.began result.wrote
-            (entry_given S.guarantees.numbers (S.state storage.old).next)
+            ≡ store_at S.guarantees.numbers self.old.key self.old.stage result.began result.wrote
             (S.state storage.old) }
         ensures began { BeginsAtHead self.old.stage result.began }
         ensures ends { EndsPiece S.Miss.write result.end
-            (stage_begun self.old.stage result.began (S.state storage.old).next
-            (entry_given S.guarantees.numbers (S.state storage.old).next)) self.new.stage }
+            (stage_at S.guarantees.numbers (S.state storage.old) self.old.stage result.began)
+            self.new.stage }
 
         // The put has taken in what it has read; and the end is announced with the bytes that complete a body.
         ensures taken { (pieces : List Piece) (f : Option Filled)

@@ -10,11 +10,11 @@ ghost use Rattle.pcache_store.specs.Purge.{entry_given};
 ghost use Rattle.pcache_store.specs.Refusals.{MayFailWrite};
 ghost use Rattle.pcache_store.specs.Store.{Store, begun, is_told};
 ghost use Rattle.pcache_put_ctx.specs.Openings.{IsVerdict, IsBegun, IsDue, HasOpened};
-ghost use Rattle.pcache_put_ctx.specs.Puts.{Piece, IsResult, joined};
+ghost use Rattle.pcache_put_ctx.specs.Puts.{Piece, IsResult, and_piece, joined};
 ghost use Rattle.pcache_put_ctx.specs.Readings.{BodyDue, IfUnread, IsBegunRead, IsOfBody, IsOfHead, MayFailOnceRead};
 ghost use Rattle.pcache_put_ctx.specs.Stages.{stage_of};
 ghost use Rattle.pcache_put_ctx.specs.State.{Accepted, InHead, InBody, Filled, HeadTaken, BodyRead, BodyTaken, Counts, limit_of, TakenBy};
-ghost use Rattle.pcache_put_ctx.specs.Steps.{counted_part, IsAllowed, IsBegunBefore, IfRefused, MayFailFill, written, store_wrote, store_after, stage_begun, filled_on, filled_wrote, EndsPiece, EndsPut, TellsResult, entry_reported, evicted_ended, MayFailPiece, is_done};
+ghost use Rattle.pcache_put_ctx.specs.Steps.{counted_part, IsAllowed, IsBegunBefore, IfRefused, MayFailFill, written, store_wrote, store_at, stage_at, filled_on, filled_wrote, EndsPiece, EndsPut, TellsResult, entry_reported, evicted_ended, MayFailPiece, is_done};
 ghost use Rattle.pcache_put_ctx.specs.declared.reading.ReadPiece.TheVariants.{Brings};
 ghost use Rattle.pcache_put_ctx.specs.declared.report.PieceEnd.TheVariants.{GoesOn};
 
@@ -135,12 +135,12 @@ impl<C: CachePut> Intake<C> {
         ensures opened { IfOk result (λ o. (pieces : List Piece)
             → HeadTaken self.old.size self.old.parser pieces
             → HasOpened (C.says self.old.policy) self.old.size self.new.parser
-            (pieces ++ record { bytes = piece.now; now = now } ∷ []) o) }
+            (and_piece pieces piece.now now) o) }
         ensures read { IfOk result (λ o. IfUnread o (λ _. ⊥)) }
         ensures invalid { IfErr result (λ e. e ≡ InvalidHttpHeader
             → (pieces : List Piece)
             → HeadTaken self.old.size self.old.parser pieces
-            → IsUnreadable (joined (pieces ++ record { bytes = piece.now; now = now } ∷ []))) }
+            → IsUnreadable (joined (and_piece pieces piece.now now))) }
         ensures kind { IfErr result (λ e.
             (e ≡ InvalidHttpHeader) ⊎ (e ≡ OutOfMemory) ⊎ (self.old.parser ≡ HasFailed e)) }
     {
@@ -160,7 +160,7 @@ impl<C: CachePut> Intake<C> {
             → BodyRead (C.says self.old.policy) (limit_of self.old.size) self.old.parser meta pieces
             body
             → IsDue (C.says self.old.policy) (limit_of self.old.size) self.new.parser meta
-            (pieces ++ record { bytes = piece.now; now = now } ∷ []) body part) }
+            (and_piece pieces piece.now now) body part) }
         ensures invalid { IfErr result (λ e. e ≡ InvalidHttpHeader
             → (pieces : List Piece) (meta : Meta) (body : List ℕ)
             → ¬ (BodyRead (C.says self.old.policy) (limit_of self.old.size) self.old.parser meta
@@ -230,7 +230,7 @@ impl<C: CachePut> Intake<C> {
         ensures opened { (pieces : List Piece)
             → HeadTaken self.old.size self.old.parser pieces
             → HasOpened (C.says self.old.policy) self.old.size self.new.parser
-            (pieces ++ record { bytes = piece.now; now = now } ∷ []) result }
+            (and_piece pieces piece.now now) result }
         ensures kind { IfUnread result (λ e.
             (e ≡ InvalidHttpHeader) ⊎ (e ≡ OutOfMemory) ⊎ (self.old.parser ≡ HasFailed e)) }
     {
@@ -247,7 +247,7 @@ impl<C: CachePut> Intake<C> {
         ensures due { (pieces : List Piece) (now fresh_until : ℕ) (f : Option Filled)
             → BodyTaken (C.says self.old.policy) self.old.size self.old.parser fresh_until pieces f
             → BodyDue (C.says self.old.policy) self.old.size self.new.parser fresh_until
-            (pieces ++ record { bytes = piece.now; now = now } ∷ []) f result }
+            (and_piece pieces piece.now now) f result }
         ensures whole { is_done self.old.parser ≡ true → result ≡ Brings None }
         ensures kind { IfUnread result (λ e.
             (e ≡ InvalidHttpHeader) ⊎ (e ≡ OutOfMemory) ⊎ (self.old.parser ≡ HasFailed e)) }
@@ -286,12 +286,10 @@ impl<C: CachePut> Intake<C> {
         ensures same { self.new ≡ record self.old { size = self.new.size } }
         ensures limit { limit_of self.new.size ≡ limit_of self.old.size }
         ensures store { S.state storage.new
-            ≡ store_after self.old.key InHead result.report.began result.report.wrote
-            (entry_given S.guarantees.numbers (S.state storage.old).next)
-            (S.state storage.old) }
+            ≡ store_at S.guarantees.numbers self.old.key InHead result.report.began
+            result.report.wrote (S.state storage.old) }
         ensures ends { EndsPiece S.Miss.write result.report.end
-            (stage_begun InHead result.report.began (S.state storage.old).next
-            (entry_given S.guarantees.numbers (S.state storage.old).next))
+            (stage_at S.guarantees.numbers (S.state storage.old) InHead result.report.began)
             (stage_of S.Miss.write S.Miss.entry_number result.stage) }
         ensures last { IfSome result.report.wrote (λ w.
             (b : BodyPart) × (part ≡ Some b) × (w.eof ≡ b.is_last)) }
@@ -324,12 +322,10 @@ impl<C: CachePut> Intake<C> {
         ensures same { self.new ≡ record self.old { size = self.new.size } }
         ensures limit { limit_of self.new.size ≡ limit_of self.old.size }
         ensures store { S.state storage.new
-            ≡ store_after self.old.key InHead result.report.began result.report.wrote
-            (entry_given S.guarantees.numbers (S.state storage.old).next)
-            (S.state storage.old) }
+            ≡ store_at S.guarantees.numbers self.old.key InHead result.report.began
+            result.report.wrote (S.state storage.old) }
         ensures ends { EndsPiece S.Miss.write result.report.end
-            (stage_begun InHead result.report.began (S.state storage.old).next
-            (entry_given S.guarantees.numbers (S.state storage.old).next))
+            (stage_at S.guarantees.numbers (S.state storage.old) InHead result.report.began)
             (stage_of S.Miss.write S.Miss.entry_number result.stage) }
         ensures last { (pieces : List Piece)
             → HasOpened (C.says self.old.policy) self.old.size self.old.parser pieces read

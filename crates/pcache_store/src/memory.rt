@@ -8,7 +8,7 @@ ghost use Rattle.pcache_store.specs.Finishes.{created};
 ghost use Rattle.pcache_store.specs.Refusals.{MayFailFinish};
 ghost use Rattle.pcache_store.specs.Readers.{in_memory};
 ghost use Rattle.pcache_store.specs.Shards.{of_shard};
-ghost use Rattle.pcache_store.specs.Store.{joined, left, wrote, dropped, finished, is_untouched, is_write_under, left_on, found_part};
+ghost use Rattle.pcache_store.specs.Store.{find, joined, left, wrote, dropped, finished, is_untouched, is_write_under, left_on, found_part};
 ghost use Rattle.pcache_store.specs.Tag.{named_by};
 ghost use Rattle.pcache_store.specs.Totals.{stored_bytes, slots};
 
@@ -141,6 +141,39 @@ impl MemCache {
             }
             None => false,
         }
+    }
+
+    /// The meta of what a look-up of the key finds, as it is kept: a copy of its bytes, which are not read. Fails only when
+    /// memory runs out, and then something is there.
+    pub fn spelled_meta(&self, alloc: Global, key: &CacheKey) -> Result<Option<SpelledMeta>>
+        ensures found { IfOk result (λ m. m ≡ option_map (λ p. p.0) (find self.now (slot key.now))) }
+        ensures something { OnErr result (IsSome (find self.now (slot key.now))) }
+        ensures kind { IfErr result (λ e. e ≡ OutOfMemory) }
+    {
+        let slot = key.slot();
+        let Some(there) = self.slots.get(slot) else {
+            return Ok(None);
+        };
+        if let Some(number) = there.least() {
+            return self.spelled_of(alloc, slot, number);
+        }
+        let Some(body) = there.body() else {
+            return Ok(None);
+        };
+        Ok(Some(body.spelled(alloc)?))
+    }
+
+    // The meta of a write, as it is kept.
+    fn spelled_of(&self, alloc: Global, slot: u128, number: u128) -> Result<Option<SpelledMeta>>
+        ensures found { IfOk result (λ m.
+            m ≡ option_map (λ p. p.0) (found_part number (map.get self.now.writes number))) }
+        ensures something { OnErr result (IsSome (map.get self.now.writes number)) }
+        ensures kind { IfErr result (λ e. e ≡ OutOfMemory) }
+    {
+        let Some(draft) = self.drafts.get(slot, number) else {
+            return Ok(None);
+        };
+        Ok(Some(draft.spelled(alloc)?))
     }
 
     // The record of a write, which is in the shard of its key's slot.

@@ -225,6 +225,7 @@ fn tell_of_store(parts: &mut Parts, call: &'static str, told: &mut Told) {
         "update" => tell_updated(update(parts, name, number.unwrap_or(0)), told),
         "update-as" => tell_updated(update_as(parts, name, word(call, 2)), told),
         "number" => tell_number(number_found(parts, name), told),
+        "kept" => tell_number(number_kept(parts, name), told),
         "writes" => told.shown(&parts.store.write_records()),
         "total" => totals(&parts.store, told),
         _ => told.say("no such call"),
@@ -445,6 +446,16 @@ fn number_found(parts: &mut Parts, name: &str) -> Result<Option<CacheEntryId>> {
     }
 }
 
+// The number in the meta that the store keeps of what it finds.
+fn number_kept(parts: &mut Parts, name: &str) -> Result<Option<CacheEntryId>> {
+    let alloc = parts.alloc;
+    let (store, named) = parts.with(name);
+    match store.spelled_meta(alloc, &named.key)? {
+        Some(meta) => Ok(meta.entry_id()),
+        None => Ok(None),
+    }
+}
+
 fn tell_number(found: Result<Option<CacheEntryId>>, told: &mut Told) {
     match found {
         Ok(Some(id)) => told.shown(&id.get()),
@@ -501,14 +512,19 @@ fn a_body_that_was_written_is_read(rt: HostRuntime) {
 
 const A_FOUND_META_HAS_THE_NUMBER_OF_ITS_WRITE: &str = "
     number a -> none
+    kept a -> none
     1 begins a
     number a -> 0
+    kept a -> 0
     1 finishes -> Created(0)
     number a -> 0
+    kept a -> 0
     1 begins a
     2 begins b
     number a -> 1
     number b -> 2
+    kept a -> 1
+    kept b -> 2
     1 finishes -> Created(0)
     2 finishes -> Created(0)
     number a -> 1

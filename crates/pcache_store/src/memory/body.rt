@@ -48,6 +48,14 @@ impl Body {
         self.bytes.len()
     }
 
+    // The meta as it is kept: a copy of its bytes, which are not read.
+    pub(crate) fn spelled(&self, alloc: Global) -> Result<SpelledMeta>
+        ensures ok { IfOk result (λ m. m ≡ self.now.meta) }
+        ensures kind { IfErr result (λ e. e ≡ OutOfMemory) }
+    {
+        self.meta.copied(alloc)
+    }
+
     // The meta, read back, and the bytes, which are shared.
     pub(crate) fn shared(&self, alloc: Global) -> Result<(CacheMeta, Bytes)>
         ensures ok { IfOk result (λ p. p ≡ (self.now.meta, self.now.bytes)) }

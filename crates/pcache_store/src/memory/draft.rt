@@ -56,6 +56,14 @@ impl Draft {
         self.slot
     }
 
+    // The meta as it is kept: a copy of its bytes, which are not read.
+    pub(crate) fn spelled(&self, alloc: Global) -> Result<SpelledMeta>
+        ensures ok { IfOk result (λ m. m ≡ self.now.meta) }
+        ensures kind { IfErr result (λ e. e ≡ OutOfMemory) }
+    {
+        self.meta.copied(alloc)
+    }
+
     // The number that the meta has.
     pub(crate) fn entry_id(&self) -> Option<CacheEntryId>
         ensures { result ≡ self.now.meta.entry_id }
