@@ -164,7 +164,7 @@ impl MemCache {
     }
 
     // The meta of a write, as it is kept.
-    fn spelled_of(&self, alloc: Global, slot: u128, number: u128) -> Result<Option<SpelledMeta>>
+    fn spelled_of(&self, alloc: Global, slot: u128, number: u64) -> Result<Option<SpelledMeta>>
         ensures found { IfOk result (λ m.
             m ≡ option_map (λ p. p.0) (found_part number (map.get self.now.writes number))) }
         ensures something { OnErr result (IsSome (map.get self.now.writes number)) }
