@@ -5,6 +5,9 @@ use bytes::Bytes;
 use pingora_cache::CacheEntryKey;
 use pingora_cache::key::{CacheHashKey, HashBinary};
 use pingora_cache::meta::CacheMeta;
+use pingora_cache::meta::codec::deserialize_internal;
+use pingora_cache::meta::spelled::SpelledMeta;
+use pingora_cache::moment::Moment;
 use pingora_cache::poll::Poll;
 use pingora_cache::world::boxed::Boxed;
 use pingora_cache::world::entry::{Answer, Entry, Event};
@@ -96,13 +99,13 @@ fn write_look<W: Write>(output: &mut W, slot: u128, answer: &Answer) -> io::Resu
         Answer::Nothing => write!(output, "look {slot:x} nothing"),
         Answer::Complete { meta, body } => {
             write!(output, "look {slot:x} complete ")?;
-            write_meta(output, meta)?;
+            write_kept(output, meta)?;
             write!(output, " ")?;
             write_text(output, body.as_slice())
         }
         Answer::Streaming { meta, write } => {
             write!(output, "look {slot:x} part ")?;
-            write_meta(output, meta)?;
+            write_kept(output, meta)?;
             write!(output, " {write}")
         }
     }
@@ -119,19 +122,42 @@ fn write_read<W: Write>(output: &mut W, answer: &Poll<Option<Bytes>>) -> io::Res
     }
 }
 
-// The moments of a meta in nanoseconds, its windows in seconds, and its variance.
 fn write_meta<W: Write>(output: &mut W, meta: &Boxed<CacheMeta>) -> io::Result<()> {
     let meta = meta.get();
-    let fresh_until = meta.fresh_until().as_nanos();
-    let created = meta.created().as_nanos();
-    let provenance = meta.provenance().as_nanos();
-    let while_revalidate = meta.stale_while_revalidate_sec();
-    let if_error = meta.stale_if_error_sec();
+    let moments = [meta.fresh_until(), meta.created(), meta.provenance()];
+    let windows = [meta.stale_while_revalidate_sec(), meta.stale_if_error_sec()];
+    write_said(output, moments, windows, meta.variance())
+}
+
+// A meta that is kept as its bytes. They are read without memory, which a torment may refuse.
+fn write_kept<W: Write>(output: &mut W, meta: &Boxed<SpelledMeta>) -> io::Result<()> {
+    let (internal, _header) = meta.get().strings();
+    let Ok(said) = deserialize_internal(internal) else {
+        return Ok(()); // kept bytes spell a meta
+    };
+    let provenance = said.provenance.unwrap_or(said.created);
+    let moments = [said.fresh_until, said.created, provenance];
+    let windows = [said.stale_while_revalidate_sec, said.stale_if_error_sec];
+    write_said(output, moments, windows, said.variance)
+}
+
+// What a meta says: when it is fresh until, was created and fetched, in nanoseconds, its windows in seconds, and its variance.
+fn write_said<W: Write>(
+    output: &mut W,
+    moments: [Moment; 3],
+    windows: [u32; 2],
+    variance: Option<HashBinary>,
+) -> io::Result<()> {
+    let fresh_until = moments[0].as_nanos();
+    let created = moments[1].as_nanos();
+    let provenance = moments[2].as_nanos();
+    let while_revalidate = windows[0];
+    let if_error = windows[1];
     write!(
         output,
         "{fresh_until},{created},{provenance},{while_revalidate},{if_error},"
     )?;
-    match meta.variance() {
+    match variance {
         None => write!(output, "none"),
         Some(variance) => write_hash(output, variance),
     }

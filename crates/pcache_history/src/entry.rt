@@ -7,17 +7,24 @@ use pcache_base::moment::Moment;
 use pcache_base::poll::Poll;
 use pcache_evict::eviction::CacheEntryKey;
 use pcache_meta::meta::CacheMeta;
+use pcache_meta::meta::spelled::SpelledMeta;
 use pcache_put_ctx::boxed::Boxed;
 
-/// What a look-up found.
+/// What a look-up found. Its meta is a copy of what the store keeps, the bytes that spell it: `meta.get().meta(alloc)` reads it.
 #[derive(Drop)]
 pub enum Answer {
     /// Nothing.
     Nothing,
     /// A complete body, with its meta.
-    Complete { meta: Boxed<CacheMeta>, body: Bytes },
+    Complete {
+        meta: Boxed<SpelledMeta>,
+        body: Bytes,
+    },
     /// A write in flight, with its meta.
-    Streaming { meta: Boxed<CacheMeta>, write: u64 },
+    Streaming {
+        meta: Boxed<SpelledMeta>,
+        write: u64,
+    },
 }
 
 /// One thing that a call did.

@@ -57,10 +57,10 @@ find-at s o k p key found = sym found ∙ ap (found_for s) key
 -- ---- what is reported before anything else is done
 
 -- the note has a copy of what the store has
-pub heard : (p : Option (Meta × Reader)) (n m : LookNote) → HasHeard (λ (before : LookNote) (q : Meta × Reader) (after : LookNote). (after.slot ≡ before.slot) × (after.write ≡ before.write) × (pair_of after.answer ≡ Some q)) n p m → n.answer ≡ Nothing
+pub heard : (p : Option (Meta × Reader)) (n m : LookNote) → HasHeard (λ (before : LookNote) (q : Meta × Reader) (after : LookNote). (after.slot ≡ before.slot) × (after.write ≡ before.write) × (before.kept ≡ Some q.0 → pair_of after.answer ≡ Some q)) n p m → n.answer ≡ Nothing → n.kept ≡ option_map (λ q. q.0) p
     → (m.slot ≡ n.slot) × (m.write ≡ n.write) × (pair_of m.answer ≡ p)
-heard None n m h none = (ap (λ (z : LookNote). z.slot) h, ap (λ (z : LookNote). z.write) h, ap (λ (z : LookNote). pair_of z.answer) h ∙ ap pair_of none)
-heard (Some p) n m h none = h
+heard None n m h none kept = (ap (λ (z : LookNote). z.slot) h, ap (λ (z : LookNote). z.write) h, ap (λ (z : LookNote). pair_of z.answer) h ∙ ap pair_of none)
+heard (Some p) n m h none kept = (h.0, h.1, h.2 kept)
 
 -- a look-up that fails: the store is unchanged, or the pair that it has was let go
 still-moves : (s u : Store) (x y : Ongoing) (events : List Event) → events ≡ [] → y ≡ x → u ≡ s → MovesStore (Some x) s events (Some y) u
