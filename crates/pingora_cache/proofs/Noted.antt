@@ -149,10 +149,6 @@ read-moved s x a h = ap (λ r. record x { reader = r }) (elim x.reader as (λ o.
   | Some r ↦ λ is. ap Some (sym (read-past s r) ∙ ap (λ p. read_past p r) (sym is))
 ] h)
 
--- a request with this, and a pair
-abbrev pub held_with : Option Decision → Option (Meta × Reader) → Request → Ongoing
-held_with d p x = record { request = x; pair = p; carried = d; put = None }
-
 -- a write that began is held, the permit is released, and the reader follows it
 
 abbrev with_write : ℕ → Request → Request
