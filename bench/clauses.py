@@ -43,14 +43,17 @@ def sources():
 
 
 def read(words, at=0, closer=None):
-    """Nested lists of words: a group is its bracket and what stands in it."""
+    """Nested lists of words: a group is its bracket, what stands in it, and the fields that are taken of it."""
     found = []
     while at < len(words):
         word = words[at]
         at += 1
         if word in CLOSER:
             inner, at = read(words, at, CLOSER[word])
-            found.append((word, inner))
+            found.append((word, inner, ""))
+        elif re.match(r"\.\w", word) and found and not isinstance(found[-1], str):
+            bracket, inner, fields = found[-1]
+            found[-1] = (bracket, inner, fields + word)
         elif word == closer:
             return found, at
         else:
@@ -58,8 +61,9 @@ def read(words, at=0, closer=None):
     return found, at
 
 
-def brackets(opener):
-    return ("{ ", " }") if opener == "{" else (opener, CLOSER[opener])
+def brackets(group):
+    opener, _, fields = group
+    return ("{ ", " }") if opener == "{" else (opener, CLOSER[opener] + fields)
 
 
 def flat(items):
@@ -68,14 +72,13 @@ def flat(items):
         if isinstance(item, str):
             said.append(item)
         else:
-            opener, closer = brackets(item[0])
+            opener, closer = brackets(item)
             said.append(opener + flat(item[1]) + closer)
     return " ".join(said)
 
 
 def tidy(line):
-    line = line.replace("@none", "[]").replace("@unit", "()").replace(" ;", ";")
-    return re.sub(r"\) \.(?=\w)", ").", line).rstrip()
+    return line.replace("@none", "[]").replace("@unit", "()").replace(" ;", ";").rstrip()
 
 
 def split(items):
@@ -155,7 +158,7 @@ class Page:
         if isinstance(item, str) or self.fits([item], after):
             self.add(flat([item]))
             return
-        opener, closer = brackets(item[0])
+        opener, closer = brackets(item)
         self.add(opener)
         self.lay(item[1], inset, after + len(closer))
         self.add(closer)

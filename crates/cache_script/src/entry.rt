@@ -148,11 +148,11 @@ fn write_said<W: Write>(
     windows: [u32; 2],
     variance: Option<HashBinary>,
 ) -> io::Result<()> {
-    let fresh_until = moments[0].as_nanos();
-    let created = moments[1].as_nanos();
-    let provenance = moments[2].as_nanos();
-    let while_revalidate = windows[0];
-    let if_error = windows[1];
+    let [fresh_until, created, provenance] = moments;
+    let fresh_until = fresh_until.as_nanos();
+    let created = created.as_nanos();
+    let provenance = provenance.as_nanos();
+    let [while_revalidate, if_error] = windows;
     write!(
         output,
         "{fresh_until},{created},{provenance},{while_revalidate},{if_error},"

@@ -23,7 +23,7 @@ pub enum Answer {
     /// A write in flight, with its meta.
     Streaming {
         meta: Boxed<SpelledMeta>,
-        write: u128,
+        write: u64,
     },
 }
 
@@ -48,24 +48,24 @@ pub enum Event {
     },
     /// A write began.
     Begin {
-        write: u128,
+        write: u64,
         slot: u128,
         meta: Boxed<CacheMeta>,
     },
     /// Bytes were added to a write; `eof`: they were announced as the last.
     Wrote {
-        write: u128,
+        write: u64,
         bytes: Bytes,
         eof: bool,
     },
     /// A write was finished: its body is stored, or its key was removed since it began.
     Finish {
-        write: u128,
+        write: u64,
         is_stored: bool,
     },
     /// A write was dropped.
     Dropped {
-        write: u128,
+        write: u64,
     },
     /// A permit was released.
     Release {

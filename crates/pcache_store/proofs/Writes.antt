@@ -1,5 +1,6 @@
 -- Writes that were changed in place, and numbers that no write has.
-use Rattle.std.proofs.Common.{◌≡◌, ℕ, ◌++◌, ◌+◌, ◌-◌, ◌<◌, ◌≤◌, ◌⊎◌, inl, inr, List, Bool, true, false, Option, None, Some, IfSome, option_map, nat_le, Result, Ok, Err, OnOk, OnErr, ◌∙◌, sym, ap, cond, refl, subst, arith, unwrap_or}
+use Rattle.std.proofs.Common.{◌≡◌, ℕ, ◌++◌, ◌+◌, ◌-◌, ◌<◌, ◌^◌, List, Bool, true, false, Option, None, Some, Result, Ok, Err, OnOk, OnErr, ◌∙◌, sym, ap, cond, refl, subst, arith, unwrap_or}
+use Rattle.std.specs.Option.{SomeIff}
 use Rattle.std.specs.Ordering.{nat_cmp, is_eq}
 use Rattle.std.specs.Cmp.{nat_cmp_total, tied_itself}
 use Rattle.std.proofs.lemmas.Bool.Decides.{nat_tests}
@@ -8,7 +9,7 @@ use Rattle.pcache_store.proofs.Maps.{insert_same, undone, remove-insert}
 use Rattle.pcache_store.specs.Store.{Written, Stored, kept, is_named, wrote_on, followed_on, left_on, grounded_on}
 use Rattle.pcache_table.proofs.Sharded.{get-remove-at}
 use Rattle.pcache_store.specs.Shards.{one_if_some}
-use Rattle.pcache_store.specs.Drafts.{Numbered, AreBefore, IsBodyOf}
+use Rattle.pcache_store.specs.Drafts.{Numbered, next_number, AreBefore, IsBodyOf}
 
 module _ (ws : FinMap nat_cmp Written) (n : ℕ) (w v : Written) (m : FinMap nat_cmp Written) (is : Some w ≡ get ws n) (set : m ≡ insert ws n v) where
   pub wrote_there : (bytes : List ℕ) (eof : Bool) → v ≡ record w { bytes = w.bytes ++ bytes; told = eof } → m ≡ wrote_on ws n bytes eof (get ws n)
@@ -57,20 +58,10 @@ module _ (ws : FinMap nat_cmp Written) (n : ℕ) (w v : Written) (m : FinMap nat
       let same : d ≡ record w { flying = false } = ap (λ o. unwrap_or o d) (out ∙ sym found) ∙ e in
       subst (λ o. IsBodyOf o b) is (made ∙ ap (λ (x : Written). let y : Stored = record { meta = x.meta; bytes = x.bytes } in y) same)
 
--- what is read of a write is of one whose number was given
-pub given_before : {A : Type 0} (ws : FinMap nat_cmp Written) (n k most : ℕ) (f : Written → A) (o : Option A) → AreBefore ws n → n ≤ most → o ≡ option_map f (get ws k) → IfSome o (λ _. k < most)
-given_before ws n k most f o before few is = subst (λ x. IfSome x (λ _. k < most)) (sym is)
-    (elim (get ws k) as (λ x. get ws k ≡ x → IfSome (option_map f x) (λ _. k < most)) [
-      | None ↦ λ e. tt
-      | Some w ↦ λ e. inside w e (total n k)
-    ] refl)
-  where
-    total : (n k : ℕ) → (n ≤ k) ⊎ (k < n)
-    total n k = elim (nat_le n k) as (λ b. nat_le n k ≡ b → (n ≤ k) ⊎ (k < n)) [ true ↦ λ t. inl (grind (arith, nat_tests, t)) | false ↦ λ t. inr (grind (arith, nat_tests, t)) ] refl
-
-    inside : (w : Written) → get ws k ≡ Some w → (n ≤ k) ⊎ (k < n) → k < most
-    inside w e (inl h) = let none : None ≡ Some w = sym (before k h) ∙ e in cc
-    inside w e (inr h) = omega arith
+-- the next number after one that was given
+pub next_after : (o : Option ℕ) (n : ℕ) → n < 2 ^ 64 → SomeIff o (n + 1 < 2 ^ 64) (n + 1) → next_number o ≡ n + 1
+next_after None n few none = omega (arith, few, none)
+next_after (Some x) n few some = some.1
 
 -- no write has the number of the next one or a later one
 pub before_empty : (n : ℕ) → AreBefore empty n
@@ -79,8 +70,8 @@ before_empty n q h = get-empty nat_cmp q
 pub before_begun : (ws : FinMap nat_cmp Written) (n : ℕ) (v : Written) → AreBefore ws n → AreBefore (insert ws n v) (n + 1)
 before_begun ws n v f q h = grind (gets, arith, nat_tests, f q)
 
-pub before_taken_back : (ws : FinMap nat_cmp Written) (n : ℕ) → 0 < n → AreBefore ws n → AreBefore (remove ws (n - 1)) (n - 1)
-before_taken_back ws n p f q h = grind (gets, arith, nat_tests, f q)
+pub before_taken_back : (ws : FinMap nat_cmp Written) (n : ℕ) → AreBefore ws (n + 1) → AreBefore (remove ws n) n
+before_taken_back ws n f q h = grind (gets, arith, nat_tests, f q)
 
 before_set : (ws : FinMap nat_cmp Written) (n k : ℕ) (w v : Written) → AreBefore ws n → get ws k ≡ Some w → AreBefore (insert ws k v) n
 before_set ws n k w v f e q h = grind (gets, arith, nat_tests, f q)

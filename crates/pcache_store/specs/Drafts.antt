@@ -1,5 +1,5 @@
 -- How a store in memory keeps its writes (own).
-use Rattle.std.specs.Prelude.{ℕ, ◌≡◌, ◌≤◌, Option, None, Some, refl}
+use Rattle.std.specs.Prelude.{ℕ, ◌≡◌, ◌≤◌, ◌^◌, Option, None, Some, refl}
 use Rattle.std.specs.Ordering.{nat_cmp}
 use Rattle.std.specs.Coded.{Coded, code_by, coded×, coded_ℕ}
 use Rattle.std.specs.FinMap.{FinMap, get, code}
@@ -13,6 +13,11 @@ pub record Numbered : Type 0 where
 
 abbrev pub numbered_code : Coded Numbered
 numbered_code = code_by (FinMap nat_cmp Written × ℕ) (coded× (code coded_ℕ written_code) coded_ℕ) (λ a. (a.writes, a.next)) (λ p. record { writes = p.0; next = p.1 }) (λ _. refl)
+
+-- the number of the next write, as the store keeps it: none if all are used
+abbrev pub next_number : Option ℕ → ℕ
+next_number None = 2 ^ 64
+next_number (Some n) = n
 
 -- no write has the number of the next one, or a later one
 abbrev pub AreBefore : FinMap nat_cmp Written → ℕ → Type 0

@@ -1,7 +1,11 @@
 -- The numbers of a key's untouched writes, one of which is kept apart from the others (own).
-use Rattle.std.specs.Prelude.{ℕ, Option, Some, None, Bool, false, ◌==◌, nat_lt, cond}
+use Rattle.std.specs.Prelude.{ℕ, List, Option, Some, None, Bool, false, ◌==◌, nat_lt, cond}
 use Rattle.std.specs.Ordering.{nat_cmp}
-use Rattle.std.specs.FinMap.{FinMap, insert}
+use Rattle.std.specs.FinMap.{FinMap, from_entries, insert}
+
+-- the numbers in a tree
+abbrev pub numbers_in : List (ℕ × Unit {0}) → FinMap nat_cmp (Unit {0})
+numbers_in es = from_entries es
 
 abbrev pub with_one : Option ℕ → FinMap nat_cmp (Unit {0}) → FinMap nat_cmp (Unit {0})
 with_one None more = more

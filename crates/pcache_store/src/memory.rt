@@ -135,7 +135,7 @@ impl MemCache {
         ensures { result ≡ is_write_under (slot key.now) number (map.get self.now.writes number) }
     {
         let slot = key.slot();
-        match self.drafts.get(slot, number as u128) {
+        match self.drafts.get(slot, number) {
             Some(draft) => {
                 draft.slot() == slot && draft.entry_id() == Some(CacheEntryId::new(number))
             }
@@ -146,7 +146,8 @@ impl MemCache {
     /// The meta of what a look-up of the key finds, as it is kept: a copy of its bytes, which are not read. Fails only when
     /// memory runs out, and then something is there.
     pub fn spelled_meta(&self, alloc: Global, key: &CacheKey) -> Result<Option<SpelledMeta>>
-        ensures found { IfOk result (λ m. m ≡ option_map (λ p. p.0) (find self.now (slot key.now))) }
+        ensures found { IfOk result (λ m.
+            m ≡ option_map (λ p. p.0) (find self.now (slot key.now))) }
         ensures something { OnErr result (IsSome (find self.now (slot key.now))) }
         ensures kind { IfErr result (λ e. e ≡ OutOfMemory) }
     {
@@ -164,7 +165,7 @@ impl MemCache {
     }
 
     // The meta of a write, as it is kept.
-    fn spelled_of(&self, alloc: Global, slot: u128, number: u128) -> Result<Option<SpelledMeta>>
+    fn spelled_of(&self, alloc: Global, slot: u128, number: u64) -> Result<Option<SpelledMeta>>
         ensures found { IfOk result (λ m.
             m ≡ option_map (λ p. p.0) (found_part number (map.get self.now.writes number))) }
         ensures something { OnErr result (IsSome (map.get self.now.writes number)) }
@@ -177,7 +178,7 @@ impl MemCache {
     }
 
     // The record of a write, which is in the shard of its key's slot.
-    pub(crate) fn draft(&self, slot: u128, number: u128) -> Option<&Draft>
+    pub(crate) fn draft(&self, slot: u128, number: u64) -> Option<&Draft>
         ensures { option_copied result ≡ map.get self.now.writes number }
     {
         self.drafts.get(slot, number)
@@ -190,7 +191,7 @@ impl MemCache {
         &mut self,
         alloc: Global,
         slot: u128,
-        number: u128,
+        number: u64,
     ) -> Result<Option<(CacheMeta, MemHitHandler)>>
         ensures found { IfOk result (λ r. option_map (λ p. (p.0, reader_of p.1)) r
             ≡ found_part number (map.get self.old.writes number)) }
@@ -203,7 +204,7 @@ impl MemCache {
     {
         match self.drafts.follow(alloc, slot, number) {
             Ok(Some((meta, slot))) => {
-                let part = PartialHit::new(slot, number as u64);
+                let part = PartialHit::new(slot, number);
                 Ok(Some((meta, MemHitHandler::Partial(part))))
             }
             Ok(None) => Ok(None),
@@ -211,7 +212,7 @@ impl MemCache {
         }
     }
 
-    pub(crate) fn leave(&mut self, slot: u128, number: u128)
+    pub(crate) fn leave(&mut self, slot: u128, number: u64)
         ensures { self.new
             ≡ record self.old {
               writes = left_on self.old.writes number
@@ -221,7 +222,7 @@ impl MemCache {
         self.drafts.leave(slot, number);
     }
 
-    pub(crate) fn write(&mut self, slot: u128, number: u128, bytes: Bytes, eof: bool) -> Result<()>
+    pub(crate) fn write(&mut self, slot: u128, number: u64, bytes: Bytes, eof: bool) -> Result<()>
         ensures ok { OnOk result (self.new ≡ wrote self.old number bytes eof) }
         ensures kind { IfErr result (λ e. e ≡ OutOfMemory) }
         ensures err { OnErr result (self.new ≡ self.old) }
@@ -230,7 +231,7 @@ impl MemCache {
         self.drafts.write(alloc, slot, number, bytes, eof)
     }
 
-    pub(crate) fn drop_write(&mut self, slot: u128, number: u128)
+    pub(crate) fn drop_write(&mut self, slot: u128, number: u64)
         ensures { self.new ≡ dropped self.old number }
     {
         let Some(draft) = self.drafts.get(slot, number) else {
@@ -241,7 +242,7 @@ impl MemCache {
         self.drafts.land(slot, number);
     }
 
-    pub(crate) fn finish(&mut self, slot: u128, number: u128) -> Result<MissFinishType>
+    pub(crate) fn finish(&mut self, slot: u128, number: u64) -> Result<MissFinishType>
         ensures answer { IfOk result (λ f. f ≡ created self.old number) }
         ensures ok { OnOk result (self.new ≡ finished self.old number) }
         ensures untouched { OnOk result (is_untouched self.old number ≡ true) }
@@ -327,14 +328,14 @@ impl StoreMeaning for MemCache {
 }
 
 // The number of the write that a tag names.
-fn number_named_by(tag: Option<&[u8]>) -> Option<u128>
+fn number_named_by(tag: Option<&[u8]>) -> Option<u64>
     ensures { result ≡ named_by (option_copied tag.entry) }
 {
     let Some(tag) = tag else {
         return None;
     };
     match U64WriteId::try_from(tag) {
-        Ok(id) => Some(u64::from(id) as u128),
+        Ok(id) => Some(u64::from(id)),
         Err(_) => None,
     }
 }
@@ -397,7 +398,7 @@ impl Storage for MemCache {
         let draft = Draft::new(alloc, slot, meta);
         self.drafts.begin(draft)?;
         if let Err(refused) = self.slots.open(alloc, slot, number) {
-            self.drafts.take_back(slot);
+            self.drafts.take_back(slot, number);
             return Err(refused);
         }
         Ok(MemMissHandler::new(slot, number))

@@ -22,7 +22,6 @@ use Rattle.pcache_history.specs.declared.call.Reply.TheVariants as R
 use Rattle.pcache_history.specs.declared.entry.Entry.{Entry}
 use Rattle.pcache_history.specs.declared.entry.Event.{Event}
 use Rattle.pcache_history.specs.Deeds.{Deed, deeds_of}
-use Rattle.pcache_history.specs.Due.{KeepsKey}
 use Rattle.pcache_history.specs.Events.{tracked}
 use Rattle.pcache_history.specs.Facts.{Facts, Says, request_in}
 use Rattle.pcache_history.specs.Files.{IsEarly, files_in, is_load, only_loads}

@@ -13,8 +13,6 @@ use Rattle.pcache_lock.specs.declared.lock.status.LockStatus.{LockStatus}
 use Rattle.pcache_lock.specs.declared.lock.permit.Locked.TheVariants.{Write, Read}
 use Rattle.pcache_base.specs.declared.poll.Poll.{Poll}
 use Rattle.pcache_evict.specs.Tracked.{Tracked}
-use Rattle.pcache_predict.specs.declared.admission.Decision.{Decision}
-use Rattle.pcache_base.specs.declared.key.CompactCacheKey.{CompactCacheKey}
 use Rattle.pcache_evict.specs.declared.eviction.entry_key.CacheEntryKey.{CacheEntryKey}
 use Rattle.pcache_request.specs.declared.cache.finish.FinishReport.{FinishReport}
 use Rattle.pcache_request.specs.declared.cache.finish.WriteEnd.{WriteEnd}
@@ -22,7 +20,7 @@ use Rattle.pcache_request.specs.declared.cache.finish.WriteEnd.TheVariants.{Stor
 use Rattle.pcache_store.specs.Purge.{purge_outcome, purged_at, expire_outcome, expired_at, slot_outcome}
 use Rattle.pcache_store.specs.Store.{Store, Reader, Part, find, complete_body, reader_weight, read_of, reader_after, purged, meta_changed, Slot, number_of_body, write_read}
 use Rattle.pcache_store.specs.declared.storage.PurgeOutcome.{PurgeOutcome}
-use Rattle.pcache_store.specs.declared.storage.PurgeOutcome.TheVariants.{NotFound, Purged, Expired}
+use Rattle.pcache_store.specs.declared.storage.PurgeOutcome.TheVariants.{NotFound, Expired}
 use Rattle.pcache_request.specs.declared.phase.HitStatus.{HitStatus}
 use Rattle.pcache_history.specs.declared.call.LockKind.{LockKind}
 use Rattle.pcache_history.specs.declared.call.Reply.{Reply}
@@ -39,7 +37,7 @@ use Rattle.pcache_request.specs.Requests.{Request, found_for, found_row, locked_
 use Rattle.pingora_cache.specs.PartFacts.{facts_in, there_for, complete_for, number_for}
 use Rattle.pcache_request.specs.Renewals.{has_body, renewed_by}
 use Rattle.pcache_history.specs.Rules.{Misses, Renews, Takes, renew_of, update_reply, AsksIf, IsLockRefusal, each, accesses, permit_of, untrack_of}
-use Rattle.pcache_history.specs.Ongoing.{Ongoing, lock_of, asked, began, read_past}
+use Rattle.pcache_history.specs.Ongoing.{lock_of, asked, began, read_past}
 use Rattle.pingora_cache.specs.Step.{IsAnswered, renewal_reply, renewing, asking, kind_asked, noting, permit_in, permit_released, untracking}
 use Rattle.pingora_cache.proofs.StateAnswers.{found-answer, read-past}
 use Rattle.pingora_cache.proofs.StateCalls.{begun-joins}
@@ -148,10 +146,6 @@ read-moved s x a h = ap (λ r. record x { reader = r }) (elim x.reader as (λ o.
   | None ↦ λ _. refl
   | Some r ↦ λ is. ap Some (sym (read-past s r) ∙ ap (λ p. read_past p r) (sym is))
 ] h)
-
--- a request with this, and a pair
-abbrev pub held_with : Option Decision → Option (Meta × Reader) → Request → Ongoing
-held_with d p x = record { request = x; pair = p; carried = d; put = None }
 
 -- a write that began is held, the permit is released, and the reader follows it
 

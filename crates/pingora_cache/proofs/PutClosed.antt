@@ -1,15 +1,12 @@
 -- What the end of a put does, by what its context promises.
 use Rattle.pcache_store.specs.Readers.{in_memory}
 use Rattle.std.proofs.Common.{◌≡◌, ℕ, ◌⊎◌, length, true, false, is_some, Option, None, Some, List, [], ◌∷◌, ◌++◌, refl, ap, sym, subst, ◌∙◌, inl, inr}
-use Rattle.pcache_base.specs.CompactKey.{compact_of}
 use Rattle.pcache_base.specs.Key.{slot}
 use Rattle.pcache_base.specs.declared.error.ErrorType.{ErrorType}
 use Rattle.pcache_base.specs.declared.error.ErrorType.TheVariants as error
 use Rattle.pcache_base.specs.declared.error.ErrorType.TheVariants.{OutOfMemory, IncompleteHttpBody}
-use Rattle.pcache_evict.specs.Entry.{key_of}
 use Rattle.pcache_evict.specs.Tracked.{Tracked, Limits}
 use Rattle.pcache_evict.specs.declared.eviction.entry_key.CacheEntryKey.{CacheEntryKey}
-use Rattle.pcache_evict.specs.declared.eviction.entry_key.CacheEntryKey.TheVariants.{KeyOnly}
 use Rattle.pcache_lock.specs.Locks.{Locks, no_locks}
 use Rattle.pcache_put.specs.Counted.{Counted}
 use Rattle.pcache_put_ctx.specs.Puts.{Piece, Says, Outcome as Comes, IsResult}

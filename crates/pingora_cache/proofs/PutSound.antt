@@ -24,7 +24,7 @@ use Rattle.pcache_history.specs.declared.entry.Event.{Event}
 use Rattle.pcache_request.specs.LockUse.{unheld}
 use Rattle.pcache_history.specs.Ongoing.{Ongoing, is_done, kind_of_reply, request_of, row, taken_over, turned_by}
 use Rattle.pingora_cache.specs.Untold.{untold, uncounted, untold_put}
-use Rattle.pcache_history.specs.PutHistory.{AreWhole, BeginsBy, BeginsIn, BeginsOf, SayBegins, ClosesBy, EndsBy, IgnoresAt, IgnoresBy, IgnoresIn, IgnoresOf, WasAtStage, Tells, TellsOf, filled_after, filled_of, pieces_of, pieces_on}
+use Rattle.pcache_history.specs.PutHistory.{AreWhole, BeginsBy, BeginsOf, SayBegins, ClosesBy, EndsBy, IgnoresAt, IgnoresBy, IgnoresIn, IgnoresOf, WasAtStage, Tells, TellsOf, filled_after, filled_of, pieces_of, pieces_on}
 use Rattle.pingora_cache.specs.PutsSound.{EndedIn, EndsWhole, HasEnded, HasSome, PutTurn, PutsSound, TakenIn}
 use Rattle.pcache_history.specs.Rules.{IsCopy, IsIdle}
 use Rattle.pingora_cache.specs.Sound.{AreOpen, IsSound, readers, record_of}

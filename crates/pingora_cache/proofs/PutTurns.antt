@@ -17,7 +17,7 @@ use Rattle.pcache_history.specs.Deeds.{deeds_in, held_in, status_left}
 use Rattle.pcache_history.specs.Due.{KeepsKey, IsOfWorldIn}
 use Rattle.pcache_history.specs.Facts.{Facts, request_in}
 use Rattle.pingora_cache.specs.PartFacts.{facts_in, no_facts}
-use Rattle.pcache_history.specs.Ongoing.{Ongoing, IsOngoingPut, ReplyKind, was_wrong, ongoing_put, is_done, is_wrong, kind_of_reply, row}
+use Rattle.pcache_history.specs.Ongoing.{Ongoing, IsOngoingPut, was_wrong, ongoing_put, is_done, is_wrong, kind_of_reply, row}
 use Rattle.pingora_cache.specs.Handing.{open_at}
 use Rattle.pingora_cache.specs.Moved.{Moves, MovesRequest, MovesStore}
 use Rattle.pcache_history.specs.PutHistory.{BeginsBy, BeginsIn, BeginsOf, ClosesBy, EndsBy, IgnoresBy, IgnoresIn, IgnoresOf, filled_after, pieces_on}

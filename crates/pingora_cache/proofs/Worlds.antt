@@ -58,6 +58,11 @@ sound-new limits start s t age all h is unlocked none new =
 pub sound-same : (limits : Limits) (start start' m : Tracked) (s : Store) (t : Locks) (all : FinMap nat_cmp Ongoing) (h h' : List Entry) → IsSound limits start m s t all (reverse h) → start' ≡ start → h' ≡ h → IsSound limits start' m s t all (reverse h')
 sound-same limits start start' m s t all h h' k first is = subst (λ (first : Tracked). IsSound limits first m s t all (reverse h')) (sym first) (subst (λ (xs : List Entry). IsSound limits start m s t all (reverse xs)) (sym is) k)
 
+-- the same of a store and a lock table that are equal to these
+pub sound-at : {limits : Limits} {start m : Tracked} {s s' : Store} {t t' : Locks} {all : FinMap nat_cmp Ongoing} {h : List Entry} → IsSound limits start m s t all h → s' ≡ s → t' ≡ t → IsSound limits start m s' t' all h
+sound-at {limits} {start} {m} {s} {s'} {t} {t'} {all} {h} k store table =
+    subst (λ (u : Store). IsSound limits start m u t' all h) (sym store) (subst (λ (u : Locks). IsSound limits start m s u all h) (sym table) k)
+
 -- what was taken down at the start is told of no manager
 pub started-once : {V : Type 0} (f : V → List (CacheEntryKey × ℕ)) (o : Option V) (m n : Tracked) → IsSome o → started (option_map f o) m ≡ started (option_map f o) n
 started-once f None m n some = absurd (both_ways false refl some)

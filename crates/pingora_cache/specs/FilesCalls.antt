@@ -4,11 +4,17 @@ use Rattle.pcache_base.specs.declared.error.ErrorType.TheVariants.{Io}
 use Rattle.pcache_evict.specs.Recency.{Recency}
 use Rattle.pcache_evict.specs.Tracked.{Tracked}
 use Rattle.pcache_files.specs.Folder.{Loads}
+use Rattle.pcache_history.specs.declared.call.Act.TheVariants.{Files}
+use Rattle.pcache_history.specs.declared.call.Call.{Call}
 use Rattle.pcache_history.specs.declared.call.FilesAct.{FilesAct}
 use Rattle.pcache_history.specs.declared.call.FilesAct.TheVariants.{Save, Load}
 use Rattle.pcache_history.specs.declared.call.Reply.{Reply}
 use Rattle.pcache_history.specs.declared.call.Reply.TheVariants as R
 use Rattle.pcache_history.specs.Rules.{IsFilesReply}
+
+-- a call on files; its number means nothing
+abbrev pub files_call : FilesAct → Call
+files_call act = record { request = 0; act = Files act }
 
 -- its reply; `early` says whether only loads came before it
 abbrev pub AnswersFiles : Bool → FilesAct → Reply → Type 0

@@ -19,6 +19,7 @@ use Rattle.pcache_history.specs.Ongoing.{Ongoing, ReplyKind, was_done, handed_by
 use Rattle.pcache_put_ctx.specs.Puts.{Says}
 use Rattle.pingora_cache.specs.PutsSound.{HasSome, PutTurn}
 use Rattle.pcache_history.specs.Rules.{Replies}
+use Rattle.pingora_cache.specs.State.{State}
 use Rattle.pingora_cache.specs.Step.{IsMoved, Turn}
 use Rattle.pcache_history.specs.Due.{IsOfWorldIn}
 
@@ -62,3 +63,7 @@ pub record HandsOver (from to : ℕ) (all : ℕ → Option Ongoing) (t : Locks) 
 pub data Acts (limits : Limits) (says : Says) (call : Call) (all : List (ℕ × Ongoing)) (s : Store) (m : Tracked) (t : Locks) (reply : Reply) (events : List Event) (all' : List (ℕ × Ongoing)) (s' : Store) (m' : Tracked) (t' : Locks) : Type 0 where
   of_one : IsOfOne call.act → (IsOfWorldIn (open_at call.request all) → HasSome says s (open_at call.request all) → Turn limits call.request call.act (open_at call.request all) s m t reply events (open_at call.request all') s' m' t') → PutTurn says call.act reply events (open_at call.request all) (open_at call.request all') → IsMoved call.request all all' → Acts limits says call all s m t reply events all' s' m' t'
   of_two : (to : ℕ) → call.act ≡ C.Give to → HandsOver call.request to (λ q. open_at q all) t reply events (λ q. open_at q all') t' → s' ≡ s → m' ≡ m → Acts limits says call all s m t reply events all' s' m' t'
+
+-- the same of the parts as one value
+abbrev pub ActsOn : Says → Call → List (ℕ × Ongoing) → State → Reply → List Event → List (ℕ × Ongoing) → State → Type 0
+ActsOn says call all p reply events all' p' = Acts p.limits says call all p.store p.tracked p.locks reply events all' p'.store p'.tracked p'.locks

@@ -13,8 +13,14 @@ use Rattle.pcache_lock.specs.declared.lock.permit.Locked.TheVariants.{Write, Rea
 use Rattle.pcache_lock.specs.declared.lock.status.LockStatus.{LockStatus}
 use Rattle.pcache_request.specs.LockUse.{published_by}
 use Rattle.pcache_request.specs.LockWaits.{too_old_for}
-use Rattle.pcache_request.specs.Requests.{let_go_by, settled}
-use Rattle.pcache_history.specs.Deeds.{Deed, Asked, Released, LetGo, Aged, Polled, published_on}
+use Rattle.pcache_request.specs.Requests.{Request, let_go_by, settled}
+use Rattle.pcache_history.specs.declared.call.Act.{Act}
+use Rattle.pcache_history.specs.declared.call.Act.TheVariants as C
+use Rattle.pcache_history.specs.declared.call.RequestAct.TheVariants as Q
+use Rattle.pcache_history.specs.declared.call.Reply.{Reply}
+use Rattle.pcache_history.specs.declared.entry.Event.{Event}
+use Rattle.pcache_history.specs.Deeds.{Deed, Asked, Released, LetGo, Aged, Polled, deeds_by, deeds_in, published_on, status_left}
+use Rattle.pcache_history.specs.Ongoing.{Ongoing, kind_of_reply}
 use Rattle.pcache_history.specs.Rules.{number_read, permit_of}
 
 pub data LockMove : Type 0 where
@@ -98,3 +104,15 @@ pub record MovesLocks (r : ℕ) (deeds : List Deed) (mine : Option Locked) (t : 
   pub done : deeds ≡ deeds_moved move r mine t
   pub held : last ≡ held_moved move mine t
   pub table : u ≡ table_moved move mine t
+
+-- the status with which the end of a write releases a permit, by its events
+abbrev pub status_finished : List Event → LockStatus
+status_finished events = status_left (C.Request Q.Finish) events
+
+-- the deeds of these events, at a moment and with this status, are those of a move from what a request holds to what it holds after
+abbrev pub MovesLocksBy : ℕ → LockStatus → List Event → Request → Locks → Request → Locks → Type 0
+MovesLocksBy at s events x t y u = (r : ℕ) → MovesLocks r (deeds_by r at s events) x.held t y.held u
+
+-- the same of all deeds of a call
+abbrev pub MovesLocksIn : Act → Reply → List Event → Ongoing → Locks → Ongoing → Locks → Type 0
+MovesLocksIn act reply events x t y u = (r : ℕ) → MovesLocks r (deeds_in r act (kind_of_reply reply) events (Some x)) x.request.held t y.request.held u

@@ -11,6 +11,7 @@ use Rattle.pcache_store.specs.Store as store
 use Rattle.pcache_store.specs.Store.{Store, Reader, read_of, is_told, is_untouched, written_size}
 use Rattle.pcache_history.specs.Facts.{Facts}
 use Rattle.pcache_history.specs.Ongoing.{Ongoing}
+use Rattle.pingora_cache.specs.State.{State}
 
 -- something is stored for the key
 abbrev pub there_for : Store → Option Key → Bool
@@ -69,6 +70,10 @@ facts_for s t x taker = record {
 -- the facts for a call that hands nothing over
 abbrev pub facts_in : Store → Locks → Request → Facts
 facts_in s t x = facts_for s t x None
+
+-- the same, by the parts as one value
+abbrev pub facts_of : State → Request → Facts
+facts_of p x = facts_in p.store p.locks x
 
 -- the facts for a call that asks for none
 abbrev pub no_facts : Facts

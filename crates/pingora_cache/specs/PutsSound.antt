@@ -6,6 +6,7 @@ use Rattle.pcache_put_ctx.specs.Puts.{Piece, Says}
 use Rattle.pcache_put_ctx.specs.State.{Filled, TakenBy}
 use Rattle.pcache_store.specs.Store.{Store, is_told}
 use Rattle.pcache_history.specs.declared.call.Act.{Act}
+use Rattle.pcache_history.specs.declared.call.Act.TheVariants as C
 use Rattle.pcache_history.specs.declared.call.Reply.{Reply}
 use Rattle.pcache_history.specs.declared.entry.Entry.{Entry}
 use Rattle.pcache_history.specs.declared.entry.Event.{Event}
@@ -28,6 +29,10 @@ pub record PutTurn (says : Says) (act : Act) (reply : Reply) (events : List Even
   pub ignores : (pieces : List Piece) (f : Option Filled) → TakenIn says q pieces f → IgnoresBy act q pieces reply events
   pub begins : (pieces : List Piece) (f : Option Filled) → TakenIn says q pieces f → BeginsBy says act q (pieces_on act (kind_of_reply reply) pieces) events
   pub ends : (pieces : List Piece) (f : Option Filled) → TakenIn says q pieces f → EndsBy act (pieces_on act (kind_of_reply reply) pieces) events
+
+-- of a close alone: its reply is that of a put that has taken in these pieces
+abbrev pub TellsClosed : Says → Option Ongoing → Reply → Type 0
+TellsClosed says q reply = (pieces : List Piece) (f : Option Filled) → TakenIn says q pieces f → ClosesBy says C.Close q pieces f reply
 
 -- the end of this write was announced in the store only if these pieces are whole
 abbrev pub EndsWhole : Store → Option ℕ → List Piece → Type 0

@@ -5,6 +5,7 @@ use Rattle.std.specs.Map.{lookup}
 use Rattle.std.specs.Option.{option_map}
 use Rattle.std.specs.BTreeMap.{is_at}
 use Rattle.pcache_meta.specs.Meta.{Meta}
+use Rattle.pcache_predict.specs.declared.admission.Decision.{Decision}
 use Rattle.pcache_base.specs.declared.error.ErrorType.{ErrorType}
 use Rattle.pcache_base.specs.declared.error.ErrorType.TheVariants.{WriteRemoved}
 use Rattle.pcache_evict.specs.Tracked.{Tracked, Limits}
@@ -35,9 +36,11 @@ use Rattle.pcache_history.specs.Deeds.{deeds_in, held_in}
 use Rattle.pcache_history.specs.Ongoing.{Ongoing, kind_of_reply, row, pair_of, pair_reader}
 use Rattle.pingora_cache.specs.LockMoves.{MovesLocks}
 use Rattle.pingora_cache.specs.Moved.{Moves}
-use Rattle.pingora_cache.specs.PartFacts.{facts_in}
+use Rattle.pingora_cache.specs.Opens.{open_with, pair_read}
+use Rattle.pingora_cache.specs.PartFacts.{facts_in, facts_of}
+use Rattle.pingora_cache.specs.State.{State}
 use Rattle.pingora_cache.specs.Untold.{untold}
-use Rattle.pcache_history.specs.Rules.{Replies, drop_of, each, kind_of, look_reply, renew_of, update_reply}
+use Rattle.pcache_history.specs.Rules.{FollowsRule, Replies, drop_of, each, kind_of, look_reply, renew_of, update_reply}
 
 -- a pair that a look-up may give
 abbrev pub IsAnswered : Meta → Reader → Type 0
@@ -86,6 +89,10 @@ store_ended x s = left_by x.request.reader (dropped_by x.request.write (left_by 
 abbrev pub IsRow : Act → Reply → List Event → Option Ongoing → Option Ongoing → Type 0
 IsRow act reply events q q' = option_map untold q' ≡ option_map untold (row act reply events q)
 
+-- the same of a call that takes this pair, whichever decision the request carries; nothing is left out
+abbrev pub RowTaking : Meta × MemHitHandler → Act → Reply → List Event → Request → Request → Type 0
+RowTaking pair act reply events x y = (d : Option Decision) → open_with d None y ≡ row act reply events (open_with d (pair_read pair) x)
+
 -- one call of the request r over the parts: its reply and its events are those that the parts give, and the parts change
 -- by its events
 pub record Turn (limits : Limits) (r : ℕ) (act : Act) (q : Option Ongoing) (s : Store) (m : Tracked) (t : Locks) (reply : Reply) (events : List Event) (q' : Option Ongoing) (s' : Store) (m' : Tracked) (t' : Locks) : Type 0 where
@@ -94,6 +101,17 @@ pub record Turn (limits : Limits) (r : ℕ) (act : Act) (q : Option Ongoing) (s 
   pub keeps : KeepsKey q q'
   pub now : IsRow act reply events q q'
   pub locks : MovesLocks r (deeds_in r act (kind_of_reply reply) events q) (held_in q) t (held_in q') t'
+
+-- the same of the parts as one value
+abbrev pub Turns : ℕ → Act → Option Ongoing → State → Reply → List Event → Option Ongoing → State → Type 0
+Turns r act q p reply events q' p' = Turn p.limits r act q p.store p.tracked p.locks reply events q' p'.store p'.tracked p'.locks
+
+-- a call of an open request follows its rule, by what a store and a lock table say; and by what the parts say
+abbrev pub Answers : Store → Locks → Act → Ongoing → Reply → List Event → Type 0
+Answers s t act x reply events = FollowsRule (facts_in s t x.request) act (Some x) reply events
+
+abbrev pub AnswersOf : State → Act → Ongoing → Reply → List Event → Type 0
+AnswersOf p act x reply events = FollowsRule (facts_of p x.request) act (Some x) reply events
 
 -- only what is open under this number changes
 abbrev pub IsMoved : ℕ → List (ℕ × Ongoing) → List (ℕ × Ongoing) → Type 0

@@ -162,7 +162,8 @@ impl ReadLock {
                   (watch_at core.now (option_copied fills.entry) self.old.watch));
             }) }
         ensures told { IfOk result (λ told. told
-            ≡ (watched core.now (watch_at core.now (option_copied fills.entry) self.old.watch)).told) }
+            ≡ (watched core.now
+            (watch_at core.now (option_copied fills.entry) self.old.watch)).told) }
         ensures err { OnErr result (self.new ≡ self.old) }
         ensures kind { IfErr result (λ e. e ≡ OutOfMemory) }
         ensures later { IsSome self.old.watch → IsOk result }

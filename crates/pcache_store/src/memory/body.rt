@@ -128,13 +128,13 @@ impl KeySlot {
         self.body.as_ref()
     }
 
-    pub(crate) fn least(&self) -> Option<u128>
+    pub(crate) fn least(&self) -> Option<u64>
         ensures { result ≡ least self.now.untouched }
     {
         self.untouched.least()
     }
 
-    pub(crate) fn is_untouched(&self, number: u128) -> bool
+    pub(crate) fn is_untouched(&self, number: u64) -> bool
         ensures { result ≡ map.contains_key self.now.untouched number }
     {
         self.untouched.contains(number)
@@ -154,14 +154,14 @@ impl KeySlot {
         self.untouched.insert(number)
     }
 
-    pub(crate) fn shut(&mut self, number: u128)
+    pub(crate) fn shut(&mut self, number: u64)
         ensures { self.new ≡ record self.old { untouched = map.remove self.old.untouched number } }
     {
         self.untouched.remove(number);
     }
 
     // Stores a body, and returns the one that it replaces.
-    pub(crate) fn store(&mut self, number: u128, body: Body) -> Option<Body>
+    pub(crate) fn store(&mut self, number: u64, body: Body) -> Option<Body>
         ensures before { result ≡ self.old.body }
         ensures after { self.new
             ≡ record { body = Some body; untouched = map.remove self.old.untouched number } }
@@ -209,7 +209,7 @@ impl KeySlot {
     pub(crate) fn has_write(&self, id: CacheEntryId) -> bool
         ensures { result ≡ has_write id (Some self.now) }
     {
-        self.untouched.contains(id.get() as u128) || self.entry_id() == Some(id)
+        self.untouched.contains(id.get()) || self.entry_id() == Some(id)
     }
 
     // Removes a write, and returns its body if it is complete.
@@ -217,7 +217,7 @@ impl KeySlot {
         ensures body { result ≡ body_with id self.old.body }
         ensures after { self.new ≡ slot_without id self.old }
     {
-        self.untouched.remove(id.get() as u128);
+        self.untouched.remove(id.get());
         if self.entry_id() == Some(id) {
             self.body.take()
         } else {

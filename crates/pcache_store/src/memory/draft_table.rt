@@ -80,9 +80,10 @@ impl DraftTable {
         table.len()
     }
 
-    pub(crate) fn get(&self, slot: u128, number: u128) -> Option<&Draft>
+    pub(crate) fn get(&self, slot: u128, number: u64) -> Option<&Draft>
         ensures { option_copied result ≡ map.get self.now number }
     {
+        let number = number as u128;
         let shards = &self.shards;
         let place = place_of(shards, slot, number);
         let table = &shards[place];
@@ -90,7 +91,7 @@ impl DraftTable {
     }
 
     // Adds the record of a new write.
-    pub(crate) fn insert(&mut self, number: u128, draft: Draft) -> Result<()>
+    pub(crate) fn insert(&mut self, number: u64, draft: Draft) -> Result<()>
         requires { map.get self.old number ≡ None }
         ensures ok { OnOk result (self.new ≡ map.insert self.old number draft) }
         ensures kind { IfErr result (λ e. e ≡ OutOfMemory) }
@@ -101,15 +102,16 @@ impl DraftTable {
         }
         let place = (draft.slot() % SHARDS) as usize;
         let table = &mut self.shards[place];
-        table.insert(number, draft)?;
+        table.insert(number as u128, draft)?;
         self.count += 1;
         Ok(())
     }
 
     // Removes a record.
-    pub(crate) fn remove(&mut self, slot: u128, number: u128)
+    pub(crate) fn remove(&mut self, slot: u128, number: u64)
         ensures { self.new ≡ map.remove self.old number }
     {
+        let number = number as u128;
         let place = place_of(&self.shards, slot, number);
         let table = &mut self.shards[place];
         self.count -= one_if(table.remove(number).is_some());
@@ -119,7 +121,7 @@ impl DraftTable {
         &mut self,
         alloc: Global,
         slot: u128,
-        number: u128,
+        number: u64,
         bytes: Bytes,
         eof: bool,
     ) -> Result<()>
@@ -128,6 +130,7 @@ impl DraftTable {
         ensures kind { IfErr result (λ e. e ≡ OutOfMemory) }
         ensures err { OnErr result (self.new ≡ self.old) }
     {
+        let number = number as u128;
         let place = place_of(&self.shards, slot, number);
         let table = &mut self.shards[place];
         write_in(table, alloc, number, bytes, eof)
@@ -138,7 +141,7 @@ impl DraftTable {
         &mut self,
         alloc: Global,
         slot: u128,
-        number: u128,
+        number: u64,
     ) -> Result<Option<(CacheMeta, u128)>>
         ensures meta { IfOk result (λ m.
             m ≡ option_map (λ w. (w.meta, w.slot)) (map.get self.old number)) }
@@ -148,36 +151,40 @@ impl DraftTable {
         ensures kind { IfErr result (λ e. e ≡ OutOfMemory) }
         ensures err { OnErr result (self.new ≡ self.old) }
     {
+        let number = number as u128;
         let place = place_of(&self.shards, slot, number);
         let table = &mut self.shards[place];
         follow_in(table, alloc, number)
     }
 
     // Counts one reader less.
-    pub(crate) fn leave(&mut self, slot: u128, number: u128)
+    pub(crate) fn leave(&mut self, slot: u128, number: u64)
         ensures { self.new ≡ left_on self.old number (map.get self.old number) }
     {
+        let number = number as u128;
         let place = place_of(&self.shards, slot, number);
         let table = &mut self.shards[place];
         self.count -= leave_in(table, number);
     }
 
     // Records that the handler of a write is gone.
-    pub(crate) fn land(&mut self, slot: u128, number: u128)
+    pub(crate) fn land(&mut self, slot: u128, number: u64)
         ensures { self.new ≡ grounded_on self.old number (map.get self.old number) }
     {
+        let number = number as u128;
         let place = place_of(&self.shards, slot, number);
         let table = &mut self.shards[place];
         self.count -= land_in(table, number);
     }
 
     // Ends a write: its handler is gone. Returns its body, which shares its bytes.
-    pub(crate) fn end(&mut self, alloc: Global, slot: u128, number: u128) -> Result<Body>
+    pub(crate) fn end(&mut self, alloc: Global, slot: u128, number: u64) -> Result<Body>
         requires { IsSome (map.get self.old number) }
         ensures body { IfOk result (λ b. IsBodyOf (map.get self.old number) b) }
         ensures gone { self.new ≡ grounded_on self.old number (map.get self.old number) }
         ensures kind { IfErr result (λ e. e ≡ OutOfMemory) }
     {
+        let number = number as u128;
         let place = place_of(&self.shards, slot, number);
         let table = &mut self.shards[place];
         let (body, gone) = end_in(table, alloc, number);

@@ -16,24 +16,23 @@ use pcache_meta::meta::CacheMeta;
 use std::alloc::Global;
 use std::marker::Model;
 
-/// The writes that a handler or a reader names, by number. Each number is given once.
+/// The writes that a handler or a reader names, by number. Each number is given once; after the last one there is no next.
 #[derive(Drop)]
 pub(crate) struct Drafts {
     writes: DraftTable,
-    next: u128,
-    ghost numbers: { next ≤ 2 ^ 64 },
+    next: Option<u64>,
 }
 
 impl Model for Drafts {
-    ghost use Rattle.pcache_store.specs.Drafts.{Numbered, numbered_code, AreBefore};
+    ghost use Rattle.pcache_store.specs.Drafts.{Numbered, numbered_code, next_number, AreBefore};
 
     ghost Value = { Numbered };
 
     ghost coded = { numbered_code };
 
-    ghost view = { λ a. record { writes = a.writes; next = a.next } };
+    ghost view = { λ a. record { writes = a.writes; next = next_number a.next } };
 
-    ghost invariant = { λ a. AreBefore a.writes a.next };
+    ghost invariant = { λ a. AreBefore a.writes (next_number a.next) };
 }
 
 impl Drafts {
@@ -49,7 +48,7 @@ impl Drafts {
     {
         Drafts {
             writes: DraftTable::new(alloc, seed),
-            next: u128::from(next),
+            next: Some(next),
         }
     }
 
@@ -67,18 +66,18 @@ impl Drafts {
         self.writes.shard_len(shard)
     }
 
-    pub(crate) fn get(&self, slot: u128, number: u128) -> Option<&Draft>
+    pub(crate) fn get(&self, slot: u128, number: u64) -> Option<&Draft>
         ensures { option_copied result ≡ map.get self.now.writes number }
     {
         self.writes.get(slot, number)
     }
 
-    // The number of the next write, if it has 64 bits.
+    // The number of the next write, if not all are used.
     pub(crate) fn next(&self) -> Option<u64>
         ensures value { IfSome result (λ n. n ≡ self.now.next) }
         ensures some { IsSome result ↔ (self.now.next < 2 ^ 64) }
     {
-        u64::try_from(self.next).ok()
+        Some(self.next?) // for the prover: a number that is named is known to have 64 bits
     }
 
     pub(crate) fn begin(&mut self, draft: Draft) -> Result<()>
@@ -92,29 +91,32 @@ impl Drafts {
         ensures kind { IfErr result (λ e. e ≡ OutOfMemory) }
         ensures err { OnErr result (self.new ≡ self.old) }
     {
-        self.writes.insert(self.next, draft)?;
-        self.next += 1;
+        let Some(number) = self.next else {
+            unreachable!()
+        };
+        self.writes.insert(number, draft)?;
+        self.next = number.checked_add(1);
         Ok(())
     }
 
-    // Undoes the begin of the last write.
-    pub(crate) fn take_back(&mut self, slot: u128)
-        requires { 0 < self.old.next }
+    // Undoes the begin of the last write, which has this number.
+    pub(crate) fn take_back(&mut self, slot: u128, number: u64)
+        requires { self.old.next ≡ number + 1 }
         ensures { self.new
             ≡ record {
               writes = map.remove self.old.writes (self.old.next - 1);
               next = self.old.next - 1;
             } }
     {
-        self.next -= 1;
-        self.writes.remove(slot, self.next);
+        self.next = Some(number);
+        self.writes.remove(slot, number);
     }
 
     pub(crate) fn write(
         &mut self,
         alloc: Global,
         slot: u128,
-        number: u128,
+        number: u64,
         bytes: Bytes,
         eof: bool,
     ) -> Result<()>
@@ -134,11 +136,10 @@ impl Drafts {
         &mut self,
         alloc: Global,
         slot: u128,
-        number: u128,
+        number: u64,
     ) -> Result<Option<(CacheMeta, u128)>>
         ensures meta { IfOk result (λ m.
             m ≡ option_map (λ w. (w.meta, w.slot)) (map.get self.old.writes number)) }
-        ensures small { IfOk result (λ m. IfSome m (λ _. number < 2 ^ 64)) }
         ensures ok { OnOk result (self.new
             ≡ record self.old {
               writes = followed_on self.old.writes number
@@ -152,7 +153,7 @@ impl Drafts {
     }
 
     // Counts one reader less.
-    pub(crate) fn leave(&mut self, slot: u128, number: u128)
+    pub(crate) fn leave(&mut self, slot: u128, number: u64)
         ensures { self.new
             ≡ record self.old {
               writes = left_on self.old.writes number
@@ -163,7 +164,7 @@ impl Drafts {
     }
 
     // Records that the handler of a write is gone.
-    pub(crate) fn land(&mut self, slot: u128, number: u128)
+    pub(crate) fn land(&mut self, slot: u128, number: u64)
         ensures { self.new
             ≡ record self.old {
               writes = grounded_on self.old.writes number
@@ -174,7 +175,7 @@ impl Drafts {
     }
 
     // Ends a write: its handler is gone. Returns its body, which shares its bytes.
-    pub(crate) fn end(&mut self, alloc: Global, slot: u128, number: u128) -> Result<Body>
+    pub(crate) fn end(&mut self, alloc: Global, slot: u128, number: u64) -> Result<Body>
         requires { IsSome (map.get self.old.writes number) }
         ensures body { IfOk result (λ b. IsBodyOf (map.get self.old.writes number) b) }
         ensures gone { self.new

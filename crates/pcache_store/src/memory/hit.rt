@@ -162,7 +162,7 @@ impl MemHitHandler {
                     slot,
                     place: _,
                 } = part;
-                store.leave(slot, write as u128);
+                store.leave(slot, write);
             }
         }
     }
@@ -223,7 +223,7 @@ impl HandleHit<MemCache> for MemHitHandler {
                 Err(refused) => Err(refused),
             },
             MemHitHandler::Partial(part) => {
-                let Some(draft) = store.draft(part.slot, part.write as u128) else {
+                let Some(draft) = store.draft(part.slot, part.write) else {
                     return Ok(Poll::Ready(None));
                 };
                 let written = draft.len();

@@ -43,11 +43,11 @@ impl HandleMiss<MemCache> for MemMissHandler {
     ghost entry_number = { λ h. Some h.number };
 
     fn write_body(&mut self, store: &mut MemCache, bytes: Bytes, eof: bool) -> Result<()> {
-        store.write(self.slot, self.number as u128, bytes, eof)
+        store.write(self.slot, self.number, bytes, eof)
     }
 
     fn at_eof(&self, store: &MemCache) -> bool {
-        match store.draft(self.slot, self.number as u128) {
+        match store.draft(self.slot, self.number) {
             Some(draft) => draft.is_told(),
             None => false,
         }
@@ -59,7 +59,7 @@ impl HandleMiss<MemCache> for MemMissHandler {
             slot,
             tag: _,
         } = self;
-        store.finish(slot, number as u128)
+        store.finish(slot, number)
     }
 
     fn drop_write(self, store: &mut MemCache) {
@@ -68,7 +68,7 @@ impl HandleMiss<MemCache> for MemMissHandler {
             slot,
             tag: _,
         } = self;
-        store.drop_write(slot, number as u128);
+        store.drop_write(slot, number);
     }
 
     fn streaming_write_tag(&self) -> Option<&[u8]> {

@@ -114,7 +114,7 @@ impl SlotTable {
     }
 
     // Records that a write of the key ends, and nothing is stored.
-    pub(crate) fn shut(&mut self, key: u128, number: u128)
+    pub(crate) fn shut(&mut self, key: u128, number: u64)
         ensures { self.new ≡ shut_on self.old key number (map.get self.old key) }
     {
         let _ = &self.shards; // for the prover: once a field is used, the invariant is known
@@ -124,7 +124,7 @@ impl SlotTable {
     }
 
     // Records that a write of the key ends. Its body replaces an older one, which is returned.
-    pub(crate) fn store(&mut self, key: u128, number: u128, body: Body) -> Option<Body>
+    pub(crate) fn store(&mut self, key: u128, number: u64, body: Body) -> Option<Body>
         requires { IsSome (map.get self.old key) }
         ensures older { result ≡ complete_body (map.get self.old key) }
         ensures slots { self.new ≡ stored_on self.old key number body (map.get self.old key) }
@@ -217,7 +217,7 @@ fn open_in(slots: &mut HashedTable<KeySlot>, alloc: Global, key: u128, number: u
 }
 
 // Returns how many keys were removed.
-fn shut_in(slots: &mut HashedTable<KeySlot>, key: u128, number: u128) -> usize
+fn shut_in(slots: &mut HashedTable<KeySlot>, key: u128, number: u64) -> usize
     ensures after { slots.new ≡ shut_on slots.old key number (map.get slots.old key) }
     ensures gone { one_if_some (map.get slots.new key) + result
         ≡ one_if_some (map.get slots.old key) }
@@ -234,7 +234,7 @@ fn shut_in(slots: &mut HashedTable<KeySlot>, key: u128, number: u128) -> usize
 }
 
 // Returns the older body.
-fn store_in(slots: &mut HashedTable<KeySlot>, key: u128, number: u128, body: Body) -> Option<Body>
+fn store_in(slots: &mut HashedTable<KeySlot>, key: u128, number: u64, body: Body) -> Option<Body>
     requires { IsSome (map.get slots.old key) }
     ensures older { result ≡ complete_body (map.get slots.old key) }
     ensures slots { slots.new ≡ stored_on slots.old key number body (map.get slots.old key) }

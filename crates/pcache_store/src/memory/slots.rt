@@ -83,7 +83,7 @@ impl Slots {
     }
 
     // Whether a write of the key is in flight and met no removal.
-    pub(crate) fn is_untouched(&self, key: u128, number: u128) -> bool
+    pub(crate) fn is_untouched(&self, key: u128, number: u64) -> bool
         ensures { result ≡ is_untouched_in number (map.get self.now key) }
     {
         match self.slots.get(key) {
@@ -109,14 +109,14 @@ impl Slots {
     }
 
     // Records that a write of the key ends, and nothing is stored.
-    pub(crate) fn shut(&mut self, key: u128, number: u128)
+    pub(crate) fn shut(&mut self, key: u128, number: u64)
         ensures { self.new ≡ shut_on self.old key number (map.get self.old key) }
     {
         self.slots.shut(key, number);
     }
 
     // Records that a write of the key ends. Its body replaces an older one.
-    pub(crate) fn store(&mut self, key: u128, number: u128, body: Body)
+    pub(crate) fn store(&mut self, key: u128, number: u64, body: Body)
         requires { IsSome (map.get self.old key) }
         ensures { self.new ≡ stored_on self.old key number body (map.get self.old key) }
     {

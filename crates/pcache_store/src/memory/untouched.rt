@@ -3,11 +3,11 @@ ghost use Rattle.std.specs.Prelude.{◌≡◌, ◌==◌, IfErr, OnErr, OnOk};
 ghost use Rattle.std.specs.FinMap as map;
 ghost use Rattle.pcache_base.specs.declared.error.ErrorType.TheVariants.{OutOfMemory};
 ghost use Rattle.pcache_table.specs.Numbers.{least};
-ghost use Rattle.pcache_store.specs.Untouched.{is_one, lesser};
+ghost use Rattle.pcache_store.specs.Untouched.{is_one, lesser, numbers_in};
 
 use pcache_base::error::Result;
-use pcache_table::hashtable::Table;
 use std::alloc::Global;
+use std::collections::BTreeMap;
 use std::marker::Model;
 
 /// The numbers of a key's writes that are in flight and met no removal. Few keys have more than one such write at a time, so one
@@ -15,7 +15,7 @@ use std::marker::Model;
 #[derive(Drop)]
 pub(crate) struct Untouched {
     one: Option<u64>,
-    more: Table<()>,
+    more: BTreeMap<u64, ()>,
 }
 
 impl Model for Untouched {
@@ -23,17 +23,17 @@ impl Model for Untouched {
     ghost use Rattle.std.specs.FinMap as map;
     ghost use Rattle.std.specs.FinSet as set;
     ghost use Rattle.std.specs.Ordering.{nat_cmp};
-    ghost use Rattle.pcache_store.specs.Untouched.{with_one};
+    ghost use Rattle.pcache_store.specs.Untouched.{numbers_in, with_one};
 
     ghost Value = { map.FinMap nat_cmp (Unit {0}) };
 
     ghost coded = { set.code coded_ℕ };
 
-    ghost view = { λ u. with_one u.one u.more };
+    ghost view = { λ u. with_one u.one (numbers_in u.more.entries) };
 }
 
 // The lesser of a number and another, if there is another.
-fn lesser(number: u128, other: Option<u128>) -> u128
+fn lesser(number: u64, other: Option<u64>) -> u64
     ensures { result ≡ lesser number other }
 {
     match other {
@@ -42,12 +42,41 @@ fn lesser(number: u128, other: Option<u128>) -> u128
     }
 }
 
+// Whether there are no numbers.
+fn none_in(numbers: &BTreeMap<u64, ()>) -> bool
+    ensures { result ≡ (map.len (numbers_in numbers.now.entries) == 0) }
+{
+    numbers.len() == 0
+}
+
+// The least of the numbers.
+fn least_of(numbers: &BTreeMap<u64, ()>) -> Option<u64>
+    ensures { result ≡ least (numbers_in numbers.now.entries) }
+{
+    match numbers.iter().next() {
+        Some((number, _nothing)) => Some(*number),
+        None => None,
+    }
+}
+
+// Adds a number.
+fn insert_in(numbers: &mut BTreeMap<u64, ()>, number: u64) -> Result<()>
+    ensures ok { OnOk result (numbers_in numbers.new.entries
+        ≡ map.insert (numbers_in numbers.old.entries) number tt) }
+    ensures kind { IfErr result (λ e. e ≡ OutOfMemory) }
+    ensures err { OnErr result (numbers_in numbers.new.entries
+        ≡ numbers_in numbers.old.entries) }
+{
+    numbers.insert(number, ())?;
+    Ok(())
+}
+
 // Whether it is the number that is kept apart.
-fn is_one(one: Option<u64>, number: u128) -> bool
+fn is_one(one: Option<u64>, number: u64) -> bool
     ensures { result ≡ is_one one number }
 {
     match one {
-        Some(one) => u128::from(one) == number,
+        Some(one) => one == number,
         None => false,
     }
 }
@@ -58,7 +87,7 @@ impl Untouched {
     {
         Untouched {
             one: None,
-            more: Table::new(alloc),
+            more: BTreeMap::new(alloc),
         }
     }
 
@@ -68,26 +97,26 @@ impl Untouched {
     {
         match self.one {
             Some(_) => false,
-            None => self.more.is_empty(),
+            None => none_in(&self.more),
         }
     }
 
     #[tactic(auto, using(crate::proofs::Untouched::least_with))]
-    pub(crate) fn least(&self) -> Option<u128>
+    pub(crate) fn least(&self) -> Option<u64>
         ensures { result ≡ least self.now }
     {
-        let other = self.more.least();
+        let other = least_of(&self.more);
         match self.one {
-            Some(one) => Some(lesser(u128::from(one), other)),
+            Some(one) => Some(lesser(one, other)),
             None => other,
         }
     }
 
     #[tactic(auto, using(crate::proofs::Untouched::contained))]
-    pub(crate) fn contains(&self, number: u128) -> bool
+    pub(crate) fn contains(&self, number: u64) -> bool
         ensures { result ≡ map.contains_key self.now number }
     {
-        is_one(self.one, number) || self.more.contains(number)
+        is_one(self.one, number) || self.more.contains_key(&number)
     }
 
     #[tactic(auto, using(crate::proofs::Untouched::insert_other, crate::proofs::Untouched::insert_again))]
@@ -100,17 +129,17 @@ impl Untouched {
             None => self.one = Some(number),
             Some(one) if one == number => {}
             Some(_) => {
-                self.more.insert(u128::from(number), ())?;
+                insert_in(&mut self.more, number)?;
             }
         }
         Ok(())
     }
 
     #[tactic(auto, using(crate::proofs::Untouched::taken, crate::proofs::Untouched::left_in))]
-    pub(crate) fn remove(&mut self, number: u128)
+    pub(crate) fn remove(&mut self, number: u64)
         ensures { self.new ≡ map.remove self.old number }
     {
-        self.more.remove(number);
+        self.more.remove(&number);
         if is_one(self.one, number) {
             self.one = None;
         }

@@ -1,8 +1,8 @@
 //! The call that names two requests: one hands its permit to the other.
-ghost use Rattle.std.specs.Prelude.{◌≡◌, ◌≤◌, ◌⊎◌, ◌++◌, ◌+◌, [], cond, IfSome, IsSome, IsTrue, ◌↔◌, Some, None, ℕ, vec_len};
+ghost use Rattle.std.specs.Prelude.{◌≡◌, ◌≤◌, [], IfSome, IsTrue, ◌↔◌, Some};
 ghost use Rattle.std.specs.Vec.{vec_capacity};
 ghost use Rattle.pingora_cache.specs.Handing.{HandsOver, IsHandedTo, IsTaken, open_at, table_given};
-ghost use Rattle.pcache_history.specs.Ongoing.{permit_held, handed_by};
+ghost use Rattle.pcache_history.specs.Ongoing.{permit_held};
 ghost use Rattle.pcache_history.specs.Rules.{MayTake, each, given_up};
 ghost use Rattle.pingora_cache.specs.Step.{IsRequestIn};
 ghost use Rattle.pcache_history.specs.declared.entry.Event.TheVariants.{LetGo};

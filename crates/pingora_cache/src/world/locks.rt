@@ -1,24 +1,22 @@
 //! Calls about the lock that a request holds.
-ghost use Rattle.std.specs.Prelude.{◌≡◌, ◌+◌, ◌≤◌, ◌++◌, ◌∷◌, if◌then◌else◌, [], IsSome, None, Option, Some, vec_len, ℕ};
+ghost use Rattle.std.specs.Prelude.{◌≡◌, ◌+◌, ◌≤◌, ◌++◌, ◌∷◌, if◌then◌else◌, [], IsSome, None, Some, vec_len, ℕ};
 ghost use Rattle.std.specs.Vec.{vec_capacity};
 ghost use Rattle.pcache_history.specs.Due.{KeepsIn, KeepsKey};
 ghost use Rattle.pingora_cache.specs.PartFacts.{facts_in, no_facts};
 ghost use Rattle.pcache_lock.specs.declared.lock.status.LockStatus.TheVariants.{GiveUp};
-ghost use Rattle.pcache_meta.specs.Meta.{Meta};
-ghost use Rattle.pcache_predict.specs.declared.admission.Decision.{Decision};
 ghost use Rattle.pcache_request.specs.LockUse.{read_in};
 ghost use Rattle.pcache_request.specs.Releasing.{status_for};
-ghost use Rattle.pcache_history.specs.Deeds.{deeds_by, deeds_in};
+ghost use Rattle.pcache_history.specs.Deeds.{deeds_in};
 ghost use Rattle.pcache_history.specs.Ongoing.{kind_of_reply, row, waited_by};
-ghost use Rattle.pingora_cache.specs.LockMoves.{MovesLocks};
-ghost use Rattle.pingora_cache.specs.Moved.{MovesRequest, MovesStore};
-ghost use Rattle.pcache_history.specs.Rules.{FollowsRule, IsOther, Waits, each, wait_reply};
-ghost use Rattle.pingora_cache.specs.Step.{IsRow};
+ghost use Rattle.pingora_cache.specs.LockMoves.{MovesLocks, MovesLocksBy, MovesLocksIn};
+ghost use Rattle.pingora_cache.specs.Moved.{MovesRequest, MovesStore, MovesStoreBeside};
+ghost use Rattle.pcache_history.specs.Rules.{FollowsRule, IsOther, Waits, wait_reply};
+ghost use Rattle.pingora_cache.specs.Step.{Answers, IsRow};
 ghost use Rattle.pingora_cache.specs.Untold.{untold_request};
-ghost use Rattle.pcache_history.specs.declared.entry.Event.TheVariants.{Aged, Release};
+ghost use Rattle.pcache_history.specs.declared.entry.Event.TheVariants.{Aged};
 ghost use Rattle.pcache_history.specs.declared.call.Act.TheVariants as acts;
 ghost use Rattle.pcache_history.specs.declared.call.RequestAct.TheVariants as asks;
-ghost use Rattle.pcache_store.specs.Store.{Reader, Store};
+ghost use Rattle.pcache_store.specs.Store.{Store};
 
 use crate::world::notes::note_release;
 use crate::world::request::{OpenRequest, permit_in, permit_released};
@@ -61,17 +59,14 @@ pub(crate) fn wait(
     requires none { events.old.items ≡ [] }
     requires room { 3 ≤ vec_capacity events.old }
     ensures answers { (s : Store)
-        → FollowsRule (facts_in s lock.old request.old.request) (acts.Wait now) (Some request.old)
-        result events.new.items }
+        → Answers s lock.old (acts.Wait now) request.old result events.new.items }
     ensures moves { (s : Store)
         → MovesStore (Some request.old) s events.new.items (Some request.new) s }
     ensures keeps { KeepsKey (Some request.old) (Some request.new) }
     ensures row { IsRow (acts.Wait now) result events.new.items (Some request.old)
         (Some request.new) }
-    ensures locks { (r : ℕ)
-        → MovesLocks r
-        (deeds_in r (acts.Wait now) (kind_of_reply result) events.new.items (Some request.old))
-        request.old.request.held lock.old request.new.request.held lock.new }
+    ensures locks { MovesLocksIn (acts.Wait now) result events.new.items request.old lock.old
+        request.new lock.new }
 {
     let Some(Locked::Read(_)) = request.cache.held() else {
         return Reply::WrongCall;
@@ -93,10 +88,7 @@ fn wait_on(
     ensures answers { (s : Store)
         → Waits (facts_in s lock.old cache.old) now cache.old result events.new.items }
     ensures other { IsOther result }
-    ensures moves { (s : Store) (p : Option (Meta × Reader)) (d : Option Decision)
-        → MovesStore (Some (record { request = cache.old; pair = p; carried = d; put = None })) s
-        events.new.items
-        (Some (record { request = cache.new; pair = p; carried = d; put = None })) s }
+    ensures moves { (s : Store) → MovesStoreBeside cache.old s events.new.items cache.new s }
     ensures keeps { KeepsIn cache.old cache.new }
     ensures row { untold_request cache.new
         ≡ untold_request (waited_by (kind_of_reply result) now cache.old) }
@@ -137,11 +129,8 @@ pub(crate) fn publish(request: &OpenRequest, lock: &mut CacheLock, tokens: &Toke
     ensures answers { FollowsRule no_facts (acts.Request (asks.Publish tokens.now))
         (Some request.now) result [] }
     ensures moves { MovesRequest (Some request.now) (Some request.now) }
-    ensures locks { (r : ℕ)
-        → MovesLocks r
-        (deeds_in r (acts.Request (asks.Publish tokens.now)) (kind_of_reply result) []
-        (Some request.now)) request.now.request.held lock.old request.now.request.held
-        lock.new }
+    ensures locks { MovesLocksIn (acts.Request (asks.Publish tokens.now)) result [] request.now
+        lock.old request.now lock.new }
 {
     match request
         .cache
@@ -169,9 +158,8 @@ pub(crate) fn release(
     ensures keeps { KeepsKey (Some request.old) (Some request.new) }
     ensures row { Some request.new
         ≡ row (acts.Request (asks.Release reason)) result events.new.items (Some request.old) }
-    ensures locks { (r : ℕ)
-        → MovesLocks r (deeds_by r 0 (status_for (λ text. GiveUp) reason) events.new.items)
-        request.old.request.held lock.old request.new.request.held lock.new }
+    ensures locks { MovesLocksBy 0 (status_for (λ text. GiveUp) reason) events.new.items
+        request.old.request lock.old request.new.request lock.new }
 {
     if !request.cache.may_release(reason) {
         return Reply::WrongCall;
@@ -200,9 +188,8 @@ pub(crate) fn uncacheable(
     ensures row { Some request.new
         ≡ row (acts.Request (asks.Uncacheable header.now reason)) result events.new.items
         (Some request.old) }
-    ensures locks { (r : ℕ)
-        → MovesLocks r (deeds_by r 0 (status_for (λ text. GiveUp) reason) events.new.items)
-        request.old.request.held lock.old request.new.request.held lock.new }
+    ensures locks { MovesLocksBy 0 (status_for (λ text. GiveUp) reason) events.new.items
+        request.old.request lock.old request.new.request lock.new }
 {
     if !request.cache.may_revalidate() || !request.cache.may_release(reason) {
         return Reply::WrongCall;

@@ -30,7 +30,7 @@ pub(crate) fn note_release(permit: Option<u64>, events: &mut Vec<Event>)
 }
 
 // Adds the event of the drop of a write, if one was dropped.
-fn note_drop(write: Option<u128>, events: &mut Vec<Event>)
+fn note_drop(write: Option<u64>, events: &mut Vec<Event>)
     requires { vec_len events.old + 1 ≤ vec_capacity events.old }
     ensures { events.new.items ≡ events.old.items ++ drop_of write }
 {
@@ -40,7 +40,7 @@ fn note_drop(write: Option<u128>, events: &mut Vec<Event>)
 }
 
 /// Adds the events of the release of the permit and the drop of the write that were held.
-pub(crate) fn note_shut(permit: Option<u64>, write: Option<u128>, events: &mut Vec<Event>)
+pub(crate) fn note_shut(permit: Option<u64>, write: Option<u64>, events: &mut Vec<Event>)
     requires { vec_len events.old + 2 ≤ vec_capacity events.old }
     ensures { events.new.items ≡ events.old.items ++ each Release permit ++ drop_of write }
 {

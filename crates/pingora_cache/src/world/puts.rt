@@ -1,23 +1,21 @@
 //! Calls of puts: responses that are pushed in, in pieces.
-ghost use Rattle.std.specs.Prelude.{◌≡◌, ◌+◌, ◌≤◌, ◌++◌, [], Some, None, IsSome, List, Option, option_map, vec_len};
+ghost use Rattle.std.specs.Prelude.{◌≡◌, ◌+◌, ◌≤◌, ◌++◌, [], Some, None, IsSome, option_map, vec_len};
 ghost use Rattle.std.specs.Vec.{vec_capacity};
-ghost use Rattle.pcache_lock.specs.Locks.{Locks};
-ghost use Rattle.pcache_put_ctx.specs.Puts.{Piece};
-ghost use Rattle.pcache_put_ctx.specs.State.{Filled, entry_in, write_in};
+ghost use Rattle.pcache_put_ctx.specs.State.{entry_in, write_in};
 ghost use Rattle.pcache_request.specs.Requests.{dropped_by};
-ghost use Rattle.pcache_history.specs.Due.{IsOfWorld, KeepsKey};
-ghost use Rattle.pingora_cache.specs.PartFacts.{facts_in};
+ghost use Rattle.pcache_history.specs.Due.{KeepsKey};
 ghost use Rattle.pcache_history.specs.Events.{evicted_by};
 ghost use Rattle.pcache_history.specs.Ongoing.{IsOngoingPut, ongoing_put};
-ghost use Rattle.pingora_cache.specs.Moved.{Moves, MovesStore};
-ghost use Rattle.pcache_history.specs.PutHistory.{ClosesBy};
-ghost use Rattle.pingora_cache.specs.PutsSound.{HasSome, PutTurn, TakenIn};
+ghost use Rattle.pingora_cache.specs.Moved.{MovesStore};
+ghost use Rattle.pingora_cache.specs.PutsSound.{PutTurn, TakenIn, TellsClosed};
 ghost use Rattle.pingora_cache.specs.PutSteps.{IsUnwritten, IsWritten, end_noted, end_reply};
-ghost use Rattle.pcache_history.specs.Rules.{Closes, Feeds, IsOther, drop_of, piece_noted};
+ghost use Rattle.pcache_history.specs.Rules.{IsOther, drop_of, piece_noted};
 ghost use Rattle.pingora_cache.specs.Step.{IsRow};
 ghost use Rattle.pcache_history.specs.Taking.{new_put, taking};
 ghost use Rattle.pcache_history.specs.Waiting.{AreOfNoLock};
 ghost use Rattle.pcache_history.specs.declared.call.Act.TheVariants as acts;
+ghost use Rattle.pingora_cache.specs.Opens.{put_of};
+ghost use Rattle.pingora_cache.specs.Rowed.{ClosesOf, ClosesSome, FeedsSome, MovesClosed, MovesIfSome};
 
 use crate::world::fill::{end_refused, note_stored};
 use crate::world::parts::Parts;
@@ -82,22 +80,22 @@ impl<P: PutPolicy> OpenPut<P> {
 }
 
 // The number of the write of a put, if one is in flight; the write's entry has the same number.
-fn write_of<P: PutPolicy>(ctx: &CachePutCtx<ByType<P>, MemCache>) -> Option<u128>
+fn write_of<P: PutPolicy>(ctx: &CachePutCtx<ByType<P>, MemCache>) -> Option<u64>
     ensures write { result ≡ write_in ctx.now.stage }
     ensures entry { result ≡ entry_in ctx.now.stage }
 {
     match ctx.writer() {
-        Some(writer) => Some(u128::from(writer.number())),
+        Some(writer) => Some(writer.number()),
         None => None,
     }
 }
 
 // The number of a write that was returned, if one was.
-fn number_in(writer: &Option<MemMissHandler>) -> Option<u128>
+fn number_in(writer: &Option<MemMissHandler>) -> Option<u64>
     ensures { result ≡ option_map (λ w. w.number) writer.now }
 {
     match writer {
-        Some(writer) => Some(u128::from(writer.number())),
+        Some(writer) => Some(writer.number()),
         None => None,
     }
 }
@@ -112,9 +110,7 @@ pub(crate) fn feed<P: PutPolicy>(
 ) -> Reply
     requires none { events.old.items ≡ [] }
     requires room { 3 ≤ vec_capacity events.old }
-    ensures answers { (t : Locks)
-        → HasSome P.says store.old (Some put.old)
-        → Feeds (facts_in store.old t put.old.request) put.old.put result events.new.items }
+    ensures answers { FeedsSome P.says store.old put.old result events.new.items }
     ensures other { IsOther result }
     ensures moves { MovesStore (Some put.old) store.old events.new.items (Some put.new) store.new }
     ensures keeps { KeepsKey (Some put.old) (Some put.new) }
@@ -138,19 +134,15 @@ fn feed_in<P: PutPolicy>(
 ) -> Reply
     requires none { events.old.items ≡ [] }
     requires room { 3 ≤ vec_capacity events.old }
-    ensures answers { (t : Locks)
-        → HasSome P.says store.old (Some (ongoing_put (taking ctx.old)))
-        → Feeds (facts_in store.old t (ongoing_put (taking ctx.old)).request)
-        (Some (taking ctx.old)) result events.new.items }
+    ensures answers { FeedsSome P.says store.old (put_of ctx.old) result events.new.items }
     ensures other { IsOther result }
-    ensures moves { MovesStore (Some (ongoing_put (taking ctx.old))) store.old events.new.items
-        (Some (ongoing_put (taking ctx.new))) store.new }
-    ensures keeps { KeepsKey (Some (ongoing_put (taking ctx.old)))
-        (Some (ongoing_put (taking ctx.new))) }
-    ensures row { IsRow (acts.Feed bytes.now now) result events.new.items
-        (Some (ongoing_put (taking ctx.old))) (Some (ongoing_put (taking ctx.new))) }
+    ensures moves { MovesStore (Some (put_of ctx.old)) store.old events.new.items
+        (Some (put_of ctx.new)) store.new }
+    ensures keeps { KeepsKey (Some (put_of ctx.old)) (Some (put_of ctx.new)) }
+    ensures row { IsRow (acts.Feed bytes.now now) result events.new.items (Some (put_of ctx.old))
+        (Some (put_of ctx.new)) }
     ensures puts { PutTurn P.says (acts.Feed bytes.now now) result events.new.items
-        (Some (ongoing_put (taking ctx.old))) (Some (ongoing_put (taking ctx.new))) }
+        (Some (put_of ctx.old)) (Some (put_of ctx.new)) }
     ensures quiet { AreOfNoLock events.new.items }
 {
     let slot = ctx.key().slot();
@@ -172,7 +164,7 @@ fn feed_in<P: PutPolicy>(
 // Adds the events of what a piece did to the write that is in flight.
 fn note_piece(
     slot: u128,
-    write: Option<u128>,
+    write: Option<u64>,
     began: Option<Boxed<CacheMeta>>,
     wrote: Option<Written>,
     events: &mut Vec<Event>,
@@ -201,7 +193,7 @@ fn drop_write(writer: Option<MemMissHandler>, store: &mut MemCache, events: &mut
     ensures store { store.new ≡ dropped_by (option_map (λ w. w.number) writer) store.old }
 {
     if let Some(writer) = writer {
-        let write = u128::from(writer.number());
+        let write = writer.number();
         writer.drop_write(store);
         events.push_reserved(Event::Dropped { write });
     }
@@ -230,60 +222,45 @@ pub(crate) fn close_put<M: EvictionManager, P: PutPolicy>(
 ) -> Reply
     requires none { events.old.items ≡ [] }
     requires room { 3 ≤ vec_capacity events.old }
-    ensures answers { HasSome P.says parts.old.store (Some put)
-        → Closes (facts_in parts.old.store parts.old.lock put.request) put.put result
-        events.new.items }
+    ensures answers { ClosesOf P.says parts.old put result events.new.items }
     ensures other { IsOther result }
-    ensures moves { IsOfWorld put.request
-        → HasSome P.says parts.old.store (Some put)
-        → Moves (M.limits parts.old.manager) (Some put) parts.old.store
-        (M.tracked parts.old.manager) events.new.items None parts.new.store
-        (M.tracked parts.new.manager) }
-    ensures closes { (pieces : List Piece) (f : Option Filled)
-        → TakenIn P.says (Some put) pieces f
-        → ClosesBy P.says acts.Close (Some put) pieces f result }
+    ensures moves { MovesIfSome P.says (Some put) parts.old events.new.items None parts.new }
+    ensures closes { TellsClosed P.says (Some put) result }
     ensures quiet { AreOfNoLock events.new.items }
-    ensures lock { parts.new.lock ≡ parts.old.lock }
-    ensures limits { M.limits parts.new.manager ≡ M.limits parts.old.manager }
-    ensures evicted { M.evicted parts.new.manager
-        ≡ evicted_by (M.tracked parts.old.manager) (M.evicted parts.old.manager) events.new.items }
+    ensures lock { parts.new.locks ≡ parts.old.locks }
+    ensures limits { parts.new.limits ≡ parts.old.limits }
+    ensures evicted { parts.new.evicted
+        ≡ evicted_by parts.old.tracked parts.old.evicted events.new.items }
 {
     let OpenPut { ctx } = put;
-    close_in(ctx, parts, events)
+    close_in(ctx, &mut parts.store, &mut parts.manager, events)
 }
 
 // Ends the put of a context. It is the second half of a close: a function over the context alone, from
 // whose clauses those of the call follow.
 fn close_in<M: EvictionManager, P: PutPolicy>(
     ctx: CachePutCtx<ByType<P>, MemCache>,
-    parts: &mut Parts<M>,
+    store: &mut MemCache,
+    manager: &mut M,
     events: &mut Vec<Event>,
 ) -> Reply
     requires none { events.old.items ≡ [] }
     requires room { 3 ≤ vec_capacity events.old }
-    ensures answers { HasSome P.says parts.old.store (Some (ongoing_put (taking ctx)))
-        → Closes (facts_in parts.old.store parts.old.lock (ongoing_put (taking ctx)).request)
-        (Some (taking ctx)) result events.new.items }
+    ensures answers { ClosesSome P.says store.old (put_of ctx) result events.new.items }
     ensures other { IsOther result }
-    ensures moves { IsOfWorld (ongoing_put (taking ctx)).request
-        → HasSome P.says parts.old.store (Some (ongoing_put (taking ctx)))
-        → Moves (M.limits parts.old.manager) (Some (ongoing_put (taking ctx))) parts.old.store
-        (M.tracked parts.old.manager) events.new.items None parts.new.store
-        (M.tracked parts.new.manager) }
-    ensures closes { (pieces : List Piece) (f : Option Filled)
-        → TakenIn P.says (Some (ongoing_put (taking ctx))) pieces f
-        → ClosesBy P.says acts.Close (Some (ongoing_put (taking ctx))) pieces f result }
+    ensures moves { MovesClosed P.says (M.limits manager.old) (put_of ctx) store.old
+        (M.tracked manager.old) events.new.items store.new (M.tracked manager.new) }
+    ensures closes { TellsClosed P.says (Some (put_of ctx)) result }
     ensures quiet { AreOfNoLock events.new.items }
-    ensures lock { parts.new.lock ≡ parts.old.lock }
-    ensures limits { M.limits parts.new.manager ≡ M.limits parts.old.manager }
-    ensures evicted { M.evicted parts.new.manager
-        ≡ evicted_by (M.tracked parts.old.manager) (M.evicted parts.old.manager) events.new.items }
+    ensures limits { M.limits manager.new ≡ M.limits manager.old }
+    ensures evicted { M.evicted manager.new
+        ≡ evicted_by (M.tracked manager.old) (M.evicted manager.old) events.new.items }
 {
     let mut ctx = ctx;
     let write = write_of(&ctx);
     let slot = ctx.key().slot();
-    let PutReport { end, entry } = ctx.end_put(&mut parts.store, &mut parts.manager);
-    ctx.end(&mut parts.store);
+    let PutReport { end, entry } = ctx.end_put(store, manager);
+    ctx.end(store);
     match write {
         Some(write) => end_written(write, slot, end, entry, events),
         None => end_unwritten(end),
@@ -304,7 +281,7 @@ fn end_unwritten(end: PutEnd) -> Reply
 
 // The events and the reply at the end of a put's write.
 fn end_written(
-    write: u128,
+    write: u64,
     slot: u128,
     end: PutEnd,
     entry: Option<CacheEntryKey>,

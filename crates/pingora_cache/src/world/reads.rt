@@ -5,7 +5,7 @@ ghost use Rattle.std.specs.Vec.{vec_capacity};
 ghost use Rattle.pcache_base.specs.declared.error.ErrorType.TheVariants.{OutOfMemory};
 ghost use Rattle.pcache_lock.specs.Locks.{no_locks};
 ghost use Rattle.pcache_history.specs.Due.{KeepsKey};
-ghost use Rattle.pingora_cache.specs.PartFacts.{facts_in, no_facts};
+ghost use Rattle.pingora_cache.specs.PartFacts.{no_facts};
 ghost use Rattle.pcache_history.specs.Ongoing.{has_read, on_request, row, sought_in, with_sought};
 ghost use Rattle.pingora_cache.specs.Moved.{MovesRequest, MovesStore};
 ghost use Rattle.pcache_history.specs.Rules.{FollowsRule, IsOther, read_reply, seek_reply};
@@ -13,6 +13,7 @@ ghost use Rattle.pcache_history.specs.Waiting.{AreOfNoLock};
 ghost use Rattle.pcache_history.specs.declared.call.Act.TheVariants as acts;
 ghost use Rattle.pcache_history.specs.declared.call.RequestAct.TheVariants as asks;
 ghost use Rattle.pcache_history.specs.declared.call.Reply.TheVariants as replies;
+ghost use Rattle.pingora_cache.specs.Step.{Answers};
 
 use crate::world::request::OpenRequest;
 use bytes::Bytes;
@@ -31,8 +32,8 @@ pub(crate) fn read(
 ) -> Reply
     requires none { events.old.items ≡ [] }
     requires room { 3 ≤ vec_capacity events.old }
-    ensures answers { FollowsRule (facts_in store.old (no_locks 0) request.old.request)
-        (acts.Request asks.Read) (Some request.old) result events.new.items }
+    ensures answers { Answers store.old (no_locks 0) (acts.Request asks.Read) request.old result
+        events.new.items }
     ensures moves { MovesStore (Some request.old) store.old events.new.items (Some request.new)
         store.new }
     ensures keeps { KeepsKey (Some request.old) (Some request.new) }

@@ -1,15 +1,13 @@
 //! Calls that remove or expire what is stored for a request's key.
-ghost use Rattle.std.specs.Prelude.{◌≡◌, ◌+◌, ◌≤◌, ◌∷◌, ◌++◌, Some, [], vec_len, ℕ};
+ghost use Rattle.std.specs.Prelude.{◌≡◌, ◌+◌, ◌≤◌, ◌∷◌, ◌++◌, Some, [], vec_len};
 ghost use Rattle.std.specs.Vec.{vec_capacity};
 ghost use Rattle.pcache_request.specs.Requests.{is_removed_by};
 ghost use Rattle.pcache_lock.specs.declared.lock.status.LockStatus.TheVariants.{Done};
-ghost use Rattle.pcache_history.specs.Deeds.{deeds_by};
 ghost use Rattle.pcache_history.specs.Due.{IsOfWorld, KeepsKey};
-ghost use Rattle.pingora_cache.specs.PartFacts.{facts_in};
-ghost use Rattle.pingora_cache.specs.Moved.{Moves};
-ghost use Rattle.pcache_history.specs.Rules.{FollowsRule, expire_reply, purge_reply};
-ghost use Rattle.pingora_cache.specs.Step.{untracking};
-ghost use Rattle.pingora_cache.specs.LockMoves.{MovesLocks};
+ghost use Rattle.pingora_cache.specs.Moved.{MovesParts};
+ghost use Rattle.pcache_history.specs.Rules.{expire_reply, purge_reply};
+ghost use Rattle.pingora_cache.specs.Step.{AnswersOf, untracking};
+ghost use Rattle.pingora_cache.specs.LockMoves.{MovesLocksBy};
 ghost use Rattle.pcache_history.specs.declared.call.Act.TheVariants as acts;
 ghost use Rattle.pcache_history.specs.declared.call.RequestAct.TheVariants as asks;
 ghost use Rattle.pcache_history.specs.declared.entry.Event.TheVariants.{Purge};
@@ -32,19 +30,16 @@ pub(crate) fn purge<M: EvictionManager>(
 ) -> Reply
     requires none { events.old.items ≡ [] }
     requires room { 3 ≤ vec_capacity events.old }
-    ensures answers { FollowsRule (facts_in parts.old.store parts.old.lock request.old.request)
-        (acts.Request asks.Purge) (Some request.old) result events.new.items }
+    ensures answers { AnswersOf parts.old (acts.Request asks.Purge) request.old result
+        events.new.items }
     ensures moves { IsOfWorld request.old.request
-        → Moves (M.limits parts.old.manager) (Some request.old) parts.old.store
-        (M.tracked parts.old.manager) events.new.items (Some request.new) parts.new.store
-        (M.tracked parts.new.manager) }
+        → MovesParts (Some request.old) parts.old events.new.items (Some request.new) parts.new }
     ensures keeps { KeepsKey (Some request.old) (Some request.new) }
     ensures same { request.new ≡ request.old }
-    ensures locks { (r : ℕ)
-        → MovesLocks r (deeds_by r 0 Done events.new.items) request.old.request.held parts.old.lock
-        request.new.request.held parts.new.lock }
-    ensures limits { M.limits parts.new.manager ≡ M.limits parts.old.manager }
-    ensures evicted { M.evicted parts.new.manager ≡ M.evicted parts.old.manager }
+    ensures locks { MovesLocksBy 0 Done events.new.items request.old.request parts.old.locks
+        request.new.request parts.new.locks }
+    ensures limits { parts.new.limits ≡ parts.old.limits }
+    ensures evicted { parts.new.evicted ≡ parts.old.evicted }
 {
     if !request.cache.phase().may_purge() {
         return Reply::WrongCall;
@@ -91,18 +86,16 @@ pub(crate) fn expire<M: EvictionManager>(
 ) -> Reply
     requires none { events.old.items ≡ [] }
     requires room { 3 ≤ vec_capacity events.old }
-    ensures answers { FollowsRule (facts_in parts.old.store parts.old.lock request.old.request)
-        (acts.Request (asks.Expire now)) (Some request.old) result events.new.items }
-    ensures moves { Moves (M.limits parts.old.manager) (Some request.old) parts.old.store
-        (M.tracked parts.old.manager) events.new.items (Some request.new) parts.new.store
-        (M.tracked parts.new.manager) }
+    ensures answers { AnswersOf parts.old (acts.Request (asks.Expire now)) request.old result
+        events.new.items }
+    ensures moves { MovesParts (Some request.old) parts.old events.new.items (Some request.new)
+        parts.new }
     ensures keeps { KeepsKey (Some request.old) (Some request.new) }
     ensures same { request.new ≡ request.old }
-    ensures locks { (r : ℕ)
-        → MovesLocks r (deeds_by r 0 Done events.new.items) request.old.request.held parts.old.lock
-        request.new.request.held parts.new.lock }
-    ensures limits { M.limits parts.new.manager ≡ M.limits parts.old.manager }
-    ensures evicted { M.evicted parts.new.manager ≡ M.evicted parts.old.manager }
+    ensures locks { MovesLocksBy 0 Done events.new.items request.old.request parts.old.locks
+        request.new.request parts.new.locks }
+    ensures limits { parts.new.limits ≡ parts.old.limits }
+    ensures evicted { parts.new.evicted ≡ parts.old.evicted }
 {
     if !request.cache.phase().may_purge() {
         return Reply::WrongCall;

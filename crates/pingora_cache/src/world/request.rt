@@ -6,7 +6,7 @@ ghost use Rattle.pingora_cache.specs.Handing.{table_given, without_permit};
 ghost use Rattle.pcache_history.specs.Ongoing.{handed_by, permit_held, world_use, pair_reader};
 ghost use Rattle.pcache_history.specs.Rules.{each, given_up, permit_of};
 ghost use Rattle.pcache_history.specs.declared.entry.Event.TheVariants.{LetGo};
-ghost use Rattle.pcache_request.specs.Requests.{Request, left_by, let_go_by};
+ghost use Rattle.pcache_request.specs.Requests.{left_by, let_go_by};
 ghost use Rattle.pingora_cache.specs.Step.{permit_in, permit_released, store_ended};
 
 use pcache_lock::lock::{CacheLock, Locked, WritePermit};
@@ -111,12 +111,12 @@ pub(crate) fn world_use() -> InUse
 
 /// The number of the write that a request holds, if it holds one; the write's entry has the same
 /// number.
-pub(crate) fn write_number(cache: &HttpCache<MemCache>) -> Option<u128>
+pub(crate) fn write_number(cache: &HttpCache<MemCache>) -> Option<u64>
     ensures write { result ≡ cache.now.write }
     ensures entry { result ≡ cache.now.entry }
 {
     match cache.writer() {
-        Some(writer) => Some(u128::from(writer.number())),
+        Some(writer) => Some(writer.number()),
         None => None,
     }
 }

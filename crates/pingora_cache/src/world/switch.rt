@@ -1,15 +1,14 @@
 //! Calls that turn caching on and off.
-ghost use Rattle.std.specs.Prelude.{◌≡◌, ◌≤◌, Some, [], ℕ};
+ghost use Rattle.std.specs.Prelude.{◌≡◌, ◌≤◌, Some, []};
 ghost use Rattle.std.specs.Vec.{vec_capacity};
 ghost use Rattle.pcache_history.specs.Due.{KeepsKey};
 ghost use Rattle.pingora_cache.specs.PartFacts.{no_facts};
 ghost use Rattle.pcache_lock.specs.declared.lock.status.LockStatus.TheVariants.{GiveUp};
 ghost use Rattle.pcache_request.specs.Releasing.{status_for};
-ghost use Rattle.pcache_history.specs.Deeds.{deeds_by};
 ghost use Rattle.pcache_history.specs.Ongoing.{row};
 ghost use Rattle.pingora_cache.specs.Moved.{MovesRequest, MovesStore};
 ghost use Rattle.pcache_history.specs.Rules.{FollowsRule};
-ghost use Rattle.pingora_cache.specs.LockMoves.{MovesLocks};
+ghost use Rattle.pingora_cache.specs.LockMoves.{MovesLocksBy};
 ghost use Rattle.pcache_history.specs.declared.call.Act.TheVariants as acts;
 ghost use Rattle.pcache_history.specs.declared.call.RequestAct.TheVariants as asks;
 
@@ -57,9 +56,8 @@ pub(crate) fn disable(
     ensures keeps { KeepsKey (Some request.old) (Some request.new) }
     ensures row { Some request.new
         ≡ row (acts.Request (asks.Disable reason)) result events.new.items (Some request.old) }
-    ensures locks { (r : ℕ)
-        → MovesLocks r (deeds_by r 0 (status_for (λ text. GiveUp) reason) events.new.items)
-        request.old.request.held lock.old request.new.request.held lock.new }
+    ensures locks { MovesLocksBy 0 (status_for (λ text. GiveUp) reason) events.new.items
+        request.old.request lock.old request.new.request lock.new }
 {
     if !request.cache.may_disable(reason) {
         return Reply::WrongCall;

@@ -1,23 +1,20 @@
 //! Calls about the variants of a key, and the meta of a stale body that is still valid.
-ghost use Rattle.std.specs.Prelude.{◌≡◌, ◌+◌, ◌≤◌, ◌++◌, [], IfOk, IfErr, Option, Some, vec_len, ℕ};
+ghost use Rattle.std.specs.Prelude.{◌≡◌, ◌+◌, ◌≤◌, ◌++◌, [], IfOk, IfErr, Some, vec_len};
 ghost use Rattle.std.specs.Vec.{vec_capacity};
 ghost use Rattle.pcache_base.specs.declared.error.ErrorType.TheVariants.{OutOfMemory};
 ghost use Rattle.pcache_history.specs.Due.{KeepsKey};
 ghost use Rattle.pingora_cache.specs.PartFacts.{facts_in, no_facts};
 ghost use Rattle.pcache_lock.specs.declared.lock.status.LockStatus.TheVariants.{Done};
-ghost use Rattle.pcache_history.specs.Deeds.{deeds_by};
 ghost use Rattle.pcache_history.specs.Ongoing.{row};
-ghost use Rattle.pingora_cache.specs.Moved.{MovesRequest, MovesStore};
+ghost use Rattle.pingora_cache.specs.Moved.{MovesRequest, MovesStore, MovesStoreBeside};
 ghost use Rattle.pcache_history.specs.Rules.{FollowsRule, IsOther, Renews};
-ghost use Rattle.pingora_cache.specs.Step.{renewal_reply, renewing, spare_of};
-ghost use Rattle.pingora_cache.specs.LockMoves.{MovesLocks};
+ghost use Rattle.pingora_cache.specs.Step.{Answers, renewal_reply, renewing, spare_of};
+ghost use Rattle.pingora_cache.specs.LockMoves.{MovesLocksBy};
 ghost use Rattle.pcache_history.specs.declared.call.Act.TheVariants as acts;
 ghost use Rattle.pcache_history.specs.declared.call.RequestAct.TheVariants as asks;
-ghost use Rattle.pcache_meta.specs.Meta.{Meta};
-ghost use Rattle.pcache_predict.specs.declared.admission.Decision.{Decision};
 ghost use Rattle.pcache_request.specs.Renewals.{renewed};
 ghost use Rattle.pcache_request.specs.Stale.{MayRevalidate};
-ghost use Rattle.pcache_store.specs.Store.{Reader, Store};
+ghost use Rattle.pcache_store.specs.Store.{Store};
 
 use crate::world::notes::note_release;
 use crate::world::request::{OpenRequest, permit_in};
@@ -71,9 +68,8 @@ pub(crate) fn variance(
     ensures keeps { KeepsKey (Some request.old) (Some request.new) }
     ensures row { Some request.new
         ≡ row (acts.Request (asks.Variance variance)) result events.new.items (Some request.old) }
-    ensures locks { (r : ℕ)
-        → MovesLocks r (deeds_by r 0 Done events.new.items) request.old.request.held lock.old
-        request.new.request.held lock.new }
+    ensures locks { MovesLocksBy 0 Done events.new.items request.old.request lock.old
+        request.new.request lock.new }
 {
     if !request.cache.may_write() {
         return Reply::WrongCall;
@@ -114,16 +110,15 @@ pub(crate) fn revalidate(
     requires spare { spare.old ≡ Some (meta.now, meta.now) }
     requires none { events.old.items ≡ [] }
     requires room { 3 ≤ vec_capacity events.old }
-    ensures answers { FollowsRule (facts_in store.old lock.old request.old.request)
-        (acts.Request (asks.Revalidate meta.now)) (Some request.old) result events.new.items }
+    ensures answers { Answers store.old lock.old (acts.Request (asks.Revalidate meta.now))
+        request.old result events.new.items }
     ensures moves { MovesStore (Some request.old) store.old events.new.items (Some request.new)
         store.new }
     ensures keeps { KeepsKey (Some request.old) (Some request.new) }
     ensures row { Some request.new
         ≡ row (acts.Request (asks.Revalidate meta.now)) result events.new.items (Some request.old) }
-    ensures locks { (r : ℕ)
-        → MovesLocks r (deeds_by r 0 Done events.new.items) request.old.request.held lock.old
-        request.new.request.held lock.new }
+    ensures locks { MovesLocksBy 0 Done events.new.items request.old.request lock.old
+        request.new.request lock.new }
 {
     if !request.cache.may_revalidate() {
         return Reply::WrongCall;
@@ -151,14 +146,8 @@ fn renew(
         events.new.items }
     ensures other { IsOther result }
     ensures request { cache.new ≡ renewed meta cache.old }
-    ensures moves { (p : Option (Meta × Reader)) (d : Option Decision)
-        → MovesStore (Some (record { request = cache.old; pair = p; carried = d; put = None }))
-        store.old events.new.items
-        (Some (record { request = cache.new; pair = p; carried = d; put = None }))
-        store.new }
-    ensures locks { (r : ℕ)
-        → MovesLocks r (deeds_by r 0 Done events.new.items) cache.old.held lock.old cache.new.held
-        lock.new }
+    ensures moves { MovesStoreBeside cache.old store.old events.new.items cache.new store.new }
+    ensures locks { MovesLocksBy 0 Done events.new.items cache.old lock.old cache.new lock.new }
 {
     let Some(key) = cache.key() else {
         unreachable!()

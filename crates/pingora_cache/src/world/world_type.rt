@@ -1,5 +1,5 @@
 //! The world itself.
-ghost use Rattle.std.specs.Prelude.{◌≡◌, ◌≢◌, ◌+◌, ◌<◌, ◌≤◌, ◌⊎◌, ◌++◌, ◌∷◌, [], Some, None, IsSome, IfSome, option_map, IfOk, IfErr, OnOk, OnErr, min, ◌^◌, ◌-◌, vec_len, cond, false};
+ghost use Rattle.std.specs.Prelude.{◌≡◌, ◌+◌, ◌<◌, ◌≤◌, ◌⊎◌, ◌++◌, ◌∷◌, [], Some, None, IsSome, IfSome, option_map, IfOk, IfErr, OnOk, OnErr, min, ◌^◌, ◌-◌, vec_len, cond, false};
 ghost use Rattle.pcache_base.specs.declared.error.ErrorType.TheVariants.{InternalError, Io, OutOfMemory};
 ghost use Rattle.std.specs.Vec.{vec_capacity};
 ghost use Rattle.pcache_history.specs.Files.{files_in};
@@ -7,7 +7,7 @@ ghost use Rattle.pcache_history.specs.Log.{started};
 ghost use Rattle.pcache_history.specs.Rules.{IsCopy, IsFilesReply};
 ghost use Rattle.pcache_history.specs.declared.call.FilesAct.TheVariants.{Save, Load};
 ghost use Rattle.pcache_history.specs.declared.call.Reply.TheVariants.{Refused, WrongCall};
-ghost use Rattle.pingora_cache.specs.FilesCalls.{AnswersFiles, IsLoaded};
+ghost use Rattle.pingora_cache.specs.FilesCalls.{AnswersFiles, IsLoaded, files_call};
 
 use crate::world::open::Open;
 use crate::world::parts::Parts;
@@ -71,9 +71,9 @@ impl<M: EvictionManager, P: PutPolicy> Model for World<M, P> {
 
     ghost coded = { log_code };
 
-    ghost view = { λ w. record { history = w.history.items; start = started (option_map (λ v. v.items) w.start) (M.tracked w.parts.manager); limits = M.limits w.parts.manager; evicted = M.evicted w.parts.manager; age = w.parts.lock.age_timeout } };
+    ghost view = { λ w. record { history = w.history.items; start = started (option_map (λ v. v.items) w.start) w.parts.tracked; limits = w.parts.limits; evicted = w.parts.evicted; age = w.parts.locks.age_timeout } };
 
-    ghost invariant = { λ w. IsSound (M.limits w.parts.manager) (started (option_map (λ v. v.items) w.start) (M.tracked w.parts.manager)) (M.tracked w.parts.manager) w.parts.store w.parts.lock (map.from_entries w.requests.entries) (reverse w.history.items) × (is_none w.start ≡ only_loads (reverse w.history.items)) × PutsSound P.says (map.from_entries w.requests.entries) (reverse w.history.items) };
+    ghost invariant = { λ w. IsSound w.parts.limits (started (option_map (λ v. v.items) w.start) w.parts.tracked) w.parts.tracked w.parts.store w.parts.locks (map.from_entries w.requests.entries) (reverse w.history.items) × (is_none w.start ≡ only_loads (reverse w.history.items)) × PutsSound P.says (map.from_entries w.requests.entries) (reverse w.history.items) };
 }
 
 impl<M: EvictionManager, P: PutPolicy> World<M, P> {
@@ -234,7 +234,7 @@ impl<M: EvictionManager, P: PutPolicy> World<M, P> {
         let _open = self.requests.len();
         let mut events = Vec::with_capacity(self.alloc, MOST_EVENTS)?;
         let mut spare = spare_of(&call.act)?;
-        make_ready(&mut self.history, &mut self.start, &self.parts.manager)?;
+        make_ready(&mut self.history, &mut self.start, &self.parts)?;
         let reply = act(
             self.alloc,
             &mut self.requests,
@@ -258,7 +258,7 @@ impl<M: EvictionManager, P: PutPolicy> World<M, P> {
         ensures err { OnErr result (self.new ≡ self.old) }
         ensures kind { IfErr result (λ e. e ≡ OutOfMemory) }
     {
-        make_ready(&mut self.history, &mut self.start, &self.parts.manager)?;
+        make_ready(&mut self.history, &mut self.start, &self.parts)?;
         let noted = Reply::Refused(ErrorType::Io);
         note(
             self.alloc,
@@ -340,17 +340,16 @@ impl<M: SavedManager, P: PutPolicy> World<M, P> {
     /// temporary name, which ends in the suffix, and then renamed. Fails when memory for the entry
     /// runs out, and then saves and records nothing.
     pub fn save<R: Files>(&mut self, files: &R, dir: &str, suffix: u32) -> Result<Reply>
-        ensures ok { IfOk result (λ reply.
-            Adds self.old (record { request = 0; act = acts.Files Save }) reply self.new) }
+        ensures ok { IfOk result (λ reply. Adds self.old (files_call Save) reply self.new) }
         ensures replies { IfOk result (λ reply. IsFilesReply Save reply) }
         ensures legal { HasLegal self.new }
         ensures puts { FollowPolicy P.says (reverse self.new.history) }
         ensures err { OnErr result (self.new ≡ self.old) }
         ensures kind { IfErr result (λ e. e ≡ OutOfMemory) }
     {
-        make_ready(&mut self.history, &mut self.start, &self.parts.manager)?;
-        let saved = self.parts.manager.save(self.alloc, files, dir, suffix);
-        let (noted, answered) = doubled(saved_reply(saved));
+        make_ready(&mut self.history, &mut self.start, &self.parts)?;
+        let saved = saved_in(self.alloc, &self.parts, files, dir, suffix);
+        let (noted, answered) = doubled(saved);
         note(
             self.alloc,
             &mut self.history,
@@ -370,11 +369,7 @@ impl<M: SavedManager, P: PutPolicy> World<M, P> {
     pub fn load<R: Files>(&mut self, files: &R, dir: &str) -> Result<Reply>
         ensures history { IfOk result (λ reply. self.new.history
             ≡ self.old.history
-            ++ record {
-              call = record { request = 0; act = acts.Files Load };
-              reply = reply;
-              events = [];
-            }
+            ++ record { call = files_call Load; reply = reply; events = [] }
             ∷ []) }
         ensures loaded { IfOk result (λ reply.
             IsLoaded R.File.remaining M.file_count M.put_in self.old.start self.new.start reply) }
@@ -388,7 +383,7 @@ impl<M: SavedManager, P: PutPolicy> World<M, P> {
     {
         self.history.reserve(1)?;
         let is_early = self.start.is_none();
-        let reply = load_if(self.alloc, &mut self.parts.manager, files, dir, is_early);
+        let reply = load_if(self.alloc, &mut self.parts, files, dir, is_early);
         let (noted, answered) = doubled(reply);
         note(
             self.alloc,
@@ -428,11 +423,11 @@ impl<M: EvictionManager, P: PutPolicy> Drop for World<M, P> {
 fn make_ready<M: EvictionManager>(
     history: &mut Vec<Entry>,
     start: &mut Option<Vec<(CacheEntryKey, usize)>>,
-    manager: &M,
+    parts: &Parts<M>,
 ) -> Result<()>
     ensures same_history { history.new.items ≡ history.old.items }
-    ensures same_start { started (option_map (λ v. v.items) start.new) (M.tracked manager.now)
-        ≡ started (option_map (λ v. v.items) start.old) (M.tracked manager.now) }
+    ensures same_start { started (option_map (λ v. v.items) start.new) parts.now.tracked
+        ≡ started (option_map (λ v. v.items) start.old) parts.now.tracked }
     ensures err { OnErr result (start.new ≡ start.old) }
     ensures known { OnOk result (IsSome start.new) }
     ensures room { OnOk result (vec_len history.new < vec_capacity history.new) }
@@ -440,7 +435,7 @@ fn make_ready<M: EvictionManager>(
 {
     history.reserve(1)?;
     if start.is_none() {
-        *start = Some(manager.entries()?);
+        *start = Some(parts.manager.entries()?);
     }
     Ok(())
 }
@@ -454,6 +449,19 @@ fn unloaded(is_early: bool) -> Reply
     } else {
         Reply::WrongCall
     }
+}
+
+// Saves what the manager tracks.
+fn saved_in<M: SavedManager, R: Files>(
+    alloc: Global,
+    parts: &Parts<M>,
+    files: &R,
+    dir: &str,
+    suffix: u32,
+) -> Reply
+    ensures { IsFilesReply Save result }
+{
+    saved_reply(parts.manager.save(alloc, files, dir, suffix))
 }
 
 // The reply to a save.
@@ -470,22 +478,24 @@ fn saved_reply(saved: Result<()>) -> Reply
 // Loads what was saved, if only loads came before.
 fn load_if<M: SavedManager, R: Files>(
     alloc: Global,
-    manager: &mut M,
+    parts: &mut Parts<M>,
     files: &R,
     dir: &str,
     is_early: bool,
 ) -> Reply
     ensures reply { AnswersFiles is_early Load result }
-    ensures loaded { IsLoaded R.File.remaining M.file_count M.put_in (M.tracked manager.old)
-        (M.tracked manager.new) result }
-    ensures late { is_early ≡ false → M.tracked manager.new ≡ M.tracked manager.old }
-    ensures limits { M.limits manager.new ≡ M.limits manager.old }
-    ensures evicted { M.evicted manager.new ≡ M.evicted manager.old }
+    ensures loaded { IsLoaded R.File.remaining M.file_count M.put_in parts.old.tracked
+        parts.new.tracked result }
+    ensures late { is_early ≡ false → parts.new.tracked ≡ parts.old.tracked }
+    ensures store { parts.new.store ≡ parts.old.store }
+    ensures limits { parts.new.limits ≡ parts.old.limits }
+    ensures evicted { parts.new.evicted ≡ parts.old.evicted }
+    ensures locks { parts.new.locks ≡ parts.old.locks }
 {
     if !is_early {
         return Reply::WrongCall;
     }
-    match manager.load(alloc, files, dir) {
+    match parts.manager.load(alloc, files, dir) {
         Ok(skipped) => Reply::Loaded(skipped),
         Err(refused) => Reply::Refused(refused.etype()),
     }

@@ -9,7 +9,8 @@ use Rattle.pcache_history.specs.Rules.{permit_of}
 use Rattle.pingora_cache.specs.Step.{permit_released}
 use Rattle.pcache_history.specs.declared.entry.Event.TheVariants.{Release}
 use Rattle.pingora_cache.proofs.MovesOf.{turns-quietly, quiet-noted}
-use Rattle.pingora_cache.proofs.Noted.{held_with, permit-released}
+use Rattle.pingora_cache.proofs.Noted.{permit-released}
+use Rattle.pingora_cache.specs.Opens.{held_with}
 use Rattle.pingora_cache.specs.LockMoves.{MovesLocks}
 use Rattle.pcache_history.specs.Deeds.{deeds_by}
 use Rattle.pingora_cache.proofs.LockSteps.{settle-alone}

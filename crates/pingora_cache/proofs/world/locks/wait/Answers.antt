@@ -8,7 +8,7 @@ use Rattle.pcache_history.specs.Ongoing.{Ongoing}
 use Rattle.pingora_cache.specs.Moved.{MovesStore}
 use Rattle.pcache_history.specs.Rules.{FollowsRule}
 use Rattle.pcache_history.specs.declared.call.Act.TheVariants as C
-use Rattle.pingora_cache.proofs.Noted.{held_with}
+use Rattle.pingora_cache.specs.Opens.{held_with}
 use Rattle.pingora_cache.proofs.world.locks.wait.Goals as goal
 
 pub returns-clause-answers : goal.returns-clause-answers

@@ -4,7 +4,7 @@ use Rattle.pcache_request.specs.Requests.{Request}
 use Rattle.pcache_history.specs.Rules.{wait_reply}
 use Rattle.pcache_history.specs.declared.call.Reply.TheVariants as replies
 use Rattle.pingora_cache.proofs.MovesOf.{turns-quietly}
-use Rattle.pingora_cache.proofs.Noted.{held_with}
+use Rattle.pingora_cache.specs.Opens.{held_with}
 use Rattle.pingora_cache.proofs.Waited.{aged-by, aged-quiet, names-fills, not-polled, untold-after, wait-kept, wait-locks, wait-reader, wait-write}
 use Rattle.pingora_cache.proofs.world.locks.wait_on.Goals as goal
 

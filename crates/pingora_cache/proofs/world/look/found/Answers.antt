@@ -5,9 +5,14 @@ use Rattle.pingora_cache.specs.Moved.{Moves}
 use Rattle.pcache_store.specs.Readers.{reader_of}
 use Rattle.pcache_request.specs.Phases.{MayLookUp}
 use Rattle.pingora_cache.specs.PartFacts.{facts_in}
+use Rattle.pingora_cache.specs.State.{State}
+use Rattle.pingora_cache.specs.Step.{AnswersOf}
+use Rattle.pcache_history.specs.declared.call.Act.TheVariants as C
+use Rattle.pcache_history.specs.declared.call.RequestAct.TheVariants as Q
+use Rattle.pingora_cache.proofs.OfParts.{locks-over, moves-over}
 use Rattle.pcache_history.specs.Ongoing.{Ongoing}
 use Rattle.pcache_history.specs.Rules.{IsOther, Takes}
-use Rattle.pingora_cache.proofs.Noted.{held_with}
+use Rattle.pingora_cache.specs.Opens.{held_with, open_with}
 use Rattle.pingora_cache.specs.LockMoves.{MovesLocks}
 use Rattle.pcache_history.specs.Deeds.{deeds_by}
 use Rattle.pcache_lock.specs.declared.lock.status.LockStatus.TheVariants.{Done}
@@ -18,8 +23,9 @@ returns-clause-answers g c =
     let had = sym c.take.ensures.value ∙ c.in-Some.is in
     let is = ap (λ o. held_with c.request.inside.carried (option_map (λ p. (p.0, reader_of p.1)) o) c.request.inside.cache) (sym had) ∙ c.request.view_is in
     let may : MayLookUp c.request.inside.cache.phase = search rules in
-    inl (subst (λ (x : Ongoing). (MayLookUp x.request.phase × IsSome x.pair) × IsOther c.take-2.result × Takes (facts_in c.args.parts.now.store c.args.parts.now.lock x.request) c.args.status x.request x.pair c.take-2.result c.take-2.new.events.items) is
-    ((may, refl), c.take-2.ensures.other, c.take-2.ensures.answers))
+    subst (λ (p : State). AnswersOf p (C.Request (Q.Found c.args.status c.args.now)) c.args.request.now c.take-2.result c.take-2.new.events.items) c.parts.view_is
+    (inl (subst (λ (x : Ongoing). (MayLookUp x.request.phase × IsSome x.pair) × IsOther c.take-2.result × Takes (facts_in c.parts.inside.store c.parts.inside.lock x.request) c.args.status x.request x.pair c.take-2.result c.take-2.new.events.items) is
+    ((may, refl), c.take-2.ensures.other, c.take-2.ensures.answers)))
 
 pub returns-clause-moves : goal.returns-clause-moves
 returns-clause-moves g c =
@@ -28,14 +34,17 @@ returns-clause-moves g c =
     let had = sym c.take.ensures.value ∙ c.in-Some.is in
     let is = ap (λ o. held_with d (option_map (λ p. (p.0, reader_of p.1)) o) c.request.inside.cache) (sym had) ∙ c.request.view_is in
     let tracked = g.M.EvictionManager.tracked in
-    let limits = g.M.EvictionManager.limits c.args.parts.now.manager in
-    let s = c.args.parts.now.store in
-    let m = tracked c.args.parts.now.manager in
+    let limits = g.M.EvictionManager.limits c.parts.inside.manager in
+    let s = c.parts.inside.store in
+    let m = tracked c.parts.inside.manager in
     let events = c.take-2.new.events.items in
-    let u = c.take-2.new.parts.store in
-    let n = tracked c.take-2.new.parts.manager in
-    subst (λ (x : Ongoing). Moves limits (Some x) s m events (Some (held_with d (option_map (λ p. (p.0, reader_of p.1)) c.take.new.self) c.take-2.new.cache)) u n) is
-    (subst (λ o. Moves limits (Some (held_with d p c.request.inside.cache)) s m events (Some (held_with d (option_map (λ p. (p.0, reader_of p.1)) o) c.take-2.new.cache)) u n) (sym c.take.ensures.after) (c.take-2.ensures.moves d))
+    let u = c.take-2.new.store in
+    let n = tracked c.take-2.new.manager in
+    moves-over _ (open_with d (option_map (λ p. (p.0, reader_of p.1)) c.take.new.self) c.take-2.new.cache) _ c.parts.view_is
+    (subst (λ (x : Ongoing). Moves limits (Some x) s m events (open_with d (option_map (λ p. (p.0, reader_of p.1)) c.take.new.self) c.take-2.new.cache) u n) is
+    (subst (λ o. Moves limits (open_with d p c.request.inside.cache) s m events (open_with d (option_map (λ p. (p.0, reader_of p.1)) o) c.take-2.new.cache) u n) (sym c.take.ensures.after) (c.take-2.ensures.moves d)))
 
 pub returns-clause-locks : goal.returns-clause-locks
-returns-clause-locks g c n = subst (λ (x : Ongoing). MovesLocks n (deeds_by n c.args.now Done c.take-2.new.events.items) x.request.held c.args.parts.now.lock c.take-2.new.cache.held c.take-2.new.parts.lock) c.request.view_is (c.take-2.ensures.locks n)
+returns-clause-locks g c n =
+    locks-over c.parts.view_is
+    (subst (λ (x : Ongoing). MovesLocks n (deeds_by n c.args.now Done c.take-2.new.events.items) x.request.held c.parts.inside.lock c.take-2.new.cache.held c.take-2.new.lock) c.request.view_is (c.take-2.ensures.locks n))

@@ -22,7 +22,7 @@ use Rattle.pingora_cache.specs.Step.{noted_look}
 use Rattle.pingora_cache.specs.declared.world.look.LookNote.{LookNote}
 use Rattle.pingora_cache.proofs.LockSteps.{none_noted}
 use Rattle.pingora_cache.proofs.Looking.{heard, held-after, look-answers, look-keeps, look-locks, look-moves, look-row, refused-moves, taken-decision}
-use Rattle.pingora_cache.proofs.Noted.{held_with}
+use Rattle.pingora_cache.specs.Opens.{held_with}
 use Rattle.pingora_cache.proofs.world.look.look_up_keeping.Goals as goal
 
 pub returns-in-Err-clause-moves : goal.returns-in-Err-clause-moves

@@ -6,7 +6,7 @@ use Rattle.pcache_store.specs.Store.{Reader}
 use Rattle.pcache_history.specs.Ongoing.{Ongoing}
 use Rattle.pingora_cache.specs.Moved.{MovesStore}
 use Rattle.pingora_cache.proofs.MovesOf.{reader-goes}
-use Rattle.pingora_cache.proofs.Noted.{held_with}
+use Rattle.pingora_cache.specs.Opens.{held_with}
 use Rattle.pingora_cache.proofs.world.reads.done.Goals as goal
 
 pub returns-clause-moves : goal.returns-clause-moves

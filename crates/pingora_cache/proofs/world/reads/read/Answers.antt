@@ -8,7 +8,8 @@ use Rattle.pcache_store.specs.Store.{Reader}
 use Rattle.pcache_history.specs.Ongoing.{Ongoing}
 use Rattle.pingora_cache.specs.Moved.{MovesStore}
 use Rattle.pingora_cache.proofs.MovesOf.{reads-on}
-use Rattle.pingora_cache.proofs.Noted.{held_with, read-moved}
+use Rattle.pingora_cache.proofs.Noted.{read-moved}
+use Rattle.pingora_cache.specs.Opens.{held_with}
 use Rattle.pingora_cache.proofs.world.reads.read.Goals as goal
 
 pub returns-clause-row : goal.returns-clause-row

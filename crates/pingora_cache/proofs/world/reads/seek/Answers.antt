@@ -7,7 +7,7 @@ use Rattle.pcache_history.specs.Ongoing.{Ongoing}
 use Rattle.pingora_cache.specs.Moved.{MovesStore}
 use Rattle.pingora_cache.proofs.Keeps.{keeps-sought}
 use Rattle.pingora_cache.proofs.MovesOf.{seeks-to}
-use Rattle.pingora_cache.proofs.Noted.{held_with}
+use Rattle.pingora_cache.specs.Opens.{held_with}
 use Rattle.pingora_cache.proofs.world.reads.seek.Goals as goal
 
 pub returns-clause-moves : goal.returns-clause-moves

@@ -7,7 +7,9 @@ use Rattle.pcache_history.specs.Ongoing.{Ongoing}
 use Rattle.pingora_cache.specs.Moved.{Moves}
 use Rattle.pingora_cache.specs.PartFacts.{number_for}
 use Rattle.pingora_cache.proofs.MovesOf.{purges, idle}
-use Rattle.pingora_cache.proofs.Noted.{held_with, goes, purge-events, purge-untracks, purge-store}
+use Rattle.pingora_cache.proofs.OfParts.{locks-over, moves-over}
+use Rattle.pingora_cache.proofs.Noted.{goes, purge-events, purge-untracks, purge-store}
+use Rattle.pingora_cache.specs.Opens.{held_with}
 use Rattle.pingora_cache.proofs.world.remove.purge.Goals as goal
 use Rattle.pingora_cache.specs.LockMoves.{MovesLocks}
 use Rattle.pcache_history.specs.Deeds.{deeds_by}
@@ -18,17 +20,17 @@ use Rattle.pingora_cache.proofs.world.remove.purge.Goals.{in-Ok, in-Err}
 pub returns-clause-moves : goal.returns-clause-moves
 returns-clause-moves g c world =
     let tracked = g.M.EvictionManager.tracked in
-    let limits = g.M.EvictionManager.limits c.args.parts.now.manager in
-    let s = c.args.parts.now.store in
+    let limits = g.M.EvictionManager.limits c.parts.inside.manager in
+    let s = c.parts.inside.store in
     let u = c.purge_key.new.storage in
-    let m = tracked c.args.parts.now.manager in
+    let m = tracked c.parts.inside.manager in
     let n = tracked c.purge_key.new.eviction in
     let r : Request = c.request.inside.cache in
     let pair : Option (Meta × Reader) = option_map (λ p. (p.0, reader_of p.1)) c.request.inside.pair in
     let events = c.match-purge_key.events.items in
     let key = sym c.in-Some.ensures.value in
     let k = c.in-Some.key.now in
-    subst (λ (x : Ongoing). Moves limits (Some x) s m events (Some (held_with c.request.inside.carried pair c.purge_key.new.self)) u n) c.request.view_is
+    moves-over _ (Some (held_with c.request.inside.carried pair c.purge_key.new.self)) _ c.parts.view_is (subst (λ (x : Ongoing). Moves limits (Some x) s m events (Some (held_with c.request.inside.carried pair c.purge_key.new.self)) u n) c.request.view_is
     (subst (λ (y : Request). Moves limits (Some (held_with c.request.inside.carried pair r)) s m events (Some (held_with c.request.inside.carried pair y)) u n) (sym c.purge_key.ensures.same)
     (elim c.match-purge_key.branch [
       | in-Ok w ↦
@@ -38,15 +40,15 @@ returns-clause-moves g c world =
       | in-Err w ↦
           subst (λ t. Moves limits (Some (held_with c.request.inside.carried pair r)) s m events (Some (held_with c.request.inside.carried pair r)) u t) (sym w.in-Err.ensures.same_tracked)
           (idle (Some (held_with c.request.inside.carried pair r)) (Some (held_with c.request.inside.carried pair r)) s u events (ap (λ v. v.items) w.events-is ∙ c.requires.none) refl w.in-Err.ensures.same_store limits m)
-    ]))
+    ])))
 
 pub returns-clause-locks : goal.returns-clause-locks
 returns-clause-locks g c n =
     let events = c.match-purge_key.events.items in
     let h = c.args.request.now.request.held in
     let same : c.purge_key.new.self.held ≡ h = ap (λ (y : Request). y.held) c.purge_key.ensures.same ∙ ap (λ (z : Ongoing). z.request.held) c.request.view_is in
-    subst (λ l. MovesLocks n (deeds_by n 0 Done events) h c.args.parts.now.lock l c.args.parts.now.lock) (sym same)
+    locks-over c.parts.view_is (subst (λ l. MovesLocks n (deeds_by n 0 Done events) h c.parts.inside.lock l c.parts.inside.lock) (sym same)
     (elim c.match-purge_key.branch [
-      | in-Ok w ↦ purge-locks n 0 Done c.args.parts.now.lock h c.slot-slot.result w.in-Ok.removal.untracked c.args.events.now.items events c.requires.none (ap (λ v. v.items) w.events-is ∙ w.note_removal.ensures.events)
-      | in-Err w ↦ none_noted n 0 Done events h h c.args.parts.now.lock c.args.parts.now.lock (ap (λ v. v.items) w.events-is ∙ c.requires.none) refl refl
-    ])
+      | in-Ok w ↦ purge-locks n 0 Done c.parts.inside.lock h c.slot-slot.result w.in-Ok.removal.untracked c.args.events.now.items events c.requires.none (ap (λ v. v.items) w.events-is ∙ w.note_removal.ensures.events)
+      | in-Err w ↦ none_noted n 0 Done events h h c.parts.inside.lock c.parts.inside.lock (ap (λ v. v.items) w.events-is ∙ c.requires.none) refl refl
+    ]))

@@ -14,7 +14,8 @@ use Rattle.pcache_history.specs.declared.call.Reply.TheVariants as replies
 use Rattle.pcache_history.specs.declared.entry.Event.TheVariants as E
 use Rattle.pingora_cache.specs.Step.{permit_in}
 use Rattle.pingora_cache.proofs.MovesOf.{switches-off}
-use Rattle.pingora_cache.proofs.Noted.{held_with, permit-named}
+use Rattle.pingora_cache.proofs.Noted.{permit-named}
+use Rattle.pingora_cache.specs.Opens.{held_with}
 use Rattle.pingora_cache.specs.LockMoves.{MovesLocks}
 use Rattle.pcache_history.specs.Deeds.{deeds_by}
 use Rattle.pingora_cache.proofs.LockSteps.{settle-then}

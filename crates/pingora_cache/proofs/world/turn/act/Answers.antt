@@ -1,6 +1,7 @@
 use Rattle.std.proofs.Common.{[], refl}
 use Rattle.pcache_history.specs.declared.call.Act.TheVariants as C
 use Rattle.pingora_cache.specs.Handing.{of_two}
+use Rattle.pingora_cache.proofs.OfParts.{acts-over}
 use Rattle.pingora_cache.proofs.PutTurns.{close-turn, drop-turn, push-turn, puts-closed, puts-dropped, puts-ended, puts-opened, puts-pushed}
 use Rattle.pingora_cache.proofs.TurnOf.{acts-as, end-of, moved-by-row, open-of, row-at}
 use Rattle.pingora_cache.proofs.world.turn.act.Goals as goal
@@ -19,9 +20,9 @@ returns-in-End-clause-acts g c =
     let before = c.args.requests.now.entries in
     let after = c.end.new.requests.entries in
     let rowed = c.end.ensures.requests in
-    acts-as _ _ c.args.call.now _ before after _ _ _ _ _ _ c.end.result c.end.new.events.items c.in-End.is tt
+    acts-over c.parts.view_is (acts-as _ _ c.args.call.now _ before after _ _ _ _ _ _ c.end.result c.end.new.events.items c.in-End.is tt
     (λ world some. end-of _ _ before after _ _ _ _ _ _ _ c.end.ensures.answers c.end.ensures.moves c.end.ensures.keeps c.end.ensures.locks rowed)
-    (puts-ended _ c.end.result _ _ _ (row-at c.args.call.now.request C.End c.end.result c.end.new.events.items before after rowed)) (moved-by-row c.args.call.now.request C.End c.end.result c.end.new.events.items before after rowed)
+    (puts-ended _ c.end.result _ _ _ (row-at c.args.call.now.request C.End c.end.result c.end.new.events.items before after rowed)) (moved-by-row c.args.call.now.request C.End c.end.result c.end.new.events.items before after rowed))
 
 pub returns-in-Request-clause-acts : goal.returns-in-Request-clause-acts
 returns-in-Request-clause-acts g c =
@@ -34,7 +35,7 @@ returns-in-Wait-clause-acts g c =
     c.wait.ensures.turn c.wait.ensures.puts c.wait.ensures.requests
 
 pub returns-in-Give-clause-acts : goal.returns-in-Give-clause-acts
-returns-in-Give-clause-acts g c = of_two _ c.in-Give.is c.give.ensures refl refl
+returns-in-Give-clause-acts g c = acts-over c.parts-in-Give.view_is (of_two _ c.in-Give.is c.give.ensures refl refl)
 
 pub returns-in-Put-clause-acts : goal.returns-in-Put-clause-acts
 returns-in-Put-clause-acts g c =
@@ -55,9 +56,9 @@ returns-in-Drop-clause-acts g c =
     let before = c.args.requests.now.entries in
     let after = c.drop_put.new.requests.entries in
     let rowed = c.drop_put.ensures.requests in
-    acts-as _ _ c.args.call.now _ before after _ _ _ _ _ _ c.drop_put.result c.drop_put.new.events.items c.in-Drop.is tt
+    acts-over c.parts-in-Drop.view_is (acts-as _ _ c.args.call.now _ before after _ _ _ _ _ _ c.drop_put.result c.drop_put.new.events.items c.in-Drop.is tt
     (λ world some. drop-turn _ _ before after _ _ _ _ _ _ c.drop_put.ensures.answers c.drop_put.ensures.moves c.drop_put.ensures.keeps rowed c.drop_put.ensures.quiet c.drop_put.ensures.held)
-    (puts-dropped _ c.drop_put.result _ _ _ (row-at c.args.call.now.request C.Drop c.drop_put.result c.drop_put.new.events.items before after rowed)) (moved-by-row c.args.call.now.request C.Drop c.drop_put.result c.drop_put.new.events.items before after rowed)
+    (puts-dropped _ c.drop_put.result _ _ _ (row-at c.args.call.now.request C.Drop c.drop_put.result c.drop_put.new.events.items before after rowed)) (moved-by-row c.args.call.now.request C.Drop c.drop_put.result c.drop_put.new.events.items before after rowed))
 
 pub returns-in-Close-clause-acts : goal.returns-in-Close-clause-acts
 returns-in-Close-clause-acts g c =

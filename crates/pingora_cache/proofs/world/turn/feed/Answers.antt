@@ -1,6 +1,10 @@
-use Rattle.std.proofs.Common.{rules, refl}
+use Rattle.std.proofs.Common.{rules, refl, subst, sym}
 use Rattle.pcache_history.specs.declared.call.Act.TheVariants.{Feed}
+use Rattle.pingora_cache.specs.Handing.{open_at}
 use Rattle.pingora_cache.specs.PartFacts.{facts_in}
+use Rattle.pingora_cache.specs.PutsSound.{HasSome}
+use Rattle.pingora_cache.specs.State.{State}
+use Rattle.pingora_cache.proofs.OfParts.{turn-over}
 use Rattle.pingora_cache.proofs.PutTurns.{fed-turn, feeds-answered, ignores-nowhere, ignores-plain, none-answered, none-is-there, other-answered, puts-wrong}
 use Rattle.pingora_cache.proofs.TurnOf.{wrong-turned}
 use Rattle.pingora_cache.proofs.world.turn.feed.Goals as goal
@@ -21,5 +25,6 @@ returns-in-Request-clause-puts g c = puts-wrong _ (Feed c.args.bytes.now c.args.
 
 pub returns-in-Put-clause-turn : goal.returns-in-Put-clause-turn
 returns-in-Put-clause-turn g c world some =
-    fed-turn _ _ _ c.args.bytes.now c.args.now _ _ c.in-Put.put c.feed-reply.new.put _ _ _ _ c.feed-reply.result c.feed-reply.new.events.items some (search rules) (search rules) c.is_held.ensures.held c.is_held-in-Put.ensures.held
-    (λ s. feeds-answered (facts_in c.args.parts.now.store c.args.parts.now.lock c.in-Put.put.request) c.args.bytes.now c.args.now c.in-Put.put c.feed-reply.result c.feed-reply.new.events.items c.is_held.ensures.some c.feed-reply.ensures.other (c.feed-reply.ensures.answers c.args.parts.now.lock s)) c.feed-reply.ensures.moves c.feed-reply.ensures.keeps c.feed-reply.ensures.row c.feed-reply.ensures.quiet
+    let had = subst (λ (p : State). HasSome g.P.PutPolicy.says p.store (open_at c.args.number c.args.requests.now.entries)) (sym c.parts.view_is) some in
+    turn-over c.parts.view_is (fed-turn _ _ _ c.args.bytes.now c.args.now _ _ c.in-Put.put c.feed-reply.new.put _ _ _ _ c.feed-reply.result c.feed-reply.new.events.items had (search rules) (search rules) c.is_held.ensures.held c.is_held-in-Put.ensures.held
+    (λ s. feeds-answered (facts_in c.parts.inside.store c.parts.inside.lock c.in-Put.put.request) c.args.bytes.now c.args.now c.in-Put.put c.feed-reply.result c.feed-reply.new.events.items c.is_held.ensures.some c.feed-reply.ensures.other (c.feed-reply.ensures.answers c.parts.inside.lock s)) c.feed-reply.ensures.moves c.feed-reply.ensures.keeps c.feed-reply.ensures.row c.feed-reply.ensures.quiet)

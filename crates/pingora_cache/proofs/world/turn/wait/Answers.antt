@@ -1,5 +1,6 @@
 use Rattle.std.proofs.Common.{rules, refl, inl}
 use Rattle.pcache_history.specs.declared.call.Act.TheVariants.{Wait}
+use Rattle.pingora_cache.proofs.OfParts.{turn-over}
 use Rattle.pingora_cache.proofs.PutTurns.{none-answered, other-answered, put-is-there, puts-plain, puts-wrong}
 use Rattle.pingora_cache.proofs.TurnOf.{turn-of, wrong-turned}
 use Rattle.pingora_cache.proofs.world.turn.wait.Goals as goal
@@ -13,8 +14,8 @@ returns-in_default-clause-puts g c = puts-wrong _ (Wait c.args.now) _ _ _ _ (ref
 
 pub returns-in-Request-clause-turn : goal.returns-in-Request-clause-turn
 returns-in-Request-clause-turn g c world some =
-    turn-of _ _ (Wait c.args.now) _ _ c.in-Request.request c.wait-reply.new.request _ _ _ _ _ _ c.wait-reply.result c.wait-reply.new.events.items (search rules) (search rules) (inl (c.is_plain.ensures, c.wait-reply.ensures.answers c.args.parts.now.store))
-    (λ world. c.wait-reply.ensures.moves _ _ _) c.wait-reply.ensures.keeps c.wait-reply.ensures.row (c.wait-reply.ensures.locks _) world
+    turn-over c.parts.view_is (turn-of _ _ (Wait c.args.now) _ _ c.in-Request.request c.wait-reply.new.request _ _ _ _ _ _ c.wait-reply.result c.wait-reply.new.events.items (search rules) (search rules) (inl (c.is_plain.ensures, c.wait-reply.ensures.answers c.parts.inside.store))
+    (λ world. c.wait-reply.ensures.moves _ _ _) c.wait-reply.ensures.keeps c.wait-reply.ensures.row (c.wait-reply.ensures.locks _) world)
 
 pub returns-in-Request-clause-puts : goal.returns-in-Request-clause-puts
 returns-in-Request-clause-puts g c = puts-plain _ (Wait c.args.now) c.wait-reply.result c.wait-reply.new.events.items _ _ c.in-Request.request c.wait-reply.new.request (search rules) (search rules) c.is_plain.ensures c.is_plain-in-Request.ensures (λ pieces events. tt)

@@ -4,7 +4,8 @@ use Rattle.pcache_request.specs.Requests.{Request}
 use Rattle.pcache_history.specs.Rules.{permit_of}
 use Rattle.pingora_cache.specs.Step.{permit_in}
 use Rattle.pingora_cache.proofs.MovesOf.{renews}
-use Rattle.pingora_cache.proofs.Noted.{held_with, permit-named, renewed-as, renews-told}
+use Rattle.pingora_cache.proofs.Noted.{permit-named, renewed-as, renews-told}
+use Rattle.pingora_cache.specs.Opens.{held_with}
 use Rattle.pingora_cache.proofs.LockSteps.{renewed-locks}
 use Rattle.pcache_lock.specs.declared.lock.status.LockStatus.TheVariants.{Done}
 use Rattle.pingora_cache.proofs.world.vary.renew.Goals as goal

@@ -8,7 +8,7 @@ use Rattle.pingora_cache.specs.Moved.{MovesStore}
 use Rattle.pingora_cache.specs.Step.{permit_in}
 use Rattle.pcache_history.specs.declared.entry.Event.TheVariants.{Release}
 use Rattle.pingora_cache.proofs.MovesOf.{turns-quietly, quiet-noted}
-use Rattle.pingora_cache.proofs.Noted.{held_with}
+use Rattle.pingora_cache.specs.Opens.{held_with}
 use Rattle.pingora_cache.specs.LockMoves.{MovesLocks}
 use Rattle.pcache_history.specs.Deeds.{deeds_by}
 use Rattle.pingora_cache.proofs.LockSteps.{varied-locks}

@@ -1,7 +1,7 @@
 use Rattle.std.proofs.Common.{sym, subst}
-use Rattle.pcache_store.specs.Drafts.{AreBefore}
+use Rattle.pcache_store.specs.Drafts.{next_number, AreBefore}
 use Rattle.pcache_store.proofs.Writes.{before_landed}
 use Rattle.pcache_store.proofs.memory.drafts.Drafts.land.Goals as goal
 
 pub invariant_of-self : goal.invariant_of-self
-invariant_of-self c = subst (λ m. AreBefore m c.self.inside.next) (sym c.land.ensures) (before_landed c.self.inside.writes c.self.inside.next c.args.number c.self.invariant)
+invariant_of-self c = subst (λ m. AreBefore m (next_number c.self.inside.next)) (sym c.land.ensures) (before_landed c.self.inside.writes (next_number c.self.inside.next) c.args.number c.self.invariant)

@@ -3,5 +3,5 @@ use Rattle.pcache_store.specs.Drafts.{AreBefore}
 use Rattle.pcache_store.proofs.Writes.{before_empty}
 use Rattle.pcache_store.proofs.memory.drafts.Drafts.starting_at.Goals as goal
 
-pub invariant_of-result-2 : goal.invariant_of-result-2
-invariant_of-result-2 c = subst (λ m. AreBefore m c.from.result) (sym c.new.ensures) (before_empty c.from.result)
+pub invariant_of-result : goal.invariant_of-result
+invariant_of-result c = subst (λ m. AreBefore m c.args.next) (sym c.new.ensures) (before_empty c.args.next)

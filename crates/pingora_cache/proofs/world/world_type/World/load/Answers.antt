@@ -1,15 +1,12 @@
-use Rattle.std.proofs.Common.{rules, ◌++◌, ◌∷◌, [], ◌∙◌, ap, sym, subst, refl, reverse, is_none, is_some, not, true, false, Option, Bool, ◌≡◌, option_map, inl}
-use Rattle.pcache_base.specs.declared.error.ErrorType.TheVariants.{Io}
+use Rattle.std.proofs.Common.{◌++◌, ◌∷◌, [], ◌∙◌, ap, sym, subst, refl, reverse, is_none, is_some, not, true, false, Option, Bool, ◌≡◌}
 use Rattle.pcache_history.specs.declared.call.Call.{Call}
 use Rattle.pcache_history.specs.declared.call.FilesAct.TheVariants as F
-use Rattle.pcache_history.specs.declared.call.Reply.TheVariants as R
 use Rattle.pcache_history.specs.Files.{files_in, is_load, only_loads}
-use Rattle.pcache_history.specs.Log.{Log, started}
-use Rattle.pcache_history.specs.Rules.{IsFilesReply}
-use Rattle.pingora_cache.specs.FilesCalls.{AnswersFiles, IsLoaded}
-use Rattle.pingora_cache.proofs.FilesCalls.{files-puts-step, files-step, is-load-of, is-save-of, load-late, load-leaves, load-sound, load-start, other-late, told-files, unloaded-answers, unloaded-nowhere}
+use Rattle.pcache_history.specs.Log.{Log}
+use Rattle.pingora_cache.specs.FilesCalls.{AnswersFiles}
+use Rattle.pingora_cache.proofs.FilesCalls.{files-puts-step, load-late, load-leaves, load-sound}
 use Rattle.pingora_cache.proofs.PutSound.{puts-same}
-use Rattle.pingora_cache.proofs.Worlds.{sound-same, started-once}
+use Rattle.pingora_cache.proofs.Worlds.{sound-at, sound-same}
 use Rattle.pingora_cache.proofs.world.world_type.World.load.Goals as goal
 
 -- what the test of the option answered
@@ -26,9 +23,9 @@ invariant_of-self g c = (
 
 pub invariant_of-self-2 : goal.invariant_of-self-2
 invariant_of-self-2 g c = (
-  load-sound (λ v. v.items) c.self.inside.start _ _ _ _ _ _ _ c.self.inside.history.items _ c.call.result c.load_if-reply.result c.doubled-noted.result.0 c.new.result.items c.self.invariant.0 c.self.invariant.1
+  sound-at (load-sound (λ v. v.items) c.self.inside.start _ _ _ _ _ _ _ c.self.inside.history.items _ c.call.result c.load_if-reply.result c.doubled-noted.result.0 c.new.result.items c.self.invariant.0 c.self.invariant.1
       (subst (λ b. AnswersFiles b F.Load c.load_if-reply.result) (early-told c.self.inside.start c.is_none-is_early.result c.is_none-is_early.ensures) c.load_if-reply.ensures.reply) (λ late. c.load_if-reply.ensures.late ((early-told c.self.inside.start c.is_none-is_early.result c.is_none-is_early.ensures) ∙ late)) c.load_if-reply.ensures.limits c.doubled-noted.ensures.copy (ap (λ (x : Call). files_in x.act) c.call.ensures) c.new.ensures.items
-      (c.note.ensures ∙ ap (λ xs. xs ++ record { call = c.call.result; reply = c.doubled-noted.result.0; events = c.new.result.items } ∷ []) c.reserve.ensures.items),
+      (c.note.ensures ∙ ap (λ xs. xs ++ record { call = c.call.result; reply = c.doubled-noted.result.0; events = c.new.result.items } ∷ []) c.reserve.ensures.items)) c.load_if-reply.ensures.store c.load_if-reply.ensures.locks,
   load-late c.self.inside.start c.self.inside.history.items _ c.call.result c.doubled-noted.result.0 c.new.result.items (ap (λ (x : Call). is_load x.act) c.call.ensures) c.self.invariant.1
       (c.note.ensures ∙ ap (λ xs. xs ++ record { call = c.call.result; reply = c.doubled-noted.result.0; events = c.new.result.items } ∷ []) c.reserve.ensures.items),
   files-puts-step _ _ c.self.inside.history.items _ c.call.result F.Load c.doubled-noted.result.0 c.new.result.items c.self.invariant.2 c.self.invariant.0.requests (ap (λ (x : Call). files_in x.act) c.call.ensures) c.new.ensures.items

@@ -1,13 +1,10 @@
-use Rattle.std.proofs.Common.{rules, ◌++◌, ◌∷◌, [], ◌∙◌, ap, sym, subst, refl, reverse, is_none, option_map, inl}
-use Rattle.pcache_base.specs.declared.error.ErrorType.TheVariants.{Io}
+use Rattle.std.proofs.Common.{rules, ◌++◌, ◌∷◌, [], ◌∙◌, ap, sym, subst, reverse, is_none}
 use Rattle.pcache_history.specs.declared.call.Call.{Call}
 use Rattle.pcache_history.specs.declared.call.FilesAct.TheVariants as F
-use Rattle.pcache_history.specs.declared.call.Reply.TheVariants as R
 use Rattle.pcache_history.specs.Files.{files_in, is_load, only_loads}
-use Rattle.pcache_history.specs.Log.{Log, started}
+use Rattle.pcache_history.specs.Log.{Log}
 use Rattle.pcache_history.specs.Rules.{IsFilesReply}
-use Rattle.pingora_cache.specs.FilesCalls.{IsLoaded}
-use Rattle.pingora_cache.proofs.FilesCalls.{files-puts-step, files-step, is-load-of, is-save-of, load-late, load-sound, load-start, other-late, told-files, unloaded-answers, unloaded-nowhere}
+use Rattle.pingora_cache.proofs.FilesCalls.{files-puts-step, files-step, other-late, told-files}
 use Rattle.pingora_cache.proofs.PutSound.{puts-same}
 use Rattle.pingora_cache.proofs.Worlds.{sound-same, started-once}
 use Rattle.pingora_cache.proofs.world.world_type.World.save.Goals as goal
@@ -21,7 +18,7 @@ invariant_of-self g c = (
 
 pub invariant_of-self-2 : goal.invariant_of-self-2
 invariant_of-self-2 g c = (
-  files-step _ _ _ _ _ _ _ c.self.inside.history.items _ c.call.result F.Save c.saved_reply.result c.doubled-noted.result.0 c.new.result.items c.self.invariant.0 c.doubled-noted.ensures.copy (ap (λ (x : Call). files_in x.act) c.call.ensures) c.saved_reply.ensures c.new.ensures.items
+  files-step _ _ _ _ _ _ _ c.self.inside.history.items _ c.call.result F.Save c.saved_in-saved.result c.doubled-noted.result.0 c.new.result.items c.self.invariant.0 c.doubled-noted.ensures.copy (ap (λ (x : Call). files_in x.act) c.call.ensures) c.saved_in-saved.ensures c.new.ensures.items
       (started-once (λ v. v.items) _ _ _ c.in_ok-make_ready.ensures.known ∙ c.make_ready.ensures.same_start)
       (c.note.ensures ∙ ap (λ xs. xs ++ record { call = c.call.result; reply = c.doubled-noted.result.0; events = c.new.result.items } ∷ []) c.make_ready.ensures.same_history),
   other-late _ c.self.inside.history.items _ c.call.result c.doubled-noted.result.0 c.new.result.items (ap (λ (x : Call). is_load x.act) c.call.ensures) c.in_ok-make_ready.ensures.known
@@ -47,4 +44,4 @@ returns-clause-ok g c = record {
 }
 
 pub returns-clause-replies : goal.returns-clause-replies
-returns-clause-replies g c = subst (IsFilesReply F.Save) (sym (told-files (only_loads []) F.Save _ _ c.saved_reply.ensures c.doubled-noted.ensures.copy) ∙ c.doubled-noted.ensures.same) c.saved_reply.ensures
+returns-clause-replies g c = subst (IsFilesReply F.Save) (sym (told-files (only_loads []) F.Save _ _ c.saved_in-saved.ensures c.doubled-noted.ensures.copy) ∙ c.doubled-noted.ensures.same) c.saved_in-saved.ensures

@@ -1,13 +1,10 @@
-use Rattle.std.proofs.Common.{rules, ◌++◌, ◌∷◌, [], ◌∙◌, ap, sym, subst, refl, reverse, is_none, option_map, inl}
+use Rattle.std.proofs.Common.{rules, ◌++◌, ◌∷◌, [], ◌∙◌, ap, sym, refl, reverse, is_none, inl}
 use Rattle.pcache_base.specs.declared.error.ErrorType.TheVariants.{Io}
-use Rattle.pcache_history.specs.declared.call.Call.{Call}
 use Rattle.pcache_history.specs.declared.call.FilesAct.TheVariants as F
 use Rattle.pcache_history.specs.declared.call.Reply.TheVariants as R
-use Rattle.pcache_history.specs.Files.{files_in, is_load, only_loads}
-use Rattle.pcache_history.specs.Log.{Log, started}
-use Rattle.pcache_history.specs.Rules.{IsFilesReply}
-use Rattle.pingora_cache.specs.FilesCalls.{IsLoaded}
-use Rattle.pingora_cache.proofs.FilesCalls.{files-puts-step, files-step, is-load-of, is-save-of, load-late, load-sound, load-start, other-late, told-files, unloaded-answers, unloaded-nowhere}
+use Rattle.pcache_history.specs.Files.{only_loads}
+use Rattle.pcache_history.specs.Log.{Log}
+use Rattle.pingora_cache.proofs.FilesCalls.{files-puts-step, files-step, is-save-of, other-late}
 use Rattle.pingora_cache.proofs.PutSound.{puts-same}
 use Rattle.pingora_cache.proofs.Worlds.{sound-same, started-once}
 use Rattle.pingora_cache.proofs.world.world_type.World.save_nowhere.Goals as goal

@@ -39,6 +39,6 @@ returns-clause-ok g c = record {
   start = search rules;
   limits = search rules;
   age = same-age _ _ _ _ _ _ _ _ _ _ _ c.self.inside.history.items c.args.call _ _ c.self.invariant.0 c.self.invariant.2 (search rules) c.act-reply.ensures.acts ∙ ap (λ (l : Log). l.age) c.self.view_is;
-  evicted = subst (λ (l : Log). g.M.EvictionManager.evicted c.act-reply.new.parts.manager ≡ evicted_by (tracked l.start (events_in l)) l.evicted c.act-reply.new.events.items) c.self.view_is
+  evicted = subst (λ (l : Log). c.act-reply.new.parts.evicted ≡ evicted_by (tracked l.start (events_in l)) l.evicted c.act-reply.new.events.items) c.self.view_is
       (evicted-step _ _ _ _ _ _ _ _ _ _ _ c.self.inside.history.items c.args.call _ _ _ _ c.self.invariant.0 c.self.invariant.2 (search rules) c.act-reply.ensures.acts c.act-reply.ensures.evicted);
 }
