@@ -117,7 +117,7 @@ impl Draft {
         ensures kind { IfErr result (λ e. e ≡ OutOfMemory) }
         ensures err { OnErr result (self.new ≡ self.old) }
     {
-        self.text.extend(alloc, bytes, eof)?;
+        self.text.extend(alloc, bytes, self.readers > 0)?;
         self.told = eof;
         Ok(())
     }
@@ -133,6 +133,7 @@ impl Draft {
         let Some(readers) = self.readers.checked_add(1) else {
             return Err(Error::new(ErrorType::OutOfMemory));
         };
+        self.text.settle(alloc)?;
         let meta = self.meta.meta(alloc)?;
         self.readers = readers;
         Ok(meta)

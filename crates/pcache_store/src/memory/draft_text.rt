@@ -9,11 +9,16 @@ use std::alloc::Global;
 use std::marker::Model;
 use std::mem;
 
-/// Pieces of fewer bytes are gathered: such a piece would take more memory than its bytes.
+/// Pieces of fewer bytes are always gathered: such a piece would take more memory than its bytes.
 const SMALL: usize = 1024;
 
-/// The bytes of a write. A piece is kept as it was passed in, and shared with its readers. Small pieces
-/// are gathered after the others. At the end all is joined once, if it came in several pieces.
+/// A piece of so many bytes is never copied to those that come after it.
+const LARGE: usize = 65_536;
+
+/// The bytes of a write. The first piece is kept as it was passed in, since it may be the whole body. From the
+/// second one on, a write that nobody reads gathers its pieces in a vector, which becomes the body without a
+/// copy. A write that is read keeps each piece, and shares it with its readers, unless it is small. At the end
+/// all is joined once, if it is in several pieces.
 #[derive(Drop)]
 pub(crate) struct DraftText {
     pieces: Vec<Bytes>,
@@ -56,6 +61,7 @@ fn settle(alloc: Global, pieces: &mut Vec<Bytes>, tail: &mut Vec<u8>) -> Result<
         return Ok(());
     }
     pieces.reserve(1)?;
+    tail.shrink_to_fit();
     match Bytes::from_vec(mem::replace(tail, Vec::new(alloc))) {
         Ok(bytes) => {
             pieces.push_reserved(bytes);
@@ -66,6 +72,20 @@ fn settle(alloc: Global, pieces: &mut Vec<Bytes>, tail: &mut Vec<u8>) -> Result<
             Err(Error::new(ErrorType::OutOfMemory))
         }
     }
+}
+
+// Moves the first piece to the gathered bytes, if it is the only one and nothing is gathered yet. Returns whether
+// no piece is left.
+fn gather(pieces: &mut Vec<Bytes>, tail: &mut Vec<u8>) -> Result<bool>
+    ensures same { concat pieces.new.items ++ tail.new.items
+        ≡ concat pieces.old.items ++ tail.old.items }
+    ensures kind { IfErr result (λ e. e ≡ OutOfMemory) }
+{
+    if pieces.len() == 1 && tail.is_empty() && pieces[0].len() < LARGE {
+        tail.extend_from_slice(pieces[0].as_slice())?;
+        pieces.clear();
+    }
+    Ok(pieces.is_empty())
 }
 
 // Makes one piece of several, which have `len` bytes together.
@@ -142,16 +162,19 @@ impl DraftText {
         self.len
     }
 
-    // Adds a piece. If it is the only one, it is kept as it is, however small.
-    pub(crate) fn extend(&mut self, alloc: Global, bytes: Bytes, eof: bool) -> Result<()>
+    // Adds a piece, to a write that somebody reads or not.
+    pub(crate) fn extend(&mut self, alloc: Global, bytes: Bytes, is_read: bool) -> Result<()>
         ensures ok { OnOk result (self.new ≡ self.old ++ bytes) }
         ensures kind { IfErr result (λ e. e ≡ OutOfMemory) }
         ensures err { OnErr result (self.new ≡ self.old) }
     {
+        if bytes.is_empty() {
+            return Ok(());
+        }
         let Some(len) = self.len.checked_add(bytes.len()) else {
             return Err(Error::new(ErrorType::OutOfMemory));
         };
-        if bytes.len() < SMALL && !(eof && self.len == 0) {
+        if self.gathers(bytes.len(), is_read)? {
             self.tail.extend_from_slice(bytes.as_slice())?;
             self.len = len;
             return Ok(());
@@ -160,6 +183,28 @@ impl DraftText {
         self.pieces.push(bytes)?;
         self.len = len;
         Ok(())
+    }
+
+    // Whether a piece of so many bytes is to be gathered.
+    fn gathers(&mut self, count: usize, is_read: bool) -> Result<bool>
+        ensures same { self.new ≡ self.old }
+        ensures kind { IfErr result (λ e. e ≡ OutOfMemory) }
+    {
+        if self.len == 0 {
+            return Ok(false);
+        }
+        if !is_read && gather(&mut self.pieces, &mut self.tail)? {
+            return Ok(true);
+        }
+        Ok(count < SMALL)
+    }
+
+    // Makes a piece of the gathered bytes, which is shared with those who read it.
+    pub(crate) fn settle(&mut self, alloc: Global) -> Result<()>
+        ensures same { self.new ≡ self.old }
+        ensures kind { IfErr result (λ e. e ≡ OutOfMemory) }
+    {
+        settle(alloc, &mut self.pieces, &mut self.tail)
     }
 
     // The bytes from an index on: shared if they are in one piece, else copied.

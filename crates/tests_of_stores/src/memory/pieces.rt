@@ -12,6 +12,18 @@ struct Plain {
     rng: StdRng,
 }
 
+// Hands a piece over.
+fn is_handed(
+    it: &mut Plain,
+    writer: &mut MemMissHandler,
+    piece: Vec<u8>,
+    eof: bool,
+) -> Result<bool> {
+    it.text.extend_from_slice(piece.as_slice())?;
+    let bytes = Bytes::from_vec(piece)?;
+    Ok(!writer.at_eof(&it.store) && writer.write_body(&mut it.store, bytes, eof).is_ok())
+}
+
 // Hands a piece of up to 3,000 random bytes over, most of them small.
 fn is_handed_over(it: &mut Plain, writer: &mut MemMissHandler, eof: bool) -> Result<bool> {
     let small: bool = it.rng.random_range(0..3u32) > 0;
@@ -25,9 +37,25 @@ fn is_handed_over(it: &mut Plain, writer: &mut MemMissHandler, eof: bool) -> Res
         let byte: u8 = it.rng.random_range(0..250);
         piece.push(byte)?;
     }
-    it.text.extend_from_slice(piece.as_slice())?;
-    let bytes = Bytes::from_vec(piece)?;
-    Ok(!writer.at_eof(&it.store) && writer.write_body(&mut it.store, bytes, eof).is_ok())
+    is_handed(it, writer, piece, eof)
+}
+
+// Hands pieces over that nobody reads: first perhaps a large one, and three, of which the last may be the end.
+fn are_handed_over(
+    it: &mut Plain,
+    writer: &mut MemMissHandler,
+    is_large: bool,
+    eof: bool,
+) -> Result<bool> {
+    let mut handed = true;
+    if is_large {
+        let piece = vec![in it.alloc; 7u8; 70_000]?;
+        handed &= is_handed(it, writer, piece, false)?;
+    }
+    for number in 0..3u32 {
+        handed &= is_handed_over(it, writer, eof && number == 2)?;
+    }
+    Ok(handed)
 }
 
 // Whether these bytes were read, or that there are none for now.
@@ -54,8 +82,8 @@ fn reads_on(it: &mut Plain, reader: &mut MemHitHandler, place: usize) -> Option<
 // Pieces and reads in turn, at random.
 fn are_read(it: &mut Plain, writer: &mut MemMissHandler, reader: &mut MemHitHandler) -> bool {
     let mut place = Some(0usize);
-    for number in 0..30u32 {
-        if !matches!(is_handed_over(it, writer, number == 29), Ok(true)) {
+    for _ in 0..30u32 {
+        if !matches!(is_handed_over(it, writer, false), Ok(true)) {
             return false;
         }
         let reads: bool = it.rng.random_range(0..3u32) == 0;
@@ -93,12 +121,34 @@ fn is_found_whole(it: &mut Plain, key: &CacheKey) -> bool {
     }
 }
 
-fn is_written_and_found(it: &mut Plain, key: &CacheKey) -> Result<bool> {
+// What a write is before anybody reads it: nothing, or some pieces, the first of them perhaps large.
+#[derive(Clone, Copy)]
+enum Before {
+    Nothing,
+    Pieces { is_large: bool },
+}
+
+// Hands pieces over before a reader comes, while it reads, and after it left.
+fn are_written(
+    it: &mut Plain,
+    key: &CacheKey,
+    writer: &mut MemMissHandler,
+    before: Before,
+) -> Result<bool> {
+    let handed = match before {
+        Before::Nothing => true,
+        Before::Pieces { is_large } => are_handed_over(it, writer, is_large, false)?,
+    };
+    let read = is_read_while_written(it, key, writer);
+    Ok(handed && read && are_handed_over(it, writer, false, true)?)
+}
+
+fn is_written_and_found(it: &mut Plain, key: &CacheKey, before: Before) -> Result<bool> {
     let meta = meta_until(it.alloc, 300);
     let mut writer = it.store.get_miss_handler(it.alloc, key, &meta)?;
-    let read = is_read_while_written(it, key, &mut writer);
+    let written = matches!(are_written(it, key, &mut writer, before), Ok(true));
     writer.finish(&mut it.store)?;
-    Ok(read && is_found_whole(it, key))
+    Ok(written && is_found_whole(it, key))
 }
 
 fn all_are(alloc: Global, seed: u64) -> Result<bool> {
@@ -109,7 +159,13 @@ fn all_are(alloc: Global, seed: u64) -> Result<bool> {
         text: Vec::new(alloc),
         rng: StdRng::seed_from_u64(seed),
     };
-    is_written_and_found(&mut it, &key)
+    let before = match seed % 3 {
+        0 => Before::Nothing,
+        rest => Before::Pieces {
+            is_large: rest == 1,
+        },
+    };
+    is_written_and_found(&mut it, &key, before)
 }
 
 #[test]
