@@ -1,5 +1,5 @@
 -- What a manager tracks is what stands after the events so far.
-use Rattle.std.proofs.Common.{◌≡◌, ℕ, ◌+◌, arith, length, length-append, sum_by, Bool, true, false, cond, not, ◌&&◌, ◌||◌, Option, None, Some, is_some, List, [], ◌∷◌, ◌++◌, refl, ap, sym, subst, ◌∙◌}
+use Rattle.std.proofs.Common.{◌≡◌, ℕ, ◌+◌, arith, length-append, sum_by, Bool, true, false, cond, not, ◌&&◌, ◌||◌, Some, is_some, List, [], ◌∷◌, ◌++◌, refl, ap, sym, subst, ◌∙◌}
 use Rattle.std.specs.Prelude.{◌<◌, ◌≤◌}
 use Rattle.std.specs.List.{list_any}
 use Rattle.std.specs.Ordering.{eq_by_cmp}
@@ -13,7 +13,7 @@ use Rattle.pcache_evict.proofs.Evictions.{is_gone}
 use Rattle.pcache_evict.proofs.TrackedMaps.{get-without_apart}
 use Rattle.cache_simulation.specs.declared.run.Request.{Request}
 use Rattle.cache_simulation.specs.declared.counts.Counts.{Counts}
-use Rattle.cache_simulation.specs.Events.{Event, Hit, Came, Passed, Leads, RunsTo, stands, HitsStand, is_hit, size_in}
+use Rattle.cache_simulation.specs.Events.{Event, Hit, Came, Passed, RunsTo, stands, HitsStand, is_hit, size_in}
 use Rattle.cache_simulation.specs.Plays.{Rules, State, IsEvent, Becomes, Plays, IsCounted}
 
 abbrev ties : CacheEntryKey → CacheEntryKey → Bool
@@ -78,9 +78,6 @@ plays-more rules s t u [] [] a e p b = (u, subst (λ s. Becomes rules s a e u) p
 plays-more rules s t u [] (f ∷ es) a e p b = absurd p
 plays-more rules s t u (x ∷ requests) [] a e p b = absurd p
 plays-more rules s t u (x ∷ requests) (f ∷ es) a e (between, becomes, rest) b = (between, becomes, plays-more rules between t u requests es a e rest b)
-
-pub counted-none : (c : Counts) → IsCounted c [] c
-counted-none c = record { requests = omega arith; bytes = omega arith; hits = omega arith; hit_bytes = omega arith }
 
 pub counted-more : (old now new : Counts) (es : List Event) (e : Event) → IsCounted old es now → IsCounted now (e ∷ []) new → IsCounted old (es ++ e ∷ []) new
 counted-more old now new es e p q =

@@ -1,5 +1,5 @@
 -- The events of a trace's requests, and how they change what a manager tracks (own).
-use Rattle.std.specs.Prelude.{◌≡◌, ℕ, ◌+◌, Bool, true, false, ◌&&◌, ◌||◌, not, List, [], ◌∷◌, length, sum_by, if◌then◌else◌}
+use Rattle.std.specs.Prelude.{◌≡◌, ℕ, Bool, true, false, ◌&&◌, ◌||◌, not, List, [], ◌∷◌, sum_by, if◌then◌else◌}
 use Rattle.std.specs.List.{list_any}
 use Rattle.std.specs.Ordering.{eq_by_cmp}
 use Rattle.std.specs.FinMap.{insert, contains_key}
@@ -13,12 +13,6 @@ pub data Event : Type 0 where
   Hit : CacheEntryKey → ℕ → Event
   Came : CacheEntryKey → ℕ → List CacheEntryKey → Event
   Passed : CacheEntryKey → ℕ → Event
-
--- the entry of an event
-abbrev pub key_in : Event → CacheEntryKey
-key_in (Hit k n) = k
-key_in (Came k n out) = k
-key_in (Passed k n) = k
 
 -- the size of an event's entry, in bytes
 abbrev pub size_in : Event → ℕ

@@ -150,9 +150,6 @@ kept_found limits m n s t status h id r (Err e) store tracked left_store noted k
 pub kept_left : (limits : Limits) (m : Tracked) (s t : Store) (o : Option Reader) → t ≡ left_by o s → IsKept limits m s → IsKept limits m t
 kept_left limits m s t o is k = kept_slots limits m s t (ap (λ (x : Store). x.slots) is ∙ slots-left_by s o) k
 
-pub kept_let_go : (limits : Limits) (m : Tracked) (s t : Store) (h : Reader) → t ≡ left s h → IsKept limits m s → IsKept limits m t
-kept_let_go limits m s t h is k = kept_slots limits m s t (ap (λ (x : Store). x.slots) is ∙ slots-left s h) k
-
 pub kept_dropped : (limits : Limits) (m : Tracked) (s t : Store) (w : Option ℕ) → t ≡ dropped_by w s → IsKept limits m s → IsKept limits m t
 kept_dropped limits m s t w is k = subst (IsKept limits m) (sym is) (kept_fewer limits m s (dropped_by w s) (fewer-dropped_by s w) k)
 

@@ -15,8 +15,8 @@ use Rattle.pcache_request.specs.Phases.{IsFilling}
 use Rattle.pcache_request.specs.declared.phase.CachePhase.{CachePhase}
 use Rattle.pcache_request.specs.declared.phase.CachePhase.TheVariants as phase
 use Rattle.pcache_request.specs.Variants.{is_unseen_for, looked_for, with_key_lock}
-use Rattle.pcache_store.specs.Store.{Store, Written, Reader, Whole, Part, begun, followed, followed_by, is_named, is_told, is_write_under, followed_on, kept, left, left_on, new_write, wrote, wrote_on}
-use Rattle.pcache_cache.specs.Parts.{MayEnd, is_own_write, written_by}
+use Rattle.pcache_store.specs.Store.{Store, Written, Reader, Whole, Part, begun, followed, followed_by, is_named, is_write_under, followed_on, kept, left, left_on, new_write, wrote, wrote_on}
+use Rattle.pcache_cache.specs.Parts.{MayEnd, is_own_write}
 use Rattle.pcache_cache.proofs.Standing.{same-key}
 
 -- ---- what does not look at the lock that is held stays over a look-up
@@ -135,14 +135,6 @@ wrote-under k w s bytes eof own =
 pub wrote-own : (s : Store) (key : Option Key) (w : ℕ) (bytes : List ℕ) (eof : Bool) → is_own_write s key (Some w) ≡ true → is_own_write (wrote s w bytes eof) key (Some w) ≡ true
 wrote-own s None w bytes eof own = own
 wrote-own s (Some k) w bytes eof own = wrote-under (slot k) w s bytes eof own
-
-told-own : (b : Bool) (s : Store) (key : Option Key) (w : ℕ) (bytes : List ℕ) (eof : Bool) → is_own_write s key (Some w) ≡ true → is_own_write (cond b s (wrote s w bytes eof)) key (Some w) ≡ true
-told-own true s key w bytes eof own = own
-told-own false s key w bytes eof own = wrote-own s key w bytes eof own
-
-pub written_own : (s : Store) (key : Option Key) (write : Option ℕ) (bytes : List ℕ) (eof : Bool) → is_own_write s key write ≡ true → is_own_write (written_by write bytes eof s) key write ≡ true
-written_own s key None bytes eof own = own
-written_own s key (Some w) bytes eof own = told-own (is_told (get s.writes w)) s key w bytes eof own
 
 -- a request that fills has a key
 filling-key : (p : CachePhase) (k : Option Key) → IsFilling p → HasKey p k → IsSome k

@@ -182,9 +182,6 @@ others-chain n shards k p =
 
 -- ---- walks
 
-pub walks-none : (limits : Limits) (k : CacheEntryKey) (a : Walk) → Walks limits k [] a a
-walks-none limits k a = record { left = []; passed = []; split = refl; sum = let e : a.sum ≡ a.sum + 0 = omega arith in e; count = let e : a.count ≡ a.count + 0 = omega arith in e; room = let e : a.room ≡ a.room + 0 = omega arith in e; ends = inl refl }
-
 -- a walk that goes on over the list before
 pub walks-on : (limits : Limits) (k : CacheEntryKey) (t s : Recency) (a b c : Walk) → Walks limits k s a b → (IsWithinTotals limits b.sum b.count → ⊥) → Walks limits k t b c → Walks limits k (t ++ s) a c
 walks-on limits k t s a b c v over w = elim v.ends [
@@ -580,9 +577,6 @@ steps limits k shards from to place a b low high v sum count =
 
 pub walk-next : (limits : Limits) (k : CacheEntryKey) (shards : List Recency) (from place : ℕ) (a b c : Walk) → from ≤ place → Walks limits k (span shards from (place - from)) a b → (IsWithinTotals limits b.sum b.count → ⊥) → Walks limits k (list_at shards place) b c → Walks limits k (span shards from (place + 1 - from)) a c
 walk-next limits k shards from place a b c low v over w = subst (λ l. Walks limits k l a c) (sym (span-next shards from place low)) (walks-on limits k (list_at shards place) (span shards from (place - from)) a b c v over w)
-
-pub walk-first : (limits : Limits) (k : CacheEntryKey) (shards : List Recency) (from : ℕ) (a : Walk) → Walks limits k (span shards from (from - from)) a a
-walk-first limits k shards from a = subst (λ m. Walks limits k (span shards from m) a a) (let e : 0 ≡ from - from = omega arith in e) (walks-none limits k a)
 
 pub walk-stops : (limits : Limits) (k : CacheEntryKey) (shards : List Recency) (from to place : ℕ) (a b : Walk) → from ≤ place → place ≤ to → Walks limits k (span shards from (place - from)) a b → IsWithinTotals limits b.sum b.count → Walks limits k (span shards from (to - from)) a b
 walk-stops limits k shards from to place a b low high v small =

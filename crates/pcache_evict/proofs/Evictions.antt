@@ -1,9 +1,7 @@
 -- One more eviction.
 use Rattle.std.proofs.Common.{◌≡◌, ℕ, Bool, true, false, cond, Option, None, is_some, IsTrue, All, List, [], ◌∷◌, ◌++◌, refl, ap, sym, subst, ◌∙◌, arith, length, inl, inr}
 use Rattle.std.specs.List.{list_any, IsDistinct}
-use Rattle.std.specs.Ordering.{eq_by_cmp, is_eq}
-use Rattle.std.specs.declared.cmp.Ordering.{Ordering}
-use Rattle.std.specs.declared.cmp.Ordering.TheVariants.{Less, Equal, Greater}
+use Rattle.std.specs.Ordering.{eq_by_cmp}
 use Rattle.std.specs.Cmp.{eq_by_cmp_equiv}
 use Rattle.std.specs.FinMap as map
 use Rattle.std.proofs.lemmas.Bool.{both_ways, or_cases}
@@ -18,11 +16,6 @@ pub record Gone (limits : Limits) (m : Tracked) (out : List CacheEntryKey) : Typ
   pub tracked : All (λ e. IsTrue (map.contains_key m e)) out
   pub once : IsDistinct (eq_by_cmp entry_cmp) out
   pub needed : (front : List CacheEntryKey) (last : CacheEntryKey) → out ≡ front ++ last ∷ [] → ¬ IsWithin limits (without front m)
-
-tie : (r : Ordering) → is_eq r ≡ true → r ≡ Equal
-tie Less e = cc
-tie Equal e = refl
-tie Greater e = cc
 
 pub without-push : (out : List CacheEntryKey) (e : CacheEntryKey) (m : Tracked) → without (out ++ e ∷ []) m ≡ map.remove (without out m) e
 without-push [] e m = refl

@@ -18,15 +18,6 @@ use Rattle.pcache_evict.proofs.Recency.{all_apart}
 pub once-reweighed : (k : CacheEntryKey) (n : ℕ) (l : Recency) → IsOnce l → IsOnce (reweighed k n l)
 once-reweighed k n l d = subst (IsDistinct entry_eq) (sym (keys-set_value (entry_eq k) l n)) d
 
--- the other entries stay
-pub others-reweighed : (k : CacheEntryKey) (n : ℕ) (l : Recency) → others k (reweighed k n l) ≡ others k l
-others-reweighed k n [] = refl
-others-reweighed k n (e ∷ l) =
-    elim (entry_eq k e.0) as (λ b. entry_eq k e.0 ≡ b → others k (cond b ((e.0, n) ∷ l) (e ∷ reweighed k n l)) ≡ others k (e ∷ l)) [
-      | true ↦ λ t. ap (λ b. cond (not b) ((e.0, n) ∷ others k l) (others k l)) t ∙ sym (ap (λ b. cond (not b) (e ∷ others k l) (others k l)) t)
-      | false ↦ λ t. ap (λ b. cond (not b) (e ∷ others k (reweighed k n l)) (others k (reweighed k n l))) t ∙ ap (λ xs. e ∷ xs) (others-reweighed k n l) ∙ sym (ap (λ b. cond (not b) (e ∷ others k l) (others k l)) t)
-    ] refl
-
 -- its weight is the new one, with those of the others
 pub weight-reweighed : (k : CacheEntryKey) (n : ℕ) (l : Recency) → IsOnce l → IsSome (weight_of k l) → weight (reweighed k n l) ≡ weight (others k l) + n
 weight-reweighed k n [] d h = cc

@@ -1,16 +1,15 @@
 -- Walks over a recency list from its end: what is evicted, and how many at most.
-use Rattle.std.proofs.Common.{◌≡◌, ℕ, suc, ◌+◌, ◌-◌, ◌<◌, ◌≤◌, not, List, [], ◌∷◌, ◌++◌, reverse, refl, ap, sym, subst, ◌∙◌, arith, length, take, inl, inr, append_assoc, length-append}
+use Rattle.std.proofs.Common.{◌≡◌, ℕ, suc, ◌+◌, ◌-◌, ◌<◌, not, List, [], ◌∷◌, ◌++◌, reverse, refl, ap, sym, subst, ◌∙◌, arith, length, take, inl, inr, append_assoc, length-append}
 use Rattle.std.specs.Map.{keys_of}
-use Rattle.std.proofs.lemmas.List.{take_at, reverse-append, append_cancel_left}
+use Rattle.std.proofs.lemmas.List.{take_at, reverse-append}
 use Rattle.std.proofs.lemmas.Bool.{cases_lt}
 use Rattle.std.proofs.lemmas.List.Elements.{filter-append}
-use Rattle.std.proofs.lemmas.List.Filters.{length-filter_both}
 use Rattle.std.proofs.lemmas.List.Sums.{sum_by-cons}
 use Rattle.pcache_evict.specs.declared.eviction.entry_key.CacheEntryKey.{CacheEntryKey}
 use Rattle.pcache_evict.specs.Entry.{entry_eq}
 use Rattle.pcache_evict.specs.declared.eviction.recency.Walk.{Walk}
 use Rattle.pcache_evict.specs.Tracked.{Limits}
-use Rattle.pcache_evict.specs.Recency.{Recency, weight, others, moved, IsWithinAsList, Evicts}
+use Rattle.pcache_evict.specs.Recency.{Recency, weight, others, moved, IsWithinAsList}
 use Rattle.pcache_evict.specs.Listed.{IsEnough}
 
 -- what was evicted so far
@@ -23,9 +22,6 @@ pub record Pops (limits : Limits) (before now : Recency) (out : List CacheEntryK
 pub append_nil : {X : Type 0} (xs : List X) → xs ≡ xs ++ []
 append_nil [] = refl
 append_nil (x ∷ xs) = ap (λ l. x ∷ l) (append_nil xs)
-
-pub pops-none : (limits : Limits) (l : Recency) → Pops limits l l []
-pops-none limits l = record { tail = []; split = append_nil l; order = refl; shortest = λ front back e h. absurd (omega arith) }
 
 -- two splits with ends of one length are one
 pub same_front : (a b c d : Recency) → a ++ b ≡ c ++ d → length b ≡ length d → a ≡ c
@@ -70,9 +66,6 @@ pops-room limits before now out m p over (front, back, split, le, inside) =
       ]
     ]
 
-pub pops-done : (limits : Limits) (before now : Recency) (out : List CacheEntryKey) → Pops limits before now out → IsWithinAsList limits now → Evicts limits before now out
-pops-done limits before now out p inside = record { tail = p.tail; split = p.split; order = p.order; enough = inside; shortest = p.shortest }
-
 -- a walk over the list as it was, that leaves out the entry to be moved
 pub record Walks (k : CacheEntryKey) (n : ℕ) (l left : Recency) (total items gone : ℕ) : Type 0 where
   pub passed : Recency
@@ -87,41 +80,12 @@ moved_split k n l left passed is = ap (λ xs. (k, n) ∷ xs) (ap (others k) is �
 pub walks-enough : (limits : Limits) (k : CacheEntryKey) (n : ℕ) (l left : Recency) (total items gone : ℕ) → Walks k n l left total items gone → IsWithinAsList limits (moved k n left) → IsEnough limits (moved k n l) gone
 walks-enough limits k n l left total items gone w inside = (moved k n left, others k w.passed, moved_split k n l left w.passed w.split, (let room = w.room in omega arith), inside)
 
-pub walks-start : (k : CacheEntryKey) (n : ℕ) (l : Recency) (total items : ℕ) → total ≡ n + weight (others k l) → items ≡ 1 + length (others k l) → Walks k n l l total items 0
-walks-start k n l total items sum count = record { passed = []; split = append_nil l; sum = sum; count = count; room = refl }
-
 -- the sum and the number that the walk is to have
 pub moved-sum : (k : CacheEntryKey) (n : ℕ) (l : Recency) → weight (moved k n l) ≡ n + weight (others k l)
 moved-sum k n l = sum_by-cons (λ (e : CacheEntryKey × ℕ). e.1) (k, n) (others k l)
 
-few_others : (k : CacheEntryKey) (l : Recency) → length (others k l) ≤ length l
-few_others k l = let both = length-filter_both (λ (e : CacheEntryKey × ℕ). not (entry_eq k e.0)) (λ (e : CacheEntryKey × ℕ). not (not (entry_eq k e.0))) (λ _. refl) l in omega arith
-
-pub walks-room : (k : CacheEntryKey) (n : ℕ) (l left : Recency) (total items gone : ℕ) → Walks k n l left total items gone → gone ≤ length l
-walks-room k n l left total items gone w =
-    let room = w.room in
-    let some = few_others k w.passed in
-    let whole = ap (λ (l : Recency). length l) w.split in
-    let longer = length-append left w.passed in
-    omega arith
-
 pub walks-inside : (limits : Limits) (k : CacheEntryKey) (n : ℕ) (l left : Recency) (total items gone : ℕ) → Walks k n l left total items gone → ((l : Recency) → total ≡ weight l → items ≡ length l → IsWithinAsList limits l) → IsWithinAsList limits (moved k n left)
 walks-inside limits k n l left total items gone w within = within (moved k n left) (w.sum ∙ sym (moved-sum k n left)) (let count = w.count in omega arith)
-
--- what an eviction leaves and what goes is fixed by the list
-pub evicts-unique : (limits : Limits) (l a b : Recency) (out gone : List CacheEntryKey) → Evicts limits l a out → Evicts limits l b gone → (a ≡ b) × (out ≡ gone)
-evicts-unique limits l a b out gone v w =
-    let splits : a ++ v.tail ≡ b ++ w.tail = sym v.split ∙ w.split in
-    elim (cases_lt (length v.tail) (length w.tail)) [
-      | inl lt ↦ absurd (w.shortest a v.tail v.split lt v.enough)
-      | inr ge ↦ elim (cases_lt (length w.tail) (length v.tail)) [
-        | inl lt ↦ absurd (v.shortest b w.tail w.split lt w.enough)
-        | inr le ↦
-            let front = same_front a v.tail b w.tail splits (omega arith) in
-            let tails = append_cancel_left b v.tail w.tail (ap (λ l. l ++ v.tail) (sym front) ∙ splits) in
-            (front, v.order ∙ ap (λ (t : Recency). reverse (keys_of t)) tails ∙ sym w.order)
-      ]
-    ]
 
 -- a walk that began beside other lists: what stays beside this one, and what was passed before
 pub record Walking (k : CacheEntryKey) (l left : Recency) (start : Walk) (total items gone : ℕ) : Type 0 where

@@ -14,7 +14,7 @@ use Rattle.pcache_files.specs.Device.{Gave}
 use Rattle.pcache_files.specs.FileReading.{node_at, tag_len_at}
 use Rattle.pcache_files.specs.FileSpelling.{NodeThen, NodesThen, SpellsFile}
 use Rattle.pcache_files.proofs.Beginnings.{array_longer, nodes_longer}
-use Rattle.pcache_files.proofs.Devices.{consumes-more, consumes-none}
+use Rattle.pcache_files.proofs.Devices.{consumes-more}
 use Rattle.pcache_files.proofs.FileExact.{node_again}
 use Rattle.pcache_files.proofs.Whole.{array_within, node_within, tag_told, tag_told_whole, tag_of, tag_fits}
 
@@ -120,9 +120,6 @@ pub record Reading (old now : Option (List ℕ)) (a ahead : List ℕ) (nodes : R
   pub consumed : Consumes old now piece
   pub spelled : NodesThen (a ++ piece) nodes ahead
 
-pub reading_none : (old : Option (List ℕ)) (a : List ℕ) → Reading old old a a []
-reading_none old a = record { piece = []; consumed = consumes-none old; spelled = append-nil a }
-
 pub reading_more : (old now new : Option (List ℕ)) (a ahead after : List ℕ) (nodes : Recency) (node : CacheEntryKey × ℕ) → Reading old now a ahead nodes
     → ((piece : List ℕ) × Consumes now new piece × NodeThen (ahead ++ piece) node after) → Reading old new a after (nodes ++ node ∷ [])
 reading_more old now new a ahead after nodes node so_far (piece, consumed, t) =
@@ -161,13 +158,6 @@ count_of head ahead n old now rest l (piece, consumed, t) empty known s =
     let longer : ArrayThen rest n (ahead ++ k.0) = subst (λ x. ArrayThen x n (ahead ++ k.0)) (sym k.2) (array_longer piece n ahead k.0 first) in
     let same = some_pair_parts (length l) n s.items (ahead ++ k.0) (sym (array_again rest (length l) s.items s.head) ∙ array_again rest n (ahead ++ k.0) longer) in
     (k.0, k.1, same.0, subst (λ x. NodesThen x l []) same.1 s.nodes)
-
-pub list_refused_by_nodes : (head ahead : List ℕ) (n : ℕ) (old now : Option (List ℕ)) → ((piece : List ℕ) × Consumes old now piece × ArrayThen (head ++ piece) n ahead) → head ≡ []
-    → ((rest : List ℕ) → now ≡ Some rest → (l : Recency) (later : List ℕ) → length l ≡ n → NodesThen (ahead ++ rest) l later → ⊥)
-    → (rest : List ℕ) → old ≡ Some rest → (l : Recency) → SpellsFile rest l → ⊥
-list_refused_by_nodes head ahead n old now found empty never rest known l s =
-    let k = count_of head ahead n old now rest l found empty known s in
-    never k.0 k.1 l [] k.2 k.3
 
 pub list_refused_behind : (head a b c : List ℕ) (n : ℕ) (nodes : Recency) (old now next new : Option (List ℕ)) → ((piece : List ℕ) × Consumes old now piece × ArrayThen (head ++ piece) n a) → head ≡ []
     → ((piece : List ℕ) × Consumes now next piece × NodesThen (a ++ piece) nodes b) → length nodes ≡ n

@@ -12,10 +12,6 @@ use Rattle.pcache_files.specs.FileReading.{node_at, nodes_at}
 abbrev pub with_front : Recency → Option (Recency × List ℕ) → Option (Recency × List ℕ)
 with_front front read = read >>= λ x. Some (front ++ x.0, x.1)
 
-pub nothing_read : (read : Option (Recency × List ℕ)) → with_front [] read ≡ read
-nothing_read (Some x) = refl
-nothing_read None = refl
-
 regroup : (front : Recency) (node : CacheEntryKey × ℕ) (read : Option (Recency × List ℕ)) → with_front front (read >>= λ x. Some (node ∷ x.0, x.1)) ≡ with_front (front ++ node ∷ []) read
 regroup front node (Some x) = ap (λ (l : Recency). Some (l, x.1)) (simp append_assoc)
 regroup front node None = refl

@@ -17,7 +17,7 @@ use Rattle.pcache_evict.specs.Recency.{Recency}
 use Rattle.pcache_meta.specs.Spelling.{HashThen}
 use Rattle.pcache_meta.specs.Writing.{number_written, array_written, text_written, hash_written, optional_written, IsHash}
 use Rattle.pcache_meta.proofs.Spelled.{array_then, hash_then, number_then, optional_then, text_then}
-use Rattle.pcache_files.specs.FileSpelling.{KeyItemsThen, KeyThen, EntryThen, NodeThen, NodesThen, SpellsFile}
+use Rattle.pcache_files.specs.FileSpelling.{KeyThen, EntryThen, NodeThen, NodesThen, SpellsFile}
 use Rattle.pcache_files.specs.FileSpelling as spell
 use Rattle.pcache_files.specs.FileWriting.{key_written, entry_written, node_written, file_written, IsKey, IsNode, IsTooLong, AreNodes}
 
@@ -85,9 +85,6 @@ pub record Writes (all left : Recency) (out : List ℕ) : Type 0 where
   pub split : all ≡ done ++ left
   pub text : out ≡ array_written (length all) ++ flat_map node_written done
   pub each : AllByRecursion IsNode done
-
-pub writes-none : (all : Recency) (count : ℕ) (out : List ℕ) → count ≡ length all → out ≡ array_written count → Writes all all out
-writes-none all count out many is = record { done = []; split = refl; text = is ∙ ap array_written many ∙ sym (append-nil (array_written (length all))); each = tt }
 
 both : (a : Recency) (node : CacheEntryKey × ℕ) → AllByRecursion IsNode a → IsNode node → AllByRecursion IsNode (a ++ node ∷ [])
 both [] node p q = (q, tt)

@@ -34,10 +34,6 @@ pub entry_names : (k : Key) (n : Option ℕ) → names_slot (slot k) (entry_of k
 entry_names k None = eq-eqb (slot k) (slot k) refl
 entry_names k (Some n) = eq-eqb (slot k) (slot k) refl
 
-pub entry_number : (k : Key) (n : Option ℕ) → id_of (entry_of k n) ≡ n
-entry_number k None = refl
-entry_number k (Some n) = refl
-
 -- an entry with the number of a write goes with it
 pub goes-own : (k w : ℕ) (e : CacheEntryKey) → names_slot k e ≡ true → id_of e ≡ Some w → goes_with k w e ≡ true
 goes-own k w e names is = and_from _ _ names (ap (is_number w) is ∙ eq-eqb w w refl)

@@ -135,10 +135,6 @@ gave es (Part w place) got h =
 
 -- What events make of a request.
 
-on-each : (es : List Event) (got : List ℕ) (f : Ongoing → Ongoing) → ((x : Ongoing) → FollowsIn es x got → FollowsIn es (f x) got) → (q : Option Ongoing) → Follows es q got → Follows es (option_map f q) got
-on-each es got f keeps None h = tt
-on-each es got f keeps (Some x) h = keeps x h
-
 on-done : (es : List Event) (got : List ℕ) (b : Bool) (p q : Option Ongoing) → Follows es p got → Follows es q got → Follows es (cond b p q) got
 on-done es got true p q h k = h
 on-done es got false p q h k = k

@@ -1,13 +1,12 @@
 -- Queues: an entry removed, put in, changed in place.
-use Rattle.std.proofs.Common.{◌≡◌, ℕ, zero, suc, ◌+◌, ◌*◌, ◌-◌, ◌<◌, ◌≤◌, ◌^◌, Bool, true, false, cond, not, Option, None, Some, is_some, option_map, unwrap_or, List, [], ◌∷◌, ◌++◌, map, refl, ap, sym, subst, ◌∙◌, arith, length, length-append, take, All}
+use Rattle.std.proofs.Common.{◌≡◌, ℕ, zero, suc, ◌+◌, ◌*◌, ◌-◌, ◌<◌, ◌≤◌, ◌^◌, true, false, cond, not, Option, None, Some, is_some, option_map, unwrap_or, [], ◌∷◌, ◌++◌, refl, ap, sym, subst, ◌∙◌, arith, length, length-append, take, All}
 use Rattle.std.specs.Prelude.{IsSome, IfSome}
 use Rattle.std.specs.List.{IsDistinct, AllByRecursion, slice_get}
 use Rattle.std.specs.Option.{option_map_or}
-use Rattle.std.specs.Map.{lookup, lookup_entry, remove_entry, set_value, keys_of}
+use Rattle.std.specs.Map.{lookup_entry, remove_entry, set_value, keys_of}
 use Rattle.std.proofs.lemmas.List.{take_all}
 use Rattle.std.proofs.lemmas.List.Elements.{All-filter, All-cons, All-head, All-tail, All-take}
-use Rattle.std.proofs.lemmas.List.Sums.{sum_by-cons, sum_by-le, sum_by-append}
-use Rattle.std.proofs.lemmas.Map.{keys-set_value, length-set_value}
+use Rattle.std.proofs.lemmas.List.Sums.{sum_by-cons, sum_by-append}
 use Rattle.std.proofs.lemmas.Map.Keys.{IsDistinct-head, IsDistinct-tail, IsDistinct-cons}
 use Rattle.lru.specs.LruCache.{LruCache, put_entries, promoted, lru_cache, last_entry}
 use Rattle.pcache_evict.specs.declared.eviction.entry_key.CacheEntryKey.{CacheEntryKey}
@@ -79,14 +78,6 @@ pub apart_reseen : (k j : CacheEntryKey) (v : Seen) (q : Queue) → entry_eq k j
 apart_reseen k j v [] t a = refl
 apart_reseen k j v (e ∷ q) t a =
     ap (λ b. cond b (e.0, v) e ∷ reseen k v q) (laws.congr k j e.0 t ∙ a.0) ∙ ap (λ l. e ∷ l) (apart_reseen k j v q t a.1)
-
-pub rest-none : (k : CacheEntryKey) (q : Queue) → seen_of k q ≡ None → rest_of k q ≡ q
-rest-none k [] h = refl
-rest-none k (e ∷ q) h =
-    elim (entry_eq k e.0) as (λ b. cond b (Some e.1) (seen_of k q) ≡ None → cond (not b) (e ∷ rest_of k q) (rest_of k q) ≡ e ∷ q) [
-      | true ↦ λ h. cc
-      | false ↦ λ h. ap (λ l. e ∷ l) (rest-none k q h)
-    ] h
 
 pub reseen-none : (k : CacheEntryKey) (v : Seen) (q : Queue) → seen_of k q ≡ None → reseen k v q ≡ q
 reseen-none k v [] h = refl

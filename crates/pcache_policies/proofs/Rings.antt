@@ -1,8 +1,8 @@
 -- The three queues of a list with a hand: where an entry may be, and what one step of the hand does.
-use Rattle.std.proofs.Common.{◌≡◌, ℕ, suc, ◌+◌, ◌-◌, ◌<◌, ◌≤◌, Bool, true, false, cond, not, Option, None, Some, is_some, List, [], ◌∷◌, ◌++◌, map, reverse, refl, ap, sym, subst, ◌∙◌, arith, inl, inr, length, length-append, append_assoc, append-nil}
-use Rattle.std.specs.Prelude.{◌≢◌, ◌⊎◌, ◌^◌, ◌-◌, ◌↔◌, IfSome, IsTrue}
+use Rattle.std.proofs.Common.{◌≡◌, ℕ, suc, ◌+◌, ◌-◌, ◌<◌, ◌≤◌, Bool, true, false, cond, not, Option, None, Some, is_some, List, [], ◌∷◌, ◌++◌, reverse, refl, ap, sym, subst, ◌∙◌, arith, inl, inr, length, length-append, append_assoc, append-nil}
+use Rattle.std.specs.Prelude.{◌≢◌, ◌^◌, ◌-◌, ◌↔◌, IfSome, IsTrue}
 use Rattle.lru.specs.LruCache.{last_entry}
-use Rattle.std.specs.List.{IsDistinct, AllByRecursion, filter}
+use Rattle.std.specs.List.{AllByRecursion}
 use Rattle.std.specs.Map.{keys_of}
 use Rattle.std.specs.FinMap as fin
 use Rattle.std.proofs.lemmas.Bool.{both_ways, eq-eqb, ne_eqb}
@@ -22,10 +22,10 @@ use Rattle.pcache_evict.proofs.Maps.{get-map_of}
 use Rattle.pcache_policies.specs.declared.queue.Seen.{Seen}
 use Rattle.pcache_policies.specs.Queue.{Queue, plain, IsOnce, seen_of, rest_of, reseen, unused}
 use Rattle.pcache_policies.specs.Leaving.{HasRoom}
-use Rattle.pcache_policies.specs.Sieve.{Sieve, sieve, whole, entries, MakesRoom, rests, clears, goes, turns}
+use Rattle.pcache_policies.specs.Sieve.{Sieve, whole, entries, MakesRoom, rests, clears, goes, turns}
 use Rattle.pcache_policies.specs.Ring as step
-use Rattle.pcache_policies.specs.Ring.{Ring, ring, all, shown, left_of, IsRing, Steps, chosen, Chooses, SameEntries, steps_of}
-use Rattle.pcache_policies.proofs.Queues.{E, plain-append, keys-reseen, once-reseen, once-rest, once-front, once-back, last_split}
+use Rattle.pcache_policies.specs.Ring.{Ring, ring, all, left_of, IsRing, Steps, chosen, Chooses, SameEntries, steps_of}
+use Rattle.pcache_policies.proofs.Queues.{E, once-reseen, once-rest, once-back, last_split}
 
 -- ---- changes of the whole list are changes of its parts
 
@@ -201,14 +201,6 @@ same-passed a b g p e v d is w =
 pub record Moved (a b g h p r : Queue) : Type 0 where
   pub ring : IsRing b h r
   pub same : map_of (plain (b ++ (h ++ r))) ≡ map_of (plain (a ++ (g ++ p)))
-
-pub moved-chosen : (a b g p : Queue) (e : E) → IsRing a g p → a ≡ b ++ e ∷ [] → Moved a b g (e ∷ g) p p
-moved-chosen a b g p e r is =
-    let split = last_ahead a b g p e is in
-    let many = ap (λ (q : Queue). length q) is in
-    let longer = length-append b (e ∷ []) in
-    let few = r.few in
-    record { ring = record { once = subst IsOnce split r.once; few = omega arith }; same = ap (λ q. map_of (plain q)) (sym split) }
 
 pub moved-passed : (a b g p : Queue) (e : E) (v : Seen) → IsRing a g p → a ≡ b ++ e ∷ [] → v.weight ≡ e.1.weight → Moved a b g g p ((e.0, v) ∷ p)
 moved-passed a b g p e v r is w =

@@ -57,14 +57,6 @@ missing_early left bytes g some taken complete =
     clash true h e = cc
     clash false h e = cc
 
--- else it may
-pub nothing_missing : (left : Option ℕ) (bytes : List ℕ) (g : Given) → is_missing left ≡ false → TakenIn (AtBody left) bytes g → IsComplete bytes
-nothing_missing left bytes g none taken = (taken.0, taken.1, settled (may_end taken.0.size taken.0.behind) (sym (bytes_missing left taken.0.size taken.0.behind taken.2) ∙ none))
-  where
-    settled : (b : Bool) → not b ≡ false → b ≡ true
-    settled true h = refl
-    settled false h = cc
-
 -- nor while the head has not ended
 pub unfinished_early : (bytes : List ℕ) → IsUnfinished bytes → IsComplete bytes → ⊥
 unfinished_early bytes unended complete = unended complete.1.cut complete.1.ends

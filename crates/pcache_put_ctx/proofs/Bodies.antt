@@ -24,7 +24,6 @@ use Rattle.pcache_put_ctx.specs.declared.reading.BodyPart.{BodyPart}
 use Rattle.pcache_put_ctx.specs.declared.brought.Brought.{Brought}
 use Rattle.pcache_put_ctx.specs.declared.reading.ReadPiece.{ReadPiece}
 use Rattle.pcache_put_ctx.specs.declared.reading.ReadPiece.TheVariants.{Begins}
-use Rattle.pcache_put_ctx.specs.declared.report.Written.{Written}
 
 -- what is brought after a head, or without one, by bytes or by none
 abbrev pub brought_by : Option ResponseHeader → Bool → List ℕ → Bool → Brought
@@ -171,11 +170,6 @@ overruns says size size' parser meta pieces body o is past due counts =
     too-long (Some c) (Some b) past counts =
         let e = counts_more c body b.bytes counts.0 in
         ap (λ (n : ℕ). nat_lt c.limit n) (sym e) ∙ is_past c.limit _ past
-
--- the last bytes that were written are those of the part
-pub last_written : (wrote : Option Written) (o : Option BodyPart) (t : Bool) → IfSome wrote (λ (w : Written). (b : BodyPart) × (o ≡ Some b) × (w.eof ≡ b.is_last)) → IfSome o (λ (b : BodyPart). b.is_last ≡ t) → IfSome wrote (λ (w : Written). w.eof ≡ t)
-last_written None o t h g = tt
-last_written (Some w) o t h g = h.2 ∙ subst (λ (x : Option BodyPart). IfSome x (λ (b : BodyPart). b.is_last ≡ t)) h.1 g
 
 -- ---- after the whole body
 

@@ -6,17 +6,14 @@ use Rattle.pcache_base.specs.declared.reason.NoCacheReason.{NoCacheReason}
 use Rattle.pcache_put.specs.Progress.{Parsed, HasFailed}
 use Rattle.pcache_put.specs.Counted.{Counted}
 use Rattle.pcache_store.specs.Store.{Store}
-use Rattle.pcache_meta.specs.Meta.{Meta}
 use Rattle.pcache_put_ctx.proofs.Results.{taken_declined, taken_over}
-use Rattle.pcache_put_ctx.proofs.Why.{refused_as}
 use Rattle.pcache_put_ctx.specs.Openings.{HasOpened}
 use Rattle.pcache_put_ctx.specs.Puts.{Piece, Says}
-use Rattle.pcache_put_ctx.specs.Readings.{IfUnread, IsBegunRead, MayFailRead, MayFailOnceRead, ReadBy, ReadsPiece, StoresPiece}
+use Rattle.pcache_put_ctx.specs.Readings.{IfUnread, MayFailRead, MayFailOnceRead, ReadBy, ReadsPiece, StoresPiece}
 use Rattle.pcache_put_ctx.specs.State.{Stage, InHead, InBody, HasDeclined, IsOver, Put, Filled, limit_of}
-use Rattle.pcache_put_ctx.specs.Steps.{Done, IfRefused, IsBegunBefore, MayFailPiece, TakesPiece}
+use Rattle.pcache_put_ctx.specs.Steps.{Done, MayFailPiece, TakesPiece}
 use Rattle.pcache_put_ctx.specs.declared.reading.ReadPiece.{ReadPiece}
 use Rattle.pcache_put_ctx.specs.declared.reading.ReadPiece.TheVariants as read
-use Rattle.pcache_put_ctx.specs.declared.report.PieceEnd.{PieceEnd}
 
 both : {C : Type 0} (says : Says) (old mid new : Put C) (p : Piece) (part : ReadPiece) (d : Done) → ReadsPiece says old mid p part → StoresPiece says mid new part d → TakesPiece says old new p d
 both says old mid new p part d reads stores = record {
@@ -56,26 +53,6 @@ pub why_answered : {A : Type 0} (at stage : Stage) (s : Store) (parser : Parsed)
     → IfErr result (MayFailOnceRead at s part) → IfErr result (λ e. MayFailPiece stage s e ⊎ (parser ≡ HasFailed e))
 why_answered at stage s parser part (Ok a) is unread may = tt
 why_answered at stage s parser part (Err e) is unread may = why_both stage s parser part e unread (subst (λ x. MayFailOnceRead x s part e) is may)
-
--- whether a write began before a piece that was read and then stored failed
-began-both : (stage : Stage) (parser : Parsed) (part : ReadPiece) (e : ErrorType) (began : Option Meta) → IfUnread part (MayFailRead stage parser) → IsBegunRead stage part e began → IsBegunBefore stage e began ⊎ (parser ≡ HasFailed e)
-began-both InHead parser (read.Refused kind) e began (inl is) told = inl (subst (λ x. IsBegunBefore InHead x began) (sym (told.0 ∙ is)) told.1)
-began-both InHead parser (read.Refused kind) e began (inr (inl is)) told = inl (subst (λ x. IsBegunBefore InHead x began) (sym (told.0 ∙ is)) tt)
-began-both InHead parser (read.Refused kind) e began (inr (inr is)) told = inr (is ∙ ap HasFailed (sym told.0))
-began-both InHead parser read.Unfinished e began unread told = inl told
-began-both InHead parser (read.Declined reason) e began unread told = inl told
-began-both InHead parser (read.Begins meta part) e began unread told = inl told
-began-both InHead parser (read.Brings part) e began unread told = inl told
-began-both InHead parser read.Ignored e began unread told = inl told
-began-both (InBody w id until) parser part e began unread told = inl told
-began-both (HasDeclined reason) parser part e began unread told = inl told
-began-both (IsOver kind) parser part e began unread told = inl told
-
-pub whether_both : {M : Type 0} (at stage : Stage) (parser : Parsed) (part : ReadPiece) (end : PieceEnd M) (began : Option Meta) → at ≡ stage → IfUnread part (MayFailRead stage parser)
-    → IfRefused end (λ e. IsBegunRead at part e began) → IfRefused end (λ e. IsBegunBefore stage e began ⊎ (parser ≡ HasFailed e))
-whether_both at stage parser part end began is unread told =
-    refused_as end (λ e. IsBegunRead at part e began) (λ e. IsBegunBefore stage e began ⊎ (parser ≡ HasFailed e)) told
-    (λ e h. began-both stage parser part e began unread (subst (λ x. IsBegunRead x part e began) is h))
 
 -- a put that reads nothing more
 pub reads_declined : {C : Type 0} (says : Says) (q : Put C) (p : Piece) (reason : NoCacheReason) → q.stage ≡ HasDeclined reason → ReadsPiece says q q p read.Ignored

@@ -17,8 +17,6 @@ use Rattle.pcache_put.specs.Parts.{Given, given_in_all, left_behind}
 use Rattle.pcache_put.specs.Progress.{Parsed, AtHead, AtBody, HasFailed, TakenIn}
 use Rattle.pcache_put.specs.Response.{Response, IsResponse, IsUnreadable, IsComplete, declared_body, may_end}
 use Rattle.pcache_put.specs.Counted.{Counted}
-use Rattle.pcache_store.specs.Refusals.{MayFailFinish}
-use Rattle.pcache_store.specs.Store.{Store}
 use Rattle.pcache_put_ctx.proofs.Pieces.{ends_before, judged_more, unreadable_more}
 use Rattle.pcache_put_ctx.specs.Policies.{DeclaresBy, Judges, is_above}
 use Rattle.pcache_put_ctx.specs.Puts.{Piece, joined, Says, counted, is_over, Outcome, Stores, Declines, Refuses, outcome, ComesTo, NoHead, BadHead, WithHead, IsResult}
@@ -151,20 +149,6 @@ stored_result says size parser fresh_until pieces (Some m) complete h =
       moment = inl b.moment;
       comes = WithHead b.r (Cacheable m.meta) b.judged (ended_is (limit_of size) m.meta b.r.size b.r.behind m.body b.came (within_limit size m.body h.1) ends);
     }
-
-pub dropped_result : (comes : Outcome → Type 0) (s : Store) (w : ℕ) (e : ErrorType) → (e ≡ OutOfMemory) ⊎ MayFailFinish s w e → IsRefusal comes e
-dropped_result comes s w e (inl is) = subst (IsRefusal comes) (sym is) tt
-dropped_result comes s w e (inr may) = by e may
-  where
-    by : (e : ErrorType) → MayFailFinish s w e → IsRefusal comes e
-    by OutOfMemory may = tt
-    by WriteRemoved may = tt
-    by InternalError may = tt
-    by NumbersExhausted may = tt
-    by Io may = tt
-    by InvalidHttpHeader may = absurd may
-    by ResponseTooLarge may = absurd may
-    by IncompleteHttpBody may = absurd may
 
 -- ---- one result
 

@@ -1,5 +1,5 @@
 -- The managers of all parts, handed out by place.
-use Rattle.std.proofs.Common.{◌≡◌, ◌∙◌, List, [], ◌∷◌, ◌++◌, map, refl, ap, sym, append_assoc, append-nil, arith}
+use Rattle.std.proofs.Common.{◌≡◌, ◌∙◌, List, [], ◌∷◌, ◌++◌, map, refl, ap, sym, append_assoc, append-nil}
 use Rattle.std.specs.List.{All}
 use Rattle.std.proofs.lemmas.List.{map-append}
 use Rattle.std.proofs.lemmas.List.Elements.{All-push}
@@ -12,9 +12,6 @@ use Rattle.pcache_shared_cache.proofs.Together.{Kept}
 -- these are the managers of the first parts, and this is left
 abbrev pub HandedOut : List Limits → List Limits → List Managed → Type 0
 HandedOut limits rest out = (ps : List Parts) × (map (λ (p : Parts). p.limits) ps ++ rest ≡ limits) × All Kept ps × (out ≡ map managed ps)
-
-pub out-none : (limits : List Limits) (out : List Managed) → out ≡ [] → HandedOut limits limits out
-out-none limits out is = ([], refl, (λ k d lt. absurd (omega arith)), is)
 
 pub out-more : (limits rest : List Limits) (l : Limits) (out : List Managed) (m : Managed) → HandedOut limits (l ∷ rest) out → OfPart l (λ p. m ≡ managed p) → HandedOut limits rest (out ++ m ∷ [])
 out-more limits rest l out m h part =

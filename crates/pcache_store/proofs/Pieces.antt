@@ -4,7 +4,7 @@ use Rattle.std.specs.List.{concat}
 use Rattle.std.proofs.Math.Seq.{drop-cons}
 use Rattle.std.proofs.lemmas.Bool.{cases_lt}
 use Rattle.std.proofs.lemmas.Bool.Decides.{nat_tests}
-use Rattle.std.proofs.lemmas.List.{append-nil, drop-append-le, take_more, take_all, take-append-drop}
+use Rattle.std.proofs.lemmas.List.{append-nil, take_more, take_all, take-append-drop}
 
 pub concat_more : (xs ys : List (List ℕ)) → concat (xs ++ ys) ≡ concat xs ++ concat ys
 concat_more [] ys = refl
@@ -32,10 +32,6 @@ pub settled : (ps new : List (List ℕ)) (t b u : List ℕ) → b ≡ t → new 
 settled ps new t b u same last none =
     ap (λ x. concat new ++ x) none ∙ append-nil (concat new) ∙ ap concat last ∙ concat_more ps (b ∷ []) ∙ ap (λ x. concat ps ++ x) (concat_one b ∙ same)
 
--- one piece of all bytes
-pub added_last_all : (ps new : List (List ℕ)) (b text : List ℕ) → b ≡ text → text ≡ concat ps → new ≡ b ∷ [] → concat new ≡ concat ps
-added_last_all ps new b text same all is = ap concat is ∙ concat_one b ∙ same ∙ all
-
 -- the bytes of a piece and of those behind it
 pub passed : (xs ys : List ℕ) (place : ℕ) → length xs ≤ place → drop place (xs ++ ys) ≡ drop (place - length xs) ys
 passed [] ys place le = let e : place ≡ place - 0 = omega arith in ap (λ n. drop n ys) e
@@ -44,9 +40,6 @@ passed (x ∷ xs) ys (suc place) le =
     let less : length xs ≤ place = omega arith in
     let e : place - length xs ≡ suc place - suc (length xs) = omega arith in
     passed xs ys place less ∙ ap (λ n. drop n ys) e
-
-pub from_first : (p : List ℕ) (ps : List (List ℕ)) (tail : List ℕ) (skip : ℕ) → skip ≤ length p → (drop skip p ++ concat ps) ++ tail ≡ drop skip ((p ++ concat ps) ++ tail)
-from_first p ps tail skip le = append_assoc (drop skip p) (concat ps) tail ∙ sym (drop-append-le skip p (concat ps ++ tail) le) ∙ ap (drop skip) (sym (append_assoc p (concat ps) tail))
 
 -- from an index within the pieces from one on
 pub from_piece : (ps : List (List ℕ)) (tail : List ℕ) (at place start : ℕ) → start ≡ length (concat (take at ps)) → start ≤ place → drop (place - start) (concat (drop at ps) ++ tail) ≡ drop place (concat ps ++ tail)

@@ -221,7 +221,3 @@ unloaded-answers false reply is = is
 pub unloaded-nowhere : (b : Bool) (reply : Reply) → reply ≡ cond b (R.Refused Io) R.WrongCall → HasNoFiles (Some F.Load) reply
 unloaded-nowhere true reply is = inl is
 unloaded-nowhere false reply is = inr is
-
--- a call of the parts is none on files
-pub not-files : (act : Act) (a : FilesAct) → files_in act ≡ None → act ≡ C.Files a → ⊥
-not-files act a none is = let never : ◌≡◌ {A = Option FilesAct} None (Some a) = sym none ∙ ap files_in is in absurd (cc)

@@ -21,7 +21,7 @@ use Rattle.pcache_history.specs.declared.entry.Entry.{Entry}
 use Rattle.pcache_history.specs.declared.entry.Event.{Event}
 use Rattle.pcache_history.specs.declared.entry.Event.TheVariants as E
 use Rattle.pcache_history.specs.Deeds.{Deed, Handed, LetGo, deeds_by, deeds_of, handed_on, held_in, is_held, shown, who_holds}
-use Rattle.pcache_history.specs.Due.{AreDue, KeepsKey}
+use Rattle.pcache_history.specs.Due.{AreDue}
 use Rattle.pcache_history.specs.Facts.{Facts, request_in}
 use Rattle.pingora_cache.specs.PartFacts.{facts_for, facts_in}
 use Rattle.pingora_cache.specs.Handing.{HandsOver, open_at, table_given, taker_at}
@@ -379,10 +379,6 @@ module _ (limits : Limits) (start m : Tracked) (s : Store) (t : Locks) (all : Fi
 wrong-may : (f : Facts) (to : ℕ) (q : Option Ongoing) → f.taker ≡ None → MayBe f (C.Give to) q → ⊥
 wrong-may f to None none may = absurd may
 wrong-may f to (Some x) none may = absurd (subst MayTake none may.1)
-
-keeps-self : (q : Option Ongoing) → KeepsKey q q
-keeps-self None = tt
-keeps-self (Some x) = λ is. (is, λ _. refl)
 
 told-done : (told : Reply) → IsCopy R.Done told → told ≡ R.Done
 told-done told (inl same) = same

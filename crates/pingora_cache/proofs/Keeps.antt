@@ -1,17 +1,16 @@
 -- What each change of a request keeps: it stays one of a world, and has its key while it makes a write.
-use Rattle.std.proofs.Common.{◌≡◌, ℕ, Bool, true, false, cond, Option, None, Some, is_some, IsSome, List, [], ◌∷◌, refl, ap, sym, subst, ◌∙◌}
+use Rattle.std.proofs.Common.{◌≡◌, ℕ, Bool, true, false, cond, Option, None, Some, IsSome, List, [], ◌∷◌, refl, ap, sym, subst, ◌∙◌}
 use Rattle.pcache_base.specs.Key.{Key}
 use Rattle.pcache_meta.specs.Meta.{Meta}
 use Rattle.pcache_lock.specs.Locks.{Locks}
-use Rattle.pcache_request.specs.Finishing.{after_finish}
 use Rattle.pcache_predict.specs.declared.admission.Decision.{Decision}
 use Rattle.pcache_request.specs.Admissions.{decided, with_decision}
 use Rattle.pcache_request.specs.Phases.{MayLookUp, IsFilling, IsOn, IsDisabled}
-use Rattle.pcache_request.specs.Requests.{Request, MayWrite, asks_as_stale, asks_for_hit, with_lock, found_row, writing}
+use Rattle.pcache_request.specs.Requests.{Request, asks_as_stale, asks_for_hit, with_lock, found_row}
 use Rattle.pcache_request.specs.declared.phase.CachePhase.{CachePhase}
 use Rattle.pcache_request.specs.declared.phase.CachePhase.TheVariants as phase
 use Rattle.pcache_request.specs.declared.phase.HitStatus.{HitStatus}
-use Rattle.pcache_store.specs.Store.{Store, Reader}
+use Rattle.pcache_store.specs.Store.{Reader}
 use Rattle.pcache_history.specs.Due.{IsOfWorld, KeepsIn}
 use Rattle.pcache_history.specs.declared.entry.Event.{Event}
 use Rattle.pcache_history.specs.declared.entry.Event.TheVariants as E
@@ -52,12 +51,6 @@ keeps-like x y uses entry write at key world = (
   λ _. key,
 )
 
--- a lock that is held
-keeps-lock : (x : Request) (b stale : Bool) (t : Locks) (k : Option Key) → KeepsIn x (cond b (with_lock stale t k x) x)
-keeps-lock x true stale t None = keeps-like x x refl refl refl refl refl
-keeps-lock x true stale t (Some k) = keeps-like x (with_lock stale t (Some k) x) refl refl refl refl refl
-keeps-lock x false stale t k = keeps-like x x refl refl refl refl refl
-
 -- locks that were asked for
 keeps-then : (x y z : Request) → KeepsIn x y → (KeepsIn y z) → (IsSome z.write → IsSome y.write) → KeepsIn x z
 keeps-then x y z a b writes world = let p = a world in let q = b p.0 in (q.0, λ some. q.1 some ∙ p.1 (writes some))
@@ -94,20 +87,6 @@ keeps-off x y off none world = (
   λ some. absurd (none-some y.write none some),
 )
 
--- a request that makes no write, and becomes one of the same phase and parts
-pub keeps-unmade : (x y : Request) → y.uses ≡ x.uses → y.entry ≡ x.entry → y.write ≡ x.write → (IsOn y.phase → IsOn x.phase) → (IsOfWorld x → IsSome x.write → ⊥) → KeepsIn x y
-keeps-unmade x y uses entry write on none world = (
-  record {
-    eviction = λ o. ap (λ u. u.eviction) uses ∙ world.eviction (on o);
-    fills = λ some. absurd (none world (subst (λ (o : Option ℕ). IsSome o) write some));
-  },
-  λ some. absurd (none world (subst (λ (o : Option ℕ). IsSome o) write some)),
-)
-
--- the key may change if none is made
-pub keeps-looking : (x y : Request) → MayLookUp x.phase → y.uses ≡ x.uses → y.entry ≡ x.entry → y.write ≡ x.write → y.phase ≡ x.phase → KeepsIn x y
-keeps-looking x y may uses entry write at = keeps-unmade x y uses entry write (subst IsOn at) (λ world some. no-look x.phase may (world.fills some))
-
 pub keeps-found : (x y : Request) (s : HitStatus) (m : Meta) (h : Reader) (t : Locks) → MayLookUp x.phase → y ≡ found_row s m h t x → KeepsIn x y
 keeps-found x y s m h t may is world =
     subst (λ (z : Request). IsOfWorld z × (IsSome z.write → z.key ≡ x.key)) (sym is) (
@@ -135,17 +114,3 @@ keeps-found x y s m h t may is world =
 pub keeps-sought : (x y : Request) (b : Bool) (start : ℕ) (end : Option ℕ) → y ≡ cond b (with_sought start end x) x → KeepsIn x y
 keeps-sought x y true start end is = subst (KeepsIn x) (sym is) (keeps-like x (with_sought start end x) refl refl refl refl refl)
 keeps-sought x y false start end is = keeps-same x y is
-
-pub keeps-finished : (x y : Request) → y ≡ after_finish x → KeepsIn x y
-keeps-finished x y is = subst (KeepsIn x) (sym is) (elim (is_some x.write) as (λ b. KeepsIn x (cond b (record x { write = None; entry = None; held = None }) x)) [
-  | true ↦ λ world. (record { eviction = world.eviction; fills = λ some. absurd (cc) }, λ some. refl)
-  | false ↦ λ world. (world, λ _. refl)
-])
-
-pub keeps-writing : (x y : Request) (n : ℕ) (s : Store) → MayWrite x → y ≡ writing true n (Some n) s x → KeepsIn x y
-keeps-writing x y n s may is world =
-    subst (λ (z : Request). IsOfWorld z × (IsSome z.write → z.key ≡ x.key)) (sym is) (record { eviction = world.eviction; fills = λ _. may.0 }, λ _. refl)
-
-pub keeps-begun : (x y : Request) (n : ℕ) → MayWrite x → y ≡ record x { write = Some n; entry = Some n; held = None } → KeepsIn x y
-keeps-begun x y n may is world =
-    subst (λ (z : Request). IsOfWorld z × (IsSome z.write → z.key ≡ x.key)) (sym is) (record { eviction = world.eviction; fills = λ _. may.0 }, λ _. refl)

@@ -22,7 +22,7 @@ use Rattle.pingora_cache.specs.LockMoves.{LockMove, rests, asks, settles, lets_g
 use Rattle.pingora_cache.specs.LockTable.{IsTable, Holds, IsWatch, last_of, locks_read, plain}
 use Rattle.pcache_history.specs.Rules.{permit_of}
 use Rattle.pingora_cache.proofs.LockTable as table
-use Rattle.pingora_cache.proofs.LockTable.{Follows, WasThere, some-same, lock-at, held-there, read-there, given-asked, held-given}
+use Rattle.pingora_cache.proofs.LockTable.{Follows, some-same, lock-at, held-there, given-asked, held-given}
 use Rattle.pingora_cache.proofs.LockWatch.{last-with, watch-polled, watch-published, watch-same}
 use Rattle.pingora_cache.proofs.StateWrites.{get-set}
 use Rattle.pcache_history.proofs.Sums.{same-number}
@@ -135,9 +135,6 @@ holder-there t k l is = by (get t.current k) is
 
 read-same : (a b : Reader) → ◌≡◌ {A = Option Locked} (Some (Read a)) (Some (Read b)) → a ≡ b
 read-same a b e = cc e
-
-write-same : (a b : Permit) → ◌≡◌ {A = Option Locked} (Some (Write a)) (Some (Write b)) → a ≡ b
-write-same a b e = cc e
 
 module _ (r : ℕ) (ds : List Deed) (n m : ℕ → ℕ) (t : Locks) (mine : Option Locked) (k : IsTable ds n t) (holds : Holds r ds t mine) where
   held-mine : (p : ℕ) → permit_of mine ≡ Some p → is_held p ds ≡ true

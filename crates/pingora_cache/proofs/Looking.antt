@@ -26,14 +26,14 @@ use Rattle.pcache_store.specs.declared.memory.hit.MemHitHandler.{MemHitHandler}
 use Rattle.pcache_history.specs.declared.call.Reply.{Reply}
 use Rattle.pcache_history.specs.declared.call.Reply.TheVariants as R
 use Rattle.pcache_history.specs.declared.entry.Answer.{Answer}
-use Rattle.pcache_history.specs.declared.entry.Answer.TheVariants.{Nothing, Complete, Streaming}
+use Rattle.pcache_history.specs.declared.entry.Answer.TheVariants.{Nothing}
 use Rattle.pcache_history.specs.declared.entry.Event.{Event}
 use Rattle.pcache_history.specs.declared.entry.Event.TheVariants as E
 use Rattle.pcache_history.specs.Deeds.{deeds_by}
 use Rattle.pcache_history.specs.Due.{KeepsIn, KeepsKey, Owed}
 use Rattle.pcache_history.specs.Facts.{Facts}
-use Rattle.pcache_history.specs.Ongoing.{Ongoing, after_look, asked, carrying, decides, is_wrong, looked_by, kind_of_reply, pair_of, pair_reader, policy_in}
-use Rattle.pcache_history.specs.Rules.{HandsOn, IsOther, Looks, LooksOn, Misses, drop_of, each, look_reply}
+use Rattle.pcache_history.specs.Ongoing.{Ongoing, after_look, asked, carrying, decides, looked_by, pair_of, pair_reader, policy_in}
+use Rattle.pcache_history.specs.Rules.{HandsOn, Looks, LooksOn, Misses, drop_of, each, look_reply}
 use Rattle.pcache_evict.specs.Tracked.{Limits}
 use Rattle.pingora_cache.specs.Moved.{Act, Acts, At, Did, Joins, Leaves, IsNextAt, MovesStore, after_event, after_join, after_leave, at_call, Moves}
 use Rattle.pingora_cache.specs.Step.{asked_answer, asking, asking_if, held_after_look, look_answer, noted_look, permit_in}
@@ -45,11 +45,6 @@ use Rattle.pingora_cache.specs.PartFacts.{facts_in}
 use Rattle.pingora_cache.specs.declared.world.look.LookNote.{LookNote}
 use Rattle.pingora_cache.proofs.LockSteps.{deferred-locks, look-noted, missed-locks}
 use Rattle.pingora_cache.proofs.Noted.{key-asked, misses-asked, misses-refused, permit-named}
-
--- a reply that is another is not that of a wrong call
-pub right_of : (reply : Reply) → IsOther reply → is_wrong (kind_of_reply reply) ≡ false
-right_of R.WrongCall other = absurd other
-right_of reply other = refl
 
 pub find-at : (s : Store) (o : Option Key) (k : Key) (p : Option (Meta × Reader)) → o ≡ Some k → found_for s o ≡ p → p ≡ find s (slot k)
 find-at s o k p key found = sym found ∙ ap (found_for s) key
@@ -128,20 +123,6 @@ off-at _ x may = absurd may
 decided-off : (d : Option Decision) (x : Request) → MayLookUp x.phase → disabled_for Deferred (with_decision d x) ≡ switched_off Deferred (with_decision d x)
 decided-off None x may = off-at x.phase x may
 decided-off (Some d) x may = off-at x.phase (decided d x) may
-
-other-reply : (a : Answer) → IsOther (look_reply a None)
-other-reply Nothing = tt
-other-reply (Complete m body) = tt
-other-reply (Streaming m w) = tt
-
-other-answer : (a : Answer) (l : LookUp MemHitHandler) → IsOther (look_answer a l)
-other-answer a (look.Found m h) = other-reply a
-other-answer a (look.NotFound (Ok q)) = tt
-other-answer a (look.NotFound (Err e)) = tt
-other-answer a (look.Deferred q) = tt
-
-pub look-other : (a : Answer) (l : LookUp MemHitHandler) (reply : Reply) → reply ≡ look_answer a l → IsOther reply
-look-other a l reply is = subst IsOther (sym is) (other-answer a l)
 
 quiet-asked : (k : ℕ) (a : Result (Option AskedLock) ErrorType) → AreQuiet (asking_if k a)
 quiet-asked k (Ok a) = quiet-asking k a

@@ -100,11 +100,6 @@ lock-refused s t x asks e h why = absurd h
 pub misses-refused : (s : Store) (t : Locks) (x : Request) (k : Key) (answer : Answer) (e : ErrorType) → IsTrue x.uses.lock → MayFailLock t e → Misses (facts_in s t x) (slot k) answer x (R.Refused e) (E.Look (slot k) answer ∷ [])
 misses-refused s t x k answer e used why = inl (e, used, lock-refused s t x true e why (λ _. refl), refl, refl)
 
--- the reply if a pair can't be taken
-pub takes-refused : (st : Store) (s : HitStatus) (t : Locks) (x : Request) (p : Meta × Reader) (k : Key) (e kind : ErrorType) (events : List Event) → x.key ≡ Some k → MayFailLock t e → (e ≡ NumbersExhausted → IsTrue (asks_for_hit s x)) → kind ≡ e → events ≡ accesses s k p.1 x
-    → Takes (facts_in st t x) s x (Some p) (R.Refused kind) events
-takes-refused st s t x p k e kind events key why asked is all = inr (k, key, inl (e, lock-refused st t x (asks_for_hit s x) e why asked, ap R.Refused is, all))
-
 locked-phase : (s : HitStatus) (t : Locks) (x : Request) → (locked_found s t x).phase ≡ x.phase
 locked-phase s t x = elim (asks_for_hit s x) as (λ b. (cond b (with_lock (asks_as_stale s x.phase) t x.key x) x).phase ≡ x.phase) [ true ↦ elim x.key as (λ k. (with_lock (asks_as_stale s x.phase) t k x).phase ≡ x.phase) [ None ↦ refl | Some k ↦ refl ] | false ↦ refl ]
 
@@ -221,11 +216,6 @@ expire-store s u o k now key is = is ∙ ap (λ q. expired_at now s (option_map 
 pub expire-tracks : (s : Store) (uses : Bool) (o : Option Key) (m m' : Tracked) → m' ≡ tracked_gone_for uses o (expire_outcome s (option_map slot o)) m → m' ≡ m
 expire-tracks s uses None m m' is = is
 expire-tracks s uses (Some k) m m' is = is ∙ elim (is_some (complete_body (map.get s.slots (slot k)))) as (λ b. tracked_gone uses (compact_of k) (cond b Expired NotFound) m ≡ m) [ true ↦ refl | false ↦ refl ]
-
--- whether there was a body
-pub expire-told : (s : Store) (o : Option Key) (b : Bool) → b ≡ is_removed_by (expire_outcome s (option_map slot o)) → b ≡ complete_for s o
-expire-told s None b is = is
-expire-told s (Some k) b is = is ∙ elim (is_some (complete_body (map.get s.slots (slot k)))) as (λ b. is_removed_by (cond b Expired NotFound) ≡ b) [ true ↦ refl | false ↦ refl ]
 
 -- ---- what is noted of a revalidation
 

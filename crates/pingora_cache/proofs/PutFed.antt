@@ -30,15 +30,13 @@ use Rattle.pcache_history.specs.declared.entry.Event.TheVariants as E
 use Rattle.pcache_history.specs.Due.{slot_of}
 use Rattle.pcache_history.specs.Facts.{Facts}
 use Rattle.pingora_cache.specs.PartFacts.{facts_in}
-use Rattle.pcache_history.specs.Ongoing.{Ongoing, ongoing_put, stage_noted}
-use Rattle.pingora_cache.specs.Untold.{untold, uncounted}
+use Rattle.pcache_history.specs.Ongoing.{Ongoing, ongoing_put}
+use Rattle.pingora_cache.specs.Untold.{untold}
 use Rattle.pingora_cache.specs.Moved.{At, Moves, MovesBy, MovesStore, at_call}
 use Rattle.pcache_history.specs.PutHistory.{AreWhole, IgnoresAt, SayBegins, SayEnds, filled_by}
 use Rattle.pingora_cache.specs.PutsSound.{EndsWhole, PutTurn}
-use Rattle.pcache_history.specs.Rules.{Feeds, FeedsAt, IsFeedRefusal, began_noted, drop_of, piece_noted, wrote_noted}
-use Rattle.pingora_cache.specs.Step.{IsRow}
-use Rattle.pcache_history.specs.Taking.{Taking, counted_none}
-use Rattle.pcache_history.specs.Waiting.{AreOfNoLock}
+use Rattle.pcache_history.specs.Rules.{Feeds, FeedsAt, IsFeedRefusal, drop_of, piece_noted, wrote_noted}
+use Rattle.pcache_history.specs.Taking.{Taking}
 use Rattle.pingora_cache.proofs.MovesOf.{does, drops, stop}
 
 pub none-some : {A B : Type 0} (a : A) → ◌≡◌ {A = Option A} (Some a) None → B
@@ -71,11 +69,6 @@ module _ (limits : Limits) (q : Option Ongoing) (k : Key) (count : ℕ → ℕ) 
   noted (HasDeclined reason) (Some n) b rest last begins moves = none-some n begins
   noted (IsOver kind) None b rest last begins moves = moves
   noted (IsOver kind) (Some n) b rest last begins moves = none-some n begins
-
--- nothing is noted if no write is in flight then
-none-noted : (k : ℕ) (w : Option ℕ) (began : Option Meta) (b : Option Written) → w ≡ None → piece_noted k w began b ≡ []
-none-noted k None began b is = refl
-none-noted k (Some w) began b is = none-some w is
 
 -- and the store stays
 none-stored : (k : Key) (stage : Stage) (began : Option Meta) (b : Option Written) (s : Store) → BeginsAtHead stage began → write_in (stage_begun stage began s.next (Some s.next)) ≡ None → store_after k stage began b (Some s.next) s ≡ s
@@ -129,40 +122,6 @@ module _ (p p' : Taking) (s s1 : Store) (began : Option Meta) (b : Option Writte
       (stop limits (Some x) (record first { write = None; store = dropped_by (write_in now) first.store }) (at_call (Some y) u m)
       (record { count = λ v. refl; write = over; owed = refl; store = left ∙ (λ i. dropped_by (has i) (to i)); tracked = refl }))))
 
--- ---- the row
-
-limit-sizes : (c : Option Counted) → option_map uncounted c ≡ option_map counted_none (limit_of c)
-limit-sizes None = refl
-limit-sizes (Some c) = refl
-
-alike : (p p' : Taking) (z : Stage) → p'.key ≡ p.key → limit_of p'.size ≡ limit_of p.size → p'.stage ≡ z → untold (ongoing_put p') ≡ untold (ongoing_put (record { key = p.key; size = p.size; parser = p.parser; stage = z }))
-alike p p' z key limit stands =
-    let sizes = limit-sizes p'.size ∙ ap (option_map counted_none) limit ∙ sym (limit-sizes p.size) in
-    λ i. ongoing_put (record { key = key i; size = sizes i; parser = AtHead []; stage = stands i })
-
-begun-stage : (k n : ℕ) (stage : Stage) (began : Option Meta) (b : Option Written) → BeginsAtHead stage began → stage_noted (piece_noted k (write_in (stage_begun stage began n (Some n))) began b) stage ≡ stage_begun stage began n (Some n)
-begun-stage k n InHead None b begins = refl
-begun-stage k n InHead (Some m) b begins = refl
-begun-stage k n (InBody w id until) None None begins = refl
-begun-stage k n (InBody w id until) None (Some b) begins = refl
-begun-stage k n (InBody w id until) (Some m) b begins = none-some m begins
-begun-stage k n (HasDeclined reason) None b begins = refl
-begun-stage k n (HasDeclined reason) (Some m) b begins = none-some m begins
-begun-stage k n (IsOver kind) None b begins = refl
-begun-stage k n (IsOver kind) (Some m) b begins = none-some m begins
-
-pub goes-row : (p p' : Taking) (bytes : List ℕ) (t n j : ℕ) (began : Option Meta) (b : Option Written) (w : Option ℕ) (old events : List Event) → p'.key ≡ p.key → limit_of p'.size ≡ limit_of p.size → BeginsAtHead p.stage began → old ≡ [] → w ≡ write_in p'.stage → p'.stage ≡ stage_begun p.stage began n (Some n) → events ≡ old ++ piece_noted j w began b
-    → IsRow (C.Feed bytes t) R.Done events (Some (ongoing_put p)) (Some (ongoing_put p'))
-goes-row p p' bytes t n j began b w old events key limit begins none has stands is =
-    let noted-as : events ≡ piece_noted j (write_in (stage_begun p.stage began n (Some n))) began b = is ∙ (λ i. none i ++ piece_noted j ((has ∙ ap write_in stands) i) began b) in
-    ap Some (alike p p' (stage_noted events p.stage) key limit (stands ∙ sym (ap (λ es. stage_noted es p.stage) noted-as ∙ begun-stage j n p.stage began b begins)))
-
-pub declined-row : (p p' : Taking) (bytes : List ℕ) (t : ℕ) (reason : NoCacheReason) (events : List Event) → p'.key ≡ p.key → limit_of p'.size ≡ limit_of p.size → p'.stage ≡ HasDeclined reason → IsRow (C.Feed bytes t) (R.NotCached reason) events (Some (ongoing_put p)) (Some (ongoing_put p'))
-declined-row p p' bytes t reason events key limit stands = ap Some (alike p p' (HasDeclined reason) key limit stands)
-
-pub refused-row : (p p' : Taking) (bytes : List ℕ) (t : ℕ) (e kind : ErrorType) (events : List Event) → kind ≡ e → p'.key ≡ p.key → limit_of p'.size ≡ limit_of p.size → p'.stage ≡ IsOver e → IsRow (C.Feed bytes t) (R.Refused kind) events (Some (ongoing_put p)) (Some (ongoing_put p'))
-refused-row p p' bytes t e kind events same key limit stands = ap Some (alike p p' (IsOver kind) key limit (stands ∙ ap IsOver (sym same)))
-
 -- ---- what was taken in
 
 begun-filled : (says : Says) (size : Option Counted) (parser : Parsed) (pieces : List Piece) (k n : ℕ) (stage : Stage) (began : Option Meta) (b : Option Written) (f : Option Filled) → BeginsAtHead stage began → TakenBy says size parser stage pieces f → (write_in (stage_begun stage began n (Some n)) ≡ None → f ≡ None)
@@ -209,12 +168,6 @@ whole-ignored says size parser InHead pieces f reply events t ignored = tt
 whole-ignored says size parser (InBody w id until) pieces f reply events t ignored = λ whole. ignored ((taken-whole says size parser w id until pieces f t).1 whole)
 whole-ignored says size parser (HasDeclined reason) pieces f reply events t ignored = tt
 whole-ignored says size parser (IsOver kind) pieces f reply events t ignored = tt
-
-none-ignored : (stage : Stage) (pieces : List Piece) (reply : Reply) (events : List Event) → write_in stage ≡ None → IgnoresAt stage pieces reply events
-none-ignored InHead pieces reply events none = tt
-none-ignored (InBody w id until) pieces reply events none = none-some w none
-none-ignored (HasDeclined reason) pieces reply events none = tt
-none-ignored (IsOver kind) pieces reply events none = tt
 
 -- and the end is announced with the bytes that complete the body
 wrote-ends : (says : Says) (size : Option Counted) (parser : Parsed) (stage : Stage) (pieces : List Piece) (f : Option Filled) (b : Option Written) → TakenBy says size parser stage pieces f → IfSome b (λ (w : Written). w.eof ≡ is_done parser) → SayEnds pieces (wrote_noted (write_in stage) b)
@@ -284,22 +237,6 @@ goes-puts says p p' bytes t n j began b w old events begins on taken none has st
       let more = pieces ++ record { bytes = bytes; now = t } ∷ [] in
       subst (SayEnds more) (sym (is ∙ (λ i. none i ++ piece_noted j (has i) began b)))
       (piece-ends more j (write_in p'.stage) began b (wrote-ends says p'.size p'.parser p'.stage more (filled_on began b f) b (taken pieces f got) (last pieces f got)));
-}
-
-declined-as : (says : Says) (size : Option Counted) (parser : Parsed) (stage : Stage) (reason : NoCacheReason) (pieces : List Piece) (f g : Option Filled) → stage ≡ HasDeclined reason → f ≡ None → TakenBy says size parser stage pieces g → TakenBy says size parser stage pieces f
-declined-as says size parser stage reason pieces f g is none t =
-    subst (λ (z : Stage). TakenBy says size parser z pieces f) (sym is) (let u : TakenBy says size parser (HasDeclined reason) pieces g = subst (λ (z : Stage). TakenBy says size parser z pieces g) is t in (u.0, none))
-
-pub declined-puts : (says : Says) (p p' : Taking) (bytes : List ℕ) (t : ℕ) (began : Option Meta) (b : Option Written) (reason : NoCacheReason) (events : List Event) → ((kind : ErrorType) → p.stage ≡ IsOver kind → ⊥) → write_in p.stage ≡ None → OnTaken says p p' (record { bytes = bytes; now = t }) began b → events ≡ []
-    → p'.stage ≡ HasDeclined reason → PutTurn says (C.Feed bytes t) (R.NotCached reason) events (Some (ongoing_put p)) (Some (ongoing_put p'))
-declined-puts says p p' bytes t began b reason events on unwritten taken none stands = record {
-  taken = λ pieces f got.
-      let nothing : f ≡ None = head-filled says p.size p.parser pieces p.stage f got on unwritten in
-      declined-as says p'.size p'.parser p'.stage reason (pieces ++ record { bytes = bytes; now = t } ∷ []) (filled_by events f) (filled_on began b f) stands (ap (λ es. filled_by es f) none ∙ nothing) (taken pieces f got);
-  closes = λ pieces f got. tt;
-  ignores = λ pieces f got. none-ignored p.stage pieces (R.NotCached reason) events unwritten;
-  begins = λ pieces f got. subst (SayBegins says (limit_of p.size) (pieces ++ record { bytes = bytes; now = t } ∷ [])) (sym none) tt;
-  ends = λ pieces f got. subst (SayEnds (pieces ++ record { bytes = bytes; now = t } ∷ [])) (sym none) tt;
 }
 
 over-as : (says : Says) (size : Option Counted) (parser : Parsed) (stage : Stage) (kind : ErrorType) (pieces : List Piece) (f g : Option Filled) → stage ≡ IsOver kind → TakenBy says size parser stage pieces g → TakenBy says size parser stage pieces f
@@ -386,32 +323,6 @@ module _ {M : Type 0} (s : Store) (t : Locks) where
       let which : e ≡ over = cc in
       (ap R.Refused (same ∙ which), is ∙ ap (λ o. piece_noted (slot k) o None None ++ drop_of o) has)
   refused-answers says size parser pieces f k (IsOver over) end (Some m) e kind writer w events taken again on same begins why whether has is ended never = none-some m begins
-
--- ---- no lock is spoken of
-
-quiet-both : (xs ys : List Event) → AreOfNoLock xs → AreOfNoLock ys → AreOfNoLock (xs ++ ys)
-quiet-both [] ys a b = b
-quiet-both (e ∷ xs) ys a b = (a.0, quiet-both xs ys a.1 b)
-
-quiet-began : (k : ℕ) (w : Option ℕ) (m : Option Meta) → AreOfNoLock (began_noted k w m)
-quiet-began k None m = tt
-quiet-began k (Some w) None = tt
-quiet-began k (Some w) (Some m) = (tt, tt)
-
-quiet-wrote : (w : Option ℕ) (b : Option Written) → AreOfNoLock (wrote_noted w b)
-quiet-wrote None b = tt
-quiet-wrote (Some w) None = tt
-quiet-wrote (Some w) (Some b) = (tt, tt)
-
-pub quiet-dropped : (w : Option ℕ) → AreOfNoLock (drop_of w)
-quiet-dropped None = tt
-quiet-dropped (Some w) = (tt, tt)
-
-pub quiet-piece : (k : ℕ) (w : Option ℕ) (m : Option Meta) (b : Option Written) (old events : List Event) → old ≡ [] → events ≡ old ++ piece_noted k w m b → AreOfNoLock events
-quiet-piece k w m b old events none is = subst AreOfNoLock (sym (is ∙ ap (λ es. es ++ piece_noted k w m b) none)) (quiet-both (began_noted k w m) (wrote_noted w b) (quiet-began k w m) (quiet-wrote w b))
-
-pub quiet-refused-piece : (k : ℕ) (w : Option ℕ) (m : Option Meta) (b : Option Written) (old mid events : List Event) → old ≡ [] → mid ≡ old ++ piece_noted k w m b → events ≡ mid ++ drop_of w → AreOfNoLock events
-quiet-refused-piece k w m b old mid events none one is = subst AreOfNoLock (sym is) (quiet-both mid (drop_of w) (quiet-piece k w m b old mid none one) (quiet-dropped w))
 
 -- ---- how a piece ended, as it is known
 

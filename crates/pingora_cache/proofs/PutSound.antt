@@ -64,10 +64,6 @@ pub stood-in : (says : Says) (q : Option Ongoing) (pieces : List Piece) (f : Opt
 stood-in says None pieces f t = tt
 stood-in says (Some x) pieces f t = stood says x pieces f t
 
--- a close says the same by the history as by the code
-with_put : Ongoing → Option Taking → Ongoing
-with_put x p = record { request = x.request; pair = x.pair; carried = x.carried; put = p }
-
 tells-alike : (says : Says) (p : Option Taking) (pieces : List Piece) (f : Option Filled) (reply : Reply) → TellsOf says p pieces f reply → TellsOf says (option_map untold_put p) pieces f reply
 tells-alike says None pieces f reply tells = tells
 tells-alike says (Some p) pieces f reply tells = subst (λ n. Tells (IsResult says n pieces) f reply) (sym (limits-alike p.size)) tells

@@ -31,7 +31,7 @@ use Rattle.pcache_request.specs.Variants.{is_unseen, leaves_variant, varied, vis
 use Rattle.pcache_request.specs.declared.phase.CachePhase.{CachePhase}
 use Rattle.pcache_request.specs.declared.phase.CachePhase.TheVariants as phase
 use Rattle.pcache_request.specs.declared.phase.HitStatus.{HitStatus}
-use Rattle.pcache_store.specs.Store.{Reader, Store}
+use Rattle.pcache_store.specs.Store.{Reader}
 use Rattle.pcache_history.specs.declared.call.Act.{Act}
 use Rattle.pcache_history.specs.declared.call.Act.TheVariants as C
 use Rattle.pcache_history.specs.declared.call.RequestAct.TheVariants as Q
@@ -42,12 +42,10 @@ use Rattle.pcache_history.specs.declared.entry.Answer.{Answer}
 use Rattle.pcache_history.specs.declared.entry.Event.{Event}
 use Rattle.pcache_history.specs.declared.entry.Event.TheVariants as E
 use Rattle.pcache_history.specs.Deeds.{deeds_by, deeds_in, held_in, moment_of, said_by, status_left}
-use Rattle.pcache_history.specs.Due.{IsOfWorld, KeepsKey, makes_of, reader_for, slot_of}
-use Rattle.pcache_history.specs.Facts.{Facts, request_in}
-use Rattle.pingora_cache.specs.PartFacts.{facts_in}
+use Rattle.pcache_history.specs.Due.{IsOfWorld, KeepsKey, makes_of}
+use Rattle.pcache_history.specs.Facts.{Facts}
 use Rattle.pcache_history.specs.Ongoing.{Ongoing, ReplyKind, was_done, was_waited, opened, is_done, is_taken, is_wrong, kind_of_reply, on_request, pair_of, with_given, asked, carrying, decides, looked_by, looks_for, placed_by, taken_by, turned_by, shut_by, without_pair, fed, fed_in, ongoing_put, began, ended, has_read, waited_by, row, row_by, after_look}
 use Rattle.pingora_cache.specs.Untold.{untold, uncounted, untold_put, untold_lock, untold_read_lock, untold_request, untold_watch}
-use Rattle.pingora_cache.specs.Moved.{reads_of}
 use Rattle.pcache_history.specs.Rules.{FollowsRule, AsksIf, Closes, Does, Feeds, FindsKind, IsOfKind, Replies, Finishes, HandsOn, IsLockRefusal, IsStarved, Looks, LooksOn, MayBe, Misses, Takes, Waits, accesses}
 use Rattle.pingora_cache.specs.Step.{IsRow}
 use Rattle.pcache_history.specs.Taking.{Taking, counted_none, new_put}
@@ -56,31 +54,9 @@ use Rattle.pcache_put.specs.Counted.{Counted}
 use Rattle.pcache_put_ctx.specs.State.{InHead}
 use Rattle.pcache_history.specs.Watching.{fills_of, lock_watching, waited_on, waited_with}
 
--- ---- twice
-
-watch-twice : (w : Option Watch) → option_map untold_watch (option_map untold_watch w) ≡ option_map untold_watch w
-watch-twice None = refl
-watch-twice (Some w) = refl
-
-lock-twice : (h : Option Locked) → option_map untold_lock (option_map untold_lock h) ≡ option_map untold_lock h
-lock-twice None = refl
-lock-twice (Some (Write p)) = refl
-lock-twice (Some (Read rd)) = ap {A = Option Watch} {B = Option Locked} (λ w. Some (Read (record { number = rd.number; watch = w }))) (watch-twice rd.watch)
-
 -- a request that holds this
 abbrev holding : Option Locked → Request → Request
 holding h x = record x { held = h }
-
-size-twice : (c : Option Counted) → option_map uncounted (option_map uncounted c) ≡ option_map uncounted c
-size-twice None = refl
-size-twice (Some c) = refl
-
-put-twice : (p : Option Taking) → option_map untold_put (option_map untold_put p) ≡ option_map untold_put p
-put-twice None = refl
-put-twice (Some p) = ap {A = Option Counted} {B = Option Taking} (λ c. Some (record { key = p.key; size = c; parser = AtHead []; stage = p.stage })) (size-twice p.size)
-
-pub untold-twice : (x : Ongoing) → untold (untold x) ≡ untold x
-untold-twice x = λ i. record { request = holding (lock-twice x.request.held i) x.request; pair = x.pair; carried = x.carried; put = put-twice x.put i }
 
 -- ---- rows: what a call makes of a request
 
@@ -407,35 +383,9 @@ pub answers-untold : (f : Facts) (act : Act) (q : Option Ongoing) (reply : Reply
 answers-untold f act q reply events (inl (may, other, does)) = inl (may-untold f act q may, other, subst (λ (T : Type 0). T) (sym (does-untold f act q reply events)) does)
 answers-untold f act q reply events (inr (may_not, is)) = inr ((λ m. may_not (may-told f act q m)), is)
 
-pub told-answers : (f : Facts) (act : Act) (q : Option Ongoing) (reply : Reply) (events : List Event) → FollowsRule f act (option_map untold q) reply events → FollowsRule f act q reply events
-told-answers f act q reply events (inl (may, other, does)) = inl (may-told f act q may, other, subst (λ (T : Type 0). T) (does-untold f act q reply events) does)
-told-answers f act q reply events (inr (may_not, is)) = inr ((λ m. may_not (may-untold f act q m)), is)
-
 pub replies-untold : (f : Facts) (act : Act) (q : Option Ongoing) (reply : Reply) (events : List Event) → Replies f act q reply events → Replies f act (option_map untold q) reply events
 replies-untold f act q reply events (inl (finds, answers)) = inl (finds-untold act q finds, answers-untold f act q reply events answers)
 replies-untold f act q reply events (inr (finds_not, is)) = inr ((λ m. finds_not (finds-told act q m)), is)
-
-pub told-replies : (f : Facts) (act : Act) (q : Option Ongoing) (reply : Reply) (events : List Event) → Replies f act (option_map untold q) reply events → Replies f act q reply events
-told-replies f act q reply events (inl (finds, answers)) = inl (finds-told act q finds, told-answers f act q reply events answers)
-told-replies f act q reply events (inr (finds_not, is)) = inr ((λ m. finds_not (finds-untold act q m)), is)
-
--- ---- facts
-
--- all facts but what a wait returns and whether it finds the permit too old
-pub record AreFacts (f g : Facts) : Type 0 where
-  pub next : g.next ≡ f.next
-  pub found : g.found ≡ f.found
-  pub there : g.there ≡ f.there
-  pub complete : g.complete ≡ f.complete
-  pub given : g.given ≡ f.given
-  pub told : g.told ≡ f.told
-  pub untouched : g.untouched ≡ f.untouched
-  pub size : g.size ≡ f.size
-  pub asked : g.asked ≡ f.asked
-
-pub facts-untold : (s : Store) (t : Locks) (q : Option Ongoing) → AreFacts (facts_in s t (request_in q)) (facts_in s t (request_in (option_map untold q)))
-facts-untold s t None = record { next = refl; found = refl; there = refl; complete = refl; given = refl; told = refl; untouched = refl; size = refl; asked = refl }
-facts-untold s t (Some x) = record { next = refl; found = refl; there = refl; complete = refl; given = refl; told = refl; untouched = refl; size = refl; asked = refl }
 
 -- ---- what is made, named, read and said
 
@@ -454,18 +404,6 @@ keeps-untold (Some x) (Some y) keeps = λ is. (world-untold y.request (keeps (wo
 pub makes-untold : (q : Option Ongoing) → makes_of (option_map untold q) ≡ makes_of q
 makes-untold None = refl
 makes-untold (Some x) = refl
-
-pub slot-untold : (q : Option Ongoing) → slot_of (option_map untold q) ≡ slot_of q
-slot-untold None = refl
-slot-untold (Some x) = refl
-
-pub reader-untold : (q : Option Ongoing) → reader_for (option_map untold q) ≡ reader_for q
-reader-untold None = refl
-reader-untold (Some x) = refl
-
-pub reads-untold : (q : Option Ongoing) → reads_of (option_map untold q) ≡ reads_of q
-reads-untold None = refl
-reads-untold (Some x) = refl
 
 -- if tokens are published or a wait goes on
 said-alike : (r : ℕ) (act : Act) (o : ReplyKind) (h : Option Locked) → said_by r act o (option_map untold_lock h) ≡ said_by r act o h

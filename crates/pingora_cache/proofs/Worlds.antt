@@ -1,5 +1,5 @@
 -- A world at its start, and after one more call.
-use Rattle.std.proofs.Common.{◌≡◌, ℕ, ◌<◌, ◌^◌, length, Option, None, Some, List, [], ◌∷◌, ◌++◌, refl, ap, sym, subst, ◌∙◌, inl, reverse, false, is_some, IsSome, option_map}
+use Rattle.std.proofs.Common.{◌≡◌, ℕ, ◌<◌, ◌^◌, length, Option, None, Some, List, [], ◌∷◌, ◌++◌, refl, ap, sym, subst, ◌∙◌, inl, reverse, false, IsSome, option_map}
 use Rattle.std.proofs.lemmas.Bool.{both_ways}
 use Rattle.std.proofs.lemmas.List.{reverse-append}
 use Rattle.std.specs.Ordering.{nat_cmp}
@@ -67,9 +67,6 @@ sound-at {limits} {start} {m} {s} {s'} {t} {t'} {all} {h} k store table =
 pub started-once : {V : Type 0} (f : V → List (CacheEntryKey × ℕ)) (o : Option V) (m n : Tracked) → IsSome o → started (option_map f o) m ≡ started (option_map f o) n
 started-once f None m n some = absurd (both_ways false refl some)
 started-once f (Some all) m n some = refl
-
-pub not-both : {V A : Type 0} (o : Option V) → o ≡ None → IsSome o → A
-not-both o none some = absurd (both_ways (is_some o) (ap is_some none) some)
 
 -- one more call, of one request or put, or of two requests, whose reply is recorded as it is copied
 module _ (limits : Limits) (says : Says) (start m m' : Tracked) (s s' : Store) (t t' : Locks) (before after : List (ℕ × Ongoing)) (h : List Entry) (call : Call) (reply told : Reply) (events : List Event) (k : IsSound limits start m s t (from_entries {R = nat_cmp} before) h) (puts : PutsSound says (from_entries {R = nat_cmp} before) h)
