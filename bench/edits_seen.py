@@ -146,7 +146,7 @@ def copy_of(crate):
         with open(f"{room}/crates.txt", "w", encoding="utf-8") as it:
             it.writelines(lines.values())
         for name in lines.keys() - {crate}:
-            shutil.copytree(f"{TOP}/crates/{name}", f"{room}/crates/{name}", copy_function=link)
+            shutil.copytree(f"{TOP}/crates/{name}", f"{room}/crates/{name}", copy_function=link, ignore=shutil.ignore_patterns("incremental"))
         shutil.copytree(f"{TOP}/crates/{crate}", f"{room}/crates/{crate}", symlinks=True)
         yield f"{room}/crates/{crate}"
 

@@ -6,7 +6,7 @@
 One tree takes one check at a time, so each check has a copy of the sources of its own, with the libraries below it as hard
 links. What a check keeps and what it builds come back into crates/NAME/out, so that a later `rt check` here proves only what
 changed. A program is built too, as crates/NAME/out/NAME. A crate whose proof fails is named, with the end of what was
-printed; nothing above it is tried. The longest chain of crates goes first.
+printed; nothing above it is tried. The longest chain of crates goes first, and takes the processors that no other crate can use.
 """
 import argparse
 import os
@@ -57,6 +57,7 @@ class Prover:
     def __init__(self, wanted, uses, room, lanes):
         self.uses, self.todo = uses, set(wanted)
         self.done, self.failed, self.running = set(), set(), set()
+        self.jobs = {}  # of each crate that is running
         self.free = [f"{room}/{number}" for number in range(lanes)]
         self.moved = threading.Condition()
         self.start = time.time()
@@ -80,8 +81,9 @@ class Prover:
                 while ready and self.free:
                     name = ready.pop(0)
                     self.running.add(name)
-                    alone = len(self.running) == 1 and not ready
-                    jobs = os.cpu_count() if alone else 1
+                    # the processors that no other crate can use go to this one, for which most wait
+                    others = sum(self.jobs.values()) + min(len(ready), len(self.free) - 1)
+                    jobs = self.jobs[name] = max(1, os.cpu_count() - others)
                     threading.Thread(target=self.prove, args=(name, self.free.pop(), jobs), daemon=True).start()
                 if not self.running:
                     return
@@ -97,6 +99,7 @@ class Prover:
             good, said = False, str(refused)
         with self.moved:
             self.running.remove(name)
+            del self.jobs[name]
             self.free.append(lane)
             (self.done if good else self.failed).add(name)
             minutes = (time.time() - self.start) / 60
