@@ -1,4 +1,4 @@
-//! The bytes of a write, in the pieces in which they came.
+//! The bytes of a write, in pieces or gathered.
 ghost use Rattle.std.specs.Prelude.{◌≡◌, ◌<◌, ◌≤◌, ◌+◌, ◌++◌, IfErr, IfOk, OnErr, OnOk, [], drop, length, take};
 ghost use Rattle.std.specs.List.{concat};
 ghost use Rattle.pcache_base.specs.declared.error.ErrorType.TheVariants.{OutOfMemory};
@@ -22,7 +22,7 @@ const LARGE: usize = 65_536;
 #[derive(Drop)]
 pub(crate) struct DraftText {
     pieces: Vec<Bytes>,
-    // The bytes of small pieces, which come after the others.
+    // The gathered bytes, which come after the pieces.
     tail: Vec<u8>,
     // The number of all bytes.
     len: usize,
