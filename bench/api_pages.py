@@ -6,8 +6,12 @@
 
 A line for each item: its signature without the contract, the first sentence of its doc comment, and its condition: the
 sentence of the comment that begins with "Requires", or if there is none the clause itself. An item that a module re-exports
-from a private module of its crate is listed there; what comes from another crate is named only.
+from a private module of its crate is listed there; what comes from another crate has a line with a link to it. A method stands
+under the type of its own module, or that its module brings in by `use`.
+
+  bench/api_pages.py --test TREE asks the libraries that stand proved in a tree whether each method is one of its type.
 """
+import json
 import os
 import re
 import sys
@@ -26,6 +30,7 @@ class Item:
 class Module:
     def __init__(self, path):
         self.path, self.items, self.uses, self.modules = path, {}, [], {}
+        self.brings = []  # what it brings in for itself
 
 
 class Crate:
@@ -39,8 +44,9 @@ class Crate:
         with open(file, encoding="utf-8") as it:
             lines = it.read().split("\n")
         module = self.modules[path] = Module(path)
+        module.about = sentences(about_of([line[3:].rstrip() for line in lines if line.startswith("//!")]))[0]
         if not path:
-            self.docs = [line[3:].strip() for line in lines if line.startswith("//!")]
+            self.docs = about_of([line[3:].rstrip() for line in lines if line.startswith("//!")])
         folder = os.path.dirname(file) if not path else file[: -len(".rt")]
         self.read_lines(lines, module)
         for name in module.modules:
@@ -83,6 +89,12 @@ class Crate:
                 text += " " + lines[at].strip()
             module.uses += used(text[len("pub use "):-1])
             return at
+        if re.match(r"use (crate|super|self)\b", text) and indent == 0:
+            while not lines[at].endswith(";"):
+                at += 1
+                text += " " + lines[at].strip()
+            module.brings += used(text[len("use "):-1])
+            return at
         is_pub = text.startswith("pub ")
         found = ITEM.match(text[4:] if is_pub else text)
         if not found or not (is_pub if indent == 0 else (is_pub and owner) or (owner and owner[1])):
@@ -97,8 +109,21 @@ class Crate:
         elif indent == 0:
             module.items[item.name] = item
         else:
-            self.methods.setdefault(owner[0], []).append(item)
+            item.only = owner[2]
+            self.methods.setdefault((module.path, owner[0]), []).append(item)
         return at
+
+    def methods_by_type(self):
+        """The methods of each public type, by the type itself."""
+        found = {}
+        for (path, name), methods in self.methods.items():
+            module = self.modules[path]
+            owner = module.items.get(name)
+            use = next((it for it, alias in module.brings if (alias or it.split("::")[-1]) == name), None)
+            owner = owner or (self.find(path, use.split("::")) if use else None)
+            if isinstance(owner, Item):
+                found.setdefault(id(owner), []).extend(methods)
+        return found
 
     def public(self):
         """The public modules in order, each with its items and what it brings from other crates."""
@@ -110,7 +135,7 @@ class Crate:
             for name, alias in module.uses:
                 found = self.find(path, name.split("::"))
                 if found is None:
-                    others.append(name + (f" as {alias}" if alias else ""))
+                    others.append((name, alias))
                 elif isinstance(found, Item):
                     items[found.name] = found
             out.append((path, items, others))
@@ -138,14 +163,34 @@ class Crate:
         return at
 
 
+def about_of(lines):
+    """The text of a crate's comment without its lists: each begins with a dash, and goes on in lines that are set in."""
+    kept, in_list = [], False
+    for line in lines:
+        in_list = line.lstrip().startswith("- ") or (in_list and line.startswith("   "))
+        if not in_list and line.strip():
+            kept.append(line.strip())
+    return kept
+
+
 def owner_of(line):
-    """The type of an impl with its own methods, or the trait; and whether all of its methods are public."""
+    """The type of an impl with its own methods, or the trait; whether all of its methods are public; and for which arguments."""
+    whole = line
     line = re.sub(r"<[^<>]*>", "", re.sub(r"<[^<>]*>", "", re.sub(r"<[^<>]*>", "", line)))
     found = re.match(r"pub (?:unsafe )?trait (\w+)", line)
     if found:
-        return found[1], True
+        return found[1], True, ""
     found = re.match(r"impl (\w+)", line.replace("impl  ", "impl "))
-    return (found[1], False) if found and " for " not in line else None
+    return (found[1], False, only_of(whole)) if found and " for " not in line else None
+
+
+def only_of(line):
+    """The type of an impl that is not for all arguments of its type, as `HttpCache<MemCache>`."""
+    found = re.match(r"impl(<.*?>)? (\w+<(.*)>) \{$", line)
+    if not found:
+        return ""
+    own = set(re.findall(r"\w+", found[1] or ""))
+    return "" if set(re.findall(r"\w+", found[3])) <= own else found[2]
 
 
 def used(text):
@@ -220,41 +265,100 @@ def line_of(item, indent=""):
     if first.startswith("Requires "):
         condition = ""
     rest = " ".join(it for it in (first, condition) if it)
-    return f"{indent}- `{item.signature}`" + (f": {rest}" if rest else "") + getattr(item, "parts", "")
+    only = f" of `{item.only}`" if getattr(item, "only", "") else ""
+    return f"{indent}- `{item.signature}`{only}" + (f": {rest}" if rest else "") + getattr(item, "parts", "")
 
 
-def page(crate):
-    about = " ".join(it for it in crate.docs if not it.startswith("-")).strip()
-    out = [f"# `{crate.name}`", "", about, ""]
+def anchor_of(path):
+    """The place of a module on a page: its heading without marks, as hosts make it."""
+    return re.sub(r"[^\w\- ]", "", "::".join(path)).replace(" ", "-").lower()
+
+
+def owners_of(crate):
+    """The module under which each public item of a crate is listed, by the item."""
     parts = crate.public()
     own = {id(item): path for path, items, _others in reversed(parts) for item in items.values()}
-    own |= {id(item): path for path, _items, _others in parts for item in crate.modules[path].items.values()}
-    for path, items, others in parts:
+    return own | {id(item): path for path, _items, _others in parts for item in crate.modules[path].items.values()}
+
+
+def brought(name, alias, crates):
+    """A line for what a module re-exports of another crate: with a link to where it is listed."""
+    shown = f"`{name}`" + (f" as `{alias}`" if alias else "")
+    crate, *rest = name.split("::")
+    while crate in crates:
+        listed = {path: (items, dict((it.split("::")[-1], it) for it, _ in others)) for path, items, others in crates[crate].public()}
+        if tuple(rest) in listed:
+            about = crates[crate].modules[tuple(rest)].about or "a module"
+            return f"- [{shown}]({crate}.md#{anchor_of((crate, *rest))}): {about}"
+        items, others = listed.get(tuple(rest[:-1]), ({}, {}))
+        if rest[-1] in items:
+            item = items[rest[-1]]
+            link = f"{crate}.md#{anchor_of((crate, *owners_of(crates[crate])[id(item)]))}"
+            return f"- [{shown}]({link}): {sentences(item.docs)[0]}"
+        if rest[-1] not in others:
+            break
+        crate, *rest = others[rest[-1]].split("::")
+    return f"- {shown}"
+
+
+def page(crate, crates):
+    out = [f"# `{crate.name}`", "", " ".join(crate.docs), ""]
+    own, methods = owners_of(crate), crate.methods_by_type()
+    for path, items, others in crate.public():
         if not items and not others:
             continue
         out += [f"## `{'::'.join((crate.name,) + path)}`", ""]
         again = {name: own[id(item)] for name, item in items.items() if own[id(item)] != path}
         items = {name: item for name, item in items.items() if name not in again}
-        others = others + ["::".join(("crate",) + at + (name,)) for name, at in again.items()]
-        if others:
-            out += ["Re-exports " + ", ".join(f"`{it}`" for it in sorted(others)) + ".", ""]
+        if again:
+            lines = [f"[`{name}`](#{anchor_of((crate.name,) + at)})" for name, at in sorted(again.items())]
+            out += ["Also here: " + ", ".join(lines) + ".", ""]
         for name in sorted(items):
             out.append(line_of(items[name]))
-            out += [line_of(it, "  ") for it in crate.methods.get(name, ()) if items[name].kind != "fn"]
+            out += [line_of(it, "  ") for it in methods.get(id(items[name]), ()) if items[name].kind != "fn"]
         if items:
             out.append("")
+        if others:
+            out += ["From other crates:", "", *(brought(*it, crates) for it in sorted(others)), ""]
     return "\n".join(out).rstrip() + "\n"
+
+
+def test(crates, tree):
+    """Whether each method that a page shows is one of its type, as the proved libraries of a tree have it."""
+    seen, wrong = 0, []
+    for name, crate in crates.items():
+        built = f"{tree}/crates/{name}/out/rlib/{name}.rlib/toolchain/checked.json"
+        if not os.path.exists(built):
+            continue
+        with open(built, encoding="utf-8") as it:
+            known = {json.loads(line.strip().rstrip(","))[0] for line in it if line.strip().startswith('["')}
+        methods = crate.methods_by_type()
+        for path, module in crate.modules.items():
+            for item in module.items.values():
+                for method in methods.get(id(item), ()) if item.kind in ("struct", "enum", "trait") else ():
+                    place = ".".join((*path, item.name, method.name))
+                    seen += 1
+                    if method.only:  # there the toolchain has the arguments in the name of the type
+                        place = rf"(?:.*\.)?{item.name}\+.*\.{method.name}"
+                        is_known = any(re.fullmatch(rf"Rattle-{name}-specs\.contracts\.{place}", it) for it in known)
+                    else:
+                        is_known = f"Rattle-{name}-specs.contracts.{place}" in known
+                    if method.kind == "fn" and not is_known:
+                        wrong.append(f"{name}: {place}")
+    print("\n".join([*wrong, f"{seen} methods, of which {len(wrong)} are not of their type"]))
+    return not wrong
 
 
 def main():
     crates = sorted(it for it in os.listdir(f"{TOP}/crates") if os.path.exists(f"{TOP}/crates/{it}/src/lib.rt"))
     crates = [it for it in crates if not it.startswith("test")]
+    crates = {name: Crate(name) for name in crates}
+    if "--test" in sys.argv[1:]:
+        sys.exit(0 if test(crates, sys.argv[-1]) else 1)
     pages, index = {}, ["# Items", "", "The public items of each library, made by `bench/api_pages.py` from the sources.", ""]
-    for name in crates:
-        crate = Crate(name)
-        pages[f"{name}.md"] = page(crate)
-        about = " ".join(it for it in crate.docs if not it.startswith("-")).strip()
-        index.append(f"- [`{name}`]({name}.md): {sentences([about])[0]}")
+    for name, crate in crates.items():
+        pages[f"{name}.md"] = page(crate, crates)
+        index.append(f"- [`{name}`]({name}.md): {sentences(crate.docs)[0]}")
     pages["README.md"] = "\n".join(index) + "\n"
     wrong = []
     for name, text in pages.items():

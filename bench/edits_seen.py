@@ -3,7 +3,9 @@
 
   bench/edits_seen.py [NAME..]                     the crates named, or all
   bench/edits_seen.py --compile-only [NAME..]      only whether each edit still applies, and what it makes reads as a crate
+  bench/edits_seen.py --missing [NAME..]           the public functions with a contract that have no wrong body; it runs nothing
   bench/edits_seen.py --sample MINUTES --seed TEXT [NAME..]      some of them, picked by the text, in so many processor minutes
+  bench/edits_seen.py --named MINUTES [--lanes N] [NAME..]       those of bench/mistakes.txt, side by side, in so many minutes
 
 The gate tries the one file in must-fail/, and sees only that the edited crate as a whole is refused. This reads the files in
 wrong-bodies/ too, checks the edited text once for each file, in a copy, and looks for the function that each edit turns:
@@ -19,9 +21,13 @@ refused by itself if anything is refused.
 --compile-only proves nothing, and takes a reading of the crate for each file (one more for each edit of a file that does not
 read). --sample takes the edits in an order that the text decides, each alone, and checks the function that it turns and those
 that this one calls, and no other; so an edit that only callers refuse counts as let through. What there was no time for, or what
-a check had no time for, is said and is no failure; an edit that is let through, that does not apply or that does not read is one.
+a check had no time for, is said and is no failure; an edit that is let through, that does not apply or that does not read is one,
+and so is a sample that tried nothing. --named does the same for the mistakes that a file lists by name. --after-gate, with either,
+is for a tree in which `rt ci` just passed: the gate leaves what it built of the libraries without the stamps by which a check
+knows that they are of these sources, so they are written first.
 """
 import argparse
+import concurrent.futures
 import contextlib
 import hashlib
 import os
@@ -33,6 +39,9 @@ import subprocess
 import sys
 import tempfile
 import time
+
+sys.path.insert(0, os.path.dirname(os.path.realpath(__file__)))
+import definitions_of  # noqa: E402
 
 TOP = os.path.dirname(os.path.dirname(os.path.realpath(__file__)))
 
@@ -86,8 +95,9 @@ def function_at(path, text, start, end):
     owner, trait = None, ""
     if name and margin and blocks:
         words = re.sub(r"<[^<>]*(<[^<>]*>[^<>]*)*>", "", blocks[-1][1])
-        kept = words.split(" for ")[-1].split(" where")[0].split(":")[0]
-        owner = re.findall(r"\w+", kept)[0] if re.findall(r"\w+", kept) else None
+        # the prover calls a type of another module, as simple_lru::Manager, by both names: Simple_lruManager
+        path = re.findall(r"\w+", (re.findall(r"\w+(?:::\w+)*", words.split(" for ")[-1].split(" where")[0]) or [""])[0])
+        owner = "".join(it[0].upper() + it[1:] for it in path[-2:-1]) + path[-1] if path else None
         if " for " in words:
             trait = re.findall(r"\w+", words.split(" for ")[0])[-1]
     return module, owner, name, trait
@@ -339,22 +349,27 @@ def outcome_alone(crate, edit, seconds):
             turned = edit.apply(folder)
         except SystemExit as why:
             return f"DOES NOT APPLY: {why}"
-        why = why_it_does_not_read(folder, max(1, until - time.monotonic()))
-        if why:
-            return f"DOES NOT READ: {why}"
-        seen = None
-        # a method whose type has parameters filled in, or that is in a file outside its type's, has another path than one would think
-        for find in (lambda place: [path_of(*place)], lambda place: paths_named(crate, place, folder)):
-            only = [it for place in turned if place[2] for path in find(place) for it in ("--only", path)]
-            lines = said_by(["rt", "check", "--jobs", "1", *only], folder, max(1, until - time.monotonic())) if only else []
-            seen = outcome(of_functions(crate, lines), turned)
-            if seen is not None:
-                break
+        seen = checked_alone(crate, turned, [path_of(*it) for it in turned if it[2]], folder, until)
+        if seen is None:
+            why = why_it_does_not_read(folder, max(1, until - time.monotonic()))
+            if why:
+                return f"DOES NOT READ: {why}"
+            # a method whose type has parameters filled in, or that is in a file outside its type's, has another path than one would think
+            seen = checked_alone(crate, turned, [path for it in turned if it[2] for path in paths_named(crate, it, folder)], folder, until)
     if seen == "by itself":
         return "refused"
     if seen is None:
         return "not found by its function's name, so not tried"
     return "LET THROUGH: the function that it turns is proved" if seen == "proved" else f"not tried: it is refused {seen}"
+
+
+def checked_alone(crate, turned, paths, folder, until):
+    """The outcome of an edit of which only the functions with these paths are checked, or None if nothing was said of them."""
+    if not paths:
+        return None
+    only = [it for path in paths for it in ("--only", path)]
+    lines = said_by(["rt", "check", "--jobs", "1", *only], folder, max(1, until - time.monotonic()))
+    return outcome(of_functions(crate, lines), turned)
 
 
 def ended(number, _frame):
@@ -374,20 +389,89 @@ def sample(crates, minutes, seed):
     tried, bad, most, lost, until = 0, 0, minutes * 60, 0, time.monotonic() + 3 * minutes * 60
     for crate, file, edit in every:
         left = min(most - spent() - lost, until - time.monotonic())
+        if tried == 0:
+            # one is tried, whatever it costs: a sample that tried nothing tells nothing
+            left = until - time.monotonic()
         if left < most / 10:
             break
-        try:
-            seen = outcome_alone(crate, edit, left)
-        except NoTime:
+        seen = seen_in(crate, edit, left)
+        if seen == NO_TIME:
             # what a check took that was ended is not told
-            seen, lost = "not tried, for want of time", lost + left
-        except (NotLookedAt, OSError) as why:
-            seen = f"not tried: {why}"
+            lost += left
         print(f"wrong body {crate}/{file}: {edit.name}: {seen}", flush=True)
         tried += seen == "refused"
         bad += seen.startswith(("LET THROUGH", "DOES NOT"))
     print(f"wrong bodies: {tried} of {len(every)} seen refused, picked by {seed[:12]}; {bad} not; {(spent() + lost) / 60:.1f} processor minutes", flush=True)
+    return 1 if bad or not tried else 0
+
+
+NO_TIME = "not tried, for want of time"
+
+
+def seen_in(crate, edit, seconds):
+    """What came of an edit within so many seconds."""
+    try:
+        return outcome_alone(crate, edit, seconds)
+    except NoTime:
+        return NO_TIME
+    except (NotLookedAt, OSError) as why:
+        return f"not tried: {why}"
+
+
+MISTAKES = f"{TOP}/bench/mistakes.txt"
+
+
+def mistakes():
+    """The mistakes that are listed by name: (crate, file, edit)."""
+    found = []
+    with open(MISTAKES, encoding="utf-8") as it:
+        for line in it:
+            words = line.split("#")[0].split()
+            if not words:
+                continue
+            crate, _, file = words[0].partition("/")
+            edits = [it for it in edits_in(f"{TOP}/crates/{crate}/{file}") if it.name == words[1]]
+            if len(edits) != 1:
+                raise SystemExit(f"{MISTAKES}: {len(edits)} edits are named {words[1]} in crates/{crate}/{file}")
+            found.append((crate, file, edits[0]))
+    return found
+
+
+def named(crates, minutes, lanes):
+    """Tries the mistakes that are listed of these crates, side by side. Its end is 1 if one of them is let through, or does not apply or read."""
+    signal.signal(signal.SIGTERM, ended)
+    every = [it for it in mistakes() if it[0] in crates]
+    until, refused, bad = time.monotonic() + minutes * 60, 0, 0
+    with concurrent.futures.ThreadPoolExecutor(lanes) as pool:
+
+        def tried(crate, file, edit):
+            left = until - time.monotonic()
+            if left <= 0:
+                return NO_TIME
+            return seen_in(crate, edit, left)
+
+        for (crate, file, edit), seen in zip(every, pool.map(lambda it: tried(*it), every)):
+            print(f"mistake {crate}/{file}: {edit.name}: {seen}", flush=True)
+            refused += seen == "refused"
+            bad += seen.startswith(("LET THROUGH", "DOES NOT"))
+    print(f"mistakes: {refused} of {len(every)} seen refused, {bad} let through or not to be read; {spent() / 60:.1f} processor minutes", flush=True)
     return 1 if bad else 0
+
+
+def stamp_libraries():
+    """Says of what the gate built here that it is of these sources, as a check of the toolchain does of what it builds."""
+    kit = os.path.dirname(os.path.realpath(shutil.which("rt")))
+    sys.path.insert(0, kit)
+    try:
+        import rtlib
+
+        for crate in rtlib.crates_below(TOP):
+            kept = f"{crate.folder}/out/rlib/stamp"
+            if os.path.isdir(crate.rlib) and not os.path.exists(kept):
+                with open(kept, "w", encoding="utf-8") as it:
+                    it.write(crate.stamp())
+    except Exception as why:  # whatever the toolchain's files have become, the checks below build what they need
+        print(f"what the gate built is not used: {why}", flush=True)
 
 
 def main(names):
@@ -410,13 +494,39 @@ def main(names):
     return 1 if bad else 0
 
 
+def missing(names):
+    """Lists each public function with a contract whose body no wrong body turns, and counts them."""
+    count, without = 0, []
+    for crate in names:
+        turned = {}
+        for file in files_of(crate):
+            for edit in edits_in(f"{TOP}/crates/{crate}/{file}"):
+                for source, old, _new in edit.pairs:
+                    turned.setdefault(source, []).append(old.strip())
+        for path in definitions_of.sources():
+            if not path.startswith(f"{TOP}/crates/{crate}/src/"):
+                continue
+            olds = turned.get(os.path.relpath(path, f"{TOP}/crates/{crate}"), ())
+            for it in definitions_of.contracts_in(path):
+                if it.is_public and it.clauses and it.body.strip("{} \n"):
+                    count += 1
+                    if not any(old in it.text for old in olds):
+                        without.append(f"{os.path.relpath(path, TOP)}:{it.line}: {it.function}")
+    print("\n".join([*without, f"{count - len(without)} of {count} public functions with a contract and a body have a wrong body"]))
+    return 0
+
+
 def asked():
     """What the command line asks for."""
     words = argparse.ArgumentParser(description=__doc__, formatter_class=argparse.RawDescriptionHelpFormatter)
     words.add_argument("crates", nargs="*", metavar="NAME")
     words.add_argument("--compile-only", action="store_true")
+    words.add_argument("--missing", action="store_true")
     words.add_argument("--sample", type=float, metavar="MINUTES")
     words.add_argument("--seed", default="", metavar="TEXT")
+    words.add_argument("--named", type=float, metavar="MINUTES")
+    words.add_argument("--lanes", type=int, default=min(os.cpu_count(), 4))
+    words.add_argument("--after-gate", action="store_true")
     given = words.parse_args()
     unknown = [it for it in given.crates if not os.path.isdir(f"{TOP}/crates/{it}/src")]
     if unknown:
@@ -427,6 +537,12 @@ def asked():
 
 if __name__ == "__main__":
     given = asked()
+    if given.after_gate:
+        stamp_libraries()
+    if given.missing:
+        sys.exit(missing(given.crates))
     if given.compile_only:
         sys.exit(compile_all(given.crates))
+    if given.named:
+        sys.exit(named(given.crates, given.named, given.lanes))
     sys.exit(sample(given.crates, given.sample, given.seed) if given.sample else main(given.crates))

@@ -1,7 +1,8 @@
 #!/usr/bin/env python3
-"""Tells which lemmas and definitions nothing uses.
+"""Tells which lemmas and definitions nothing uses, and which libraries a crate is given and names in no file.
 
-  bench/unused.py         those in proofs/ and specs/ of all crates, one a line; it ends with 1 if there is one
+  bench/unused.py         the lemmas and definitions in proofs/ and specs/ of all crates, one a line, and the libraries of
+                          crates.txt, as `CRATE: LIBRARY ..`; it ends with 1 if there is one
   bench/unused.py --cut   takes them out, and what only they used, and the imports that are no longer wanted; then run
                           `rt tidy` in the crates that it names, which checks them again
 
@@ -90,6 +91,25 @@ def unused(texts):
     return found
 
 
+def libraries_unnamed(texts):
+    """The libraries of crates.txt that no file of their crate names, as (crate, libraries)."""
+    found = []
+    with open(f"{TOP}/crates.txt", encoding="utf-8") as it:
+        for line in it:
+            head, _, libraries = line.split("#")[0].partition(":")
+            if not libraries:
+                continue
+            crate = head.split()[0]
+            words = set()
+            for path, text in texts.items():
+                if path.startswith(f"{TOP}/crates/{crate}/"):
+                    words.update(re.findall(r"\w+", text))
+            unnamed = [it for it in libraries.split() if it not in words]
+            if unnamed:
+                found.append((crate, unnamed))
+    return found
+
+
 def without_unwanted_imports(text):
     """The text without the names that its imports bring and nothing in it has."""
     body = "\n".join(it for it in text.split("\n") if not re.match(r"(pub )?use |\s*--", it))
@@ -135,11 +155,14 @@ def main():
     found = unused(texts)
     for path, _paragraph, names in found:
         print(os.path.relpath(path, TOP), *names)
+    unnamed = libraries_unnamed(texts)
+    for crate, libraries in unnamed:
+        print(f"{crate}:", *libraries)
     if given.cut:
         for path in cut(texts):
             with open(path, "w", encoding="utf-8") as it:
                 it.write(texts[path])
-    sys.exit(1 if found else 0)
+    sys.exit(1 if found or unnamed else 0)
 
 
 if __name__ == "__main__":

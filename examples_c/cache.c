@@ -65,7 +65,7 @@ static void fill(const char *key, const char *body) {
     check("end", pcache_request_end(&cache, request), PCACHE_OK);
 }
 
-/* Reads into a buffer of two bytes, and prints what came: `-` for nothing yet, `.` at the end. */
+/* Reads into a buffer of two bytes, and prints what came: `-` for nothing yet, `.` at the end, `!` where the body was cut off. */
 static void read_once(uint64_t request) {
     uint8_t buffer[2];
     size_t len;
@@ -74,7 +74,7 @@ static void read_once(uint64_t request) {
     if (more == 1)
         printf("%.*s", (int)len, (const char *)buffer);
     else
-        printf("%s", more == 0 ? "." : "-");
+        printf("%s", more == 0 ? "." : more == 3 ? "!" : "-");
 }
 
 static void hit(const char *key) {
@@ -149,12 +149,58 @@ static void stale_then_fresh(void) {
     check("end", pcache_request_end(&cache, reader), PCACHE_OK);
 }
 
+/* A body whose writer gives up half way: who reads along gets what was written, and knows that it was cut off. */
+static void cut_off(void) {
+    uint64_t writer = request_for("ff"), reader = request_for("ff");
+    size_t len;
+    look(writer);
+    begin(writer);
+    printf("found %u, ", (unsigned)look(reader));
+    check("take", pcache_request_take(&cache, reader, PCACHE_IS_FRESH, 1, 0), PCACHE_OK);
+    check("write", pcache_request_write(&cache, writer, bytes("ab"), 2, 0), PCACHE_OK);
+    read_once(reader);
+    check("no length", pcache_request_body_length(&cache, reader, &len), PCACHE_NONE);
+    check("no range", pcache_request_seek(&cache, reader, 0, 1), PCACHE_BAD_VALUE);
+    check("end", pcache_request_end(&cache, writer), PCACHE_OK);
+    read_once(reader);
+    printf("\n");
+    check("end", pcache_request_end(&cache, reader), PCACHE_OK);
+}
+
 static void purge(const char *key) {
     uint64_t request = request_for(key);
     uint32_t was;
     check("purge", pcache_request_purge(&cache, request, &was), PCACHE_OK);
     printf("purge %s: %u\n", key, (unsigned)was);
     check("end", pcache_request_end(&cache, request), PCACHE_OK);
+}
+
+/* The length of a body before it is read, and the body and a range of it without a copy. The views are good after the request
+ * has ended and the body was purged. */
+static void without_a_copy(void) {
+    uint64_t request = request_for("ee");
+    pcache_handle whole = {0, 0}, range = {0, 0}, none = {0, 0};
+    const uint8_t *body, *part, *nothing;
+    size_t len, body_len, part_len, none_len;
+    uint32_t more;
+    look(request);
+    check("take", pcache_request_take(&cache, request, PCACHE_IS_FRESH, 1, 0), PCACHE_OK);
+    check("length", pcache_request_body_length(&cache, request, &len), PCACHE_OK);
+    check("view", pcache_request_view(&cache, request, &whole, &body, &body_len, &more), PCACHE_OK);
+    printf("length %zu: %.*s ", len, (int)body_len, (const char *)body);
+    check("view of the end", pcache_request_view(&cache, request, &none, &nothing, &none_len, &more), PCACHE_OK);
+    printf("then %u, ", (unsigned)more);
+    check("full", pcache_request_view(&cache, request, &whole, &nothing, &none_len, &more), PCACHE_BAD_HANDLE);
+    check("past the end", pcache_request_seek(&cache, request, 3, 3), PCACHE_BAD_VALUE);
+    check("seek", pcache_request_seek(&cache, request, 1, SIZE_MAX), PCACHE_OK);
+    check("view", pcache_request_view(&cache, request, &range, &part, &part_len, &more), PCACHE_OK);
+    check("end", pcache_request_end(&cache, request), PCACHE_OK);
+    printf("from 1: %.*s\n", (int)part_len, (const char *)part);
+    purge("ee");
+    printf("still %.*s and %.*s\n", (int)body_len, (const char *)body, (int)part_len, (const char *)part);
+    check("end view", pcache_end(&whole), PCACHE_OK);
+    check("end view", pcache_end(&range), PCACHE_OK);
+    check("end none", pcache_end(&none), PCACHE_BAD_HANDLE);
 }
 
 static void print_totals(void) {
@@ -174,6 +220,7 @@ static void refused(void) {
     pcache_handle none = {0, 0};
     check("finish first", pcache_request_finish(&cache, request, &stored, &evicted), PCACHE_WRONG_CALL);
     check("read first", pcache_request_read(&cache, request, buffer, 1, &len, &more), PCACHE_WRONG_CALL);
+    check("seek first", pcache_request_seek(&cache, request, 0, 1), PCACHE_WRONG_CALL);
     check("take first", pcache_request_take(&cache, request, PCACHE_IS_FRESH, 1, 0), PCACHE_NONE);
     check("status", pcache_request_take(&cache, request, 7, 1, 0), PCACHE_BAD_VALUE);
     check("end", pcache_request_end(&cache, request), PCACHE_OK);
@@ -200,6 +247,8 @@ int main(void) {
     print_totals();
     fill("ee", "abc");
     stale_then_fresh();
+    cut_off();
+    without_a_copy();
     refused();
     /* A request that is open goes with its cache. */
     look(request_for("dd"));

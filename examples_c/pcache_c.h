@@ -268,9 +268,21 @@ uint32_t pcache_request_write(pcache_handle *cache, uint64_t request, const uint
 /* PCACHE_NONE if there is no write. PCACHE_REMOVED if its key was purged since it began. */
 uint32_t pcache_request_finish(pcache_handle *cache, uint64_t request, size_t *stored,
                                size_t *evicted);
-/* `more` is 1 if bytes were written to the buffer, 0 at the end, 2 if nothing is there yet. */
+/* `more` is 1 if bytes were written to the buffer, 2 if nothing is there yet, 0 at the end of all that was to be read, and 3
+ * where the body was cut off: its write was dropped before its end was announced. What came is not the whole body then, and a
+ * proxy that sends it on in chunks sends no last chunk, and closes the connection. */
 uint32_t pcache_request_read(pcache_handle *cache, uint64_t request, uint8_t *out, size_t out_room,
                              size_t *len, uint32_t *more);
+/* The same without a copy: what comes next, all that was read, is kept in the empty handle `view`, and lies at `at` until that
+ * is ended by pcache_end, whatever becomes of the request and of the cache. Where `more` is not 1 the handle stays empty. */
+uint32_t pcache_request_view(pcache_handle *cache, uint64_t request, pcache_handle *view, const uint8_t **at, size_t *len,
+                             uint32_t *more);
+/* The length of the body that is read, before it is read, and whatever the range. PCACHE_NONE as long as a write goes on, if
+ * it was cut off, and without a reader. */
+uint32_t pcache_request_body_length(pcache_handle *cache, uint64_t request, size_t *len);
+/* Reads a complete body again from `start` to before `end`, or to the body's end if `end` is past it, as SIZE_MAX.
+ * PCACHE_BAD_VALUE if the body has no byte at `start`, if `end` is before it, and for a reader of a write. */
+uint32_t pcache_request_seek(pcache_handle *cache, uint64_t request, size_t start, size_t end);
 uint32_t pcache_request_finish_hit(pcache_handle *cache, uint64_t request);
 /* 0 for nothing, 1 for the permit, 2 for a read lock. */
 uint32_t pcache_request_held(pcache_handle *cache, uint64_t request, uint32_t *held);

@@ -2,7 +2,7 @@
 //! examples_c/cache.c prints.
 mod pcache;
 
-use pcache::{Cache, Head, Held, Meta, Moment, NONE, Read, Refused, Request, Said, WRONG_CALL};
+use pcache::{BAD_VALUE, Cache, Head, Held, Meta, Moment, NONE, Read, Refused, Request, Said, View, WRONG_CALL};
 use std::time::Duration;
 
 const NOW: Moment = Moment { secs: 1, nanos: 0 };
@@ -39,12 +39,13 @@ fn fill(cache: &Cache, key: &str, body: &[u8]) -> Result<(), Refused> {
     finish(&mut request)
 }
 
-/// Reads into a buffer of two bytes, and prints what came: `-` for nothing yet, `.` at the end.
+/// Reads into a buffer of two bytes, and prints what came: `-` for nothing yet, `.` at the end, `!` where the body was cut off.
 fn read_once(request: &mut Request) -> Result<(), Refused> {
     let mut buffer = [0; 2];
     match request.read(&mut buffer)? {
         Read::Bytes(len) => print!("{}", String::from_utf8_lossy(&buffer[..len])),
         Read::End => print!("."),
+        Read::CutOff => print!("!"),
         Read::NotYet => print!("-"),
     }
     Ok(())
@@ -113,6 +114,55 @@ fn stale_then_fresh(cache: &Cache) -> Result<(), Refused> {
     Ok(())
 }
 
+/// A body whose writer gives up half way: who reads along gets what was written, and knows that it was cut off.
+fn cut_off(cache: &Cache) -> Result<(), Refused> {
+    let mut writer = cache.request(b"ff", "1")?;
+    let mut reader = cache.request(b"ff", "1")?;
+    writer.look(NOW)?;
+    begin(&mut writer)?;
+    print!("found {}, ", u32::from(reader.look(NOW)?));
+    reader.take(true, NOW)?;
+    writer.write(b"ab", false)?;
+    read_once(&mut reader)?;
+    assert_eq!(reader.body_length()?, None);
+    assert_eq!(reader.seek(0, Some(1)), Err(BAD_VALUE));
+    drop(writer);
+    read_once(&mut reader)?;
+    println!();
+    Ok(())
+}
+
+fn viewed(read: Read<View>) -> Result<View, Refused> {
+    match read {
+        Read::Bytes(view) => Ok(view),
+        _ => Err(NONE),
+    }
+}
+
+/// The length of a body before it is read, and the body and a range of it without a copy. The views are good after the request
+/// has ended and the body was purged.
+fn without_a_copy(cache: &Cache) -> Result<(), Refused> {
+    let mut request = cache.request(b"ee", "1")?;
+    request.look(NOW)?;
+    request.take(true, NOW)?;
+    let length = request.body_length()?.unwrap_or(0);
+    let body = viewed(request.view()?)?;
+    print!("length {length}: {} ", String::from_utf8_lossy(&body));
+    let end = match request.view()? {
+        Read::End => 0,
+        _ => 9,
+    };
+    print!("then {end}, ");
+    assert_eq!(request.seek(3, Some(3)), Err(BAD_VALUE));
+    request.seek(1, None)?;
+    let part = viewed(request.view()?)?;
+    drop(request);
+    println!("from 1: {}", String::from_utf8_lossy(&part));
+    purge(cache, "ee")?;
+    println!("still {} and {}", String::from_utf8_lossy(&body), String::from_utf8_lossy(&part));
+    Ok(())
+}
+
 fn purge(cache: &Cache, key: &str) -> Result<(), Refused> {
     let was = cache.request(key.as_bytes(), "1")?.purge()?;
     println!("purge {key}: {}", u32::from(was));
@@ -132,6 +182,7 @@ fn refused(cache: &Cache) -> Result<(), Refused> {
     let mut request = cache.request(b"aa", "1")?;
     assert_eq!(request.finish(), Err(WRONG_CALL));
     assert_eq!(request.read(&mut [0]), Err(WRONG_CALL));
+    assert_eq!(request.seek(0, Some(1)), Err(WRONG_CALL));
     assert_eq!(request.take(true, NOW), Err(NONE));
     println!("refused what may not be called");
     Ok(())
@@ -153,6 +204,8 @@ fn main() -> Result<(), Refused> {
     print_totals(&cache);
     fill(&cache, "ee", b"abc")?;
     stale_then_fresh(&cache)?;
+    cut_off(&cache)?;
+    without_a_copy(&cache)?;
     refused(&cache)?;
     cache.request(b"dd", "1")?.look(NOW)?;
     Ok(())

@@ -132,6 +132,9 @@ extern "C" {
     fn pcache_request_write(cache: *mut Raw, request: u64, bytes: *const u8, len: usize, eof: u32) -> u32;
     fn pcache_request_finish(cache: *mut Raw, request: u64, stored: *mut usize, evicted: *mut usize) -> u32;
     fn pcache_request_read(cache: *mut Raw, request: u64, out: *mut u8, room: usize, len: *mut usize, more: *mut u32) -> u32;
+    fn pcache_request_view(cache: *mut Raw, request: u64, view: *mut Raw, at: *mut *const u8, len: *mut usize, more: *mut u32) -> u32;
+    fn pcache_request_body_length(cache: *mut Raw, request: u64, len: *mut usize) -> u32;
+    fn pcache_request_seek(cache: *mut Raw, request: u64, start: usize, end: usize) -> u32;
     fn pcache_request_finish_hit(cache: *mut Raw, request: u64) -> u32;
     fn pcache_request_held(cache: *mut Raw, request: u64, held: *mut u32) -> u32;
     fn pcache_request_wait(cache: *mut Raw, request: u64, now_secs: u64, now_nanos: u32, outcome: *mut u32) -> u32;
@@ -451,10 +454,44 @@ pub enum Held {
 
 /// What a read gave.
 #[derive(Clone, Copy, Debug, PartialEq, Eq)]
-pub enum Read {
-    Bytes(usize),
+pub enum Read<T> {
+    Bytes(T),
+    /// All was given that was to be read.
     End,
+    /// The body was cut off: its write was dropped before its end was announced.
+    CutOff,
     NotYet,
+}
+
+impl<T> Read<T> {
+    // What was said of a read, with its bytes.
+    fn of(more: u32, bytes: impl FnOnce() -> T) -> Read<T> {
+        match more {
+            1 => Read::Bytes(bytes()),
+            0 => Read::End,
+            3 => Read::CutOff,
+            _ => Read::NotYet,
+        }
+    }
+}
+
+/// Bytes of a body that were not copied. They are good as long as this is, whatever becomes of the request and the cache.
+pub struct View {
+    _handle: Handle,
+    at: *const u8,
+    len: usize,
+}
+
+impl std::ops::Deref for View {
+    type Target = [u8];
+
+    fn deref(&self) -> &[u8] {
+        if self.len == 0 {
+            return &[];
+        }
+        // SAFETY: the bytes lie there until the handle is ended, and nothing writes to them.
+        unsafe { std::slice::from_raw_parts(self.at, self.len) }
+    }
 }
 
 /// A request, ended once by `Drop`.
@@ -519,14 +556,33 @@ impl Request<'_> {
         Ok((stored, evicted))
     }
 
-    pub fn read(&mut self, out: &mut [u8]) -> Result<Read, Refused> {
+    pub fn read(&mut self, out: &mut [u8]) -> Result<Read<usize>, Refused> {
         let (mut len, mut more) = (0, 0);
         self.call(|cache, request| unsafe { pcache_request_read(cache, request, out.as_mut_ptr(), out.len(), &mut len, &mut more) })?;
-        Ok(match more {
-            1 => Read::Bytes(len),
-            0 => Read::End,
-            _ => Read::NotYet,
-        })
+        Ok(Read::of(more, || len))
+    }
+
+    /// Reads on without a copy.
+    pub fn view(&mut self) -> Result<Read<View>, Refused> {
+        let mut handle = Handle::new();
+        let (mut at, mut len, mut more) = (std::ptr::null(), 0, 0);
+        self.call(|cache, request| unsafe { pcache_request_view(cache, request, &mut handle.0, &mut at, &mut len, &mut more) })?;
+        Ok(Read::of(more, || View { _handle: handle, at, len }))
+    }
+
+    /// The length of the body that is read, if its end is known.
+    pub fn body_length(&mut self) -> Result<Option<usize>, Refused> {
+        let mut len = 0;
+        match self.call(|cache, request| unsafe { pcache_request_body_length(cache, request, &mut len) }) {
+            Ok(()) => Ok(Some(len)),
+            Err(NONE) => Ok(None),
+            Err(refused) => Err(refused),
+        }
+    }
+
+    /// Reads a complete body again from `start` to before `end`, or to its end.
+    pub fn seek(&mut self, start: usize, end: Option<usize>) -> Result<(), Refused> {
+        self.call(|cache, request| unsafe { pcache_request_seek(cache, request, start, end.unwrap_or(usize::MAX)) })
     }
 
     pub fn finish_hit(&mut self) -> Result<(), Refused> {

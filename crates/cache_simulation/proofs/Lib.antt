@@ -1,2 +1,3 @@
 pub mod FreshMaps
+pub mod Replaying
 pub mod Standing

@@ -2,3 +2,4 @@ pub mod Events
 pub mod Fresh
 pub mod FreshCode
 pub mod Plays
+pub mod Replays

@@ -13,6 +13,9 @@ pub record Rules : Type 0 where
   pub limits : Limits
   pub most : ℕ
 
+abbrev pub rules_of : Limits → ℕ → Rules
+rules_of limits most = record { limits = limits; most = most }
+
 -- what is tracked, and what is recorded of freshness
 pub record State : Type 0 where
   pub tracked : Tracked

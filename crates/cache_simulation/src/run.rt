@@ -1,18 +1,20 @@
 //! One manager over a trace.
-ghost use Rattle.std.specs.Prelude.{◌≡◌, ◌&&◌, ◌-◌, ◌^◌, ◌<◌, ◌⊎◌, None, Some, List, [], ◌∷◌, OnOk, OnErr, IfErr, option_map};
+ghost use Rattle.std.specs.Prelude.{◌≡◌, ◌&&◌, ◌-◌, ◌^◌, ◌<◌, ◌⊎◌, None, Some, Option, List, [], ◌∷◌, ◌++◌, OnOk, OnErr, IfErr, option_map};
 ghost use Rattle.std.specs.Duration.{as_nanos};
 ghost use Rattle.std.specs.FinMap as map;
 ghost use Rattle.pcache_base.specs.declared.error.ErrorType.TheVariants.{OutOfMemory, NumbersExhausted};
 ghost use Rattle.pcache_evict.specs.declared.eviction.entry_key.CacheEntryKey.{CacheEntryKey};
-ghost use Rattle.cache_simulation.specs.Fresh.{is_fresh, none_fresh, noted};
+ghost use Rattle.cache_simulation.specs.Fresh.{Fresh, is_fresh, none_fresh, noted};
 ghost use Rattle.cache_simulation.specs.Events.{Event, Came, Leads};
-ghost use Rattle.cache_simulation.specs.Plays.{Becomes, Plays, IsCounted, state};
+ghost use Rattle.cache_simulation.specs.Plays.{Becomes, Plays, IsCounted, rules_of, state};
+ghost use Rattle.cache_simulation.specs.Replays.{Answers, Replays, Moves, Served, count_after, counts_after, place};
 
 use crate::counts::Counts;
 use crate::freshness::Freshness;
 use pcache_base::error::{Error, ErrorType, Result};
 use pcache_base::moment::Moment;
-use pcache_evict::eviction::{CacheEntryKey, EvictionManager};
+use pcache_evict::eviction::CacheEntryKey;
+use pcache_evict::eviction::ordered::OrderedManager;
 use std::alloc::Global;
 use std::time::Duration;
 
@@ -28,8 +30,11 @@ pub struct Request {
 }
 
 /// A manager, and the counts of the requests that it got. It keeps weights and no bodies.
+///
+/// A contract sees what the requests make of the map of entries, and of the manager's order: the plain
+/// run of its policy, request by request (`specs/Replays.antt`).
 #[derive(Drop)]
-pub struct Run<M: EvictionManager> {
+pub struct Run<M: OrderedManager> {
     /// The manager, which tracks the stored bodies.
     pub manager: M,
     /// The counts.
@@ -40,7 +45,7 @@ pub struct Run<M: EvictionManager> {
     pub freshness: Option<Freshness>,
 }
 
-impl<M: EvictionManager> Run<M> {
+impl<M: OrderedManager> Run<M> {
     /// A run of this manager. A body of more than `most` bytes is not stored; bodies are fresh for
     /// `time`, or without end if that is `None`.
     pub fn new(alloc: Global, manager: M, most: usize, time: Option<Duration>) -> Run<M>
@@ -51,6 +56,11 @@ impl<M: EvictionManager> Run<M> {
             × (result.counts.hit_bytes ≡ 0) }
         ensures most { result.most ≡ most }
         ensures fresh { result.freshness ≡ option_map (λ t. none_fresh (as_nanos t)) time }
+        ensures served { M.order manager ≡ M.policy.none
+            → (M.evicted manager).count ≡ 0
+            → Served M.policy [] (rules_of (M.limits manager) most) result.freshness result.counts
+            (M.evicted result.manager).count
+            (place (M.order result.manager) result.freshness) }
     {
         let freshness = match time {
             Some(time) => Some(Freshness::new(alloc, time)),
@@ -70,16 +80,22 @@ impl<M: EvictionManager> Run<M> {
         requires { self.old.counts.requests < 2 ^ 64 - 1 }
         ensures ok { OnOk result ((e : Event)
             × IsCounted self.old.counts (e ∷ []) self.new.counts
-            × Becomes (record { limits = M.limits self.old.manager; most = self.old.most })
+            × Becomes (rules_of (M.limits self.old.manager) self.old.most)
             (state (M.tracked self.old.manager) self.old.freshness) asked.now e
-            (state (M.tracked self.new.manager) self.new.freshness)) }
+            (state (M.tracked self.new.manager) self.new.freshness)
+            × Answers M.policy (rules_of (M.limits self.old.manager) self.old.most)
+            (place (M.order self.old.manager) self.old.freshness) asked.now e
+            (place (M.order self.new.manager) self.new.freshness)
+            × ((M.evicted self.new.manager).count
+            ≡ count_after (M.evicted self.old.manager).count e)) }
         ensures limits { M.limits self.new.manager ≡ M.limits self.old.manager }
         ensures most { self.new.most ≡ self.old.most }
         ensures kind { IfErr result (λ e. e ≡ OutOfMemory) }
         ensures err { OnErr result (self.new.counts ≡ self.old.counts) }
     {
         if self.has_fresh(asked) {
-            self.manager.access(&asked.item, asked.size, asked.time)?;
+            self.manager
+                .access_in_order(&asked.item, asked.size, asked.time)?;
             self.counts.note(asked.size, true);
             return Ok(());
         }
@@ -97,9 +113,22 @@ impl<M: EvictionManager> Run<M> {
     pub fn play(&mut self, requests: &[Request]) -> Result<()>
         ensures ok { OnOk result ((es : List Event)
             × IsCounted self.old.counts es self.new.counts
-            × Plays (record { limits = M.limits self.old.manager; most = self.old.most })
+            × Plays (rules_of (M.limits self.old.manager) self.old.most)
             (state (M.tracked self.old.manager) self.old.freshness) requests.now es
-            (state (M.tracked self.new.manager) self.new.freshness)) }
+            (state (M.tracked self.new.manager) self.new.freshness)
+            × Replays M.policy (rules_of (M.limits self.old.manager) self.old.most)
+            (place (M.order self.old.manager) self.old.freshness) requests.now es
+            (place (M.order self.new.manager) self.new.freshness)
+            × ((M.evicted self.new.manager).count
+            ≡ counts_after (M.evicted self.old.manager).count es)) }
+        ensures served { OnOk result ((before : List Request) (start : Option Fresh)
+            → Served M.policy before (rules_of (M.limits self.old.manager) self.old.most) start
+            self.old.counts (M.evicted self.old.manager).count
+            (place (M.order self.old.manager) self.old.freshness)
+            → Served M.policy (before ++ requests.now)
+            (rules_of (M.limits self.new.manager) self.new.most) start
+            self.new.counts (M.evicted self.new.manager).count
+            (place (M.order self.new.manager) self.new.freshness)) }
         ensures limits { M.limits self.new.manager ≡ M.limits self.old.manager }
         ensures most { self.new.most ≡ self.old.most }
         ensures kind { IfErr result (λ e. (e ≡ OutOfMemory)
@@ -119,14 +148,19 @@ impl<M: EvictionManager> Run<M> {
         ensures leads { OnOk result ((out : List CacheEntryKey)
             × Leads (M.limits self.old.manager) (M.tracked self.old.manager)
             (Came asked.now.item asked.now.size out) (M.tracked self.new.manager)
-            × (self.new.freshness ≡ noted asked.now.item asked.now.time out self.old.freshness)) }
+            × (self.new.freshness ≡ noted asked.now.item asked.now.time out self.old.freshness)
+            × Moves M.policy (M.limits self.old.manager) (M.order self.old.manager)
+            (Came asked.now.item asked.now.size out) (M.order self.new.manager)
+            × ((M.evicted self.new.manager).count
+            ≡ count_after (M.evicted self.old.manager).count
+            (Came asked.now.item asked.now.size out))) }
         ensures limits { M.limits self.new.manager ≡ M.limits self.old.manager }
         ensures most { self.new.most ≡ self.old.most }
         ensures counts { self.new.counts ≡ self.old.counts }
         ensures kind { IfErr result (λ e. e ≡ OutOfMemory) }
     {
         let copy = asked.item.copied()?;
-        let out = self.manager.admit(copy, asked.size, asked.time)?;
+        let out = self.manager.admit_in_order(copy, asked.size, asked.time)?;
         self.remember(asked, out)
     }
 

@@ -6,14 +6,15 @@ use crate::report::Row;
 use crate::run::{Request, Run};
 use pcache_base::error::Result;
 use pcache_base::seed::Seed;
-use pcache_evict::eviction::{EvictionManager, sharded_lru, simple_lru};
+use pcache_evict::eviction::ordered::OrderedManager;
+use pcache_evict::eviction::{sharded_lru, simple_lru};
 use pcache_policies::{s3_fifo, sieve};
 use std::alloc::Global;
 use std::time::Duration;
 
 // A run of a cache, with the size in bytes that it represents over all keys.
 #[derive(Drop)]
-struct Sized<M: EvictionManager> {
+struct Sized<M: OrderedManager> {
     size: usize,
     run: Run<M>,
 }
@@ -98,7 +99,7 @@ impl Runs {
     }
 }
 
-fn add_run<M: EvictionManager>(
+fn add_run<M: OrderedManager>(
     alloc: Global,
     runs: &mut Vec<Sized<M>>,
     options: &Options,
@@ -118,14 +119,14 @@ fn add_run<M: EvictionManager>(
     Ok(())
 }
 
-fn play_each<M: EvictionManager>(runs: &mut Vec<Sized<M>>, requests: &[Request]) -> Result<()> {
+fn play_each<M: OrderedManager>(runs: &mut Vec<Sized<M>>, requests: &[Request]) -> Result<()> {
     for sized in runs.iter_mut() {
         sized.run.play(requests)?;
     }
     Ok(())
 }
 
-fn add_rows<M: EvictionManager>(
+fn add_rows<M: OrderedManager>(
     rows: &mut Vec<Row>,
     policy: &'static str,
     runs: &[Sized<M>],

@@ -3,7 +3,6 @@
 //! service print their results; a simulator reads a trace, and prints what a cache of LIMIT bytes would have served of it.
 
 mod along;
-mod first;
 mod front;
 mod many;
 mod origin;

@@ -1,29 +1,18 @@
 //! What the short examples print, over one cache that they borrow. Each has a path of its own.
 use crate::front::FrontCache;
-use crate::{along, first, many, stale, variants, waiting};
+use crate::{along, many, stale, variants, waiting};
 use anyhow::Result;
-use bytes::Bytes;
 use pingora_cache::NoCacheReason;
 use pingora_cache::moment::Moment;
 
 /// Runs them one after the other.
 pub fn show_all(rt: &impl Print, cache: &mut FrontCache) -> Result<()> {
-    show_first(rt, cache, 0)?;
-    show_first(rt, cache, 1)?;
     show_waiting(rt, cache, NoCacheReason::OriginNotCache)?;
     show_waiting(rt, cache, NoCacheReason::UpstreamError)?;
     show_many(rt, cache)?;
     show_stale(rt, cache)?;
     show_along(rt, cache)?;
     show_variants(rt, cache)
-}
-
-fn show_first(rt: &impl Print, cache: &mut FrontCache, second: u64) -> Result<()> {
-    let now = Moment::from_secs(second);
-    let found = first::serve(cache, "/first", Bytes::from_static(b"today's news"), now)?;
-    let len = found.map(|body| body.len());
-    println!(rt; "first, {second} s: {len:?}")?;
-    Ok(())
 }
 
 fn show_waiting(rt: &impl Print, cache: &mut FrontCache, reason: NoCacheReason) -> Result<()> {
@@ -45,8 +34,11 @@ fn show_stale(rt: &impl Print, cache: &mut FrontCache) -> Result<()> {
 }
 
 fn show_along(rt: &impl Print, cache: &mut FrontCache) -> Result<()> {
-    for piece in along::write_and_read(cache, "/along", Moment::EPOCH)? {
-        println!(rt; "along: {piece:?}")?;
+    for sent in along::write_and_read(cache, "/along", Moment::EPOCH)? {
+        println!(rt; "along: {sent:?}")?;
+    }
+    for sent in along::break_off_and_read(cache, "/broken", Moment::EPOCH)? {
+        println!(rt; "along, broken off: {sent:?}")?;
     }
     Ok(())
 }

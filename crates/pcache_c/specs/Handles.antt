@@ -41,6 +41,11 @@ Turns {A} kind a b code does = OnKind (kind a) code (b ≡ a) (λ x. (y : A) × 
 abbrev pub ChangesOf : {A : Type 0} → (Object → Option A) → PcacheHandle → PcacheHandle → ℕ → (A → A → Type 0) → Type 0
 ChangesOf kind old new code does = OnHandle old new code (λ a b. Turns kind a b code does)
 
+-- a call that is to fill a handle: one that has an object is refused
+abbrev pub OnEmpty : Option Object → ℕ → Type 0 → Type 0 → Type 0
+OnEmpty None code same does = does
+OnEmpty (Some x) code same does = (code ≡ bad_handle) × same
+
 -- how an object came into a handle: it has it, the handle had one already, or there was no memory for a box
 abbrev pub Fills : Object → PcacheHandle → PcacheHandle → ℕ → Type 0
 Fills x old new code = ((code ≡ ok) × (object_of old ≡ None) × (object_of new ≡ Some x)) ⊎ ((code ≡ bad_handle) × IsSome (object_of old) × IsSame old new)

@@ -1,13 +1,14 @@
 -- What the calls on a request do: c is the cache before and d after, o the request before and p after (own).
-use Rattle.std.specs.Prelude.{◌≡◌, ◌⊎◌, ℕ, List, [], ◌∷◌, ◌++◌, Bool, true, false, Option, None, Some, Result, Ok, Err, IfSome, IsSome, IsTrue, ⊤, cond, drop, is_some, length, min, option_map, take}
+use Rattle.std.specs.Prelude.{◌≡◌, ◌⊎◌, ℕ, List, [], ◌∷◌, ◌++◌, ◌↔◌, Bool, true, false, Option, None, Some, Result, Ok, Err, IfSome, IsSome, IsTrue, ⊤, cond, drop, is_some, length, min, option_map, take}
 use Rattle.std.specs.Int.{from_bool}
+use Rattle.std.specs.Option.{option_and_then}
 use Rattle.pcache_base.specs.Key.{slot}
 use Rattle.pcache_base.specs.declared.error.ErrorType.{ErrorType}
 use Rattle.pcache_base.specs.declared.error.ErrorType.TheVariants.{NumbersExhausted, OutOfMemory}
 use Rattle.pcache_base.specs.declared.poll.Poll.{Poll}
 use Rattle.pcache_base.specs.declared.poll.Poll.TheVariants.{Pending, Ready}
 use Rattle.pcache_base.specs.declared.reason.NoCacheReason.{NoCacheReason}
-use Rattle.pcache_cache.specs.Parts.{MayEnd, Parts, takes_bytes, written_by}
+use Rattle.pcache_cache.specs.Parts.{MayEnd, Parts, takes_bytes, tracked_at_end, written_by}
 use Rattle.pcache_lock.specs.Locks.{MayFailLock}
 use Rattle.pcache_lock.specs.declared.lock.status.LockStatus.TheVariants.{Done, GiveUp}
 use Rattle.pcache_meta.specs.Meta.{Meta}
@@ -17,7 +18,7 @@ use Rattle.pcache_request.specs.LockWaits.{table_waited, unusable_in, wait_resul
 use Rattle.pcache_request.specs.Phases.{IsDisabled, IsFilling, IsOn, MayFinishHit, MayLookUp, MayMiss, MayPurge}
 use Rattle.pcache_request.specs.Releasing.{MayDisable, MayRelease, disabled_for, status_for}
 use Rattle.pcache_request.specs.Renewals.{has_body, renewed, renewed_by, with_meta_of}
-use Rattle.pcache_request.specs.Requests.{HoldsNothing, MayTakeMeta, MayWrite, Request, asks_for_hit, begun_for, dropped_by, found_row, is_removed_by, left_by, missed, settled, store_found, store_writing, table_found, tracked_found, tracked_gone_for, with_meta, without_reader, writing}
+use Rattle.pcache_request.specs.Requests.{HoldsNothing, MayTakeMeta, MayWrite, Request, asks_for_hit, begun_for, dropped_by, found_row, is_removed_by, left_by, length_by, missed, settled, store_found, store_writing, table_found, tracked_found, tracked_gone_for, whole_by, with_meta, without_reader, writing}
 use Rattle.pcache_request.specs.Stale.{MayRevalidate}
 use Rattle.pcache_request.specs.Variants.{asks_unseen, hides_for, looked_for, searched, seen_for, table_looked_for, table_varied, varied}
 use Rattle.pcache_request.specs.WriteEnds.{Ends, EndsAs, evicted_after, finishes_of}
@@ -27,9 +28,11 @@ use Rattle.pcache_store.specs.Finishes.{created}
 use Rattle.pcache_store.specs.Purge.{expire_outcome, expired_at, purge_outcome, purged_at}
 use Rattle.pcache_store.specs.Readers.{in_memory, reader_of}
 use Rattle.pcache_store.specs.Refusals.{MayFailWrite}
-use Rattle.pcache_store.specs.Store.{Reader, Store, gives_piece, left, read_of, reader_after, write_read}
-use Rattle.pcache_c.specs.Codes.{Outcome, code_of, no_memory, nothing, ok, wrong_call}
+use Rattle.pcache_store.specs.Store.{Reader, Store, gives_piece, left, read_of, reader_after, sought, write_read}
+use Rattle.pcache_c.specs.Codes.{Outcome, bad_value, code_of, no_memory, nothing, ok, wrong_call}
 use Rattle.pcache_c.specs.Numbers.{held_number, outcome_number, phase_number}
+use Rattle.pcache_c.specs.declared.object.Object.{Object}
+use Rattle.pcache_c.specs.declared.object.Object.TheVariants as object
 use Rattle.pcache_c.specs.declared.served.Open.{Open}
 
 -- neither the cache nor the request changed
@@ -247,9 +250,9 @@ MayEndWrite c o = IsFilling o.request.cache.phase × MayEnd c.store o.request.ca
 pub record EndsSo (result : Result (Option FinishReport) ErrorType) (c d : Parts) (o p : Open) : Type 0 where
   pub request : p.request.cache ≡ after_finish o.request.cache
   pub end : EndsAs result (λ e. Ends in_memory o.request.cache o.request.cache.key o.request.cache.write (finishes_of (created c.store) o.request.cache.write)
-      c.limits e c.store d.store c.tracked d.tracked c.locks d.locks)
+      c.limits e c.store d.store (tracked_at_end c o.request.cache e) d.tracked c.locks d.locks)
   pub evicted : EndsAs result (λ e. d.evicted
-      ≡ evicted_after o.request.cache o.request.cache.key (finishes_of (created c.store) o.request.cache.write) c.tracked c.evicted e)
+      ≡ evicted_after o.request.cache o.request.cache.key (finishes_of (created c.store) o.request.cache.write) (tracked_at_end c o.request.cache e) c.evicted e)
   pub limits : d.limits ≡ c.limits
   pub rest : KeepsFound o p
 
@@ -285,11 +288,19 @@ pub record HandsOver (piece old new left : List ℕ) (count : ℕ) : Type 0 wher
 abbrev pub HandsNothing : List ℕ → List ℕ → List ℕ → ℕ → Type 0
 HandsNothing old new left count = (count ≡ 0) × (new ≡ old) × (left ≡ [])
 
--- what is said of a read: 1 for some bytes, 0 at the end, 2 if nothing is there yet
-abbrev pub Tells : Poll (Option (List ℕ)) → List ℕ → List ℕ → List ℕ → ℕ → ℕ → Type 0
-Tells (Ready (Some piece)) old new left count more = (more ≡ 1) × HandsOver piece old new left count
-Tells (Ready None) old new left count more = (more ≡ 0) × HandsNothing old new left count
-Tells Pending old new left count more = (more ≡ 2) × HandsNothing old new left count
+-- what is said at the end: 0 if all was given that was to be read, 3 if the body was cut off
+abbrev pub end_number : Bool → ℕ
+end_number whole = cond whole 0 3
+
+-- what is said of a read: 1 for some bytes, 0 or 3 at the end, 2 if nothing is there yet
+abbrev pub Tells : Bool → Poll (Option (List ℕ)) → List ℕ → List ℕ → List ℕ → ℕ → ℕ → Type 0
+Tells whole (Ready (Some piece)) old new left count more = (more ≡ 1) × HandsOver piece old new left count
+Tells whole (Ready None) old new left count more = (more ≡ end_number whole) × HandsNothing old new left count
+Tells whole Pending old new left count more = (more ≡ 2) × HandsNothing old new left count
+
+-- whether the request's reader has given all that it was to give
+abbrev pub is_read_whole : Parts → Open → Bool
+is_read_whole c o = whole_by o.request.cache.reader c.store
 
 -- the request once more was read, which it is only if nothing is left
 abbrev pub read_on : Store → List ℕ → Request → Request
@@ -297,7 +308,7 @@ read_on s [] r = record r { reader = option_map (reader_after s) r.reader }
 read_on s (b ∷ bytes) r = r
 
 pub record ReadOn (c d : Parts) (o p : Open) (old new : List ℕ) (count more : ℕ) : Type 0 where
-  pub told : IfSome (comes_next c o) (λ next. Tells next old new (rest_of p) count more)
+  pub told : IfSome (comes_next c o) (λ next. Tells (is_read_whole d p) next old new (rest_of p) count more)
   pub request : p.request.cache ≡ read_on c.store (rest_of o) o.request.cache
   pub found : p.found ≡ o.found
   pub parts : d ≡ c
@@ -314,6 +325,79 @@ pub record RefusesRead (c d : Parts) (o p : Open) (old new : List ℕ) (e : Erro
 abbrev pub Reads : List ℕ → List ℕ → ℕ → ℕ → Parts → Parts → Open → Open → ℕ → Type 0
 Reads old new count more c d o p code = Outcome (IsSome (comes_next c o)) (ReadOn c d o p old new count more) ⊥
     (RefusesRead c d o p old new) (IsUnchanged c d o p × (new ≡ old)) code
+
+-- the body is read on without a copy: the bytes that come next, all of them, are the object of the handle of a view
+
+-- what is said of a view, and what is in its handle
+abbrev pub TellsView : Bool → Poll (Option (List ℕ)) → Option Object → List ℕ → ℕ → ℕ → Type 0
+TellsView whole (Ready (Some piece)) view left count more = (more ≡ 1) × (view ≡ Some (object.View piece)) × (count ≡ length piece) × (left ≡ [])
+TellsView whole (Ready None) view left count more = (more ≡ end_number whole) × (view ≡ None) × (count ≡ 0) × (left ≡ [])
+TellsView whole Pending view left count more = (more ≡ 2) × (view ≡ None) × (count ≡ 0) × (left ≡ [])
+
+pub record Viewed (c d : Parts) (o p : Open) (view : Option Object) (count more : ℕ) : Type 0 where
+  pub told : IfSome (comes_next c o) (λ next. TellsView (is_read_whole d p) next view (rest_of p) count more)
+  pub request : p.request.cache ≡ read_on c.store (rest_of o) o.request.cache
+  pub found : p.found ≡ o.found
+  pub parts : d ≡ c
+
+-- there was no memory for a piece that is there; or for the handle of the view: then the piece stays with the request, and
+-- comes next
+pub record RefusesView (c d : Parts) (o p : Open) (view : Option Object) (e : ErrorType) : Type 0 where
+  pub kind : e ≡ OutOfMemory
+  pub none : view ≡ None
+  pub piece : ((p.request.cache ≡ o.request.cache) × (p.piece ≡ o.piece) × (p.next_byte ≡ o.next_byte))
+      ⊎ ((p.request.cache ≡ read_on c.store (rest_of o) o.request.cache) × IfSome (comes_next c o) (λ next. next ≡ Ready (Some (rest_of p))))
+  pub found : p.found ≡ o.found
+  pub parts : d ≡ c
+
+abbrev pub Views : Option Object → ℕ → ℕ → Parts → Parts → Open → Open → ℕ → Type 0
+Views view count more c d o p code = Outcome (IsSome (comes_next c o)) (Viewed c d o p view count more) ⊥
+    (RefusesView c d o p view) (IsUnchanged c d o p × (view ≡ None)) code
+
+-- a piece is read, and stays with the request
+abbrev pub TellsFetch : Bool → Poll (Option (List ℕ)) → List ℕ → ℕ → Type 0
+TellsFetch whole (Ready (Some piece)) left more = (more ≡ 1) × (left ≡ piece)
+TellsFetch whole (Ready None) left more = (more ≡ end_number whole) × (left ≡ [])
+TellsFetch whole Pending left more = (more ≡ 2) × (left ≡ [])
+
+pub record Fetched (c d : Parts) (o p : Open) (more : ℕ) : Type 0 where
+  pub told : IfSome o.request.cache.reader (λ r. TellsFetch (is_read_whole d p) (read_of c.store r) (rest_of p) more)
+  pub request : p.request.cache ≡ read_on c.store [] o.request.cache
+  pub found : p.found ≡ o.found
+  pub parts : d ≡ c
+
+abbrev pub Fetches : ℕ → Parts → Parts → Open → Open → ℕ → Type 0
+Fetches more c d o p code = Outcome (IsSome o.request.cache.reader) (Fetched c d o p more) ⊥
+    (λ e. (e ≡ OutOfMemory) × IsUnchanged c d o p) (IsUnchanged c d o p) code
+
+-- what is left of the piece is the object of a handle that had none, or there was no memory for that, and it stays
+abbrev pub HandsOut : Option Object → ℕ → Open → Open → ℕ → Type 0
+HandsOut view count o p code = ((code ≡ ok) × (view ≡ Some (object.View (rest_of o))) × (count ≡ length (rest_of o)) × (p.piece ≡ []) × (p.request ≡ o.request) × (p.found ≡ o.found))
+    ⊎ ((code ≡ no_memory) × (view ≡ None) × (p ≡ o))
+
+-- the length of the body that the request reads is said, if it is known
+abbrev pub SaysKnown : Option ℕ → ℕ → ℕ → Type 0
+SaysKnown None out code = code ≡ nothing
+SaysKnown (Some n) out code = (code ≡ ok) × (out ≡ n)
+
+abbrev pub SaysLength : Parts → Parts → Open → Open → ℕ → ℕ → Type 0
+SaysLength c d o p out code = IsUnchanged c d o p × SaysKnown (length_by o.request.cache.reader c.store) out code
+
+-- the reader is moved to a range, which it reads again: of what was read before, nothing is handed over any more. A range that
+-- is not the body's, and a reader of a write, are refused as a bad value
+
+abbrev pub reader_sought : Open → ℕ → ℕ → Option Reader
+reader_sought o start end = option_and_then (λ r. sought r start (Some end)) o.request.cache.reader
+
+pub record Sought (start end : ℕ) (o p : Open) : Type 0 where
+  pub request : p.request.cache ≡ record o.request.cache { reader = reader_sought o start end }
+  pub there : IsSome (reader_sought o start end)
+  pub found : p.found ≡ o.found
+  pub piece : p.piece ≡ []
+
+pub record Seeks (start end : ℕ) (o p : Open) (code : ℕ) : Type 0 where
+  pub wrong : (code ≡ wrong_call) ↔ (¬ IsSome o.request.cache.reader)
+  pub how : ((code ≡ ok) × Sought start end o p) ⊎ ((code ≡ wrong_call) × (p ≡ o)) ⊎ ((code ≡ bad_value) × (reader_sought o start end ≡ None) × (p ≡ o))
 
 -- the reader is ended
 

@@ -3,10 +3,10 @@ ghost use Rattle.std.specs.Prelude.{◌≡◌, Option};
 ghost use Rattle.pcache_base.specs.declared.reason.NoCacheReason.{NoCacheReason};
 ghost use Rattle.pcache_request.specs.declared.phase.HitStatus.{HitStatus};
 ghost use Rattle.pcache_c.specs.Codes.{OnGood, is_flag, moment_at, nonempty, variance_at};
-ghost use Rattle.pcache_c.specs.Handles.{IsSame};
+ghost use Rattle.pcache_c.specs.Handles.{IsSame, OnEmpty, object_of};
 ghost use Rattle.pcache_c.specs.Numbers.{IsNumber, reason_number, status_number};
 ghost use Rattle.pcache_c.specs.Reached.{OnRequest};
-ghost use Rattle.pcache_c.specs.Requests.{Adds, Begins, EndsHit, Expires, Finishes, Looks, Misses, Passes, Purges, Reads, Releases, Takes, TurnsOff, Varies, Waits};
+ghost use Rattle.pcache_c.specs.Requests.{Adds, Begins, EndsHit, Expires, Finishes, Looks, Misses, Passes, Purges, Reads, Releases, SaysLength, Seeks, Takes, TurnsOff, Varies, Views, Waits};
 
 use crate::codes::{BAD_HANDLE, BAD_VALUE};
 use crate::handle::PcacheHandle;
@@ -176,7 +176,8 @@ pub extern "C" fn pcache_request_finish(
 }
 
 /// Reads on, to a buffer that has room for a byte at least. Says how many bytes it wrote, and what is
-/// to come: 1 if it wrote some, 0 at the end, 2 if nothing is there yet.
+/// to come: 1 if it wrote some, 0 at the end, 3 where the body was cut off (its write was dropped before its end was announced),
+/// 2 if nothing is there yet.
 #[unsafe(no_mangle)]
 pub extern "C" fn pcache_request_read(
     alloc: Global,
@@ -197,6 +198,77 @@ pub extern "C" fn pcache_request_read(
         return BAD_HANDLE;
     };
     let code = reached::read(&mut *object, request, out, len, more);
+    cache.put(object);
+    code
+}
+
+/// Reads on without a copy: the bytes that come next, all that were read, are kept in the handle `view`, which has to be empty,
+/// and lie at `at` until it is ended, whatever becomes of the request and of the cache. Says how many they are, and what is to
+/// come, as `pcache_request_read` does; where that is not 1, the handle stays empty. Bytes for which there is no memory come
+/// next.
+#[unsafe(no_mangle)]
+pub extern "C" fn pcache_request_view(
+    alloc: Global,
+    cache: &mut PcacheHandle,
+    request: u64,
+    view: &mut PcacheHandle,
+    at: &mut *const u8,
+    len: &mut usize,
+    more: &mut u32,
+) -> u32
+    ensures { OnEmpty (object_of view.old) result
+        (IsSame cache.old cache.new × IsSame view.old view.new)
+        (OnRequest request cache.old cache.new result (λ c d o p.
+        Views (object_of view.new) len.new more.new c d o p result)) }
+{
+    if view.is_live() {
+        return BAD_HANDLE;
+    }
+    let Some(mut object) = cache.take(alloc) else {
+        return BAD_HANDLE;
+    };
+    let code = reached::view(&mut *object, request, alloc, view, at, len, more);
+    cache.put(object);
+    code
+}
+
+/// The length of the body that is read, before it is read, in bytes: of a complete body, whatever its range, and of a write whose
+/// end was announced, or that was finished. There is none as long as a write goes on, if it was cut off, and without a reader.
+#[unsafe(no_mangle)]
+pub extern "C" fn pcache_request_body_length(
+    alloc: Global,
+    cache: &mut PcacheHandle,
+    request: u64,
+    len: &mut usize,
+) -> u32
+    ensures { OnRequest request cache.old cache.new result (λ c d o p.
+        SaysLength c d o p len.new result) }
+{
+    let Some(mut object) = cache.take(alloc) else {
+        return BAD_HANDLE;
+    };
+    let code = reached::length(&mut *object, request, len);
+    cache.put(object);
+    code
+}
+
+/// Moves the reader of a complete body to the bytes from `start` to before `end` (to the body's end if `end` is past it), which
+/// it then reads again. A `start` at or past the body's length, an `end` before `start`, and a reader of a write are a bad value.
+#[unsafe(no_mangle)]
+pub extern "C" fn pcache_request_seek(
+    alloc: Global,
+    cache: &mut PcacheHandle,
+    request: u64,
+    start: usize,
+    end: usize,
+) -> u32
+    ensures { OnRequest request cache.old cache.new result (λ c d o p.
+        (d ≡ c) × Seeks start end o p result) }
+{
+    let Some(mut object) = cache.take(alloc) else {
+        return BAD_HANDLE;
+    };
+    let code = reached::seek(&mut *object, request, start, end);
     cache.put(object);
     code
 }

@@ -2,6 +2,7 @@
 
 use crate::managers::Managed;
 use crate::served::Served;
+use bytes::Bytes;
 use pcache_base::variance::VarianceBuilder;
 use pcache_control::cache_control::CacheControl;
 use pcache_evict::eviction::{sharded_lru, simple_lru};
@@ -25,4 +26,6 @@ pub enum Object {
     Sharded(Managed<sharded_lru::Manager<16>>),
     /// A cache with its open requests.
     Cache(Served),
+    /// Bytes that were read of a body, and are not copied.
+    View(Bytes),
 }

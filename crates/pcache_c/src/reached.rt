@@ -1,11 +1,13 @@
 //! The calls on a request, by its number in the cache of an object.
-ghost use Rattle.std.specs.Prelude.{◌≡◌};
+ghost use Rattle.std.specs.Prelude.{◌≡◌, None};
 ghost use Rattle.pcache_c.specs.Codes.{code_in};
 ghost use Rattle.pcache_c.specs.Opening.{Ends, Opens};
 ghost use Rattle.pcache_c.specs.Reached.{OnNumber};
-ghost use Rattle.pcache_c.specs.Requests.{Adds, Begins, CopyOf, EndsHit, Expires, Finishes, IsUnchanged, Looks, Misses, Passes, Purges, Reads, Releases, Renews, SaysHeld, SaysPhase, SetsMeta, Takes, TurnsOff, Varies, Waits, meta_shown};
+ghost use Rattle.pcache_c.specs.Requests.{Adds, Begins, CopyOf, EndsHit, Expires, Finishes, IsUnchanged, Looks, Misses, Passes, Purges, Reads, Releases, Renews, SaysHeld, SaysLength, SaysPhase, Seeks, SetsMeta, Takes, TurnsOff, Varies, Views, Waits, meta_shown};
+ghost use Rattle.pcache_c.specs.Handles.{object_of};
 
 use crate::codes::{BAD_HANDLE, OK, WRONG_KIND};
+use crate::handle::PcacheHandle;
 use crate::object::Object;
 use crate::requests;
 use crate::served::Served;
@@ -227,6 +229,57 @@ pub(crate) fn read(
         return BAD_HANDLE;
     };
     requests::read(&mut served.cache, request, out, len, more)
+}
+
+/// Reads on without a copy.
+pub(crate) fn view(
+    object: &mut Object,
+    number: u64,
+    alloc: Global,
+    view: &mut PcacheHandle,
+    at: &mut *const u8,
+    len: &mut usize,
+    more: &mut u32,
+) -> u32
+    requires { object_of view.old ≡ None }
+    ensures { OnNumber number object.old object.new result (λ c d o p.
+        Views (object_of view.new) len.new more.new c d o p result) }
+{
+    let Object::Cache(served) = object else {
+        return WRONG_KIND;
+    };
+    let Some(request) = served.seats.find(number) else {
+        return BAD_HANDLE;
+    };
+    requests::view(alloc, &mut served.cache, request, view, at, len, more)
+}
+
+/// The length of the body that is read.
+pub(crate) fn length(object: &mut Object, number: u64, out: &mut usize) -> u32
+    ensures { OnNumber number object.old object.new result (λ c d o p.
+        SaysLength c d o p out.new result) }
+{
+    let Object::Cache(served) = object else {
+        return WRONG_KIND;
+    };
+    let Some(request) = served.seats.find(number) else {
+        return BAD_HANDLE;
+    };
+    requests::length(&served.cache, request, out)
+}
+
+/// Moves the reader to a range.
+pub(crate) fn seek(object: &mut Object, number: u64, start: usize, end: usize) -> u32
+    ensures { OnNumber number object.old object.new result (λ c d o p.
+        (d ≡ c) × Seeks start end o p result) }
+{
+    let Object::Cache(Served { cache: _, seats }) = object else {
+        return WRONG_KIND;
+    };
+    let Some(request) = seats.find(number) else {
+        return BAD_HANDLE;
+    };
+    requests::seek(request, start, end)
 }
 
 /// Ends the reader.

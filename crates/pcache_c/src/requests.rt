@@ -1,9 +1,14 @@
 //! What the requests of a cache do. Each call tests what the call that it makes requires, and says by a code how it went.
-ghost use Rattle.std.specs.Prelude.{◌≡◌, []};
+ghost use Rattle.std.specs.Prelude.{◌≡◌, [], IfOk, None};
 ghost use Rattle.pcache_c.specs.Numbers.{IsNumber, held_number, outcome_number, phase_number, reason_number, status_number};
-ghost use Rattle.pcache_c.specs.Requests.{Adds, Begins, CopyOf, EndsHit, Expires, Finishes, HandsOver, Looks, Misses, Passes, Purges, Reads, Releases, Renews, SetsMeta, Takes, TurnsOff, Varies, Waits, meta_shown, rest_of};
+ghost use Rattle.pcache_c.specs.Requests.{Adds, Begins, CopyOf, EndsHit, Expires, Fetches, Finishes, HandsOut, HandsOver, Looks, Misses, Passes, Purges, Reads, Releases, Renews, SaysKnown, Seeks, SetsMeta, Takes, TurnsOff, Varies, Views, Waits, end_number, meta_shown, rest_of};
+ghost use Rattle.core.specs.Ptr.{as_ptr};
+ghost use Rattle.pcache_c.specs.Handles.{object_of};
+ghost use Rattle.pcache_request.specs.Requests.{length_by};
 
-use crate::codes::{NO_MEMORY, NONE, OK, WRONG_CALL, code_of};
+use crate::codes::{BAD_VALUE, NO_MEMORY, NONE, OK, WRONG_CALL, code_of};
+use crate::handle::PcacheHandle;
+use crate::object::Object;
 use crate::served::{ListCache, Open, let_go};
 use bytes::Bytes;
 use pcache_base::key::HashBinary;
@@ -13,7 +18,7 @@ use pcache_base::reason::NoCacheReason;
 use pcache_lock::lock::{LockWaitOutcome, Locked};
 use pcache_meta::meta::CacheMeta;
 use pcache_request::phase::{CachePhase, HitStatus};
-use std::alloc::Global;
+use std::alloc::{AllocError, Global};
 use std::mem;
 
 /// The number of a phase, as the header has them.
@@ -285,7 +290,7 @@ pub(crate) fn finish(
 }
 
 /// Hands over bytes of the body that is read, as many as there are and have room. Says how many, and what is to come: 1 if
-/// there were some, 0 at the end, 2 if nothing is there yet.
+/// there were some, 0 at the end, 3 where the body was cut off, 2 if nothing is there yet.
 pub(crate) fn read(
     cache: &mut ListCache,
     open: &mut Open,
@@ -324,11 +329,20 @@ fn read_on(
             *len = hand_over(open, out);
             *more = 1;
         }
-        Ok(Poll::Ready(None)) => (*len, *more) = (0, 0),
+        Ok(Poll::Ready(None)) => {
+            (*len, *more) = (0, number_of_end(cache.is_body_whole(&open.request)));
+        }
         Ok(Poll::Pending) => (*len, *more) = (0, 2),
         Err(e) => return code_of(e),
     }
     OK
+}
+
+// The number of an end, as the header has them.
+fn number_of_end(is_whole: bool) -> u32
+    ensures { result ≡ end_number is_whole }
+{
+    if is_whole { 0 } else { 3 }
 }
 
 // Copies what has room, and returns how much.
@@ -343,6 +357,140 @@ fn hand_over(open: &mut Open, out: &mut [u8]) -> usize
     out[..count].copy_from_slice(&rest[..count]);
     open.next_byte += count;
     count
+}
+
+/// Hands out the bytes of the body that come next, all that were read, in a handle that has nothing, without a copy. Says where
+/// they are, how many, and what is to come, as `read` does.
+pub(crate) fn view(
+    alloc: Global,
+    cache: &mut ListCache,
+    open: &mut Open,
+    view: &mut PcacheHandle,
+    at: &mut *const u8,
+    len: &mut usize,
+    more: &mut u32,
+) -> u32
+    requires { object_of view.old ≡ None }
+    ensures { Views (object_of view.new) len.new more.new cache.old cache.new open.old open.new
+        result }
+{
+    if open.next_byte >= open.piece.len() {
+        return view_on(alloc, cache, open, view, at, len, more);
+    }
+    *more = 1;
+    hand_out(alloc, open, view, at, len)
+}
+
+// The same if nothing is left of what was read.
+fn view_on(
+    alloc: Global,
+    cache: &mut ListCache,
+    open: &mut Open,
+    view: &mut PcacheHandle,
+    at: &mut *const u8,
+    len: &mut usize,
+    more: &mut u32,
+) -> u32
+    requires rest { rest_of open.old ≡ [] }
+    requires empty { object_of view.old ≡ None }
+    ensures { Views (object_of view.new) len.new more.new cache.old cache.new open.old open.new
+        result }
+{
+    let code = fetch(cache, open, more);
+    if code != OK || *more != 1 {
+        *len = 0;
+        return code;
+    }
+    hand_out(alloc, open, view, at, len)
+}
+
+// Reads a piece, which stays with the request. Says what is to come, as `read` does.
+fn fetch(cache: &mut ListCache, open: &mut Open, more: &mut u32) -> u32
+    requires { rest_of open.old ≡ [] }
+    ensures { Fetches more.new cache.old cache.new open.old open.new result }
+{
+    if !open.request.cache.has_body_reader() {
+        return WRONG_CALL;
+    }
+    match cache.read_body(&mut open.request) {
+        Ok(Poll::Ready(Some(piece))) => {
+            open.piece = piece;
+            open.next_byte = 0;
+            *more = 1;
+        }
+        Ok(Poll::Ready(None)) => *more = number_of_end(cache.is_body_whole(&open.request)),
+        Ok(Poll::Pending) => *more = 2,
+        Err(e) => return code_of(e),
+    }
+    OK
+}
+
+// What is left of the piece, which is shared.
+fn rest_shared(open: &Open) -> Result<Bytes, AllocError>
+    ensures { IfOk result (λ b. b ≡ rest_of open.now) }
+{
+    let mut rest = open.piece.clone()?;
+    rest.advance(open.next_byte.min(rest.len()));
+    Ok(rest)
+}
+
+// Where the bytes begin.
+fn start_of(bytes: &[u8]) -> *const u8
+    ensures { result ≡ as_ptr bytes.entry }
+{
+    bytes.as_ptr()
+}
+
+// Hands out what is left of the piece. If there is no memory for it, it stays.
+fn hand_out(
+    alloc: Global,
+    open: &mut Open,
+    view: &mut PcacheHandle,
+    at: &mut *const u8,
+    len: &mut usize,
+) -> u32
+    requires { object_of view.old ≡ None }
+    ensures { HandsOut (object_of view.new) len.new open.old open.new result }
+{
+    let Ok(rest) = rest_shared(open) else {
+        return NO_MEMORY;
+    };
+    let (start, count) = (start_of(rest.as_slice()), rest.len());
+    let code = view.fill(alloc, Object::View(rest));
+    if code == OK {
+        (*at, *len) = (start, count);
+        forget_piece(open);
+    }
+    code
+}
+
+/// The length of the body that is read.
+pub(crate) fn length(cache: &ListCache, open: &Open, out: &mut usize) -> u32
+    ensures { SaysKnown (length_by open.now.request.cache.reader cache.now.store) out.new result }
+{
+    match cache.body_length(&open.request) {
+        Some(length) => {
+            *out = length;
+            OK
+        }
+        None => NONE,
+    }
+}
+
+/// Moves the reader to the bytes from `start` to before `end`.
+pub(crate) fn seek(open: &mut Open, start: usize, end: usize) -> u32
+    ensures { Seeks start end open.old open.new result }
+{
+    if !open.request.cache.has_body_reader() {
+        return WRONG_CALL;
+    }
+    match open.request.cache.seek(start, Some(end)) {
+        Ok(()) => {
+            forget_piece(open);
+            OK
+        }
+        Err(_) => BAD_VALUE,
+    }
 }
 
 /// Ends the reader.

@@ -6,6 +6,7 @@ use Rattle.std.specs.Ordering.{nat_cmp, eq_by_cmp, is_eq}
 use Rattle.std.specs.Cmp.{tied_itself}
 use Rattle.std.specs.FinMap.{FinMap, get, insert, remove, get-insert, get-remove}
 use Rattle.std.proofs.lemmas.Bool.{both_ways, eq-eqb, eqb-true, and_parts}
+use Rattle.pcache_base.specs.CompactKey.{compact_of}
 use Rattle.pcache_base.specs.Key.{Key, slot}
 use Rattle.pcache_base.specs.declared.error.ErrorType.{ErrorType}
 use Rattle.pcache_evict.specs.declared.eviction.entry_key.CacheEntryKey.{CacheEntryKey}
@@ -14,6 +15,7 @@ use Rattle.pcache_evict.specs.Tracked.{Tracked, Limits, without}
 use Rattle.pcache_lock.specs.Locks.{Locks}
 use Rattle.pcache_lock.specs.declared.lock.status.LockStatus.{LockStatus}
 use Rattle.pcache_request.specs.Finishing.{Drops, PurgesAll, Stores, Withdraws, entry_slot}
+use Rattle.pcache_request.specs.Replacing.{tracked_before, tracked_before_end, without_entry}
 use Rattle.pcache_request.specs.Requests.{Request, entry_of, settled}
 use Rattle.pcache_request.specs.WriteEnds.{Ends, EndsAs, EndsBody, EndsIdle, finishes_of}
 use Rattle.pcache_request.specs.declared.cache.finish.FinishReport.{FinishReport}
@@ -23,14 +25,14 @@ use Rattle.pcache_store.specs.Finishes.{created}
 use Rattle.pcache_store.specs.declared.storage.MissFinishType.{MissFinishType}
 use Rattle.pcache_store.specs.Purge.{entry_purged, entry_purged_in}
 use Rattle.pcache_store.specs.Store.{Store, Slot, Stored, Written, complete_body, dropped, finished, finished_on, is_untouched, is_untouched_in, is_untouched_on, is_write_under, purged, stored_on, written_size, is_idle, with_slot, slot_without, write_gone_on, body_without, has_body_of, write_purged}
-use Rattle.pcache_cache.specs.Parts.{IsKept, MayEnd, TracksExactly, is_own_write}
+use Rattle.pcache_cache.specs.Parts.{IsBounded, IsKept, MayEnd, TracksExactly, is_own_write}
 use Rattle.pcache_cache.proofs.Kept.{kept_fewer}
 use Rattle.pcache_cache.proofs.Standing.{Fewer, Stands, body-insert, body-remove, cmp_same, fewer-dropped, same-key}
-use Rattle.pcache_cache.proofs.Sums.{bounded-within, entries-apart, entry-same}
+use Rattle.pcache_cache.proofs.Sums.{bounded-fewer, bounded-within, entries-apart, entry-same}
 
 -- ---- what is evicted is purged
 
-abbrev purged_each : Store → List CacheEntryKey → Store
+abbrev pub purged_each : Store → List CacheEntryKey → Store
 purged_each s [] = s
 purged_each s (e ∷ es) = purged_each (entry_purged true s e) es
 
@@ -39,7 +41,7 @@ abbrev NoneNames : ℕ → Stored → List CacheEntryKey → Type 0
 NoneNames q b [] = Unit {0}
 NoneNames q b (e ∷ es) = (entry_slot e ≡ q → id_of e ≡ b.meta.entry_id → ⊥) × NoneNames q b es
 
-purges-each : (s t : Store) (es : List CacheEntryKey) (n : ℕ) → n ≡ 0 → PurgesAll true s es n t → t ≡ purged_each s es
+pub purges-each : (s t : Store) (es : List CacheEntryKey) (n : ℕ) → n ≡ 0 → PurgesAll true s es n t → t ≡ purged_each s es
 purges-each s t [] n none p = p.1
 purges-each s t (e ∷ es) n none (inl p) = purges-each (entry_purged true s e) t es n none p
 purges-each s t (e ∷ es) n none (inr p) = let more = p.1 in absurd (omega arith)
@@ -60,14 +62,14 @@ idle-body x idle = inner x.body (and_parts _ _ idle).0
     inner None e = refl
     inner (Some b) e = absurd (cc)
 
-body-slot : (xs : FinMap nat_cmp Slot) (k q : ℕ) (x : Slot) → complete_body (get (with_slot xs k x) q) ≡ cond (eq_by_cmp nat_cmp q k) x.body (complete_body (get xs q))
+pub body-slot : (xs : FinMap nat_cmp Slot) (k q : ℕ) (x : Slot) → complete_body (get (with_slot xs k x) q) ≡ cond (eq_by_cmp nat_cmp q k) x.body (complete_body (get xs q))
 body-slot xs k q x =
     elim (is_idle x) as (λ t. is_idle x ≡ t → complete_body (get (cond t (remove xs k) (insert xs k x)) q) ≡ cond (eq_by_cmp nat_cmp q k) x.body (complete_body (get xs q))) [
       | true ↦ λ idle. body-remove xs k q ∙ ap (λ o. cond (eq_by_cmp nat_cmp q k) o (complete_body (get xs q))) (sym (idle-body x idle))
       | false ↦ λ busy. body-insert xs k q x
     ] refl
 
-body-lost : (xs : FinMap nat_cmp Slot) (k n q : ℕ) → complete_body (get (write_gone_on xs k n (get xs k)) q) ≡ cond (eq_by_cmp nat_cmp q k) (body_without n (complete_body (get xs k))) (complete_body (get xs q))
+pub body-lost : (xs : FinMap nat_cmp Slot) (k n q : ℕ) → complete_body (get (write_gone_on xs k n (get xs k)) q) ≡ cond (eq_by_cmp nat_cmp q k) (body_without n (complete_body (get xs k))) (complete_body (get xs q))
 body-lost xs k n q =
     elim (get xs k) as (λ o. get xs k ≡ o → complete_body (get (write_gone_on xs k n o) q) ≡ cond (eq_by_cmp nat_cmp q k) (body_without n (complete_body o)) (complete_body (get xs q))) [
       | None ↦ λ is. elim (eq_by_cmp nat_cmp q k) as (λ t. eq_by_cmp nat_cmp q k ≡ t → complete_body (get xs q) ≡ cond t None (complete_body (get xs q))) [
@@ -118,10 +120,23 @@ kept-without (e ∷ out) m x q b of own none =
       | false ↦ λ t. refl
     ] refl
 
+-- ---- the entry of a replaced body goes
+
+-- each key but this one with a complete body has its entry
+abbrev pub ExactBut : ℕ → Store → Tracked → Type 0
+ExactBut k s m = (q : ℕ) (b : Stored) → q ≢ k → complete_body (get s.slots q) ≡ Some b
+    → (e : CacheEntryKey) × (entry_slot e ≡ q) × (get m e ≡ Some (length b.bytes)) × (id_of e ≡ b.meta.entry_id)
+
+pub exact-but : (s : Store) (m : Tracked) (k : Key) (replaced : Option ℕ) → TracksExactly s m → ExactBut (slot k) s (without_entry true (compact_of k) replaced m)
+exact-but s m k None exact q b ne there = exact q b there
+exact-but s m k (Some n) exact q b ne there =
+    let old = exact q b there in
+    (old.0, old.1, get-remove entries_total m (entry_of k (Some n)) old.0 ∙ ap (λ y. cond y None (get m old.0)) (entries-apart old.0 (entry_of k (Some n)) q (slot k) old.1 refl ne) ∙ old.2, old.3)
+
 -- ---- a body is stored
 
 -- what a finished write leaves complete: its own body under its key
-body-stored : (s : Store) (w : ℕ) (x : Written) (q : ℕ) → get s.writes w ≡ Some x → is_untouched s w ≡ true → complete_body (get (finished s w).slots q) ≡ cond (eq_by_cmp nat_cmp q x.slot) (Some (record { meta = x.meta; bytes = x.bytes })) (complete_body (get s.slots q))
+pub body-stored : (s : Store) (w : ℕ) (x : Written) (q : ℕ) → get s.writes w ≡ Some x → is_untouched s w ≡ true → complete_body (get (finished s w).slots q) ≡ cond (eq_by_cmp nat_cmp q x.slot) (Some (record { meta = x.meta; bytes = x.bytes })) (complete_body (get s.slots q))
 body-stored s w x q is whole =
     ap (λ o. complete_body (get (finished_on s w o).slots q)) is
     ∙ elim (get s.slots x.slot) as (λ o. is_untouched_in w o ≡ true → complete_body (get (stored_on s.slots x.slot w (record { meta = x.meta; bytes = x.bytes }) o) q) ≡ cond (eq_by_cmp nat_cmp q x.slot) (Some (record { meta = x.meta; bytes = x.bytes })) (complete_body (get s.slots q))) [
@@ -129,17 +144,17 @@ body-stored s w x q is whole =
       | Some y ↦ λ yes. body-insert s.slots x.slot q (record { body = Some (record { meta = x.meta; bytes = x.bytes }); untouched = remove y.untouched w })
     ] (sym (ap (is_untouched_on s w) is) ∙ whole)
 
-module _ (limits : Limits) (m : Tracked) (s : Store) (k : Key) (w : ℕ) (x : Written) (is : get s.writes w ≡ Some x) (of : x.slot ≡ slot k) (named : x.meta.entry_id ≡ Some w) (kept : IsKept limits m s) where
-  abbrev mine : CacheEntryKey
+module _ (limits : Limits) (m : Tracked) (s : Store) (k : Key) (w : ℕ) (x : Written) (is : get s.writes w ≡ Some x) (of : x.slot ≡ slot k) (named : x.meta.entry_id ≡ Some w) (others : ExactBut (slot k) s m) (bounded : IsBounded limits s) where
+  abbrev pub mine : CacheEntryKey
   mine = entry_of k (Some w)
 
-  abbrev admitted : Tracked
+  abbrev pub admitted : Tracked
   admitted = insert m mine (written_size (get s.writes w))
 
   size-is : written_size (get s.writes w) ≡ length x.bytes
   size-is = ap written_size is
 
-  exact-stored : (out : List CacheEntryKey) → is_untouched s w ≡ true → TracksExactly (purged_each (finished s w) out) (without out admitted)
+  pub exact-stored : (out : List CacheEntryKey) → is_untouched s w ≡ true → TracksExactly (purged_each (finished s w) out) (without out admitted)
   exact-stored out whole q b complete =
       let p = stands-each (finished s w) out q b complete in
       elim (eq_by_cmp nat_cmp q x.slot) as (λ t. eq_by_cmp nat_cmp q x.slot ≡ t → cond t (Some (record { meta = x.meta; bytes = x.bytes })) (complete_body (get s.slots q)) ≡ Some b → (e : CacheEntryKey) × (entry_slot e ≡ q) × (get (without out admitted) e ≡ Some (length b.bytes)) × (id_of e ≡ b.meta.entry_id)) [
@@ -155,8 +170,8 @@ module _ (limits : Limits) (m : Tracked) (s : Store) (k : Key) (w : ℕ) (x : Wr
               number,
             )
         | false ↦ λ t there.
-            let old = kept.exact q b there in
-            let ne : q ≢ slot k = λ same. both_ways _ t (cmp_same q x.slot ∙ eq-eqb x.slot q (of ∙ sym same)) in (
+            let ne : q ≢ slot k = λ same. both_ways _ t (cmp_same q x.slot ∙ eq-eqb x.slot q (of ∙ sym same)) in
+            let old = others q b ne there in (
               old.0,
               old.1,
               kept-without out admitted old.0 q b old.1 old.3 p.1 ∙ get-insert entries_total m mine (written_size (get s.writes w)) old.0
@@ -181,11 +196,20 @@ module _ (limits : Limits) (m : Tracked) (s : Store) (k : Key) (w : ℕ) (x : Wr
         | false ↦ λ t there. (b, there, refl, refl)
       ] refl (sym (body-stored s w x q is whole) ∙ p.0)
 
+  -- each of which has its entry
+  exact-withdrawn : is_untouched s w ≡ true → TracksExactly (purged (finished s w) (slot k)) m
+  exact-withdrawn whole q b complete =
+      let p = stands-purged (finished s w) (slot k) q b complete in
+      elim (eq_by_cmp nat_cmp q x.slot) as (λ t. eq_by_cmp nat_cmp q x.slot ≡ t → cond t (Some (record { meta = x.meta; bytes = x.bytes })) (complete_body (get s.slots q)) ≡ Some b → (e : CacheEntryKey) × (entry_slot e ≡ q) × (get m e ≡ Some (length b.bytes)) × (id_of e ≡ b.meta.entry_id)) [
+        | true ↦ λ t here. absurd (p.1 (sym of ∙ sym (same-key q x.slot t)))
+        | false ↦ λ t there. others q b (λ same. p.1 (sym same)) there
+      ] refl (sym (body-stored s w x q is whole) ∙ p.0)
+
   kept-withdrawn : (Lets : LockStatus → Type 0) (e : ErrorType) (s' : Store) (m' : Tracked) → Withdraws true Lets k w e s s' m m' → IsKept limits m' s'
   kept-withdrawn Lets e s' m' ends =
       subst (λ n. IsKept limits n s') (sym ends.tracked)
       (elim ends.purged [
-        | inl gone ↦ subst (IsKept limits m) (sym gone) (kept_fewer limits m s (purged (finished s w) (slot k)) (fewer-withdrawn ends.untouched) kept)
+        | inl gone ↦ subst (IsKept limits m) (sym gone) (record { exact = exact-withdrawn ends.untouched; bounded = bounded-fewer limits s (purged (finished s w) (slot k)) (fewer-withdrawn ends.untouched) bounded })
         | inr never ↦ let no : true ≡ false = never.0 in absurd (cc)
       ])
 
@@ -194,7 +218,7 @@ kept-drops limits Lets w e s s' m m' drops kept =
     subst (λ n. IsKept limits n s') (sym drops.tracked) (subst (IsKept limits m) (sym drops.dropped) (kept_fewer limits m s (dropped s w) (fewer-dropped s w) kept))
 
 -- a write of the key of a slot
-written-under : (k w : ℕ) (s : Store) → is_write_under k w (get s.writes w) ≡ true → (x : Written) × (get s.writes w ≡ Some x) × (x.slot ≡ k) × (x.meta.entry_id ≡ Some w)
+pub written-under : (k w : ℕ) (s : Store) → is_write_under k w (get s.writes w) ≡ true → (x : Written) × (get s.writes w ≡ Some x) × (x.slot ≡ k) × (x.meta.entry_id ≡ Some w)
 written-under k w s own =
     elim (get s.writes w) as (λ o. get s.writes w ≡ o → is_write_under k w o ≡ true → (x : Written) × (get s.writes w ≡ Some x) × (x.slot ≡ k) × (x.meta.entry_id ≡ Some w)) [
       | None ↦ λ is no. absurd (cc)
@@ -206,44 +230,56 @@ written-under k w s own =
     is-some (Some x) w h = ap Some (eqb-true x w h)
 
 -- any end of a write of a key
-pub kept_body : (limits : Limits) (Lets : LockStatus → Type 0) (k : Key) (w : ℕ) (how : WriteEnd) (s s' : Store) (m m' : Tracked) → is_write_under (slot k) w (get s.writes w) ≡ true → EndsBody in_memory true (Some w) Lets k w (created s w) limits how s s' m m' → IsKept limits m s → IsKept limits m' s'
-kept_body limits Lets k w end.Nothing s s' m m' own ends kept = absurd ends
-kept_body limits Lets k w (end.Stored f) s s' m m' own ends kept = let x = written-under (slot k) w s own in kept-stored limits m s k w x.0 x.1 x.2 x.3 kept Lets f.size f.failed_purges f.evicted.items s' m' ends
-kept_body limits Lets k w (end.Dropped e) s s' m m' own ends kept = kept-drops limits Lets w e s s' m m' ends kept
-kept_body limits Lets k w (end.Withdrawn e) s s' m m' own ends kept = let x = written-under (slot k) w s own in kept-withdrawn limits m s k w x.0 x.1 x.2 x.3 kept Lets e s' m' ends
+pub kept_body : (limits : Limits) (Lets : LockStatus → Type 0) (k : Key) (w : ℕ) (replaced : Option ℕ) (how : WriteEnd) (s s' : Store) (m m' : Tracked) → is_write_under (slot k) w (get s.writes w) ≡ true → EndsBody in_memory true (Some w) Lets k w (created s w) limits how s s' (tracked_before true k replaced how m) m' → IsKept limits m s → IsKept limits m' s'
+kept_body limits Lets k w replaced end.Nothing s s' m m' own ends kept = absurd ends
+kept_body limits Lets k w replaced (end.Stored f) s s' m m' own ends kept = let x = written-under (slot k) w s own in kept-stored limits (without_entry true (compact_of k) replaced m) s k w x.0 x.1 x.2 x.3 (exact-but s m k replaced kept.exact) kept.bounded Lets f.size f.failed_purges f.evicted.items s' m' ends
+kept_body limits Lets k w replaced (end.Dropped e) s s' m m' own ends kept = kept-drops limits Lets w e s s' m m' ends kept
+kept_body limits Lets k w replaced (end.Withdrawn e) s s' m m' own ends kept = let x = written-under (slot k) w s own in kept-withdrawn limits (without_entry true (compact_of k) replaced m) s k w x.0 x.1 x.2 x.3 (exact-but s m k replaced kept.exact) kept.bounded Lets e s' m' ends
 
 -- the same end, with what the request uses and the number of its entry apart
-abbrev EndsOf : Bool → Option ℕ → Request → Option Key → Option ℕ → MissFinishType → Limits → WriteEnd → Store → Store → Tracked → Tracked → Locks → Locks → Type 0
-EndsOf uses id r k None kind limits how s s' m m' t t' = EndsIdle how s s' m m' t t'
-EndsOf uses id r (Some k) (Some w) kind limits how s s' m m' t t' = EndsBody in_memory uses id (λ status. t' ≡ settled status r.held t) k w kind limits how s s' m m'
-EndsOf uses id r None (Some w) kind limits how s s' m m' t t' = ⊥
+abbrev pub EndsOf : Bool → Option ℕ → Option ℕ → Request → Option Key → Option ℕ → MissFinishType → Limits → WriteEnd → Store → Store → Tracked → Tracked → Locks → Locks → Type 0
+EndsOf uses id replaced r None None kind limits how s s' m m' t t' = EndsIdle how s s' m m' t t'
+EndsOf uses id replaced r (Some k) None kind limits how s s' m m' t t' = EndsIdle how s s' (tracked_before uses k replaced how m) m' t t'
+EndsOf uses id replaced r (Some k) (Some w) kind limits how s s' m m' t t' = EndsBody in_memory uses id (λ status. t' ≡ settled status r.held t) k w kind limits how s s' (tracked_before uses k replaced how m) m'
+EndsOf uses id replaced r None (Some w) kind limits how s s' m m' t t' = ⊥
 
-ends-of : (r : Request) (key : Option Key) (write : Option ℕ) (kind : MissFinishType) (limits : Limits) (how : WriteEnd) (s s' : Store) (m m' : Tracked) (t t' : Locks) → Ends in_memory r key write kind limits how s s' m m' t t' → EndsOf r.uses.eviction r.entry r key write kind limits how s s' m m' t t'
-ends-of r key None kind limits how s s' m m' t t' ends = ends
-ends-of r (Some k) (Some w) kind limits how s s' m m' t t' ends = ends
-ends-of r None (Some w) kind limits how s s' m m' t t' ends = absurd ends
+pub ends-of : (r : Request) (replaced : Option ℕ) (key : Option Key) (write : Option ℕ) (kind : MissFinishType) (limits : Limits) (how : WriteEnd) (s s' : Store) (m m' : Tracked) (t t' : Locks) → Ends in_memory r key write kind limits how s s' (tracked_before_end r key replaced how m) m' t t' → EndsOf r.uses.eviction r.entry replaced r key write kind limits how s s' m m' t t'
+ends-of r replaced None None kind limits how s s' m m' t t' ends = ends
+ends-of r replaced (Some k) None kind limits how s s' m m' t t' ends = ends
+ends-of r replaced (Some k) (Some w) kind limits how s s' m m' t t' ends = ends
+ends-of r replaced None (Some w) kind limits how s s' m m' t t' ends = absurd ends
 
-kept-ends : (limits : Limits) (r : Request) (uses : Bool) (id : Option ℕ) (key : Option Key) (write : Option ℕ) (how : WriteEnd) (s s' : Store) (m m' : Tracked) (t t' : Locks)
-    → uses ≡ true → id ≡ write → is_own_write s key write ≡ true → EndsOf uses id r key write (finishes_of (created s) write) limits how s s' m m' t t' → IsKept limits m s → IsKept limits m' s'
-kept-ends limits r uses id key None end.Nothing s s' m m' t t' used none own ends kept = subst (IsKept limits m') (sym ends.0) (subst (λ n. IsKept limits n s) (sym ends.1) kept)
-kept-ends limits r uses id key None (end.Stored f) s s' m m' t t' used none own ends kept = absurd ends
-kept-ends limits r uses id key None (end.Dropped e) s s' m m' t t' used none own ends kept = absurd ends
-kept-ends limits r uses id key None (end.Withdrawn e) s s' m m' t t' used none own ends kept = absurd ends
-kept-ends limits r uses id None (Some w) how s s' m m' t t' used none own ends kept = absurd (cc)
-kept-ends limits r uses id (Some k) (Some w) how s s' m m' t t' used none own ends kept =
-    kept_body limits (λ status. t' ≡ settled status r.held t) k w how s s' m m' own
-    (subst (λ i. EndsBody in_memory true i (λ status. t' ≡ settled status r.held t) k w (created s w) limits how s s' m m') none (subst (λ u. EndsBody in_memory u id (λ status. t' ≡ settled status r.held t) k w (created s w) limits how s s' m m') used ends)) kept
+kept-idle : (limits : Limits) (how : WriteEnd) (s s' : Store) (m m' : Tracked) (t t' : Locks) → EndsIdle how s s' m m' t t' → IsKept limits m s → IsKept limits m' s'
+kept-idle limits end.Nothing s s' m m' t t' ends kept = subst (IsKept limits m') (sym ends.0) (subst (λ n. IsKept limits n s) (sym ends.1) kept)
+kept-idle limits (end.Stored f) s s' m m' t t' ends kept = absurd ends
+kept-idle limits (end.Dropped e) s s' m m' t t' ends kept = absurd ends
+kept-idle limits (end.Withdrawn e) s s' m m' t t' ends kept = absurd ends
 
-kept-by : (limits : Limits) (r : Request) (s s' : Store) (m m' : Tracked) (t t' : Locks) (how : WriteEnd) → MayEnd s r → r.entry ≡ r.write → Ends in_memory r r.key r.write (finishes_of (created s) r.write) limits how s s' m m' t t' → IsKept limits m s → IsKept limits m' s'
-kept-by limits r s s' m m' t t' how may none ends kept =
-    kept-ends limits r r.uses.eviction r.entry r.key r.write how s s' m m' t t' may.uses none may.own (ends-of r r.key r.write (finishes_of (created s) r.write) limits how s s' m m' t t' ends) kept
+pub idle-before : (uses : Bool) (replaced : Option ℕ) (k : Key) (how : WriteEnd) (s s' : Store) (m m' : Tracked) (t t' : Locks) → EndsIdle how s s' (tracked_before uses k replaced how m) m' t t' → EndsIdle how s s' m m' t t'
+idle-before uses replaced k end.Nothing s s' m m' t t' ends = ends
+idle-before uses replaced k (end.Stored f) s s' m m' t t' ends = absurd ends
+idle-before uses replaced k (end.Dropped e) s s' m m' t t' ends = absurd ends
+idle-before uses replaced k (end.Withdrawn e) s s' m m' t t' ends = absurd ends
 
-pub kept_finished : (limits : Limits) (r : Request) (s s' : Store) (m m' : Tracked) (t t' : Locks) (result : Result (Option FinishReport) ErrorType) → MayEnd s r → r.entry ≡ r.write
-    → EndsAs result (λ how. Ends in_memory r r.key r.write (finishes_of (created s) r.write) limits how s s' m m' t t') → IsKept limits m s → IsKept limits m' s'
-kept_finished limits r s s' m m' t t' (Ok None) may none ends kept = kept-by limits r s s' m m' t t' end.Nothing may none ends kept
-kept_finished limits r s s' m m' t t' (Ok (Some f)) may none ends kept = kept-by limits r s s' m m' t t' (end.Stored f) may none ends kept
-kept_finished limits r s s' m m' t t' (Err e) may none (inl ends) kept = kept-by limits r s s' m m' t t' (end.Dropped e) may none ends kept
-kept_finished limits r s s' m m' t t' (Err e) may none (inr ends) kept = kept-by limits r s s' m m' t t' (end.Withdrawn e) may none ends kept
+kept-ends : (limits : Limits) (r : Request) (uses : Bool) (id replaced : Option ℕ) (key : Option Key) (write : Option ℕ) (how : WriteEnd) (s s' : Store) (m m' : Tracked) (t t' : Locks)
+    → uses ≡ true → id ≡ write → is_own_write s key write ≡ true → EndsOf uses id replaced r key write (finishes_of (created s) write) limits how s s' m m' t t' → IsKept limits m s → IsKept limits m' s'
+kept-ends limits r uses id replaced None None how s s' m m' t t' used none own ends kept = kept-idle limits how s s' m m' t t' ends kept
+kept-ends limits r uses id replaced (Some k) None how s s' m m' t t' used none own ends kept = kept-idle limits how s s' m m' t t' (idle-before uses replaced k how s s' m m' t t' ends) kept
+kept-ends limits r uses id replaced None (Some w) how s s' m m' t t' used none own ends kept = absurd (cc)
+kept-ends limits r uses id replaced (Some k) (Some w) how s s' m m' t t' used none own ends kept =
+    kept_body limits (λ status. t' ≡ settled status r.held t) k w replaced how s s' m m' own
+    (subst (λ i. EndsBody in_memory true i (λ status. t' ≡ settled status r.held t) k w (created s w) limits how s s' (tracked_before true k replaced how m) m') none (subst (λ u. EndsBody in_memory u id (λ status. t' ≡ settled status r.held t) k w (created s w) limits how s s' (tracked_before u k replaced how m) m') used ends)) kept
+
+kept-by : (limits : Limits) (r : Request) (replaced : Option ℕ) (s s' : Store) (m m' : Tracked) (t t' : Locks) (how : WriteEnd) → MayEnd s r → r.entry ≡ r.write → Ends in_memory r r.key r.write (finishes_of (created s) r.write) limits how s s' (tracked_before_end r r.key replaced how m) m' t t' → IsKept limits m s → IsKept limits m' s'
+kept-by limits r replaced s s' m m' t t' how may none ends kept =
+    kept-ends limits r r.uses.eviction r.entry replaced r.key r.write how s s' m m' t t' may.uses none may.own (ends-of r replaced r.key r.write (finishes_of (created s) r.write) limits how s s' m m' t t' ends) kept
+
+pub kept_finished : (limits : Limits) (r : Request) (replaced : Option ℕ) (s s' : Store) (m m' : Tracked) (t t' : Locks) (result : Result (Option FinishReport) ErrorType) → MayEnd s r → r.entry ≡ r.write
+    → EndsAs result (λ how. Ends in_memory r r.key r.write (finishes_of (created s) r.write) limits how s s' (tracked_before_end r r.key replaced how m) m' t t') → IsKept limits m s → IsKept limits m' s'
+kept_finished limits r replaced s s' m m' t t' (Ok None) may none ends kept = kept-by limits r replaced s s' m m' t t' end.Nothing may none ends kept
+kept_finished limits r replaced s s' m m' t t' (Ok (Some f)) may none ends kept = kept-by limits r replaced s s' m m' t t' (end.Stored f) may none ends kept
+kept_finished limits r replaced s s' m m' t t' (Err e) may none (inl ends) kept = kept-by limits r replaced s s' m m' t t' (end.Dropped e) may none ends kept
+kept_finished limits r replaced s s' m m' t t' (Err e) may none (inr ends) kept = kept-by limits r replaced s s' m m' t t' (end.Withdrawn e) may none ends kept
 
 -- the entry of a write of the store in memory has the write's number
 pub same-number : {X : Type 0} (number : X → ℕ) (o : Option X) → option_and_then (λ x. Some (number x)) o ≡ option_map number o

@@ -7,7 +7,7 @@ use Rattle.pcache_evict.specs.Tracked.{Tracked, Limits}
 use Rattle.pcache_meta.specs.Meta.{Meta}
 use Rattle.pcache_put.specs.Progress.{Parsed}
 use Rattle.pcache_put_ctx.specs.State.{Stage, InHead, InBody, HasDeclined, IsOver, entry_in, write_in}
-use Rattle.pcache_put_ctx.specs.Steps.{EndsAs, EndsPut, EndsEarly, stage_begun, store_after, store_begun, store_left, store_wrote, write_end}
+use Rattle.pcache_put_ctx.specs.Steps.{EndsAs, EndsPut, EndsEarly, stage_begun, store_after, store_begun, store_left, store_wrote, tracked_before_put, write_end}
 use Rattle.pcache_put_ctx.specs.declared.report.PutEnd.{PutEnd}
 use Rattle.pcache_put_ctx.specs.declared.report.PutEnd.TheVariants as end
 use Rattle.pcache_put_ctx.specs.declared.report.PutOutcome.{PutOutcome}
@@ -71,21 +71,21 @@ own_nothing t k now stage at none = subst (λ x. is_own_write t (Some k) x ≡ t
 
 -- ---- the end
 
-kept-early : (limits : Limits) (parser : Parsed) (w : ℕ) (how : PutEnd) (s s' : Store) (m m' : Tracked) → EndsEarly parser w how s s' m m' → IsKept limits m s → IsKept limits m' s'
-kept-early limits parser w how s s' m m' ends kept =
-    subst (λ n. IsKept limits n s') (sym ends.4) (subst (IsKept limits m) (sym ends.3) (kept_fewer limits m s (dropped s w) (fewer-dropped s w) kept))
+kept-early : (limits : Limits) (k : Key) (parser : Parsed) (w : ℕ) (replaced : Option ℕ) (how : PutEnd) (s s' : Store) (m m' : Tracked) → EndsEarly parser w how s s' (tracked_before_put k replaced how m) m' → IsKept limits m s → IsKept limits m' s'
+kept-early limits k parser w replaced how s s' m m' ends kept =
+    subst (λ n. IsKept limits n s') (sym (ends.4 ∙ ap (λ h. tracked_before_put k replaced h m) ends.2)) (subst (IsKept limits m) (sym ends.3) (kept_fewer limits m s (dropped s w) (fewer-dropped s w) kept))
 
 kept-still : (limits : Limits) (s s' : Store) (m m' : Tracked) → s' ≡ s → m' ≡ m → IsKept limits m s → IsKept limits m' s'
 kept-still limits s s' m m' store tracked kept = subst (λ n. IsKept limits n s') (sym tracked) (subst (IsKept limits m) (sym store) kept)
 
-kept-put : (limits : Limits) (k : Key) (parser : Parsed) (stage : Stage) (how : PutEnd) (s s' : Store) (m m' : Tracked) → entry_in stage ≡ write_in stage → is_own_write s (Some k) (write_in stage) ≡ true
-    → EndsPut in_memory k parser (created s) limits stage how s s' m m' → IsKept limits m s → IsKept limits m' s'
-kept-put limits k parser InHead how s s' m m' named own ends kept = kept-still limits s s' m m' ends.1.0 ends.1.1 kept
-kept-put limits k parser (HasDeclined reason) how s s' m m' named own ends kept = kept-still limits s s' m m' ends.1.0 ends.1.1 kept
-kept-put limits k parser (IsOver kind) how s s' m m' named own ends kept = kept-still limits s s' m m' ends.1.0 ends.1.1 kept
-kept-put limits k parser (InBody w id fresh_until) how s s' m m' named own (inl early) kept = kept-early limits parser w how s s' m m' early kept
-kept-put limits k parser (InBody w id fresh_until) how s s' m m' named own (inr ends) kept =
-    kept_body limits HoldsNoLock k w (write_end how) s s' m m' own (subst (λ i. EndsBody in_memory true i HoldsNoLock k w (created s w) limits (write_end how) s s' m m') named ends) kept
+kept-put : (limits : Limits) (k : Key) (parser : Parsed) (stage : Stage) (replaced : Option ℕ) (how : PutEnd) (s s' : Store) (m m' : Tracked) → entry_in stage ≡ write_in stage → is_own_write s (Some k) (write_in stage) ≡ true
+    → EndsPut in_memory k parser (created s) limits stage how s s' (tracked_before_put k replaced how m) m' → IsKept limits m s → IsKept limits m' s'
+kept-put limits k parser InHead replaced how s s' m m' named own ends kept = kept-still limits s s' m m' ends.1.0 (ends.1.1 ∙ ap (λ h. tracked_before_put k replaced h m) ends.0) kept
+kept-put limits k parser (HasDeclined reason) replaced how s s' m m' named own ends kept = kept-still limits s s' m m' ends.1.0 (ends.1.1 ∙ ap (λ h. tracked_before_put k replaced h m) ends.0) kept
+kept-put limits k parser (IsOver kind) replaced how s s' m m' named own ends kept = kept-still limits s s' m m' ends.1.0 (ends.1.1 ∙ ap (λ h. tracked_before_put k replaced h m) ends.0) kept
+kept-put limits k parser (InBody w id fresh_until) replaced how s s' m m' named own (inl early) kept = kept-early limits k parser w replaced how s s' m m' early kept
+kept-put limits k parser (InBody w id fresh_until) replaced how s s' m m' named own (inr ends) kept =
+    kept_body limits HoldsNoLock k w replaced (write_end how) s s' m m' own (subst (λ i. EndsBody in_memory true i HoldsNoLock k w (created s w) limits (write_end how) s s' (tracked_before_put k replaced how m) m') named ends) kept
 
 -- what holds however a put ended
 any-end : {A : Type 0} {P : PutEnd → Type 0} (result : Result PutOutcome ErrorType) → ((how : PutEnd) → P how → A) → EndsAs result P → A
@@ -95,6 +95,6 @@ any-end (Err e) f (inl ends) = f (end.Refused e) ends
 any-end (Err e) f (inr (inl ends)) = f (end.Dropped e) ends
 any-end (Err e) f (inr (inr ends)) = f (end.Withdrawn e) ends
 
-pub kept_put_ended : (limits : Limits) (k : Key) (parser : Parsed) (stage : Stage) (s s' : Store) (m m' : Tracked) (result : Result PutOutcome ErrorType) → entry_in stage ≡ write_in stage → is_own_write s (Some k) (write_in stage) ≡ true
-    → EndsAs result (λ how. EndsPut in_memory k parser (created s) limits stage how s s' m m') → IsKept limits m s → IsKept limits m' s'
-kept_put_ended limits k parser stage s s' m m' result named own ends kept = any-end result (λ how e. kept-put limits k parser stage how s s' m m' named own e kept) ends
+pub kept_put_ended : (limits : Limits) (k : Key) (parser : Parsed) (stage : Stage) (replaced : Option ℕ) (s s' : Store) (m m' : Tracked) (result : Result PutOutcome ErrorType) → entry_in stage ≡ write_in stage → is_own_write s (Some k) (write_in stage) ≡ true
+    → EndsAs result (λ how. EndsPut in_memory k parser (created s) limits stage how s s' (tracked_before_put k replaced how m) m') → IsKept limits m s → IsKept limits m' s'
+kept_put_ended limits k parser stage replaced s s' m m' result named own ends kept = any-end result (λ how e. kept-put limits k parser stage replaced how s s' m m' named own e kept) ends

@@ -54,7 +54,7 @@ fewer-remove xs k q b is =
 
 -- ---- each change of a store
 
-new-body : (o : Option Slot) → (slot_or_new o).body ≡ complete_body o
+pub new-body : (o : Option Slot) → (slot_or_new o).body ≡ complete_body o
 new-body None = refl
 new-body (Some x) = refl
 

@@ -128,7 +128,7 @@ module _ (f : Slot → ℕ) (g : ℕ → ℕ) where
 
 -- ---- the bound
 
-sized : (f : Stored → ℕ) (o : Option Slot) → share (λ (x : Slot). share f x.body) o ≡ share f (complete_body o)
+pub sized : (f : Stored → ℕ) (o : Option Slot) → share (λ (x : Slot). share f x.body) o ≡ share f (complete_body o)
 sized f None = refl
 sized f (Some x) = refl
 
@@ -162,7 +162,7 @@ bounded-fewer limits s t fewer b = record {
 }
 
 -- a measure of what is complete under a key, against that of the key's entry
-tracked-at : (f : Stored → ℕ) (g : ℕ → ℕ) → ((b : Stored) → f b ≡ g (length b.bytes)) → (s : Store) (m : Tracked) → TracksExactly s m → (q : ℕ) → (share (λ (x : Slot). share f x.body) (get s.slots q) ≡ 0) ⊎ HasEntry (λ (x : Slot). share f x.body) g s.slots m q
+pub tracked-at : (f : Stored → ℕ) (g : ℕ → ℕ) → ((b : Stored) → f b ≡ g (length b.bytes)) → (s : Store) (m : Tracked) → TracksExactly s m → (q : ℕ) → (share (λ (x : Slot). share f x.body) (get s.slots q) ≡ 0) ⊎ HasEntry (λ (x : Slot). share f x.body) g s.slots m q
 tracked-at f g same s m exact q =
     elim (complete_body (get s.slots q)) as (λ o. complete_body (get s.slots q) ≡ o → (share (λ (x : Slot). share f x.body) (get s.slots q) ≡ 0) ⊎ HasEntry (λ (x : Slot). share f x.body) g s.slots m q) [
       | None ↦ λ is. inl (sized f (get s.slots q) ∙ ap (share f) is)

@@ -7,7 +7,10 @@ use Rattle.pcache_evict.specs.Tracked.{Tracked, Limits, Evicted}
 use Rattle.pcache_evict.specs.declared.eviction.entry_key.CacheEntryKey.{CacheEntryKey}
 use Rattle.pcache_lock.specs.Locks.{Locks}
 use Rattle.pcache_request.specs.Finishing.{entry_slot}
+use Rattle.pcache_request.specs.Replacing.{tracked_before_end}
 use Rattle.pcache_request.specs.Requests.{Request}
+use Rattle.pcache_request.specs.declared.cache.finish.WriteEnd.{WriteEnd}
+use Rattle.pcache_store.specs.Finishes.{body_number}
 use Rattle.pcache_store.specs.Store.{Store, Stored, complete_body, is_told, is_write_under, wrote}
 use Rattle.pcache_store.specs.Totals.{stored_bytes, slots}
 
@@ -55,3 +58,13 @@ takes_bytes s (Some w) = not (is_told (get s.writes w))
 abbrev pub written_by : Option ℕ → List ℕ → Bool → Store → Store
 written_by None bytes eof s = s
 written_by (Some w) bytes eof s = cond (is_told (get s.writes w)) s (wrote s w bytes eof)
+
+-- the number of the body that the end of a write of this key replaces, if one is complete
+abbrev pub replaced_in : Store → Option Key → Option ℕ
+replaced_in s None = None
+replaced_in s (Some k) = body_number s (slot k)
+
+-- what is tracked when the write of a request that ended so has its entry admitted: if its body was stored, without the entry of
+-- the body that it replaced
+abbrev pub tracked_at_end : Parts → Request → WriteEnd → Tracked
+tracked_at_end p r how = tracked_before_end r r.key (replaced_in p.store r.key) how p.tracked

@@ -50,7 +50,7 @@ impl<M: EvictionManager, K> Model for Cache<M, K> {
 
     ghost coded = { parts_code };
 
-    ghost view = { λ c. record { store = c.store; tracked = M.tracked c.manager; limits = M.limits c.manager; evicted = M.evicted c.manager; locks = c.lock } };
+    ghost view = { λ c. record { store = c.store; tracked = M.tracked c.manager; limits = M.limits c.manager; evicted = M.evicted c.manager; locks = c.lock.table } };
 
     ghost invariant = { λ c. IsKept (M.limits c.manager) (M.tracked c.manager) c.store };
 }

@@ -84,8 +84,8 @@ impl<M: EvictionManager, K> Cache<M, K> {
         store_in(&mut put.put, read, &mut self.store)
     }
 
-    /// `CachePutCtx::finish`: ends the put once all pieces have come. The body is stored and its entry admitted, and what is
-    /// evicted for it is purged. If the put ends too early, or the end of its write fails, nothing is stored, and the write is
+    /// `CachePutCtx::finish_replacing`: ends the put once all pieces have come. The body is stored and its entry admitted, and what is
+    /// evicted for it is purged. The entry of the body that stood under the key until then is taken out first. If the put ends too early, or the end of its write fails, nothing is stored, and the write is
     /// dropped; if the admission fails, the body is purged again. Requires a write of this cache, if there is one; ask
     /// `may_end_put`.
     pub fn finish_put<C: CachePut>(&mut self, put: &mut PendingPut<C, K>) -> Result<PutOutcome>
@@ -106,7 +106,9 @@ impl<M: EvictionManager, K> Cache<M, K> {
         // For the prover: the contract of the call says that the entry of the write has the write's
         // number.
         let _writer = put.put.writer();
-        put.put.finish(&mut self.store, &mut self.manager)
+        let replaced = self.store.body_number(put.put.key());
+        put.put
+            .finish_replacing(&mut self.store, &mut self.manager, replaced)
     }
 
     /// Ends the put, and drops a write that is still in flight.

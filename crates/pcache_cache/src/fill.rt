@@ -1,12 +1,12 @@
 //! Writes: their begin, their pieces and their end.
 ghost use Rattle.std.specs.Prelude.{◌≡◌};
-ghost use Rattle.pcache_cache.specs.Parts.{is_own_write};
+ghost use Rattle.pcache_cache.specs.Parts.{is_own_write, replaced_in};
 
 use crate::cache::Cache;
 use crate::request::CacheRequest;
 use bytes::Bytes;
 use pcache_base::error::Result;
-use pcache_evict::eviction::EvictionManager;
+use pcache_evict::eviction::{CacheEntryId, EvictionManager};
 use pcache_request::cache::{FinishReport, HttpCache};
 use pcache_store::memory::MemCache;
 use pcache_store::storage::HandleMiss;
@@ -22,7 +22,7 @@ impl<M: EvictionManager, K> Cache<M, K> {
     ghost use Rattle.pcache_store.specs.Finishes.{created};
     ghost use Rattle.pcache_store.specs.Readers.{in_memory};
     ghost use Rattle.pcache_store.specs.Refusals.{MayFailWrite};
-    ghost use Rattle.pcache_cache.specs.Parts.{MayEnd, takes_bytes, written_by};
+    ghost use Rattle.pcache_cache.specs.Parts.{MayEnd, takes_bytes, tracked_at_end, written_by};
 
     /// `HttpCache::set_miss_handler`: begins the write. Requires a phase in which a write may be made, a meta, and no write; ask
     /// `may_write` of the request.
@@ -81,7 +81,8 @@ impl<M: EvictionManager, K> Cache<M, K> {
         Ok(true)
     }
 
-    /// `HttpCache::finish_miss_handler`: ends the write and stores the body, whose entry is admitted; what is evicted for it is purged.
+    /// `HttpCache::finish_replacing`: ends the write and stores the body, whose entry is admitted; what is evicted for it is purged.
+    /// The entry of the body that stood under the key until then is taken out first, so that it neither counts nor evicts anything.
     /// Requires a phase in which a write may be made, and a write of this cache; ask `may_end`.
     pub fn finish_miss_handler(
         &mut self,
@@ -92,20 +93,20 @@ impl<M: EvictionManager, K> Cache<M, K> {
         ensures request { request.new.cache ≡ after_finish request.old.cache }
         ensures end { EndsAs result (λ end. Ends in_memory request.old.cache request.old.cache.key
             request.old.cache.write (finishes_of (created self.old.store) request.old.cache.write)
-            self.old.limits end self.old.store self.new.store self.old.tracked self.new.tracked
-            self.old.locks self.new.locks) }
+            self.old.limits end self.old.store self.new.store
+            (tracked_at_end self.old request.old.cache end) self.new.tracked self.old.locks
+            self.new.locks) }
         ensures evicted { EndsAs result (λ end. self.new.evicted
             ≡ evicted_after request.old.cache request.old.cache.key
-            (finishes_of (created self.old.store) request.old.cache.write) self.old.tracked
-            self.old.evicted end) }
+            (finishes_of (created self.old.store) request.old.cache.write)
+            (tracked_at_end self.old request.old.cache end) self.old.evicted end) }
         ensures limits { self.new.limits ≡ self.old.limits }
     {
         // For the prover: the contract of the call says that the entry of the write has the write's
         // number.
         let _writer = request.cache.writer();
-        request
-            .cache
-            .finish_miss_handler(&mut self.store, &mut self.manager, &mut self.lock)
+        let replaced = replaced_by(&self.store, &request.cache);
+        request.cache.finish_replacing(&mut self.store, &mut self.manager, &mut self.lock, replaced)
     }
 }
 
@@ -119,5 +120,15 @@ pub(crate) fn is_own_write(store: &MemCache, request: &HttpCache<MemCache>) -> b
     match request.key() {
         Some(key) => store.has_write(key, writer.number()),
         None => false,
+    }
+}
+
+// The number of the body that the end of a request's write replaces.
+fn replaced_by(store: &MemCache, request: &HttpCache<MemCache>) -> Option<CacheEntryId>
+    ensures { result ≡ replaced_in store.now request.now.key }
+{
+    match request.key() {
+        Some(key) => store.body_number(key),
+        None => None,
     }
 }

@@ -23,7 +23,7 @@ impl<M: EvictionManager, K> Cache<M, K> {
     ghost use Rattle.pcache_request.specs.Phases.{IsDisabled, MayFinishHit, MayLookUp};
     ghost use Rattle.pcache_request.specs.Releasing.{MayDisable, disabled_for, status_for};
     ghost use Rattle.pcache_request.specs.Reports.{name_of};
-    ghost use Rattle.pcache_request.specs.Requests.{HoldsNothing, asks_for_hit, dropped_by, found_row, left_by, let_go_by, settled, store_found, table_found, tracked_found, without_reader};
+    ghost use Rattle.pcache_request.specs.Requests.{HoldsNothing, asks_for_hit, dropped_by, found_row, left_by, length_by, let_go_by, settled, store_found, table_found, tracked_found, whole_by, without_reader};
     ghost use Rattle.pcache_request.specs.Variants.{asks_unseen, hides_for, looked_for, searched, seen_for, table_looked_for};
     ghost use Rattle.pcache_store.specs.Readers.{reader_of};
     ghost use Rattle.pcache_store.specs.Store.{gives_piece, left, read_of, reader_after, write_read};
@@ -178,6 +178,21 @@ impl<M: EvictionManager, K> Cache<M, K> {
         ensures rest { self.new ≡ self.old }
     {
         request.cache.read_body(&mut self.store)
+    }
+
+    /// `HttpCache::is_body_whole`: whether all was given that was to be read; `false` after the end says that the body was cut
+    /// off.
+    pub fn is_body_whole(&self, request: &CacheRequest<K>) -> bool
+        ensures { result ≡ whole_by request.now.cache.reader self.now.store }
+    {
+        request.cache.is_body_whole(&self.store)
+    }
+
+    /// `HttpCache::body_length`: the length of the body that is read, if its end is known, in bytes.
+    pub fn body_length(&self, request: &CacheRequest<K>) -> Option<usize>
+        ensures { result ≡ length_by request.now.cache.reader self.now.store }
+    {
+        request.cache.body_length(&self.store)
     }
 
     /// `HttpCache::finish_hit_handler`: ends the reader.

@@ -12,6 +12,7 @@ use pcache_base::error::Result;
 use pcache_base::moment::Moment;
 
 mod entry_key;
+pub mod ordered;
 mod recency;
 pub mod sharded_lru;
 mod shards;

@@ -68,6 +68,10 @@ untold-next limits m es q o None (E.Wrote w bytes eof) due untold low = λ x h.
     let lt : w < begun es = subst (λ z. IsBelow z es) due low in
     ap (λ b. if b then eof else is_told x es) (ne_eqb w x (λ same. omega arith)) ∙ untold x h
 untold-next limits m es q o (Some n) (E.Wrote w bytes eof) due untold low = absurd due
+untold-next limits m es q o None (E.Finish w true) due untold low = λ x h.
+    let lt : w < begun es = subst (λ z. IsBelow z es) due.0 low in
+    ap (λ b. if b then true else is_told x es) (ne_eqb w x (λ same. omega arith)) ∙ untold x h
+untold-next limits m es q o (Some n) (E.Finish w true) due untold low = absurd due
 untold-next limits m es q o owed e due untold low = untold
 
 -- what is announced with one event
@@ -109,6 +113,10 @@ tells-away limits m es q o None (E.Wrote x bytes eof) pieces w due other h =
     let apart : x ≢ w = λ same. other (due ∙ ap Some same) in
     λ told. h (sym (ap (λ b. if b then eof else is_told w es) (ne_eqb x w apart)) ∙ told)
 tells-away limits m es q o (Some y) (E.Wrote x bytes eof) pieces w due other h = absurd due
+tells-away limits m es q o None (E.Finish x true) pieces w due other h =
+    let apart : x ≢ w = λ same. other (due.0 ∙ ap Some same) in
+    λ told. h (sym (ap (λ b. if b then true else is_told w es) (ne_eqb x w apart)) ∙ told)
+tells-away limits m es q o (Some y) (E.Finish x true) pieces w due other h = absurd due
 tells-away limits m es q o owed e pieces w due other h = h
 
 run-away : (limits : Limits) (start : Tracked) (q : Option Ongoing) (events es : List Event) (o : Option ℕ) (owed : Option Owed) (o' : Option ℕ) (pieces : List Piece) (w : ℕ) → AreDue limits start es q o owed events o' → w < begun es → (o ≡ Some w → ⊥) → Tells pieces (Some w) es → Tells pieces (Some w) (reverse events ++ es)

@@ -137,7 +137,7 @@ tidy-finish es w k m is whole fly t =
       unbegun = t.unbegun;
       not_ended = λ q h. ap (λ b. b || has_ended q es) (ne_eqb w q (omega arith)) ∙ t.not_ended q h;
       no_body = t.no_body;
-      not_told = t.not_told;
+      not_told = λ q h. ap (λ b. if b then true else is_told q es) (ne_eqb w q (omega arith)) ∙ t.not_told q h;
       not_stored = λ q h. ap (λ b. b || was_stored q es) (ne_eqb w q (omega arith)) ∙ t.not_stored q h;
       finished = λ x q last.
           elim (is_of x w es) as (λ b. is_of x w es ≡ b → (if b then Some w else last_finished x es) ≡ Some q → (((w == q) || has_ended q es) ≡ true) × (is_of x q es ≡ true) × (((w == q) || was_stored q es) ≡ true)) [

@@ -47,9 +47,10 @@ abbrev pub with_bytes_of : ℕ → Event → List ℕ → List ℕ
 with_bytes_of w (Wrote x bytes eof) before = if x == w then before ++ bytes else before
 with_bytes_of w _ before = before
 
--- whether the end of a write was announced, after one more event
+-- whether the end of a write is known, after one more event: it is announced, or the write is finished
 abbrev pub told_at : ℕ → Event → Bool → Bool
 told_at w (Wrote x bytes eof) before = if x == w then eof else before
+told_at w (Finish x true) before = if x == w then true else before
 told_at w _ before = before
 
 -- whether it ends the write, and whether it stores the write
@@ -166,7 +167,7 @@ abbrev pub body_of : ℕ → List Event → List ℕ
 body_of w [] = []
 body_of w (e ∷ es) = with_bytes_of w e (body_of w es)
 
--- whether the end of the write was announced
+-- whether the end of the write is known: it was announced, or the write was finished
 abbrev pub is_told : ℕ → List Event → Bool
 is_told w [] = false
 is_told w (e ∷ es) = told_at w e (is_told w es)

@@ -11,7 +11,7 @@ use Rattle.pcache_lock.specs.declared.lock.status.LockStatus.{LockStatus}
 use Rattle.pcache_lock.specs.declared.lock.status.LockStatus.TheVariants as status
 use Rattle.pcache_lock.specs.Statuses.{IsReason, is_free, is_waiting, is_aged}
 use Rattle.pcache_lock.specs.Permits.{Core, new_core, is_named, with_reader, without_reader, spent, dropped_status}
-use Rattle.pcache_lock.specs.Locks.{Locks, no_locks, holder, after_request, with_read_lock, without_entry, kept, released_on, let_go, permit_dropped, reader_dropped, changed, ended, with_free_permit}
+use Rattle.pcache_lock.specs.Locks.{Locks, no_locks, no_locks_from, holder, after_request, with_read_lock, without_entry, kept, released_on, let_go, permit_dropped, reader_dropped, changed, ended, with_free_permit}
 use Rattle.pcache_lock.specs.Waiting.{after_poll, table_at, permit_state, aged, with_publication}
 use Rattle.pcache_lock.specs.Waits.{Call, Asked, Released, LetGo, Polled, Published, Made, ReadLocked, Unlocked, is_unlock, Leads, LeadsAll, OneWaitsAlways, AskFindsTheWaitingAlways, waiting_slot, waits_under}
 use Rattle.pcache_lock.proofs.Tidy.{Tidy, Stands, is_open, or_kept, put_tidy, left_tidy, none_some, asked_tidy, found, asked_waits}
@@ -39,10 +39,10 @@ not_both : {P : Type 0} (b : Bool) → (b && false) ≡ true → P
 not_both true h = never h
 not_both false h = never h
 
-or_first : (a b : Bool) → a ≡ true → (a || b) ≡ true
+pub or_first : (a b : Bool) → a ≡ true → (a || b) ≡ true
 or_first a b e = ap (λ x. x || b) e
 
-or_second : (a b : Bool) → b ≡ true → (a || b) ≡ true
+pub or_second : (a b : Bool) → b ≡ true → (a || b) ≡ true
 or_second true b e = refl
 or_second false b e = e
 
@@ -57,12 +57,15 @@ reason_ends status.WaitTimeout r = absurd r
 reason_ends status.AgeTimeout r = refl
 
 module _ (unlocks : Bool) where
-  pub start_tidy : (age : ℕ) → Tidy unlocks (no_locks age)
-  start_tidy age = record {
-    entries = λ slot n h. none_some (get (no_locks age).current slot) n (get-empty nat_cmp slot) h;
-    waiting = λ slot n h. none_some (waits_under (no_locks age) n) slot (ap waiting_slot (get-empty nat_cmp n)) h;
+  pub start_tidy_from : (start age : ℕ) → Tidy unlocks (no_locks_from start age)
+  start_tidy_from start age = record {
+    entries = λ slot n h. none_some (get (no_locks_from start age).current slot) n (get-empty nat_cmp slot) h;
+    waiting = λ slot n h. none_some (waits_under (no_locks_from start age) n) slot (ap waiting_slot (get-empty nat_cmp n)) h;
     unused = λ n le. get-empty nat_cmp n;
   }
+
+  pub start_tidy : (age : ℕ) → Tidy unlocks (no_locks age)
+  start_tidy age = start_tidy_from 0 age
 
   -- a lock written back, or gone with its entry
   kept_by : (b : Bool) (t : Locks) (n : ℕ) (c d : Core) → get t.cores n ≡ Some c → d.slot ≡ c.slot → ((unlocks || is_open c) ≡ true → (unlocks || is_open d) ≡ true) → ((d.held && is_waiting d.status) ≡ true → (c.held && is_waiting c.status) ≡ true) → Tidy unlocks t
@@ -160,7 +163,7 @@ module _ (unlocks : Bool) where
   either (inl e) a b = subst (Tidy unlocks) (sym e) a
   either (inr e) a b = subst (Tidy unlocks) (sym e) b
 
-  call_tidy : (call : Call) (s t : Locks) → Leads call s t → (is_unlock call ≡ true → unlocks ≡ true) → Tidy unlocks s → Tidy unlocks t
+  pub call_tidy : (call : Call) (s t : Locks) → Leads call s t → (is_unlock call ≡ true → unlocks ≡ true) → Tidy unlocks s → Tidy unlocks t
   call_tidy (Asked slot stale now) s t h _ tidy = either h tidy (request_tidy s slot stale now (holder s slot) refl tidy)
   call_tidy (Released n reason) s t h _ tidy = subst (Tidy unlocks) (sym h.1) (release_tidy s n reason (get s.cores n) refl tidy)
   call_tidy (LetGo l) s t h _ tidy = subst (Tidy unlocks) (sym h) (let_go_tidy s l tidy)

@@ -4,3 +4,7 @@ pub mod Calls
 pub mod Ends
 pub mod Named
 pub mod Published
+pub mod Past
+pub mod PastLaws
+pub mod PastWaits
+mod Walks

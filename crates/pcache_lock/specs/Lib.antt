@@ -1,6 +1,12 @@
+pub mod Deeds
 pub mod Locks
 pub mod LocksCode
+pub mod Noted
 pub mod Outcomes
+pub mod Past
+pub mod PastCode
+pub mod PastLaws
+pub mod PastWaits
 pub mod Permits
 pub mod Published
 pub mod Statuses

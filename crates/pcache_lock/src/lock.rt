@@ -3,19 +3,22 @@
 //! A request that finds nothing asks for the lock of its key. The first one gets the permit to fill
 //! the key; the others get read locks, which they poll until the permit is released, let go or too
 //! old.
-ghost use Rattle.std.specs.Prelude.{◌≡◌, ℕ, [], IfErr, IfOk, IsOk, IsSome, List, None, OnErr, OnOk, option_copied};
+ghost use Rattle.std.specs.Prelude.{◌≡◌, ℕ, [], IfErr, IfOk, IsOk, IsSome, List, None, OnErr, OnOk, Option, option_copied};
 ghost use Rattle.std.specs.FinMap.{get};
 ghost use Rattle.pcache_base.specs.declared.error.ErrorType.TheVariants.{OutOfMemory};
 ghost use Rattle.pcache_base.specs.Key.{slot};
-ghost use Rattle.pcache_lock.specs.Locks.{Locks, MayFailLock, after_request, lock_given, holder, let_go, released};
+ghost use Rattle.pcache_lock.specs.Deeds.{Deed, Published, Released, asked, asked_again, given_up, noted, tells_old};
+ghost use Rattle.pcache_lock.specs.Locks.{Locks, MayFailLock, after_request, is_permit, lock_given, holder, let_go, number_of_lock, released};
 ghost use Rattle.pcache_lock.specs.Statuses.{IsReason};
 ghost use Rattle.pcache_lock.specs.Waiting.{after_poll, polled, published, reader_polled, status_seen};
 ghost use Rattle.pcache_lock.specs.declared.lock.status.LockStatus.{LockStatus};
 
+mod bare;
 pub mod cache_lock;
 pub mod laws;
 pub mod lock_core;
 pub mod outcome;
+pub mod past;
 pub mod permit;
 pub mod permit_calls;
 mod publications;
@@ -37,10 +40,17 @@ use std::alloc::Global;
 /// A table of locks of any kind, in a box.
 pub type CacheKeyLockImpl = Box<dyn CacheKeyLock + Send + Drop>;
 
-/// A table of locks on cache keys. A contract sees it as the record `Locks`.
+/// A table of locks on cache keys. A contract sees it as the record `Locks`, and, if it keeps one, the
+/// list of all that was done to it.
+///
+/// Each call adds what it did to the past: one that succeeds one deed, one that fails none. Calls that
+/// take the table by a shared reference add nothing.
 pub trait CacheKeyLock {
     /// The locks that a permit or a read lock still names, and the current one of each key.
     ghost table: { Self → Locks };
+
+    /// What was done to the table, the newest first; of a table that keeps no past always `None`.
+    ghost past: { Self → Option (List Deed) };
 
     /// The status that a permit is released with, for each reason of a caller's own.
     ghost custom_status: { Self → List ℕ → LockStatus };
@@ -62,7 +72,11 @@ pub trait CacheKeyLock {
         ensures ok { OnOk result (table self.new
             ≡ after_request (table self.old) (slot key.now) stale_writer now
             (holder (table self.old) (slot key.now))) }
+        ensures past { IfOk result (λ l. past self.new
+            ≡ noted (asked (slot key.now) stale_writer now (number_of_lock l) (is_permit l))
+            (past self.old)) }
         ensures err { OnErr result (table self.new ≡ table self.old) }
+        ensures same_past { OnErr result (past self.new ≡ past self.old) }
         ensures joins { IsSome (holder (table self.old) (slot key.now)) → IsOk result }
         ensures kind { IfErr result (λ e. MayFailLock (table self.old) e) };
 
@@ -71,12 +85,15 @@ pub trait CacheKeyLock {
     /// that status, and its entry remains.
     fn release(&mut self, key: &CacheKey, permit: WritePermit, reason: LockStatus)
         requires { IsReason reason }
-        ensures { table self.new ≡ released (table self.old) permit.number reason };
+        ensures table { table self.new ≡ released (table self.old) permit.number reason }
+        ensures past { past self.new ≡ noted (Released permit.number reason) (past self.old) };
 
     /// Lets a lock go. A permit is dangling from then on, so that the next request gets a permit of
     /// its own; a read lock is forgotten.
     fn drop_lock(&mut self, locked: Locked)
-        ensures { table self.new ≡ let_go (table self.old) locked };
+        ensures table { table self.new ≡ let_go (table self.old) locked }
+        ensures past { past self.new
+            ≡ noted (given_up (number_of_lock locked) (is_permit locked)) (past self.old) };
 
     /// Asks whether the wait is over: the permit was released, unlocked or let go; or else it has
     /// been held for too long, which the table records; or else its writer published a fill that
@@ -100,7 +117,10 @@ pub trait CacheKeyLock {
         ensures ok { OnOk result (table self.new
             ≡ after_poll (table self.old) now read.old.number
             (get (table self.old).cores read.old.number)) }
+        ensures past { IfOk result (λ p. past self.new
+            ≡ noted (asked_again read.old.number now (tells_old p)) (past self.old)) }
         ensures err { OnErr result (table self.new ≡ table self.old) }
+        ensures same_past { OnErr result (past self.new ≡ past self.old) }
         ensures same_read_lock { OnErr result (read.new ≡ read.old) }
         ensures kind { IfErr result (λ e. e ≡ OutOfMemory) }
         ensures later { IsSome read.old.watch → IsOk result }
@@ -118,8 +138,11 @@ pub trait CacheKeyLock {
     fn publish(&mut self, alloc: Global, permit: &WritePermit, tokens: &[u64]) -> Result<()>
         ensures ok { OnOk result (table self.new
             ≡ published (table self.old) permit.now.number tokens.now) }
+        ensures past { OnOk result (past self.new
+            ≡ noted (Published permit.now.number tokens.now) (past self.old)) }
         ensures clears { tokens.now ≡ [] → IsOk result }
         ensures err { OnErr result (table self.new ≡ table self.old) }
+        ensures same_past { OnErr result (past self.new ≡ past self.old) }
         ensures kind { IfErr result (λ e. e ≡ OutOfMemory) };
 
     /// The status to release a permit with if the response is not cached for the caller's own
@@ -139,6 +162,8 @@ pub trait CacheKeyLock {
 /// A call on a box goes to the table inside.
 impl CacheKeyLock for CacheKeyLockImpl {
     ghost table = { λ b. (CacheKeyLock-box b).table b.value };
+
+    ghost past = { λ b. (CacheKeyLock-box b).past b.value };
 
     ghost custom_status = { λ b. (CacheKeyLock-box b).custom_status b.value };
 

@@ -17,7 +17,7 @@ use Rattle.pcache_evict.proofs.Chains.{inside-none}
 use Rattle.pcache_policies.specs.declared.queue.Seen.{Seen}
 use Rattle.pcache_policies.specs.Queue.{Queue, plain, IsOnce, seen_of, rest_of, reseen, reused, unused, spent}
 use Rattle.pcache_policies.specs.Leaving.{HasRoom}
-use Rattle.pcache_policies.specs.S3Fifo.{Fifos, fifos, whole, entries, ghosted, MakesRoom, rests, moves, leaves, returns, goes, entered, reseen_in, rest_in, accessed, Queued, IsCounted, KeepsLimits, Admits, Admission, Increment}
+use Rattle.pcache_policies.specs.S3Fifo.{Fifos, fifos, whole, entries, ghosted, MakesRoom, rests, moves, leaves, returns, goes, entered, reseen_in, rest_in, accessed, Queued, IsCounted, KeepsLimits, Admits, Admission, Increment, Admitted, Incremented}
 use Rattle.pcache_policies.proofs.Queues.{E, plain-append, plain-rest, once-plain, plain-once, once-reseen}
 use Rattle.pcache_policies.proofs.Rings.{Apart, apart_none, reseen-append, rest-append, again}
 use Rattle.pcache_policies.proofs.Leavings.{Run, run-none, run-first, run-same, run-ends-same}
@@ -102,30 +102,30 @@ kept-run old new from out keeps once =
 
 -- a new entry was added, or went itself
 pub admits-run : (old new : Queued) (k : CacheEntryKey) (n : ℕ) (out : List CacheEntryKey) → Admits old k n new out → IsOnce (whole old.fifos) → seen_of k (whole old.fifos) ≡ None → Run old.limits out ((k, n) ∷ entries old.fifos) (entries new.fifos)
-admits-run old new k n out a once none = by_end a.comes
+admits-run old new k n out a once none = by_end a.comes.ends
   where
     with_it : IsOnce ((k, unused n) ∷ whole old.fifos)
     with_it = IsDistinct-cons entry_eq k (keys_of (whole old.fifos)) (apart_none k (whole old.fifos) none) once
 
-    over_all : ¬ HasRoom old.limits n 1 (entries a.left) → HasRoom old.limits n 1 (entries a.left) ⊎ (whole a.left ≡ []) → whole a.left ≡ []
+    over_all : ¬ HasRoom old.limits n 1 (entries a.comes.left) → HasRoom old.limits n 1 (entries a.comes.left) ⊎ (whole a.comes.left ≡ []) → whole a.comes.left ≡ []
     over_all no_room (inl h) = absurd (no_room h)
     over_all no_room (inr e) = e
 
-    by_end : (HasRoom old.limits n 1 (entries a.left) × (new.fifos ≡ entered k n a.left) × (out ≡ a.gone)) ⊎ ((¬ HasRoom old.limits n 1 (entries a.left)) × (new.fifos ≡ a.left) × (out ≡ a.gone ++ k ∷ [])) → Run old.limits out ((k, n) ∷ entries old.fifos) (entries new.fifos)
+    by_end : (HasRoom old.limits n 1 (entries a.comes.left) × (new.fifos ≡ entered k n a.comes.left) × (out ≡ a.comes.gone)) ⊎ ((¬ HasRoom old.limits n 1 (entries a.comes.left)) × (new.fifos ≡ a.comes.left) × (out ≡ a.comes.gone ++ k ∷ [])) → Run old.limits out ((k, n) ∷ entries old.fifos) (entries new.fifos)
     by_end (inl (room, is, keys)) =
-        subst (λ out. Run old.limits out ((k, n) ∷ entries old.fifos) (entries new.fifos)) (append-nil a.gone ∙ sym keys)
-        (makes old.limits ((k, unused n) ∷ []) n 1 (one_comes k n) old.fifos a.left a.gone [] (entries new.fifos) a.room with_it
-        (λ apart. run-ends-same old.limits [] ((k, n) ∷ entries a.left) ((k, n) ∷ entries a.left) (entries new.fifos)
-        (ap (λ f. map_of (entries f)) is ∙ map-entered k n a.left (IsDistinct-head entry_eq k (keys_of (whole a.left)) apart))
-        (ap (λ f. weight (entries f)) is ∙ weight-entered k n a.left ∙ sym (sum_by-cons (λ (e : CacheEntryKey × ℕ). e.1) (k, n) (entries a.left)))
-        (run-none old.limits ((k, n) ∷ entries a.left) (once-plain ((k, unused n) ∷ whole a.left) apart) (within_of old.limits ((k, n) ∷ []) (entries a.left) n 1 (one_comes k n) room))))
+        subst (λ out. Run old.limits out ((k, n) ∷ entries old.fifos) (entries new.fifos)) (append-nil a.comes.gone ∙ sym keys)
+        (makes old.limits ((k, unused n) ∷ []) n 1 (one_comes k n) old.fifos a.comes.left a.comes.gone [] (entries new.fifos) a.comes.room with_it
+        (λ apart. run-ends-same old.limits [] ((k, n) ∷ entries a.comes.left) ((k, n) ∷ entries a.comes.left) (entries new.fifos)
+        (ap (λ f. map_of (entries f)) is ∙ map-entered k n a.comes.left (IsDistinct-head entry_eq k (keys_of (whole a.comes.left)) apart))
+        (ap (λ f. weight (entries f)) is ∙ weight-entered k n a.comes.left ∙ sym (sum_by-cons (λ (e : CacheEntryKey × ℕ). e.1) (k, n) (entries a.comes.left)))
+        (run-none old.limits ((k, n) ∷ entries a.comes.left) (once-plain ((k, unused n) ∷ whole a.comes.left) apart) (within_of old.limits ((k, n) ∷ []) (entries a.comes.left) n 1 (one_comes k n) room))))
     by_end (inr (no_room, is, keys)) =
-        let empty = over_all no_room (ended old.limits n 1 old.fifos a.left a.gone a.room) in
+        let empty = over_all no_room (ended old.limits n 1 old.fifos a.comes.left a.comes.gone a.comes.room) in
         subst (λ out. Run old.limits out ((k, n) ∷ entries old.fifos) (entries new.fifos)) (sym keys)
-        (makes old.limits ((k, unused n) ∷ []) n 1 (one_comes k n) old.fifos a.left a.gone (k ∷ []) (entries new.fifos) a.room with_it
-        (λ apart. drops old.limits [] ((k, unused n) ∷ whole a.left) [] (whole a.left) k (unused n) (entries new.fifos) apart (over_whole old.limits ((k, unused n) ∷ []) (whole a.left) n 1 (one_comes k n) no_room) refl
-        (λ alone. subst (λ f. Run old.limits [] (entries a.left) (entries f)) (sym is)
-        (run-none old.limits (entries a.left) (once-plain (whole a.left) alone) (subst (λ q. IsWithinAsList old.limits (plain q)) (sym empty) (inside-none old.limits))))))
+        (makes old.limits ((k, unused n) ∷ []) n 1 (one_comes k n) old.fifos a.comes.left a.comes.gone (k ∷ []) (entries new.fifos) a.comes.room with_it
+        (λ apart. drops old.limits [] ((k, unused n) ∷ whole a.comes.left) [] (whole a.comes.left) k (unused n) (entries new.fifos) apart (over_whole old.limits ((k, unused n) ∷ []) (whole a.comes.left) n 1 (one_comes k n) no_room) refl
+        (λ alone. subst (λ f. Run old.limits [] (entries a.comes.left) (entries f)) (sym is)
+        (run-none old.limits (entries a.comes.left) (once-plain (whole a.comes.left) alone) (subst (λ q. IsWithinAsList old.limits (plain q)) (sym empty) (inside-none old.limits))))))
 
 -- ---- what the map says of it
 
@@ -192,3 +192,13 @@ map-accessed-in (Some v) k n f is =
 
 pub map-rest-in : (k : CacheEntryKey) (f : Fifos) → map_of (entries (rest_in k f)) ≡ fin.remove (map_of (entries f)) k
 map-rest-in k f = ap (λ q. map_of (plain q)) (sym (rest-append k f.small f.main)) ∙ ap map_of (plain-rest k (whole f)) ∙ map-others k (entries f)
+
+-- ---- what a call makes of the order alone
+
+pub admitted : (o : Option Seen) (old new : Queued) (k : CacheEntryKey) (n : ℕ) (out : List CacheEntryKey) → Admission o old k n new out → Admitted o old.limits old.fifos k n new.fifos out
+admitted None old new k n out a = a.comes
+admitted (Some v) old new k n out a = a.room
+
+pub incremented-in : (o : Option Seen) (old new : Queued) (k : CacheEntryKey) (delta : ℕ) (most : Option ℕ) (out : List CacheEntryKey) → Increment o old k delta most new out → Incremented o old.limits old.fifos k delta most new.fifos out
+incremented-in None old new k delta most out a = a.comes
+incremented-in (Some v) old new k delta most out a = a.room

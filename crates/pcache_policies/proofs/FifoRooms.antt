@@ -61,10 +61,7 @@ admits-in limits w c w2 c2 before r s u k n out once apart made same room enters
     let gone : weight (plain s.ring.leaving) ≡ weight (plain r.ring.leaving) = ap (λ q. weight (plain q)) leaves in
     let left : weight (entries (shown (kept u s.ghosts))) ≡ n + weight (entries (left_of r)) = ap (λ s. weight (entries s)) at ∙ weight-entered k n (left_of r) in
     record {
-      left = left_of r;
-      gone = chosen r.ring;
-      room = made;
-      comes = inl (room, at, keys ∙ ap (λ (q : Queue). chosen (ring [] q [])) leaves);
+      comes = record { left = left_of r; gone = chosen r.ring; room = made; ends = inl (room, at, keys ∙ ap (λ (q : Queue). chosen (ring [] q [])) leaves) };
       counted = (refl, omega (arith, heavy, parts, gone, left), omega (arith, many, long));
     }
 
@@ -80,10 +77,7 @@ admits-out limits w c w1 c1 w2 c2 before r u k n out all_out once apart made sam
     let longer : length all_out ≡ length (out ++ k ∷ []) = ap (λ (l : List CacheEntryKey). length l) last in
     let sum = length-append out (k ∷ []) in
     record {
-      left = left_of r;
-      gone = chosen r.ring;
-      room = made;
-      comes = inr (none, at, last ∙ ap (λ out. out ++ k ∷ []) keys);
+      comes = record { left = left_of r; gone = chosen r.ring; room = made; ends = inr (none, at, last ∙ ap (λ out. out ++ k ∷ []) keys) };
       counted = (refl, omega (arith, heavy, more, parts, left), omega (arith, many, one, long, longer, sum));
     }
 

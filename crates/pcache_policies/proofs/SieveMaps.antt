@@ -17,7 +17,7 @@ use Rattle.pcache_evict.proofs.Chains.{inside-none}
 use Rattle.pcache_policies.specs.declared.queue.Seen.{Seen}
 use Rattle.pcache_policies.specs.Queue.{Queue, plain, IsOnce, seen_of, rest_of, reseen, used, unused}
 use Rattle.pcache_policies.specs.Leaving.{HasRoom, Leaves}
-use Rattle.pcache_policies.specs.Sieve.{Sieve, sieve, whole, entries, MakesRoom, rests, clears, goes, turns, entered, reseen_in, rest_in, accessed, Sieved, IsCounted, KeepsLimits, Admits, Admission, Increment}
+use Rattle.pcache_policies.specs.Sieve.{Sieve, sieve, whole, entries, MakesRoom, rests, clears, goes, turns, entered, reseen_in, rest_in, accessed, Sieved, IsCounted, KeepsLimits, Admits, Admission, Increment, Admitted, Incremented}
 use Rattle.pcache_policies.proofs.Queues.{E, plain-append, plain-found, plain-rest, some-plain, once-plain, once-reseen}
 use Rattle.pcache_policies.proofs.Rings.{reseen-append, rest-append}
 use Rattle.pcache_policies.proofs.Leavings.{Run, fair-run}
@@ -89,21 +89,21 @@ pub admits-run : (old new : Sieved) (k : CacheEntryKey) (n : ℕ) (out : List Ca
 admits-run old new k n out a once none =
     fair-run old.limits out ((k, n) ∷ entries old.sieve) (entries new.sieve)
     (subst (λ l. listed.IsOnce ((k, n) ∷ l)) (others-none k (entries old.sieve) (none_plain k (whole old.sieve) none)) (distinct-moved k n (entries old.sieve) (once-plain (whole old.sieve) once)))
-    (by_end a.comes)
+    (by_end a.comes.ends)
   where
-    over_all : ¬ HasRoom old.limits n 1 (entries a.left) → HasRoom old.limits n 1 (entries a.left) ⊎ (whole a.left ≡ []) → whole a.left ≡ []
+    over_all : ¬ HasRoom old.limits n 1 (entries a.comes.left) → HasRoom old.limits n 1 (entries a.comes.left) ⊎ (whole a.comes.left ≡ []) → whole a.comes.left ≡ []
     over_all no_room (inl h) = absurd (no_room h)
     over_all no_room (inr e) = e
 
-    by_end : (HasRoom old.limits n 1 (entries a.left) × (new.sieve ≡ entered k n a.left) × (out ≡ a.gone)) ⊎ ((¬ HasRoom old.limits n 1 (entries a.left)) × (new.sieve ≡ a.left) × (out ≡ a.gone ++ k ∷ [])) → Leaves old.limits ((k, n) ∷ entries old.sieve) out (entries new.sieve)
+    by_end : (HasRoom old.limits n 1 (entries a.comes.left) × (new.sieve ≡ entered k n a.comes.left) × (out ≡ a.comes.gone)) ⊎ ((¬ HasRoom old.limits n 1 (entries a.comes.left)) × (new.sieve ≡ a.comes.left) × (out ≡ a.comes.gone ++ k ∷ [])) → Leaves old.limits ((k, n) ∷ entries old.sieve) out (entries new.sieve)
     by_end (inl (room, is, keys)) =
-        subst (λ out. Leaves old.limits ((k, n) ∷ entries old.sieve) out (entries new.sieve)) (append-nil a.gone ∙ sym keys)
-        (leaves old.limits ((k, n) ∷ []) n 1 (one_comes k n) old.sieve a.left a.gone [] (entries new.sieve) a.room
-        (ap entries is ∙ entries-entered k n a.left, within_of old.limits ((k, n) ∷ []) (entries a.left) n 1 (one_comes k n) room))
+        subst (λ out. Leaves old.limits ((k, n) ∷ entries old.sieve) out (entries new.sieve)) (append-nil a.comes.gone ∙ sym keys)
+        (leaves old.limits ((k, n) ∷ []) n 1 (one_comes k n) old.sieve a.comes.left a.comes.gone [] (entries new.sieve) a.comes.room
+        (ap entries is ∙ entries-entered k n a.comes.left, within_of old.limits ((k, n) ∷ []) (entries a.comes.left) n 1 (one_comes k n) room))
     by_end (inr (no_room, is, keys)) =
         subst (λ out. Leaves old.limits ((k, n) ∷ entries old.sieve) out (entries new.sieve)) (sym keys)
-        (leaves old.limits ((k, n) ∷ []) n 1 (one_comes k n) old.sieve a.left a.gone (k ∷ []) (entries new.sieve) a.room
-        ((λ w. no_room (room_of old.limits ((k, n) ∷ []) (entries a.left) n 1 (one_comes k n) w)), [], n, entries a.left, refl, (ap entries is, subst (λ q. IsWithinAsList old.limits (plain q)) (sym (over_all no_room (ended old.limits n 1 old.sieve a.left a.gone a.room))) (inside-none old.limits))))
+        (leaves old.limits ((k, n) ∷ []) n 1 (one_comes k n) old.sieve a.comes.left a.comes.gone (k ∷ []) (entries new.sieve) a.comes.room
+        ((λ w. no_room (room_of old.limits ((k, n) ∷ []) (entries a.comes.left) n 1 (one_comes k n) w)), [], n, entries a.comes.left, refl, (ap entries is, subst (λ q. IsWithinAsList old.limits (plain q)) (sym (over_all no_room (ended old.limits n 1 old.sieve a.comes.left a.comes.gone a.comes.room))) (inside-none old.limits))))
 
 -- ---- what the map says of it
 
@@ -183,3 +183,13 @@ map-rest-in k s = ap (λ q. map_of (plain q)) (sym (rest-append k s.ahead s.pass
 pub some_seen : (o : Option Seen) → is_some o ≡ true → (v : Seen) × (o ≡ Some v)
 some_seen None h = cc
 some_seen (Some v) h = (v, refl)
+
+-- ---- what a call makes of the order alone
+
+pub admitted : (o : Option Seen) (old new : Sieved) (k : CacheEntryKey) (n : ℕ) (out : List CacheEntryKey) → Admission o old k n new out → Admitted o old.limits old.sieve k n new.sieve out
+admitted None old new k n out a = a.comes
+admitted (Some v) old new k n out a = a.room
+
+pub incremented-in : (o : Option Seen) (old new : Sieved) (k : CacheEntryKey) (delta : ℕ) (most : Option ℕ) (out : List CacheEntryKey) → Increment o old k delta most new out → Incremented o old.limits old.sieve k delta most new.sieve out
+incremented-in None old new k delta most out a = a.comes
+incremented-in (Some v) old new k delta most out a = a.room

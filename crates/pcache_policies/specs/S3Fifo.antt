@@ -7,8 +7,9 @@ use Rattle.pcache_evict.specs.Entry.{entry_eq}
 use Rattle.pcache_evict.specs.Tracked.{Limits, Evicted, limits_of, raised}
 use Rattle.pcache_evict.specs.Recency.{Recency, weight}
 use Rattle.pcache_evict.specs.Listed.{map_of}
+use Rattle.pcache_evict.specs.Policy.{Policy}
 use Rattle.pcache_policies.specs.declared.queue.Seen.{Seen}
-use Rattle.pcache_policies.specs.Queue.{Queue, plain, rest_of, reseen, unused, reused, spent}
+use Rattle.pcache_policies.specs.Queue.{Queue, plain, rest_of, reseen, seen_of, unused, reused, spent}
 use Rattle.pcache_policies.specs.Leaving.{HasRoom}
 
 -- keys, the newest first
@@ -99,11 +100,15 @@ pub record KeepsLimits (old : Queued) (from : Fifos) (new : Queued) (out : List 
   pub counted : IsCounted old (weight (entries from)) new out
 
 -- room is made, and then a new entry is added; one for which there is no room although no entry is left goes itself
-pub record Admits (old : Queued) (k : CacheEntryKey) (n : ℕ) (new : Queued) (out : List CacheEntryKey) : Type 0 where
+pub record Comes (limits : Limits) (f : Fifos) (k : CacheEntryKey) (n : ℕ) (t : Fifos) (out : List CacheEntryKey) : Type 0 where
   pub left : Fifos
   pub gone : List CacheEntryKey
-  pub room : MakesRoom old.limits n 1 old.fifos gone left
-  pub comes : (HasRoom old.limits n 1 (entries left) × (new.fifos ≡ entered k n left) × (out ≡ gone)) ⊎ ((¬ HasRoom old.limits n 1 (entries left)) × (new.fifos ≡ left) × (out ≡ gone ++ k ∷ []))
+  pub room : MakesRoom limits n 1 f gone left
+  pub ends : (HasRoom limits n 1 (entries left) × (t ≡ entered k n left) × (out ≡ gone)) ⊎ ((¬ HasRoom limits n 1 (entries left)) × (t ≡ left) × (out ≡ gone ++ k ∷ []))
+
+-- a new entry comes in, and what goes is counted
+pub record Admits (old : Queued) (k : CacheEntryKey) (n : ℕ) (new : Queued) (out : List CacheEntryKey) : Type 0 where
+  pub comes : Comes old.limits old.fifos k n new.fifos out
   pub counted : IsCounted old (n + weight (entries old.fifos)) new out
 
 -- an entry that is admitted again gets its new weight in place, which is a use; a new one is added
@@ -126,3 +131,24 @@ pub record HasFailed (old new : Queued) : Type 0 where
   pub same : map_of (entries new.fifos) ≡ map_of (entries old.fifos)
   pub limits : new.limits ≡ old.limits
   pub evicted : new.evicted ≡ old.evicted
+
+-- what an admission makes of the queues: an entry that is there gets its new weight in place, which is a use; a new one comes in
+abbrev pub Admitted : Option Seen → Limits → Fifos → CacheEntryKey → ℕ → Fifos → List CacheEntryKey → Type 0
+Admitted None limits f k n t out = Comes limits f k n t out
+Admitted (Some v) limits f k n t out = MakesRoom limits 0 0 (reseen_in k (record (reused v) { weight = n }) f) out t
+
+-- what an increment makes of them: the weight is raised in place, which is no use
+abbrev pub Incremented : Option Seen → Limits → Fifos → CacheEntryKey → ℕ → Option ℕ → Fifos → List CacheEntryKey → Type 0
+Incremented None limits f k delta cap t out = Comes limits f k (raised delta cap None) t out
+Incremented (Some v) limits f k delta cap t out = MakesRoom limits 0 0 (reseen_in k (record v { weight = raised delta cap (Some v.weight) }) f) out t
+
+-- S3-FIFO as a policy
+abbrev pub s3_fifo_policy : Policy Fifos
+s3_fifo_policy = record {
+  entries = entries;
+  none = fifos [] [] [];
+  Accesses = λ f k n t. t ≡ accessed (seen_of k (whole f)) k n f;
+  Admits = λ limits f k n t out. Admitted (seen_of k (whole f)) limits f k n t out;
+  Increments = λ limits f k delta cap t out. Incremented (seen_of k (whole f)) limits f k delta cap t out;
+  Removes = λ f k t. t ≡ rest_in k f;
+}

@@ -5,8 +5,9 @@ use Rattle.pcache_evict.specs.declared.eviction.entry_key.CacheEntryKey.{CacheEn
 use Rattle.pcache_evict.specs.Tracked.{Limits, Evicted, limits_of, raised}
 use Rattle.pcache_evict.specs.Recency.{Recency, weight}
 use Rattle.pcache_evict.specs.Listed.{map_of}
+use Rattle.pcache_evict.specs.Policy.{Policy}
 use Rattle.pcache_policies.specs.declared.queue.Seen.{Seen}
-use Rattle.pcache_policies.specs.Queue.{Queue, plain, rest_of, reseen, unused, used}
+use Rattle.pcache_policies.specs.Queue.{Queue, plain, rest_of, reseen, seen_of, unused, used}
 use Rattle.pcache_policies.specs.Leaving.{HasRoom}
 
 -- the list is `ahead ++ passed`; the hand is at the last entry of `ahead`, or at the oldest entry if `ahead` is empty
@@ -74,11 +75,15 @@ pub record KeepsLimits (old : Sieved) (from : Sieve) (new : Sieved) (out : List 
   pub counted : IsCounted old (weight (entries from)) new out
 
 -- room is made, and then a new entry is added; one for which there is no room although no entry is left goes itself
-pub record Admits (old : Sieved) (k : CacheEntryKey) (n : ℕ) (new : Sieved) (out : List CacheEntryKey) : Type 0 where
+pub record Comes (limits : Limits) (s : Sieve) (k : CacheEntryKey) (n : ℕ) (t : Sieve) (out : List CacheEntryKey) : Type 0 where
   pub left : Sieve
   pub gone : List CacheEntryKey
-  pub room : MakesRoom old.limits n 1 old.sieve gone left
-  pub comes : (HasRoom old.limits n 1 (entries left) × (new.sieve ≡ entered k n left) × (out ≡ gone)) ⊎ ((¬ HasRoom old.limits n 1 (entries left)) × (new.sieve ≡ left) × (out ≡ gone ++ k ∷ []))
+  pub room : MakesRoom limits n 1 s gone left
+  pub ends : (HasRoom limits n 1 (entries left) × (t ≡ entered k n left) × (out ≡ gone)) ⊎ ((¬ HasRoom limits n 1 (entries left)) × (t ≡ left) × (out ≡ gone ++ k ∷ []))
+
+-- a new entry comes in, and what goes is counted
+pub record Admits (old : Sieved) (k : CacheEntryKey) (n : ℕ) (new : Sieved) (out : List CacheEntryKey) : Type 0 where
+  pub comes : Comes old.limits old.sieve k n new.sieve out
   pub counted : IsCounted old (n + weight (entries old.sieve)) new out
 
 -- an entry that is admitted again gets its new weight in place, which is a use; a new one is added
@@ -101,3 +106,24 @@ pub record HasFailed (old new : Sieved) : Type 0 where
   pub same : map_of (entries new.sieve) ≡ map_of (entries old.sieve)
   pub limits : new.limits ≡ old.limits
   pub evicted : new.evicted ≡ old.evicted
+
+-- what an admission makes of the list: an entry that is there gets its new weight in place, which is a use; a new one comes in
+abbrev pub Admitted : Option Seen → Limits → Sieve → CacheEntryKey → ℕ → Sieve → List CacheEntryKey → Type 0
+Admitted None limits s k n t out = Comes limits s k n t out
+Admitted (Some v) limits s k n t out = MakesRoom limits 0 0 (reseen_in k (used n) s) out t
+
+-- what an increment makes of it: the weight is raised in place, which is no use
+abbrev pub Incremented : Option Seen → Limits → Sieve → CacheEntryKey → ℕ → Option ℕ → Sieve → List CacheEntryKey → Type 0
+Incremented None limits s k delta cap t out = Comes limits s k (raised delta cap None) t out
+Incremented (Some v) limits s k delta cap t out = MakesRoom limits 0 0 (reseen_in k (record v { weight = raised delta cap (Some v.weight) }) s) out t
+
+-- SIEVE as a policy
+abbrev pub sieve_policy : Policy Sieve
+sieve_policy = record {
+  entries = entries;
+  none = sieve [] [];
+  Accesses = λ s k n t. t ≡ accessed (seen_of k (whole s)) k n s;
+  Admits = λ limits s k n t out. Admitted (seen_of k (whole s)) limits s k n t out;
+  Increments = λ limits s k delta cap t out. Incremented (seen_of k (whole s)) limits s k delta cap t out;
+  Removes = λ s k t. t ≡ rest_in k s;
+}

@@ -10,6 +10,7 @@ use Rattle.pcache_evict.specs.declared.eviction.entry_key.CacheEntryKey.{CacheEn
 use Rattle.pcache_meta.specs.Meta.{Meta}
 use Rattle.pcache_put.specs.Progress.{Parsed, AtHead, AtBody, AtEnd, HasFailed}
 use Rattle.pcache_put.specs.Counted.{Counted}
+use Rattle.pcache_request.specs.Replacing.{tracked_before}
 use Rattle.pcache_request.specs.Reports.{entry_stored}
 use Rattle.pcache_request.specs.Requests.{dropped_by}
 use Rattle.pcache_request.specs.WriteEnds.{EndsBody, HoldsNoLock, evicted_by}
@@ -255,6 +256,11 @@ evicted_ended k kinds InHead m before how = before
 evicted_ended k kinds (HasDeclined reason) m before how = before
 evicted_ended k kinds (IsOver kind) m before how = before
 evicted_ended k kinds (InBody w id fresh_until) m before how = evicted_by true id k (kinds w) m before (write_end how)
+
+-- what is tracked when a put that ended so has its entry admitted, if it was told the number of the body that it replaces: a
+-- body that was stored has replaced it
+abbrev pub tracked_before_put : Key → Option ℕ → PutEnd → Entries → Entries
+tracked_before_put k replaced how m = tracked_before true k replaced (write_end how) m
 
 -- the result at the end is the outcome of the pieces, unless memory ran out, the write was removed, all numbers are
 -- used or the caller made a mistake; a stored body is the one that the write was given

@@ -16,7 +16,7 @@ use pcache_base::error::{Error, Result};
 use pcache_base::key::CacheKey;
 use pcache_base::moment::Moment;
 use pcache_base::reason::NoCacheReason;
-use pcache_evict::eviction::{CacheEntryKey, EvictionManager};
+use pcache_evict::eviction::{CacheEntryId, CacheEntryKey, EvictionManager};
 use pcache_put::max_file_size::MaxFileSizeTracker;
 use pcache_put::response_parse::{INCOMPLETE_BODY, ResponseParse};
 use pcache_store::storage::{HandleMiss, Storage};
@@ -94,7 +94,7 @@ impl<C: CachePut, S: Storage> CachePutCtx<C, S> {
     ghost use Rattle.pcache_store.specs.Store.{Store};
     ghost use Rattle.std.specs.Option.{option_and_then};
     ghost use Rattle.pcache_put_ctx.specs.State.{Accepted, InHead, Filled, HasTaken, entry_in, limit_of, write_in};
-    ghost use Rattle.pcache_put_ctx.specs.Steps.{Done, HasWholeBody, store_at, store_left, stage_at, filled_on, BeginsAtHead, EndsPiece, TakesPiece, IsStageAfter, RepeatsResult, ReturnsAgain, IfRefused, IsBegunBefore, MayFailPiece, is_done, EndsPut, EndsAs, stage_ended, entry_reported, evicted_ended, IfWithdrawn, TellsResult};
+    ghost use Rattle.pcache_put_ctx.specs.Steps.{Done, HasWholeBody, store_at, store_left, stage_at, filled_on, BeginsAtHead, EndsPiece, TakesPiece, IsStageAfter, RepeatsResult, ReturnsAgain, IfRefused, IsBegunBefore, MayFailPiece, is_done, EndsPut, EndsAs, stage_ended, entry_reported, evicted_ended, tracked_before_put, IfWithdrawn, TellsResult};
 
     /// A put of a key, with no limit on its body.
     pub fn new(alloc: Global, policy: C, key: CacheKey) -> CachePutCtx<C, S>
@@ -351,6 +351,47 @@ impl<C: CachePut, S: Storage> CachePutCtx<C, S> {
         }
     }
 
+    /// `finish` that is told the number of the body which the new one replaces: the entry of that body is taken out of the
+    /// manager before the new one's is admitted, so that at no moment both are tracked.
+    pub fn finish_replacing<E: EvictionManager>(
+        &mut self,
+        storage: &mut S,
+        eviction: &mut E,
+        replaced: Option<CacheEntryId>,
+    ) -> Result<PutOutcome>
+        ensures ends { EndsAs result (λ end. EndsPut S.guarantees self.old.key self.old.parser
+            (S.finishes storage.old) (E.limits eviction.old) self.old.stage end
+            (S.state storage.old) (S.state storage.new)
+            (tracked_before_put self.old.key replaced end (E.tracked eviction.old))
+            (E.tracked eviction.new)) }
+        ensures evicted { EndsAs result (λ end. E.evicted eviction.new
+            ≡ evicted_ended self.old.key (S.finishes storage.old) self.old.stage
+            (tracked_before_put self.old.key replaced end (E.tracked eviction.old))
+            (E.evicted eviction.old) end) }
+        ensures limits { E.limits eviction.new ≡ E.limits eviction.old }
+        ensures stage { EndsAs result (λ end. self.new.stage ≡ stage_ended end) }
+
+        // The outcome of the put is that of its bytes, all pieces together.
+        ensures tells { (pieces : List Piece) (f : Option Filled)
+            → HasTaken (C.says self.old.policy) self.old pieces f
+            → EndsAs result (TellsResult
+            (IsResult (C.says self.old.policy) (limit_of self.old.size) pieces) f) }
+
+        // If the admission failed, the key has no body in the store after the call.
+        ensures withdrawn { IsTrue S.guarantees.purges
+            → OnErr result (LeavesNone (Some self.old.key) (write_in self.old.stage)
+            (S.state storage.old) (S.state storage.new)) }
+    {
+        let PutReport { end, entry: _ } = self.end_put_replacing(storage, eviction, replaced);
+        match end {
+            PutEnd::NotCached(why) => Ok(PutOutcome::NotCached(why)),
+            PutEnd::Stored(report) => Ok(PutOutcome::Stored(report)),
+            PutEnd::Refused(error) => Err(error),
+            PutEnd::Dropped(error) => Err(error),
+            PutEnd::Withdrawn(error) => Err(error),
+        }
+    }
+
     /// `finish` with a result that says how far it came.
     pub fn end_put<E: EvictionManager>(&mut self, storage: &mut S, eviction: &mut E) -> PutReport
         ensures policy { self.new.policy ≡ self.old.policy }
@@ -373,6 +414,39 @@ impl<C: CachePut, S: Storage> CachePutCtx<C, S> {
         ensures withdrawn { IsTrue S.guarantees.purges
             → IfWithdrawn result.end (HasNoBody (S.state storage.new) self.old.key) }
     {
+        self.end_put_replacing(storage, eviction, None)
+    }
+
+    /// `end_put` that is told the number of the body which the new one replaces, as `finish_replacing`.
+    pub fn end_put_replacing<E: EvictionManager>(
+        &mut self,
+        storage: &mut S,
+        eviction: &mut E,
+        replaced: Option<CacheEntryId>,
+    ) -> PutReport
+        ensures policy { self.new.policy ≡ self.old.policy }
+        ensures key { self.new.key ≡ self.old.key }
+        ensures ends { EndsPut S.guarantees self.old.key self.old.parser (S.finishes storage.old)
+            (E.limits eviction.old) self.old.stage result.end (S.state storage.old)
+            (S.state storage.new)
+            (tracked_before_put self.old.key replaced result.end (E.tracked eviction.old))
+            (E.tracked eviction.new) }
+        ensures entry { result.entry ≡ entry_reported self.old.key self.old.stage result.end }
+        ensures evicted { E.evicted eviction.new
+            ≡ evicted_ended self.old.key (S.finishes storage.old) self.old.stage
+            (tracked_before_put self.old.key replaced result.end (E.tracked eviction.old))
+            (E.evicted eviction.old) result.end }
+        ensures limits { E.limits eviction.new ≡ E.limits eviction.old }
+        ensures stage { self.new.stage ≡ stage_ended result.end }
+
+        // The outcome of the put is that of its bytes, all pieces together.
+        ensures tells { (pieces : List Piece) (f : Option Filled)
+            → HasTaken (C.says self.old.policy) self.old pieces f
+            → TellsResult (IsResult (C.says self.old.policy) (limit_of self.old.size) pieces) f
+            result.end }
+        ensures withdrawn { IsTrue S.guarantees.purges
+            → IfWithdrawn result.end (HasNoBody (S.state storage.new) self.old.key) }
+    {
         match take_stage(&mut self.stage) {
             Stage::Head => leave(
                 &mut self.stage,
@@ -380,7 +454,7 @@ impl<C: CachePut, S: Storage> CachePutCtx<C, S> {
                 None,
             ),
             Stage::Body(filling) => {
-                let (end, entry) = self.intake.end_body(storage, eviction, filling);
+                let (end, entry) = self.intake.end_body(storage, eviction, filling, replaced);
                 leave(&mut self.stage, end, entry)
             }
             Stage::Declined(reason) => leave(&mut self.stage, PutEnd::NotCached(reason), None),

@@ -14,7 +14,7 @@ ghost use Rattle.pcache_put_ctx.specs.Puts.{Piece, IsResult, and_piece, joined};
 ghost use Rattle.pcache_put_ctx.specs.Readings.{BodyDue, IfUnread, IsBegunRead, IsOfBody, IsOfHead, MayFailOnceRead};
 ghost use Rattle.pcache_put_ctx.specs.Stages.{stage_of};
 ghost use Rattle.pcache_put_ctx.specs.State.{Accepted, InHead, InBody, Filled, HeadTaken, BodyRead, BodyTaken, Counts, limit_of, TakenBy};
-ghost use Rattle.pcache_put_ctx.specs.Steps.{counted_part, IsAllowed, IsBegunBefore, IfRefused, MayFailFill, written, store_wrote, store_at, stage_at, filled_on, filled_wrote, EndsPiece, EndsPut, TellsResult, entry_reported, evicted_ended, MayFailPiece, is_done};
+ghost use Rattle.pcache_put_ctx.specs.Steps.{counted_part, IsAllowed, IsBegunBefore, IfRefused, MayFailFill, written, store_wrote, store_at, stage_at, filled_on, filled_wrote, EndsPiece, EndsPut, TellsResult, entry_reported, evicted_ended, tracked_before_put, MayFailPiece, is_done};
 ghost use Rattle.pcache_put_ctx.specs.declared.reading.ReadPiece.TheVariants.{Brings};
 ghost use Rattle.pcache_put_ctx.specs.declared.report.PieceEnd.TheVariants.{GoesOn};
 
@@ -29,7 +29,7 @@ use pcache_base::key::CacheKey;
 use pcache_base::moment::Moment;
 use pcache_base::reason::NoCacheReason;
 use pcache_control::RespCacheable;
-use pcache_evict::eviction::{CacheEntryKey, EvictionManager};
+use pcache_evict::eviction::{CacheEntryId, CacheEntryKey, EvictionManager};
 use pcache_meta::header::ResponseHeader;
 use pcache_meta::meta::CacheMeta;
 use pcache_put::max_file_size::{ERR_RESPONSE_TOO_LARGE, MaxFileSizeTracker};
@@ -405,19 +405,21 @@ impl<C: CachePut> Intake<C> {
     }
 
     // Ends the write: too early, if the response ended before its body did, otherwise as any write
-    // ends.
+    // ends, told the number of the body that the new one replaces.
     pub(crate) fn end_body<S: Storage, E: EvictionManager>(
         &mut self,
         storage: &mut S,
         eviction: &mut E,
         filling: Filling<S::Miss>,
+        replaced: Option<CacheEntryId>,
     ) -> (PutEnd, Option<CacheEntryKey>)
         ensures same { self.new ≡ record self.old { parser = self.new.parser } }
         ensures ends { EndsPut S.guarantees self.old.key self.old.parser (S.finishes storage.old)
             (E.limits eviction.old)
             (InBody (S.Miss.write filling.writer) (S.Miss.entry_number filling.writer)
             filling.fresh_until) result.0 (S.state storage.old) (S.state storage.new)
-            (E.tracked eviction.old) (E.tracked eviction.new) }
+            (tracked_before_put self.old.key replaced result.0 (E.tracked eviction.old))
+            (E.tracked eviction.new) }
         ensures entry { result.1
             ≡ entry_reported self.old.key
             (InBody (S.Miss.write filling.writer) (S.Miss.entry_number filling.writer)
@@ -425,8 +427,9 @@ impl<C: CachePut> Intake<C> {
         ensures evicted { E.evicted eviction.new
             ≡ evicted_ended self.old.key (S.finishes storage.old)
             (InBody (S.Miss.write filling.writer) (S.Miss.entry_number filling.writer)
-            filling.fresh_until) (E.tracked eviction.old) (E.evicted eviction.old)
-            result.0 }
+            filling.fresh_until)
+            (tracked_before_put self.old.key replaced result.0 (E.tracked eviction.old))
+            (E.evicted eviction.old) result.0 }
         ensures limits { E.limits eviction.new ≡ E.limits eviction.old }
         ensures tells { (pieces : List Piece) (f : Option Filled)
             → BodyTaken (C.says self.old.policy) self.old.size self.old.parser filling.fresh_until
@@ -450,6 +453,7 @@ impl<C: CachePut> Intake<C> {
             &self.key,
             writer,
             fresh_until,
+            replaced,
         );
         match end {
             WriteEnd::Stored(report) => (PutEnd::Stored(report), entry),

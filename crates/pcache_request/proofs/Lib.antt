@@ -2,3 +2,4 @@ pub mod Fields
 pub mod NoBody
 pub mod Polled
 pub mod Purging
+pub mod Replacing

@@ -10,6 +10,7 @@ pub mod Phases
 pub mod Predictions
 pub mod Releasing
 pub mod Renewals
+pub mod Replacing
 pub mod Reports
 pub mod Requests
 pub mod Shown

@@ -21,7 +21,7 @@ use Rattle.pcache_lock.specs.declared.lock.status.LockStatus.TheVariants.{Done}
 use Rattle.pcache_put.specs.Counted.{Counted}
 use Rattle.pcache_store.specs.Purge.{entry_given, entry_read, expire_outcome, purge_outcome}
 use Rattle.pcache_store.specs.Refusals.{MayFailWrite}
-use Rattle.pcache_store.specs.Store.{Store, Reader, find, find_write, followed, left, begun, dropped, counts_access, reader_weight}
+use Rattle.pcache_store.specs.Store.{Store, Reader, find, find_write, followed, left, begun, dropped, counts_access, reader_weight, is_whole, body_length}
 use Rattle.pcache_store.specs.declared.storage.PurgeOutcome.{PurgeOutcome}
 use Rattle.pcache_store.specs.declared.storage.PurgeOutcome.TheVariants.{NotFound, Purged, Expired}
 use Rattle.pcache_request.specs.declared.phase.CachePhase.{CachePhase}
@@ -100,6 +100,15 @@ IsWriting p m (Some w) = IsFilling p × IsSome m
 abbrev pub left_by : Option Reader → Store → Store
 left_by None s = s
 left_by (Some r) s = left s r
+
+-- whether a request's reader has given all that it was to give, and the length of the body that it reads, if that is known
+abbrev pub whole_by : Option Reader → Store → Bool
+whole_by None s = false
+whole_by (Some r) s = is_whole s r
+
+abbrev pub length_by : Option Reader → Store → Option ℕ
+length_by None s = None
+length_by (Some r) s = body_length s r
 
 abbrev pub dropped_by : Option ℕ → Store → Store
 dropped_by None s = s

@@ -11,7 +11,7 @@ ghost use Rattle.pcache_lock.specs.Locks.{MayFailLock, lock_given, holder};
 ghost use Rattle.pcache_lock.specs.Statuses.{IsReason};
 ghost use Rattle.pcache_store.specs.Store.{find_write, followed};
 ghost use Rattle.pcache_store.specs.Tag.{named_by};
-ghost use Rattle.pcache_request.specs.Requests.{settled, let_go_by, table_asked, left_by, entry_of, reader_in};
+ghost use Rattle.pcache_request.specs.Requests.{settled, let_go_by, table_asked, left_by, entry_of, reader_in, whole_by, length_by};
 ghost use Rattle.pcache_request.specs.Reports.{name_of, asked_with};
 
 mod admission;
@@ -420,6 +420,30 @@ impl<S: Storage> HttpCache<S> {
             unreachable!()
         };
         reader.read_body(self.alloc, storage)
+    }
+
+    /// Whether the reader has given all that it was to give: of a complete body its range; of a write each byte, and the
+    /// write's end was announced, or it was finished. `false` after the end of the read says that the body was cut off. Without
+    /// a reader `false`.
+    pub fn is_body_whole(&self, storage: &S) -> bool
+        ensures { result ≡ whole_by self.now.reader (S.state storage.now) }
+    {
+        match &self.reader {
+            Some(reader) => reader.is_whole(storage),
+            None => false,
+        }
+    }
+
+    /// The length of the body that is read, in bytes, before it is read and whatever the range: that of a complete body, or of
+    /// a write whose end was announced or that was finished. `None` as long as a write goes on, if it was cut off, and without
+    /// a reader.
+    pub fn body_length(&self, storage: &S) -> Option<usize>
+        ensures { result ≡ length_by self.now.reader (S.state storage.now) }
+    {
+        match &self.reader {
+            Some(reader) => reader.body_length(storage),
+            None => None,
+        }
     }
 
     /// Moves the reader to `start`, from where it gives the body again, to before `end` if that is

@@ -17,7 +17,7 @@ impl<M: EvictionManager, K, const N: usize> SharedCache<M, K, N> {
     ghost use Rattle.pcache_store.specs.Finishes.{created};
     ghost use Rattle.pcache_store.specs.Readers.{in_memory};
     ghost use Rattle.pcache_store.specs.Refusals.{MayFailWrite};
-    ghost use Rattle.pcache_cache.specs.Parts.{MayEnd, takes_bytes};
+    ghost use Rattle.pcache_cache.specs.Parts.{MayEnd, takes_bytes, tracked_at_end};
     ghost use Rattle.pcache_shared_cache.specs.Shared.{InPart, MovesPart};
 
     /// `Cache::set_miss_handler`: begins the write. Requires a phase in which a write may be made, a meta, and no write; ask
@@ -58,7 +58,7 @@ impl<M: EvictionManager, K, const N: usize> SharedCache<M, K, N> {
     }
 
     /// `Cache::finish_miss_handler`: ends the write and stores the body, whose entry is admitted; what is evicted for it is
-    /// purged. Fails with `InternalError`, and changes nothing, if the write is not of the request's part; the write of a request
+    /// purged. The entry of the body that stood under the key until then is taken out first. Fails with `InternalError`, and changes nothing, if the write is not of the request's part; the write of a request
     /// that began it here is.
     pub fn finish_miss_handler<R: Wait>(
         &self,
@@ -69,7 +69,8 @@ impl<M: EvictionManager, K, const N: usize> SharedCache<M, K, N> {
         ensures ends { MovesPart self.now request.old.place (λ p q. MayEnd p.store request.old.cache
             → EndsAs result (λ end. Ends in_memory request.old.cache request.old.cache.key
             request.old.cache.write (finishes_of (created p.store) request.old.cache.write)
-            p.limits end p.store q.store p.tracked q.tracked p.locks q.locks)) }
+            p.limits end p.store q.store (tracked_at_end p request.old.cache end) q.tracked
+            p.locks q.locks)) }
         ensures request { OnOk result (request.new
             ≡ record request.old { cache = after_finish request.old.cache }) }
         ensures refused { OnErr result ((request.new ≡ request.old)

@@ -21,7 +21,7 @@ impl<M: EvictionManager, K, const N: usize> SharedCache<M, K, N> {
     ghost use Rattle.pcache_request.specs.Phases.{IsDisabled, MayFinishHit, MayLookUp};
     ghost use Rattle.pcache_request.specs.Releasing.{MayDisable, disabled_for};
     ghost use Rattle.pcache_request.specs.Reports.{name_of};
-    ghost use Rattle.pcache_request.specs.Requests.{HoldsNothing, asks_for_hit, found_row, without_reader};
+    ghost use Rattle.pcache_request.specs.Requests.{HoldsNothing, asks_for_hit, found_row, length_by, whole_by, without_reader};
     ghost use Rattle.pcache_request.specs.Variants.{looked_for, seen_for};
     ghost use Rattle.pcache_store.specs.Readers.{reader_of};
     ghost use Rattle.pcache_store.specs.Store.{left, read_of, reader_after};
@@ -113,6 +113,32 @@ impl<M: EvictionManager, K, const N: usize> SharedCache<M, K, N> {
             return request.request.cache.read_body_alone();
         }
         part.lock(rt).read_body(&mut request.request)
+    }
+
+    /// `Cache::is_body_whole`: whether all was given that was to be read; `false` after the end says that the body was cut off. Of
+    /// a complete body nothing is locked.
+    pub fn is_body_whole<R: Wait>(&self, rt: &R, request: &SharedRequest<K, N>) -> bool
+        ensures { InPart self.now request.now.place (λ p.
+            result ≡ whole_by request.now.cache.reader p.store) }
+    {
+        let part = self.part(request.place());
+        if request.request.cache.reads_alone() {
+            return request.request.cache.is_body_whole_alone();
+        }
+        part.lock(rt).is_body_whole(&request.request)
+    }
+
+    /// `Cache::body_length`: the length of the body that is read, if its end is known, in bytes. Of a complete body nothing is
+    /// locked.
+    pub fn body_length<R: Wait>(&self, rt: &R, request: &SharedRequest<K, N>) -> Option<usize>
+        ensures { InPart self.now request.now.place (λ p.
+            result ≡ length_by request.now.cache.reader p.store) }
+    {
+        let part = self.part(request.place());
+        if request.request.cache.reads_alone() {
+            return request.request.cache.body_length_alone();
+        }
+        part.lock(rt).body_length(&request.request)
     }
 
     /// Reads on, and asks up to so many times while there is nothing yet. In between other threads can run, and nothing is

@@ -12,6 +12,7 @@ use Rattle.std.proofs.lemmas.Map.Lookups.{exact_unsigned}
 use Rattle.pcache_table.specs.Sharding.{all_entries, one_map}
 use Rattle.pcache_table.proofs.Sharded.{by_test, same_key, off_not, get-insert-at, get-remove-at}
 use Rattle.pcache_store.specs.Store.{Written, is_named, kept, wrote_on, followed_on, left_on, grounded_on}
+use Rattle.pcache_store.specs.Drafts.{closed_on, ended_on}
 use Rattle.pcache_store.specs.Shards.{parts, table_at, is_of_shard, of_shard, IsPlaceOf, AreRecords}
 use Rattle.pcache_store.proofs.Maps.{insert_len, remove_len}
 use Rattle.pcache_store.specs.Shards.{one_if_some}
@@ -288,6 +289,13 @@ module _ {ms : List Map} {count : ℕ} (s : AreRecords ms count) (place number :
 
       pub changed-landed : Changed ms place number (grounded_on (slice_index_or ms place d) number (get (slice_index_or ms place d) number)) (grounded_on (all ms) number (get (all ms) number))
       changed-landed = over (λ m. grounded_on m number (get m number)) _ (by_record (λ m o. grounded_on m number o) refl refl (λ w may. kept-at (record w { flying = false }) may))
+
+      changed-closed : Changed ms place number (closed_on (slice_index_or ms place d) number (get (slice_index_or ms place d) number)) (closed_on (all ms) number (get (all ms) number))
+      changed-closed = over (λ m. closed_on m number (get m number)) _ (by_record (λ m o. closed_on m number o) refl refl (λ w may. kept-at (record w { flying = false; told = true }) may))
+
+      pub changed-ended : (stored : Bool) → Changed ms place number (ended_on stored (slice_index_or ms place d) number (get (slice_index_or ms place d) number)) (ended_on stored (all ms) number (get (all ms) number))
+      changed-ended true = changed-closed
+      changed-ended false = changed-landed
 
       pub fits : one_if_some (get (slice_index_or ms place d) number) ≤ count
       fits = subst (λ n. n ≤ count) (sym (ap one_if_some here)) (held-fits number s)

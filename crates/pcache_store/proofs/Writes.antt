@@ -9,7 +9,7 @@ use Rattle.pcache_store.proofs.Maps.{insert_same, undone, remove-insert}
 use Rattle.pcache_store.specs.Store.{Written, Stored, kept, is_named, wrote_on, followed_on, left_on, grounded_on}
 use Rattle.pcache_table.proofs.Sharded.{get-remove-at}
 use Rattle.pcache_store.specs.Shards.{one_if_some}
-use Rattle.pcache_store.specs.Drafts.{Numbered, next_number, AreBefore, IsBodyOf}
+use Rattle.pcache_store.specs.Drafts.{Numbered, next_number, AreBefore, IsBodyOf, closed_on, ended_on}
 
 module _ (ws : FinMap nat_cmp Written) (n : ℕ) (w v : Written) (m : FinMap nat_cmp Written) (is : Some w ≡ get ws n) (set : m ≡ insert ws n v) where
   pub wrote_there : (bytes : List ℕ) (eof : Bool) → v ≡ record w { bytes = w.bytes ++ bytes; told = eof } → m ≡ wrote_on ws n bytes eof (get ws n)
@@ -38,6 +38,20 @@ module _ (ws : FinMap nat_cmp Written) (n : ℕ) (w v : Written) (m : FinMap nat
 
   pub landed_gone : (r : FinMap nat_cmp Written) → v ≡ record w { flying = false } → is_named v ≡ false → r ≡ remove m n → r ≡ grounded_on ws n (get ws n)
   landed_gone r e lost out = gone_there r lost out ∙ ap (kept ws n) e ∙ ap (grounded_on ws n) is
+
+  pub closed_there : v ≡ record w { flying = false; told = true } → is_named v ≡ true → m ≡ ended_on true ws n (get ws n)
+  closed_there e named = kept_there named ∙ ap (kept ws n) e ∙ ap (closed_on ws n) is
+
+  pub closed_gone : (r : FinMap nat_cmp Written) → v ≡ record w { flying = false; told = true } → is_named v ≡ false → r ≡ remove m n → r ≡ closed_on ws n (get ws n)
+  closed_gone r e lost out = gone_there r lost out ∙ ap (kept ws n) e ∙ ap (closed_on ws n) is
+
+  pub ended_gone : (stored : Bool) (r : FinMap nat_cmp Written) → v ≡ record w { flying = false } → is_named v ≡ false → r ≡ remove m n → r ≡ ended_on stored ws n (get ws n)
+  ended_gone false r e lost out = landed_gone r e lost out
+  ended_gone true r e lost out =
+      let none : is_named (record w { flying = false; told = true }) ≡ false = sym (ap is_named e) ∙ lost in
+      out ∙ ap (λ x. remove x n) set ∙ remove-insert ws n v
+      ∙ ap (λ b. cond b (insert ws n (record w { flying = false; told = true })) (remove ws n)) (sym none)
+      ∙ ap (closed_on ws n) is
 
   -- the write that was changed, found again
   found : Some v ≡ get m n
@@ -95,6 +109,13 @@ module _ (ws : FinMap nat_cmp Written) (n k : ℕ) (f : AreBefore ws n) where
 
   pub before_landed : AreBefore (grounded_on ws k (get ws k)) n
   before_landed = elim (get ws k) as (λ o. get ws k ≡ o → AreBefore (grounded_on ws k o) n) [ None ↦ λ e. f | Some w ↦ λ e. before_kept ws n k w (record w { flying = false }) f e ] refl
+
+  pub before_closed : AreBefore (closed_on ws k (get ws k)) n
+  before_closed = elim (get ws k) as (λ o. get ws k ≡ o → AreBefore (closed_on ws k o) n) [ None ↦ λ e. f | Some w ↦ λ e. before_kept ws n k w (record w { flying = false; told = true }) f e ] refl
+
+  pub before_ended : (stored : Bool) → AreBefore (ended_on stored ws k (get ws k)) n
+  before_ended true = before_closed
+  before_ended false = before_landed
 
 -- what follows in either case of a call that returns
 pub on_both : {A E P Q C : Type 0} (r : Result A E) → (P → C) → (Q → C) → OnOk r P → OnErr r Q → C

@@ -1,9 +1,9 @@
 -- How a store in memory keeps its writes (own).
-use Rattle.std.specs.Prelude.{ℕ, ◌≡◌, ◌≤◌, ◌^◌, Option, None, Some, refl}
+use Rattle.std.specs.Prelude.{ℕ, ◌≡◌, ◌≤◌, ◌^◌, Bool, true, false, Option, None, Some, refl}
 use Rattle.std.specs.Ordering.{nat_cmp}
 use Rattle.std.specs.Coded.{Coded, code_by, coded×, coded_ℕ}
 use Rattle.std.specs.FinMap.{FinMap, get, code}
-use Rattle.pcache_store.specs.Store.{Written, Stored}
+use Rattle.pcache_store.specs.Store.{Written, Stored, closed, grounded_on}
 use Rattle.pcache_store.specs.StoreCode.{written_code}
 
 -- the writes, and the number of the next one
@@ -27,3 +27,13 @@ AreBefore ws n = (q : ℕ) → n ≤ q → get ws q ≡ None
 abbrev pub IsBodyOf : Option Written → Stored → Type 0
 IsBodyOf None b = ⊥
 IsBodyOf (Some w) b = b ≡ record { meta = w.meta; bytes = w.bytes }
+
+-- the records after a write whose body was stored ended
+abbrev pub closed_on : FinMap nat_cmp Written → ℕ → Option Written → FinMap nat_cmp Written
+closed_on ws n None = ws
+closed_on ws n (Some w) = closed ws n w
+
+-- the records after a write ended, whose body was stored or not
+abbrev pub ended_on : Bool → FinMap nat_cmp Written → ℕ → Option Written → FinMap nat_cmp Written
+ended_on true ws n o = closed_on ws n o
+ended_on false ws n o = grounded_on ws n o

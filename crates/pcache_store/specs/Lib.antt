@@ -1,6 +1,10 @@
 pub mod Drafts
 pub mod Finishes
+pub mod Past
+pub mod PastLaws
+pub mod PastSays
 pub mod Purge
+pub mod Reading
 pub mod Readers
 pub mod Refusals
 pub mod Shards

@@ -18,7 +18,7 @@ pub record Written : Type 0 where
   pub slot : ℕ  -- its key's slot
   pub meta : Meta
   pub bytes : List ℕ
-  pub told : Bool  -- its end was announced (`eof`)
+  pub told : Bool  -- its end is known: it was announced (`eof`), or the write was finished
   pub flying : Bool  -- it is in flight: its handler was not spent
   pub readers : ℕ  -- how many readers follow it
 
@@ -154,7 +154,7 @@ wrote_on ws n bytes eof (Some w) = insert ws n (record w { bytes = w.bytes ++ by
 abbrev pub wrote : Store → ℕ → List ℕ → Bool → Store
 wrote s n bytes eof = record s { writes = wrote_on s.writes n bytes eof (get s.writes n) }
 
--- whether the end of a write was announced (`eof`)
+-- whether the end of a write is known
 abbrev pub is_told : Option Written → Bool
 is_told None = false
 is_told (Some w) = w.told
@@ -180,6 +180,10 @@ grounded ws n w = kept ws n (record w { flying = false })
 abbrev pub grounded_on : FinMap nat_cmp Written → ℕ → Option Written → FinMap nat_cmp Written
 grounded_on ws n None = ws
 grounded_on ws n (Some w) = grounded ws n w
+
+-- a write whose body was stored: its handler is gone, and its end is known, also if it was not announced
+abbrev pub closed : FinMap nat_cmp Written → ℕ → Written → FinMap nat_cmp Written
+closed ws n w = kept ws n (record w { flying = false; told = true })
 
 -- the slots after the number of a write was removed from its key's slot
 abbrev pub shut_on : FinMap nat_cmp Slot → ℕ → ℕ → Option Slot → FinMap nat_cmp Slot
@@ -211,7 +215,7 @@ stored_on xs k n b (Some x) = insert xs k (record { body = Some b; untouched = r
 -- the store after a write was finished
 abbrev pub finished_on : Store → ℕ → Option Written → Store
 finished_on s n None = s
-finished_on s n (Some w) = record s { slots = stored_on s.slots w.slot n (record { meta = w.meta; bytes = w.bytes }) (get s.slots w.slot); writes = grounded s.writes n w }
+finished_on s n (Some w) = record s { slots = stored_on s.slots w.slot n (record { meta = w.meta; bytes = w.bytes }) (get s.slots w.slot); writes = closed s.writes n w }
 
 abbrev pub finished : Store → ℕ → Store
 finished s n = finished_on s n (get s.writes n)
@@ -347,3 +351,25 @@ counts_access (Part n place) = false
 abbrev pub reader_weight : Reader → ℕ
 reader_weight (Whole id body start stop done) = length body
 reader_weight (Part n place) = 0
+
+-- whether a reader of a write has given the whole body: each byte of it, and its end is known. A write that was dropped
+-- before its end was announced has none
+abbrev pub is_whole_part : ℕ → Option Written → Bool
+is_whole_part place None = false
+is_whole_part place (Some w) = w.told && nat_le (length w.bytes) place
+
+-- whether a reader has given all that it was to give: of a complete body its range, of a write the whole body
+abbrev pub is_whole : Store → Reader → Bool
+is_whole s (Whole id body start stop done) = done
+is_whole s (Part n place) = is_whole_part place (get s.writes n)
+
+-- the length of a write's body, if its end is known
+abbrev pub length_told : Option Written → Option ℕ
+length_told None = None
+length_told (Some w) = cond w.told (Some (length w.bytes)) None
+
+-- the length of the body that a reader reads, whatever its range: that of a complete body, and that of a write whose end is
+-- known
+abbrev pub body_length : Store → Reader → Option ℕ
+body_length s (Whole id body start stop done) = Some (length body)
+body_length s (Part n place) = length_told (get s.writes n)

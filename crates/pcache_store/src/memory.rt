@@ -4,7 +4,7 @@ ghost use Rattle.std.specs.FinMap as map;
 ghost use Rattle.pcache_base.specs.declared.error.ErrorType.TheVariants.{OutOfMemory, WriteRemoved};
 ghost use Rattle.pcache_base.specs.Key.{slot};
 ghost use Rattle.pcache_table.specs.Sharding.{part_of};
-ghost use Rattle.pcache_store.specs.Finishes.{created};
+ghost use Rattle.pcache_store.specs.Finishes.{body_number, created};
 ghost use Rattle.pcache_store.specs.Refusals.{MayFailFinish};
 ghost use Rattle.pcache_store.specs.Readers.{in_memory};
 ghost use Rattle.pcache_store.specs.Shards.{of_shard};
@@ -141,6 +141,13 @@ impl MemCache {
             }
             None => false,
         }
+    }
+
+    /// The number of the write that stored the key's complete body, if there is one: the number of the body's entry.
+    pub fn body_number(&self, key: &CacheKey) -> Option<CacheEntryId>
+        ensures { result ≡ body_number self.now (slot key.now) }
+    {
+        self.slots.get(key.slot())?.entry_id()
     }
 
     /// The meta of what a look-up of the key finds, as it is kept: a copy of its bytes, which are not read. Fails only when

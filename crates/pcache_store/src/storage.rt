@@ -13,7 +13,7 @@ ghost use Rattle.pcache_store.specs.declared.storage.MissFinishType.{MissFinishT
 ghost use Rattle.pcache_store.specs.declared.storage.PurgeOutcome.TheVariants.{Expired};
 ghost use Rattle.pcache_store.specs.Purge.{target_key, removed_entry, IsNumberOf, entry_given, entry_read, target_purged, target_outcome, slot_expired, expired_at, expire_outcome};
 ghost use Rattle.pcache_store.specs.Refusals.{MayFailWrite, MayFailFinish};
-ghost use Rattle.pcache_store.specs.Store.{Store, Reader, Guarantees, find, find_write, followed, left, begun, wrote, dropped, finished, is_untouched, complete_body, meta_set, is_told, gives_piece, read_of, reader_after, sought, can_seek, counts_access, reader_weight};
+ghost use Rattle.pcache_store.specs.Store.{Store, Reader, Guarantees, find, find_write, followed, left, begun, wrote, dropped, finished, is_untouched, complete_body, meta_set, is_told, gives_piece, read_of, reader_after, sought, can_seek, counts_access, reader_weight, is_whole, body_length};
 ghost use Rattle.pcache_store.specs.Tag.{named_by};
 
 use bytes::Bytes;
@@ -252,6 +252,16 @@ pub trait HandleHit<S: StoreMeaning> {
         ensures kind { IfErr result (λ e. e ≡ OutOfMemory) }
         ensures err { OnErr result (reader self.new ≡ reader self.old) }
         ensures same { S.state store.new ≡ S.state store.old };
+
+    /// Whether it has given all that it was to give: of a complete body its range; of a write each byte, and the write's end
+    /// was announced, or it was finished. After the end that `read_body` gives, `false` says that the body was cut off.
+    fn is_whole(&self, store: &S) -> bool
+        ensures { result ≡ is_whole (S.state store.now) (reader self.now) };
+
+    /// The length of the body in bytes, whatever the range: that of a complete body, or of a write whose end was announced or
+    /// that was finished. `None` as long as a write goes on, and if it was cut off.
+    fn body_length(&self, store: &S) -> Option<usize>
+        ensures { result ≡ body_length (S.state store.now) (reader self.now) };
 
     /// Ends the reader, even if this fails, which it does only when memory runs out.
     fn finish(self, store: &mut S) -> Result<()>

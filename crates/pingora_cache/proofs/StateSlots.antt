@@ -6,7 +6,7 @@ use Rattle.std.specs.Ordering.{nat_cmp}
 use Rattle.std.specs.FinMap.{FinMap, get, insert, remove, contains_key, len, get-empty, empty_of_len}
 use Rattle.std.proofs.lemmas.Bool.{eqb-true, both_ways, and_parts, cases_lt, false_from_ne_true, and_right}
 use Rattle.pcache_meta.specs.Meta.{Meta, numbered}
-use Rattle.pcache_store.specs.Store.{Store, Slot, Stored, is_untouched_in, is_idle, complete_body, with_slot, slot_or_new, opened_in, opened, new_write, begun, grounded, shut_on, shut, dropped_on, dropped, stored_on, finished_on, finished}
+use Rattle.pcache_store.specs.Store.{Store, Slot, Stored, is_untouched_in, is_idle, complete_body, with_slot, slot_or_new, opened_in, opened, new_write, begun, closed, grounded, shut_on, shut, dropped_on, dropped, stored_on, finished_on, finished}
 use Rattle.pcache_history.specs.declared.entry.Event.{Event}
 use Rattle.pcache_history.specs.declared.entry.Event.TheVariants.{Begin, Finish, Dropped}
 use Rattle.pcache_history.specs.Events as ev
@@ -149,6 +149,14 @@ module _ (es : List Event) (n : ℕ → ℕ) (s : Store) (st : IsState es n s) (
       (λ i. recorded (is_some (sym is i) && not (sym t i || has_ended w es)) (n w) (ev.body_of w es) (is_told w es) (sym is i))
       (λ q f. rw f refl)
 
+  -- and that of a write that was finished, whose end is known then
+  finished-writes : (q : ℕ) → get (closed s.writes w (kept_as true (n w) (ev.body_of w es) (is_told w es) b)) q ≡ record_of q (n q) (Finish w true ∷ es)
+  finished-writes =
+      let t = same-number w in
+      changed-at s.writes _ es (Finish w true ∷ es) n n w (recorded false (n w) (ev.body_of w es) true (Some b)) (get-kept s.writes w (kept_as false (n w) (ev.body_of w es) true b)) st.writes
+      (λ i. recorded (is_some (sym is i) && not (sym t i || has_ended w es)) (n w) (ev.body_of w es) (if sym t i then true else is_told w es) (sym is i))
+      (λ q f. rw f refl)
+
 pub state-dropped : (es : List Event) (n : ℕ → ℕ) (s : Store) (w : ℕ) → in_flight w es ≡ true → IsState es n s → IsState (Dropped w ∷ es) n (dropped s w)
 state-dropped es n s w fly st =
     let f = begun-flying w es fly in
@@ -187,9 +195,9 @@ state-finished es n s w tidy fly kept st =
     let set = get-set s.slots b.0 y in
     let ys : FinMap nat_cmp Slot = insert s.slots b.0 y in
     subst (λ o. IsState (Finish w true ∷ es) n (finished_on s w o)) (sym (record-flying es n s st w b fly f.1))
-    (subst (λ o. IsState (Finish w true ∷ es) n (record { slots = stored_on s.slots b.0 w c o; writes = grounded s.writes w (kept_as true (n w) (ev.body_of w es) (is_told w es) b); next = s.next })) (sym g.1) (record {
+    (subst (λ o. IsState (Finish w true ∷ es) n (record { slots = stored_on s.slots b.0 w c o; writes = closed s.writes w (kept_as true (n w) (ev.body_of w es) (is_told w es) b); next = s.next })) (sym g.1) (record {
       next = st.next;
-      writes = ended-writes es n s st w b f.1;
+      writes = finished-writes es n s st w b f.1;
       untouched = λ k q. ended-untouched es n s st w b f.1 ys (Some y) set (λ q. gone-key x.untouched w q ∙ ap (λ o. cond (w == q) false (is_untouched_in q o)) (sym g.1)) k q ∙ finish-open es w k q;
       bodies = λ k. ap complete_body (set k)
           ∙ elim (b.0 == k) as (λ t. complete_body (cond t (Some y) (get s.slots k)) ≡ (if t then Some c else complete_body (get s.slots k))) [ true ↦ refl | false ↦ refl ]

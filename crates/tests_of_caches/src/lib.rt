@@ -5,6 +5,8 @@
 #[cfg(test)]
 mod bodies;
 #[cfg(test)]
+mod ends;
+#[cfg(test)]
 mod lifetimes;
 #[cfg(test)]
 mod loaded;
@@ -12,6 +14,8 @@ mod loaded;
 mod managers;
 #[cfg(test)]
 mod puts;
+#[cfg(test)]
+mod refills;
 #[cfg(test)]
 mod requests;
 #[cfg(test)]

@@ -232,7 +232,7 @@ const PUTS: &str = r"
     # a key that is purged between two pieces
     put a: HTTP/1.1 200 OK\r\nContent-Length: 4\r\n\r\n|ru|purge a|st, find a rust -> ++yes+ WriteRemoved; no; 0 in 0, 0 tracked
     # one that fills anew what stands
-    put a: HTTP/1.1 200 OK\r\n\r\nhi, put a: HTTP/1.1 200 OK\r\n\r\nno, find a no -> + stored 2; + stored 2; yes; 2 in 1, 2 tracked
+    put a: HTTP/1.1 200 OK\r\n\r\nhi, put a: HTTP/1.1 200 OK\r\n\r\nno, find a no -> + stored 2; + stored 2; yes; 2 in 1, 1 tracked
     # no more than four bytes
     put a: HTTP/1.1 200 OK\r\n\r\nhi, put b: HTTP/1.1 200 OK\r\n\r\nrust, find a hi, find b rust -> + stored 2; + stored 4; no; yes; 4 in 1, 1 tracked
     put a: HTTP/1.1 200 OK\r\n\r\nrust and more, find a hi -> + stored 13; no; 0 in 0, 0 tracked

@@ -18,7 +18,8 @@ use pcache_request::HitStatus;
 use std::alloc::Global;
 use std::time::Duration;
 
-const NOW: Moment = Moment::EPOCH;
+/// The moment of all calls.
+pub const NOW: Moment = Moment::EPOCH;
 
 /// Names the cache of a test.
 pub struct OfTest;

@@ -3,6 +3,8 @@
 #[cfg(test)]
 mod alone;
 #[cfg(test)]
+mod ends;
+#[cfg(test)]
 mod gates;
 #[cfg(test)]
 mod lifetimes;
@@ -10,5 +12,7 @@ mod lifetimes;
 mod many;
 #[cfg(test)]
 mod puts;
+#[cfg(test)]
+mod refills;
 #[cfg(test)]
 mod requests;

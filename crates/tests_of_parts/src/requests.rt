@@ -1,6 +1,6 @@
 //! Requests of a cache in four parts, in few words.
 ghost use Rattle.std.specs.Prelude.{◌≡◌, IfOk};
-ghost use Rattle.pcache_request.specs.Phases.{MayLookUp};
+ghost use Rattle.pcache_request.specs.Phases.{MayLookUp, MayMiss};
 ghost use Rattle.pcache_request.specs.declared.phase.CachePhase.TheVariants.{CacheKey};
 
 use bytes::Bytes;
@@ -91,11 +91,35 @@ fn fill_in<M: EvictionManager, R: Wait>(
         cache.let_go(rt, request, hit);
         return Ok(false);
     }
+    store_in(rt, cache, request, body)
+}
+
+fn store_in<M: EvictionManager, R: Wait>(
+    rt: &R,
+    cache: &Parts<M>,
+    request: &mut Request,
+    body: &'static [u8],
+) -> Result<bool>
+    requires { MayMiss request.old.cache.phase }
+{
     request.cache_miss();
     request.set_cache_meta(meta_of(cache.alloc()));
     cache.set_miss_handler(rt, request)?;
     cache.write_body(rt, request, Bytes::from_static(body), true)?;
     Ok(cache.finish_miss_handler(rt, request)?.is_some())
+}
+
+/// Stores this body under a key, whatever stands there. Returns whether it did.
+pub fn refill<M: EvictionManager, R: Wait>(
+    rt: &R,
+    cache: &Parts<M>,
+    name: &str,
+    body: &'static [u8],
+) -> Result<bool> {
+    let mut request = request_for(cache, name)?;
+    let filled = store_in(rt, cache, &mut request, body);
+    cache.end(rt, request);
+    filled
 }
 
 /// Whether a key is found with this body, which is a use of it.

@@ -296,6 +296,8 @@ const STORED_READ_AND_PURGED: &str = "
     1 is filling -> yes
     1 write ab
     1 reread -> data ab
+    1 whole -> yes
+    1 length -> Some(2)
     1 is filling -> yes
     1 finish -> stored 2
     1 is filling -> yes
@@ -315,7 +317,10 @@ const STORED_READ_AND_PURGED: &str = "
     2 has reader -> yes
     2 weight -> 2
     2 has reader -> yes
+    2 length -> Some(2)
+    2 whole -> no
     2 read -> data ab
+    2 whole -> yes
     2 has reader -> yes
     2 read -> end
     2 leaves

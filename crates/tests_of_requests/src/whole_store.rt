@@ -170,6 +170,14 @@ impl HandleHit<WholeStore> for WholeHit {
         self.hit.read_body(alloc, &mut store.bodies)
     }
 
+    fn is_whole(&self, store: &WholeStore) -> bool {
+        self.hit.is_whole(&store.bodies)
+    }
+
+    fn body_length(&self, store: &WholeStore) -> Option<usize> {
+        self.hit.body_length(&store.bodies)
+    }
+
     fn finish(self, store: &mut WholeStore) -> Result<()> {
         let WholeHit { hit } = self;
         store.finished = store.finished.saturating_add(1);

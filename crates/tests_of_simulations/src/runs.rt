@@ -10,6 +10,7 @@ use pcache_base::key::{CompactCacheKey, hash_key};
 use pcache_base::moment::Moment;
 use pcache_base::seed::Seed;
 use pcache_base::text::Text;
+use pcache_evict::eviction::ordered::OrderedManager;
 use pcache_evict::eviction::{CacheEntryKey, EvictionManager, sharded_lru, simple_lru};
 use pcache_policies::{s3_fifo, sieve};
 use std::alloc::Global;
@@ -48,7 +49,7 @@ impl Desk for Made {
     }
 }
 
-fn tell_run<M: EvictionManager>(
+fn tell_run<M: OrderedManager>(
     alloc: Global,
     manager: Result<M>,
     cache: &'static str,
@@ -70,7 +71,7 @@ fn tell_run<M: EvictionManager>(
     }
 }
 
-fn tell_requests<M: EvictionManager>(
+fn tell_requests<M: OrderedManager>(
     alloc: Global,
     run: &mut Run<M>,
     requests: &'static str,
@@ -86,7 +87,7 @@ fn tell_requests<M: EvictionManager>(
 }
 
 // The first request of a run is made alone, and each other one is played.
-fn make<M: EvictionManager>(alloc: Global, run: &mut Run<M>, asked: &'static str) -> Result<()> {
+fn make<M: OrderedManager>(alloc: Global, run: &mut Run<M>, asked: &'static str) -> Result<()> {
     let request = request_of(alloc, asked)?;
     if run.counts.requests == 0 {
         return run.request(&request);
@@ -110,7 +111,7 @@ fn request_of(alloc: Global, asked: &'static str) -> Result<Request> {
     })
 }
 
-fn tell_counts<M: EvictionManager>(run: &Run<M>, told: &mut Told) {
+fn tell_counts<M: OrderedManager>(run: &Run<M>, told: &mut Told) {
     told.say(" | ");
     told.number(run.counts.requests);
     told.say(" of ");

@@ -17,6 +17,7 @@ use pcache_store::storage::{
 use std::alloc::Global;
 use std::process::Abort;
 
+mod ends;
 mod handlers;
 mod pieces;
 
@@ -209,6 +210,8 @@ fn tell_of_reader(parts: &mut Parts, reader: &mut Reader, call: &'static str, to
     match word(call, 1) {
         "looks" => look(parts, reader, word(call, 2), told),
         "reads" => read(parts, reader, told),
+        "is-whole" => tell_whole(parts, reader, told),
+        "length" => tell_length(parts, reader, told),
         "seeks" => seek(reader, size(call, 2), some_size(call, 3), told),
         "ends" => end_reader(parts, reader.take(), told),
         _ => told.say("no such call"),
@@ -351,6 +354,22 @@ fn tell_read(read: Result<Poll<Option<Bytes>>>, told: &mut Told) {
         Ok(Poll::Ready(None)) => told.say("end"),
         Ok(Poll::Pending) => told.say("pending"),
         Err(refused) => told.refused(&refused),
+    }
+}
+
+// Whether all was given that was to be read: `whole` if so.
+fn tell_whole(parts: &Parts, reader: &Reader, told: &mut Told) {
+    match reader {
+        Some(reader) if reader.is_whole(&parts.store) => told.say("whole"),
+        Some(_) => told.say("not whole"),
+        None => told.say("none open"),
+    }
+}
+
+fn tell_length(parts: &Parts, reader: &Reader, told: &mut Told) {
+    match reader {
+        Some(reader) => told.named(&reader.body_length(&parts.store)),
+        None => told.say("none open"),
     }
 }
 

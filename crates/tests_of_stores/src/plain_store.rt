@@ -288,7 +288,7 @@ impl PlainStore {
         match draft.to_body(self.alloc) {
             Ok(body) => {
                 store(&mut self.slots, slot, number, body);
-                self.writes.land(number);
+                self.writes.close(number);
                 Ok(MissFinishType::Created(size))
             }
             Err(refused) => {
@@ -444,6 +444,26 @@ impl HandleHit<PlainStore> for PlainHit {
             return Ok(Poll::Pending);
         }
         Ok(Poll::Ready(None))
+    }
+
+    fn is_whole(&self, store: &PlainStore) -> bool {
+        if let Some(hit) = &self.range {
+            return hit.done;
+        }
+        match store.writes.get(self.write) {
+            Some(draft) => draft.is_told() && draft.len() <= self.place,
+            None => false,
+        }
+    }
+
+    fn body_length(&self, store: &PlainStore) -> Option<usize> {
+        if let Some(hit) = &self.range {
+            return Some(hit.body.len());
+        }
+        match store.writes.get(self.write) {
+            Some(draft) if draft.is_told() => Some(draft.len()),
+            _ => None,
+        }
     }
 
     fn finish(self, store: &mut PlainStore) -> Result<()> {

@@ -13,7 +13,7 @@ impl HttpCache<MemCache> {
     ghost use Rattle.pcache_store.specs.Store.{Store, gives_piece, read_of, reader_after};
     ghost use Rattle.pcache_request.specs.Alone.{MayEndAlone, reads_alone};
     ghost use Rattle.pcache_request.specs.Phases.{MayFinishHit};
-    ghost use Rattle.pcache_request.specs.Requests.{dropped_by, left_by, let_go_by, without_reader};
+    ghost use Rattle.pcache_request.specs.Requests.{dropped_by, left_by, length_by, let_go_by, whole_by, without_reader};
 
     /// Whether its reader, if it has one, needs no store: it reads a complete body.
     pub fn reads_alone(&self) -> bool
@@ -49,6 +49,28 @@ impl HttpCache<MemCache> {
             unreachable!()
         };
         reader.read_body_alone()
+    }
+
+    /// `is_body_whole` of a complete body, or without a reader. Ask `reads_alone()`.
+    pub fn is_body_whole_alone(&self) -> bool
+        requires { reads_alone self.now.reader ≡ true }
+        ensures { (s : Store) → result ≡ whole_by self.now.reader s }
+    {
+        match &self.reader {
+            Some(reader) => reader.is_whole_alone(),
+            None => false,
+        }
+    }
+
+    /// `body_length` of a complete body, or without a reader. Ask `reads_alone()`.
+    pub fn body_length_alone(&self) -> Option<usize>
+        requires { reads_alone self.now.reader ≡ true }
+        ensures { (s : Store) → result ≡ length_by self.now.reader s }
+    {
+        match &self.reader {
+            Some(reader) => Some(reader.body_length_alone()),
+            None => None,
+        }
     }
 
     /// `finish_hit_handler` without a reader, or with one of a complete body: it leaves any store as it is.

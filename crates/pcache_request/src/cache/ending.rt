@@ -1,6 +1,6 @@
 //! The end of a write, in any call that ends one: its entry and key are made, the storage stores the body, the
 //! manager admits the entry, and what is evicted for it is purged.
-ghost use Rattle.std.specs.Prelude.{◌≡◌, true, false, IfOk, IfErr, ◌⊎◌, OnErr, OnOk, Some, cond};
+ghost use Rattle.std.specs.Prelude.{◌≡◌, true, false, IfOk, IfErr, ◌⊎◌, OnErr, OnOk, Some, None, cond};
 ghost use Rattle.pcache_base.specs.declared.error.ErrorType.TheVariants.{OutOfMemory};
 ghost use Rattle.pcache_base.specs.CompactKey.{compact_of};
 ghost use Rattle.pcache_evict.specs.Tracked.{evicted_with};
@@ -8,6 +8,7 @@ ghost use Rattle.pcache_store.specs.Purge.{entry_purged};
 ghost use Rattle.pcache_store.specs.Refusals.{MayFailFinish};
 ghost use Rattle.pcache_store.specs.Store.{dropped, finished, is_untouched};
 ghost use Rattle.pcache_request.specs.Finishing.{PurgesAll, Admits, size_reported, with_entry};
+ghost use Rattle.pcache_request.specs.Replacing.{tracked_before, without_entry};
 ghost use Rattle.pcache_request.specs.Reports.{entry_stored};
 ghost use Rattle.pcache_request.specs.Requests.{entry_of};
 ghost use Rattle.pcache_request.specs.WriteEnds.{EndsBody, HoldsNoLock, evicted_by};
@@ -173,9 +174,36 @@ fn reported_size(kind: MissFinishType) -> usize
     }
 }
 
+// Takes the entry of the key's body with this number out of the manager, if one is named and a manager is in use. Returns the
+// key.
+fn remove_replaced<E: EvictionManager>(
+    is_used: bool,
+    eviction: &mut E,
+    key: CompactCacheKey,
+    replaced: Option<CacheEntryId>,
+) -> CompactCacheKey
+    ensures key { result ≡ key }
+    ensures tracked { E.tracked eviction.new
+        ≡ without_entry is_used key replaced (E.tracked eviction.old) }
+    ensures evicted { E.evicted eviction.new ≡ E.evicted eviction.old }
+    ensures limits { E.limits eviction.new ≡ E.limits eviction.old }
+{
+    let Some(id) = replaced else { return key };
+    if !is_used {
+        return key;
+    }
+    let entry = CacheEntryKey::identified(key, id);
+    eviction.remove(&entry);
+    entry.into_key()
+}
+
 /// Ends the write of a key and stores its body. Its entry is admitted if a manager is in use, and what is evicted for
 /// it is purged, in order. If the end of the write fails, it is dropped; if the admission fails, the body is purged
 /// again. The entry and the key are made first, so that a lack of memory for them drops the write.
+///
+/// If the number of the body that the new one replaces is named, the entry of that body is taken out of the manager once the
+/// new body is stored, before the new entry is admitted: at no moment both are tracked. If the write is dropped, the old
+/// body stays, and so does its entry.
 pub fn end_writer<S: Storage, E: EvictionManager>(
     alloc: Global,
     is_used: bool,
@@ -184,16 +212,19 @@ pub fn end_writer<S: Storage, E: EvictionManager>(
     key: &CacheKey,
     writer: S::Miss,
     fresh_until: Moment,
+    replaced: Option<CacheEntryId>,
 ) -> EndedWrite
     ensures end { EndsBody S.guarantees is_used (S.Miss.entry_number writer) HoldsNoLock key.now
         (S.Miss.write writer) (S.finishes storage.old (S.Miss.write writer)) (E.limits eviction.old)
-        result.end (S.state storage.old) (S.state storage.new) (E.tracked eviction.old)
+        result.end (S.state storage.old) (S.state storage.new)
+        (tracked_before is_used key.now replaced result.end (E.tracked eviction.old))
         (E.tracked eviction.new) }
     ensures entry { result.entry
         ≡ entry_stored (Some key.now) (S.Miss.entry_number writer) result.end }
     ensures evicted { E.evicted eviction.new
         ≡ evicted_by is_used (S.Miss.entry_number writer) key.now
-        (S.finishes storage.old (S.Miss.write writer)) (E.tracked eviction.old)
+        (S.finishes storage.old (S.Miss.write writer))
+        (tracked_before is_used key.now replaced result.end (E.tracked eviction.old))
         (E.evicted eviction.old) result.end }
     ensures limits { E.limits eviction.new ≡ E.limits eviction.old }
 {
@@ -207,6 +238,7 @@ pub fn end_writer<S: Storage, E: EvictionManager>(
             };
         }
     };
+    let compact = remove_replaced(is_used, eviction, compact, replaced);
     match admit_and_purge(alloc, is_used, storage, eviction, entry, kind, fresh_until) {
         Ok(report) => EndedWrite {
             end: WriteEnd::Stored(report),

@@ -7,7 +7,7 @@ use super::ending::{EndedWrite, end_writer};
 use super::report::{LockName, WriteReport};
 use super::{HttpCache, settle};
 use pcache_base::error::{Error, Result};
-use pcache_evict::eviction::{CacheEntryKey, EvictionManager};
+use pcache_evict::eviction::{CacheEntryId, CacheEntryKey, EvictionManager};
 use pcache_lock::lock::{CacheKeyLock, LockStatus};
 use pcache_store::storage::Storage;
 
@@ -54,6 +54,7 @@ impl<S: Storage> HttpCache<S> {
     ghost use Rattle.pcache_request.specs.Finishing.{after_finish};
     ghost use Rattle.pcache_request.specs.NoBody.{HasNoBodyFor, IfWithdrawn, LeavesNone};
     ghost use Rattle.pcache_request.specs.WriteEnds.{Ends, EndsAs, finishes_of, evicted_after};
+    ghost use Rattle.pcache_request.specs.Replacing.{tracked_before_end};
     ghost use Rattle.pcache_request.specs.Reports.{name_of, entry_stored};
 
     // Releases the lock that the request holds, a permit with a status, and returns which lock it
@@ -108,6 +109,46 @@ impl<S: Storage> HttpCache<S> {
         }
     }
 
+    /// `finish_miss_handler` that is told the number of the body which the new one replaces: the entry of that body is taken
+    /// out of the manager before the new one's is admitted, so that at no moment both are tracked.
+    /// Requires the phase Miss or Expired; ask `phase().is_filling()`.
+    pub fn finish_replacing<L: CacheKeyLock, E: EvictionManager>(
+        &mut self,
+        storage: &mut S,
+        eviction: &mut E,
+        lock: &mut L,
+        replaced: Option<CacheEntryId>,
+    ) -> Result<Option<FinishReport>>
+        requires { IsFilling self.old.phase }
+        ensures request { self.new ≡ after_finish self.old }
+        ensures end { EndsAs result (λ end. Ends S.guarantees self.old self.old.key self.old.write
+            (finishes_of (S.finishes storage.old) self.old.write) (E.limits eviction.old) end
+            (S.state storage.old) (S.state storage.new)
+            (tracked_before_end self.old self.old.key replaced end (E.tracked eviction.old))
+            (E.tracked eviction.new) (L.table lock.old) (L.table lock.new)) }
+        ensures evicted { EndsAs result (λ end. E.evicted eviction.new
+            ≡ evicted_after self.old self.old.key
+            (finishes_of (S.finishes storage.old) self.old.write)
+            (tracked_before_end self.old self.old.key replaced end (E.tracked eviction.old))
+            (E.evicted eviction.old) end) }
+        ensures limits { E.limits eviction.new ≡ E.limits eviction.old }
+        ensures withdrawn { IsTrue S.guarantees.purges
+            → OnErr result (LeavesNone self.old.key self.old.write (S.state storage.old)
+            (S.state storage.new)) }
+    {
+        let WriteReport {
+            end,
+            entry: _,
+            released: _,
+        } = self.end_write_replacing(storage, eviction, lock, replaced);
+        match end {
+            WriteEnd::Nothing => Ok(None),
+            WriteEnd::Stored(report) => Ok(Some(report)),
+            WriteEnd::Dropped(error) => Err(error),
+            WriteEnd::Withdrawn(error) => Err(error),
+        }
+    }
+
     /// `finish_miss_handler` with a result that says how far it came.
     /// Requires the phase Miss or Expired; ask `phase().is_filling()`.
     pub fn end_write<L: CacheKeyLock, E: EvictionManager>(
@@ -133,6 +174,37 @@ impl<S: Storage> HttpCache<S> {
         ensures withdrawn { IsTrue S.guarantees.purges
             → IfWithdrawn result.end (HasNoBodyFor (S.state storage.new) self.old.key) }
     {
+        self.end_write_replacing(storage, eviction, lock, None)
+    }
+
+    /// `end_write` that is told the number of the body which the new one replaces, as `finish_replacing`.
+    /// Requires the phase Miss or Expired; ask `phase().is_filling()`.
+    pub fn end_write_replacing<L: CacheKeyLock, E: EvictionManager>(
+        &mut self,
+        storage: &mut S,
+        eviction: &mut E,
+        lock: &mut L,
+        replaced: Option<CacheEntryId>,
+    ) -> WriteReport
+        requires { IsFilling self.old.phase }
+        ensures request { self.new ≡ after_finish self.old }
+        ensures end { Ends S.guarantees self.old self.old.key self.old.write
+            (finishes_of (S.finishes storage.old) self.old.write) (E.limits eviction.old) result.end
+            (S.state storage.old) (S.state storage.new)
+            (tracked_before_end self.old self.old.key replaced result.end (E.tracked eviction.old))
+            (E.tracked eviction.new) (L.table lock.old) (L.table lock.new) }
+        ensures entry { result.entry ≡ entry_stored self.old.key self.old.entry result.end }
+        ensures released { result.released
+            ≡ cond (is_some self.old.write) (option_map name_of self.old.held) None }
+        ensures evicted { E.evicted eviction.new
+            ≡ evicted_after self.old self.old.key
+            (finishes_of (S.finishes storage.old) self.old.write)
+            (tracked_before_end self.old self.old.key replaced result.end (E.tracked eviction.old))
+            (E.evicted eviction.old) result.end }
+        ensures limits { E.limits eviction.new ≡ E.limits eviction.old }
+        ensures withdrawn { IsTrue S.guarantees.purges
+            → IfWithdrawn result.end (HasNoBodyFor (S.state storage.new) self.old.key) }
+    {
         let Some(key) = &self.key else { unreachable!() };
         let Some(writer) = self.writer.take() else {
             return WriteReport::new(WriteEnd::Nothing, None, None);
@@ -149,6 +221,7 @@ impl<S: Storage> HttpCache<S> {
             key,
             writer,
             meta.fresh_until(),
+            replaced,
         );
         let released = self.settle_held(lock, status_after(&end));
         WriteReport::new(end, entry, released)

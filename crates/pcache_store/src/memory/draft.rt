@@ -151,6 +151,13 @@ impl Draft {
         self.flying = false;
     }
 
+    // Records that its body was stored: its end is known.
+    pub(crate) fn tell(&mut self)
+        ensures { self.new ≡ record self.old { told = true } }
+    {
+        self.told = true;
+    }
+
     // The write as a complete body, with which it shares its bytes from now on.
     pub(crate) fn to_body(&mut self, alloc: Global) -> Result<Body>
         ensures ok { IfOk result (λ b.

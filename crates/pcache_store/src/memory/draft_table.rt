@@ -1,8 +1,8 @@
 //! The records of writes by number, in shards.
-ghost use Rattle.std.specs.Prelude.{◌≡◌, ◌<◌, ◌++◌, ◌^◌, ℕ, Option, Some, None, IsSome, IfSome, IfNone, IfOk, IfErr, OnOk, OnErr, option_map, option_copied, ◌+◌};
+ghost use Rattle.std.specs.Prelude.{◌≡◌, ◌<◌, ◌++◌, ◌^◌, ℕ, Option, Some, None, IsSome, IfSome, IfNone, IfOk, IfErr, OnOk, OnErr, option_map, option_copied, is_ok, ◌+◌};
 ghost use Rattle.std.specs.FinMap as map;
 ghost use Rattle.pcache_base.specs.declared.error.ErrorType.TheVariants.{OutOfMemory};
-ghost use Rattle.pcache_store.specs.Drafts.{IsBodyOf};
+ghost use Rattle.pcache_store.specs.Drafts.{IsBodyOf, ended_on};
 ghost use Rattle.pcache_store.specs.Shards.{one_if_some, of_shard, table_at, IsPlaceOf};
 ghost use Rattle.pcache_store.specs.Store.{Written, followed_on, left_on, wrote_on, grounded_on};
 
@@ -177,11 +177,12 @@ impl DraftTable {
         self.count -= land_in(table, number);
     }
 
-    // Ends a write: its handler is gone. Returns its body, which shares its bytes.
+    // Ends a write: its handler is gone. Returns its body, which shares its bytes; then its end is known.
     pub(crate) fn end(&mut self, alloc: Global, slot: u128, number: u64) -> Result<Body>
         requires { IsSome (map.get self.old number) }
         ensures body { IfOk result (λ b. IsBodyOf (map.get self.old number) b) }
-        ensures gone { self.new ≡ grounded_on self.old number (map.get self.old number) }
+        ensures gone { self.new
+            ≡ ended_on (is_ok result) self.old number (map.get self.old number) }
         ensures kind { IfErr result (λ e. e ≡ OutOfMemory) }
     {
         let number = number as u128;
@@ -302,12 +303,13 @@ fn land_in(writes: &mut HashedTable<Draft>, number: u128) -> usize
     1
 }
 
-// If the write has no reader, its meta and bytes move into the body; otherwise the body shares them. Also returns
-// how many records were removed.
+// If the write has no reader, its meta and bytes move into the body; otherwise the body shares them, and its readers know
+// that it ended. Also returns how many records were removed.
 fn end_in(writes: &mut HashedTable<Draft>, alloc: Global, number: u128) -> (Result<Body>, usize)
     requires { IsSome (map.get writes.old number) }
     ensures body { IfOk result.0 (λ b. IsBodyOf (map.get writes.old number) b) }
-    ensures after { writes.new ≡ grounded_on writes.old number (map.get writes.old number) }
+    ensures after { writes.new
+        ≡ ended_on (is_ok result.0) writes.old number (map.get writes.old number) }
     ensures gone { one_if_some (map.get writes.new number) + result.1
         ≡ one_if_some (map.get writes.old number) }
     ensures kind { IfErr result.0 (λ e. e ≡ OutOfMemory) }
@@ -317,7 +319,13 @@ fn end_in(writes: &mut HashedTable<Draft>, alloc: Global, number: u128) -> (Resu
     };
     draft.land();
     if draft.is_named() {
-        return (draft.to_body(alloc), 0);
+        return match draft.to_body(alloc) {
+            Ok(body) => {
+                draft.tell();
+                (Ok(body), 0)
+            }
+            Err(refused) => (Err(refused), 0),
+        };
     }
     let Some(draft) = writes.remove(number) else {
         unreachable!()

@@ -1,8 +1,8 @@
 //! The writes by number.
-ghost use Rattle.std.specs.Prelude.{◌≡◌, ◌<◌, ◌≤◌, ◌+◌, ◌-◌, ◌^◌, ◌++◌, ℕ, Option, Some, None, IsSome, IfSome, ◌↔◌, IfOk, IfErr, OnOk, OnErr, option_map, option_copied, length};
+ghost use Rattle.std.specs.Prelude.{◌≡◌, ◌<◌, ◌≤◌, ◌+◌, ◌-◌, ◌^◌, ◌++◌, ℕ, Option, Some, None, IsSome, IfSome, ◌↔◌, IfOk, IfErr, OnOk, OnErr, option_map, option_copied, is_ok, length};
 ghost use Rattle.std.specs.FinMap as map;
 ghost use Rattle.pcache_base.specs.declared.error.ErrorType.TheVariants.{OutOfMemory};
-ghost use Rattle.pcache_store.specs.Drafts.{IsBodyOf};
+ghost use Rattle.pcache_store.specs.Drafts.{IsBodyOf, ended_on};
 ghost use Rattle.pcache_store.specs.Shards.{of_shard};
 ghost use Rattle.pcache_store.specs.Store.{followed_on, left_on, wrote_on, grounded_on};
 
@@ -174,13 +174,13 @@ impl Drafts {
         self.writes.land(slot, number);
     }
 
-    // Ends a write: its handler is gone. Returns its body, which shares its bytes.
+    // Ends a write: its handler is gone. Returns its body, which shares its bytes; then its end is known.
     pub(crate) fn end(&mut self, alloc: Global, slot: u128, number: u64) -> Result<Body>
         requires { IsSome (map.get self.old.writes number) }
         ensures body { IfOk result (λ b. IsBodyOf (map.get self.old.writes number) b) }
         ensures gone { self.new
             ≡ record self.old {
-              writes = grounded_on self.old.writes number
+              writes = ended_on (is_ok result) self.old.writes number
                   (map.get self.old.writes number);
             } }
         ensures kind { IfErr result (λ e. e ≡ OutOfMemory) }

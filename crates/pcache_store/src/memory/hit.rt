@@ -170,7 +170,7 @@ impl MemHitHandler {
 
 impl MemHitHandler {
     ghost use Rattle.pcache_store.specs.Readers.{needs_no_store, reader_of};
-    ghost use Rattle.pcache_store.specs.Store.{Store, gives_piece, left, read_of, reader_after};
+    ghost use Rattle.pcache_store.specs.Store.{Store, body_length, gives_piece, is_whole, left, read_of, reader_after};
 
     /// Whether it needs no store: it reads a complete body, whose bytes it has.
     pub fn needs_no_store(&self) -> bool
@@ -195,6 +195,29 @@ impl MemHitHandler {
             unreachable!()
         };
         Ok(Poll::Ready(hit.read()?))
+    }
+
+    /// `is_whole` without the store: whether its range was given. Requires a reader of a complete body; ask
+    /// `needs_no_store()`.
+    pub fn is_whole_alone(&self) -> bool
+        requires { needs_no_store (reader_of self.now) ≡ true }
+        ensures { (s : Store) → result ≡ is_whole s (reader_of self.now) }
+    {
+        match self {
+            MemHitHandler::Complete(hit) => hit.done,
+            MemHitHandler::Partial(_part) => unreachable!(),
+        }
+    }
+
+    /// `body_length` without the store. Requires a reader of a complete body; ask `needs_no_store()`.
+    pub fn body_length_alone(&self) -> usize
+        requires { needs_no_store (reader_of self.now) ≡ true }
+        ensures { (s : Store) → Some result ≡ body_length s (reader_of self.now) }
+    {
+        match self {
+            MemHitHandler::Complete(hit) => hit.body.len(),
+            MemHitHandler::Partial(_part) => unreachable!(),
+        }
     }
 
     /// `let_go` without the store: any store would stay as it is.
@@ -237,6 +260,26 @@ impl HandleHit<MemCache> for MemHitHandler {
                 }
                 Ok(Poll::Ready(None))
             }
+        }
+    }
+
+    fn is_whole(&self, store: &MemCache) -> bool {
+        match self {
+            MemHitHandler::Complete(hit) => hit.done,
+            MemHitHandler::Partial(part) => match store.draft(part.slot, part.write) {
+                Some(draft) => draft.is_told() && draft.len() <= part.place,
+                None => false,
+            },
+        }
+    }
+
+    fn body_length(&self, store: &MemCache) -> Option<usize> {
+        match self {
+            MemHitHandler::Complete(hit) => Some(hit.body.len()),
+            MemHitHandler::Partial(part) => match store.draft(part.slot, part.write) {
+                Some(draft) if draft.is_told() => Some(draft.len()),
+                _ => None,
+            },
         }
     }
 

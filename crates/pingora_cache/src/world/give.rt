@@ -24,8 +24,8 @@ pub(crate) fn give<P: PutPolicy>(
 ) -> Reply
     requires none { events.old.items ≡ [] }
     requires room { 3 ≤ vec_capacity events.old }
-    ensures { HandsOver from to (λ q. open_at q requests.old.entries) lock.old result
-        events.new.items (λ q. open_at q requests.new.entries) lock.new }
+    ensures { HandsOver from to (λ q. open_at q requests.old.entries) lock.old.table result
+        events.new.items (λ q. open_at q requests.new.entries) lock.new.table }
 {
     if !takes(requests, to) {
         return Reply::WrongCall;
@@ -71,8 +71,8 @@ fn hand<P: PutPolicy>(
     requires { MayTake (open_at to requests.old.entries) }
     ensures let_go { each LetGo result ≡ given_up (Some permit) (open_at to requests.old.entries) }
     ensures requests { IsHandedTo to permit requests.old.entries requests.new.entries }
-    ensures table { lock.new
-        ≡ table_given (Some permit) (open_at to requests.old.entries) lock.old }
+    ensures table { lock.new.table
+        ≡ table_given (Some permit) (open_at to requests.old.entries) lock.old.table }
 {
     let Some(open) = requests.get_mut(&to) else {
         unreachable!()

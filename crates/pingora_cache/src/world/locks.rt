@@ -59,14 +59,14 @@ pub(crate) fn wait(
     requires none { events.old.items ≡ [] }
     requires room { 3 ≤ vec_capacity events.old }
     ensures answers { (s : Store)
-        → Answers s lock.old (acts.Wait now) request.old result events.new.items }
+        → Answers s lock.old.table (acts.Wait now) request.old result events.new.items }
     ensures moves { (s : Store)
         → MovesStore (Some request.old) s events.new.items (Some request.new) s }
     ensures keeps { KeepsKey (Some request.old) (Some request.new) }
     ensures row { IsRow (acts.Wait now) result events.new.items (Some request.old)
         (Some request.new) }
-    ensures locks { MovesLocksIn (acts.Wait now) result events.new.items request.old lock.old
-        request.new lock.new }
+    ensures locks { MovesLocksIn (acts.Wait now) result events.new.items request.old lock.old.table
+        request.new lock.new.table }
 {
     let Some(Locked::Read(_)) = request.cache.held() else {
         return Reply::WrongCall;
@@ -86,7 +86,7 @@ fn wait_on(
     requires none { events.old.items ≡ [] }
     requires room { 3 ≤ vec_capacity events.old }
     ensures answers { (s : Store)
-        → Waits (facts_in s lock.old cache.old) now cache.old result events.new.items }
+        → Waits (facts_in s lock.old.table cache.old) now cache.old result events.new.items }
     ensures other { IsOther result }
     ensures moves { (s : Store) → MovesStoreBeside cache.old s events.new.items cache.new s }
     ensures keeps { KeepsIn cache.old cache.new }
@@ -94,7 +94,7 @@ fn wait_on(
         ≡ untold_request (waited_by (kind_of_reply result) now cache.old) }
     ensures locks { (r : ℕ)
         → MovesLocks r (deeds_in r (acts.Wait now) (kind_of_reply result) events.new.items None)
-        cache.old.held lock.old cache.new.held lock.new }
+        cache.old.held lock.old.table cache.new.held lock.new.table }
 {
     let report = match cache.wait(lock, now) {
         Ok(report) => report,
@@ -130,7 +130,7 @@ pub(crate) fn publish(request: &OpenRequest, lock: &mut CacheLock, tokens: &Toke
         (Some request.now) result [] }
     ensures moves { MovesRequest (Some request.now) (Some request.now) }
     ensures locks { MovesLocksIn (acts.Request (asks.Publish tokens.now)) result [] request.now
-        lock.old request.now lock.new }
+        lock.old.table request.now lock.new.table }
 {
     match request
         .cache
@@ -159,7 +159,7 @@ pub(crate) fn release(
     ensures row { Some request.new
         ≡ row (acts.Request (asks.Release reason)) result events.new.items (Some request.old) }
     ensures locks { MovesLocksBy 0 (status_for (λ text. GiveUp) reason) events.new.items
-        request.old.request lock.old request.new.request lock.new }
+        request.old.request lock.old.table request.new.request lock.new.table }
 {
     if !request.cache.may_release(reason) {
         return Reply::WrongCall;
@@ -189,7 +189,7 @@ pub(crate) fn uncacheable(
         ≡ row (acts.Request (asks.Uncacheable header.now reason)) result events.new.items
         (Some request.old) }
     ensures locks { MovesLocksBy 0 (status_for (λ text. GiveUp) reason) events.new.items
-        request.old.request lock.old request.new.request lock.new }
+        request.old.request lock.old.table request.new.request lock.new.table }
 {
     if !request.cache.may_revalidate() || !request.cache.may_release(reason) {
         return Reply::WrongCall;

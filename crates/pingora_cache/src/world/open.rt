@@ -106,7 +106,7 @@ impl<P: PutPolicy> Open<P> {
         requires { MayTake (Some self.old) }
         ensures let_go { each LetGo result ≡ given_up (Some permit) (Some self.old) }
         ensures held { self.new ≡ handed_by (Some permit) self.old }
-        ensures table { lock.new ≡ table_given (Some permit) (Some self.old) lock.old }
+        ensures table { lock.new.table ≡ table_given (Some permit) (Some self.old) lock.old.table }
     {
         match &mut self.kind {
             Kind::Request(request) => request.put_permit(lock, permit),

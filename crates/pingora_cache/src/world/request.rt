@@ -76,7 +76,7 @@ impl OpenRequest {
         requires { IsOn self.old.request.phase }
         ensures let_go { each LetGo result ≡ given_up (Some permit) (Some self.old) }
         ensures held { self.new ≡ handed_by (Some permit) self.old }
-        ensures table { lock.new ≡ table_given (Some permit) (Some self.old) lock.old }
+        ensures table { lock.new.table ≡ table_given (Some permit) (Some self.old) lock.old.table }
     {
         permit_in(self.cache.set_write_lock(lock, permit))
     }
@@ -85,7 +85,7 @@ impl OpenRequest {
     pub(crate) fn end(self, store: &mut MemCache, lock: &mut CacheLock) -> Option<u64>
         ensures let_go { result ≡ permit_of self.request.held }
         ensures store { store.new ≡ store_ended self store.old }
-        ensures table { lock.new ≡ let_go_by self.request.held lock.old }
+        ensures table { lock.new.table ≡ let_go_by self.request.held lock.old.table }
     {
         let OpenRequest {
             cache,

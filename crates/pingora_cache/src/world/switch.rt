@@ -57,7 +57,7 @@ pub(crate) fn disable(
     ensures row { Some request.new
         ≡ row (acts.Request (asks.Disable reason)) result events.new.items (Some request.old) }
     ensures locks { MovesLocksBy 0 (status_for (λ text. GiveUp) reason) events.new.items
-        request.old.request lock.old request.new.request lock.new }
+        request.old.request lock.old.table request.new.request lock.new.table }
 {
     if !request.cache.may_disable(reason) {
         return Reply::WrongCall;

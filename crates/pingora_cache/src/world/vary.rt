@@ -68,8 +68,8 @@ pub(crate) fn variance(
     ensures keeps { KeepsKey (Some request.old) (Some request.new) }
     ensures row { Some request.new
         ≡ row (acts.Request (asks.Variance variance)) result events.new.items (Some request.old) }
-    ensures locks { MovesLocksBy 0 Done events.new.items request.old.request lock.old
-        request.new.request lock.new }
+    ensures locks { MovesLocksBy 0 Done events.new.items request.old.request lock.old.table
+        request.new.request lock.new.table }
 {
     if !request.cache.may_write() {
         return Reply::WrongCall;
@@ -110,15 +110,15 @@ pub(crate) fn revalidate(
     requires spare { spare.old ≡ Some (meta.now, meta.now) }
     requires none { events.old.items ≡ [] }
     requires room { 3 ≤ vec_capacity events.old }
-    ensures answers { Answers store.old lock.old (acts.Request (asks.Revalidate meta.now))
+    ensures answers { Answers store.old lock.old.table (acts.Request (asks.Revalidate meta.now))
         request.old result events.new.items }
     ensures moves { MovesStore (Some request.old) store.old events.new.items (Some request.new)
         store.new }
     ensures keeps { KeepsKey (Some request.old) (Some request.new) }
     ensures row { Some request.new
         ≡ row (acts.Request (asks.Revalidate meta.now)) result events.new.items (Some request.old) }
-    ensures locks { MovesLocksBy 0 Done events.new.items request.old.request lock.old
-        request.new.request lock.new }
+    ensures locks { MovesLocksBy 0 Done events.new.items request.old.request lock.old.table
+        request.new.request lock.new.table }
 {
     if !request.cache.may_revalidate() {
         return Reply::WrongCall;
@@ -142,12 +142,13 @@ fn renew(
     requires same { noted ≡ meta }
     requires none { events.old.items ≡ [] }
     requires room { 3 ≤ vec_capacity events.old }
-    ensures answers { Renews (facts_in store.old lock.old cache.old) meta cache.old result
+    ensures answers { Renews (facts_in store.old lock.old.table cache.old) meta cache.old result
         events.new.items }
     ensures other { IsOther result }
     ensures request { cache.new ≡ renewed meta cache.old }
     ensures moves { MovesStoreBeside cache.old store.old events.new.items cache.new store.new }
-    ensures locks { MovesLocksBy 0 Done events.new.items cache.old lock.old cache.new lock.new }
+    ensures locks { MovesLocksBy 0 Done events.new.items cache.old lock.old.table cache.new
+        lock.new.table }
 {
     let Some(key) = cache.key() else {
         unreachable!()

@@ -1,4 +1,5 @@
 //! A table of locks gets the outcome of a wait once.
+ghost use Rattle.std.specs.Prelude.{Some};
 ghost use Rattle.pcache_lock.specs.declared.lock.status.LockStatus.TheVariants.{GiveUp};
 
 use super::*;
@@ -19,7 +20,9 @@ struct Tracing {
 }
 
 impl CacheKeyLock for Tracing {
-    ghost table = { λ t. t.locks };
+    ghost table = { λ t. t.locks.table };
+
+    ghost past = { λ t. Some t.locks.past };
 
     ghost custom_status = { λ _ _. GiveUp };
 

@@ -28,6 +28,8 @@ fn reads(parts: &mut Parts, cache: &mut Request, call: &'static str, told: &mut 
     match word(call, 1) {
         "read" => read(parts, cache, told),
         "reread" => reread(parts, cache, told),
+        "whole" => told.yes_or_no(cache.is_body_whole(&parts.store)),
+        "length" => told.named(&cache.body_length(&parts.store)),
         "wait" => wait(parts, cache, told),
         "asks" => asked(parts, cache, told),
         "witnessed" => witnessed(parts, cache, word(call, 2) == "refusing", told),

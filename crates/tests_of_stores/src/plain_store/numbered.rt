@@ -3,8 +3,9 @@ ghost use Rattle.std.specs.Prelude.{◌≡◌, ◌<◌, ◌≤◌, ◌+◌, ◌-
 ghost use Rattle.std.specs.FinMap as map;
 ghost use Rattle.pcache_base.specs.declared.error.ErrorType.TheVariants.{OutOfMemory};
 ghost use Rattle.pcache_store.specs.Store.{followed_on, left_on, wrote_on, grounded_on};
+ghost use Rattle.pcache_store.specs.Drafts.{closed_on};
 
-use crate::plain_store::writes::{PlainWrite, join, land, leave, write};
+use crate::plain_store::writes::{PlainWrite, close, join, land, leave, write};
 use bytes::Bytes;
 use pcache_base::error::Result;
 use pcache_meta::meta::CacheMeta;
@@ -137,5 +138,16 @@ impl PlainWrites {
             } }
     {
         land(&mut self.writes, number);
+    }
+
+    /// A write whose body was stored.
+    pub fn close(&mut self, number: u128)
+        ensures { self.new
+            ≡ record self.old {
+              writes = closed_on self.old.writes number
+                  (map.get self.old.writes number);
+            } }
+    {
+        close(&mut self.writes, number);
     }
 }

@@ -3,6 +3,7 @@ ghost use Rattle.std.specs.Prelude.{◌≡◌, ◌<◌, ◌≤◌, ◌+◌, ◌-
 ghost use Rattle.std.specs.FinMap as map;
 ghost use Rattle.pcache_base.specs.declared.error.ErrorType.TheVariants.{OutOfMemory};
 ghost use Rattle.pcache_store.specs.Store.{new_write, is_named, wrote_on, followed_on, left_on, grounded_on};
+ghost use Rattle.pcache_store.specs.Drafts.{closed_on};
 
 use crate::plain_store::slots::PlainBody;
 use bytes::Bytes;
@@ -64,7 +65,7 @@ impl PlainWrite {
         self.text.len()
     }
 
-    /// Whether its end was announced (`eof`).
+    /// Whether its end is known.
     pub fn is_told(&self) -> bool
         ensures { result ≡ self.now.told }
     {
@@ -147,6 +148,13 @@ impl PlainWrite {
     {
         self.flying = false;
     }
+
+    fn close(&mut self)
+        ensures { self.new ≡ record self.old { flying = false; told = true } }
+    {
+        self.flying = false;
+        self.told = true;
+    }
 }
 
 /// More bytes of a write.
@@ -206,6 +214,20 @@ pub fn land(writes: &mut Table<PlainWrite>, number: u128)
         return;
     };
     draft.land();
+    if draft.is_named() {
+        return;
+    }
+    writes.remove(number);
+}
+
+/// A write whose body was stored.
+pub fn close(writes: &mut Table<PlainWrite>, number: u128)
+    ensures { writes.new ≡ closed_on writes.old number (map.get writes.old number) }
+{
+    let Some(draft) = writes.get_mut(number) else {
+        return;
+    };
+    draft.close();
     if draft.is_named() {
         return;
     }

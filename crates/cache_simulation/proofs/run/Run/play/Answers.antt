@@ -1,16 +1,18 @@
-use Rattle.std.proofs.Common.{◌≡◌, ◌∙◌, ◌∷◌, [], ◌++◌, ◌+◌, ap, sym, subst, take, List}
-use Rattle.std.proofs.lemmas.List.{take_more}
+use Rattle.std.proofs.Common.{◌≡◌, ◌∙◌, ◌∷◌, [], ◌++◌, ◌+◌, ap, sym, subst, take, List, arith}
+use Rattle.std.proofs.lemmas.List.{take_more, take_all}
 use Rattle.cache_simulation.specs.declared.run.Request.{Request}
-use Rattle.cache_simulation.specs.Events.{Event}
-use Rattle.cache_simulation.specs.Plays.{Rules, State, Plays, state}
+use Rattle.cache_simulation.specs.Plays.{Rules, State, Plays, state, rules_of}
 use Rattle.cache_simulation.proofs.Standing.{plays-more, counted-more, same-rules}
+use Rattle.cache_simulation.specs.Replays.{Replays, count_after, place}
+use Rattle.cache_simulation.proofs.Replaying.{replays-more, same-answers, counts-more, same-served, served-more}
 use Rattle.cache_simulation.proofs.run.Run.play.Goals as goal
 
 pub loop-asked-preserved : goal.loop-asked-preserved
 loop-asked-preserved g c =
-    let (e, counted, becomes) = c.in_ok-request.ensures.ok in
+    let (e, counted, becomes, answers, gone) = c.in_ok-request.ensures.ok in
     let so_far = c.loop-asked.invariant in
-    let (es, all, plays) = so_far.plays in
+    let (es, all, plays, replays, count) = so_far.plays in
+    let policy = g.M.OrderedManager.policy in
     let rules : Rules = record { limits = g.M.EvictionManager.limits c.args.self.now.manager; most = c.args.self.now.most } in
     let before : State = state (g.M.EvictionManager.tracked c.args.self.now.manager) c.args.self.now.freshness in
     let now : State = state (g.M.EvictionManager.tracked c.loop-asked.self.manager) c.loop-asked.self.freshness in
@@ -25,5 +27,20 @@ loop-asked-preserved g c =
         subst (λ (requests : List Request). Plays rules before requests (es ++ e ∷ []) after) (sym more)
             (plays-more rules before now after (take c.loop-asked.asked-index c.args.requests.now) es c.asked-item.result e plays
             (same-rules (g.M.EvictionManager.limits c.loop-asked.self.manager) (g.M.EvictionManager.limits c.args.self.now.manager) c.loop-asked.self.most c.args.self.now.most now after c.asked-item.result e so_far.limits so_far.most becomes)),
+        subst (λ (requests : List Request). Replays policy rules (place (g.M.OrderedManager.order c.args.self.now.manager) c.args.self.now.freshness) requests (es ++ e ∷ []) (place (g.M.OrderedManager.order c.request.new.self.manager) c.request.new.self.freshness)) (sym more)
+            (replays-more policy rules (place (g.M.OrderedManager.order c.args.self.now.manager) c.args.self.now.freshness) (place (g.M.OrderedManager.order c.loop-asked.self.manager) c.loop-asked.self.freshness) (place (g.M.OrderedManager.order c.request.new.self.manager) c.request.new.self.freshness) (take c.loop-asked.asked-index c.args.requests.now) es c.asked-item.result e replays
+            (same-answers policy (g.M.EvictionManager.limits c.loop-asked.self.manager) (g.M.EvictionManager.limits c.args.self.now.manager) c.loop-asked.self.most c.args.self.now.most (place (g.M.OrderedManager.order c.loop-asked.self.manager) c.loop-asked.self.freshness) (place (g.M.OrderedManager.order c.request.new.self.manager) c.request.new.self.freshness) c.asked-item.result e so_far.limits so_far.most answers)),
+        gone ∙ ap (λ n. count_after n e) count ∙ sym (counts-more (g.M.EvictionManager.evicted c.args.self.now.manager).count es e),
       );
     }
+
+pub returns-clause-served : goal.returns-clause-served
+returns-clause-served g c = λ before start served.
+    let so_far = c.loop-asked.invariant in
+    let (es, counted, plays, replays, count) = so_far.plays in
+    let policy = g.M.OrderedManager.policy in
+    let now = place (g.M.OrderedManager.order c.loop-asked.self.manager) c.loop-asked.self.freshness in
+    let whole : take c.loop-asked.asked-index c.args.requests.now ≡ c.args.requests.now = take_all c.loop-asked.asked-index c.args.requests.now (let end = c.loop-asked-test.false in omega arith) in
+    same-served policy (g.M.EvictionManager.limits c.args.self.now.manager) (g.M.EvictionManager.limits c.loop-asked.self.manager) c.args.self.now.most c.loop-asked.self.most start (before ++ take c.loop-asked.asked-index c.args.requests.now) (before ++ c.args.requests.now) c.loop-asked.self.counts (g.M.EvictionManager.evicted c.loop-asked.self.manager).count now
+    (sym so_far.limits) (sym so_far.most) (ap (λ r. before ++ r) whole)
+    (served-more policy (rules_of (g.M.EvictionManager.limits c.args.self.now.manager) c.args.self.now.most) start before (take c.loop-asked.asked-index c.args.requests.now) c.args.self.now.counts c.loop-asked.self.counts (g.M.EvictionManager.evicted c.args.self.now.manager).count (g.M.EvictionManager.evicted c.loop-asked.self.manager).count (place (g.M.OrderedManager.order c.args.self.now.manager) c.args.self.now.freshness) now es served counted replays count)

@@ -1,4 +1,4 @@
-use Rattle.std.proofs.Common.{◌≡◌, ◌≤◌, ◌∙◌, ◌||◌, ◌&&◌, not, ap, arith, length}
+use Rattle.std.proofs.Common.{◌≤◌, ◌∙◌, ◌||◌, ◌&&◌, not, ap, arith, length}
 use Rattle.std.specs.BTreeMap.{is_at}
 use Rattle.std.specs.BTreeSet.{contains}
 use Rattle.std.specs.List.{list_any}

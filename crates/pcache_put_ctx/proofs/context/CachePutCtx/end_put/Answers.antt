@@ -1,34 +1,22 @@
-use Rattle.std.proofs.Common.{◌≡◌, ◌∙◌, ap, sym, subst}
-use Rattle.pcache_base.specs.Key.{Key}
-use Rattle.pcache_request.specs.NoBody.{HasNoBody}
-use Rattle.pcache_put_ctx.proofs.NoBody.{put_none}
-use Rattle.pcache_put_ctx.specs.Steps.{IfWithdrawn}
-use Rattle.pcache_put_ctx.specs.declared.report.PutReport.{PutReport}
-use Rattle.pcache_put_ctx.proofs.Results.{head_result, declined_result, over_result}
-use Rattle.pcache_put_ctx.specs.Stages.{stage_of}
-use Rattle.pcache_put_ctx.specs.State.{Put, InHead, InBody, HasDeclined, IsOver}
+use Rattle.std.proofs.Common.{◌≡◌, true, subst}
+use Rattle.pcache_evict.specs.Tracked.{Tracked}
+use Rattle.pcache_request.proofs.Replacing.{none_before}
+use Rattle.pcache_put_ctx.specs.Steps.{EndsPut, evicted_ended, write_end}
 use Rattle.pcache_put_ctx.proofs.context.CachePutCtx.end_put.Goals as goal
 
-pub returns-in-Head-clause-tells : goal.returns-in-Head-clause-tells
-returns-in-Head-clause-tells g c =
-    let at : c.args.self.now.stage ≡ InHead = ap (λ (p : Put g.row.C.Denot). p.stage) (sym c.self.view_is) ∙ ap (stage_of g.S.Miss.HandleMiss.write g.S.Miss.HandleMiss.entry_number) (sym c.take_stage.ensures.taken ∙ c.in-Head.is) in
-    rw (c.leave.ensures.report, c.new.ensures) (λ pieces f h. head_result (g.C.CachePut.says c.args.self.now.policy) c.args.self.now.size c.args.self.now.parser c.args.self.now.stage pieces f at h)
+pub returns-clause-ends : goal.returns-clause-ends
+returns-clause-ends g c =
+    let put = c.args.self.now in
+    let end = c.end_put_replacing.result.end in
+    let new = c.end_put_replacing.new in
+    let state = g.S.StoreMeaning.state in
+    let tracked = g.E.EvictionManager.tracked in
+    subst (λ (m : Tracked). EndsPut g.S.StoreMeaning.guarantees put.key put.parser (g.S.StoreMeaning.finishes c.args.storage.now) (g.E.EvictionManager.limits c.args.eviction.now) put.stage end (state c.args.storage.now) (state new.storage) m (tracked new.eviction))
+    (none_before true put.key (write_end end) (tracked c.args.eviction.now)) c.end_put_replacing.ensures.ends
 
-pub returns-in-Declined-clause-tells : goal.returns-in-Declined-clause-tells
-returns-in-Declined-clause-tells g c =
-    let at : c.args.self.now.stage ≡ HasDeclined c.in-Declined.reason = ap (λ (p : Put g.row.C.Denot). p.stage) (sym c.self.view_is) ∙ ap (stage_of g.S.Miss.HandleMiss.write g.S.Miss.HandleMiss.entry_number) (sym c.take_stage.ensures.taken ∙ c.in-Declined.is) in
-    rw c.leave-in-Declined.ensures.report (λ pieces f h. declined_result (g.C.CachePut.says c.args.self.now.policy) c.args.self.now.size c.args.self.now.parser c.args.self.now.stage c.in-Declined.reason pieces f at h)
-
-pub returns-in-Over-clause-tells : goal.returns-in-Over-clause-tells
-returns-in-Over-clause-tells g c =
-    let at : c.args.self.now.stage ≡ IsOver c.in-Over.kind = ap (λ (p : Put g.row.C.Denot). p.stage) (sym c.self.view_is) ∙ ap (stage_of g.S.Miss.HandleMiss.write g.S.Miss.HandleMiss.entry_number) (sym c.take_stage.ensures.taken ∙ c.in-Over.is) in
-    rw (c.leave-in-Over.ensures.report, c.new-in-Over.ensures) (λ pieces f h. over_result (g.C.CachePut.says c.args.self.now.policy) c.args.self.now.size c.args.self.now.parser c.args.self.now.stage c.in-Over.kind pieces f at h)
-
-pub returns-in-Body-clause-withdrawn : goal.returns-in-Body-clause-withdrawn
-returns-in-Body-clause-withdrawn g c = λ sure.
-    let left = g.S.StoreMeaning.state c.end_body-end.new.storage in
-    let writer = c.in-Body.filling.writer in
-    let stage = InBody (g.S.Miss.HandleMiss.write writer) (g.S.Miss.HandleMiss.entry_number writer) c.in-Body.filling.fresh_until in
-    let none = put_none c.self.inside.intake.key c.self.inside.intake.parser (g.S.StoreMeaning.finishes c.args.storage.now) (g.E.EvictionManager.limits c.args.eviction.now) (g.S.StoreMeaning.state c.args.storage.now) left (g.E.EvictionManager.tracked c.args.eviction.now) (g.E.EvictionManager.tracked c.end_body-end.new.eviction) g.S.StoreMeaning.guarantees sure stage c.end_body-end.result.0 c.end_body-end.ensures.ends in
-    subst (λ (told : PutReport). IfWithdrawn told.end (HasNoBody left c.args.self.now.key)) (sym c.leave-in-Body.ensures.report)
-    (subst (λ (k : Key). IfWithdrawn c.end_body-end.result.0 (HasNoBody left k)) (ap (λ (p : Put g.row.C.Denot). p.key) c.self.view_is) none)
+pub returns-clause-evicted : goal.returns-clause-evicted
+returns-clause-evicted g c =
+    let put = c.args.self.now in
+    let end = c.end_put_replacing.result.end in
+    subst (λ (m : Tracked). g.E.EvictionManager.evicted c.end_put_replacing.new.eviction ≡ evicted_ended put.key (g.S.StoreMeaning.finishes c.args.storage.now) put.stage m (g.E.EvictionManager.evicted c.args.eviction.now) end)
+    (none_before true put.key (write_end end) (g.E.EvictionManager.tracked c.args.eviction.now)) c.end_put_replacing.ensures.evicted

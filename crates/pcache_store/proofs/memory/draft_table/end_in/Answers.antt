@@ -1,11 +1,18 @@
-use Rattle.std.proofs.Common.{sym, ap, ◌∙◌}
+use Rattle.std.proofs.Common.{sym, ap, ◌∙◌, is_ok, true}
 use Rattle.std.proofs.lemmas.Result.{IfOk-weaker}
-use Rattle.pcache_store.proofs.Writes.{landed_there, landed_gone, landed_body, not_lost, one_stays, one_goes}
-use Rattle.pcache_store.specs.Store.{is_named}
+use Rattle.pcache_store.proofs.Writes.{closed_there, ended_gone, landed_there, landed_body, not_lost, one_stays, one_goes}
+use Rattle.pcache_store.specs.Store.{Written, is_named}
 use Rattle.pcache_store.proofs.memory.draft_table.end_in.Goals as goal
 
-pub returns-then-is_named-clause-after : goal.returns-then-is_named-clause-after
-returns-then-is_named-clause-after c =
+pub returns-in-Ok-clause-after : goal.returns-in-Ok-clause-after
+returns-in-Ok-clause-after c =
+    let is = rw c.in-Some.is at c.get_mut.ensures.value in
+    let set = rw c.in-Some.is at (c.get_mut.follows.holds c.tell.new.self) in
+    let told : Written → Written = λ x. record x { told = true } in
+    closed_there c.args.writes.now c.args.number c.in-Some.draft.now c.tell.new.self _ is set (c.tell.ensures ∙ ap told (c.to_body.ensures.same ∙ c.land.ensures)) (ap is_named (c.tell.ensures ∙ ap told c.to_body.ensures.same) ∙ sym c.is_named.ensures ∙ c.if-is_named.true)
+
+pub returns-in-Err-clause-after : goal.returns-in-Err-clause-after
+returns-in-Err-clause-after c =
     let is = rw c.in-Some.is at c.get_mut.ensures.value in
     let set = rw c.in-Some.is at (c.get_mut.follows.holds c.to_body.new.self) in
     landed_there c.args.writes.now c.args.number c.in-Some.draft.now c.to_body.new.self _ is set (c.to_body.ensures.same ∙ c.land.ensures) (ap is_named c.to_body.ensures.same ∙ sym c.is_named.ensures ∙ c.if-is_named.true)
@@ -26,10 +33,16 @@ pub returns-clause-after : goal.returns-clause-after
 returns-clause-after c =
     let is = rw c.in-Some.is at c.get_mut.ensures.value in
     let set = rw c.in-Some.is at (c.get_mut.follows.holds c.land.new.self) in
-    landed_gone c.args.writes.now c.args.number c.in-Some.draft.now c.land.new.self _ is set _ c.land.ensures (sym c.is_named.ensures ∙ c.if-is_named.false) c.remove.ensures.removed
+    ended_gone c.args.writes.now c.args.number c.in-Some.draft.now c.land.new.self _ is set (is_ok c.into_body.result) _ c.land.ensures (sym c.is_named.ensures ∙ c.if-is_named.false) c.remove.ensures.removed
 
-pub returns-then-is_named-clause-gone : goal.returns-then-is_named-clause-gone
-returns-then-is_named-clause-gone c =
+pub returns-in-Ok-clause-gone : goal.returns-in-Ok-clause-gone
+returns-in-Ok-clause-gone c =
+    let is = rw c.in-Some.is at c.get_mut.ensures.value in
+    let set = rw c.in-Some.is at (c.get_mut.follows.holds c.tell.new.self) in
+    one_stays c.args.writes.now c.args.number c.in-Some.draft.now c.tell.new.self _ is set
+
+pub returns-in-Err-clause-gone : goal.returns-in-Err-clause-gone
+returns-in-Err-clause-gone c =
     let is = rw c.in-Some.is at c.get_mut.ensures.value in
     let set = rw c.in-Some.is at (c.get_mut.follows.holds c.to_body.new.self) in
     one_stays c.args.writes.now c.args.number c.in-Some.draft.now c.to_body.new.self _ is set

@@ -37,5 +37,5 @@ returns-clause-locks c n =
     let old = c.args.events.now.items in
     let all = c.note_release.new.events.items in
     let permit : o ≡ permit_of r.held = c.permit_released.ensures ∙ ap permit_released c.release_write_lock-released.ensures.released ∙ permit-released _ r.held in
-    subst (λ (x : Ongoing). MovesLocks n (deeds_by n 0 (status_for (λ text. GiveUp) c.args.reason) all) x.request.held c.args.lock.now c.release_write_lock-released.new.self.held c.release_write_lock-released.new.lock) c.request.view_is
-    (settle-alone n 0 (status_for (λ text. GiveUp) c.args.reason) c.args.lock.now c.release_write_lock-released.new.lock r.held c.release_write_lock-released.new.self.held o old all (status-reason c.args.reason) permit c.requires.none c.note_release.ensures.events (ap (λ (y : Request). y.held) c.release_write_lock-released.ensures.request) c.release_write_lock-released.ensures.table)
+    subst (λ (x : Ongoing). MovesLocks n (deeds_by n 0 (status_for (λ text. GiveUp) c.args.reason) all) x.request.held c.args.lock.now.table c.release_write_lock-released.new.self.held c.release_write_lock-released.new.lock.table) c.request.view_is
+    (settle-alone n 0 (status_for (λ text. GiveUp) c.args.reason) c.args.lock.now.table c.release_write_lock-released.new.lock.table r.held c.release_write_lock-released.new.self.held o old all (status-reason c.args.reason) permit c.requires.none c.note_release.ensures.events (ap (λ (y : Request). y.held) c.release_write_lock-released.ensures.request) c.release_write_lock-released.ensures.table)

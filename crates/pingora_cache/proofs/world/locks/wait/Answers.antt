@@ -14,7 +14,7 @@ use Rattle.pingora_cache.proofs.world.locks.wait.Goals as goal
 pub returns-clause-answers : goal.returns-clause-answers
 returns-clause-answers c s =
     let may : IsSome (read_in c.request.inside.cache.held) = search rules in
-    subst (λ (x : Ongoing). FollowsRule (facts_in s c.args.lock.now x.request) (C.Wait c.args.now) (Some x) c.wait_on.result c.wait_on.new.events.items) c.request.view_is
+    subst (λ (x : Ongoing). FollowsRule (facts_in s c.args.lock.now.table x.request) (C.Wait c.args.now) (Some x) c.wait_on.result c.wait_on.new.events.items) c.request.view_is
     (inl (may, c.wait_on.ensures.other, c.wait_on.ensures.answers s))
 
 pub returns-clause-moves : goal.returns-clause-moves

@@ -24,7 +24,7 @@ returns-clause-answers g c =
     let is = ap (λ o. held_with c.request.inside.carried (option_map (λ p. (p.0, reader_of p.1)) o) c.request.inside.cache) (sym had) ∙ c.request.view_is in
     let may : MayLookUp c.request.inside.cache.phase = search rules in
     subst (λ (p : State). AnswersOf p (C.Request (Q.Found c.args.status c.args.now)) c.args.request.now c.take-2.result c.take-2.new.events.items) c.parts.view_is
-    (inl (subst (λ (x : Ongoing). (MayLookUp x.request.phase × IsSome x.pair) × IsOther c.take-2.result × Takes (facts_in c.parts.inside.store c.parts.inside.lock x.request) c.args.status x.request x.pair c.take-2.result c.take-2.new.events.items) is
+    (inl (subst (λ (x : Ongoing). (MayLookUp x.request.phase × IsSome x.pair) × IsOther c.take-2.result × Takes (facts_in c.parts.inside.store c.parts.inside.lock.table x.request) c.args.status x.request x.pair c.take-2.result c.take-2.new.events.items) is
     ((may, refl), c.take-2.ensures.other, c.take-2.ensures.answers)))
 
 pub returns-clause-moves : goal.returns-clause-moves
@@ -47,4 +47,4 @@ returns-clause-moves g c =
 pub returns-clause-locks : goal.returns-clause-locks
 returns-clause-locks g c n =
     locks-over c.parts.view_is
-    (subst (λ (x : Ongoing). MovesLocks n (deeds_by n c.args.now Done c.take-2.new.events.items) x.request.held c.parts.inside.lock c.take-2.new.cache.held c.take-2.new.lock) c.request.view_is (c.take-2.ensures.locks n))
+    (subst (λ (x : Ongoing). MovesLocks n (deeds_by n c.args.now Done c.take-2.new.events.items) x.request.held c.parts.inside.lock.table c.take-2.new.cache.held c.take-2.new.lock.table) c.request.view_is (c.take-2.ensures.locks n))

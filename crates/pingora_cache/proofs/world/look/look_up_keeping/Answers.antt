@@ -39,13 +39,13 @@ returns-in-Err-clause-locks c n =
     let r : Request = c.request.inside.cache in
     let y : Request = c.look_up.new.self in
     let es = c.args.events.now.items in
-    subst (λ (z : Ongoing). MovesLocks n (deeds_by n c.args.now TransientError es) z.request.held c.args.lock.now y.held c.look_up.new.lock) c.request.view_is
-    (none_noted n c.args.now TransientError es r.held y.held c.args.lock.now c.look_up.new.lock c.requires.none (ap (λ (z : Request). z.held) c.in-Err.ensures.same_request) c.in-Err.ensures.same_table)
+    subst (λ (z : Ongoing). MovesLocks n (deeds_by n c.args.now TransientError es) z.request.held c.args.lock.now.table y.held c.look_up.new.lock.table) c.request.view_is
+    (none_noted n c.args.now TransientError es r.held y.held c.args.lock.now.table c.look_up.new.lock.table c.requires.none (ap (λ (z : Request). z.held) c.in-Err.ensures.same_request) c.in-Err.ensures.same_table)
 
 pub returns-clause-answers : goal.returns-clause-answers
 returns-clause-answers c =
     let s = c.args.store.now in
-    let t = c.args.lock.now in
+    let t = c.args.lock.now.table in
     let r : Request = c.request.inside.cache in
     let y : Request = c.look_up.new.self in
     let pair : Option (Meta × Reader) = option_map (λ p. (p.0, reader_of p.1)) c.request.inside.pair in
@@ -65,7 +65,7 @@ returns-clause-answers c =
 pub returns-clause-moves : goal.returns-clause-moves
 returns-clause-moves c =
     let s = c.args.store.now in
-    let t = c.args.lock.now in
+    let t = c.args.lock.now.table in
     let r : Request = c.request.inside.cache in
     let y : Request = c.look_up.new.self in
     let pair : Option (Meta × Reader) = option_map (λ p. (p.0, reader_of p.1)) c.request.inside.pair in
@@ -85,7 +85,7 @@ returns-clause-moves c =
 pub returns-clause-keeps : goal.returns-clause-keeps
 returns-clause-keeps c =
     let s = c.args.store.now in
-    let t = c.args.lock.now in
+    let t = c.args.lock.now.table in
     let r : Request = c.request.inside.cache in
     let y : Request = c.look_up.new.self in
     let pair : Option (Meta × Reader) = option_map (λ p. (p.0, reader_of p.1)) c.request.inside.pair in
@@ -104,7 +104,7 @@ returns-clause-keeps c =
 pub returns-clause-row : goal.returns-clause-row
 returns-clause-row c =
     let s = c.args.store.now in
-    let t = c.args.lock.now in
+    let t = c.args.lock.now.table in
     let r : Request = c.request.inside.cache in
     let y : Request = c.look_up.new.self in
     let pair : Option (Meta × Reader) = option_map (λ p. (p.0, reader_of p.1)) c.request.inside.pair in
@@ -124,7 +124,7 @@ returns-clause-row c =
 pub returns-clause-locks : goal.returns-clause-locks
 returns-clause-locks c q =
     let s = c.args.store.now in
-    let t = c.args.lock.now in
+    let t = c.args.lock.now.table in
     let r : Request = c.request.inside.cache in
     let y : Request = c.look_up.new.self in
     let pair : Option (Meta × Reader) = option_map (λ p. (p.0, reader_of p.1)) c.request.inside.pair in
@@ -138,7 +138,7 @@ returns-clause-locks c q =
     let h = heard (found_for s r.key) n m c.in-Ok.ensures.heard refl kept in
     let own = taken-decision s x y m.answer c.policy_of-policy.result c.look_up.new.policy h.2 c.policy_of-policy.ensures c.in-Ok.ensures.decides in
     let all = c.note_look.ensures.events ∙ (λ i. noted_look ((h.0 ∙ c.slot-slot.ensures) i) m.answer ((h.1 ∙ c.write_number.ensures.write) i) l) in
-    let goes = look-locks s t x k m.answer (decision_taken s r y) named h.2 own q c.args.now l y c.look_up.new.lock c.note_look.new.events.items c.in-Ok.ensures.found c.in-Ok.ensures.told c.in-Ok.ensures.request c.in-Ok.ensures.unlocked_request c.in-Ok.ensures.table c.in-Ok.ensures.unlocked_table all in
+    let goes = look-locks s t x k m.answer (decision_taken s r y) named h.2 own q c.args.now l y c.look_up.new.lock.table c.note_look.new.events.items c.in-Ok.ensures.found c.in-Ok.ensures.told c.in-Ok.ensures.request c.in-Ok.ensures.unlocked_request c.in-Ok.ensures.table c.in-Ok.ensures.unlocked_table all in
     let same : y.held ≡ c.note_look.new.request.request.held = sym (ap (λ (z : Ongoing). z.request.held) c.note_look.ensures.request ∙ held-after l (held_with c.request.inside.carried pair y)) in
-    subst (λ (z : Ongoing). MovesLocks q (deeds_by q c.args.now TransientError c.note_look.new.events.items) z.request.held t c.note_look.new.request.request.held c.look_up.new.lock) c.request.view_is
-    (subst (λ o. MovesLocks q (deeds_by q c.args.now TransientError c.note_look.new.events.items) r.held t o c.look_up.new.lock) same goes)
+    subst (λ (z : Ongoing). MovesLocks q (deeds_by q c.args.now TransientError c.note_look.new.events.items) z.request.held t c.note_look.new.request.request.held c.look_up.new.lock.table) c.request.view_is
+    (subst (λ o. MovesLocks q (deeds_by q c.args.now TransientError c.note_look.new.events.items) r.held t o c.look_up.new.lock.table) same goes)

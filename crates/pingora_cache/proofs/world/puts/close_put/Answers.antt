@@ -13,7 +13,7 @@ pub returns-clause-answers : goal.returns-clause-answers
 returns-clause-answers g c some =
     let had = subst (λ (x : Ongoing). HasSome g.P.PutPolicy.says c.parts.inside.store (Some x)) (sym c.put.view_is) (subst (λ (p : State). HasSome g.P.PutPolicy.says p.store (Some c.args.put)) (sym c.parts.view_is) some) in
     subst (λ (p : State). Closes (facts_of p c.args.put.request) c.args.put.put c.close_in.result c.close_in.new.events.items) c.parts.view_is
-    (subst (λ (x : Ongoing). Closes (facts_in c.parts.inside.store c.parts.inside.lock x.request) x.put c.close_in.result c.close_in.new.events.items) c.put.view_is (c.close_in.ensures.answers c.parts.inside.lock had))
+    (subst (λ (x : Ongoing). Closes (facts_in c.parts.inside.store c.parts.inside.lock.table x.request) x.put c.close_in.result c.close_in.new.events.items) c.put.view_is (c.close_in.ensures.answers c.parts.inside.lock.table had))
 
 pub returns-clause-moves : goal.returns-clause-moves
 returns-clause-moves g c world some =

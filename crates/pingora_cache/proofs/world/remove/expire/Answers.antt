@@ -46,8 +46,8 @@ returns-clause-locks g c n =
     let events = c.match-expire.events.items in
     let h = c.args.request.now.request.held in
     let same : c.expire.new.self.held ≡ h = ap (λ (y : Request). y.held) c.expire.ensures.same ∙ ap (λ (z : Ongoing). z.request.held) c.request.view_is in
-    locks-over c.parts.view_is (subst (λ l. MovesLocks n (deeds_by n 0 Done events) h c.parts.inside.lock l c.parts.inside.lock) (sym same)
+    locks-over c.parts.view_is (subst (λ l. MovesLocks n (deeds_by n 0 Done events) h c.parts.inside.lock.table l c.parts.inside.lock.table) (sym same)
     (elim c.match-expire.branch [
-      | in-Ok w ↦ expire-locks n 0 Done c.parts.inside.lock h c.slot-slot.result c.args.now c.args.events.now.items events c.requires.none (ap (λ v. v.items) w.events-is ∙ w.push_reserved.ensures.items)
-      | in-Err w ↦ none_noted n 0 Done events h h c.parts.inside.lock c.parts.inside.lock (ap (λ v. v.items) w.events-is ∙ c.requires.none) refl refl
+      | in-Ok w ↦ expire-locks n 0 Done c.parts.inside.lock.table h c.slot-slot.result c.args.now c.args.events.now.items events c.requires.none (ap (λ v. v.items) w.events-is ∙ w.push_reserved.ensures.items)
+      | in-Err w ↦ none_noted n 0 Done events h h c.parts.inside.lock.table c.parts.inside.lock.table (ap (λ v. v.items) w.events-is ∙ c.requires.none) refl refl
     ]))

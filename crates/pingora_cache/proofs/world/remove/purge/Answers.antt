@@ -47,8 +47,8 @@ returns-clause-locks g c n =
     let events = c.match-purge_key.events.items in
     let h = c.args.request.now.request.held in
     let same : c.purge_key.new.self.held ≡ h = ap (λ (y : Request). y.held) c.purge_key.ensures.same ∙ ap (λ (z : Ongoing). z.request.held) c.request.view_is in
-    locks-over c.parts.view_is (subst (λ l. MovesLocks n (deeds_by n 0 Done events) h c.parts.inside.lock l c.parts.inside.lock) (sym same)
+    locks-over c.parts.view_is (subst (λ l. MovesLocks n (deeds_by n 0 Done events) h c.parts.inside.lock.table l c.parts.inside.lock.table) (sym same)
     (elim c.match-purge_key.branch [
-      | in-Ok w ↦ purge-locks n 0 Done c.parts.inside.lock h c.slot-slot.result w.in-Ok.removal.untracked c.args.events.now.items events c.requires.none (ap (λ v. v.items) w.events-is ∙ w.note_removal.ensures.events)
-      | in-Err w ↦ none_noted n 0 Done events h h c.parts.inside.lock c.parts.inside.lock (ap (λ v. v.items) w.events-is ∙ c.requires.none) refl refl
+      | in-Ok w ↦ purge-locks n 0 Done c.parts.inside.lock.table h c.slot-slot.result w.in-Ok.removal.untracked c.args.events.now.items events c.requires.none (ap (λ v. v.items) w.events-is ∙ w.note_removal.ensures.events)
+      | in-Err w ↦ none_noted n 0 Done events h h c.parts.inside.lock.table c.parts.inside.lock.table (ap (λ v. v.items) w.events-is ∙ c.requires.none) refl refl
     ]))

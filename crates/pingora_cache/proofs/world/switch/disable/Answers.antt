@@ -50,5 +50,5 @@ returns-clause-locks c n =
     let s = status_for (λ text. GiveUp) c.args.reason in
     let all = c.note_shut.new.events.items in
     let permit : c.permit_in.result ≡ permit_of r.held = c.permit_in.ensures ∙ ap permit_in c.disable-released.ensures.released ∙ permit-named r.held in
-    subst (λ (x : Ongoing). MovesLocks n (deeds_by n 0 s all) x.request.held c.args.lock.now c.disable-released.new.self.held c.disable-released.new.lock) c.request.view_is
-    (settle-then n 0 s c.args.lock.now c.disable-released.new.lock r.held c.disable-released.new.self.held c.permit_in.result c.write_number-dropped.result c.args.events.now.items all (status-reason c.args.reason) permit c.requires.none c.note_shut.ensures c.disable-released.ensures.held.0 c.disable-released.ensures.table)
+    subst (λ (x : Ongoing). MovesLocks n (deeds_by n 0 s all) x.request.held c.args.lock.now.table c.disable-released.new.self.held c.disable-released.new.lock.table) c.request.view_is
+    (settle-then n 0 s c.args.lock.now.table c.disable-released.new.lock.table r.held c.disable-released.new.self.held c.permit_in.result c.write_number-dropped.result c.args.events.now.items all (status-reason c.args.reason) permit c.requires.none c.note_shut.ensures c.disable-released.ensures.held.0 c.disable-released.ensures.table)

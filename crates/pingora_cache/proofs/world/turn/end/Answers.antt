@@ -18,7 +18,7 @@ returns-clause-moves g c =
 pub returns-clause-locks : goal.returns-clause-locks
 returns-clause-locks g c n =
     let is : lookup (is_at (nat_cmp c.args.number)) c.args.requests.now.entries ≡ Some c.in-Some.request = search rules in
-    subst (λ (q : Option Ongoing). MovesLocks n (deeds_by n 0 Done c.close.new.events.items) (held_in q) c.args.lock.now None c.close.new.lock) (sym is) (c.close.ensures.locks n)
+    subst (λ (q : Option Ongoing). MovesLocks n (deeds_by n 0 Done c.close.new.events.items) (held_in q) c.args.lock.now.table None c.close.new.lock.table) (sym is) (c.close.ensures.locks n)
 
 pub returns-in_default-clause-locks : goal.returns-in_default-clause-locks
-returns-in_default-clause-locks g c n = none_noted n 0 Done c.args.events.now.items _ _ c.args.lock.now c.args.lock.now c.requires.none refl refl
+returns-in_default-clause-locks g c n = none_noted n 0 Done c.args.events.now.items _ _ c.args.lock.now.table c.args.lock.now.table c.requires.none refl refl

@@ -15,7 +15,7 @@ returns-clause-answers c =
     let x : Request = c.args.cache.now in
     let permit : c.permit_in.result ≡ permit_of x.held = c.permit_in.ensures ∙ ap permit_in c.renew_meta-updated.ensures.released ∙ permit-named x.held in
     let copy : c.set_created.new.self ≡ renewed_by c.args.meta x.meta = renewed-as x c.args.meta c.args.noted c.in-Some-meta.old.now c.set_provenance.new.self c.set_created.new.self c.provenance.result c.created.result (sym c.in-Some-meta.ensures) c.requires.same c.provenance.ensures c.created.ensures c.set_provenance.ensures c.set_created.ensures in
-    renews-told c.args.store.now c.args.lock.now x c.args.meta c.set_created.new.self c.in-Some.key.now c.slot-slot.result c.renew_meta-updated.result.updated c.permit_in.result c.note_renewal-reply.result c.args.events.now.items c.note_renewal-reply.new.events.items c.note_release.new.events.items
+    renews-told c.args.store.now c.args.lock.now.table x c.args.meta c.set_created.new.self c.in-Some.key.now c.slot-slot.result c.renew_meta-updated.result.updated c.permit_in.result c.note_renewal-reply.result c.args.events.now.items c.note_renewal-reply.new.events.items c.note_release.new.events.items
     (sym c.in-Some.ensures.value) c.slot-slot.ensures copy permit c.note_renewal-reply.ensures.reply c.requires.none c.note_renewal-reply.ensures.events c.note_release.ensures.events c.renew_meta-updated.ensures.there c.renew_meta-updated.ensures.something c.renew_meta-updated.ensures.kind
 
 pub returns-clause-moves : goal.returns-clause-moves
@@ -31,5 +31,5 @@ pub returns-clause-locks : goal.returns-clause-locks
 returns-clause-locks c n =
     let x : Request = c.args.cache.now in
     let permit : c.permit_in.result ≡ permit_of x.held = c.permit_in.ensures ∙ ap permit_in c.renew_meta-updated.ensures.released ∙ permit-named x.held in
-    renewed-locks n 0 Done c.args.lock.now c.renew_meta-updated.new.lock x.held c.renew_meta-updated.new.self.held c.permit_in.result c.slot-slot.result c.set_created.new.self c.renew_meta-updated.result.updated c.args.events.now.items c.note_renewal-reply.new.events.items c.note_release.new.events.items
+    renewed-locks n 0 Done c.args.lock.now.table c.renew_meta-updated.new.lock.table x.held c.renew_meta-updated.new.self.held c.permit_in.result c.slot-slot.result c.set_created.new.self c.renew_meta-updated.result.updated c.args.events.now.items c.note_renewal-reply.new.events.items c.note_release.new.events.items
     tt permit c.requires.none c.note_renewal-reply.ensures.events c.note_release.ensures.events (ap (λ (y : Request). y.held) c.renew_meta-updated.ensures.request) c.renew_meta-updated.ensures.table

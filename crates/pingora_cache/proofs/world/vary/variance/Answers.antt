@@ -34,6 +34,6 @@ returns-clause-locks c n =
     let r : Request = c.request.inside.cache in
     let all = c.note_release.new.events.items in
     let b = leaves_variant c.args.variance r.key in
-    subst (λ (x : Ongoing). MovesLocks n (deeds_by n 0 Done all) x.request.held c.args.lock.now c.update_variance-released.new.self.held c.update_variance-released.new.lock) c.request.view_is
-    (varied-locks n 0 Done c.args.lock.now c.update_variance-released.new.lock b r.held c.update_variance-released.new.self.held c.permit_in.result c.args.events.now.items all tt (c.permit_in.ensures ∙ ap permit_in c.update_variance-released.ensures.released) c.requires.none c.note_release.ensures.events
+    subst (λ (x : Ongoing). MovesLocks n (deeds_by n 0 Done all) x.request.held c.args.lock.now.table c.update_variance-released.new.self.held c.update_variance-released.new.lock.table) c.request.view_is
+    (varied-locks n 0 Done c.args.lock.now.table c.update_variance-released.new.lock.table b r.held c.update_variance-released.new.self.held c.permit_in.result c.args.events.now.items all tt (c.permit_in.ensures ∙ ap permit_in c.update_variance-released.ensures.released) c.requires.none c.note_release.ensures.events
     (ap (λ (y : Request). y.held) c.update_variance-released.ensures.request) c.update_variance-released.ensures.table)

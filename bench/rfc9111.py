@@ -1,0 +1,132 @@
+#!/usr/bin/env python3
+"""Writes docs/RFC9111.md: what RFC 9111 demands of a cache, as the definitions of the crates that decide by it have it. Each row is
+one definition: its section, how strong the demand is, the definition's words, the functions whose contracts cite it, and the tests'
+rows of that section. `--check` only says whether the page is due."""
+import pathlib, re, sys
+
+TOP = pathlib.Path(__file__).resolve().parent.parent
+CRATES = ["pcache_http", "pcache_validation", "pcache_decisions"]
+DEMANDS = ["MUST NOT", "MUST", "SHOULD NOT", "SHOULD", "MAY", "should", "ought to", "encouraged", "prefers", "accepts"]
+SECTION = re.compile(r"(RFC \d+ )?\b(\d+(?:\.\d+)*)\b")
+HEAD = """# RFC 9111, demand by demand
+
+Made by `bench/rfc9111.py` from the definitions in `specs/` of {crates}; do not edit it here. A section without a name is one of RFC 9111. A function is proved to decide as the definitions in its contract say; the rows are tests beside that.
+
+| Section | Demand | Definition | In words | Decided by | Rows |
+|---|---|---|---|---|---|
+"""
+
+
+def comment_sections(text):
+    """The sections that the words of a definition name, and the RFC of each."""
+    found, rfc = [], "9111"
+    for part in re.finditer(r"RFC (\d+)|(?<![\w.-])(\d+(?:\.\d+)+|[345])(?=[\s,:;)])", text):
+        if part.group(1):
+            rfc = part.group(1)
+        elif (rfc, part.group(2)) not in found:
+            found.append((rfc, part.group(2)))
+    return found
+
+
+def definitions(crate):
+    """Each definition with words above it: its file, its name and its words."""
+    for path in sorted((TOP / "crates" / crate / "specs").glob("*.antt")):
+        words = []
+        for line in path.read_text(encoding="utf-8").splitlines():
+            text = line.strip()
+            if text.startswith("--"):
+                words.append(text[2:].strip())
+                continue
+            named = re.match(r"(?:unfoldable |abbrev )?pub (?:record |data )?([\w◌-]+)", text)
+            if named and words and not text.startswith("pub mod"):
+                yield path.stem, named.group(1), " ".join(words)
+            words = []
+
+
+def uses(crate):
+    """Which definitions name each word of the specs: by name, those whose text has it."""
+    found = {}
+    for path in sorted((TOP / "crates" / crate / "specs").glob("*.antt")):
+        name = None
+        for line in path.read_text(encoding="utf-8").splitlines():
+            text = line.strip()
+            named = re.match(r"(?:unfoldable |abbrev )?pub (?:record |data )?([\w◌-]+)", text)
+            if named and not text.startswith(("pub mod", "use ")) and not line.startswith("  "):
+                name = named.group(1)
+            if name and not text.startswith(("--", "use ")):
+                for word in re.findall(r"[\w]+", text):
+                    found.setdefault(word, set()).add(name)
+    return found
+
+
+def deciders_of(name, functions, used):
+    """The functions whose contracts cite a definition, or else the nearest ones that use it."""
+    level, seen = {name}, {name}
+    while level:
+        named = sorted({f"`{file}::{function}`" for file, function, cited in functions if level & cited})
+        if named:
+            return named
+        level = set().union(*(used.get(n, set()) for n in level)) - seen
+        seen |= level
+    return []
+
+
+def contracts(crate):
+    """Each function with a contract: its file, its name, and the words of its clauses."""
+    for path in sorted((TOP / "crates" / crate / "src").rglob("*.rt")):
+        text = path.read_text(encoding="utf-8")
+        for part in re.finditer(r"\bfn (\w+)[^{;]*?((?:\s+(?:requires|ensures)\b[^{]*\{(?:[^{}]|\{[^{}]*\})*\})+)", text):
+            yield path.stem, part.group(1), set(re.findall(r"[\w]+", part.group(2)))
+
+
+def rows_of(section):
+    """How many rows of text are under a section, by the crates of tests."""
+    count = 0
+    for path in sorted(TOP.glob("crates/tests_of_http/src/*.rt")) + sorted(TOP.glob("crates/tests_of_validation/src/*.rt")):
+        here = False
+        for line in path.read_text(encoding="utf-8").splitlines():
+            text = line.strip()
+            if text.startswith("# "):
+                here = section in comment_sections(text[2:] + " ")
+            elif here and " ->" in text:
+                count += 1
+    return count
+
+
+def demand_of(words):
+    for demand in DEMANDS:
+        if re.search(r"\b" + demand + r"\b", words):
+            return demand
+    return ""
+
+
+def page():
+    crates = [crate for crate in CRATES if (TOP / "crates" / crate / "specs").is_dir()]
+    rows = []
+    for crate in crates:
+        functions, used = list(contracts(crate)), uses(crate)
+        for module, name, words in definitions(crate):
+            sections = comment_sections(words + " ")
+            if not sections:
+                continue
+            deciders = deciders_of(name, functions, used)
+            counts = sum(rows_of(section) for section in sections)
+            told = ", ".join((f"RFC {rfc}, " if rfc != "9111" else "") + section for rfc, section in sections)
+            key = [(rfc != "9111", [int(n) for n in section.split(".")]) for rfc, section in sections][0]
+            words = words.replace("|", "\\|")
+            rows.append((key, f"| {told} | {demand_of(words)} | `{crate}: {module}.{name}` | {words} | {', '.join(deciders)} | {counts or ''} |"))
+    rows.sort(key=lambda row: row[0])
+    return HEAD.format(crates=", ".join(f"`{crate}`" for crate in crates)) + "\n".join(row for _, row in rows) + "\n"
+
+
+def main():
+    path = TOP / "docs" / "RFC9111.md"
+    made = page()
+    if "--check" in sys.argv[1:]:
+        due = not path.exists() or path.read_text(encoding="utf-8") != made
+        print("docs/RFC9111.md is due" if due else "docs/RFC9111.md is as its definitions are")
+        sys.exit(1 if due else 0)
+    path.write_text(made, encoding="utf-8")
+
+
+main()

@@ -1,0 +1,108 @@
+-- What requests make of a manager's order is the plain run of its policy.
+use Rattle.std.proofs.Common.{◌≡◌, ℕ, ◌+◌, ◌-◌, ◌^◌, ◌≤◌, min, arith, length, length-append, cond, Bool, ◌&&◌, Option, is_some, List, [], ◌∷◌, ◌++◌, refl, ap, sym, subst, ◌∙◌}
+use Rattle.std.specs.FinMap as fin
+use Rattle.std.proofs.lemmas.List.Sums.{sum_by-append, sum_by-cons}
+use Rattle.pcache_evict.specs.declared.eviction.entry_key.CacheEntryKey.{CacheEntryKey}
+use Rattle.pcache_evict.specs.Tracked.{Tracked, Limits}
+use Rattle.pcache_evict.specs.Listed.{map_of}
+use Rattle.pcache_evict.specs.Policy.{Policy, is_in}
+use Rattle.pcache_evict.proofs.Maps.{get-map_of}
+use Rattle.cache_simulation.specs.declared.run.Request.{Request}
+use Rattle.cache_simulation.specs.declared.counts.Counts.{Counts}
+use Rattle.cache_simulation.specs.Fresh.{Fresh}
+use Rattle.cache_simulation.specs.Events.{Event, Hit, Came, Passed, is_hit, size_in}
+use Rattle.cache_simulation.specs.Plays.{Rules, IsCounted, rules_of}
+use Rattle.cache_simulation.specs.Replays.{Place, Answers, Replays, gone_in, gone_of, count_after, counts_after, place, Served}
+
+-- the map and the order have the same entries
+pub is-in : {O : Type 0} (p : Policy O) (o : O) (m : Tracked) (k : CacheEntryKey) → m ≡ map_of (p.entries o) → is_in p k o ≡ fin.contains_key m k
+is-in p o m k same = ap is_some (sym (get-map_of (p.entries o) k)) ∙ ap (λ m. fin.contains_key m k) (sym same)
+
+pub is-fresh : {O : Type 0} (p : Policy O) (o : O) (m : Tracked) (k : CacheEntryKey) (fresh there : Bool) → m ≡ map_of (p.entries o) → there ≡ (fin.contains_key m k && fresh) → (is_in p k o && fresh) ≡ there
+is-fresh p o m k fresh there same is = ap (λ b. b && fresh) (is-in p o m k same) ∙ sym is
+
+-- the rules of a cache stay
+pub same-answers : {O : Type 0} (p : Policy O) (l m : Limits) (a b : ℕ) (s t : Place O) (asked : Request) (e : Event) → l ≡ m → a ≡ b → Answers p (record { limits = l; most = a }) s asked e t → Answers p (record { limits = m; most = b }) s asked e t
+same-answers p l m a b s t asked e lm ab h = subst (λ b. Answers p (record { limits = m; most = b }) s asked e t) ab (subst (λ m. Answers p (record { limits = m; most = a }) s asked e t) lm h)
+
+-- one more request at the end
+pub replays-more : {O : Type 0} (p : Policy O) (rules : Rules) (s t u : Place O) (requests : List Request) (es : List Event) (a : Request) (e : Event) → Replays p rules s requests es t → Answers p rules t a e u → Replays p rules s (requests ++ a ∷ []) (es ++ e ∷ []) u
+replays-more p rules s t u [] [] a e r b = (u, subst (λ s. Answers p rules s a e u) r b, refl)
+replays-more p rules s t u [] (f ∷ es) a e r b = absurd r
+replays-more p rules s t u (x ∷ requests) [] a e r b = absurd r
+replays-more p rules s t u (x ∷ requests) (f ∷ es) a e (between, first, rest) b = (between, first, replays-more p rules between t u requests es a e rest b)
+
+-- more requests at the end
+pub replays-all : {O : Type 0} (p : Policy O) (rules : Rules) (s t u : Place O) (requests more : List Request) (es fs : List Event) → Replays p rules s requests es t → Replays p rules t more fs u → Replays p rules s (requests ++ more) (es ++ fs) u
+replays-all p rules s t u [] more [] fs r q = subst (λ s. Replays p rules s more fs u) r q
+replays-all p rules s t u [] more (e ∷ es) fs r q = absurd r
+replays-all p rules s t u (x ∷ requests) more [] fs r q = absurd r
+replays-all p rules s t u (x ∷ requests) more (e ∷ es) fs (between, first, rest) q = (between, first, replays-all p rules between t u requests more es fs rest q)
+
+-- one more event is counted
+pub counts-more : (count : ℕ) (es : List Event) (e : Event) → counts_after count (es ++ e ∷ []) ≡ count_after (counts_after count es) e
+counts-more count [] e = refl
+counts-more count (f ∷ es) e = counts-more (count_after count f) es e
+
+-- what was evicted is counted, up to the largest number
+one-gone : (count : ℕ) (e : Event) → count ≤ 2 ^ 64 - 1 → count_after count e ≡ min (count + gone_in e) (2 ^ 64 - 1)
+one-gone count (Hit k n) small = omega arith
+one-gone count (Came k n out) small = refl
+one-gone count (Passed k n) small = omega arith
+
+still-small : (count : ℕ) (e : Event) → count ≤ 2 ^ 64 - 1 → count_after count e ≤ 2 ^ 64 - 1
+still-small count e small = (let is = one-gone count e small in omega arith)
+
+pub counts-gone : (count : ℕ) (es : List Event) → count ≤ 2 ^ 64 - 1 → counts_after count es ≡ min (count + gone_of es) (2 ^ 64 - 1)
+counts-gone count [] small = omega arith
+counts-gone count (e ∷ es) small =
+    let rest = counts-gone (count_after count e) es (still-small count e small) in
+    let one = one-gone count e small in
+    let all = sum_by-cons gone_in e es in
+    omega arith
+
+-- one event a request
+events-long : {O : Type 0} (p : Policy O) (rules : Rules) (s t : Place O) (requests : List Request) (es : List Event) → Replays p rules s requests es t → length es ≡ length requests
+events-long p rules s t [] [] r = refl
+events-long p rules s t [] (e ∷ es) r = absurd r
+events-long p rules s t (a ∷ requests) [] r = absurd r
+events-long p rules s t (a ∷ requests) (e ∷ es) (between, first, rest) = (let long = events-long p rules between t requests es rest in omega arith)
+
+-- a run that served requests has then served these too
+pub served-more : {O : Type 0} (p : Policy O) (rules : Rules) (start : Option Fresh) (requests more : List Request) (old new : Counts) (c d : ℕ) (s t : Place O) (es : List Event)
+    → Served p requests rules start old c s → IsCounted old es new → Replays p rules s more es t → d ≡ counts_after c es → Served p (requests ++ more) rules start new d t
+served-more p rules start requests more old new c d s t es before counted after gone =
+    let hit : Event → ℕ = λ e. cond (is_hit e) 1 0 in
+    let hit_size : Event → ℕ = λ e. cond (is_hit e) (size_in e) 0 in
+    let long = events-long p rules s t more es after in
+    let all = length-append requests more in
+    let hits = sum_by-append hit before.events es in
+    let hit_bytes = sum_by-append hit_size before.events es in
+    let bytes = sum_by-append size_in before.events es in
+    let left = sum_by-append gone_in before.events es in
+    let so_far = before.evicted in
+    let then = counts-gone c es (omega arith) in
+    let a1 = before.requests in
+    let a2 = before.hits in
+    let a3 = before.bytes in
+    let a4 = before.hit_bytes in
+    let b1 = counted.requests in
+    let b2 = counted.hits in
+    let b3 = counted.bytes in
+    let b4 = counted.hit_bytes in
+    record {
+      events = before.events ++ es;
+      replays = replays-all p rules (place p.none start) s t requests more before.events es before.replays after;
+      requests = omega arith;
+      hits = omega arith;
+      bytes = omega arith;
+      hit_bytes = omega arith;
+      evicted = omega arith;
+    }
+
+-- what was served does not change with the names of its parts
+pub same-served : {O : Type 0} (p : Policy O) (l m : Limits) (a b : ℕ) (start : Option Fresh) (requests more : List Request) (counts : Counts) (c : ℕ) (s : Place O) → l ≡ m → a ≡ b → requests ≡ more
+    → Served p requests (rules_of l a) start counts c s → Served p more (rules_of m b) start counts c s
+same-served p l m a b start requests more counts c s lm ab same h =
+    subst (λ r. Served p r (rules_of m b) start counts c s) same
+    (subst (λ b. Served p requests (rules_of m b) start counts c s) ab (subst (λ m. Served p requests (rules_of m a) start counts c s) lm h))

@@ -1,0 +1,59 @@
+//! The cache of the proxy, and requests of it.
+ghost use Rattle.std.specs.Prelude.{◌≡◌, IfOk, true};
+ghost use Rattle.pcache_request.specs.declared.phase.CachePhase.TheVariants.{CacheKey};
+
+use http::StatusCode;
+use pcache_base::error::Result;
+use pcache_base::moment::Moment;
+use pcache_base::seed::Seed;
+use pcache_cache::{Cache, CacheRequest};
+use pcache_evict::eviction::simple_lru::Manager;
+use pcache_meta::header::ResponseHeader;
+use pcache_meta::meta::CacheMeta;
+use std::alloc::Global;
+use std::time::Duration;
+
+// After how many seconds another request may fill a key whose permit was not released.
+const AGE_TIMEOUT_SECS: u64 = 10;
+
+// For how many seconds a response is fresh.
+const FRESH_SECS: u64 = 60;
+
+// No constant names the largest moment; the last whole second serves as never.
+const FOREVER_SECS: u64 = u64::MAX;
+
+/// Names the cache: its requests cannot be used with the parts of another.
+pub struct Proxy;
+
+/// A store in memory, an eviction manager with one recency list, and a lock table.
+pub type ProxyCache = Cache<Manager, Proxy>;
+
+/// A request of it.
+pub type Request = CacheRequest<Proxy>;
+
+/// An empty cache, whose bodies have at most `limit` bytes together.
+pub fn new_cache(alloc: Global, seed: Seed, limit: usize) -> Result<ProxyCache> {
+    let manager = Manager::new(alloc, seed, limit)?;
+    let age_timeout = Duration::from_secs(AGE_TIMEOUT_SECS);
+    Ok(Cache::new(alloc, seed, manager, age_timeout))
+}
+
+/// A request for a path, with caching turned on and the key set.
+pub fn request_for(alloc: Global, path: &str) -> Result<Request>
+    ensures phase { IfOk result (λ r. r.cache.phase ≡ CacheKey) }
+    ensures uses { IfOk result (λ r. r.cache.uses.eviction ≡ true) }
+{
+    let primary = path.as_bytes().to_vec(alloc)?;
+    let mut request = CacheRequest::new(alloc);
+    request.cache.set_cache_key(pcache_base::key::CacheKey::new(primary, String::new(alloc)));
+    Ok(request)
+}
+
+/// The meta of a response that was received now: fresh for a minute.
+pub fn meta_of(alloc: Global, now: Moment) -> CacheMeta {
+    let fresh_until = now
+        .checked_add(Duration::from_secs(FRESH_SECS))
+        .unwrap_or(Moment::from_secs(FOREVER_SECS));
+    let header = ResponseHeader::build(alloc, StatusCode::OK);
+    CacheMeta::new(fresh_until, now, 0, 0, header)
+}

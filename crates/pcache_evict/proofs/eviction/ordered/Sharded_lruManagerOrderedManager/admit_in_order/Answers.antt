@@ -1,0 +1,19 @@
+use Rattle.std.proofs.Common.{◌∙◌, ap, subst}
+use Rattle.pcache_evict.specs.Tracked.{IsFair, without, evicted_with}
+use Rattle.pcache_evict.proofs.ShardMaps.{run-of, run-evicted, map-moved-in}
+use Rattle.pcache_evict.proofs.eviction.ordered.Sharded_lruManagerOrderedManager.admit_in_order.Goals as goal
+
+pub returns-clause-fair : goal.returns-clause-fair
+returns-clause-fair g c =
+    subst (λ m. IsFair c.args.self.now.limits m c.in_ok-out.out.items) (map-moved-in g.row.N c.args.item c.args.size c.args.self.now.shards c.in_ok-out.ensures.placed)
+    (run-of g.row.N c.args.self.now c.admit.new.self _ c.in_ok-out.out.items c.in_ok-out.ensures.ok).fair
+
+pub returns-clause-tracked : goal.returns-clause-tracked
+returns-clause-tracked g c =
+    (run-of g.row.N c.args.self.now c.admit.new.self _ c.in_ok-out.out.items c.in_ok-out.ensures.ok).left
+    ∙ ap (without c.in_ok-out.out.items) (map-moved-in g.row.N c.args.item c.args.size c.args.self.now.shards c.in_ok-out.ensures.placed)
+
+pub returns-clause-evicted : goal.returns-clause-evicted
+returns-clause-evicted g c =
+    run-evicted g.row.N c.args.self.now c.admit.new.self _ c.in_ok-out.out.items c.in_ok-out.ensures.ok
+    ∙ ap (λ m. evicted_with c.args.self.now.evicted m c.in_ok-out.out.items) (map-moved-in g.row.N c.args.item c.args.size c.args.self.now.shards c.in_ok-out.ensures.placed)

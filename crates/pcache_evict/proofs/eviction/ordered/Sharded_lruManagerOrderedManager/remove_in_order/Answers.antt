@@ -1,0 +1,8 @@
+use Rattle.std.proofs.Common.{◌∙◌, ap}
+use Rattle.pcache_evict.specs.Listed.{map_of}
+use Rattle.pcache_evict.specs.Shards.{all}
+use Rattle.pcache_evict.proofs.ShardMaps.{map-others-in}
+use Rattle.pcache_evict.proofs.eviction.ordered.Sharded_lruManagerOrderedManager.remove_in_order.Goals as goal
+
+pub returns-clause-tracked : goal.returns-clause-tracked
+returns-clause-tracked g c = ap (λ s. map_of (all s.shards)) c.remove.ensures.ok ∙ map-others-in g.row.N c.args.item.now c.args.self.now.shards c.remove.ensures.placed

@@ -1,0 +1,6 @@
+pub mod Heard
+pub mod HeardLines
+pub mod Removed
+pub mod SameMembers
+pub mod Selected
+pub mod Forbidden

@@ -1,0 +1,9 @@
+use Rattle.std.proofs.Common.{◌≡◌, length, reverse}
+use Rattle.pcache_control.specs.Values.{skip_ows}
+use Rattle.pcache_http.proofs.lists.trim_end.Given as goal
+
+abbrev pub invariant-back : goal.invariant-back
+invariant-back l = skip_ows (reverse l.bytes) ≡ skip_ows (reverse l.fn.bytes)
+
+abbrev pub decreases-back : goal.decreases-back
+decreases-back l = length l.bytes

@@ -1,0 +1,9 @@
+pub mod Seconds
+pub mod Said
+pub mod Control
+pub mod Storing
+pub mod Lifetime
+pub mod Serving
+pub mod Vary
+pub mod Age
+pub mod StoredFields

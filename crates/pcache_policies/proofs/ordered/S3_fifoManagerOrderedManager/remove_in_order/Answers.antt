@@ -1,0 +1,11 @@
+use Rattle.std.proofs.Common.{◌∙◌, ap}
+use Rattle.pcache_evict.specs.Listed.{map_of}
+use Rattle.pcache_policies.specs.S3Fifo.{entries}
+use Rattle.pcache_policies.proofs.FifoMaps.{map-rest-in}
+use Rattle.pcache_policies.proofs.ordered.S3_fifoManagerOrderedManager.remove_in_order.Goals as goal
+
+pub returns-clause-tracked : goal.returns-clause-tracked
+returns-clause-tracked c = ap (λ s. map_of (entries s.fifos)) c.remove.ensures ∙ map-rest-in c.args.item.now c.args.self.now.fifos
+
+pub returns-clause-order : goal.returns-clause-order
+returns-clause-order c = ap (λ s. s.fifos) c.remove.ensures

@@ -1,0 +1,101 @@
+//! The order in which these managers keep their entries, for callers that know no manager.
+
+use crate::{s3_fifo, sieve};
+use pcache_base::error::Result;
+use pcache_base::moment::Moment;
+use pcache_evict::eviction::CacheEntryKey;
+use pcache_evict::eviction::ordered::OrderedManager;
+
+impl OrderedManager for sieve::Manager {
+    ghost use Rattle.std.specs.Prelude.{refl};
+    ghost use Rattle.pcache_policies.specs.Sieve.{Sieve, sieve_policy};
+
+    ghost Order = { Sieve };
+
+    ghost policy = { sieve_policy };
+
+    ghost order = { λ m. m.sieve };
+
+    ghost listed = { λ m. refl };
+
+    fn admit_in_order(
+        &mut self,
+        item: CacheEntryKey,
+        size: usize,
+        fresh_until: Moment,
+    ) -> Result<Vec<CacheEntryKey>> {
+        let out = sieve::Manager::admit(self, item, size, fresh_until)?;
+        Ok(out)
+    }
+
+    fn increment_in_order(
+        &mut self,
+        item: &CacheEntryKey,
+        delta: usize,
+        max_weight: Option<usize>,
+    ) -> Result<Vec<CacheEntryKey>> {
+        let out = sieve::Manager::increment_weight(self, item, delta, max_weight)?;
+        Ok(out)
+    }
+
+    fn remove_in_order(&mut self, item: &CacheEntryKey) {
+        sieve::Manager::remove(self, item);
+    }
+
+    fn access_in_order(
+        &mut self,
+        item: &CacheEntryKey,
+        size: usize,
+        fresh_until: Moment,
+    ) -> Result<bool> {
+        let was = sieve::Manager::access(self, item, size, fresh_until)?;
+        Ok(was)
+    }
+}
+
+impl OrderedManager for s3_fifo::Manager {
+    ghost use Rattle.std.specs.Prelude.{refl};
+    ghost use Rattle.pcache_policies.specs.S3Fifo.{Fifos, s3_fifo_policy};
+
+    ghost Order = { Fifos };
+
+    ghost policy = { s3_fifo_policy };
+
+    ghost order = { λ m. m.fifos };
+
+    ghost listed = { λ m. refl };
+
+    fn admit_in_order(
+        &mut self,
+        item: CacheEntryKey,
+        size: usize,
+        fresh_until: Moment,
+    ) -> Result<Vec<CacheEntryKey>> {
+        let out = s3_fifo::Manager::admit(self, item, size, fresh_until)?;
+        Ok(out)
+    }
+
+    fn increment_in_order(
+        &mut self,
+        item: &CacheEntryKey,
+        delta: usize,
+        max_weight: Option<usize>,
+    ) -> Result<Vec<CacheEntryKey>> {
+        let out = s3_fifo::Manager::increment_weight(self, item, delta, max_weight)?;
+        Ok(out)
+    }
+
+    fn remove_in_order(&mut self, item: &CacheEntryKey) {
+        s3_fifo::Manager::remove(self, item);
+    }
+
+    fn access_in_order(
+        &mut self,
+        item: &CacheEntryKey,
+        size: usize,
+        fresh_until: Moment,
+    ) -> Result<bool> {
+        let was = s3_fifo::Manager::access(self, item, size, fresh_until)?;
+        Ok(was)
+    }
+}

@@ -1,0 +1,4 @@
+mod Elements
+mod Shown
+mod Updates
+mod TagsRead

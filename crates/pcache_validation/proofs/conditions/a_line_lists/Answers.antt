@@ -1,0 +1,9 @@
+use Rattle.std.proofs.Common.{◌∙◌}
+use Rattle.std.specs.Prelude.{codes}
+use Rattle.std.specs.Option.{option_copied}
+use Rattle.pcache_validation.specs.Conditions.{lists_tag}
+use Rattle.pcache_validation.proofs.Shown.{any_shown}
+use Rattle.pcache_validation.proofs.conditions.a_line_lists.Goals as goal
+
+pub returns : goal.returns
+returns c = c.a_value_lists.ensures ∙ any_shown (lists_tag (option_copied c.args.selected)) c.args.request.now (codes "if-none-match")

@@ -1,0 +1,12 @@
+pub mod Lists
+pub mod EntityTags
+pub mod Fields
+pub mod Validators
+pub mod Conditions
+pub mod NotModified
+pub mod Asking
+pub mod Answers
+pub mod Freshening
+pub mod Updating
+pub mod Heads
+pub mod Unsafe
