@@ -4,6 +4,7 @@
   bench/edits_seen.py [NAME..]                     the crates named, or all
   bench/edits_seen.py --compile-only [NAME..]      only whether each edit still applies, and what it makes reads as a crate
   bench/edits_seen.py --missing [NAME..]           the public functions with a contract that have no wrong body; it runs nothing
+  bench/edits_seen.py --unseen [NAME..]            the wrong bodies that were not seen to be refused as they stand; it runs nothing
   bench/edits_seen.py --sample MINUTES --seed TEXT [NAME..]      some of them, picked by the text, in so many processor minutes
   bench/edits_seen.py --named MINUTES [--lanes N] [NAME..]       those of bench/mistakes.txt, side by side, in so many minutes
 
@@ -14,6 +15,10 @@ wrong-bodies/ too, checks the edited text once for each file, in a copy, and loo
   by callers   the function is still proved, but something that uses it is not, with this edit alone
   only below   the function is refused because of another one that it calls, also with this edit alone
   let through  the crate is proved with this edit alone
+
+What was refused by itself is a line of bench/verdicts.txt: the crate and file, the edit's name, and a hash of the edit, of the
+function that it turns with its contract, and of the crate's specs. A line counts as long as these are the same. --keep, with any
+of the forms that prove, writes the file; --sample tries first what has no such line.
 
 It ends non-zero if any edit is not refused by itself. An edit outside a function, as of a constant, is tried alone and is
 refused by itself if anything is refused.
@@ -76,21 +81,27 @@ class Edit:
         return turned
 
 
+def function_around(text, start, end):
+    """The function that stands at a place of a text, as its name, its margin, and where it begins and ends; or None."""
+    # a text that begins a function turns that one, also if the old function goes on under another name after it
+    begun = [it for it in re.finditer(r"\bfn (\w+)", text) if start <= it.start() < end]
+    before = [it for it in re.finditer(r"\bfn (\w+)", text) if it.start() < start]
+    if not begun and not before:
+        return None
+    found = begun[0] if begun else before[-1]
+    # a brace at the margin of the function ends it
+    margin = re.search(r"(?m)^( *)[^\n]*\Z", text[: found.start()])[1]
+    closed = re.search(rf"(?m)^{margin}\}}$", text[found.start() :])
+    last = found.start() + closed.end() if closed else len(text)
+    return (found[1], margin, found.start(), last) if last >= start else None
+
+
 def function_at(path, text, start, end):
     """The function that stands at a place of a file: its module, the type of its impl or None, and its name or None."""
     module = re.sub(r"^src/|\.rt$", "", path).replace("/", "::")
     module = re.sub(r"(^|::)(lib|main|mod)$", "", module)
-    # a text that begins a function turns that one, also if the old function goes on under another name after it
-    begun = [it for it in re.finditer(r"\bfn (\w+)", text) if start <= it.start() < end]
-    before = [it for it in re.finditer(r"\bfn (\w+)", text) if it.start() < start]
-    name = None
-    if begun or before:
-        found = begun[0] if begun else before[-1]
-        # a brace at the margin of the function ends it
-        margin = re.search(r"(?m)^( *)[^\n]*\Z", text[: found.start()])[1]
-        closed = re.search(rf"(?m)^{margin}\}}$", text[found.start() :])
-        if closed is None or found.start() + closed.end() >= start:
-            name = found[1]
+    around = function_around(text, start, end)
+    name, margin = around[:2] if around else (None, "")
     blocks = [it for it in re.finditer(r"(?m)^(?:impl|trait|pub trait)\b([^\n{]*)", text) if it.start() < start]
     owner, trait = None, ""
     if name and margin and blocks:
@@ -120,6 +131,11 @@ def files_of(crate):
         if os.path.isdir(at):
             found += sorted(f"{folder}/{it}" for it in os.listdir(at) if it.endswith(".edit"))
     return found
+
+
+def every_crate():
+    """The crates that have wrong bodies."""
+    return sorted(it for it in os.listdir(f"{TOP}/crates") if files_of(it))
 
 
 def link(old, new):
@@ -159,6 +175,79 @@ def copy_of(crate):
             shutil.copytree(f"{TOP}/crates/{name}", f"{room}/crates/{name}", copy_function=link, ignore=shutil.ignore_patterns("incremental"))
         shutil.copytree(f"{TOP}/crates/{crate}", f"{room}/crates/{crate}", symlinks=True)
         yield f"{room}/crates/{crate}"
+
+
+VERDICTS = f"{TOP}/bench/verdicts.txt"
+
+
+def kept_verdicts():
+    """The wrong bodies that were seen to be refused, by crate, file and name: the hash of what was seen."""
+    found = {}
+    if os.path.exists(VERDICTS):
+        with open(VERDICTS, encoding="utf-8") as it:
+            for line in it:
+                words = line.split("#")[0].split()
+                if words:
+                    found[tuple(words[:2])] = words[2]
+    return found
+
+
+def specs_of(crate):
+    """All that the specs of a crate say."""
+    said = []
+    for folder, _, files in sorted(os.walk(f"{TOP}/crates/{crate}/specs")):
+        for file in sorted(files):
+            with open(f"{folder}/{file}", encoding="utf-8") as it:
+                said.append(it.read())
+    return "\n".join(said)
+
+
+def hash_of(crate, edit, specs):
+    """What a verdict is about: the edit, the functions that it turns with their contracts, and the crate's specs."""
+    about = [specs]
+    for path, old, new in edit.pairs:
+        with open(f"{TOP}/crates/{crate}/{path}", encoding="utf-8") as it:
+            text = it.read()
+        at = text.find(old)
+        around = function_around(text, at, at + len(old)) if at >= 0 else None
+        about += [path, old, new, text[around[2] : around[3]] if around else text]
+    return hashlib.sha256("\0".join(about).encode()).hexdigest()[:12]
+
+
+def as_they_stand(crates):
+    """Each wrong body of these crates: (crate, file, edit, hash)."""
+    for crate in crates:
+        specs = specs_of(crate)
+        for file in files_of(crate):
+            for edit in edits_in(f"{TOP}/crates/{crate}/{file}"):
+                yield crate, file, edit, hash_of(crate, edit, specs)
+
+
+def keep_verdicts(seen):
+    """Writes the lines of these wrong bodies, (crate, file, name), which were refused by themselves just now; lines of those that
+    are gone go."""
+    standing = {(f"{crate}/{file}", edit.name): number for crate, file, edit, number in as_they_stand(every_crate())}
+    verdicts = {it: number for it, number in kept_verdicts().items() if it in standing}
+    for crate, file, name in seen:
+        verdicts[f"{crate}/{file}", name] = standing[f"{crate}/{file}", name]
+    with open(VERDICTS, "w", encoding="utf-8") as it:
+        it.write("# Wrong bodies that were seen to be refused by themselves, with what was seen: written by bench/edits_seen.py --keep\n")
+        it.writelines(f"{place} {name} {number}\n" for (place, name), number in sorted(verdicts.items()))
+
+
+def unseen(crates):
+    """The wrong bodies of these crates that were not seen to be refused as they stand."""
+    verdicts = kept_verdicts()
+    return [(crate, file, edit) for crate, file, edit, number in as_they_stand(crates) if verdicts.get((f"{crate}/{file}", edit.name)) != number]
+
+
+def tell_unseen(crates):
+    """Lists them."""
+    found = unseen(crates)
+    for crate, file, edit in found:
+        print(f"{crate}/{file}: {edit.name}")
+    print(f"{len(found)} of {sum(1 for _ in as_they_stand(crates))} wrong bodies were not seen to be refused as they stand")
+    return 0
 
 
 class NoTime(Exception):
@@ -377,7 +466,7 @@ def ended(number, _frame):
     sys.exit(128 + number)
 
 
-def sample(crates, minutes, seed):
+def sample(crates, minutes, seed, keeps):
     """Tries some edits, in the order that the seed decides, for so many processor minutes. Its end is 1 if one of them is bad."""
     signal.signal(signal.SIGTERM, ended)
     every = []
@@ -385,7 +474,9 @@ def sample(crates, minutes, seed):
         for file in files_of(crate):
             if file.startswith("wrong-bodies/"):
                 every += [(crate, file, it) for it in edits_in(f"{TOP}/crates/{crate}/{file}")]
-    every.sort(key=lambda it: hashlib.sha256(f"{seed} {it[0]}/{it[1]} {it[2].name}".encode()).digest())
+    first = {(crate, file, edit.name) for crate, file, edit in unseen(crates)}
+    every.sort(key=lambda it: ((it[0], it[1], it[2].name) not in first, hashlib.sha256(f"{seed} {it[0]}/{it[1]} {it[2].name}".encode()).digest()))
+    refused = []
     tried, bad, most, lost, until = 0, 0, minutes * 60, 0, time.monotonic() + 3 * minutes * 60
     for crate, file, edit in every:
         left = min(most - spent() - lost, until - time.monotonic())
@@ -400,7 +491,10 @@ def sample(crates, minutes, seed):
             lost += left
         print(f"wrong body {crate}/{file}: {edit.name}: {seen}", flush=True)
         tried += seen == "refused"
+        refused += [(crate, file, edit.name)] if seen == "refused" else []
         bad += seen.startswith(("LET THROUGH", "DOES NOT"))
+    if keeps:
+        keep_verdicts(refused)
     print(f"wrong bodies: {tried} of {len(every)} seen refused, picked by {seed[:12]}; {bad} not; {(spent() + lost) / 60:.1f} processor minutes", flush=True)
     return 1 if bad or not tried else 0
 
@@ -437,11 +531,11 @@ def mistakes():
     return found
 
 
-def named(crates, minutes, lanes):
+def named(crates, minutes, lanes, keeps):
     """Tries the mistakes that are listed of these crates, side by side. Its end is 1 if one of them is let through, or does not apply or read."""
     signal.signal(signal.SIGTERM, ended)
     every = [it for it in mistakes() if it[0] in crates]
-    until, refused, bad = time.monotonic() + minutes * 60, 0, 0
+    until, refused, bad = time.monotonic() + minutes * 60, [], 0
     with concurrent.futures.ThreadPoolExecutor(lanes) as pool:
 
         def tried(crate, file, edit):
@@ -452,9 +546,11 @@ def named(crates, minutes, lanes):
 
         for (crate, file, edit), seen in zip(every, pool.map(lambda it: tried(*it), every)):
             print(f"mistake {crate}/{file}: {edit.name}: {seen}", flush=True)
-            refused += seen == "refused"
+            refused += [(crate, file, edit.name)] if seen == "refused" else []
             bad += seen.startswith(("LET THROUGH", "DOES NOT"))
-    print(f"mistakes: {refused} of {len(every)} seen refused, {bad} let through or not to be read; {spent() / 60:.1f} processor minutes", flush=True)
+    if keeps:
+        keep_verdicts(refused)
+    print(f"mistakes: {len(refused)} of {len(every)} seen refused, {bad} let through or not to be read; {spent() / 60:.1f} processor minutes", flush=True)
     return 1 if bad else 0
 
 
@@ -474,11 +570,11 @@ def stamp_libraries():
         print(f"what the gate built is not used: {why}", flush=True)
 
 
-def main(names):
+def main(names, keeps):
     bad = 0
     for crate in names:
         files = files_of(crate)
-        count = refused = 0
+        count, refused = 0, []
         for file in files:
             edits = edits_in(f"{TOP}/crates/{crate}/{file}")
             _, said, turned = checked(crate, edits)
@@ -486,11 +582,15 @@ def main(names):
                 seen = outcome(said, places)
                 if seen != "by itself":
                     seen = alone(crate, edit)
-                count, refused = count + 1, refused + (seen == "by itself")
-                if seen != "by itself":
+                count += 1
+                if seen == "by itself":
+                    refused.append((crate, file, edit.name))
+                else:
                     print(f"{crate}/{file}: {edit.name}: {seen}", flush=True)
-        print(f"{crate}: {refused} of {count} wrong bodies refused by themselves, {len(files)} file(s)", flush=True)
-        bad += count - refused
+            if keeps:
+                keep_verdicts(refused)
+        print(f"{crate}: {len(refused)} of {count} wrong bodies refused by themselves, {len(files)} file(s)", flush=True)
+        bad += count - len(refused)
     return 1 if bad else 0
 
 
@@ -527,11 +627,13 @@ def asked():
     words.add_argument("--named", type=float, metavar="MINUTES")
     words.add_argument("--lanes", type=int, default=min(os.cpu_count(), 4))
     words.add_argument("--after-gate", action="store_true")
+    words.add_argument("--unseen", action="store_true")
+    words.add_argument("--keep", action="store_true")
     given = words.parse_args()
     unknown = [it for it in given.crates if not os.path.isdir(f"{TOP}/crates/{it}/src")]
     if unknown:
         words.error(f"no crate: {' '.join(unknown)}")
-    given.crates = given.crates or sorted(it for it in os.listdir(f"{TOP}/crates") if files_of(it))
+    given.crates = given.crates or every_crate()
     return given
 
 
@@ -543,6 +645,10 @@ if __name__ == "__main__":
         sys.exit(missing(given.crates))
     if given.compile_only:
         sys.exit(compile_all(given.crates))
+    if given.unseen:
+        sys.exit(tell_unseen(given.crates))
     if given.named:
-        sys.exit(named(given.crates, given.named, given.lanes))
-    sys.exit(sample(given.crates, given.sample, given.seed) if given.sample else main(given.crates))
+        sys.exit(named(given.crates, given.named, given.lanes, given.keep))
+    if given.sample:
+        sys.exit(sample(given.crates, given.sample, given.seed, given.keep))
+    sys.exit(main(given.crates, given.keep))
