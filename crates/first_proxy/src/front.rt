@@ -1,15 +1,15 @@
 //! The cache of the proxy, and requests of it.
 ghost use Rattle.std.specs.Prelude.{◌≡◌, IfOk, true};
-ghost use Rattle.pcache_request.specs.declared.phase.CachePhase.TheVariants.{CacheKey};
+ghost use Rattle.pcache.specs.Words.{CacheKey};
 
 use http::StatusCode;
-use pcache_base::error::Result;
-use pcache_base::moment::Moment;
-use pcache_base::seed::Seed;
-use pcache_cache::{Cache, CacheRequest};
-use pcache_evict::eviction::simple_lru::Manager;
-use pcache_meta::header::ResponseHeader;
-use pcache_meta::meta::CacheMeta;
+use pcache::error::Result;
+use pcache::moment::Moment;
+use pcache::seed::Seed;
+use pcache::{Cache, CacheRequest};
+use pcache::eviction::simple_lru::Manager;
+use pcache::header::ResponseHeader;
+use pcache::CacheMeta;
 use std::alloc::Global;
 use std::time::Duration;
 
@@ -45,7 +45,7 @@ pub fn request_for(alloc: Global, path: &str) -> Result<Request>
 {
     let primary = path.as_bytes().to_vec(alloc)?;
     let mut request = CacheRequest::new(alloc);
-    request.cache.set_cache_key(pcache_base::key::CacheKey::new(primary, String::new(alloc)));
+    request.cache.set_cache_key(pcache::CacheKey::new(primary, String::new(alloc)));
     Ok(request)
 }
 

@@ -8,8 +8,8 @@ mod serve;
 
 use anyhow::{Context, Result};
 use front::ProxyCache;
-use pcache_base::moment::Moment;
-use pcache_base::seed::Seed;
+use pcache::moment::Moment;
+use pcache::seed::Seed;
 use serve::Served;
 use std::random::RandomSource;
 use std::rt::Clock;

@@ -1,15 +1,15 @@
 //! The way of a request: a fresh body is served, and else one request for the key fetches it.
 ghost use Rattle.std.specs.Prelude.{◌≡◌, IsSome, true};
-ghost use Rattle.pcache_request.specs.Phases.{MayMiss};
-ghost use Rattle.pcache_request.specs.declared.phase.CachePhase.TheVariants.{CacheKey};
+ghost use Rattle.pcache.specs.Words.{MayMiss};
+ghost use Rattle.pcache.specs.Words.{CacheKey};
 
 use crate::front::{ProxyCache, Request, meta_of, request_for};
 use crate::origin::fetch;
 use bytes::Bytes;
-use pcache_base::error::Result;
-use pcache_base::moment::Moment;
-use pcache_base::poll::Poll;
-use pcache_request::HitStatus;
+use pcache::error::Result;
+use pcache::moment::Moment;
+use pcache::poll::Poll;
+use pcache::HitStatus;
 
 /// How a request was served.
 pub enum Served {

@@ -1,0 +1,9 @@
+//! Eviction managers, and their files.
+
+pub use pcache_evict::eviction::{
+    CacheEntryId, CacheEntryKey, CacheEntryKeyRef, EvictionManager, sharded_lru, simple_lru,
+};
+pub use pcache_files as files;
+pub use pcache_files::device::{CountedRead, CountedWrite};
+pub use pcache_files::saved::SavedManager;
+pub use pcache_policies::{s3_fifo, sieve};
