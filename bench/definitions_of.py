@@ -295,6 +295,8 @@ def test(tree):
         lost = min((lost_of(it, named, modules) for it in fits), key=len)
         if lost:
             wrong.append(f"{crate} {path}: not reached: {', '.join(sorted(lost))}")
+    if not functions:  # a gate keeps no text of the contracts
+        wrong.append("no library in that tree has its contracts: prove it there by bench/prove.py")
     print("\n".join(wrong))
     print(f"{functions} functions with {clauses} clauses are read as the toolchain does, {len(wrong)} are not")
     return not wrong
