@@ -237,6 +237,17 @@ def shown(definition):
     return "\n".join([f"{path}:{definition.line}", *definition.comment, *definition.text, ""])
 
 
+def unread_clauses():
+    """A line for each file of the sources in which more or fewer clauses begin than are read."""
+    clause = re.compile(r"(?m)^\s*(?:requires|ensures)\*?(?: \w+)? \{")
+    for path in sources():
+        with open(path, encoding="utf-8") as it:
+            begun = len(clause.findall(it.read()))
+        read = sum(len(it.clauses) + len(clause.findall(it.body)) for it in contracts_in(path))  # closures have clauses too
+        if begun != read:
+            yield f"{os.path.relpath(path, TOP)}: {begun} clauses begin, and {read} are read"
+
+
 def lines_of(order):
     return sum(len(it.text) for it in order)
 
