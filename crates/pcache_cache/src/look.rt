@@ -28,9 +28,9 @@ impl<M: EvictionManager, K> Cache<M, K> {
     ghost use Rattle.pcache_store.specs.Readers.{reader_of};
     ghost use Rattle.pcache_store.specs.Store.{gives_piece, left, read_of, reader_after, write_read};
 
-    /// `HttpCache::cache_lookup_without_policy`: what the store has for the request's key, unless it is hidden; if nothing is
-    /// handed on, the key's lock is asked for. No policy is asked. A pair that is handed on has to be taken by `cache_found` or
-    /// let go. Requires the phase CacheKey or Stale; ask `phase().may_look_up()` of the request.
+    /// `HttpCache::cache_lookup_without_policy`: returns what the store has for the request's key, a meta and a reader, unless
+    /// a variant hides it; if it returns nothing, the key's lock is asked for. No policy is asked. The caller has to pass a
+    /// returned pair to `cache_found` or to `let_go`. Requires the phase CacheKey or Stale; ask `phase().may_look_up()` of the request.
     #[tactic(auto, using(crate::proofs::Own::looked_phase, crate::proofs::Own::looked_uses))]
     pub fn cache_lookup_without_policy(
         &mut self,
@@ -153,14 +153,14 @@ impl<M: EvictionManager, K> Cache<M, K> {
         )
     }
 
-    /// Lets go the reader that a look-up found.
+    /// Lets go of the reader that a look-up returned.
     pub fn let_go(&mut self, hit: MemHitHandler)
         ensures { self.new ≡ record self.old { store = left self.old.store (reader_of hit) } }
     {
         hit.let_go(&mut self.store);
     }
 
-    /// `HttpCache::read_body`: reads on. Requires a reader. Fails only if there is a piece to give.
+    /// `HttpCache::read_body`: reads the next bytes. Requires a reader. Fails only if there are bytes to give.
     pub fn read_body(&mut self, request: &mut CacheRequest<K>) -> Result<Poll<Option<Bytes>>>
         requires { IsSome request.old.cache.reader }
         ensures read { IfOk result (λ p.
@@ -180,8 +180,8 @@ impl<M: EvictionManager, K> Cache<M, K> {
         request.cache.read_body(&mut self.store)
     }
 
-    /// `HttpCache::is_body_whole`: whether all was given that was to be read; `false` after the end says that the body was cut
-    /// off.
+    /// `HttpCache::is_body_whole`: whether the reader has given all that it was to give; `false` at the end means that the body
+    /// was cut off.
     pub fn is_body_whole(&self, request: &CacheRequest<K>) -> bool
         ensures { result ≡ whole_by request.now.cache.reader self.now.store }
     {
@@ -209,7 +209,7 @@ impl<M: EvictionManager, K> Cache<M, K> {
         request.cache.finish_hit_handler(&mut self.store)
     }
 
-    /// `HttpCache::disable`: turns caching off, and gives back all that is held.
+    /// `HttpCache::disable`: turns caching off, and releases all that the request holds.
     /// Requires a reason other than NeverEnabled, and with a permit held one that its holder can
     /// have; ask `may_disable(reason)` of the request.
     pub fn disable(
@@ -234,7 +234,7 @@ impl<M: EvictionManager, K> Cache<M, K> {
             .disable(&mut self.store, &mut self.lock, reason)
     }
 
-    /// `HttpCache::end`: gives back all that a request holds.
+    /// `HttpCache::end`: releases all that a request holds.
     pub fn end(&mut self, request: CacheRequest<K>) -> Option<LockName>
         ensures let_go { result ≡ option_map name_of request.cache.held }
         ensures store { self.new.store

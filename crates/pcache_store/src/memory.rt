@@ -313,6 +313,7 @@ impl MemCache {
         let Some(id) = entry.entry_id() else {
             return Some(slot);
         };
+        // A body that another write stored stays fresh.
         if self.slots.has_body_of(slot, id) {
             Some(slot)
         } else {
@@ -334,7 +335,7 @@ impl StoreMeaning for MemCache {
     ghost ends_hit = { λ _ reader result. IsOk result };
 }
 
-// The number of the write that a tag names.
+// The number of the write that a tag names: its eight bytes, the high byte first. A tag of another length names no write.
 fn number_named_by(tag: Option<&[u8]>) -> Option<u64>
     ensures { result ≡ named_by (option_copied tag.entry) }
 {
@@ -385,6 +386,7 @@ impl Storage for MemCache {
         let Some(draft) = self.drafts.get(slot, number) else {
             return Ok(None);
         };
+        // A write whose key was removed is joined too: the tag names this write, and not what the key has.
         if !draft.is_flying() || draft.slot() != slot {
             return Ok(None);
         }
