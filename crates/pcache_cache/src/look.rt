@@ -23,7 +23,7 @@ impl<M: EvictionManager, K> Cache<M, K> {
     ghost use Rattle.pcache_request.specs.Phases.{IsDisabled, MayFinishHit, MayLookUp};
     ghost use Rattle.pcache_request.specs.Releasing.{MayDisable, disabled_for, status_for};
     ghost use Rattle.pcache_request.specs.Reports.{name_of};
-    ghost use Rattle.pcache_request.specs.Requests.{HoldsNothing, asks_for_hit, dropped_by, found_row, left_by, length_by, let_go_by, settled, store_found, table_found, tracked_found, whole_by, without_reader};
+    ghost use Rattle.pcache_request.specs.Requests.{HoldsNothing, asks_for_hit, counts_found, dropped_by, found_for, found_row, left_by, length_by, let_go_by, settled, store_found, table_found, tracked_found, whole_by, without_reader};
     ghost use Rattle.pcache_request.specs.Variants.{asks_unseen, hides_for, looked_for, searched, seen_for, table_looked_for};
     ghost use Rattle.pcache_store.specs.Readers.{reader_of};
     ghost use Rattle.pcache_store.specs.Store.{gives_piece, left, read_of, reader_after, write_read};
@@ -54,6 +54,8 @@ impl<M: EvictionManager, K> Cache<M, K> {
         ensures kind { IfErr result (λ e. MayFailLock self.old.locks e) }
         ensures numbers { IfErr result (λ e.
             e ≡ NumbersExhausted → IsTrue (asks_unseen self.old.store request.old.cache)) }
+        ensures something { OnErr result (IsSome (found_for self.old.store request.old.cache.key)
+            ⊎ IsTrue request.old.cache.uses.lock) }
         ensures phase { OnOk result (request.new.cache.phase ≡ request.old.cache.phase) }
         ensures uses { OnOk result (request.new.cache.uses ≡ request.old.cache.uses) }
         ensures rest { self.new
@@ -101,6 +103,8 @@ impl<M: EvictionManager, K> Cache<M, K> {
         ensures kind { IfErr result (λ e. MayFailLock self.old.locks e) }
         ensures numbers { IfErr result (λ e.
             e ≡ NumbersExhausted → IsTrue (asks_unseen self.old.store request.old.cache)) }
+        ensures something { OnErr result (IsSome (found_for self.old.store request.old.cache.key)
+            ⊎ IsTrue request.old.cache.uses.lock) }
         ensures rest { self.new
             ≡ record self.old { store = self.new.store; locks = self.new.locks } }
     {
@@ -136,6 +140,13 @@ impl<M: EvictionManager, K> Cache<M, K> {
             ⊎ (self.new.tracked
             ≡ tracked_found status (reader_of hit) (write_read (reader_of hit))
             request.old.cache self.old.tracked)) }
+        ensures stays { OnErr result ((self.new.tracked ≡ self.old.tracked)
+            ⊎ IsTrue (asks_for_hit status request.old.cache)) }
+        ensures unused { counts_found status (reader_of hit) request.old.cache ≡ false
+            → self.new.tracked ≡ self.old.tracked }
+        ensures something { OnErr result
+            (IsTrue (counts_found status (reader_of hit) request.old.cache)
+            ⊎ IsTrue (asks_for_hit status request.old.cache)) }
         ensures limits { self.new.limits ≡ self.old.limits }
         ensures evicted { self.new.evicted ≡ self.old.evicted }
         ensures kind { IfErr result (λ e. MayFailLock self.old.locks e) }
@@ -195,15 +206,14 @@ impl<M: EvictionManager, K> Cache<M, K> {
         request.cache.body_length(&self.store)
     }
 
-    /// `HttpCache::finish_hit_handler`: ends the reader.
+    /// `HttpCache::finish_hit_handler`: ends the reader. It does not fail: the result is that of any storage.
     /// Requires a phase after a look-up (not Disabled, Uninit, CacheKey or Bypass); ask
     /// `phase().may_finish_hit()` of the request.
     pub fn finish_hit_handler(&mut self, request: &mut CacheRequest<K>) -> Result<()>
         requires { MayFinishHit request.old.cache.phase }
         ensures request { request.new.cache ≡ without_reader request.old.cache }
         ensures store { self.new.store ≡ left_by request.old.cache.reader self.old.store }
-        ensures kind { IfErr result (λ e. e ≡ OutOfMemory) }
-        ensures none { request.old.cache.reader ≡ None → IsOk result }
+        ensures answer { IsOk result }
         ensures rest { self.new ≡ record self.old { store = self.new.store } }
     {
         request.cache.finish_hit_handler(&mut self.store)
