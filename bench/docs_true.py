@@ -312,7 +312,8 @@ LIES = [
     ("a wrong number of tests", "docs/PROMISES.md", lambda text: text + "\nThere are 9,999 tests.\n"),
     ("a command that is none", "docs/GUIDE.md", lambda text: text + "\nThen `rt frob` proves it.\n"),
     ("a block that is no source's", "docs/GUIDE.md", lambda text: text + "\n```rust\nlet cache = Cache::default();\n```\n"),
-    ("a link to no heading", "README.md", lambda text: text + "\n[opened](docs/PROMISES.md#opened)\n"),
+    ("a link to no heading", "README.md", lambda text: text.replace("\n\n", " [opened](docs/PROMISES.md#opened)\n\n", 1)),
+    ("a page that is too long", "README.md", lambda text: text + "\n" * 9),
     ("a crate above one that uses it", "README.md", lambda text: re.sub(r"(?m)^( values .*)\n", "", text).replace("```\n programs", "```\n values  pcache_base  pcache_meta  pcache_control  pcache_table\n programs", 1)),
     ("a wrong count of definitions", "docs/AUDIT.md", with_count_changed),
 ]
