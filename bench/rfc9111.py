@@ -1,7 +1,7 @@
 #!/usr/bin/env python3
 """Writes docs/RFC9111.md: what RFC 9111 demands of a cache, as the definitions of the crates that decide by it have it. Each row is
 one definition: its section, how strong the demand is, the definition's words, the functions whose contracts cite it, and the tests'
-rows of that section. `--check` only says whether the page is due."""
+rows of that section. What is left to a proxy stands below them. `--check` only says whether the page is due."""
 import pathlib, re, sys
 
 TOP = pathlib.Path(__file__).resolve().parent.parent
@@ -14,6 +14,28 @@ Made by `bench/rfc9111.py` from the definitions in `specs/` of {crates}; do not 
 
 | Section | Demand | Definition | In words | Decided by | Rows |
 |---|---|---|---|---|---|
+"""
+
+TAIL = """
+## What is the proxy's
+
+`decide_request` and `decide_response` say what is to be done. These do it, or know what no head tells:
+
+| Section | What | Whose it is |
+|---|---|---|
+| 3.3, 3.4 | whether a body came whole; parts of one | the store's: a write that is not finished is no complete body. A 206 is not stored, and parts are not combined |
+| 4 | that a stored response has the target URI | the key's, under which it is looked up |
+| 4, 4.1 | of several stored responses the most recent | the key's with its variance: there is one for each. Who keeps several hands over the most recent |
+| 4 | one request for many clients | the lock table's: one request has the permit to fill a key |
+| 4.2.4, 4.3.3 | that no answer came | the proxy calls `after_failure` then |
+| 4.3.2, 5.1 | the Age and the fields of what is sent | the decision has the Age, `not_modified` says which fields a 304 has; the proxy writes them |
+| 4.3.5 | that a stored response counts as stale from now on (`MarkStale`) | the proxy removes it, since no head says so |
+| 4.4 | that what is invalidated goes | the proxy purges the keys of the target and of the URIs that `unsafe_methods::taken_away` gives: how keys are made of URIs is its own |
+| 5.2.1.6, 5.2.2.6 | no-transform | nothing here transforms |
+| RFC 5861, 3 | the validation while a stale response is served (`WhileRevalidating`) | the proxy sends it |
+| RFC 9110, 14 | the 206 or 416 for a Range (`Answer::Range`) | the proxy cuts the body |
+
+`rfc9111_proxy` is a proxy over these calls; its `stdout` shows what becomes of a line of requests.
 """
 
 
@@ -116,7 +138,7 @@ def page():
             words = words.replace("|", "\\|")
             rows.append((key, f"| {told} | {demand_of(words)} | `{crate}: {module}.{name}` | {words} | {', '.join(deciders)} | {counts or ''} |"))
     rows.sort(key=lambda row: row[0])
-    return HEAD.format(crates=", ".join(f"`{crate}`" for crate in crates)) + "\n".join(row for _, row in rows) + "\n"
+    return HEAD.format(crates=", ".join(f"`{crate}`" for crate in crates)) + "\n".join(row for _, row in rows) + "\n" + TAIL
 
 
 def main():

@@ -4,7 +4,7 @@ use Rattle.pcache_meta.specs.declared.header.RequestHeader.{RequestHeader}
 use Rattle.pcache_meta.specs.declared.header.ResponseHeader.{ResponseHeader}
 use Rattle.pcache_http.specs.declared.rules.Rules.{Rules}
 use Rattle.pcache_decisions.specs.declared.responses.Outcome.{Outcome}
-use Rattle.pcache_decisions.specs.declared.responses.Outcome.TheVariants.{FetchAgain, Freshen, Invalidate, PassOn, ServeStale, Store}
+use Rattle.pcache_decisions.specs.declared.responses.Outcome.TheVariants.{FetchAgain, Freshen, Invalidate, MarkStale, PassOn, ServeStale, Store, Update}
 use Rattle.pcache_decisions.specs.declared.stored.StoredResponse.{StoredResponse}
 use Rattle.pcache_decisions.specs.Responses.{ByError, DecidesStoring, FollowsError}
 
@@ -25,6 +25,8 @@ as_any_other rules request stored response received (Freshen freshened) f d = ab
 as_any_other rules request stored response received FetchAgain f d = absurd d.decided
 as_any_other rules request stored response received (ServeStale stale) f d = absurd d.decided
 as_any_other rules request stored response received Invalidate f d = absurd d.decided
+as_any_other rules request stored response received (Update kept) f d = absurd d.decided
+as_any_other rules request stored response received MarkStale f d = absurd d.decided
 
 module _ {E : Type 0} where
   pub as_any_response : (rules : Rules) (request : RequestHeader) (stored : StoredResponse) (response : ResponseHeader) (received : ℕ) (result : Result Outcome E) (may : Bool)

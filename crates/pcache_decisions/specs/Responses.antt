@@ -1,5 +1,5 @@
--- What becomes of a response (RFC 9111 sections 3, 3.1, 3.2, 4.3.3, 4.3.4 and 4.4; RFC 5861 section 4): the table of what is
--- decided. Moments are in nanoseconds.
+-- What becomes of a response (RFC 9111 sections 3, 3.1, 3.2, 4.3.3, 4.3.4, 4.3.5 and 4.4; RFC 5861 section 4): the table of what
+-- is decided. Moments are in nanoseconds.
 use Rattle.std.specs.Prelude.{◌≡◌, ◌⊎◌, ℕ, ◌/◌, Bool, true, false, Some, codes, if◌then◌else◌}
 use Rattle.http_header.specs.FieldValue.{FieldValue}
 use Rattle.http_header.specs.HeaderMap.{Entries, remove}
@@ -14,22 +14,25 @@ use Rattle.pcache_http.specs.declared.lifetime.Lifetime.{Lifetime}
 use Rattle.pcache_http.specs.declared.rules.CacheKind.{CacheKind}
 use Rattle.pcache_http.specs.declared.rules.Rules.{Rules}
 use Rattle.pcache_http.specs.declared.storing.NotStoredFor.TheVariants.{MethodNotUnderstood}
+use Rattle.pcache_http.specs.declared.storing.NotStoredFor.{NotStoredFor}
 use Rattle.pcache_http.specs.declared.storing.Storing.{Storing}
+use Rattle.pcache_http.specs.declared.storing.Storing.TheVariants.{NotStored, Stored}
 use Rattle.pcache_http.specs.Age.{second}
 use Rattle.pcache_http.specs.Control.{SaysOfRequest, SaysOfResponse}
 use Rattle.pcache_http.specs.Lifetime.{lifetime_of}
 use Rattle.pcache_http.specs.Serving.{may_follow_error}
 use Rattle.pcache_http.specs.StoredFields.{AreStoredFields}
-use Rattle.pcache_http.specs.Storing.{IsStoring, MayBeStored, Fails}
+use Rattle.pcache_http.specs.Storing.{as_get, IsStoring, MayBeStored, Fails}
 use Rattle.pcache_validation.specs.Answers.{IsError, IsUnchanged}
 use Rattle.pcache_validation.specs.Fields.{has}
 use Rattle.pcache_validation.specs.Freshening.{identifies}
+use Rattle.pcache_validation.specs.Heads.{MakesStale, Updates}
 use Rattle.pcache_validation.specs.Unsafe.{Invalidates}
 use Rattle.pcache_validation.specs.Updating.{IsUpdated}
 use Rattle.pcache_decisions.specs.declared.responses.Freshened.{Freshened}
 use Rattle.pcache_decisions.specs.declared.responses.Kept.{Kept}
 use Rattle.pcache_decisions.specs.declared.responses.Outcome.{Outcome}
-use Rattle.pcache_decisions.specs.declared.responses.Outcome.TheVariants.{FetchAgain, Freshen, Invalidate, PassOn, ServeStale, Store}
+use Rattle.pcache_decisions.specs.declared.responses.Outcome.TheVariants.{FetchAgain, Freshen, Invalidate, MarkStale, PassOn, ServeStale, Store, Update}
 use Rattle.pcache_decisions.specs.declared.responses.Stale.{Stale}
 use Rattle.pcache_decisions.specs.declared.responses.Validating.{Validating}
 use Rattle.pcache_decisions.specs.declared.stored.StoredResponse.{StoredResponse}
@@ -80,10 +83,10 @@ pub record StoresBy (kind : CacheKind) (request : RequestHeader) (head : Respons
   pub is : IsStoring kind request asked head said storing
 
 -- RFC 9111, 4.3.4 and 4.3.2: the updated response answers the request. RFC 9111, 5.2.1.5 and 5.2.2.5, MUST NOT: nothing of
--- the 304 is stored if the updated response may not be
+-- the 304 is stored if the updated response may not be. What is stored answered a GET, so that is asked as of one to a GET
 pub record IsFreshenedTo (rules : Rules) (request : RequestHeader) (validated : Validating) (response : ResponseHeader) (received : ℕ) (freshened : Freshened) : Type 0 where
   pub updated : IsUpdatedBy rules validated response received freshened.kept
-  pub storing : StoresBy rules.kind request freshened.kept.head freshened.storing
+  pub storing : StoresBy rules.kind (as_get request) freshened.kept.head freshened.storing
   pub answer : GivesAnswer request freshened.kept.head received freshened.answer
 
 -- ---- a response to an unsafe method
@@ -96,6 +99,8 @@ ByUnsafe request response (Store kept) = ⊥
 ByUnsafe request response (Freshen freshened) = ⊥
 ByUnsafe request response FetchAgain = ⊥
 ByUnsafe request response (ServeStale stale) = ⊥
+ByUnsafe request response (Update kept) = ⊥
+ByUnsafe request response MarkStale = ⊥
 
 -- ---- a 304 to the conditions of the cache
 
@@ -111,6 +116,8 @@ By304 rules request validated response received (Store kept) = ⊥
 By304 rules request validated response received (ServeStale stale) = ⊥
 By304 rules request validated response received Invalidate = ⊥
 By304 rules request validated response received (PassOn reason) = ⊥
+By304 rules request validated response received (Update kept) = ⊥
+By304 rules request validated response received MarkStale = ⊥
 
 -- ---- any other response
 
@@ -123,6 +130,8 @@ ByStoring rules request asked response said received (Freshen freshened) = ⊥
 ByStoring rules request asked response said received FetchAgain = ⊥
 ByStoring rules request asked response said received (ServeStale stale) = ⊥
 ByStoring rules request asked response said received Invalidate = ⊥
+ByStoring rules request asked response said received (Update kept) = ⊥
+ByStoring rules request asked response said received MarkStale = ⊥
 
 -- by what the Cache-Control of both says
 pub record DecidesStoring (rules : Rules) (request : RequestHeader) (response : ResponseHeader) (received : ℕ) (outcome : Outcome) : Type 0 where
@@ -157,17 +166,53 @@ ByError rules request stored response received (PassOn reason) =
 ByError rules request stored response received (Freshen freshened) = ⊥
 ByError rules request stored response received FetchAgain = ⊥
 ByError rules request stored response received Invalidate = ⊥
+ByError rules request stored response received (Update kept) = ⊥
+ByError rules request stored response received MarkStale = ⊥
+
+-- ---- the answer to a HEAD
+
+abbrev pub IsHead : RequestHeader → Type 0
+IsHead request = request.method ≡ codes "HEAD"
+
+-- RFC 9111, 5.2.1.5 and 5.2.2.5, MUST NOT: nothing of the answer to a HEAD is stored if the updated response may not be
+pub record IsNotUpdated (rules : Rules) (request : RequestHeader) (validated : Validating) (response : ResponseHeader) (received : ℕ) (reason : NotStoredFor) : Type 0 where
+  pub kept : Kept
+  pub updated : IsUpdatedBy rules validated response received kept
+  pub storing : StoresBy rules.kind (as_get request) kept.head (NotStored reason)
+
+-- RFC 9111, 4.3.5, MUST: the stored response is updated with the fields of the answer to a HEAD that fits it
+abbrev pub ByUpdate : Rules → RequestHeader → Validating → ResponseHeader → ℕ → Outcome → Type 0
+ByUpdate rules request validated response received (Update kept) =
+    IsUpdatedBy rules validated response received kept × StoresBy rules.kind (as_get request) kept.head Stored
+ByUpdate rules request validated response received (PassOn reason) = IsNotUpdated rules request validated response received reason
+ByUpdate rules request validated response received (Store kept) = ⊥
+ByUpdate rules request validated response received (Freshen freshened) = ⊥
+ByUpdate rules request validated response received FetchAgain = ⊥
+ByUpdate rules request validated response received (ServeStale stale) = ⊥
+ByUpdate rules request validated response received Invalidate = ⊥
+ByUpdate rules request validated response received MarkStale = ⊥
+
+-- RFC 9111, 4.3.5, SHOULD: a 200 to a HEAD updates the stored response that it fits, and makes any other one stale
+pub record DecidesByHead (rules : Rules) (request : RequestHeader) (validated : Validating) (response : ResponseHeader) (received : ℕ) (outcome : Outcome) : Type 0 where
+  pub fits : Updates response.status (shown_fields response.headers) (shown_fields validated.stored.head.now.headers)
+      → ByUpdate rules request validated response received outcome
+  pub differs : MakesStale response.status (shown_fields response.headers) (shown_fields validated.stored.head.now.headers)
+      → outcome ≡ MarkStale
+  pub other : ¬ (response.status ≡ 200) → DecidesStoring rules request response received outcome
 
 -- ---- all answers to a validation
 
 pub record DecidesByValidated (rules : Rules) (request : RequestHeader) (validated : Validating) (response : ResponseHeader) (received : ℕ) (outcome : Outcome) : Type 0 where
   pub unchanged : IsUnchanged (Some response.status) → By304 rules request validated response received outcome
   pub failed : IsError (Some response.status) → ByError rules request validated.stored response received outcome
-  pub other : ¬ (IsUnchanged (Some response.status)) → ¬ (IsError (Some response.status))
+  pub head : ¬ (IsUnchanged (Some response.status)) → ¬ (IsError (Some response.status)) → IsHead request
+      → DecidesByHead rules request validated response received outcome
+  pub other : ¬ (IsUnchanged (Some response.status)) → ¬ (IsError (Some response.status)) → ¬ (IsHead request)
       → DecidesStoring rules request response received outcome
 
 -- ---- errors
 
--- memory runs out, or a 304 brings more fields than a head has room for (own)
-abbrev pub FailsWith : ResponseHeader → ErrorType → Type 0
-FailsWith response e = (e ≡ OutOfMemory) ⊎ ((e ≡ InternalError) × IsUnchanged (Some response.status))
+-- memory runs out, or what updates a stored response brings more fields than a head has room for (own)
+abbrev pub FailsWith : RequestHeader → ResponseHeader → ErrorType → Type 0
+FailsWith request response e =
+    (e ≡ OutOfMemory) ⊎ ((e ≡ InternalError) × (IsUnchanged (Some response.status) ⊎ (IsHead request × (response.status ≡ 200))))

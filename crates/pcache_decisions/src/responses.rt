@@ -1,15 +1,16 @@
-//! What becomes of a response (RFC 9111 sections 3, 4.3.3, 4.3.4 and 4.4).
+//! What becomes of a response (RFC 9111 sections 3, 4.3.3, 4.3.4, 4.3.5 and 4.4).
 
 ghost use Rattle.std.specs.Prelude.{◌≡◌, ◌⊎◌, ◌↔◌, IsTrue, IfOk, IfErr, IfSome, None, Some, false, true};
 ghost use Rattle.std.specs.Option.{option_copied};
 ghost use Rattle.pcache_base.specs.declared.error.ErrorType.TheVariants.{InternalError, OutOfMemory};
+ghost use Rattle.pcache_http.specs.Storing.{as_get};
 ghost use Rattle.pcache_validation.specs.Answers.{IsError, IsUnchanged};
 ghost use Rattle.pcache_validation.specs.Unsafe.{IsSafe};
-ghost use Rattle.pcache_decisions.specs.Responses.{AreFreshened, By304, ByError, ByStoring, ByUnsafe, DecidesByValidated, DecidesStoring, FailsWith, FollowsError, IsFreshenedTo, IsKeptOf, IsLifetimeOf, IsServedStale, IsUpdatedBy, StoresBy, without_old_age};
+ghost use Rattle.pcache_decisions.specs.Responses.{AreFreshened, By304, ByError, ByStoring, ByUnsafe, ByUpdate, DecidesByHead, DecidesByValidated, DecidesStoring, FailsWith, FollowsError, IsFreshenedTo, IsHead, IsKeptOf, IsLifetimeOf, IsServedStale, IsUpdatedBy, StoresBy, without_old_age};
 
 use crate::requests::{Answer, answer_of};
 use crate::stored::{StoredResponse, age_at, lifetime_in};
-use http::StatusCode;
+use http::{Method, StatusCode};
 use http_header::{AGE, HeaderMap};
 use pcache_base::error::Result;
 use pcache_base::moment::Moment;
@@ -18,11 +19,12 @@ use pcache_http::lifetime::{Lifetime, lifetime_of};
 use pcache_http::rules::{CacheKind, Rules};
 use pcache_http::serving::may_follow_error;
 use pcache_http::stored_fields::stored_fields;
-use pcache_http::storing::{NotStoredFor, Storing, may_store};
+use pcache_http::storing::{NotStoredFor, Storing, may_store, may_store_as_get};
 use pcache_meta::header::{RequestHeader, ResponseHeader};
 use pcache_validation::answers::is_error;
 use pcache_validation::fields::has;
 use pcache_validation::freshening::identifies;
+use pcache_validation::heads::{self, after_head_of};
 use pcache_validation::unsafe_methods::{invalidates, is_safe};
 use pcache_validation::updating::{StoredBody, updated};
 
@@ -53,7 +55,7 @@ pub struct Freshened {
     /// The updated response, which answers the request.
     pub kept: Kept,
     /// Whether it is stored in place of the stored response. If not, it answers this request alone, and
-    /// what is stored stays as it was. After a HEAD it is never stored.
+    /// what is stored stays as it was.
     pub storing: Storing,
     /// What the client gets of it.
     pub answer: Answer,
@@ -80,6 +82,11 @@ pub enum Outcome {
     FetchAgain,
     /// It is an error, and the stored response answers the request in its place.
     ServeStale(Stale),
+    /// It answers a HEAD and is passed on. It updates the stored response, whose head is now this one.
+    Update(Kept),
+    /// It answers a HEAD and is passed on. The stored response is another one, and is stale from now
+    /// on: it may be removed, but not be served without validation.
+    MarkStale,
     /// It is passed on, and what is stored for the target URI is invalidated, with what
     /// `pcache_validation::unsafe_methods::taken_away` says (RFC 9111 section 4.4).
     Invalidate,
@@ -159,13 +166,13 @@ fn updated_by(
     Ok(kept_from(rules, head, received))
 }
 
-// Whether a head may be stored for a request.
+// Whether the head of a stored response may be stored for a request, as what is stored answers a GET.
 fn stores(kind: CacheKind, request: &RequestHeader, head: &ResponseHeader) -> Storing
-    ensures { StoresBy kind request.now head.now result }
+    ensures { StoresBy kind (as_get request.now) head.now result }
 {
     let asked = RequestControl::of(&request.headers);
     let said = ResponseControl::of(&head.headers);
-    may_store(kind, request, &asked, head, &said)
+    may_store_as_get(kind, request, &asked, head, &said)
 }
 
 // The updated response, and what becomes of it.
@@ -323,6 +330,51 @@ fn is_unchanged(status: StatusCode) -> bool
     status == StatusCode::NOT_MODIFIED
 }
 
+// What becomes of the answer to a HEAD that fits the stored response.
+fn by_update(
+    rules: &Rules,
+    request: &RequestHeader,
+    validated: &Validating<'_>,
+    response: &ResponseHeader,
+    received: Moment,
+) -> Result<Outcome>
+    ensures ok { IfOk result
+        (ByUpdate rules.now request.now validated.now response.now received) }
+    ensures kind { IfErr result (λ e. (e ≡ OutOfMemory) ⊎ (e ≡ InternalError)) }
+{
+    let kept = updated_by(rules, validated, response, received)?;
+    match stores(rules.kind, request, &kept.head) {
+        Storing::Stored => Ok(Outcome::Update(kept)),
+        Storing::NotStored(reason) => Ok(Outcome::PassOn(reason)),
+    }
+}
+
+// What becomes of the answer to a HEAD.
+fn by_head(
+    rules: &Rules,
+    request: &RequestHeader,
+    validated: &Validating<'_>,
+    response: &ResponseHeader,
+    received: Moment,
+) -> Result<Outcome>
+    ensures ok { IfOk result
+        (DecidesByHead rules.now request.now validated.now response.now received) }
+    ensures kind { IfErr result
+        (λ e. (e ≡ OutOfMemory) ⊎ ((e ≡ InternalError) × (response.now.status ≡ 200))) }
+{
+    match after_head_of(response, &validated.stored.head.headers) {
+        heads::Freshened::Updated => by_update(rules, request, validated, response, received),
+        heads::Freshened::Stale => Ok(Outcome::MarkStale),
+        heads::Freshened::Untouched => decide_storing(rules, request, response, received),
+    }
+}
+
+fn is_head(request: &RequestHeader) -> bool
+    ensures { IsTrue result ↔ IsHead request.now }
+{
+    request.method == Method::HEAD
+}
+
 // What becomes of the answer to a validation.
 fn by_validated(
     rules: &Rules,
@@ -333,27 +385,30 @@ fn by_validated(
 ) -> Result<Outcome>
     ensures ok { IfOk result
         (DecidesByValidated rules.now request.now validated.now response.now received) }
-    ensures kind { IfErr result (FailsWith response.now) }
+    ensures kind { IfErr result (FailsWith request.now response.now) }
 {
     if is_unchanged(response.status) {
         by_304(rules, request, validated, response, received)
     } else if is_error(&Some(response.status)) {
         by_error(rules, request, &validated.stored, response, received)
+    } else if is_head(request) {
+        by_head(rules, request, validated, response, received)
     } else {
         decide_storing(rules, request, response, received)
     }
 }
 
 /// What becomes of the response to a request that was forwarded, and was received at this moment.
-/// `validated` is the stored response with whose validators the request was sent; `None` if it was
-/// sent without conditions of the cache.
+/// `validated` is the stored response for which `decide_request` said `Validate`; `None` if it said
+/// `Fetch`, or if the request was sent again without conditions.
 ///
 /// A response to an unsafe method invalidates. A 304 to the conditions of the cache updates the stored
-/// response, or has the request sent again. In place of an error the stored response may be served.
-/// Any other response is stored, if it may be.
+/// response, or has the request sent again. In place of an error the stored response may be served. A
+/// 200 to a HEAD updates the stored response, or makes it stale. Any other response is stored, if it
+/// may be.
 ///
-/// Allocates what is stored. Fails with `OutOfMemory`, or with `InternalError` if a 304 brings too
-/// many fields; after an unsafe method never.
+/// Allocates what is stored. Fails with `OutOfMemory`, or with `InternalError` if what updates the
+/// stored response brings too many fields; after an unsafe method never.
 pub fn decide_response(
     rules: &Rules,
     request: &RequestHeader,
@@ -368,7 +423,7 @@ pub fn decide_response(
         (DecidesByValidated rules.now request.now v response.now received)) }
     ensures fetched { IsSafe request.now.method → option_copied validated.entry ≡ None
         → IfOk result (DecidesStoring rules.now request.now response.now received) }
-    ensures kind { IfErr result (λ e. IsSafe request.now.method × FailsWith response.now e) }
+    ensures kind { IfErr result (λ e. IsSafe request.now.method × FailsWith request.now response.now e) }
 {
     if !is_safe(&request.method) {
         return Ok(by_unsafe(request, response));

@@ -4,3 +4,4 @@ pub mod Removed
 pub mod SameMembers
 pub mod Selected
 pub mod Forbidden
+pub mod AsGet

@@ -137,3 +137,11 @@ Fails kind request asked response said NothingAllowsIt = allows_storing kind sai
 abbrev pub IsStoring : CacheKind → RequestHeader → RequestControl → ResponseHeader → ResponseControl → Storing → Type 0
 IsStoring kind request asked response said Stored = MayBeStored kind request asked response said
 IsStoring kind request asked response said (NotStored reason) = Fails kind request asked response said reason
+
+-- RFC 9111, 4.3.5: the answer to a HEAD is identical to what that to a GET with the same fields would have been
+abbrev pub as_get : RequestHeader → RequestHeader
+as_get request = record {
+  method = codes "GET";
+  target = request.target;
+  headers = request.headers;
+}

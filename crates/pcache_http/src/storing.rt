@@ -3,7 +3,7 @@
 ghost use Rattle.std.specs.Prelude.{◌≡◌, codes};
 ghost use Rattle.http_header.specs.HeaderMap.{get_all};
 ghost use Rattle.http_header.specs.Token.{lowercase};
-ghost use Rattle.pcache_http.specs.Storing.{IsStoring, is_shared, is_whole, has_field, is_method_understood, is_final, is_status_understood, keeps_to_status, forbids_storing, is_for_one_user, allows_authorized, is_kept_for_its_user, is_heuristically_cacheable, allows_storing, MayBeStored};
+ghost use Rattle.pcache_http.specs.Storing.{IsStoring, is_shared, is_whole, has_field, is_method_understood, is_final, is_status_understood, keeps_to_status, forbids_storing, is_for_one_user, allows_authorized, is_kept_for_its_user, is_heuristically_cacheable, allows_storing, as_get};
 
 use crate::control::{Reach, RequestControl, ResponseControl};
 use crate::rules::CacheKind;
@@ -156,21 +156,19 @@ fn allows_storing(
         || is_heuristically_cacheable(status)
 }
 
-/// Whether a response to a request may be stored (RFC 9111 section 3); `asked` and `said` are what
-/// the Cache-Control of each says. Neither partial responses nor those to other methods than GET
-/// are stored.
-pub fn may_store(
+/// Whether a response may be stored that would be one to this request if that were a GET, whatever
+/// its method (RFC 9111 sections 3 and 4.3.5): so it is asked of a stored response that the answer to a
+/// HEAD updates.
+#[tactic(auto, using(crate::proofs::AsGet::get_is_understood))]
+pub fn may_store_as_get(
     kind: CacheKind,
     request: &RequestHeader,
     asked: &RequestControl,
     response: &ResponseHeader,
     said: &ResponseControl,
 ) -> Storing
-    ensures { IsStoring kind request.now asked.now response.now said.now result }
+    ensures { IsStoring kind (as_get request.now) asked.now response.now said.now result }
 {
-    if !is_method_understood(&request.method) {
-        return Storing::NotStored(NotStoredFor::MethodNotUnderstood);
-    }
     if !is_final(response.status) {
         return Storing::NotStored(NotStoredFor::StatusNotFinal);
     }
@@ -193,4 +191,22 @@ pub fn may_store(
         return Storing::NotStored(NotStoredFor::NothingAllowsIt);
     }
     Storing::Stored
+}
+
+/// Whether a response to a request may be stored (RFC 9111 section 3); `asked` and `said` are what
+/// the Cache-Control of each says. Neither partial responses nor those to other methods than GET
+/// are stored.
+pub fn may_store(
+    kind: CacheKind,
+    request: &RequestHeader,
+    asked: &RequestControl,
+    response: &ResponseHeader,
+    said: &ResponseControl,
+) -> Storing
+    ensures { IsStoring kind request.now asked.now response.now said.now result }
+{
+    if !is_method_understood(&request.method) {
+        return Storing::NotStored(NotStoredFor::MethodNotUnderstood);
+    }
+    may_store_as_get(kind, request, asked, response, said)
 }

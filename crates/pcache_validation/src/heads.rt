@@ -47,19 +47,30 @@ fn agrees(head: &HeaderMap, stored: &HeaderMap) -> bool
         && agrees_on(&CONTENT_LENGTH, head, stored)
 }
 
-/// What the answer to a HEAD does to a stored response: a 200 updates it if each validator and the
-/// Content-Length, as far as they came, have the values that are stored, and else makes it stale.
+/// What the answer to a HEAD does to a stored response with these fields: a 200 updates it if each
+/// validator and the Content-Length, as far as they came, have the values that are stored, and else
+/// makes it stale.
+pub fn after_head_of(head: &ResponseHeader, stored: &HeaderMap) -> Freshened
+    ensures updated { (result ≡ Freshened.Updated)
+        ↔ Updates head.now.status (shown_fields head.now.headers) (shown_fields stored.now) }
+    ensures stale { (result ≡ Freshened.Stale)
+        ↔ MakesStale head.now.status (shown_fields head.now.headers) (shown_fields stored.now) }
+{
+    if head.status.as_u16() != 200 {
+        Freshened::Untouched
+    } else if agrees(&head.headers, stored) {
+        Freshened::Updated
+    } else {
+        Freshened::Stale
+    }
+}
+
+/// What the answer to a HEAD does to a stored response of which a store lends its meta.
 pub fn after_head(head: &ResponseHeader, stored: &CacheMeta) -> Freshened
     ensures updated { (result ≡ Freshened.Updated)
         ↔ Updates head.now.status (shown_fields head.now.headers) stored.now.header.fields }
     ensures stale { (result ≡ Freshened.Stale)
         ↔ MakesStale head.now.status (shown_fields head.now.headers) stored.now.header.fields }
 {
-    if head.status.as_u16() != 200 {
-        Freshened::Untouched
-    } else if agrees(&head.headers, stored.headers()) {
-        Freshened::Updated
-    } else {
-        Freshened::Stale
-    }
+    after_head_of(head, stored.headers())
 }

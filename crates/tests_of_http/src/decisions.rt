@@ -191,6 +191,8 @@ fn tell_done(outcome: &Outcome, told: &mut Told) {
             told.say(" ");
             told.named(&stale.answer);
         }
+        Outcome::Update(kept) => tell_kept("update ", kept, told),
+        Outcome::MarkStale => told.say("mark stale"),
         Outcome::Invalidate => told.say("invalidate"),
         Outcome::PassOn(reason) => told.named(reason),
     }
@@ -295,6 +297,25 @@ const RESPONSES: &str = "\
     GET 503 1100 / / Cache-Control: max-age=60, stale-if-error=60, must-revalidate / -> NothingAllowsIt
     GET 503 1100 / If-None-Match: \"a\" / Cache-Control: max-age=60, stale-if-error=60 | ETag: \"a\" / -> stale 100 NotModified
     GET 503 1100 / / - / -> NothingAllowsIt
+    # 4.3.5: a 200 to HEAD updates the stored response that it fits, by 3.2
+    HEAD 200 1100 / / ETag: \"a\" | Cache-Control: max-age=60 | X: 1 / ETag: \"a\" | Cache-Control: max-age=5 | X: 2 -> update 5 none 2
+    HEAD 200 1100 / / Cache-Control: max-age=60 | X: 1 / Content-Type: a/b -> update 60 none 1
+    HEAD 200 1100 / / Content-Length: 3 | Cache-Control: max-age=60 / Content-Length: 3 | Age: 7 -> update 60 7 none
+    HEAD 200 1100 / / Cache-Control: max-age=60 | Age: 59 / X: 2 -> update 60 none 2
+    # 4.3.5: and makes one stale that it does not fit
+    HEAD 200 1100 / / ETag: \"a\" | Cache-Control: max-age=60 / ETag: \"b\" | Cache-Control: max-age=60 -> mark stale
+    HEAD 200 1100 / / Content-Length: 3 | Cache-Control: max-age=60 / Content-Length: 4 -> mark stale
+    HEAD 200 1100 / / Cache-Control: max-age=60 / Last-Modified: Thu, 01 Jan 1970 00:00:00 GMT -> mark stale
+    # 4.3.5 with 5.2.1.5 and 5.2.2.5: nothing of it is stored
+    HEAD 200 1100 / Cache-Control: no-store / Cache-Control: max-age=60 / X: 2 -> NoStoreAsked
+    HEAD 200 1100 / / Cache-Control: max-age=60 / Cache-Control: no-store -> NoStoreSaid
+    # 4.3.5: another status does nothing, and without a stored response there is nothing to update
+    HEAD 404 1100 / / Cache-Control: max-age=60 / -> MethodNotUnderstood
+    HEAD 200 1100 / / - / Cache-Control: max-age=60 -> MethodNotUnderstood
+    # 4.3.4: a 304 to HEAD updates what is stored as one to GET does
+    HEAD 304 1100 / / ETag: \"a\" | Cache-Control: max-age=60 / ETag: \"a\" | X: 2 -> freshen 60 none 2 Stored Full
+    # 4.3.3: an error after HEAD
+    HEAD 503 1100 / / Cache-Control: max-age=60, stale-if-error=60 / -> stale 100 Full
     # 4.4: an unsafe method
     POST 200 1000 / / - / -> invalidate
     PUT 303 1000 / / - / Cache-Control: max-age=60 -> invalidate

@@ -1,0 +1,56 @@
+//! The cache of the proxy, and requests of it.
+ghost use Rattle.std.specs.Prelude.{◌≡◌, IfOk, true};
+ghost use Rattle.pcache.specs.Words.{CacheKey};
+
+use pcache::decisions::responses::Kept;
+use pcache::error::Result;
+use pcache::eviction::simple_lru::Manager;
+use pcache::moment::Moment;
+use pcache::seed::Seed;
+use pcache::{Cache, CacheMeta, CacheRequest};
+use std::alloc::Global;
+use std::time::Duration;
+
+// After how many seconds another request may fill a key whose permit was not released.
+const AGE_TIMEOUT_SECS: u64 = 10;
+
+// No constant names the largest moment; the last whole second serves as never.
+const FOREVER_SECS: u64 = u64::MAX;
+
+/// Names the cache: its requests cannot be used with the parts of another.
+pub struct Proxy;
+
+/// A store in memory, an eviction manager with one recency list, and a lock table.
+pub type ProxyCache = Cache<Manager, Proxy>;
+
+/// A request of it.
+pub type Request = CacheRequest<Proxy>;
+
+/// An empty cache, whose bodies have at most `limit` bytes together.
+pub fn new_cache(alloc: Global, seed: Seed, limit: usize) -> Result<ProxyCache> {
+    let manager = Manager::new(alloc, seed, limit)?;
+    let age_timeout = Duration::from_secs(AGE_TIMEOUT_SECS);
+    Ok(Cache::new(alloc, seed, manager, age_timeout))
+}
+
+/// A request for a target, with caching turned on and the key set.
+pub fn request_for(alloc: Global, target: &[u8]) -> Result<Request>
+    ensures phase { IfOk result (λ r. r.cache.phase ≡ CacheKey) }
+    ensures uses { IfOk result (λ r. r.cache.uses.eviction ≡ true) }
+{
+    let primary = target.to_vec(alloc)?;
+    let mut request = CacheRequest::new(alloc);
+    request
+        .cache
+        .set_cache_key(pcache::CacheKey::new(primary, String::new(alloc)));
+    Ok(request)
+}
+
+/// The meta of what is stored from this moment on.
+pub fn meta_of(kept: Kept, now: Moment) -> CacheMeta {
+    let fresh = Duration::from_secs(u64::from(kept.lifetime.seconds()));
+    let fresh_until = now
+        .checked_add(fresh)
+        .unwrap_or(Moment::from_secs(FOREVER_SECS));
+    CacheMeta::new(fresh_until, now, 0, 0, kept.head)
+}
