@@ -1,9 +1,11 @@
 -- What the files of a folder gave, and what is tracked once they are loaded (own). What a file will give is a
 -- function of the file, `left`, where it is known.
-use Rattle.std.specs.Prelude.{◌≡◌, ℕ, suc, List, [], ◌∷◌, ◌++◌, length, Option, Some, None}
+use Rattle.std.specs.Prelude.{◌≡◌, ◌≢◌, ℕ, suc, List, [], ◌∷◌, ◌++◌, length, Option, Some, None}
 use Rattle.std.specs.List.{AllByRecursion}
 use Rattle.std.specs.FinMap.{insert}
 use Rattle.std_io.specs.declared.io.error.Error.{Error}
+use Rattle.std_io.specs.IoError.{error_kind}
+use Rattle.std_io.specs.declared.io.kind.ErrorKind.TheVariants as kinds
 use Rattle.pcache_evict.specs.Recency.{Recency}
 use Rattle.pcache_evict.specs.Tracked.{Tracked, added}
 use Rattle.pcache_files.specs.declared.device.Counted.{Counted}
@@ -18,9 +20,10 @@ pub record IsRead {F : Type 0} (left : F → Option (List ℕ)) (l : Recency) : 
   pub gave : Gave (left opened) (left after) bytes
   pub spelled : SpellsFile bytes l
 
--- opening a file returned an error
+-- opening a file returned an error, and not for want of memory
 pub record IsUnopened : Type 0 where
   pub error : Error
+  pub cause : error_kind error ≢ kinds.OutOfMemory
 
 -- a file could not be opened, or a read of it failed, or its bytes spell no list
 pub data IsSkipped {F : Type 0} (left : F → Option (List ℕ)) : Type 0 where

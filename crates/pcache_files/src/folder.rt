@@ -1,11 +1,15 @@
 //! The files of a folder: opening one, and writing one under a temporary name and renaming it. No
 //! contract says what a file holds.
-ghost use Rattle.std.specs.Prelude.{◌≡◌, ◌⊎◌, IfErr, IsErrOf};
-ghost use Rattle.pcache_base.specs.declared.error.ErrorType.TheVariants.{Io, OutOfMemory};
-ghost use Rattle.pcache_files.specs.Folder.{IsUnopened};
+ghost use Rattle.std.specs.Prelude.{◌≡◌, ◌≢◌, ◌⊎◌, IfErr, IfOk, IsErrOf};
+ghost use Rattle.std_io.specs.IoError.{error_kind};
+ghost use Rattle.std_io.specs.declared.io.kind.ErrorKind.TheVariants as short;
+ghost use Rattle.pcache_base.specs.declared.error.ErrorType.TheVariants.{InternalError, Io, OutOfMemory};
+ghost use Rattle.pcache_files.specs.Folder.{IsRead, IsSkipped, IsUnopened};
 
 use crate::device::{Counted, write_whole};
+use crate::pieces::read_list_from;
 use pcache_base::error::{Error, ErrorType, Result};
+use pcache_evict::eviction::CacheEntryKey;
 use std::alloc::Global;
 use std::fs::Files;
 use std::io::Write;
@@ -30,6 +34,21 @@ pub(crate) fn open_file<R: Files>(
         Ok(file) => Ok(Counted::new(file)),
         Err(error) => Err(refusal(&error)),
     }
+}
+
+/// The list that a file of a folder holds.
+pub(crate) fn read_entries<R: Files>(
+    alloc: Global,
+    files: &R,
+    dir: &str,
+    name: &str,
+) -> Result<Vec<(CacheEntryKey, usize)>>
+    ensures found { IfOk result (λ v. IsRead R.File.remaining v.items) }
+    ensures skipped { IfErr result (λ e. (e ≡ OutOfMemory) ⊎ IsSkipped R.File.remaining) }
+    ensures kinds { IfErr result (λ e. (e ≡ OutOfMemory) ⊎ (e ≡ InternalError) ⊎ (e ≡ Io)) }
+{
+    let mut file = open_file(alloc, files, dir, name)?;
+    read_list_from(alloc, &mut file)
 }
 
 /// Writes a file with these bytes in place of an older one. The folder is made, with its parents, if
@@ -123,7 +142,8 @@ fn result_of(answer: io::Result<()>) -> Result<()>
 
 // The error for a failed call: std reports a lack of memory in the same way.
 fn refusal(error: &io::Error) -> Error
-    ensures { (result ≡ OutOfMemory) ⊎ (result ≡ Io) }
+    ensures kinds { (result ≡ OutOfMemory) ⊎ (result ≡ Io) }
+    ensures device { result ≡ Io → error_kind error.now ≢ short.OutOfMemory }
 {
     match error.kind() {
         io::ErrorKind::OutOfMemory => Error::new(ErrorType::OutOfMemory),

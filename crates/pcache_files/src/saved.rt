@@ -3,7 +3,7 @@ ghost use Rattle.std.specs.Prelude.{◌≡◌, ◌⊎◌, ℕ, IfErr, IfOk, OnEr
 ghost use Rattle.pcache_base.specs.declared.error.ErrorType.TheVariants.{InternalError, Io, OutOfMemory};
 ghost use Rattle.pcache_evict.specs.Recency.{Recency};
 ghost use Rattle.pcache_evict.specs.Tracked.{Tracked};
-ghost use Rattle.pcache_files.specs.Folder.{Loads};
+ghost use Rattle.pcache_files.specs.Folder.{IsSkipped, Loads};
 
 use crate::{sharded_lru, simple_lru};
 use pcache_base::error::Result;
@@ -33,13 +33,15 @@ pub trait SavedManager: EvictionManager {
     /// Loads what was saved in a folder, and returns how many of several files were skipped: those that
     /// could not be opened or read, and those that spell no list. What is tracked then is what was
     /// tracked before with the lists of the other files loaded, each of which was read to its end.
-    /// Nothing is evicted, and a failed call changes nothing.
+    /// Nothing is evicted, and a failed call changes nothing. Unless memory ran out, it met a file that
+    /// could not be opened or read, or one that spells no list.
     fn load<R: Files>(&mut self, alloc: Global, files: &R, dir: &str) -> Result<usize>
         ensures ok { IfOk result (λ skipped. (entries : Recency)
             × Loads R.File.remaining file_count skipped entries
             × (Self.tracked self.new ≡ put_in entries (Self.tracked self.old))) }
         ensures limits { Self.limits self.new ≡ Self.limits self.old }
         ensures evicted { Self.evicted self.new ≡ Self.evicted self.old }
+        ensures unread { IfErr result (λ e. (e ≡ OutOfMemory) ⊎ IsSkipped R.File.remaining) }
         ensures kinds { IfErr result (λ e. (e ≡ OutOfMemory) ⊎ (e ≡ InternalError) ⊎ (e ≡ Io)) }
         ensures err { OnErr result (Self.tracked self.new ≡ Self.tracked self.old) };
 }

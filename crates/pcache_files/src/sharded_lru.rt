@@ -8,8 +8,7 @@ ghost use Rattle.pcache_files.specs.Folder.{IsRead, IsSkipped, Loads};
 ghost use Rattle.pcache_files.specs.FileWriting.{file_written, IsTooLong};
 
 use crate::codec::{read_file, write_file};
-use crate::folder::{open_file, replace_file};
-use crate::pieces::read_list_from;
+use crate::folder::{read_entries, replace_file};
 use pcache_base::error::{Error, ErrorType, Result};
 use pcache_evict::eviction::CacheEntryKey;
 use pcache_evict::eviction::sharded_lru::Manager;
@@ -157,20 +156,6 @@ fn read_shard<R: Files>(
             _ => Ok(None),
         },
     }
-}
-
-// The list that a file holds.
-fn read_entries<R: Files>(
-    alloc: Global,
-    files: &R,
-    dir: &str,
-    name: &str,
-) -> Result<Vec<(CacheEntryKey, usize)>>
-    ensures found { IfOk result (λ v. IsRead R.File.remaining v.items) }
-    ensures skipped { IfErr result (λ e. (e ≡ OutOfMemory) ⊎ IsSkipped R.File.remaining) }
-{
-    let mut file = open_file(alloc, files, dir, name)?;
-    read_list_from(alloc, &mut file)
 }
 
 // The name of a shard's file.

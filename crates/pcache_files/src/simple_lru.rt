@@ -6,12 +6,12 @@ ghost use Rattle.pcache_evict.specs.Listed.{IsOnce};
 ghost use Rattle.pcache_evict.specs.Recency.{Recency, loaded_all};
 ghost use Rattle.pcache_files.specs.Device.{Counts, Gave, TookBeginning};
 ghost use Rattle.pcache_files.specs.FileSpelling.{SpellsFile};
-ghost use Rattle.pcache_files.specs.Folder.{IsRead};
+ghost use Rattle.pcache_files.specs.Folder.{IsRead, IsSkipped};
 ghost use Rattle.pcache_files.specs.FileWriting.{file_written, IsTooLong};
 
 use crate::codec::{read_file, write_file};
 use crate::device::{CountedRead, CountedWrite, write_whole};
-use crate::folder::{open_file, replace_file};
+use crate::folder::{read_entries, replace_file};
 use crate::pieces::read_list_from;
 use pcache_base::error::Result;
 use pcache_evict::eviction::simple_lru::Manager;
@@ -104,13 +104,15 @@ pub fn save<R: Files>(
 }
 
 /// Loads the list of the file `simple_lru.data` of a folder, as `load_from` does. Fails with `Io` if
-/// the file can't be opened. That the file is the one of this name no contract says.
+/// the file can't be opened. Unless memory ran out, a failed call met a file that could not be opened
+/// or read, or one that spells no list; that it is the one of this name no contract says.
 pub fn load<R: Files>(alloc: Global, manager: &mut Manager, files: &R, dir: &str) -> Result<()>
     ensures ok { OnOk result ((l : Recency) × IsRead R.File.remaining l
         × (manager.new ≡ record manager.old { entries = loaded_all l manager.old.entries })) }
+    ensures unread { IfErr result (λ e. (e ≡ OutOfMemory) ⊎ IsSkipped R.File.remaining) }
     ensures kinds { IfErr result (λ e. (e ≡ OutOfMemory) ⊎ (e ≡ InternalError) ⊎ (e ≡ Io)) }
     ensures err { OnErr result (manager.new ≡ manager.old) }
 {
-    let mut file = open_file(alloc, files, dir, FILE_NAME)?;
-    load_from(alloc, manager, &mut file)
+    let entries = read_entries(alloc, files, dir, FILE_NAME)?;
+    manager.load_entries(entries)
 }

@@ -1,6 +1,6 @@
 use Rattle.std.proofs.lemmas.Result.{err_from_is_err_and}
 use Rattle.pcache_files.proofs.PutIn.{skipped_unopened, skipped_unread}
-use Rattle.pcache_files.proofs.sharded_lru.read_entries.Goals as goal
+use Rattle.pcache_files.proofs.folder.read_entries.Goals as goal
 
 pub returns-in_err-file-clause-skipped : goal.returns-in_err-file-clause-skipped
 returns-in_err-file-clause-skipped g c =
