@@ -191,9 +191,9 @@ def rows_of(program, trace, sizes, passes_by):
     words = [program, "--policy", ",".join(POLICIES), "--size", ",".join(map(str, sizes)), "--format", "csv"]
     words += ["--large", "pass" if passes_by else "evict"]
     output = subprocess.run(words, input=text, capture_output=True, text=True, check=True).stdout.split()
-    assert output[0] == "policy,size,requests,hits,bytes,hit_bytes,evicted", output[0]
+    assert output[0].startswith("policy,size,requests,hits,bytes,hit_bytes,evicted,"), output[0]
     for line in output[1:]:
-        policy, *numbers = line.split(",")
+        policy, *numbers = line.split(",")[:7]
         size, *counts = map(int, numbers)
         yield policy, size, tuple(counts)
 

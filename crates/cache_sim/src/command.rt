@@ -6,7 +6,7 @@ use std::alloc::{AllocError, Global};
 
 /// The options, with their defaults.
 pub fn command<'a>(alloc: Global) -> Result<Command<'a>, AllocError> {
-    let command = Command::new(alloc, "cache_sim").about(
+    let command = Command::new(alloc, "cache_sim").version("0.1.0").about(
         "Tells what caches of some sizes and policies would have served of a trace of requests.",
     );
     let command = caches(alloc, command)?;
@@ -23,7 +23,7 @@ fn caches<'a>(alloc: Global, command: Command<'a>) -> Result<Command<'a>, AllocE
         )?
         .arg(
             option(alloc, "size", "SIZES").default_value("100MB").help(
-                "the sizes of the caches, with commas: 10MB, 1GiB, or 1% of the bytes of all bodies",
+                "the sizes of the caches, with commas: 10MB, 1.5G, 1GiB, or 1% of the bytes of all bodies",
             ),
         )?
         .arg(option(alloc, "ttl", "SECONDS").help(
@@ -39,11 +39,9 @@ fn caches<'a>(alloc: Global, command: Command<'a>) -> Result<Command<'a>, AllocE
 fn trace<'a>(alloc: Global, command: Command<'a>) -> Result<Command<'a>, AllocError> {
     command
         .arg(option(alloc, "trace", "FILE").help("the trace; standard input without it"))?
-        .arg(
-            option(alloc, "columns", "NAMES")
-                .default_value("time,key,size")
-                .help("the columns of lines with commas"),
-        )?
+        .arg(option(alloc, "columns", "NAMES").help(
+            "the columns of lines with commas, as time,key,size; what the header says without it",
+        ))?
         .arg(option(alloc, "distinct", "BYTES").help(
             "the bytes of all bodies of the trace, each once",
         ))?
@@ -69,7 +67,7 @@ fn report<'a>(alloc: Global, command: Command<'a>) -> Result<Command<'a>, AllocE
         .arg(
             option(alloc, "format", "FORMAT")
                 .default_value("table")
-                .help("table, or csv for plots"),
+                .help("table, csv, or json with an object a line"),
         )?
         .arg(option(alloc, "plot", "FILE").help(
             "a file for a drawing in SVG: the ratio of hits by size",
@@ -89,7 +87,7 @@ pub fn words<'a>(matches: &ArgMatches<'a>) -> Words<'a> {
         distinct: matches.get_str("distinct"),
         ttl: matches.get_str("ttl"),
         large: matches.get_str("large").unwrap_or(""),
-        columns: matches.get_str("columns").unwrap_or(""),
+        columns: matches.get_str("columns"),
         sample: matches.get_str("sample").unwrap_or(""),
         part: matches.get_str("part").unwrap_or(""),
         format: matches.get_str("format").unwrap_or(""),

@@ -3,8 +3,8 @@
 
 mod command;
 
+use cache_simulation::layout::Refused;
 use cache_simulation::options;
-use cache_simulation::options::Unusable;
 use cache_simulation::simulation::{Stop, simulate};
 use clap::ArgMatches;
 use std::alloc::Global;
@@ -22,7 +22,7 @@ fn main(rt: HostRuntime) -> ExitCode {
         return ExitCode::FAILURE;
     };
     match command.try_get_matches_from(args.as_slice()) {
-        Ok(matches) => ended(&rt, run(&rt, rt.alloc(), &matches)),
+        Ok(matches) => run(&rt, rt.alloc(), &matches),
         Err(error) => {
             let _ = error.print(&rt);
             ExitCode::from(error.exit_code() as u8)
@@ -40,28 +40,52 @@ fn ended(rt: &HostRuntime, end: Result<(), Stop>) -> ExitCode {
     }
 }
 
-fn run(rt: &HostRuntime, alloc: Global, matches: &ArgMatches<'_>) -> Result<(), Stop> {
+fn run(rt: &HostRuntime, alloc: Global, matches: &ArgMatches<'_>) -> ExitCode {
     let words = command::words(matches);
-    let options = options::read(alloc, &words).map_err(Stop::Words)?;
-    let mut errors = rt.stderr();
-    simulate(
-        rt,
-        alloc,
-        &options,
-        rt.reader(),
-        io::writer(rt),
-        &mut errors,
-    )
+    match options::read(alloc, &words) {
+        Ok(options) => {
+            let mut errors = rt.stderr();
+            let end = simulate(
+                rt,
+                alloc,
+                &options,
+                rt.reader(),
+                io::writer(rt),
+                &mut errors,
+            );
+            ended(rt, end)
+        }
+        Err(unusable) => {
+            let _ = eprintln!(rt; "{unusable}");
+            ExitCode::FAILURE
+        }
+    }
 }
 
 fn tell(rt: &HostRuntime, stop: &Stop) -> io::Result<()> {
     match stop {
-        Stop::Words(Unusable::Value(name)) => eprintln!(rt; "the value of --{name} is none"),
-        Stop::Words(Unusable::NoDistinct) => eprintln!(rt;
+        Stop::NoDistinct => eprintln!(rt;
             "a size in percent needs --trace, a file that is read twice, or --distinct, the bytes of all bodies, each once"
         ),
-        Stop::Words(Unusable::Memory) | Stop::Memory => eprintln!(rt; "out of memory"),
-        Stop::BadLines(lines) => eprintln!(rt; "too many bad lines; {lines} lines were read"),
+        Stop::First(refused) => tell_first(rt, *refused),
+        Stop::BadLines(lines) => eprintln!(rt;
+            "too many bad lines: it stopped after line {lines}, and the results are of the lines before (--bad-lines says how many may be bad)"
+        ),
+        Stop::NoRequests => eprintln!(rt; "no line of the trace is a request"),
+        Stop::NoneSampled => eprintln!(rt; "no key of the trace is in the sample"),
+        Stop::Memory => eprintln!(rt; "out of memory"),
         Stop::Io(error) => eprintln!(rt; "{error}"),
+    }
+}
+
+fn tell_first(rt: &HostRuntime, refused: Refused) -> io::Result<()> {
+    match refused {
+        Refused::NoNames => eprintln!(rt;
+            "the header does not name a column key and a column size, each once; --columns says what the columns are, as time,key,size"
+        ),
+        Refused::OtherNames => eprintln!(rt;
+            "the header and --columns name the columns in two ways"
+        ),
+        Refused::Packed(program) => eprintln!(rt; "the trace is packed: pipe it through {program}"),
     }
 }

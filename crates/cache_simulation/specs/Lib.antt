@@ -3,3 +3,4 @@ pub mod Fresh
 pub mod FreshCode
 pub mod Plays
 pub mod Replays
+pub mod Sampled

@@ -1,5 +1,6 @@
 //! The counts over a trace.
 ghost use Rattle.std.specs.Prelude.{◌≡◌, ◌+◌, ◌*◌, ◌-◌, ◌^◌, ◌<◌, ◌≤◌, true, false, if◌then◌else◌};
+ghost use Rattle.cache_simulation.specs.Sampled.{corrected};
 
 /// The counts over a trace.
 #[derive(Clone, Copy, Debug)]
@@ -45,6 +46,22 @@ impl Counts {
         ensures { self.now.hit_bytes + result ≡ self.now.bytes }
     {
         self.bytes - self.hit_bytes
+    }
+
+    /// The hits that these stand for, if they are of a part of the keys, of which so many requests were to be expected: the
+    /// difference between these and those that were read counts as hits (SHARDS_adj of the FAST 2015 paper), as far as that is not
+    /// below 0.
+    pub fn corrected_hits(&self, expected: u64) -> u64
+        ensures { result ≡ corrected self.now.hits self.now.requests expected }
+    {
+        expected.saturating_sub(self.misses())
+    }
+
+    /// The bytes of these hits, by the bytes that were to be expected.
+    pub fn corrected_hit_bytes(&self, expected: u128) -> u128
+        ensures { result ≡ corrected self.now.hit_bytes self.now.bytes expected }
+    {
+        expected.saturating_sub(self.miss_bytes())
     }
 
     /// Whether no more requests can be counted.

@@ -4,6 +4,7 @@
 //! - `counts`: the counts over a trace
 //! - `freshness`: until when bodies are fresh
 //! - `laws`: laws of all runs
+//! - `layout`: how the lines of a trace are read
 //! - `lines`: the lines of a reader, one after the other
 //! - `options`: the words of the command line
 //! - `progress`: the progress of a simulation
@@ -17,6 +18,7 @@
 pub mod counts;
 pub mod freshness;
 pub mod laws;
+pub mod layout;
 mod lines;
 pub mod options;
 mod progress;

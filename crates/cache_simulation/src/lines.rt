@@ -5,11 +5,15 @@ use std::alloc::Global;
 use std::io;
 use std::io::{BufRead, BufReader, Read};
 
+/// How many bytes a line may have. What a longer one has beyond is read and not kept.
+pub(crate) const LONGEST: usize = 65_536;
+
 /// Lines that are read one after the other, into one buffer.
 #[derive(Drop)]
 pub(crate) struct Lines<R: Read + Drop> {
     reader: BufReader<R>,
     line: Vec<u8>,
+    is_long: bool,
     read: u64,
 }
 
@@ -19,6 +23,7 @@ impl<R: Read + Drop> Lines<R> {
         Ok(Lines {
             reader: BufReader::new(alloc, input).map_err(Stop::Io)?,
             line: Vec::new(alloc),
+            is_long: false,
             read: 0,
         })
     }
@@ -26,6 +31,11 @@ impl<R: Read + Drop> Lines<R> {
     /// The line that was read last, without its end.
     pub(crate) fn line(&self) -> &[u8] {
         self.line.as_slice()
+    }
+
+    /// Whether that line is longer than a line may be.
+    pub(crate) fn is_too_long(&self) -> bool {
+        self.is_long
     }
 
     /// How many bytes were read; the largest number if there are more.
@@ -36,12 +46,17 @@ impl<R: Read + Drop> Lines<R> {
     /// Reads the next line, and returns whether there was one.
     pub(crate) fn advance(&mut self) -> Result<bool, Stop> {
         self.line.clear();
+        self.is_long = false;
         let mut is_there = false;
         for _ in 0..u64::MAX {
             let Some((taken, is_whole)) = take(&mut self.reader, &mut self.line)? else {
                 return Ok(is_there);
             };
             is_there = true;
+            if self.line.len() > LONGEST {
+                self.is_long = true;
+                self.line.truncate(LONGEST);
+            }
             self.reader.consume(taken);
             self.read = self.read.saturating_add(taken as u64);
             if is_whole {

@@ -1,8 +1,9 @@
 //! The words of the command line.
 
 use crate::sample::{Sample, WHOLE};
-use crate::trace::Columns;
+use crate::trace::{Columns, is_digits};
 use std::alloc::{AllocError, Global};
+use std::fmt;
 
 /// Which entries are evicted.
 #[derive(Clone, Copy, Debug, PartialEq, Eq)]
@@ -37,6 +38,8 @@ pub enum Output {
     Table,
     /// Values separated by commas, under a header.
     Csv,
+    /// An object of JSON a line.
+    Json,
 }
 
 /// The size of a cache.
@@ -78,7 +81,7 @@ pub struct Words<'a> {
     /// What to do with a body larger than a cache.
     pub large: &'a str,
     /// The names of columns, separated by commas.
-    pub columns: &'a str,
+    pub columns: Option<&'a str>,
     /// Which share of the keys represents all.
     pub sample: &'a str,
     /// The number of that part.
@@ -114,8 +117,8 @@ pub struct Options {
     pub passes_by: bool,
     /// How many lines may be bad.
     pub bad_lines: u64,
-    /// The columns of lines with commas.
-    pub columns: Columns,
+    /// The columns of lines with commas, if they are given.
+    pub columns: Option<Columns>,
 }
 
 impl Options {
@@ -127,56 +130,132 @@ impl Options {
 
 /// Why the words cannot be used.
 #[derive(Clone, Copy, Debug, PartialEq, Eq)]
-pub enum Unusable {
-    /// The option with this name has a value that is not allowed.
-    Value(&'static str),
-    /// A size in percent needs the total bytes of all bodies, or a trace that can be read twice.
-    NoDistinct,
+pub enum Unusable<'a> {
+    /// An option has a value that is not allowed.
+    Value {
+        /// The name of the option.
+        option: &'static str,
+        /// The value.
+        value: &'a str,
+        /// What it may be.
+        choices: &'static str,
+    },
     /// Memory ran out.
     Memory,
 }
 
+impl fmt::Display for Unusable<'_> {
+    fn fmt<W: fmt::Write>(&self, f: &mut fmt::Formatter<W>) -> fmt::Result {
+        match self {
+            Unusable::Value {
+                option,
+                value,
+                choices,
+            } => write!(f, "--{option} cannot be {value:?}; it is {choices}"),
+            Unusable::Memory => write!(f, "out of memory"),
+        }
+    }
+}
+
 /// Reads the words of the command line.
-pub fn read(alloc: Global, words: &Words<'_>) -> Result<Options, Unusable> {
-    let rate = value("sample", millionths(words.sample))?;
-    let part = value("part", words.part.parse::<u64>().ok())?;
+pub fn read<'a>(alloc: Global, words: &Words<'a>) -> Result<Options, Unusable<'a>> {
     Ok(Options {
         policies: policies(alloc, words.policy)?,
         sizes: sizes(alloc, words.size)?,
         trace: owned(alloc, words.trace)?,
         distinct: distinct(words.distinct)?,
         ttl: ttl(words.ttl)?,
-        output: value("format", output_named(words.format))?,
+        output: value(
+            "format",
+            words.format,
+            "table, csv or json",
+            output_named(words.format),
+        )?,
         plot: owned(alloc, words.plot)?,
-        sample: Sample::new(rate, part),
-        passes_by: value("large", large(words.large))?,
-        bad_lines: value("bad-lines", words.bad_lines.parse::<u64>().ok())?,
-        columns: value("columns", Columns::read(words.columns))?,
+        sample: sample(words.sample, words.part)?,
+        passes_by: value("large", words.large, "pass or evict", large(words.large))?,
+        bad_lines: value(
+            "bad-lines",
+            words.bad_lines,
+            NUMBER,
+            whole_number(words.bad_lines),
+        )?,
+        columns: columns(words.columns)?,
     })
 }
 
-fn value<T>(name: &'static str, value: Option<T>) -> Result<T, Unusable> {
-    value.ok_or(Unusable::Value(name))
+const POLICIES: &str = "lru, sharded:16, sieve or s3-fifo, or several of them with commas";
+
+const NUMBER: &str = "a whole number below 2^64";
+
+const SIZE: &str =
+    "a whole number of bytes below 2^64, with a unit (K, M, G, T, KB .. TB, KiB .. TiB) or without";
+
+const SIZES: &str =
+    "sizes with commas: each a whole number of bytes below 2^64, with a unit (K, M, G, T, KB .. TB, KiB .. TiB) or without, or a number with %";
+
+const COLUMNS: &str = "names with commas, with key and size among them once and time at most once";
+
+const RATE: &str = "above 0 and at most 1, in whole millionths, as 0.01 or 1e-3";
+
+const PART: &str = "a whole number below 1 divided by --sample, rounded down";
+
+// The value of an option, if it was read.
+fn value<'a, T>(
+    option: &'static str,
+    value: &'a str,
+    choices: &'static str,
+    read: Option<T>,
+) -> Result<T, Unusable<'a>> {
+    match read {
+        Some(read) => Ok(read),
+        None => Err(Unusable::Value {
+            option,
+            value,
+            choices,
+        }),
+    }
 }
 
-fn distinct(text: Option<&str>) -> Result<Option<u64>, Unusable> {
+fn distinct(text: Option<&str>) -> Result<Option<u64>, Unusable<'_>> {
     match text {
-        Some(text) => Ok(Some(value("distinct", bytes(text))?)),
+        Some(text) => Ok(Some(value("distinct", text, SIZE, bytes(text))?)),
         None => Ok(None),
     }
 }
 
-fn ttl(text: Option<&str>) -> Result<Option<u64>, Unusable> {
+fn ttl(text: Option<&str>) -> Result<Option<u64>, Unusable<'_>> {
     match text {
-        Some(text) => Ok(Some(value("ttl", text.parse::<u64>().ok())?)),
+        Some(text) => Ok(Some(value("ttl", text, NUMBER, whole_number(text))?)),
         None => Ok(None),
     }
+}
+
+fn columns(text: Option<&str>) -> Result<Option<Columns>, Unusable<'_>> {
+    match text {
+        Some(text) => Ok(Some(value("columns", text, COLUMNS, Columns::read(text))?)),
+        None => Ok(None),
+    }
+}
+
+fn sample<'a>(rate: &'a str, part: &'a str) -> Result<Sample, Unusable<'a>> {
+    let millionths = value("sample", rate, RATE, part_of_one(rate))?;
+    if Sample::new(millionths, 0).is_none() {
+        return Err(Unusable::Value {
+            option: "sample",
+            value: rate,
+            choices: RATE,
+        });
+    }
+    let number = value("part", part, PART, whole_number(part))?;
+    value("part", part, PART, Sample::new(millionths, number))
 }
 
 fn output_named(value: &str) -> Option<Output> {
     match value {
         "table" => Some(Output::Table),
         "csv" => Some(Output::Csv),
+        "json" => Some(Output::Json),
         _ => None,
     }
 }
@@ -189,7 +268,7 @@ fn large(value: &str) -> Option<bool> {
     }
 }
 
-fn owned(alloc: Global, text: Option<&str>) -> Result<Option<String>, Unusable> {
+fn owned(alloc: Global, text: Option<&str>) -> Result<Option<String>, Unusable<'static>> {
     let Some(text) = text else {
         return Ok(None);
     };
@@ -199,10 +278,10 @@ fn owned(alloc: Global, text: Option<&str>) -> Result<Option<String>, Unusable> 
     }
 }
 
-fn policies(alloc: Global, names: &str) -> Result<Vec<Policy>, Unusable> {
+fn policies(alloc: Global, names: &str) -> Result<Vec<Policy>, Unusable<'_>> {
     let mut policies = Vec::new(alloc);
     for name in names.split(',') {
-        let policy = value("policy", Policy::named(name))?;
+        let policy = value("policy", name, POLICIES, Policy::named(name.trim()))?;
         if policies.push(policy).is_err() {
             return Err(Unusable::Memory);
         }
@@ -210,10 +289,10 @@ fn policies(alloc: Global, names: &str) -> Result<Vec<Policy>, Unusable> {
     Ok(policies)
 }
 
-fn sizes(alloc: Global, texts: &str) -> Result<Vec<Size>, Unusable> {
+fn sizes(alloc: Global, texts: &str) -> Result<Vec<Size>, Unusable<'_>> {
     let mut sizes = Vec::new(alloc);
     for text in texts.split(',') {
-        let size = value("size", read_size(text))?;
+        let size = value("size", text, SIZES, read_size(text.trim()))?;
         if sizes.push(size).is_err() {
             return Err(Unusable::Memory);
         }
@@ -224,12 +303,13 @@ fn sizes(alloc: Global, texts: &str) -> Result<Vec<Size>, Unusable> {
 // A size in bytes, or in percent of the total bytes of all bodies.
 fn read_size(text: &str) -> Option<Size> {
     match text.strip_suffix("%") {
-        Some(percent) => Some(Size::Share(millionths(percent)?)),
+        Some(percent) => Some(Size::Share(part_of_one(percent)?)),
         None => Some(Size::Bytes(usize::try_from(bytes(text)?).ok()?)),
     }
 }
 
-// A number of bytes, with a unit of decimal or binary thousands.
+// A number of bytes, with a unit of decimal or binary thousands. A number with a point is of a unit of which it makes
+// whole bytes.
 fn bytes(text: &str) -> Option<u64> {
     let units = [
         ("KiB", 1 << 10),
@@ -240,27 +320,72 @@ fn bytes(text: &str) -> Option<u64> {
         ("MB", 1_000_000),
         ("GB", 1_000_000_000),
         ("TB", 1_000_000_000_000),
+        ("K", 1000),
+        ("M", 1_000_000),
+        ("G", 1_000_000_000),
+        ("T", 1_000_000_000_000),
         ("B", 1),
     ];
     for (unit, count) in units {
         if let Some(number) = text.strip_suffix(unit) {
-            return number.parse::<u64>().ok()?.checked_mul(count);
+            return whole_part(millionths(number.trim())?.checked_mul(count)?);
         }
+    }
+    whole_number(text)
+}
+
+// A number of millionths that are whole together.
+fn whole_part(millionths: u128) -> Option<u64> {
+    if millionths % WHOLE as u128 != 0 {
+        return None;
+    }
+    u64::try_from(millionths / WHOLE as u128).ok()
+}
+
+// A number of digits alone.
+fn whole_number(text: &str) -> Option<u64> {
+    if !is_digits(text) {
+        return None;
     }
     text.parse::<u64>().ok()
 }
 
+// The same, if it is below 2^64.
+fn part_of_one(text: &str) -> Option<u64> {
+    u64::try_from(millionths(text)?).ok()
+}
+
+// A decimal number in whole millionths, with an exponent or without.
+fn millionths(text: &str) -> Option<u128> {
+    match text.split_once("e-") {
+        Some((number, down)) => shifted(decimal(number)?, whole_number(down)?),
+        None => decimal(text),
+    }
+}
+
+// A number divided by 10 so many times, if nothing is lost.
+fn shifted(number: u128, times: u64) -> Option<u128> {
+    let mut rest = number;
+    for _ in 0..times.min(20) {
+        if rest % 10 != 0 {
+            return None;
+        }
+        rest /= 10;
+    }
+    Some(rest)
+}
+
 // A decimal number with at most six places, in millionths.
-fn millionths(text: &str) -> Option<u64> {
-    let mut parts = text.split('.');
-    let whole = parts.next()?.parse::<u64>().ok()?;
-    let places = parts.next().unwrap_or("0");
-    if parts.next().is_some() || places.len() > 6 {
+fn decimal(text: &str) -> Option<u128> {
+    let (whole, places) = text.split_once('.').unwrap_or((text, "0"));
+    if places.len() > 6 {
         return None;
     }
-    let mut rest = places.parse::<u64>().ok()?;
+    let mut rest = u128::from(whole_number(places)?);
     for _ in places.len()..6 {
         rest = rest.checked_mul(10)?;
     }
-    whole.checked_mul(WHOLE)?.checked_add(rest)
+    u128::from(whole_number(whole)?)
+        .checked_mul(WHOLE as u128)?
+        .checked_add(rest)
 }

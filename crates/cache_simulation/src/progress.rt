@@ -1,6 +1,7 @@
 //! The progress of a simulation.
 
 use crate::simulation::Stop;
+use crate::trace::{BadLine, beginning};
 use std::io::Write;
 use std::rt::Clock;
 use std::time::Instant;
@@ -29,20 +30,19 @@ impl Progress {
         })
     }
 
-    /// Takes a line that is no request: the first line is then a header; others are counted, and the
-    /// first of them named.
-    pub(crate) fn bad_line<E: Write>(&mut self, most: u64, errors: &mut E) -> Result<(), Stop> {
-        if self.lines == 1 {
-            return Ok(());
-        }
+    /// Counts a line that is no request, and names the first of them. Returns whether more are bad than may be.
+    pub(crate) fn bad_line<E: Write>(
+        &mut self,
+        why: BadLine,
+        line: &[u8],
+        most: u64,
+        errors: &mut E,
+    ) -> Result<bool, Stop> {
         self.bad = self.bad.saturating_add(1);
         if self.bad <= NAMED {
-            writeln!(errors, "line {} is no request", self.lines).map_err(Stop::Io)?;
+            say_line(self.lines, why.said(), line, errors)?;
         }
-        if self.bad > most {
-            return Err(Stop::BadLines(self.lines));
-        }
-        Ok(())
+        Ok(self.bad > most)
     }
 
     /// Writes the progress after so many bytes were read.
@@ -79,6 +79,21 @@ impl Progress {
         if self.bad == 0 {
             return Ok(());
         }
-        writeln!(errors, "{} lines are no requests", self.bad).map_err(Stop::Io)
+        writeln!(
+            errors,
+            "{} of {} lines are no requests",
+            self.bad, self.lines
+        )
+        .map_err(Stop::Io)
     }
+}
+
+/// Writes what is to be said of a line, and how it begins.
+pub(crate) fn say_line<E: Write>(
+    number: u64,
+    said: &str,
+    line: &[u8],
+    errors: &mut E,
+) -> Result<(), Stop> {
+    writeln!(errors, "line {number}: {said}: {:?}", beginning(line)).map_err(Stop::Io)
 }

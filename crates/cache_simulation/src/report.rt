@@ -3,22 +3,52 @@ ghost use Rattle.std.specs.Prelude.{◌<◌};
 
 use crate::counts::Counts;
 use crate::options::Output;
+use crate::sample::{Sample, WHOLE};
 use std::io;
 use std::io::Write;
 
-/// The results of one cache over a trace.
+/// The results of one cache over a trace, and the options that they depend on.
 #[derive(Clone, Copy, Debug)]
 pub struct Row {
     /// The name of its policy.
     pub policy: &'static str,
     /// Its size, in bytes.
     pub size: usize,
-    /// The counts.
+    /// The counts of the requests that were read: those of the sample.
     pub counts: Counts,
     /// How many entries were evicted.
     pub evicted: usize,
     /// The sum of the weights of the tracked entries at the end, in bytes.
     pub tracked: usize,
+    /// How many requests were to be expected in the sample.
+    pub expected: u64,
+    /// How many bytes.
+    pub expected_bytes: u128,
+    /// The keys that were asked for.
+    pub sample: Sample,
+    /// For how many seconds a body is fresh; without end if it is `None`.
+    pub ttl: Option<u64>,
+    /// Whether a body larger than the cache is not stored.
+    pub passes_by: bool,
+}
+
+impl Row {
+    // The share of hits in the requests, in hundredths of a percent; of a sample, corrected.
+    fn hit_ratio(&self) -> u128 {
+        let hits = self.counts.corrected_hits(self.expected);
+        ratio(u128::from(hits), u128::from(self.expected))
+    }
+
+    // The share of their bytes.
+    fn byte_ratio(&self) -> u128 {
+        let bytes = self.counts.corrected_hit_bytes(self.expected_bytes);
+        ratio(bytes, self.expected_bytes)
+    }
+
+    // What is done with a body larger than the cache.
+    fn large(&self) -> &'static str {
+        if self.passes_by { "pass" } else { "evict" }
+    }
 }
 
 // The share of a part in a whole, in hundredths of a percent.
@@ -30,26 +60,109 @@ fn ratio(part: u128, whole: u128) -> u128 {
 pub fn write_rows<W: Write>(out: &mut W, output: Output, rows: &[Row]) -> io::Result<()> {
     match output {
         Output::Csv => write_csv(out, rows),
+        Output::Json => write_json(out, rows),
         Output::Table => write_table(out, rows),
     }
 }
 
 fn write_csv<W: Write>(out: &mut W, rows: &[Row]) -> io::Result<()> {
-    writeln!(out, "policy,size,requests,hits,bytes,hit_bytes,evicted")?;
+    write!(
+        out,
+        "policy,size,requests,hits,bytes,hit_bytes,evicted,tracked,"
+    )?;
+    write!(
+        out,
+        "expected_requests,corrected_hits,expected_bytes,corrected_hit_bytes,"
+    )?;
+    writeln!(out, "sample,part,ttl,large")?;
     for row in rows {
-        let Counts {
-            requests,
-            hits,
-            bytes,
-            hit_bytes,
-        } = row.counts;
-        writeln!(
-            out,
-            "{},{},{requests},{hits},{bytes},{hit_bytes},{}",
-            row.policy, row.size, row.evicted
-        )?;
+        write_values(out, row)?;
     }
     Ok(())
+}
+
+fn write_values<W: Write>(out: &mut W, row: &Row) -> io::Result<()> {
+    let Counts {
+        requests,
+        hits,
+        bytes,
+        hit_bytes,
+    } = row.counts;
+    write!(
+        out,
+        "{},{},{requests},{hits},{bytes},{hit_bytes},",
+        row.policy, row.size
+    )?;
+    write!(out, "{},{},{},", row.evicted, row.tracked, row.expected)?;
+    write!(out, "{},", row.counts.corrected_hits(row.expected))?;
+    write!(out, "{},", row.expected_bytes)?;
+    write!(
+        out,
+        "{},",
+        row.counts.corrected_hit_bytes(row.expected_bytes)
+    )?;
+    write_sample(out, row)?;
+    write!(out, ",{},", row.sample.part)?;
+    if let Some(ttl) = row.ttl {
+        write!(out, "{ttl}")?;
+    }
+    writeln!(out, ",{}", row.large())
+}
+
+// The rate of the sample, as a part of 1.
+fn write_sample<W: Write>(out: &mut W, row: &Row) -> io::Result<()> {
+    let rate = row.sample.rate;
+    write!(out, "{}.{:06}", rate / WHOLE, rate % WHOLE)
+}
+
+fn write_json<W: Write>(out: &mut W, rows: &[Row]) -> io::Result<()> {
+    for row in rows {
+        write_object(out, row)?;
+    }
+    Ok(())
+}
+
+fn write_object<W: Write>(out: &mut W, row: &Row) -> io::Result<()> {
+    let Counts {
+        requests,
+        hits,
+        bytes,
+        hit_bytes,
+    } = row.counts;
+    write!(
+        out,
+        "{{\"policy\":\"{}\",\"size\":{},",
+        row.policy, row.size
+    )?;
+    write!(
+        out,
+        "\"requests\":{requests},\"hits\":{hits},\"bytes\":{bytes},\"hit_bytes\":{hit_bytes},"
+    )?;
+    write!(
+        out,
+        "\"evicted\":{},\"tracked\":{},",
+        row.evicted, row.tracked
+    )?;
+    write!(out, "\"expected_requests\":{},", row.expected)?;
+    write!(
+        out,
+        "\"corrected_hits\":{},",
+        row.counts.corrected_hits(row.expected)
+    )?;
+    write!(out, "\"expected_bytes\":{},", row.expected_bytes)?;
+    write!(
+        out,
+        "\"corrected_hit_bytes\":{},",
+        row.counts.corrected_hit_bytes(row.expected_bytes)
+    )?;
+    write!(out, "\"sample\":")?;
+    write_sample(out, row)?;
+    write!(out, ",\"part\":{},\"ttl\":", row.sample.part)?;
+    match row.ttl {
+        Some(ttl) => write!(out, "{ttl}")?,
+        None => write!(out, "null")?,
+    }
+    writeln!(out, ",\"large\":\"{}\"}}", row.large())
 }
 
 fn write_table<W: Write>(out: &mut W, rows: &[Row]) -> io::Result<()> {
@@ -61,10 +174,19 @@ fn write_table<W: Write>(out: &mut W, rows: &[Row]) -> io::Result<()> {
 
 fn write_line<W: Write>(out: &mut W, row: &Row) -> io::Result<()> {
     let counts = row.counts;
-    let hits = ratio(u128::from(counts.hits), u128::from(counts.requests));
-    let bytes = ratio(counts.hit_bytes, counts.bytes);
-    write!(out, "{} of {} bytes: ", row.policy, row.size)?;
-    write!(out, "{} requests, {} hits ", counts.requests, counts.hits)?;
+    let (hits, bytes) = (row.hit_ratio(), row.byte_ratio());
+    write!(
+        out,
+        "{} of {} bytes: {} requests",
+        row.policy, row.size, counts.requests
+    )?;
+    if row.sample.is_all() {
+        write!(out, ", {} hits ", counts.hits)?;
+    } else {
+        let corrected = counts.corrected_hits(row.expected);
+        write!(out, " read and {} to be expected, ", row.expected)?;
+        write!(out, "{} hits and {corrected} corrected ", counts.hits)?;
+    }
     write!(out, "({}.{:02}%), ", hits / 100, hits % 100)?;
     write!(out, "{}.{:02}% of the bytes, ", bytes / 100, bytes % 100)?;
     writeln!(
@@ -105,8 +227,7 @@ fn draw_point<W: Write>(
 {
     let colour = COLOURS[policy % 4];
     let x = 60 + (place as u128 * 540) / (places as u128);
-    let y = 360
-        - (ratio(row.counts.hits as u128, row.counts.requests as u128).min(10_000) * 340) / 10_000;
+    let y = 360 - (row.hit_ratio().min(10_000) * 340) / 10_000;
     writeln!(
         out,
         "<circle cx=\"{x}\" cy=\"{y}\" r=\"4\" fill=\"{colour}\"><title>{} {}</title></circle>",

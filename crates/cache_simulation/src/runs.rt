@@ -1,9 +1,11 @@
 //! The managers of a simulation.
 ghost use Rattle.pcache_base.specs.declared.error.ErrorType.TheVariants.{OutOfMemory};
 
+use crate::counts::Counts;
 use crate::options::{Options, Policy};
 use crate::report::Row;
 use crate::run::{Request, Run};
+use crate::sample::Sample;
 use pcache_base::error::Result;
 use pcache_base::seed::Seed;
 use pcache_evict::eviction::ordered::OrderedManager;
@@ -19,10 +21,19 @@ struct Sized<M: OrderedManager> {
     run: Run<M>,
 }
 
+// The options that all runs have in common.
+#[derive(Clone, Copy)]
+struct Setting {
+    sample: Sample,
+    ttl: Option<u64>,
+    passes_by: bool,
+}
+
 /// The runs of a simulation, for each policy one of each size.
 #[derive(Drop)]
 pub struct Runs {
     alloc: Global,
+    setting: Setting,
     policies: Vec<Policy>,
     lru: Vec<Sized<simple_lru::Manager>>,
     sharded: Vec<Sized<sharded_lru::Manager<16>>>,
@@ -36,6 +47,11 @@ impl Runs {
     pub fn new(alloc: Global, options: &Options, distinct: u64) -> Result<Runs> {
         let mut runs = Runs {
             alloc,
+            setting: Setting {
+                sample: options.sample,
+                ttl: options.ttl,
+                passes_by: options.passes_by,
+            },
             policies: Vec::new(alloc),
             lru: Vec::new(alloc),
             sharded: Vec::new(alloc),
@@ -84,15 +100,27 @@ impl Runs {
         play_each(&mut self.s3_fifo, requests)
     }
 
-    /// The results of each cache, by policy and size in the order in which they were given.
-    pub fn rows(&self) -> Result<Vec<Row>> {
+    /// The results of each cache over the sample of a trace that has these counts of requests and bytes, by policy and size in
+    /// the order in which they were given.
+    pub fn rows(&self, all: Counts) -> Result<Vec<Row>> {
         let mut rows = Vec::new(self.alloc);
+        let setting = self.setting;
         for policy in self.policies.as_slice() {
             match policy {
-                Policy::Lru => add_rows(&mut rows, "lru", self.lru.as_slice())?,
-                Policy::Sharded => add_rows(&mut rows, "sharded:16", self.sharded.as_slice())?,
-                Policy::Sieve => add_rows(&mut rows, "sieve", self.sieve.as_slice())?,
-                Policy::S3Fifo => add_rows(&mut rows, "s3-fifo", self.s3_fifo.as_slice())?,
+                Policy::Lru => add_rows(&mut rows, setting, all, "lru", self.lru.as_slice())?,
+                Policy::Sharded => {
+                    add_rows(
+                        &mut rows,
+                        setting,
+                        all,
+                        "sharded:16",
+                        self.sharded.as_slice(),
+                    )?
+                }
+                Policy::Sieve => add_rows(&mut rows, setting, all, "sieve", self.sieve.as_slice())?,
+                Policy::S3Fifo => {
+                    add_rows(&mut rows, setting, all, "s3-fifo", self.s3_fifo.as_slice())?
+                }
             }
         }
         Ok(rows)
@@ -128,6 +156,8 @@ fn play_each<M: OrderedManager>(runs: &mut Vec<Sized<M>>, requests: &[Request]) 
 
 fn add_rows<M: OrderedManager>(
     rows: &mut Vec<Row>,
+    setting: Setting,
+    all: Counts,
     policy: &'static str,
     runs: &[Sized<M>],
 ) -> Result<()> {
@@ -138,6 +168,11 @@ fn add_rows<M: OrderedManager>(
             counts: sized.run.counts,
             evicted: sized.run.manager.evicted_items(),
             tracked: sized.run.manager.total_size(),
+            expected: setting.sample.expected(all.requests),
+            expected_bytes: setting.sample.expected_bytes(all.bytes),
+            sample: setting.sample,
+            ttl: setting.ttl,
+            passes_by: setting.passes_by,
         })?;
     }
     Ok(())

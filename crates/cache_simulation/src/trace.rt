@@ -1,5 +1,7 @@
 //! The lines of a trace.
 
+use std::str;
+
 /// The request of a line: a body of some size for a key, at some second.
 #[derive(Clone, Copy)]
 pub struct Asked<'a> {
@@ -14,8 +16,8 @@ pub struct Asked<'a> {
 /// In which column of a line with commas each value is, counted from 0.
 #[derive(Clone, Copy, Debug, PartialEq, Eq)]
 pub struct Columns {
-    /// The column of the second.
-    pub time: usize,
+    /// The column of the second, if there is one.
+    pub time: Option<usize>,
     /// The column of the key.
     pub key: usize,
     /// The column of the size.
@@ -25,24 +27,27 @@ pub struct Columns {
 impl Columns {
     /// The order `time,key,size`.
     pub const USUAL: Columns = Columns {
-        time: 0,
+        time: Some(0),
         key: 1,
         size: 2,
     };
 
-    /// Reads the names of columns: `time`, `key` and `size`, each once, and any others. A trace with no
-    /// `time` has the time in no column.
+    /// Reads the names of columns: `key` and `size`, each once, `time` at most once, and any others.
     pub fn read(names: &str) -> Option<Columns> {
-        let mut time = usize::MAX;
+        let mut time = None;
         let mut key = None;
         let mut size = None;
         for (place, name) in names.split(',').enumerate() {
-            match name {
-                "time" => time = place,
-                "key" => key = Some(place),
-                "size" => size = Some(place),
-                _ => {}
+            let named = match name.trim() {
+                "time" => &mut time,
+                "key" => &mut key,
+                "size" => &mut size,
+                _ => continue,
+            };
+            if named.is_some() {
+                return None;
             }
+            *named = Some(place);
         }
         Some(Columns {
             time,
@@ -52,9 +57,42 @@ impl Columns {
     }
 }
 
-/// Reads a line: one with commas by its columns, and another as a key, spaces and a size. `None` if it
-/// is no such line.
-pub fn read_line(line: &str, columns: Columns) -> Option<Asked<'_>> {
+/// Why a line is no request.
+#[derive(Clone, Copy, Debug, PartialEq, Eq)]
+pub enum BadLine {
+    /// It is not UTF-8.
+    NotText,
+    /// It is longer than a line may be.
+    TooLong,
+    /// It has no key, or an empty one.
+    NoKey,
+    /// It has no size.
+    NoSize,
+    /// Its size is no number of bytes.
+    Size,
+    /// Its time is missing, or no number of seconds.
+    Time,
+    /// It has no commas, and more words than a key and a size.
+    Words,
+}
+
+impl BadLine {
+    /// The reason in words.
+    pub fn said(self) -> &'static str {
+        match self {
+            BadLine::NotText => "it is not UTF-8",
+            BadLine::TooLong => "it is longer than 65536 bytes",
+            BadLine::NoKey => "it has no key",
+            BadLine::NoSize => "it has no size",
+            BadLine::Size => "its size is no number of bytes",
+            BadLine::Time => "its time is no number of seconds",
+            BadLine::Words => "it has no commas, and more words than a key and a size",
+        }
+    }
+}
+
+/// Reads a line: one with commas by its columns, and another as a key, spaces and a size.
+pub fn read_line(line: &str, columns: Columns) -> Result<Asked<'_>, BadLine> {
     if line.contains(',') {
         read_columns(line, columns)
     } else {
@@ -62,44 +100,84 @@ pub fn read_line(line: &str, columns: Columns) -> Option<Asked<'_>> {
     }
 }
 
-fn read_words(line: &str) -> Option<Asked<'_>> {
+fn read_words(line: &str) -> Result<Asked<'_>, BadLine> {
     let mut words = line.split_ascii_whitespace();
-    let key = words.next()?;
-    let size = words.next()?.parse::<usize>().ok()?;
-    match words.next() {
-        None => Some(Asked {
-            key,
-            size,
-            second: 0,
-        }),
-        Some(_) => None,
+    let key = words.next().ok_or(BadLine::NoKey)?;
+    let size = size_of(words.next())?;
+    if words.next().is_some() {
+        return Err(BadLine::Words);
     }
+    Ok(Asked {
+        key,
+        size,
+        second: 0,
+    })
 }
 
-fn read_columns(line: &str, columns: Columns) -> Option<Asked<'_>> {
+fn read_columns(line: &str, columns: Columns) -> Result<Asked<'_>, BadLine> {
     let mut key = None;
     let mut size = None;
-    let mut second = Some(0);
+    let mut time = None;
     for (place, field) in line.split(',').enumerate() {
         let text = field.trim();
-        if place == columns.key {
+        if place == columns.key && !text.is_empty() {
             key = Some(text);
         }
         if place == columns.size {
-            size = text.parse::<usize>().ok();
+            size = Some(text);
         }
-        if place == columns.time {
-            second = seconds(text);
+        if columns.time == Some(place) {
+            time = seconds(text);
         }
     }
-    Some(Asked {
-        key: key?,
-        size: size?,
-        second: second?,
+    Ok(Asked {
+        key: key.ok_or(BadLine::NoKey)?,
+        size: size_of(size)?,
+        second: second_of(columns, time)?,
     })
+}
+
+fn size_of(text: Option<&str>) -> Result<usize, BadLine> {
+    match text {
+        Some(text) => text.parse::<usize>().map_err(|_| BadLine::Size),
+        None => Err(BadLine::NoSize),
+    }
+}
+
+// The second that was read, and 0 if there is no column for it.
+fn second_of(columns: Columns, time: Option<u64>) -> Result<u64, BadLine> {
+    match columns.time {
+        Some(_) => time.ok_or(BadLine::Time),
+        None => Ok(0),
+    }
 }
 
 // The whole seconds of a decimal number.
 fn seconds(text: &str) -> Option<u64> {
-    text.split('.').next()?.parse::<u64>().ok()
+    let (whole, places) = text.split_once('.').unwrap_or((text, ""));
+    if !is_digits(places) {
+        return None;
+    }
+    whole.parse::<u64>().ok()
 }
+
+/// Whether a text has no other letters than the digits from 0 to 9.
+pub(crate) fn is_digits(text: &str) -> bool {
+    text.as_bytes().iter().all(|byte| byte.is_ascii_digit())
+}
+
+/// The beginning of a line, as it is shown.
+pub fn beginning(line: &[u8]) -> &str {
+    let Ok(text) = str::from_utf8(line) else {
+        return "";
+    };
+    for length in (0..SHOWN).rev() {
+        if let Some(part) = text.get(..length) {
+            return if text.len() < SHOWN { text } else { part };
+        }
+    }
+    ""
+}
+
+// How many bytes of a line are shown, and one more.
+const SHOWN: usize = 61;

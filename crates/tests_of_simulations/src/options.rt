@@ -16,7 +16,7 @@ const USUAL: Words<'static> = Words {
     distinct: None,
     ttl: None,
     large: "pass",
-    columns: "time,key,size",
+    columns: None,
     sample: "1",
     part: "0",
     format: "table",
@@ -24,9 +24,17 @@ const USUAL: Words<'static> = Words {
     bad_lines: "100",
 };
 
-// The usual words with one that is given.
-fn with(name: &str, value: &'static str) -> Words<'static> {
+// The usual words with those that are given, each with its value.
+fn with(call: &'static str) -> Words<'static> {
     let mut words = USUAL;
+    for given in call.split("; ") {
+        let (name, value) = given.split_once(' ').unwrap_or((given, ""));
+        give(&mut words, name, value);
+    }
+    words
+}
+
+fn give(words: &mut Words<'static>, name: &str, value: &'static str) {
     match name {
         "policy" => words.policy = value,
         "size" => words.size = value,
@@ -34,22 +42,21 @@ fn with(name: &str, value: &'static str) -> Words<'static> {
         "distinct" => words.distinct = Some(value),
         "ttl" => words.ttl = Some(value),
         "large" => words.large = value,
-        "columns" => words.columns = value,
+        "columns" => words.columns = Some(value),
         "sample" => words.sample = value,
         "part" => words.part = value,
         "format" => words.format = value,
         "plot" => words.plot = Some(value),
         _ => words.bad_lines = value,
     }
-    words
 }
 
 impl Desk for CommandLine {
     fn tell(&mut self, call: &'static str, told: &mut Told) {
-        let (name, value) = call.split_once(' ').unwrap_or((call, ""));
-        match read(self.alloc, &with(name, value)) {
+        let name = word(call, 0);
+        match read(self.alloc, &with(call)) {
             Ok(options) => tell_option(&options, name, told),
-            Err(unusable) => told.named(&unusable),
+            Err(unusable) => told.shown(&unusable),
         }
     }
 }
@@ -63,7 +70,8 @@ fn tell_option(options: &Options, name: &str, told: &mut Told) {
         "ttl" => told.named(&options.ttl),
         "large" => told.named(&options.passes_by),
         "columns" => told.named(&options.columns),
-        "sample" | "part" => told.named(&options.sample),
+        "sample" => told.number(options.sample.rate),
+        "part" => told.number(options.sample.part),
         "format" => told.named(&options.output),
         "plot" => told.named(&options.plot),
         _ => told.named(&options.bad_lines),
@@ -79,29 +87,32 @@ fn tell_sizes(options: &Options, told: &mut Told) {
 
 const READ: &str = "
     policy lru,sharded:16,sieve,s3-fifo -> [Lru, Sharded, Sieve, S3Fifo]
-    policy lru,arc -> Value(\"policy\")
+    policy lru, sieve -> [Lru, Sieve]
+    policy lru,arc -> --policy cannot be \"arc\"; it is lru, sharded:16, sieve or s3-fifo, or several of them with commas
     size 7,10MB,1KiB,2GB -> [Bytes(7), Bytes(10000000), Bytes(1024), Bytes(2000000000)]
+    size 1G, 1.5MB, 0.5KiB -> [Bytes(1000000000), Bytes(1500000), Bytes(512)]
     size 1%,0.5% -> [Share(1000000), Share(500000)] of all
-    size 1.5MB -> Value(\"size\")
-    size 20000000TB -> Value(\"size\")
     trace a.csv -> Some(\"a.csv\")
     distinct 3KB -> Some(3000)
     ttl 60 -> Some(60)
-    ttl 1h -> Value(\"ttl\")
+    ttl 1h -> --ttl cannot be \"1h\"; it is a whole number below 2^64
     large pass -> true
     large evict -> false
-    large drop -> Value(\"large\")
-    columns key,node,size -> Columns { time: 18446744073709551615, key: 0, size: 2 }
-    columns time,key -> Value(\"columns\")
-    sample 0.25 -> Sample { rate: 250000, part: 0 }
-    sample 0.0000001 -> Value(\"sample\")
-    part 3 -> Sample { rate: 1000000, part: 3 }
+    large drop -> --large cannot be \"drop\"; it is pass or evict
+    columns key,node,size -> Some(Columns { time: None, key: 0, size: 2 })
+    columns time,key -> --columns cannot be \"time,key\"; it is names with commas, with key and size among them once and time at most once
+    sample 0.25 -> 250000
+    sample 1e-3 -> 1000
+    sample 1 -> 1000000
+    part 0 -> 0
+    part 3; sample 0.25 -> 3
     format csv -> Csv
     format table -> Table
-    format xml -> Value(\"format\")
+    format json -> Json
+    format xml -> --format cannot be \"xml\"; it is table, csv or json
     plot a.svg -> Some(\"a.svg\")
     bad-lines 0 -> 0
-    bad-lines few -> Value(\"bad-lines\")";
+    bad-lines few -> --bad-lines cannot be \"few\"; it is a whole number below 2^64";
 
 #[test]
 fn words_are_read(rt: HostRuntime) {
@@ -109,12 +120,33 @@ fn words_are_read(rt: HostRuntime) {
     play(&rt, rt.alloc(), &mut desk, READ);
 }
 
+// Sizes that are no whole bytes, or too large, and parts of the keys that there are not.
+const OUT_OF_RANGE: &str = "
+    size 1.5B -> --size cannot be \"1.5B\"; it is sizes with commas: each a whole number of bytes below 2^64, with a unit (K, M, G, T, KB .. TB, KiB .. TiB) or without, or a number with %
+    size 1.5 -> --size cannot be \"1.5\"; it is sizes with commas: each a whole number of bytes below 2^64, with a unit (K, M, G, T, KB .. TB, KiB .. TiB) or without, or a number with %
+    size 20000000TB -> --size cannot be \"20000000TB\"; it is sizes with commas: each a whole number of bytes below 2^64, with a unit (K, M, G, T, KB .. TB, KiB .. TiB) or without, or a number with %
+    sample 0 -> --sample cannot be \"0\"; it is above 0 and at most 1, in whole millionths, as 0.01 or 1e-3
+    sample 2 -> --sample cannot be \"2\"; it is above 0 and at most 1, in whole millionths, as 0.01 or 1e-3
+    sample 1e-7 -> --sample cannot be \"1e-7\"; it is above 0 and at most 1, in whole millionths, as 0.01 or 1e-3
+    sample 0.0000001 -> --sample cannot be \"0.0000001\"; it is above 0 and at most 1, in whole millionths, as 0.01 or 1e-3
+    part 1 -> --part cannot be \"1\"; it is a whole number below 1 divided by --sample, rounded down
+    part 2; sample 0.5 -> --part cannot be \"2\"; it is a whole number below 1 divided by --sample, rounded down
+    part 3; sample 0.3 -> --part cannot be \"3\"; it is a whole number below 1 divided by --sample, rounded down";
+
+#[test]
+fn what_is_out_of_range_is_refused(rt: HostRuntime) {
+    let mut desk = CommandLine { alloc: rt.alloc() };
+    play(&rt, rt.alloc(), &mut desk, OUT_OF_RANGE);
+}
+
 #[derive(Drop)]
 struct Keys;
 
 impl Desk for Keys {
     fn tell(&mut self, call: &'static str, told: &mut Told) {
-        let sample = Sample::new(number(call, 0), number(call, 1));
+        let Some(sample) = Sample::new(number(call, 0), number(call, 1)) else {
+            return told.say("none");
+        };
         match word(call, 2) {
             "has" => told.yes_or_no(sample.has(number(call, 3))),
             "scaled" => told.shown(&sample.scaled(size(call, 3))),
@@ -132,10 +164,13 @@ const SAMPLED: &str = "
     250000 1 has 7250000 -> yes
     250000 1 scaled 1000 -> 250
     250000 1 whole 250 -> 1000
-    # all keys, and none
+    # all keys
     1000000 0 has 999999 -> yes
-    0 0 has 0 -> no
-    0 0 whole 250 -> 0";
+    # parts that there are not
+    0 0 has 0 -> none
+    1000001 0 has 0 -> none
+    300000 2 has 899999 -> yes
+    300000 3 has 899999 -> none";
 
 #[test]
 fn a_part_of_the_keys_stands_for_all(rt: HostRuntime) {

@@ -2,6 +2,7 @@
 use cache_simulation::counts::Counts;
 use cache_simulation::options::Output;
 use cache_simulation::report::{Row, draw, write_rows};
+use cache_simulation::sample::Sample;
 use std::alloc::Global;
 
 // Three requests of 4 bytes each, one of which was a hit.
@@ -22,23 +23,79 @@ fn row() -> Row {
         counts,
         evicted: 1,
         tracked: 4,
+        expected: 3,
+        expected_bytes: 12,
+        sample: Sample::ALL,
+        ttl: None,
+        passes_by: true,
     }
 }
 
-fn is_written(alloc: Global, output: Output, wanted: &str) -> bool {
-    let mut out = Vec::new(alloc);
-    write_rows(&mut out, output, &[row()]).is_ok() && out.as_slice() == wanted.as_bytes()
+// The same as a part of the keys, of which four requests and 16 bytes were to be expected: so one more hit and 4 more of their
+// bytes.
+fn of_sample(sample: Sample) -> Row {
+    let mut row = row();
+    row.expected = 4;
+    row.expected_bytes = 16;
+    row.sample = sample;
+    row.ttl = Some(60);
+    row.passes_by = false;
+    row
 }
 
-const CSV: &str = "policy,size,requests,hits,bytes,hit_bytes,evicted\nsieve,5,3,1,12,4,1\n";
+fn is_written(alloc: Global, row: Row, output: Output, wanted: &str) -> bool {
+    let mut out = Vec::new(alloc);
+    write_rows(&mut out, output, &[row]).is_ok() && out.as_slice() == wanted.as_bytes()
+}
+
+const CSV: &str = "policy,size,requests,hits,bytes,hit_bytes,evicted,tracked,\
+    expected_requests,corrected_hits,expected_bytes,corrected_hit_bytes,sample,part,ttl,large\n\
+    sieve,5,3,1,12,4,1,4,3,1,12,4,1.000000,0,,pass\n";
 
 const TABLE: &str =
     "sieve of 5 bytes: 3 requests, 1 hits (33.33%), 33.33% of the bytes, 1 evicted, 4 bytes tracked\n";
 
+const JSON: &str =
+    "{\"policy\":\"sieve\",\"size\":5,\"requests\":3,\"hits\":1,\"bytes\":12,\"hit_bytes\":4,\
+    \"evicted\":1,\"tracked\":4,\"expected_requests\":3,\"corrected_hits\":1,\"expected_bytes\":12,\
+    \"corrected_hit_bytes\":4,\"sample\":1.000000,\"part\":0,\"ttl\":null,\"large\":\"pass\"}\n";
+
 #[test]
 fn rows_are_written(rt: HostRuntime) {
-    assert!(rt; is_written(rt.alloc(), Output::Csv, CSV));
-    assert!(rt; is_written(rt.alloc(), Output::Table, TABLE));
+    assert!(rt; is_written(rt.alloc(), row(), Output::Csv, CSV));
+    assert!(rt; is_written(rt.alloc(), row(), Output::Json, JSON));
+    assert!(rt; is_written(rt.alloc(), row(), Output::Table, TABLE));
+}
+
+const SAMPLED_CSV: &str = "policy,size,requests,hits,bytes,hit_bytes,evicted,tracked,\
+    expected_requests,corrected_hits,expected_bytes,corrected_hit_bytes,sample,part,ttl,large\n\
+    sieve,5,3,1,12,4,1,4,4,2,16,8,0.250000,3,60,evict\n";
+
+const SAMPLED_TABLE: &str =
+    "sieve of 5 bytes: 3 requests read and 4 to be expected, 1 hits and 2 corrected (50.00%), 50.00% of the bytes, \
+    1 evicted, 4 bytes tracked\n";
+
+fn is_corrected(alloc: Global) -> bool {
+    match Sample::new(250_000, 3) {
+        Some(sample) => {
+            is_written(alloc, of_sample(sample), Output::Csv, SAMPLED_CSV)
+                && is_written(alloc, of_sample(sample), Output::Table, SAMPLED_TABLE)
+        }
+        None => false,
+    }
+}
+
+#[test]
+fn a_sample_is_corrected(rt: HostRuntime) {
+    assert!(rt; is_corrected(rt.alloc()));
+}
+
+// Fewer requests to be expected than read, by one and by more than the hits.
+#[test]
+fn a_correction_ends_at_no_hits(rt: HostRuntime) {
+    assert!(rt; row().counts.corrected_hits(2) == 0);
+    assert!(rt; row().counts.corrected_hits(1) == 0);
+    assert!(rt; row().counts.corrected_hit_bytes(10) == 2);
 }
 
 // A third of 340 lines is 113, from the bottom at 360 upwards.

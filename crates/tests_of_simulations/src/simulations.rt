@@ -4,67 +4,93 @@ use cache_simulation::simulation::{Stop, simulate};
 use std::alloc::Global;
 use std::rt::{Clock, Files};
 
+const WORDS: Words<'static> = Words {
+    policy: "lru,sieve,s3-fifo",
+    size: "5",
+    trace: None,
+    distinct: Some("10"),
+    ttl: None,
+    large: "pass",
+    columns: None,
+    sample: "1",
+    part: "0",
+    format: "csv",
+    plot: None,
+    bad_lines: "1",
+};
+
 fn options(
     alloc: Global,
     size: &'static str,
     bad_lines: &'static str,
-) -> Result<Options, Unusable> {
-    let words = Words {
-        policy: "lru,sieve,s3-fifo",
-        size,
-        trace: None,
-        distinct: Some("10"),
-        ttl: None,
-        large: "pass",
-        columns: "time,key,size",
-        sample: "1",
-        part: "0",
-        format: "csv",
-        plot: None,
-        bad_lines,
-    };
+) -> Result<Options, Unusable<'static>> {
+    let mut words = WORDS;
+    words.size = size;
+    words.bad_lines = bad_lines;
     read(alloc, &words)
 }
 
 const TRACE: &str = "time,key,size\n0,a,2\n1,b,3\nno request\n2,a,2\n3,c,4\n4,a,2";
 
 // Of a limit of 5 bytes `a` and `b` have room, `c` lets both go, and `a` then `c`.
-const WANTED: &str = "policy,size,requests,hits,bytes,hit_bytes,evicted\n\
-    lru,5,5,1,13,2,3\n\
-    sieve,5,5,1,13,2,3\n\
-    s3-fifo,5,5,1,13,2,3\n";
+const WANTED: &str = "policy,size,requests,hits,bytes,hit_bytes,evicted,tracked,\
+    expected_requests,corrected_hits,expected_bytes,corrected_hit_bytes,sample,part,ttl,large\n\
+    lru,5,5,1,13,2,3,2,5,1,13,2,1.000000,0,,pass\n\
+    sieve,5,5,1,13,2,3,2,5,1,13,2,1.000000,0,,pass\n\
+    s3-fifo,5,5,1,13,2,3,2,5,1,13,2,1.000000,0,,pass\n";
 
-// After how many lines a simulation stopped for bad ones: 0 if it came to its end.
-fn stopped_after(ended: Result<(), Stop>) -> Option<u64> {
+// The results of the two lines before the bad one.
+const FIRST_TWO: &str = "policy,size,requests,hits,bytes,hit_bytes,evicted,tracked,\
+    expected_requests,corrected_hits,expected_bytes,corrected_hit_bytes,sample,part,ttl,large\n\
+    lru,5,2,0,5,0,0,5,2,0,5,0,1.000000,0,,pass\n\
+    sieve,5,2,0,5,0,0,5,2,0,5,0,1.000000,0,,pass\n\
+    s3-fifo,5,2,0,5,0,0,5,2,0,5,0,1.000000,0,,pass\n";
+
+// How a simulation ended.
+fn end_of(ended: Result<(), Stop>) -> &'static str {
     match ended {
-        Ok(()) => Some(0),
-        Err(Stop::BadLines(lines)) => Some(lines),
-        Err(_other) => None,
+        Ok(()) => "done",
+        Err(Stop::NoDistinct) => "no distinct",
+        Err(Stop::First(_refused)) => "first line",
+        Err(Stop::BadLines(lines)) => {
+            if lines == 4 {
+                "stopped after 4"
+            } else {
+                "stopped"
+            }
+        }
+        Err(Stop::NoRequests) => "no requests",
+        Err(Stop::NoneSampled) => "none sampled",
+        Err(Stop::Memory) | Err(Stop::Io(_)) => "failed",
     }
 }
 
-// Whether the trace is played so: after how many lines it stops, what is written, and what is said of errors.
+// Whether the trace is played so: how it ends, what is written, and what is said of errors.
 fn is_played<C: Clock + Files>(
     rt: &C,
     alloc: Global,
     options: &Options,
-    lines: u64,
+    trace: &str,
+    end: &str,
     written: &str,
     said: &str,
 ) -> bool {
     let mut output = Vec::new(alloc);
     let mut errors = Vec::new(alloc);
-    let trace = TRACE.as_bytes();
+    let trace = trace.as_bytes();
     let ended = simulate(rt, alloc, options, trace, &mut output, &mut errors);
-    stopped_after(ended) == Some(lines)
+    end_of(ended) == end
         && output.as_slice() == written.as_bytes()
         && errors.as_slice() == said.as_bytes()
 }
 
+const SAID: &str =
+    "line 4: its size is no number of bytes: \"no request\"\n1 of 7 lines are no requests\n\
+    s3-fifo: bodies have 2 to 4 bytes; one above the small queue comes in here, and other simulators refuse it\n";
+
 fn is_simulated<C: Clock + Files>(rt: &C, alloc: Global, size: &'static str) -> bool {
-    let said = "line 4 is no request\n1 lines are no requests\n";
     match options(alloc, size, "1") {
-        Ok(options) => is_played(rt, alloc, &options, 0, WANTED, said),
+        Ok(options) => is_played(rt, alloc, &options, TRACE, "done", WANTED, SAID),
         Err(_unusable) => false,
     }
 }
@@ -75,14 +101,97 @@ fn a_trace_is_played_to_each_cache(rt: HostRuntime) {
     assert!(rt; is_simulated(&rt, rt.alloc(), "50%"));
 }
 
+const STOPPED: &str =
+    "line 4: its size is no number of bytes: \"no request\"\n1 of 4 lines are no requests\n\
+    s3-fifo: bodies have 2 to 3 bytes; one above the small queue comes in here, and other simulators refuse it\n";
+
 fn is_stopped<C: Clock + Files>(rt: &C, alloc: Global) -> bool {
     match options(alloc, "5", "0") {
-        Ok(options) => is_played(rt, alloc, &options, 4, "", "line 4 is no request\n"),
+        Ok(options) => is_played(
+            rt,
+            alloc,
+            &options,
+            TRACE,
+            "stopped after 4",
+            FIRST_TWO,
+            STOPPED,
+        ),
         Err(_unusable) => false,
     }
 }
 
 #[test]
-fn too_many_bad_lines_stop_it(rt: HostRuntime) {
+fn too_many_bad_lines_stop_it_and_leave_its_results(rt: HostRuntime) {
     assert!(rt; is_stopped(&rt, rt.alloc()));
+}
+
+// Whether a trace ends so, with nothing written.
+fn ends<C: Clock + Files>(rt: &C, alloc: Global, trace: &str, end: &str, said: &str) -> bool {
+    match options(alloc, "5", "1") {
+        Ok(options) => is_played(rt, alloc, &options, trace, end, "", said),
+        Err(_unusable) => false,
+    }
+}
+
+#[test]
+fn a_trace_of_no_requests_is_a_failure(rt: HostRuntime) {
+    assert!(rt; ends(&rt, rt.alloc(), "", "no requests", ""));
+    assert!(rt; ends(&rt, rt.alloc(), "time,key,size\n", "no requests", ""));
+    assert!(rt;
+        ends(
+            &rt,
+            rt.alloc(),
+            "1,,5\n",
+            "no requests",
+            "line 1: it has no key: \"1,,5\"\n1 of 1 lines are no requests\n"
+        )
+    );
+}
+
+#[test]
+fn a_header_without_names_is_refused(rt: HostRuntime) {
+    assert!(rt;
+        ends(
+            &rt,
+            rt.alloc(),
+            "second,name,bytes\n1,a,5\n",
+            "first line",
+            "line 1: a header: \"second,name,bytes\"\n"
+        )
+    );
+}
+
+// A line of 70,000 letters, and then a request.
+fn is_cut<C: Clock + Files>(rt: &C, alloc: Global) -> bool {
+    let mut trace = Vec::new(alloc);
+    for _ in 0..70_000 {
+        if trace.push(b'a').is_err() {
+            return false;
+        }
+    }
+    if trace.extend_from_slice(b"\n0,a,2\n").is_err() {
+        return false;
+    }
+    let Ok(options) = options(alloc, "5", "1") else {
+        return false;
+    };
+    let mut output = Vec::new(alloc);
+    let mut errors = Vec::new(alloc);
+    let ended = simulate(
+        rt,
+        alloc,
+        &options,
+        trace.as_slice(),
+        &mut output,
+        &mut errors,
+    );
+    end_of(ended) == "done"
+        && errors
+            .as_slice()
+            .starts_with(b"line 1: it is longer than 65536 bytes: \"aaa")
+}
+
+#[test]
+fn a_line_without_an_end_is_not_kept(rt: HostRuntime) {
+    assert!(rt; is_cut(&rt, rt.alloc()));
 }

@@ -1,6 +1,7 @@
 //! The lines of traces, by rows: the names of the columns, a bar, and the line.
 use crate::rows::{Desk, Told, play};
-use cache_simulation::trace::{Columns, read_line};
+use cache_simulation::layout::{Layout, Refused};
+use cache_simulation::trace::{Columns, beginning, read_line};
 
 #[derive(Drop)]
 struct Reader;
@@ -12,14 +13,14 @@ impl Desk for Reader {
             return told.say("no columns");
         };
         match read_line(line, columns) {
-            Some(asked) => {
+            Ok(asked) => {
                 told.say(asked.key);
                 told.say(" of ");
                 told.shown(&asked.size);
                 told.say(" at ");
                 told.number(asked.second);
             }
-            None => told.say("no request"),
+            Err(why) => told.named(&why),
         }
     }
 }
@@ -27,19 +28,93 @@ impl Desk for Reader {
 const READ: &str = "
     time,key,size|17,a/b,120 -> a/b of 120 at 17
     time,key,size|17.9,a b,120,more -> a b of 120 at 17
-    time,key,size|time,key,size -> no request
-    time,key,size|17,a -> no request
-    time,key,size|17,a,-3 -> no request
     size,node,key|120,n,a -> a of 120 at 0
-    time,size|17,120 -> no columns
+    # lines that are no requests
+    time,key,size|time,key,size -> Size
+    time,key,size|17,a -> NoSize
+    time,key,size|17,,120 -> NoKey
+    time,key,size|17, ,120 -> NoKey
+    time,key,size|17,a,-3 -> Size
+    time,key,size|17,a,1.5 -> Size
+    time,key,size|,a,120 -> Time
+    time,key,size|17.x,a,120 -> Time
+    key,size,time|a,120 -> Time
     # a line without commas
     time,key,size|a/b  120 -> a/b of 120 at 0
-    time,key,size|a 120 7 -> no request
-    time,key,size|a -> no request
-    time,key,size| -> no request";
+    time,key,size|a 120 7 -> Words
+    time,key,size|a b -> Size
+    time,key,size|a -> NoSize
+    time,key,size| -> NoKey
+    # names of columns
+    time,size|17,120 -> no columns
+    key,size,key|a,120,b -> no columns
+    time,time,key,size|1,2,a,120 -> no columns
+    key, size|a,120 -> a of 120 at 0";
 
 #[test]
 fn lines_are_read_by_their_columns(rt: HostRuntime) {
     play(&rt, rt.alloc(), &mut Reader, READ);
     assert!(rt; Columns::read("time,key,size") == Some(Columns::USUAL));
+}
+
+// The columns that are given (`-` if none are), a bar and the first line.
+#[derive(Drop)]
+struct FirstLine;
+
+impl Desk for FirstLine {
+    fn tell(&mut self, call: &'static str, told: &mut Told) {
+        let (names, line) = call.split_once('|').unwrap_or((call, ""));
+        let mut layout = Layout::new(Columns::read(names));
+        match layout.first(line.as_bytes()) {
+            Ok(first) => told.named(&first),
+            Err(refused) => told.named(&refused),
+        }
+        match layout.read(b"1,2,3") {
+            Ok(asked) => {
+                told.say("; 1,2,3 is ");
+                told.say(asked.key);
+                told.say(" of ");
+                told.shown(&asked.size);
+                told.say(" at ");
+                told.number(asked.second);
+            }
+            Err(_why) => told.say("; no request"),
+        }
+    }
+}
+
+const FIRST: &str = "
+    -|time,key,size -> Header; 1,2,3 is 2 of 3 at 1
+    -|time,size,key -> Header; 1,2,3 is 3 of 2 at 1
+    -|size, key, next -> Header; 1,2,3 is 2 of 1 at 0
+    -|7,a,5 -> Line; 1,2,3 is 2 of 3 at 1
+    key,size|a,5 -> Line; 1,2,3 is 1 of 2 at 0
+    key,size,time|key,size,time -> Header; 1,2,3 is 1 of 2 at 3
+    key,size,time|name,bytes,second -> Passed; 1,2,3 is 1 of 2 at 3
+    # no header: it has a digit or no commas, so it is a bad line like others
+    -|7,a,b -> Line; 1,2,3 is 2 of 3 at 1
+    -|key size -> Line; 1,2,3 is 2 of 3 at 1
+    # refused
+    -|second,name,bytes -> NoNames; 1,2,3 is 2 of 3 at 1
+    -|time,key,key,size -> NoNames; 1,2,3 is 2 of 3 at 1
+    key,size,time|time,size,key -> OtherNames; 1,2,3 is 1 of 2 at 3";
+
+#[test]
+fn a_header_names_the_columns_or_is_refused(rt: HostRuntime) {
+    play(&rt, rt.alloc(), &mut FirstLine, FIRST);
+    assert!(rt; Layout::new(None).first(&[0x1f, 0x8b, 8]) == Err(Refused::Packed("zcat")));
+    assert!(rt;
+        Layout::new(None).first(&[0x28, 0xb5, 0x2f, 0xfd]) == Err(Refused::Packed("zstdcat"))
+    );
+}
+
+const LONG: &str = "a line of more than sixty bytes, of which no more are shown: here";
+
+#[test]
+fn the_beginning_of_a_line_is_shown(rt: HostRuntime) {
+    assert!(rt; beginning(b"short") == "short");
+    assert!(rt;
+        beginning(LONG.as_bytes()) == "a line of more than sixty bytes, of which no more are shown:"
+    );
+    assert!(rt; beginning(&[b'a', 0xff]) == "");
 }
