@@ -4,13 +4,12 @@ ghost use Rattle.pcache.specs.Words.{CacheKey};
 
 use bytes::Bytes;
 use http::StatusCode;
-use pcache::{Cache, CacheRequest};
-use pcache::CacheMeta;
 use pcache::error::Result;
 use pcache::eviction::simple_lru::Manager;
 use pcache::header::ResponseHeader;
 use pcache::moment::Moment;
 use pcache::seed::Seed;
+use pcache::{Cache, CacheMeta, CacheRequest};
 use std::alloc::Global;
 use std::time::Duration;
 

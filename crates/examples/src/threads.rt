@@ -6,14 +6,13 @@ ghost use Rattle.pcache.specs.Words.{CacheKey, Miss};
 
 use crate::origin;
 use bytes::Bytes;
-use pcache::{SharedCache, SharedRequest};
 use pcache::error::Result;
 use pcache::eviction::simple_lru::Manager;
 use pcache::memory::MemHitHandler;
 use pcache::moment::Moment;
 use pcache::poll::Poll;
 use pcache::seed::Seed;
-use pcache::{CacheMeta, HitStatus, RespCacheable};
+use pcache::{CacheMeta, HitStatus, RespCacheable, SharedCache, SharedRequest};
 use std::alloc::Global;
 use std::sync::Wait;
 use std::sync::atomic::{AtomicU64, Ordering};

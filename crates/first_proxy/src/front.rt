@@ -4,12 +4,11 @@ ghost use Rattle.pcache.specs.Words.{CacheKey};
 
 use http::StatusCode;
 use pcache::error::Result;
-use pcache::moment::Moment;
-use pcache::seed::Seed;
-use pcache::{Cache, CacheRequest};
 use pcache::eviction::simple_lru::Manager;
 use pcache::header::ResponseHeader;
-use pcache::CacheMeta;
+use pcache::moment::Moment;
+use pcache::seed::Seed;
+use pcache::{Cache, CacheMeta, CacheRequest};
 use std::alloc::Global;
 use std::time::Duration;
 
@@ -45,7 +44,9 @@ pub fn request_for(alloc: Global, path: &str) -> Result<Request>
 {
     let primary = path.as_bytes().to_vec(alloc)?;
     let mut request = CacheRequest::new(alloc);
-    request.cache.set_cache_key(pcache::CacheKey::new(primary, String::new(alloc)));
+    request
+        .cache
+        .set_cache_key(pcache::CacheKey::new(primary, String::new(alloc)));
     Ok(request)
 }
 

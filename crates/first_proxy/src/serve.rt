@@ -6,10 +6,10 @@ ghost use Rattle.pcache.specs.Words.{CacheKey};
 use crate::front::{ProxyCache, Request, meta_of, request_for};
 use crate::origin::fetch;
 use bytes::Bytes;
+use pcache::HitStatus;
 use pcache::error::Result;
 use pcache::moment::Moment;
 use pcache::poll::Poll;
-use pcache::HitStatus;
 
 /// How a request was served.
 pub enum Served {
