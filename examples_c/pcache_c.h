@@ -40,6 +40,9 @@ typedef struct pcache_handle {
 /* Ends an object of any kind and frees what it has. The handle is nothing from then on. */
 uint32_t pcache_end(pcache_handle *handle);
 
+/* 1 if the archive was built by the proof, 0 if it was compiled without one. */
+uint32_t pcache_is_proved(void);
+
 /* ---- hashes: 16 bytes each ---- */
 
 uint32_t pcache_hash_key(const uint8_t *key, size_t key_len, uint8_t *out, size_t out_len);
