@@ -100,7 +100,8 @@ impl Head {
 
     /// The meta to store the response with, or nothing if it is not to be stored. `authorized` says that the request had an
     /// Authorization; `windows` are the seconds for which it may be served stale while it is revalidated, and if the origin fails,
-    /// where it says nothing of that. Fields that `private="x"` or `no-cache="x"` name are taken out of this head.
+    /// where it says nothing of that. The meta has the fields of this head
+    /// but those that Cache-Control names, as in `private="x"`.
     ///
     /// # Errors
     /// [`Error::NoMemory`], and [`Error::BadValue`] for a moment that is none.
@@ -148,7 +149,7 @@ pub struct Servable {
 pub struct Meta(pub(crate) Handle);
 
 impl Meta {
-    /// A meta of a head. The head stays, and is copied.
+    /// A meta of all fields of a head, which is copied: also of those that [`Head::meta`] leaves out.
     ///
     /// # Errors
     /// [`Error::NoMemory`], and [`Error::BadValue`] for a moment that is none.
