@@ -1,9 +1,9 @@
 #!/usr/bin/env python3
 """Plays the proxy of examples_rust/proxy.rs by curl, against an origin that it starts, all on loopback.
 
-  bench/proxy.py PROXY [load]     PROXY is the built program (bench/from_c.sh proxy builds it); `load` asks 20,000 times by ab too
+  bench/proxy.py PROXY [load]     PROXY is the built program (bench/from_c.sh proxy builds it); `load` asks for five seconds each by one and by eight clients of ab too
 
-It takes less than a minute, whatever hangs. It ends with 1 where an answer is another one, and with 2 where there is no curl.
+It takes less than a minute, whatever hangs (with `load` a minute and a half). It ends with 1 where an answer is another one, and with 2 where there is no curl.
 """
 import http.server
 import os
@@ -64,7 +64,7 @@ class Origin(http.server.BaseHTTPRequestHandler):
         elif name == "/cut":
             self.in_chunks([b"half"], 0.2, is_whole=False)
         elif name == "/swr":
-            self.answer(said, Cache_Control="max-age=1, stale-while-revalidate=60")
+            self.answer(said, Cache_Control="max-age=1, stale-while-revalidate=60" if count == 1 else "max-age=60")
         elif name == "/etag" and self.headers.get("If-None-Match") == '"1"':
             self.answer(b"", 304, Cache_Control="max-age=60", ETag='"1"')
         elif name == "/etag":
@@ -177,7 +177,9 @@ def play_all(play):
     failing.set()
     wants("stale after an error", "/error", cache="stale after an error", body=b"1")
     failing.clear()
-    time.sleep(0.5)
+    renewed = time.time() + 10
+    while play.ask("/swr")[2].get("x-cache") != "hit" and time.time() < renewed:
+        time.sleep(0.1)
     wants("the renewed body", "/swr", cache="hit", body=b"2")
     play.holds("one fetch renewed it", counts["/swr"] == 2)
 
@@ -186,10 +188,11 @@ def load(at):
     if not shutil.which("ab"):
         print("load: there is no ab (Debian's apache2-utils)")
         return
+    subprocess.run(["curl", "-s", "-m", "10", "-o", "/dev/null", f"http://{at}/small"], check=False)
     for clients in ("1", "8"):
-        out = subprocess.run(["ab", "-q", "-k", "-n", "20000", "-c", clients, f"http://{at}/small"], capture_output=True, text=True, timeout=50, check=False)
+        out = subprocess.run(["ab", "-q", "-t", "5", "-n", "200000", "-c", clients, f"http://{at}/small"], capture_output=True, text=True, timeout=15, check=False)
         found = dict(re.findall(r"^(Failed requests|Non-2xx responses|Requests per second):\s+([\d.]+)", out.stdout, re.M))
-        print(f"load: {clients} clients, 20,000 requests of 1 KiB: {found}")
+        print(f"load: {clients} clients, a connection for each request of 1 KiB: {found}")
 
 
 def main():
@@ -202,8 +205,9 @@ def main():
     origin = http.server.ThreadingHTTPServer(("127.0.0.1", 0), Origin)
     threading.Thread(target=origin.serve_forever, daemon=True).start()
     proxy = subprocess.Popen([sys.argv[1], "127.0.0.1:0", f"127.0.0.1:{origin.server_port}"], stdout=subprocess.PIPE, text=True)
-    threading.Timer(55, proxy.kill).start()  # what hangs then ends
-    threading.Timer(58, lambda: os._exit(1)).start()
+    most = 90 if sys.argv[2:] else 55
+    threading.Timer(most, proxy.kill).start()  # what hangs then ends
+    threading.Timer(most + 3, lambda: os._exit(1)).start()
     try:
         at = proxy.stdout.readline().strip()
         host, port = at.split(":")
