@@ -1,42 +1,79 @@
 #!/bin/sh
-# Builds the static library, the users in examples_c/ and examples_rust/ over it, and compares what they print. The header
-# is read by a C and by a C++ compiler. Debian's compilers are installed where they are missing; the gate needs none of them.
+# Plays the programs of examples_c/ and examples_rust/ over the library for C, and the tests of the crate in rust/. What a program in C
+# prints is compared with what is written down, and with what the same program in Rust prints. The header is read by a C and by a C++
+# compiler, and it and the crate are compared with the exports. It wants gcc, g++, rustc and cargo (Debian: apt-get install gcc g++
+# rustc cargo), fetches nothing, and ends with 2 where one is missing, and with 1 where something differs.
 #
-#   bench/from_c.sh          builds, runs and compares
-#   bench/from_c.sh border   measures the border too
+#   bench/from_c.sh                    over build/c, where the library is built without a proof first (two to three minutes), if it
+#                                      does not stand there
+#   bench/from_c.sh proved             the same, proved
+#   bench/from_c.sh threads            a million calls of eight threads under ThreadSanitizer, which takes some minutes
+#   bench/from_c.sh border             what a call over the border takes
+#   bench/from_c.sh proxy              the proxy (bench/proxy.py)
 set -eu
 cd "$(dirname "$0")/.."
+for tool in gcc g++ rustc cargo; do
+    command -v "$tool" >/dev/null || {
+        echo "from_c: there is no $tool"
+        exit 2
+    }
+done
 start=$(date +%s)
-missing=""
-command -v gcc >/dev/null || missing="$missing gcc"
-command -v g++ >/dev/null || missing="$missing g++"
-command -v rustc >/dev/null || missing="$missing rustc"
-if [ -n "$missing" ]; then
-    # The names are words of their own.
-    # shellcheck disable=SC2086
-    apt-get install -y --no-install-recommends $missing
-fi
-(cd crates/pcache_c && rt lib --jobs 1)
-library=crates/pcache_c/out/libpcache_c.a
-# An export that allocates wants the toolchain's heap beside it.
-heap=$(find "$(dirname "$(rt doc)")" "$(dirname "$(rt doc)")/.." -maxdepth 3 -name liblibc_c.a | head -n 1)
+kind=unproved
+made=build/c
+[ "${1:-}" != proved ] || kind=proved
+[ "${1:-}" != threads ] || kind=sanitized made=build/c-sanitized
+bench/exports.py --check
+bench/archives.py "$kind"
+PCACHE_LIB=$(realpath "$made")
+CARGO_TARGET_DIR=$(pwd)/build/rust
+export PCACHE_LIB CARGO_TARGET_DIR
 room=$(mktemp -d)
 trap 'rm -rf "$room"' EXIT
-g++ -x c++ -std=c++11 -Wall -Wextra -Werror -fsyntax-only -include examples_c/pcache_c.h /dev/null
-for program in examples_c/*.c; do
-    name=$(basename "$program" .c)
-    gcc -std=c99 -O2 -Wall -Wextra -Werror -pedantic "$program" "$library" "$heap" -o "$room/$name"
-    rustc --edition 2021 -O -A dead_code "examples_rust/$name.rs" -C "link-arg=$library" -C "link-arg=$heap" -o "$room/$name-rust"
-    "$room/$name" >"$room/$name.c.out"
-    "$room/$name-rust" >"$room/$name.rust.out"
-    cmp "$room/$name.c.out" "$room/$name.rust.out"
-    cmp "$room/$name.c.out" "examples_c/$name.stdout"
-    echo "$name: C and Rust print the same, as written down"
-done
-rustc --edition 2021 -O -A dead_code examples_rust/eviction_trait.rs -C "link-arg=$library" -C "link-arg=$heap" -o "$room/trait"
-"$room/trait"
-if [ "${1:-}" = border ]; then
-    rustc --edition 2021 -O -A dead_code examples_rust/border.rs -C "link-arg=$library" -C "link-arg=$heap" -o "$room/border"
-    "$room/border"
-fi
+
+# compile NAME FLAG ..: a program of examples_c.
+compile() {
+    name=$1
+    shift
+    gcc -std=c99 -O2 -D_POSIX_C_SOURCE=200809L -Wall -Wextra -Werror -pedantic -pthread "$@" "examples_c/$name.c" \
+        "$made/libpcache_c.a" "$made/libpcache_heap.a" -o "$room/$name"
+}
+
+# run NAME ..: an example of the crate.
+run() {
+    (cd rust && cargo run --quiet --offline --release --example "$@")
+}
+
+case "${1:-}" in
+threads)
+    compile threads -g -fsanitize=thread
+    "$room/threads" | cmp - examples_c/threads.stdout
+    echo "threads: ThreadSanitizer has nothing to say"
+    ;;
+border)
+    run border
+    ;;
+proxy)
+    (cd rust && cargo build --quiet --offline --release --example proxy)
+    bench/proxy.py build/rust/release/examples/proxy
+    ;;
+*)
+    g++ -x c++ -std=c++11 -Wall -Wextra -Werror -fsyntax-only -include examples_c/pcache_c.h /dev/null
+    for program in examples_c/*.c; do
+        name=$(basename "$program" .c)
+        compile "$name"
+        "$room/$name" >"$room/$name.out"
+        cmp "$room/$name.out" "examples_c/$name.stdout"
+        said="as written down"
+        if [ -f "examples_rust/$name.rs" ]; then
+            run "$name" >"$room/$name.rust.out"
+            cmp "$room/$name.out" "$room/$name.rust.out"
+            said="C and Rust print the same, $said"
+        fi
+        echo "$name: $said"
+    done
+    run eviction_trait
+    (cd rust && cargo test --quiet --offline --release)
+    ;;
+esac
 echo "$(($(date +%s) - start)) s"

@@ -1,8 +1,17 @@
-/* The proved cache, for C and C++. docs/FROM_C.md says what a caller has to uphold.
+/* The proved cache, for C and C++. docs/FROM_C.md says what a caller has to uphold, and walks through a
+ * request.
  *
- * A handle is kept by the caller and begins as all zeros. It leads to an object of one kind, is used
- * by one thread at a time, and is ended once. Bytes go in as a pointer and a length, and come out in
- * a buffer of the caller's. Pointers are never null, those of empty buffers neither. */
+ * A handle is kept by the caller and begins as all zeros. It leads to an object of one kind, and is ended
+ * once. Bytes go in as a pointer and a length, and come out in a buffer of the caller's. Pointers are never
+ * null, those of empty buffers neither.
+ *
+ * Threads: a handle may be used by one thread at a time, whichever that is, so a lock around each handle is
+ * enough. Two calls on one handle at once are the caller's fault, and nothing tells them. Calls on different
+ * handles may run at once, also on a cache, a view of one of its bodies and a meta of one of its requests.
+ * A request is a number of its cache, so its calls are calls on the cache's handle.
+ *
+ * bench/archives.py makes what is linked, proved or not, which pcache_is_proved tells:
+ *   gcc program.c -I build/c build/c/libpcache_c.a build/c/libpcache_heap.a */
 #ifndef PCACHE_C_H
 #define PCACHE_C_H
 
@@ -40,6 +49,9 @@ typedef struct pcache_handle {
 /* Ends an object of any kind and frees what it has. The handle is nothing from then on. */
 uint32_t pcache_end(pcache_handle *handle);
 
+/* 1 if the archive was built by the proof, 0 if it was compiled without one. */
+uint32_t pcache_is_proved(void);
+
 /* ---- hashes: 16 bytes each ---- */
 
 uint32_t pcache_hash_key(const uint8_t *key, size_t key_len, uint8_t *out, size_t out_len);
@@ -74,7 +86,8 @@ typedef struct pcache_answers {
 /* PCACHE_NONE if the head has no Cache-Control. */
 uint32_t pcache_control_read(pcache_handle *control, pcache_handle *head);
 uint32_t pcache_control_answers(pcache_handle *control, pcache_answers *out);
-/* PCACHE_NONE if the response is not to be stored. */
+/* PCACHE_NONE if the response is not to be stored. The meta has the fields of the head but those that Cache-Control
+ * names, as in private="x"; the head stays as it is. */
 uint32_t pcache_resp_cacheable(pcache_handle *meta, pcache_handle *head, uint32_t authorization,
                                uint32_t stale_while_revalidate_secs, uint32_t stale_if_error_secs,
                                uint64_t now_secs, uint32_t now_nanos);
@@ -101,6 +114,7 @@ typedef struct pcache_servable {
     uint32_t after_error;
 } pcache_servable;
 
+/* A meta of all fields of the head, also of those that pcache_resp_cacheable leaves out: store its metas instead. */
 uint32_t pcache_meta_new(pcache_handle *meta, pcache_handle *head, const pcache_meta *said);
 uint32_t pcache_meta_says(pcache_handle *meta, pcache_meta *out);
 uint32_t pcache_meta_servable(pcache_handle *meta, uint64_t now_secs, uint32_t now_nanos,
@@ -171,8 +185,8 @@ uint32_t pcache_manager_load(pcache_handle *manager, const uint8_t *bytes, size_
 /* ---- a cache with its requests ---- */
 
 /* A request is a number that is good for the cache that gave it, until it is ended; one that was
- * ended is refused as PCACHE_BAD_HANDLE, and one that another cache gave may name another request. A call that may not be made where the request stands is
- * PCACHE_WRONG_CALL and changes nothing. */
+ * ended is refused as PCACHE_BAD_HANDLE, and one that another cache gave may name another request. A
+ * call that may not be made where the request stands is PCACHE_WRONG_CALL and changes nothing. */
 
 typedef struct pcache_cache_counts {
     uint64_t stored_bytes; /* of complete bodies: at most the limit */
@@ -259,7 +273,8 @@ uint32_t pcache_request_meta(pcache_handle *cache, uint64_t request, pcache_hand
 /* These two copy the meta; its handle keeps it. */
 uint32_t pcache_request_set_meta(pcache_handle *cache, uint64_t request, pcache_handle *meta);
 uint32_t pcache_request_renew(pcache_handle *cache, uint64_t request, pcache_handle *meta);
-/* No variance is one of no bytes. */
+/* The variance of the response that is to be stored, after its meta was set and before its write begins; no
+ * variance is one of no bytes. The look-up of a variant is not exported: see docs/FROM_C.md. */
 uint32_t pcache_request_vary(pcache_handle *cache, uint64_t request, const uint8_t *variance,
                              size_t variance_len);
 uint32_t pcache_request_begin(pcache_handle *cache, uint64_t request);

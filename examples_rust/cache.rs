@@ -1,8 +1,6 @@
 //! A cache from Rust: a fill, a hit, a wait with a body that is read while it comes, a purge and an eviction. It prints what
 //! examples_c/cache.c prints.
-mod pcache;
-
-use pcache::{BAD_VALUE, Cache, Head, Held, Meta, Moment, NONE, Read, Refused, Request, Said, View, WRONG_CALL};
+use pcache::{Cache, Error, Fill, Head, Held, HitStatus, Looked, Meta, Moment, Options, Read, Request, Said, Stored, View, WaitEnd};
 use std::time::Duration;
 
 const NOW: Moment = Moment { secs: 1, nanos: 0 };
@@ -15,32 +13,44 @@ fn number_of(held: Held) -> u32 {
     }
 }
 
-/// Begins a write of a response that is fresh until second 60.
-fn begin(request: &mut Request) -> Result<(), Refused> {
-    let said = Said { fresh_until: Moment { secs: 60, nanos: 0 }, ..Said::default() };
-    let mut meta = Meta::new(&mut Head::new(200)?, &said)?;
-    request.miss()?;
-    request.set_meta(&mut meta)?;
-    request.begin()
+fn found_of(looked: Looked) -> u32 {
+    u32::from(looked == Looked::Found)
 }
 
-fn finish(request: &mut Request) -> Result<(), Refused> {
-    let (stored, evicted) = request.finish()?;
-    println!("stored {stored} evicted {evicted}");
+/// The header's number of how a wait ended.
+fn number_of_end(end: Option<WaitEnd>) -> u32 {
+    match end {
+        None => 0,
+        Some(WaitEnd::Done) => 1,
+        Some(_) => 9,
+    }
+}
+
+/// Begins a write of a response that is fresh until second 60.
+fn begin(request: &mut Request) -> Result<Fill<'_>, Error> {
+    let said = Said { fresh_until: Moment { secs: 60, nanos: 0 }, ..Said::default() };
+    let mut meta = Meta::new(&mut Head::new(200)?, &said)?;
+    request.fill(&mut meta, None)
+}
+
+fn print_stored(stored: Stored) {
+    println!("stored {} evicted {}", stored.bytes, stored.evicted);
+}
+
+fn fill(cache: &Cache, key: &str, body: &[u8]) -> Result<(), Error> {
+    let mut request = cache.request(key.as_bytes(), "1")?;
+    let found = found_of(request.look(NOW)?);
+    print!("{key}: found {found} held {}, ", number_of(request.held()?));
+    print_stored(begin(&mut request)?.finish(body)?);
     Ok(())
 }
 
-fn fill(cache: &Cache, key: &str, body: &[u8]) -> Result<(), Refused> {
-    let mut request = cache.request(key.as_bytes(), "1")?;
-    let found = u32::from(request.look(NOW)?);
-    print!("{key}: found {found} held {}, ", number_of(request.held()?));
-    begin(&mut request)?;
-    request.write(body, true)?;
-    finish(&mut request)
+fn worth(is_fresh: bool) -> HitStatus {
+    if is_fresh { HitStatus::Fresh } else { HitStatus::Expired }
 }
 
 /// Reads into a buffer of two bytes, and prints what came: `-` for nothing yet, `.` at the end, `!` where the body was cut off.
-fn read_once(request: &mut Request) -> Result<(), Refused> {
+fn read_once(request: &mut Request) -> Result<(), Error> {
     let mut buffer = [0; 2];
     match request.read(&mut buffer)? {
         Read::Bytes(len) => print!("{}", String::from_utf8_lossy(&buffer[..len])),
@@ -51,15 +61,15 @@ fn read_once(request: &mut Request) -> Result<(), Refused> {
     Ok(())
 }
 
-fn hit(cache: &Cache, key: &str) -> Result<(), Refused> {
+fn hit(cache: &Cache, key: &str) -> Result<(), Error> {
     let mut request = cache.request(key.as_bytes(), "1")?;
-    if !request.look(NOW)? {
+    if request.look(NOW)? != Looked::Found {
         println!("{key}: nothing");
         return Ok(());
     }
     let servable = request.meta()?.servable(NOW)?;
-    request.take(servable.fresh != 0, NOW)?;
-    print!("{key}: fresh {} phase {} ", servable.fresh, request.phase()?);
+    request.take(worth(servable.fresh), NOW)?;
+    print!("{key}: fresh {} phase {} ", u32::from(servable.fresh), request.phase()? as u32);
     for _ in 0..3 {
         read_once(&mut request)?;
     }
@@ -68,45 +78,44 @@ fn hit(cache: &Cache, key: &str) -> Result<(), Refused> {
 }
 
 /// Two requests for one key: one writes, the other waits, and reads along.
-fn wait_and_read(cache: &Cache) -> Result<(), Refused> {
+fn wait_and_read(cache: &Cache) -> Result<(), Error> {
     let mut writer = cache.request(b"bb", "1")?;
     let mut waiter = cache.request(b"bb", "1")?;
-    writer.look(NOW)?;
-    waiter.look(NOW)?;
+    assert_eq!(writer.look(NOW)?, Looked::Permit);
+    assert_eq!(waiter.look(NOW)?, Looked::Waits);
     print!("held {} and {}, ", number_of(writer.held()?), number_of(waiter.held()?));
-    print!("wait {} ", waiter.wait(NOW)?);
-    begin(&mut writer)?;
-    println!("then {}", waiter.wait(NOW)?);
-    print!("found {}, ", u32::from(waiter.look(NOW)?));
-    waiter.take(true, NOW)?;
+    print!("wait {} ", number_of_end(waiter.wait(NOW)?));
+    let mut fill = begin(&mut writer)?;
+    println!("then {}", number_of_end(waiter.wait(NOW)?));
+    print!("found {}, ", found_of(waiter.look(NOW)?));
+    waiter.take(HitStatus::Fresh, NOW)?;
     read_once(&mut waiter)?;
-    writer.write(b"he", false)?;
+    fill.write(b"he")?;
     read_once(&mut waiter)?;
     read_once(&mut waiter)?;
-    writer.write(b"y", true)?;
+    let stored = fill.finish(b"y")?;
     read_once(&mut waiter)?;
     read_once(&mut waiter)?;
     print!(" ");
-    finish(&mut writer)
+    print_stored(stored);
+    Ok(())
 }
 
 /// A request that reads a stale body while another renews it, and then the new one: nothing of the older body is left.
-fn stale_then_fresh(cache: &Cache) -> Result<(), Refused> {
+fn stale_then_fresh(cache: &Cache) -> Result<(), Error> {
     let mut writer = cache.request(b"ee", "1")?;
     let mut reader = cache.request(b"ee", "1")?;
-    writer.look(NOW)?;
-    writer.take(false, NOW)?;
-    reader.look(NOW)?;
-    reader.take(false, NOW)?;
+    assert_eq!(writer.look(NOW)?, Looked::Found);
+    writer.take(HitStatus::Expired, NOW)?;
+    assert_eq!(reader.look(NOW)?, Looked::Found);
+    reader.take(HitStatus::Expired, NOW)?;
     print!("held {} and {}, ", number_of(writer.held()?), number_of(reader.held()?));
     read_once(&mut reader)?;
     print!(" ");
-    begin(&mut writer)?;
-    writer.write(b"xyz", true)?;
-    finish(&mut writer)?;
-    let outcome = reader.wait(NOW)?;
-    print!("wait {outcome} found {}, ", u32::from(reader.look(NOW)?));
-    reader.take(true, NOW)?;
+    print_stored(begin(&mut writer)?.finish(b"xyz")?);
+    let outcome = number_of_end(reader.wait(NOW)?);
+    print!("wait {outcome} found {}, ", found_of(reader.look(NOW)?));
+    reader.take(HitStatus::Fresh, NOW)?;
     for _ in 0..3 {
         read_once(&mut reader)?;
     }
@@ -115,36 +124,36 @@ fn stale_then_fresh(cache: &Cache) -> Result<(), Refused> {
 }
 
 /// A body whose writer gives up half way: who reads along gets what was written, and knows that it was cut off.
-fn cut_off(cache: &Cache) -> Result<(), Refused> {
+fn cut_off(cache: &Cache) -> Result<(), Error> {
     let mut writer = cache.request(b"ff", "1")?;
     let mut reader = cache.request(b"ff", "1")?;
-    writer.look(NOW)?;
-    begin(&mut writer)?;
-    print!("found {}, ", u32::from(reader.look(NOW)?));
-    reader.take(true, NOW)?;
-    writer.write(b"ab", false)?;
+    assert_eq!(writer.look(NOW)?, Looked::Permit);
+    let mut fill = begin(&mut writer)?;
+    print!("found {}, ", found_of(reader.look(NOW)?));
+    reader.take(HitStatus::Fresh, NOW)?;
+    fill.write(b"ab")?;
     read_once(&mut reader)?;
     assert_eq!(reader.body_length()?, None);
-    assert_eq!(reader.seek(0, Some(1)), Err(BAD_VALUE));
+    assert_eq!(reader.seek(0, Some(1)), Err(Error::BadValue));
     drop(writer);
     read_once(&mut reader)?;
     println!();
     Ok(())
 }
 
-fn viewed(read: Read<View>) -> Result<View, Refused> {
+fn viewed(read: Read<View>) -> Result<View, Error> {
     match read {
         Read::Bytes(view) => Ok(view),
-        _ => Err(NONE),
+        _ => Err(Error::Nothing),
     }
 }
 
 /// The length of a body before it is read, and the body and a range of it without a copy. The views are good after the request
 /// has ended and the body was purged.
-fn without_a_copy(cache: &Cache) -> Result<(), Refused> {
+fn without_a_copy(cache: &Cache) -> Result<(), Error> {
     let mut request = cache.request(b"ee", "1")?;
-    request.look(NOW)?;
-    request.take(true, NOW)?;
+    assert_eq!(request.look(NOW)?, Looked::Found);
+    request.take(HitStatus::Fresh, NOW)?;
     let length = request.body_length()?.unwrap_or(0);
     let body = viewed(request.view()?)?;
     print!("length {length}: {} ", String::from_utf8_lossy(&body));
@@ -153,7 +162,7 @@ fn without_a_copy(cache: &Cache) -> Result<(), Refused> {
         _ => 9,
     };
     print!("then {end}, ");
-    assert_eq!(request.seek(3, Some(3)), Err(BAD_VALUE));
+    assert_eq!(request.seek(3, Some(3)), Err(Error::BadValue));
     request.seek(1, None)?;
     let part = viewed(request.view()?)?;
     drop(request);
@@ -163,50 +172,52 @@ fn without_a_copy(cache: &Cache) -> Result<(), Refused> {
     Ok(())
 }
 
-fn purge(cache: &Cache, key: &str) -> Result<(), Refused> {
+fn purge(cache: &Cache, key: &str) -> Result<(), Error> {
     let was = cache.request(key.as_bytes(), "1")?.purge()?;
     println!("purge {key}: {}", u32::from(was));
     Ok(())
 }
 
-fn print_totals(cache: &Cache) {
-    let totals = cache.totals();
+fn print_totals(cache: &Cache) -> Result<(), Error> {
+    let totals = cache.totals()?;
     println!(
         "{} bytes of {} bodies, {} of {} tracked, {} of {} evicted",
         totals.stored_bytes, totals.bodies, totals.weight, totals.entries, totals.evicted_weight, totals.evicted_entries
     );
+    Ok(())
 }
 
 /// What may not be called is refused.
-fn refused(cache: &Cache) -> Result<(), Refused> {
+fn refused(cache: &Cache) -> Result<(), Error> {
     let mut request = cache.request(b"aa", "1")?;
-    assert_eq!(request.finish(), Err(WRONG_CALL));
-    assert_eq!(request.read(&mut [0]), Err(WRONG_CALL));
-    assert_eq!(request.seek(0, Some(1)), Err(WRONG_CALL));
-    assert_eq!(request.take(true, NOW), Err(NONE));
+    assert_eq!(request.finish_hit(), Err(Error::WrongCall));
+    assert_eq!(request.read(&mut [0]), Err(Error::WrongCall));
+    assert_eq!(request.seek(0, Some(1)), Err(Error::WrongCall));
+    assert_eq!(request.take(HitStatus::Fresh, NOW), Err(Error::Nothing));
     println!("refused what may not be called");
     Ok(())
 }
 
-fn main() -> Result<(), Refused> {
-    let cache = Cache::new(&[7; 16], 6, 0, Duration::from_secs(10))?;
+fn main() -> Result<(), Error> {
+    let options = Options { limit: 6, parts: 1, seed: Some([7; 16]), age_timeout: Duration::from_secs(10), watermark: 0 };
+    let cache = Cache::new(&options)?;
     fill(&cache, "aa", b"hi")?;
     hit(&cache, "aa")?;
     wait_and_read(&cache)?;
     hit(&cache, "bb")?;
-    print_totals(&cache);
+    print_totals(&cache)?;
     fill(&cache, "cc", b"no")?;
-    print_totals(&cache);
+    print_totals(&cache)?;
     hit(&cache, "aa")?;
     purge(&cache, "bb")?;
     purge(&cache, "bb")?;
     hit(&cache, "bb")?;
-    print_totals(&cache);
+    print_totals(&cache)?;
     fill(&cache, "ee", b"abc")?;
     stale_then_fresh(&cache)?;
     cut_off(&cache)?;
     without_a_copy(&cache)?;
     refused(&cache)?;
-    cache.request(b"dd", "1")?.look(NOW)?;
+    assert_eq!(cache.request(b"dd", "1")?.look(NOW)?, Looked::Permit);
     Ok(())
 }

@@ -1,0 +1,20 @@
+//! Links the library and its heap: from the folder that PCACHE_LIB names, or from build/c of the repository.
+
+use std::path::PathBuf;
+use std::{env, process};
+
+fn main() {
+    println!("cargo:rerun-if-env-changed=PCACHE_LIB");
+    let here = PathBuf::from(env::var_os("CARGO_MANIFEST_DIR").expect("cargo says where the crate is"));
+    let folder = env::var_os("PCACHE_LIB").map_or_else(|| here.join("../build/c"), PathBuf::from);
+    for name in ["pcache_c", "pcache_heap"] {
+        let archive = folder.join(format!("lib{name}.a"));
+        println!("cargo:rerun-if-changed={}", archive.display());
+        if !archive.exists() {
+            eprintln!("{} is missing: make it by bench/archives.py, or set PCACHE_LIB", archive.display());
+            process::exit(1);
+        }
+        println!("cargo:rustc-link-lib=static={name}");
+    }
+    println!("cargo:rustc-link-search=native={}", folder.display());
+}

@@ -1,0 +1,170 @@
+//! A cache in parts, each behind a lock.
+
+use crate::error::done;
+use crate::{hash_key, raw, Error, Handle, Request};
+use std::collections::hash_map::RandomState;
+use std::hash::{BuildHasher, Hasher};
+use std::sync::{Arc, Condvar, Mutex, MutexGuard, PoisonError};
+use std::time::Duration;
+
+/// What a cache is made with.
+#[derive(Clone, Debug)]
+pub struct Options {
+    /// How many bytes the complete bodies may have together. Each part has an even share of it, and stores no larger body.
+    pub limit: usize,
+    /// How many complete bodies there may be, or 0 for any number. Each part has an even share of it.
+    pub watermark: usize,
+    /// How long a permit may be held, before another request gets one.
+    pub age_timeout: Duration,
+    /// How many parts there are: two threads wait for each other only if their keys are in the same one.
+    pub parts: usize,
+    /// What the tables hash under. It is drawn at random and kept secret, where clients choose keys: `None` draws it.
+    pub seed: Option<[u8; 16]>,
+}
+
+impl Default for Options {
+    /// 64 MiB in 16 parts, any number of bodies, permits of ten seconds, a seed that is drawn.
+    fn default() -> Options {
+        Options { limit: 64 << 20, watermark: 0, age_timeout: Duration::from_secs(10), parts: 16, seed: None }
+    }
+}
+
+/// The counts of a cache: the sums over its parts.
+#[derive(Clone, Copy, Debug, Default, PartialEq, Eq)]
+pub struct CacheTotals {
+    /// The bytes of the complete bodies, at most the limit.
+    pub stored_bytes: u64,
+    /// The complete bodies.
+    pub bodies: usize,
+    /// The weight of what the managers track.
+    pub weight: usize,
+    /// The entries that they track.
+    pub entries: usize,
+    /// The weight of all that was evicted.
+    pub evicted_weight: usize,
+    /// The entries that were evicted.
+    pub evicted_entries: usize,
+}
+
+/// What a lock holds.
+pub(crate) struct Guarded {
+    handle: Handle,
+    /// How many threads wait for a change.
+    pub(crate) waiting: usize,
+}
+
+impl Guarded {
+    pub(crate) fn raw(&mut self) -> *mut raw::PcacheHandle {
+        &mut self.handle.0
+    }
+}
+
+pub(crate) struct Part {
+    guarded: Mutex<Guarded>,
+    /// Notified by each call that may end a wait, or has bytes for who reads along.
+    pub(crate) changed: Condvar,
+}
+
+impl Part {
+    /// No call leaves a part half way by a panic, so a lock that is poisoned is as good as another.
+    pub(crate) fn lock(&self) -> MutexGuard<'_, Guarded> {
+        self.guarded.lock().unwrap_or_else(PoisonError::into_inner)
+    }
+
+    pub(crate) fn notify(&self, guarded: &Guarded) {
+        if guarded.waiting > 0 {
+            self.changed.notify_all();
+        }
+    }
+}
+
+/// A cache that any number of threads may use. A clone is the same cache, which ends with the last of its clones and requests.
+#[derive(Clone)]
+pub struct Cache(Arc<[Part]>);
+
+fn drawn() -> [u8; 16] {
+    // Each state has keys of its own, which the system drew.
+    let mut seed = [0; 16];
+    for half in seed.chunks_mut(8) {
+        half.copy_from_slice(&RandomState::new().build_hasher().finish().to_le_bytes());
+    }
+    seed
+}
+
+/// How much of a whole the part at `place` of `parts` has.
+fn share(whole: usize, parts: usize, place: usize) -> usize {
+    whole / parts + usize::from(place < whole % parts)
+}
+
+impl Cache {
+    /// A cache.
+    ///
+    /// # Errors
+    /// [`Error::BadValue`] for no parts, and for a watermark that is less than the number of parts; [`Error::NoMemory`].
+    pub fn new(options: &Options) -> Result<Cache, Error> {
+        let parts = options.parts;
+        if parts == 0 || (options.watermark > 0 && options.watermark < parts) {
+            return Err(Error::BadValue);
+        }
+        let millis = u64::try_from(options.age_timeout.as_millis()).unwrap_or(u64::MAX);
+        let seed = options.seed.unwrap_or_else(drawn);
+        let mut all = Vec::with_capacity(parts);
+        for place in 0..parts {
+            let mut handle = Handle::new();
+            let (limit, watermark) = (share(options.limit, parts, place), share(options.watermark, parts, place));
+            // SAFETY: the handle has nothing, and the seed has 16 bytes.
+            done(unsafe { raw::pcache_cache_new(&mut handle.0, seed.as_ptr(), 16, limit, watermark, millis) })?;
+            all.push(Part { guarded: Mutex::new(Guarded { handle, waiting: 0 }), changed: Condvar::new() });
+        }
+        Ok(Cache(all.into()))
+    }
+
+    /// A request for a key. The tag is kept with the key's entry.
+    ///
+    /// # Errors
+    /// [`Error::NoMemory`], [`Error::Exhausted`].
+    pub fn request(&self, key: &[u8], tag: &str) -> Result<Request, Error> {
+        let mut number = 0;
+        let place = self.place(key);
+        // SAFETY: the slices hold what they say for the call, and the handle is this call's while it is locked.
+        done(unsafe {
+            let mut part = self.0[place].lock();
+            raw::pcache_request_new(part.raw(), key.as_ptr(), key.len(), tag.as_ptr(), tag.len(), &mut number)
+        })?;
+        Ok(Request::new(self.clone(), place, number))
+    }
+
+    /// What it has. The parts are asked one after the other, so calls that are made meanwhile may be in some of the sums.
+    ///
+    /// # Errors
+    /// None of this crate's making.
+    pub fn totals(&self) -> Result<CacheTotals, Error> {
+        let mut all = CacheTotals::default();
+        for part in self.0.iter() {
+            let mut out = raw::PcacheCacheCounts::default();
+            // SAFETY: a struct of the library's layout.
+            done(unsafe { raw::pcache_cache_totals(part.lock().raw(), &mut out) })?;
+            all.stored_bytes = all.stored_bytes.saturating_add(out.stored_bytes);
+            all.bodies = all.bodies.saturating_add(out.bodies);
+            all.weight = all.weight.saturating_add(out.weight);
+            all.entries = all.entries.saturating_add(out.entries);
+            all.evicted_weight = all.evicted_weight.saturating_add(out.evicted_weight);
+            all.evicted_entries = all.evicted_entries.saturating_add(out.evicted_entries);
+        }
+        Ok(all)
+    }
+
+    pub(crate) fn part(&self, place: usize) -> &Part {
+        &self.0[place]
+    }
+
+    fn place(&self, key: &[u8]) -> usize {
+        if self.0.len() == 1 {
+            return 0;
+        }
+        let hash = hash_key(key);
+        let mut number = [0; 8];
+        number.copy_from_slice(&hash[..8]);
+        (u64::from_le_bytes(number) % self.0.len() as u64) as usize
+    }
+}

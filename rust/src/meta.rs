@@ -1,0 +1,277 @@
+//! Heads of responses, what their Cache-Control says, and metas of stored responses.
+
+use crate::error::done;
+use crate::{raw, Error, Handle};
+use std::time::{Duration, SystemTime, UNIX_EPOCH};
+
+/// A moment: seconds and nanoseconds since 1970-01-01 00:00:00 UTC.
+#[derive(Clone, Copy, Debug, Default, PartialEq, Eq, PartialOrd, Ord, Hash)]
+pub struct Moment {
+    /// The seconds.
+    pub secs: u64,
+    /// The nanoseconds, below 1,000,000,000.
+    pub nanos: u32,
+}
+
+impl Moment {
+    /// What the clock says. The library reads no clock: each call that depends on the time takes a moment.
+    pub fn now() -> Moment {
+        SystemTime::now().into()
+    }
+
+    fn of(raw: raw::PcacheMoment) -> Moment {
+        Moment { secs: raw.secs, nanos: raw.nanos }
+    }
+
+    fn raw(self) -> raw::PcacheMoment {
+        raw::PcacheMoment { secs: self.secs, nanos: self.nanos }
+    }
+}
+
+impl From<SystemTime> for Moment {
+    /// A moment before 1970 counts as 1970.
+    fn from(time: SystemTime) -> Moment {
+        let since = time.duration_since(UNIX_EPOCH).unwrap_or(Duration::ZERO);
+        Moment { secs: since.as_secs(), nanos: since.subsec_nanos() }
+    }
+}
+
+/// What the Cache-Control of a response says, in seconds.
+#[derive(Clone, Copy, Debug, PartialEq, Eq)]
+pub struct Answers {
+    /// Whether it may be stored, or nothing if that is left to the status.
+    pub cacheable: Option<bool>,
+    /// Whether it may be stored if its request had an Authorization.
+    pub authorized: bool,
+    /// For how long it is fresh.
+    pub fresh: Option<u64>,
+    /// For how long after that it may be served while it is revalidated.
+    pub stale_while_revalidate: Option<u64>,
+    /// For how long after that it may be served if the origin fails.
+    pub stale_if_error: Option<u64>,
+}
+
+/// The head of a response.
+pub struct Head(Handle);
+
+impl Head {
+    /// A head of HTTP/1.1 with this status and no fields.
+    ///
+    /// # Errors
+    /// [`Error::BadValue`] for a number that is no status, [`Error::NoMemory`].
+    pub fn new(status: u16) -> Result<Head, Error> {
+        let mut handle = Handle::new();
+        // SAFETY: the handle has nothing.
+        done(unsafe { raw::pcache_head_new(&mut handle.0, status) })?;
+        Ok(Head(handle))
+    }
+
+    /// Adds a field beside those of the same name.
+    ///
+    /// # Errors
+    /// [`Error::BadValue`] for a name or a value that is none, [`Error::NoMemory`], [`Error::Unreadable`] for a full head.
+    pub fn add(&mut self, name: &str, value: &[u8]) -> Result<(), Error> {
+        // SAFETY: the slices hold what they say for the call.
+        done(unsafe { raw::pcache_head_add(&mut self.0 .0, name.as_ptr(), name.len(), value.as_ptr(), value.len()) })
+    }
+
+    /// What Cache-Control says, if there is one.
+    ///
+    /// # Errors
+    /// [`Error::NoMemory`].
+    pub fn answers(&mut self) -> Result<Option<Answers>, Error> {
+        let mut control = Handle::new();
+        let mut out = raw::PcacheAnswers::default();
+        // SAFETY: two handles that are this call's, and a struct of the library's layout.
+        match done(unsafe { raw::pcache_control_read(&mut control.0, &mut self.0 .0) }) {
+            Err(Error::Nothing) => return Ok(None),
+            other => other?,
+        }
+        done(unsafe { raw::pcache_control_answers(&mut control.0, &mut out) })?;
+        let seconds = |has: u32, secs: u64| if has != 0 { Some(secs) } else { None };
+        Ok(Some(Answers {
+            cacheable: [Some(false), Some(true), None][(out.cacheable as usize).min(2)],
+            authorized: out.authorized != 0,
+            fresh: seconds(out.has_fresh, out.fresh_secs),
+            stale_while_revalidate: seconds(out.has_stale_while_revalidate, out.stale_while_revalidate_secs),
+            stale_if_error: seconds(out.has_stale_if_error, out.stale_if_error_secs),
+        }))
+    }
+
+    /// The meta to store the response with, or nothing if it is not to be stored. `authorized` says that the request had an
+    /// Authorization; `windows` are the seconds for which it may be served stale while it is revalidated, and if the origin fails,
+    /// where it says nothing of that. The meta has the fields of this head
+    /// but those that Cache-Control names, as in `private="x"`.
+    ///
+    /// # Errors
+    /// [`Error::NoMemory`], and [`Error::BadValue`] for a moment that is none.
+    pub fn meta(&mut self, authorized: bool, windows: (u32, u32), now: Moment) -> Result<Option<Meta>, Error> {
+        let mut meta = Handle::new();
+        let head = &mut self.0 .0;
+        // SAFETY: the handle of the meta has nothing, and the head is another.
+        match done(unsafe {
+            raw::pcache_resp_cacheable(&mut meta.0, head, u32::from(authorized), windows.0, windows.1, now.secs, now.nanos)
+        }) {
+            Ok(()) => Ok(Some(Meta(meta))),
+            Err(Error::Nothing) => Ok(None),
+            Err(error) => Err(error),
+        }
+    }
+}
+
+/// The moments and windows of a meta.
+#[derive(Clone, Copy, Debug, Default, PartialEq, Eq)]
+pub struct Said {
+    /// When the response was made.
+    pub created: Moment,
+    /// When it was renewed last.
+    pub updated: Moment,
+    /// Up to when it is fresh.
+    pub fresh_until: Moment,
+    /// For how many seconds after that it may be served while it is revalidated.
+    pub stale_while_revalidate: u32,
+    /// For how many seconds after that it may be served if the origin fails.
+    pub stale_if_error: u32,
+}
+
+/// Whether a response may be served.
+#[derive(Clone, Copy, Debug, Default, PartialEq, Eq)]
+pub struct Servable {
+    /// It is fresh.
+    pub fresh: bool,
+    /// It may be served while another request renews it.
+    pub while_revalidating: bool,
+    /// It may be served since the origin failed.
+    pub after_error: bool,
+}
+
+/// The meta of a stored response: its head, with its moments.
+pub struct Meta(pub(crate) Handle);
+
+impl Meta {
+    /// A meta of all fields of a head, which is copied: also of those that [`Head::meta`] leaves out.
+    ///
+    /// # Errors
+    /// [`Error::NoMemory`], and [`Error::BadValue`] for a moment that is none.
+    pub fn new(head: &mut Head, said: &Said) -> Result<Meta, Error> {
+        let said = raw::PcacheMeta {
+            created: said.created.raw(),
+            updated: said.updated.raw(),
+            fresh_until: said.fresh_until.raw(),
+            stale_while_revalidate_secs: said.stale_while_revalidate,
+            stale_if_error_secs: said.stale_if_error,
+        };
+        let mut meta = Handle::new();
+        // SAFETY: the handle of the meta has nothing, the head is another, and the struct has the library's layout.
+        done(unsafe { raw::pcache_meta_new(&mut meta.0, &mut head.0 .0, &said) })?;
+        Ok(Meta(meta))
+    }
+
+    /// A meta of the bytes that [`Meta::write`] gave.
+    ///
+    /// # Errors
+    /// [`Error::Unreadable`], [`Error::NoMemory`].
+    pub fn read(internal: &[u8], header: &[u8]) -> Result<Meta, Error> {
+        let mut meta = Handle::new();
+        // SAFETY: the slices hold what they say for the call.
+        done(unsafe {
+            raw::pcache_meta_read(&mut meta.0, internal.as_ptr(), internal.len(), header.as_ptr(), header.len())
+        })?;
+        Ok(Meta(meta))
+    }
+
+    /// Its moments and windows.
+    ///
+    /// # Errors
+    /// None of this crate's making.
+    pub fn says(&mut self) -> Result<Said, Error> {
+        let mut out = raw::PcacheMeta::default();
+        // SAFETY: a struct of the library's layout.
+        done(unsafe { raw::pcache_meta_says(&mut self.0 .0, &mut out) })?;
+        Ok(Said {
+            created: Moment::of(out.created),
+            updated: Moment::of(out.updated),
+            fresh_until: Moment::of(out.fresh_until),
+            stale_while_revalidate: out.stale_while_revalidate_secs,
+            stale_if_error: out.stale_if_error_secs,
+        })
+    }
+
+    /// Whether the response may be served at a moment.
+    ///
+    /// # Errors
+    /// [`Error::BadValue`] for a moment that is none.
+    pub fn servable(&mut self, now: Moment) -> Result<Servable, Error> {
+        let mut out = raw::PcacheServable::default();
+        // SAFETY: a struct of the library's layout.
+        done(unsafe { raw::pcache_meta_servable(&mut self.0 .0, now.secs, now.nanos, &mut out) })?;
+        Ok(Servable {
+            fresh: out.fresh != 0,
+            while_revalidating: out.while_revalidating != 0,
+            after_error: out.after_error != 0,
+        })
+    }
+
+    /// Its bytes, for a file: all but its header, and the text of its header.
+    ///
+    /// # Errors
+    /// [`Error::NoMemory`].
+    pub fn write(&mut self) -> Result<(Vec<u8>, Vec<u8>), Error> {
+        let (mut internal, mut header) = (vec![0; 64], vec![0; 512]);
+        loop {
+            let (mut first, mut second) = (0, 0);
+            // SAFETY: two buffers of the lengths that are said.
+            let answer = done(unsafe {
+                raw::pcache_meta_write(
+                    &mut self.0 .0,
+                    internal.as_mut_ptr(),
+                    internal.len(),
+                    header.as_mut_ptr(),
+                    header.len(),
+                    &mut first,
+                    &mut second,
+                )
+            });
+            match answer {
+                Err(Error::BadValue) if first > internal.len() || second > header.len() => {
+                    internal.resize(first.max(1), 0);
+                    header.resize(second.max(1), 0);
+                }
+                Err(error) => return Err(error),
+                Ok(()) => {
+                    internal.truncate(first);
+                    header.truncate(second);
+                    return Ok((internal, header));
+                }
+            }
+        }
+    }
+
+    /// The status and the fields of its head, the names in lower case.
+    ///
+    /// ```
+    /// # fn main() -> Result<(), pcache::Error> {
+    /// let mut head = pcache::Head::new(404)?;
+    /// head.add("ETag", b"\"1\"")?;
+    /// let mut meta = pcache::Meta::new(&mut head, &pcache::Said::default())?;
+    /// assert_eq!(meta.head()?, (404, vec![("etag".to_string(), b"\"1\"".to_vec())]));
+    /// # Ok(())
+    /// # }
+    /// ```
+    ///
+    /// # Errors
+    /// [`Error::NoMemory`].
+    pub fn head(&mut self) -> Result<(u16, Vec<(String, Vec<u8>)>), Error> {
+        let (_, text) = self.write()?;
+        let mut lines = text.split(|&byte| byte == b'\n').map(|line| line.strip_suffix(b"\r").unwrap_or(line));
+        let first = lines.next().unwrap_or(b"");
+        let status = first.get(9..12).and_then(|digits| std::str::from_utf8(digits).ok()).and_then(|it| it.parse().ok());
+        let mut fields = Vec::new();
+        for line in lines.take_while(|line| !line.is_empty()) {
+            let colon = line.iter().position(|&byte| byte == b':').ok_or(Error::Unreadable)?;
+            let name = String::from_utf8(line[..colon].to_vec()).map_err(|_| Error::Unreadable)?;
+            fields.push((name, line.get(colon + 2..).unwrap_or(b"").to_vec()));
+        }
+        Ok((status.ok_or(Error::Unreadable)?, fields))
+    }
+}

@@ -1,0 +1,183 @@
+//! The crate under threads: what a test asserts is what every interleaving has to give.
+
+use pcache::{Cache, Error, Head, HitStatus, Looked, Meta, Moment, Options, Read, Reason, Request, Said, View, WaitEnd};
+use std::sync::atomic::{AtomicUsize, Ordering};
+use std::sync::Mutex;
+use std::thread;
+use std::time::{Duration, Instant};
+
+const NOW: Moment = Moment { secs: 1, nanos: 0 };
+
+fn meta() -> Result<Meta, Error> {
+    // Far enough that the clock is before it.
+    let fresh_until = Moment { secs: 1 << 40, nanos: 0 };
+    Meta::new(&mut Head::new(200)?, &Said { fresh_until, ..Said::default() })
+}
+
+fn soon() -> Instant {
+    Instant::now() + Duration::from_secs(60)
+}
+
+fn byte_at(key: usize, place: usize) -> u8 {
+    (key * 7 + place % 251) as u8
+}
+
+/// Reads the body that a request took, to its end: the bytes, and whether that was all.
+fn read_all(request: &mut Request) -> Result<(Vec<u8>, bool), Error> {
+    let mut all = Vec::new();
+    loop {
+        match request.view_until(soon())? {
+            Read::Bytes(view) => all.extend_from_slice(&view),
+            Read::End => return Ok((all, true)),
+            Read::CutOff => return Ok((all, false)),
+            Read::NotYet => panic!("a reader was not woken"),
+        }
+    }
+}
+
+#[test]
+fn what_moves_between_threads_is_marked() {
+    fn moves<T: Send>() {}
+    fn is_shared<T: Send + Sync>() {}
+    is_shared::<Cache>();
+    is_shared::<View>();
+    moves::<Request>();
+    moves::<Meta>();
+    moves::<Head>();
+    moves::<pcache::Manager>();
+    is_shared::<pcache::SharedManager>();
+}
+
+#[test]
+fn eight_threads_make_a_million_calls() -> Result<(), Error> {
+    const KEYS: usize = 64;
+    const BODY: usize = 3000;
+    let limit = KEYS * BODY * 3 / 4;
+    let cache = Cache::new(&Options { limit, parts: 4, ..Options::default() })?;
+    let left: Mutex<Vec<(Request, Option<View>)>> = Mutex::new(Vec::new());
+    let (hits, fills) = (AtomicUsize::new(0), AtomicUsize::new(0));
+    thread::scope(|scope| {
+        for seed in 0..8u64 {
+            let (cache, left, hits, fills) = (&cache, &left, &hits, &fills);
+            scope.spawn(move || {
+                let mut random = seed;
+                // A round makes at least five calls: a request, its look, its end, and two in between.
+                for _ in 0..25_000 {
+                    random = random.wrapping_mul(6_364_136_223_846_793_005).wrapping_add(1_442_695_040_888_963_407);
+                    let key = (random >> 33) as usize % KEYS;
+                    let mut request = cache.request(&[key as u8], "").unwrap();
+                    let mut view = None;
+                    if (random >> 45) % 64 == 0 {
+                        request.purge().unwrap();
+                    }
+                    match request.look(NOW).unwrap() {
+                        Looked::Found => {
+                            request.take(HitStatus::Fresh, NOW).unwrap();
+                            if let Read::Bytes(bytes) = request.view().unwrap() {
+                                assert!(bytes.iter().enumerate().all(|(place, &byte)| byte == byte_at(key, place)));
+                                view = Some(bytes);
+                            }
+                            hits.fetch_add(1, Ordering::Relaxed);
+                        }
+                        Looked::Permit => {
+                            let body: Vec<u8> = (0..BODY).map(|place| byte_at(key, place)).collect();
+                            let mut fill = request.fill(&mut meta().unwrap(), None).unwrap();
+                            fill.write(&body[..1000]).unwrap();
+                            match fill.finish(&body[1000..]) {
+                                Ok(stored) => assert_eq!(stored.bytes, BODY),
+                                Err(error) => assert_eq!(error, Error::Removed),
+                            }
+                            fills.fetch_add(1, Ordering::Relaxed);
+                        }
+                        Looked::Waits => {
+                            request.wait(NOW).unwrap();
+                        }
+                        Looked::Nothing => panic!("a look-up that found nothing asked for no lock"),
+                    }
+                    // Another thread ends what this one made.
+                    let mut left = left.lock().unwrap();
+                    left.push((request, view));
+                    let ended = if left.len() > 8 { left.drain(..4).collect() } else { Vec::new() };
+                    std::mem::drop(left);
+                    std::mem::drop(ended);
+                }
+            });
+        }
+    });
+    assert!(hits.into_inner() > 0 && fills.into_inner() > 0);
+    assert!(cache.totals()?.stored_bytes <= limit as u64);
+    Ok(())
+}
+
+#[test]
+fn one_of_many_fills_and_the_others_are_woken() -> Result<(), Error> {
+    let cache = Cache::new(&Options::default())?;
+    let fetches = AtomicUsize::new(0);
+    thread::scope(|scope| {
+        for _ in 0..50 {
+            let (cache, fetches) = (&cache, &fetches);
+            scope.spawn(move || loop {
+                let mut request = cache.request(b"cold", "").unwrap();
+                match request.look(Moment::now()).unwrap() {
+                    Looked::Found => {
+                        request.take(HitStatus::Fresh, Moment::now()).unwrap();
+                        assert_eq!(read_all(&mut request).unwrap(), (b"one two three".to_vec(), true));
+                        return;
+                    }
+                    Looked::Permit => {
+                        fetches.fetch_add(1, Ordering::SeqCst);
+                        let mut fill = request.fill(&mut meta().unwrap(), None).unwrap();
+                        for piece in ["one ", "two "] {
+                            fill.write(piece).unwrap();
+                            thread::sleep(Duration::from_millis(20));
+                        }
+                        fill.finish("three").unwrap();
+                        return;
+                    }
+                    _ => assert_eq!(request.wait_until(soon()).unwrap(), Some(WaitEnd::Done)),
+                }
+            });
+        }
+    });
+    assert_eq!(fetches.into_inner(), 1);
+    Ok(())
+}
+
+#[test]
+fn a_wait_ends_as_the_one_that_fills_says() -> Result<(), Error> {
+    let cache = Cache::new(&Options { parts: 1, ..Options::default() })?;
+    for (reason, end) in [(Reason::OriginNotCache, WaitEnd::GiveUp), (Reason::UpstreamError, WaitEnd::TransientError)] {
+        let mut writer = cache.request(b"key", "")?;
+        let mut waiter = cache.request(b"key", "")?;
+        assert_eq!(writer.look(Moment::now())?, Looked::Permit);
+        assert_eq!(waiter.look(Moment::now())?, Looked::Waits);
+        assert_eq!(waiter.wait_until(Instant::now() + Duration::from_millis(5))?, None);
+        let waits = thread::spawn(move || waiter.wait_until(soon()));
+        writer.disable(reason)?;
+        assert_eq!(waits.join().expect("the waiter ended"), Ok(Some(end)));
+    }
+    Ok(())
+}
+
+#[test]
+fn a_reader_of_a_write_that_ends_early_knows() -> Result<(), Error> {
+    let cache = Cache::new(&Options::default())?;
+    let mut writer = cache.request(b"key", "")?;
+    assert_eq!(writer.look(NOW)?, Looked::Permit);
+    writer.fill(&mut meta()?, None)?.write("half")?;
+    let mut reader = cache.request(b"key", "")?;
+    assert_eq!(reader.look(NOW)?, Looked::Found);
+    reader.take(HitStatus::Fresh, NOW)?;
+    let reads = thread::spawn(move || read_all(&mut reader));
+    drop(writer);
+    assert_eq!(reads.join().expect("the reader ended"), Ok((b"half".to_vec(), false)));
+    Ok(())
+}
+
+#[test]
+fn what_is_no_option_is_refused() {
+    let of = |parts, watermark| Cache::new(&Options { parts, watermark, ..Options::default() }).err();
+    assert_eq!(of(0, 0), Some(Error::BadValue));
+    assert_eq!(of(4, 3), Some(Error::BadValue));
+    assert_eq!(of(4, 4), None);
+}
