@@ -19,7 +19,7 @@ use Rattle.pcache_request.specs.NoBody.{LeavesNone}
 use Rattle.pcache_request.specs.Phases.{IsDisabled, IsFilling, IsOn, MayFinishHit, MayLookUp, MayMiss, MayPurge}
 use Rattle.pcache_request.specs.Releasing.{MayDisable, MayRelease, disabled_for, status_for}
 use Rattle.pcache_request.specs.Renewals.{has_body, renewed, renewed_by, with_meta_of}
-use Rattle.pcache_request.specs.Requests.{HoldsNothing, MayTakeMeta, MayWrite, Request, asks_for_hit, begin_followed, begun_for, counts_found, dropped_by, found_for, found_row, is_removed_by, left_by, length_by, missed, settled, store_found, store_writing, table_found, tracked_found, tracked_gone_for, whole_by, with_meta, without_reader, writing}
+use Rattle.pcache_request.specs.Requests.{HoldsNothing, MayTakeMeta, MayWrite, Request, asks_for_hit, begin_followed, begun_for, dropped_by, found_for, found_row, is_removed_by, left_by, length_by, missed, settled, store_found, store_writing, table_found, tracked_found, tracked_gone_for, whole_by, with_meta, without_reader, writing}
 use Rattle.pcache_request.specs.Stale.{MayRevalidate}
 use Rattle.pcache_request.specs.Variants.{asks_unseen, hides_for, looked_for, searched, seen_for, table_looked_for, table_varied, varied}
 use Rattle.pcache_request.specs.WriteEnds.{Ends, EndsAs, evicted_after, finishes_of}
@@ -113,9 +113,6 @@ pub record RefusesPair (status : HitStatus) (h : Reader) (c d : Parts) (o p : Op
   pub store : d.store ≡ left c.store h
   pub table : d.locks ≡ c.locks
   pub tracked : (d.tracked ≡ c.tracked) ⊎ (d.tracked ≡ tracked_found status h (write_read h) o.request.cache c.tracked)
-  pub stays : (d.tracked ≡ c.tracked) ⊎ IsTrue (asks_for_hit status o.request.cache)
-  pub unused : counts_found status h o.request.cache ≡ false → d.tracked ≡ c.tracked
-  pub something : IsTrue (counts_found status h o.request.cache) ⊎ IsTrue (asks_for_hit status o.request.cache)
   pub rest : (d.limits ≡ c.limits) × (d.evicted ≡ c.evicted)
   pub none : p.found ≡ None
   pub piece : (p.piece ≡ o.piece) × (p.next_byte ≡ o.next_byte)
