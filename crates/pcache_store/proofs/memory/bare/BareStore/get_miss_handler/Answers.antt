@@ -1,5 +1,5 @@
 use Rattle.pcache_store.proofs.Writes.{taken_back}
-use Rattle.pcache_store.proofs.memory.MemCacheStorage.get_miss_handler.Goals as goal
+use Rattle.pcache_store.proofs.memory.bare.BareStore.get_miss_handler.Goals as goal
 
 pub returns-in-Err-clause-err : goal.returns-in-Err-clause-err
 returns-in-Err-clause-err c =
