@@ -32,7 +32,7 @@ use bytes::Bytes;
 use draft::Draft;
 pub use hit::{CompleteHit, MemHitHandler, PartialHit};
 pub use miss::MemMissHandler;
-use past::{Past, Step};
+use past::{Given, Past, Step};
 use pcache_base::error::Result;
 use pcache_base::key::{CacheHashKey, CacheKey};
 use pcache_base::moment::Moment;
@@ -222,7 +222,7 @@ impl MemCache {
     {
         let past = self.past.then(&Step::Wrote {
             number,
-            bytes: &bytes,
+            bytes: bytes.as_slice(),
             eof,
         });
         self.bare.write(slot, number, bytes, eof)?;
@@ -331,7 +331,7 @@ impl Storage for MemCache {
         meta: &CacheMeta,
     ) -> Result<MemMissHandler> {
         let handler = self.bare.get_miss_handler(alloc, key, meta)?;
-        self.past = self.past.then(&Step::Began {
+        self.past = self.past.then_given(&Given::Began {
             slot: key.slot(),
             number: handler.number(),
             meta,
@@ -363,7 +363,7 @@ impl Storage for MemCache {
 
     fn update_meta(&mut self, alloc: Global, key: &CacheKey, meta: &CacheMeta) -> Result<bool> {
         let there = self.bare.update_meta(alloc, key, meta)?;
-        self.past = self.past.then(&Step::MetaSet {
+        self.past = self.past.then_given(&Given::Set {
             slot: key.slot(),
             meta,
         });

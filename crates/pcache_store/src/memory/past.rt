@@ -1,9 +1,8 @@
 //! What was done to a store, which only proofs read. It takes no memory.
-ghost use Rattle.std.specs.Prelude.{◌≡◌, List, []};
+ghost use Rattle.std.specs.Prelude.{◌≡◌, ◌∷◌, List, []};
 ghost use base.Fml.{ftrue};
 ghost use Rattle.pcache_store.specs.Past.{Note};
 
-use bytes::Bytes;
 use pcache_base::moment::Moment;
 use pcache_evict::eviction::CacheEntryId;
 use pcache_meta::meta::CacheMeta;
@@ -28,17 +27,10 @@ unsafe impl Send for Past {}
 /// What a call did, told by what it was passed and what it returned.
 #[derive(Drop)]
 pub enum Step<'a> {
-    /// A write of a slot began.
-    Began {
-        slot: u128,
-        number: u64,
-        /// That the write was given.
-        meta: &'a CacheMeta,
-    },
     /// Bytes were added to a write.
     Wrote {
         number: u64,
-        bytes: &'a Bytes,
+        bytes: &'a [u8],
         /// Whether its end was announced.
         eof: bool,
     },
@@ -51,11 +43,6 @@ pub enum Step<'a> {
         slot: u128,
         id: Option<CacheEntryId>,
     },
-    /// The meta of a slot's complete body was set.
-    MetaSet {
-        slot: u128,
-        meta: &'a CacheMeta,
-    },
     /// The freshness of a slot's complete body was ended, or nothing if there is no slot.
     Expired {
         slot: Option<u128>,
@@ -67,8 +54,24 @@ pub enum Step<'a> {
     Left(u64),
 }
 
+/// What a call that was passed a meta did with it.
+#[derive(Drop)]
+pub enum Given<'a> {
+    /// A write of a slot began, with this meta.
+    Began {
+        slot: u128,
+        number: u64,
+        meta: &'a CacheMeta,
+    },
+    /// It is the meta of a slot's complete body now.
+    Set {
+        slot: u128,
+        meta: &'a CacheMeta,
+    },
+}
+
 impl Past {
-    ghost use Rattle.pcache_store.specs.Noted.{note_of};
+    ghost use Rattle.pcache_store.specs.Noted.{given_note, note_of};
     ghost use Rattle.pcache_store.specs.Notes.{added};
 
     /// No note.
@@ -82,6 +85,14 @@ impl Past {
     #[inline(always)]
     pub fn then(&self, _step: &Step<'_>) -> Past
         ensures { result.notes ≡ added (note_of _step.now) self.now.notes }
+    {
+        Past {}
+    }
+
+    /// The past with what was done with a meta.
+    #[inline(always)]
+    pub fn then_given(&self, _given: &Given<'_>) -> Past
+        ensures { result.notes ≡ given_note _given.now ∷ self.now.notes }
     {
         Past {}
     }
