@@ -2,6 +2,7 @@
 """Prints what one has to read to believe a contract: the definitions that it reaches, in reading order.
 
   bench/definitions_of.py NAME [--count]
+  bench/definitions_of.py --list [WORD..]  a line for each definition whose name or comment has all of these words
   bench/definitions_of.py --test TREE     compares what it reads with what the toolchain read, of all libraries that stand proved
                                           in a tree: the clauses of each function, and that each definition which the toolchain
                                           has in a contract is reached. It ends with 1 if anything is lost
@@ -236,6 +237,17 @@ def shown(definition):
     return "\n".join([f"{path}:{definition.line}", *definition.comment, *definition.text, ""])
 
 
+def unread_clauses():
+    """A line for each file of the sources in which more or fewer clauses begin than are read."""
+    clause = re.compile(r"(?m)^\s*(?:requires|ensures)\*?(?: \w+)? \{")
+    for path in sources():
+        with open(path, encoding="utf-8") as it:
+            begun = len(clause.findall(it.read()))
+        read = sum(len(it.clauses) + len(clause.findall(it.body)) for it in contracts_in(path))  # closures have clauses too
+        if begun != read:
+            yield f"{os.path.relpath(path, TOP)}: {begun} clauses begin, and {read} are read"
+
+
 def lines_of(order):
     return sum(len(it.text) for it in order)
 
@@ -294,6 +306,8 @@ def test(tree):
         lost = min((lost_of(it, named, modules) for it in fits), key=len)
         if lost:
             wrong.append(f"{crate} {path}: not reached: {', '.join(sorted(lost))}")
+    if not functions:  # a gate keeps no text of the contracts
+        wrong.append("no library in that tree has its contracts: prove it there by bench/prove.py")
     print("\n".join(wrong))
     print(f"{functions} functions with {clauses} clauses are read as the toolchain does, {len(wrong)} are not")
     return not wrong
@@ -332,12 +346,27 @@ def lost_of(contract, named, modules):
     return {it.key for it in wanted if it.key not in seen}
 
 
+def listed(wanted):
+    """A line for each definition that has all of these words in its name or in the words above it; without such words, its type."""
+    for module in modules_of().values():
+        for it in module.definitions.values():
+            about = " ".join(line.strip().lstrip("-").strip() for line in it.comment)
+            about = about or HEAD.sub("", it.text[0].split(" -- ")[0], count=1).removesuffix(" where").strip()
+            line = f"{module.crate}: {module.name}.{it.name}: {about}"
+            if all(word.lower() in line.lower() for word in wanted):
+                yield line
+
+
 def main():
     words = argparse.ArgumentParser(description=__doc__, formatter_class=argparse.RawDescriptionHelpFormatter)
     words.add_argument("name", nargs="?")
     words.add_argument("--count", action="store_true")
+    words.add_argument("--list", nargs="*", metavar="WORD")
     words.add_argument("--test", metavar="TREE")
     given = words.parse_args()
+    if given.list is not None:
+        print("\n".join(listed(given.list)))
+        return
     if given.test:
         sys.exit(0 if test(given.test) else 1)
     if not given.name:

@@ -16,6 +16,8 @@
 - each block of output in README.md and GUIDE.md is what a program's file stdout has
 - in a picture of the crates none stands above one that uses it
 - where a number of tests, crates, public functions or wrong bodies is said, it is today's; so in AUDIT.md's table
+- bench/definitions_of.py reads each clause that begins in a source
+- README.md has at most 140 lines, and dev/PERFORMANCE.md 80
 """
 import functools
 import glob
@@ -270,7 +272,13 @@ def wrong_counts(text):
             yield f"today this row is: {new}"
 
 
+# Pages of one screen or little more stay so.
+MOST_LINES = {"README.md": 140, "docs/dev/PERFORMANCE.md": 80}
+
+
 def wrong_in(page, text):
+    if text.count("\n") > MOST_LINES.get(page, 10**6):
+        yield f"more than {MOST_LINES[page]} lines"
     yield from wrong_links(page, text)
     yield from wrong_names(text)
     if not page.startswith("docs/api/"):
@@ -372,6 +380,7 @@ def main():
     if "--lies" in sys.argv[1:]:
         sys.exit(1 if lies() else 0)
     wrong = [f"{page}: {it}" for page, text in pages().items() for it in wrong_in(page, text)]
+    wrong += [f"bench/definitions_of.py: {it}" for it in definitions_of.unread_clauses()]
     wrong += run_commands() if "--run" in sys.argv[1:] else []
     wrong += use_it() if "--use-it" in sys.argv[1:] else []
     print("\n".join(wrong) if wrong else "the pages say what is so")

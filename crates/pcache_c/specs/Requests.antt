@@ -15,10 +15,11 @@ use Rattle.pcache_meta.specs.Meta.{Meta}
 use Rattle.pcache_request.specs.Finishing.{after_finish}
 use Rattle.pcache_request.specs.LockUse.{read_in, unheld}
 use Rattle.pcache_request.specs.LockWaits.{table_waited, unusable_in, wait_result, waited}
+use Rattle.pcache_request.specs.NoBody.{LeavesNone}
 use Rattle.pcache_request.specs.Phases.{IsDisabled, IsFilling, IsOn, MayFinishHit, MayLookUp, MayMiss, MayPurge}
 use Rattle.pcache_request.specs.Releasing.{MayDisable, MayRelease, disabled_for, status_for}
 use Rattle.pcache_request.specs.Renewals.{has_body, renewed, renewed_by, with_meta_of}
-use Rattle.pcache_request.specs.Requests.{HoldsNothing, MayTakeMeta, MayWrite, Request, asks_for_hit, begun_for, dropped_by, found_row, is_removed_by, left_by, length_by, missed, settled, store_found, store_writing, table_found, tracked_found, tracked_gone_for, whole_by, with_meta, without_reader, writing}
+use Rattle.pcache_request.specs.Requests.{HoldsNothing, MayTakeMeta, MayWrite, Request, asks_for_hit, begin_followed, begun_for, counts_found, dropped_by, found_for, found_row, is_removed_by, left_by, length_by, missed, settled, store_found, store_writing, table_found, tracked_found, tracked_gone_for, whole_by, with_meta, without_reader, writing}
 use Rattle.pcache_request.specs.Stale.{MayRevalidate}
 use Rattle.pcache_request.specs.Variants.{asks_unseen, hides_for, looked_for, searched, seen_for, table_looked_for, table_varied, varied}
 use Rattle.pcache_request.specs.WriteEnds.{Ends, EndsAs, evicted_after, finishes_of}
@@ -83,6 +84,7 @@ pub record Looked (now : ℕ) (c d : Parts) (o p : Open) (found : ℕ) : Type 0 
 pub record RefusesLook (c d : Parts) (o p : Open) (e : ErrorType) : Type 0 where
   pub kind : MayFailLock c.locks e
   pub numbers : e ≡ NumbersExhausted → IsTrue (asks_unseen c.store o.request.cache)
+  pub something : IsSome (found_for c.store o.request.cache.key) ⊎ IsTrue o.request.cache.uses.lock
   pub request : p.request.cache ≡ o.request.cache
   pub rest : KeepsFound o p
   pub store : (d.store ≡ c.store) ⊎ (d.store ≡ searched c.store o.request.cache)
@@ -111,6 +113,9 @@ pub record RefusesPair (status : HitStatus) (h : Reader) (c d : Parts) (o p : Op
   pub store : d.store ≡ left c.store h
   pub table : d.locks ≡ c.locks
   pub tracked : (d.tracked ≡ c.tracked) ⊎ (d.tracked ≡ tracked_found status h (write_read h) o.request.cache c.tracked)
+  pub stays : (d.tracked ≡ c.tracked) ⊎ IsTrue (asks_for_hit status o.request.cache)
+  pub unused : counts_found status h o.request.cache ≡ false → d.tracked ≡ c.tracked
+  pub something : IsTrue (counts_found status h o.request.cache) ⊎ IsTrue (asks_for_hit status o.request.cache)
   pub rest : (d.limits ≡ c.limits) × (d.evicted ≡ c.evicted)
   pub none : p.found ≡ None
   pub piece : (p.piece ≡ o.piece) × (p.next_byte ≡ o.next_byte)
@@ -224,7 +229,8 @@ pub record NotBegun (c d : Parts) (o p : Open) (e : ErrorType) : Type 0 where
 
 abbrev pub Begins : Parts → Parts → Open → Open → ℕ → Type 0
 Begins c d o p code = Outcome (MayWrite o.request.cache) (Begun c d o p) ⊥
-    (λ e. NotBegun c d o p e ⊎ ((e ≡ OutOfMemory) × HalfBegun c d o p)) (IsUnchanged c d o p) code
+    (λ e. (NotBegun c d o p e ⊎ ((e ≡ OutOfMemory) × HalfBegun c d o p)) × ((d.store ≡ c.store) ⊎ IsSome (begin_followed c.store o.request.cache)))
+    (IsUnchanged c d o p) code
 
 -- bytes are added to the write: the wrong call where there is no write, or its last bytes were said
 
@@ -262,7 +268,7 @@ Stored size evicted c d o p = (f : FinishReport) × (size ≡ f.size) × (evicte
 
 abbrev pub Finishes : ℕ → ℕ → Parts → Parts → Open → Open → ℕ → Type 0
 Finishes size evicted c d o p code = Outcome (MayEndWrite c o) (Stored size evicted c d o p) (EndsSo (Ok None) c d o p)
-    (λ e. EndsSo (Err e) c d o p) (IsUnchanged c d o p) code
+    (λ e. EndsSo (Err e) c d o p × LeavesNone o.request.cache.key o.request.cache.write c.store d.store) (IsUnchanged c d o p) code
 
 -- the body is read on: what was read and found no room comes first, and then what the reader gives
 
@@ -410,7 +416,7 @@ pub record HitEnded (c d : Parts) (o p : Open) : Type 0 where
 
 abbrev pub EndsHit : Parts → Parts → Open → Open → ℕ → Type 0
 EndsHit c d o p code = Outcome (MayFinishHit o.request.cache.phase) (HitEnded c d o p) ⊥
-    (λ e. (e ≡ OutOfMemory) × IsSome o.request.cache.reader × HitEnded c d o p) (IsUnchanged c d o p) code
+    (λ e. ⊥) (IsUnchanged c d o p) code
 
 -- the request waits on its read lock
 

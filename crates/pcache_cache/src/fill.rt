@@ -12,12 +12,13 @@ use pcache_store::memory::MemCache;
 use pcache_store::storage::HandleMiss;
 
 impl<M: EvictionManager, K> Cache<M, K> {
-    ghost use Rattle.std.specs.Prelude.{◌≡◌, ◌⊎◌, true, IfOk, IfErr, OnOk, OnErr};
+    ghost use Rattle.std.specs.Prelude.{◌≡◌, ◌⊎◌, true, IfOk, IfErr, IsSome, OnOk, OnErr};
     ghost use Rattle.pcache_base.specs.declared.error.ErrorType.TheVariants.{OutOfMemory};
     ghost use Rattle.pcache_lock.specs.declared.lock.status.LockStatus.TheVariants.{Done};
     ghost use Rattle.pcache_request.specs.Finishing.{after_finish};
+    ghost use Rattle.pcache_request.specs.NoBody.{LeavesNone};
     ghost use Rattle.pcache_request.specs.Phases.{IsFilling};
-    ghost use Rattle.pcache_request.specs.Requests.{FailsToBegin, MayWrite, settled, store_begun, write_begun};
+    ghost use Rattle.pcache_request.specs.Requests.{FailsToBegin, MayWrite, begin_followed, settled, store_begun, write_begun};
     ghost use Rattle.pcache_request.specs.WriteEnds.{Ends, EndsAs, evicted_after, finishes_of};
     ghost use Rattle.pcache_store.specs.Finishes.{created};
     ghost use Rattle.pcache_store.specs.Readers.{in_memory};
@@ -37,6 +38,8 @@ impl<M: EvictionManager, K> Cache<M, K> {
         ensures err { IfErr result (λ e. FailsToBegin true self.old.store self.old.locks
             request.old.cache e self.new.store self.new.locks request.new.cache) }
         ensures kind { IfErr result (λ e. (e ≡ OutOfMemory) ⊎ MayFailWrite self.old.store e) }
+        ensures something { OnErr result ((self.new.store ≡ self.old.store)
+            ⊎ IsSome (begin_followed self.old.store request.old.cache)) }
         ensures phase { request.new.cache.phase ≡ request.old.cache.phase }
         ensures own { request.old.cache.uses.eviction ≡ true
             → OnOk result (MayEnd self.new.store request.new.cache) }
@@ -101,6 +104,8 @@ impl<M: EvictionManager, K> Cache<M, K> {
             (finishes_of (created self.old.store) request.old.cache.write)
             (tracked_at_end self.old request.old.cache end) self.old.evicted end) }
         ensures limits { self.new.limits ≡ self.old.limits }
+        ensures withdrawn { OnErr result (LeavesNone request.old.cache.key request.old.cache.write
+            self.old.store self.new.store) }
     {
         // For the prover: the contract of the call says that the entry of the write has the write's
         // number.

@@ -23,14 +23,14 @@ impl<M: EvictionManager, K> Cache<M, K> {
     ghost use Rattle.pcache_request.specs.Phases.{IsDisabled, MayFinishHit, MayLookUp};
     ghost use Rattle.pcache_request.specs.Releasing.{MayDisable, disabled_for, status_for};
     ghost use Rattle.pcache_request.specs.Reports.{name_of};
-    ghost use Rattle.pcache_request.specs.Requests.{HoldsNothing, asks_for_hit, dropped_by, found_row, left_by, length_by, let_go_by, settled, store_found, table_found, tracked_found, whole_by, without_reader};
+    ghost use Rattle.pcache_request.specs.Requests.{HoldsNothing, asks_for_hit, counts_found, dropped_by, found_for, found_row, left_by, length_by, let_go_by, settled, store_found, table_found, tracked_found, whole_by, without_reader};
     ghost use Rattle.pcache_request.specs.Variants.{asks_unseen, hides_for, looked_for, searched, seen_for, table_looked_for};
     ghost use Rattle.pcache_store.specs.Readers.{reader_of};
     ghost use Rattle.pcache_store.specs.Store.{gives_piece, left, read_of, reader_after, write_read};
 
-    /// `HttpCache::cache_lookup_without_policy`: what the store has for the request's key, unless it is hidden; if nothing is
-    /// handed on, the key's lock is asked for. No policy is asked. A pair that is handed on has to be taken by `cache_found` or
-    /// let go. Requires the phase CacheKey or Stale; ask `phase().may_look_up()` of the request.
+    /// `HttpCache::cache_lookup_without_policy`: returns what the store has for the request's key, a meta and a reader, unless
+    /// a variant hides it; if it returns nothing, the key's lock is asked for. No policy is asked. The caller has to pass a
+    /// returned pair to `cache_found` or to `let_go`. Requires the phase CacheKey or Stale; ask `phase().may_look_up()` of the request.
     #[tactic(auto, using(crate::proofs::Own::looked_phase, crate::proofs::Own::looked_uses))]
     pub fn cache_lookup_without_policy(
         &mut self,
@@ -54,6 +54,8 @@ impl<M: EvictionManager, K> Cache<M, K> {
         ensures kind { IfErr result (λ e. MayFailLock self.old.locks e) }
         ensures numbers { IfErr result (λ e.
             e ≡ NumbersExhausted → IsTrue (asks_unseen self.old.store request.old.cache)) }
+        ensures something { OnErr result (IsSome (found_for self.old.store request.old.cache.key)
+            ⊎ IsTrue request.old.cache.uses.lock) }
         ensures phase { OnOk result (request.new.cache.phase ≡ request.old.cache.phase) }
         ensures uses { OnOk result (request.new.cache.uses ≡ request.old.cache.uses) }
         ensures rest { self.new
@@ -101,6 +103,8 @@ impl<M: EvictionManager, K> Cache<M, K> {
         ensures kind { IfErr result (λ e. MayFailLock self.old.locks e) }
         ensures numbers { IfErr result (λ e.
             e ≡ NumbersExhausted → IsTrue (asks_unseen self.old.store request.old.cache)) }
+        ensures something { OnErr result (IsSome (found_for self.old.store request.old.cache.key)
+            ⊎ IsTrue request.old.cache.uses.lock) }
         ensures rest { self.new
             ≡ record self.old { store = self.new.store; locks = self.new.locks } }
     {
@@ -136,6 +140,13 @@ impl<M: EvictionManager, K> Cache<M, K> {
             ⊎ (self.new.tracked
             ≡ tracked_found status (reader_of hit) (write_read (reader_of hit))
             request.old.cache self.old.tracked)) }
+        ensures stays { OnErr result ((self.new.tracked ≡ self.old.tracked)
+            ⊎ IsTrue (asks_for_hit status request.old.cache)) }
+        ensures unused { counts_found status (reader_of hit) request.old.cache ≡ false
+            → self.new.tracked ≡ self.old.tracked }
+        ensures something { OnErr result
+            (IsTrue (counts_found status (reader_of hit) request.old.cache)
+            ⊎ IsTrue (asks_for_hit status request.old.cache)) }
         ensures limits { self.new.limits ≡ self.old.limits }
         ensures evicted { self.new.evicted ≡ self.old.evicted }
         ensures kind { IfErr result (λ e. MayFailLock self.old.locks e) }
@@ -153,14 +164,14 @@ impl<M: EvictionManager, K> Cache<M, K> {
         )
     }
 
-    /// Lets go the reader that a look-up found.
+    /// Lets go of the reader that a look-up returned.
     pub fn let_go(&mut self, hit: MemHitHandler)
         ensures { self.new ≡ record self.old { store = left self.old.store (reader_of hit) } }
     {
         hit.let_go(&mut self.store);
     }
 
-    /// `HttpCache::read_body`: reads on. Requires a reader. Fails only if there is a piece to give.
+    /// `HttpCache::read_body`: reads the next bytes. Requires a reader. Fails only if there are bytes to give.
     pub fn read_body(&mut self, request: &mut CacheRequest<K>) -> Result<Poll<Option<Bytes>>>
         requires { IsSome request.old.cache.reader }
         ensures read { IfOk result (λ p.
@@ -180,8 +191,8 @@ impl<M: EvictionManager, K> Cache<M, K> {
         request.cache.read_body(&mut self.store)
     }
 
-    /// `HttpCache::is_body_whole`: whether all was given that was to be read; `false` after the end says that the body was cut
-    /// off.
+    /// `HttpCache::is_body_whole`: whether the reader has given all that it was to give; `false` at the end means that the body
+    /// was cut off.
     pub fn is_body_whole(&self, request: &CacheRequest<K>) -> bool
         ensures { result ≡ whole_by request.now.cache.reader self.now.store }
     {
@@ -195,21 +206,20 @@ impl<M: EvictionManager, K> Cache<M, K> {
         request.cache.body_length(&self.store)
     }
 
-    /// `HttpCache::finish_hit_handler`: ends the reader.
+    /// `HttpCache::finish_hit_handler`: ends the reader. It does not fail: the result is that of any storage.
     /// Requires a phase after a look-up (not Disabled, Uninit, CacheKey or Bypass); ask
     /// `phase().may_finish_hit()` of the request.
     pub fn finish_hit_handler(&mut self, request: &mut CacheRequest<K>) -> Result<()>
         requires { MayFinishHit request.old.cache.phase }
         ensures request { request.new.cache ≡ without_reader request.old.cache }
         ensures store { self.new.store ≡ left_by request.old.cache.reader self.old.store }
-        ensures kind { IfErr result (λ e. e ≡ OutOfMemory) }
-        ensures none { request.old.cache.reader ≡ None → IsOk result }
+        ensures answer { IsOk result }
         ensures rest { self.new ≡ record self.old { store = self.new.store } }
     {
         request.cache.finish_hit_handler(&mut self.store)
     }
 
-    /// `HttpCache::disable`: turns caching off, and gives back all that is held.
+    /// `HttpCache::disable`: turns caching off, and releases all that the request holds.
     /// Requires a reason other than NeverEnabled, and with a permit held one that its holder can
     /// have; ask `may_disable(reason)` of the request.
     pub fn disable(
@@ -234,7 +244,7 @@ impl<M: EvictionManager, K> Cache<M, K> {
             .disable(&mut self.store, &mut self.lock, reason)
     }
 
-    /// `HttpCache::end`: gives back all that a request holds.
+    /// `HttpCache::end`: releases all that a request holds.
     pub fn end(&mut self, request: CacheRequest<K>) -> Option<LockName>
         ensures let_go { result ≡ option_map name_of request.cache.held }
         ensures store { self.new.store

@@ -37,7 +37,7 @@ pub enum Act {
     Open {
         options: Option<CacheOptionOverrides>,
     },
-    /// Gives back all that the request holds. Its number is free then.
+    /// Ends the request, and releases all that it holds. Its number can be used again.
     End,
     /// Makes one call of an open request.
     Request(RequestAct),
@@ -45,12 +45,12 @@ pub enum Act {
     Wait {
         now: Moment,
     },
-    /// Hands the permit over to another request. A lock that that one held is let go; if it uses no
+    /// Passes the permit to the request `to`, which lets go of the lock that it held. If `to` uses no
     /// lock, the permit is let go.
     Give {
         to: u64,
     },
-    /// Makes a put of the key, perhaps with a limit on the number of the body's bytes.
+    /// Makes a put of the key, with a limit on the bytes of its body if one is given.
     Put {
         key: Boxed<CacheKey>,
         limit: Option<usize>,
@@ -60,10 +60,10 @@ pub enum Act {
         bytes: Bytes,
         now: Moment,
     },
-    /// Ends the put before its response has come, and drops its write. Its number is free then.
+    /// Ends the put before its response is complete, and drops its write. Its number can be used again.
     Drop,
-    /// Ends the put if its response has come, and stores the body. Its number is free then, even if
-    /// the call fails.
+    /// Ends the put, and stores the body if its response is complete. Its number can be used again,
+    /// even if the call fails.
     Close,
     /// Saves what the eviction manager holds, or loads what was saved. It names no request and no put,
     /// whatever its number.
@@ -76,7 +76,7 @@ pub enum Act {
 pub enum FilesAct {
     /// Saves what the manager holds.
     Save,
-    /// Loads what was saved, if only loads came before.
+    /// Loads what was saved. After any call other than a load this is a wrong call.
     Load,
 }
 
@@ -87,7 +87,7 @@ pub enum RequestAct {
     Enable {
         options: Option<CacheOptionOverrides>,
     },
-    /// Turns caching off for a reason, and gives back all that is held.
+    /// Turns caching off for a reason, and releases all that the request holds.
     Disable {
         reason: NoCacheReason,
     },
@@ -95,18 +95,18 @@ pub enum RequestAct {
     Key {
         key: Boxed<CacheKey>,
     },
-    /// Looks the key up. If it carries a decision, and the request looks its key up for the first
-    /// time, that decision is the one of an admission policy, which is in use from then on and
-    /// decides so until another decision is carried.
+    /// Looks the key up. On a request's first look-up, `decision` installs an admission policy that
+    /// returns it, until another look-up carries another decision.
     Look {
         now: Moment,
         decision: Option<Decision>,
     },
-    /// Has the next look-up look for this variance of the key, given the meta that the last one found.
+    /// Makes the next look-up search for this variance of the key, given the meta that the last
+    /// look-up found.
     Vary {
         variance: HashBinary,
     },
-    /// Takes the pair that the look-up found.
+    /// Takes the meta and the reader that the look-up found.
     Found {
         status: HitStatus,
         now: Moment,
@@ -128,10 +128,10 @@ pub enum RequestAct {
     },
     /// Ends the write and stores the body.
     Finish,
-    /// Reads on.
+    /// Reads the next bytes of the body.
     Read,
-    /// Moves the reader to `start`, from where it gives the body again, to before `end` if that is
-    /// given.
+    /// Moves the reader to the byte `start`. It then gives the body from there to its end, or up to and
+    /// without the byte `end` if that is given.
     Seek {
         start: usize,
         end: Option<usize>,
@@ -144,11 +144,11 @@ pub enum RequestAct {
     Expire {
         now: Moment,
     },
-    /// Takes the lock into use, or out of it, before the key's lock is held.
+    /// Turns the use of the lock table on or off, while the request holds no lock.
     Lock {
         is_used: bool,
     },
-    /// Publishes tokens of what was found out about the fill, if the permit is held.
+    /// Publishes tokens about the fill to the requests that wait, if this one holds the permit.
     Publish {
         tokens: Tokens,
     },
@@ -168,8 +168,8 @@ pub enum RequestAct {
     Variance {
         variance: Option<HashBinary>,
     },
-    /// Takes the meta of a response that says that the stale body is still valid, also for the
-    /// stored body.
+    /// Takes the new meta after the origin confirmed the stale body as valid, and sets it for the stored
+    /// body too.
     Revalidate {
         meta: Boxed<CacheMeta>,
     },
@@ -236,15 +236,15 @@ pub enum Reply {
     Hit(usize),
     /// A write in flight was found.
     Part,
-    /// Nothing was found; the lock that was asked for, if one was.
+    /// Nothing was found; which lock was given, if one was asked for.
     NotFound(Option<LockKind>),
-    /// The found pair is taken: the phase, and the lock that was asked for, if one was.
+    /// The found pair is taken: the phase, and which lock was given, if one was asked for.
     Taken(CachePhase, Option<LockKind>),
     /// The body is stored: its size, and how many entries were evicted.
     Stored { size: usize, evicted: usize },
     /// There was no write to finish.
     Nothing,
-    /// Nothing is stored of the put, for this reason.
+    /// The put's response is not stored, for this reason.
     NotCached(NoCacheReason),
     /// Bytes were read.
     Data(Bytes),
@@ -272,7 +272,7 @@ pub enum Reply {
     Waited(LockWaitOutcome),
     /// The phase of the request.
     Phase(CachePhase),
-    /// What was saved is loaded, except so many of several files, which were skipped.
+    /// What was saved is loaded, except for this many files, which were skipped.
     Loaded(usize),
 }
 

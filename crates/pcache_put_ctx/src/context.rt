@@ -194,7 +194,7 @@ impl<C: CachePut, S: Storage> CachePutCtx<C, S> {
     }
 
     /// `cache_put` with a result that says what it did. A write that it would drop is returned, for
-    /// the caller to drop.
+    /// the caller to drop, who may want its number first.
     pub fn take_piece(&mut self, piece: &[u8], storage: &mut S, now: Moment) -> PieceReport<S::Miss>
         ensures policy { self.new.policy ≡ self.old.policy }
         ensures key { self.new.key ≡ self.old.key }

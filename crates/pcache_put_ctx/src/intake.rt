@@ -87,8 +87,7 @@ fn write_part<S: Storage>(
     if !allows(size, &part) {
         return Err(Error::new(ERR_RESPONSE_TOO_LARGE));
     }
-    // the end of a write that goes on was announced: so the caller passed another storage than the
-    // put's own
+    // This write already saw `eof`: the caller passed a storage other than the put's own.
     if writer.at_eof(storage) {
         return Err(Error::new(SPENT));
     }
@@ -112,7 +111,7 @@ impl<C: CachePut> Intake<C> {
         }
     }
 
-    // What a piece in which the head ends is read as.
+    // What is read of a piece in which the head ends.
     fn open(&self, header: ResponseHeader, body: Option<BodyPart>, now: Moment) -> Result<ReadPiece>
         ensures begun { IfOk result (IsBegun
             (IsVerdict (C.says self.now.policy) (limit_of self.now.size) header now) body) }
@@ -276,7 +275,7 @@ impl<C: CachePut> Intake<C> {
         })
     }
 
-    // Begins a write with what was read of its body, and writes that.
+    // Begins a write, and writes the part of its body that was read.
     fn begin_with<S: Storage>(
         &mut self,
         meta: Boxed<CacheMeta>,
@@ -404,8 +403,8 @@ impl<C: CachePut> Intake<C> {
         }
     }
 
-    // Ends the write: too early, if the response ended before its body did, otherwise as any write
-    // ends, told the number of the body that the new one replaces.
+    // Ends the write. If the response ended before its body did, the write is dropped; else it ends as
+    // any write does, and is passed the number of the body that the new one replaces.
     pub(crate) fn end_body<S: Storage, E: EvictionManager>(
         &mut self,
         storage: &mut S,

@@ -29,7 +29,7 @@ pub trait CachePut: Drop {
         ensures says { IfOk result (says self.now header now) }
         ensures kind { IfErr result (λ e. e ≡ OutOfMemory) };
 
-    /// Is called with each head that was read.
+    /// Is called with each head that was read. It takes `&self`, so what it does cannot change the decision.
     fn trace_header(&self, _header: &ResponseHeader) {}
 }
 
@@ -58,6 +58,7 @@ pub struct ByDefaults {
 }
 
 impl ByDefaults {
+    // No method of a trait may return what holds a function pointer, so this is not one of `CachePut`.
     /// The defaults for a response that says nothing of its lifetime.
     pub fn cache_defaults(&self) -> &CacheMetaDefaults
         ensures { result.now ≡ self.now.defaults }

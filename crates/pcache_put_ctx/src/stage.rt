@@ -125,7 +125,7 @@ pub(crate) fn refuses<M>(
 }
 
 // The stage of a put after it ended so. After a body was stored, another call is a mistake of the
-// caller.
+// caller: it fails, so that no caller has to prove that it makes none.
 pub(crate) fn stage_after<M>(end: &PutEnd) -> Stage<M>
     ensures { result ≡ stage_left end.now }
 {

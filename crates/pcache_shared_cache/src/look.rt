@@ -165,7 +165,7 @@ impl<M: EvictionManager, K, const N: usize> SharedCache<M, K, N> {
         Ok(Poll::Pending)
     }
 
-    /// `Cache::finish_hit_handler`: ends the reader. Of a complete body nothing is locked.
+    /// `Cache::finish_hit_handler`: ends the reader, and does not fail. Of a complete body nothing is locked.
     /// Requires a phase after a look-up (not Disabled, Uninit, CacheKey or Bypass); ask
     /// `phase().may_finish_hit()` of `cache()`.
     pub fn finish_hit_handler<R: Wait>(
@@ -176,8 +176,7 @@ impl<M: EvictionManager, K, const N: usize> SharedCache<M, K, N> {
         requires { MayFinishHit request.old.cache.phase }
         ensures request { request.new
             ≡ record request.old { cache = without_reader request.old.cache } }
-        ensures kind { IfErr result (λ e. e ≡ OutOfMemory) }
-        ensures none { request.old.cache.reader ≡ None → IsOk result }
+        ensures answer { IsOk result }
     {
         let part = self.part(request.place());
         if request.request.cache.reads_alone() {

@@ -10,7 +10,7 @@ use std::sync::{Mutex, MutexGuard, Wait};
 use std::time::Duration;
 
 // How often a lock is tried before its thread sleeps. A call has its part for about the time of so many tries, and waking a
-// sleeping thread takes far longer.
+// sleeping thread takes far longer. The lock hands itself over to a sleeper, so once a thread sleeps the others queue behind it.
 const TRIES: u32 = 300;
 
 // One part behind its lock. A contract sees the limits of the part.

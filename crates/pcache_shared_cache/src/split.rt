@@ -37,6 +37,9 @@ pub fn place_of<const N: usize>(key: &CacheKey) -> usize
     ensures value { result ≡ place_of N key.now }
     ensures in_range { result < N }
 {
+    // Of the primary hash and not the combined one: a request learns its variance on the way, with a lock or a reader of its part in
+    // hand. Of its upper half, since the shards of a store and of a lock table go by the lower digits: with the same ones, each of
+    // sixteen parts would use one of its sixteen shards alone.
     let number = u128::from_be_bytes(key.primary_bin());
     ((number >> 64) % N as u128) as usize
 }

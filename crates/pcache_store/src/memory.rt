@@ -319,7 +319,9 @@ impl Storage for MemCache {
         key: &CacheKey,
         streaming_write_tag: Option<&[u8]>,
     ) -> Result<Option<(CacheMeta, MemHitHandler)>> {
-        let found = self.bare.lookup_streaming_write(alloc, key, streaming_write_tag)?;
+        let found = self
+            .bare
+            .lookup_streaming_write(alloc, key, streaming_write_tag)?;
         self.past = self.past.then(&Step::Joined(joined(&found)));
         Ok(found)
     }

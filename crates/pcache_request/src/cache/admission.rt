@@ -45,7 +45,8 @@ impl<S: Storage> HttpCache<S> {
             && self.digest.admission.is_none()
     }
 
-    // Asks the policy, which counts one more request for the key, and keeps its decision.
+    // Asks the policy, which counts one more request for the key, and keeps its decision. The digest has it over `disable` and
+    // `enable` too, so a request asks at most once.
     fn observe<A: AdmissionPolicy>(&mut self, policy: &mut A) -> Decision
         requires { IsTrue (observes self.old) }
         ensures decides { Decides (λ k d. A.decides policy.old k d policy.new) self.old.key

@@ -41,6 +41,7 @@ pub(super) fn status_for<L: CacheKeyLock>(lock: &L, reason: NoCacheReason) -> Lo
         | NoCacheReason::DeclinedToUpstream
         | NoCacheReason::UpstreamError => LockStatus::TransientError,
         NoCacheReason::Custom(text) => lock.custom_lock_status(text),
+        // Four of these never release a permit, as `may_release` says; they are here so that each reason has a status.
         NoCacheReason::NeverEnabled
         | NoCacheReason::OriginNotCache
         | NoCacheReason::ResponseTooLarge

@@ -238,6 +238,8 @@ pub fn end_writer<S: Storage, E: EvictionManager>(
             };
         }
     };
+    // Not before the finish, which may drop the write and leave the old body; and not after the admission, which would evict others
+    // to make room for both.
     let compact = remove_replaced(is_used, eviction, compact, replaced);
     match admit_and_purge(alloc, is_used, storage, eviction, entry, kind, fresh_until) {
         Ok(report) => EndedWrite {
@@ -245,6 +247,7 @@ pub fn end_writer<S: Storage, E: EvictionManager>(
             entry: Some(CacheEntryKey::from_entry_id(compact, id)),
         },
         Err(refused) => {
+            // A storage that fails here too keeps a body which nothing tracks; that in memory never fails so.
             let _ = storage.purge(PurgeTarget::Active(&compact), PurgeType::Invalidation);
             EndedWrite {
                 end: WriteEnd::Withdrawn(refused),

@@ -274,6 +274,7 @@ impl<S: Storage> HttpCache<S> {
             }
         };
         let asked = self.place_found(storage, lock, meta, hit, status, now);
+        // The access was noted also if the lock failed, so a history has to hear of it.
         Ok(FoundReport { access, asked })
     }
 }

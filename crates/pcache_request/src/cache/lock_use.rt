@@ -43,7 +43,8 @@ impl LockCtx {
         }
     }
 
-    // The limits that are set for a lock, if it is in use.
+    // The limits that are set for a lock, if it is in use. Those of a lock that is not are dropped, so a lock that is taken into use
+    // without options has none.
     pub(super) fn of(is_used: bool, overrides: Option<CacheOptionOverrides>) -> LockCtx
         ensures timeout { option_map as_nanos result.wait_timeout
             ≡ cond is_used (timeout_in overrides) None }
@@ -159,6 +160,7 @@ impl<S: Storage> HttpCache<S> {
         let gone = if self.uses.lock {
             self.held.replace(new)
         } else {
+            // let go, and dangling, so that the next request for the key gets a permit
             Some(new)
         };
         let name = name_of(&gone);

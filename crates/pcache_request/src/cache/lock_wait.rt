@@ -117,6 +117,7 @@ fn poll_read<L: CacheKeyLock>(
         number: read.number(),
         is_permit: false,
     };
+    // The status of a released permit is that of before the poll, which does not change it.
     let status = lock.lock_status(read, now);
     let polled = lock.poll_wait(alloc, read, fills, now)?;
     Ok(WaitReport {
@@ -126,7 +127,8 @@ fn poll_read<L: CacheKeyLock>(
     })
 }
 
-// The moment of the first poll of a read lock: `now`, if it was not polled before.
+// The moment of the first poll of a read lock: `now`, if it was not polled before. What is kept of an earlier read lock then does
+// not count, so that no call which takes or gives up a lock has to clear it.
 fn first_poll(read: &ReadLock, waits_since: Option<Moment>, now: Moment) -> Moment
     ensures { result ≡ since_of now read.now.watch waits_since }
 {

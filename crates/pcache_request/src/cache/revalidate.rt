@@ -187,6 +187,7 @@ impl<S: Storage> HttpCache<S> {
         renew(&mut meta, old);
         let updated = storage.update_meta(self.alloc, key, &meta);
         self.meta = Some(meta);
+        // Done, also if the store failed to set the meta: the others find the body as it was.
         let released = settle(
             self.alloc,
             &self.key,

@@ -52,7 +52,8 @@ impl<S: Storage> HttpCache<S> {
     }
 
     // Asks for the key's lock, if one is in use, and lets a lock held before go once the new one
-    // was given. Returns the lock that was asked for.
+    // was given: a request that holds the key's permit gets a read lock on it, and the permit dangles.
+    // Returns the lock that was asked for.
     fn ask_for_key<L: CacheKeyLock>(
         &mut self,
         lock: &mut L,
@@ -104,6 +105,7 @@ impl<S: Storage> HttpCache<S> {
         let Some((meta, hit)) = self.find(storage)? else {
             return Ok(None);
         };
+        // Before the look-up has an effect: a witness may copy the pair, and fail for memory.
         if let Err(refused) = witness.found(&meta, &hit) {
             hit.let_go(storage);
             return Err(refused);
@@ -172,6 +174,7 @@ impl<S: Storage> HttpCache<S> {
         if !self.hides(&meta) {
             return Ok(LookUp::Found(meta, hit));
         }
+        // Also if the lock fails: a hidden pair is not handed on in any case.
         hit.let_go(storage);
         Ok(LookUp::NotFound(self.ask_for_key(lock, now)))
     }

@@ -100,6 +100,7 @@ impl<S: Storage> HttpCache<S> {
         let Some(meta) = &mut self.meta else {
             unreachable!()
         };
+        // The stale variance stays, so that a second call compares with the same one.
         let former = first_of(of_key, self.stale_variance);
         vary(meta, variance, is_expired && !is_same(former, variance));
         if of_key.is_none() || is_same(of_key, variance) {

@@ -285,7 +285,7 @@ impl BareStore {
         }
     }
 
-    // The slot whose complete body an expiry is for, if the target names that body.
+    /// The slot whose complete body an expiry is for, if the target names that body.
     pub fn slot_to_expire(&self, target: PurgeTarget<'_>) -> Option<u128>
         ensures { result ≡ slot_expired true self.now target.entry }
     {
@@ -297,6 +297,7 @@ impl BareStore {
         let Some(id) = entry.entry_id() else {
             return Some(slot);
         };
+        // A body that another write stored stays fresh.
         if self.slots.has_body_of(slot, id) {
             Some(slot)
         } else {
@@ -305,7 +306,7 @@ impl BareStore {
     }
 }
 
-// The number of the write that a tag names.
+// The number of the write that a tag names: its eight bytes, the high byte first. A tag of another length names no write.
 fn number_named_by(tag: Option<&[u8]>) -> Option<u64>
     ensures { result ≡ named_by (option_copied tag.entry) }
 {
@@ -372,6 +373,7 @@ impl BareStore {
         let Some(draft) = self.drafts.get(slot, number) else {
             return Ok(None);
         };
+        // A write whose key was removed is joined too: the tag names this write, and not what the key has.
         if !draft.is_flying() || draft.slot() != slot {
             return Ok(None);
         }
@@ -420,12 +422,7 @@ impl BareStore {
     }
 
     /// Ends the freshness of a slot's complete body, and does nothing for no slot.
-    pub fn expire(
-        &mut self,
-        alloc: Global,
-        slot: Option<u128>,
-        now: Moment,
-    ) -> Result<PurgeOutcome>
+    pub fn expire(&mut self, alloc: Global, slot: Option<u128>, now: Moment) -> Result<PurgeOutcome>
         ensures answer { IfOk result (λ o. o ≡ expire_outcome self.old slot) }
         ensures ok { OnOk result (self.new ≡ expired_at now self.old slot) }
         ensures something { OnErr result (expire_outcome self.old slot ≡ Expired) }

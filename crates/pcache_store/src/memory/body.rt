@@ -66,7 +66,7 @@ impl Body {
         Ok((meta, bytes))
     }
 
-    // The number of the write that stored the body.
+    // The number of the write that stored the body. It is read from the bytes of the meta, and kept nowhere else.
     pub(crate) fn entry_id(&self) -> Option<CacheEntryId>
         ensures { result ≡ self.now.meta.entry_id }
     {

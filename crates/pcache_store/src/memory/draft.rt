@@ -151,7 +151,7 @@ impl Draft {
         self.flying = false;
     }
 
-    // Records that its body was stored: its end is known.
+    // Records that its body was stored. That announces its end, since many writers finish without `eof`.
     pub(crate) fn tell(&mut self)
         ensures { self.new ≡ record self.old { told = true } }
     {
@@ -170,7 +170,7 @@ impl Draft {
         Ok(Body::new(meta, bytes))
     }
 
-    // The write as a complete body, for a write without readers.
+    // The write as a complete body, for a write without readers: nobody else has its meta, which is moved and not copied.
     pub(crate) fn into_body(self, alloc: Global) -> Result<Body>
         ensures ok { IfOk result (λ b. b ≡ record { meta = self.meta; bytes = self.bytes }) }
         ensures kind { IfErr result (λ e. e ≡ OutOfMemory) }

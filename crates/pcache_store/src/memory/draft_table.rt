@@ -194,7 +194,8 @@ impl DraftTable {
     }
 }
 
-// The place of the shard that has a number, if one has it. The shard of the slot is tried first.
+// The place of the shard that has a number, if one has it. The shard of the slot is tried first. The others are asked only for a
+// reader or handler that is lent a store other than its own, where its number names another write.
 fn place_of(shards: &[HashedTable<Draft>; 16], slot: u128, number: u128) -> usize
     ensures within { result < 16 }
     ensures place { IsPlaceOf shards.now number result }

@@ -185,7 +185,8 @@ impl DraftText {
         Ok(())
     }
 
-    // Whether a piece of so many bytes is to be gathered.
+    // Whether a piece of so many bytes is to be gathered. Kept one by one, the pieces of a write that nobody reads would each take
+    // a block, and be joined at the end all the same.
     fn gathers(&mut self, count: usize, is_read: bool) -> Result<bool>
         ensures same { self.new ≡ self.old }
         ensures kind { IfErr result (λ e. e ≡ OutOfMemory) }
@@ -207,7 +208,8 @@ impl DraftText {
         settle(alloc, &mut self.pieces, &mut self.tail)
     }
 
-    // The bytes from an index on: shared if they are in one piece, else copied.
+    // The bytes from an index on: shared if they are in one piece, else copied. So a reader that is behind by several pieces gets a
+    // copy of just these.
     pub(crate) fn rest(&self, alloc: Global, place: usize) -> Result<Bytes>
         requires { place ≤ length self.now }
         ensures ok { IfOk result (λ b. b ≡ drop place self.now) }

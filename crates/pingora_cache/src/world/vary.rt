@@ -28,7 +28,7 @@ use pcache_put_ctx::boxed::Boxed;
 use pcache_request::cache::{HttpCache, Renewal};
 use pcache_store::memory::MemCache;
 
-/// Has the next look-up look for this variance.
+/// Makes the next look-up search for this variance.
 pub(crate) fn vary(request: &mut OpenRequest, variance: HashBinary) -> Reply
     ensures answers { FollowsRule no_facts (acts.Request (asks.Vary variance)) (Some request.old)
         result [] }
