@@ -112,7 +112,8 @@ pub(crate) fn feed<P: PutPolicy>(
     requires room { 3 ≤ vec_capacity events.old }
     ensures answers { FeedsSome P.says store.old.state put.old result events.new.items }
     ensures other { IsOther result }
-    ensures moves { MovesStore (Some put.old) store.old.state events.new.items (Some put.new) store.new.state }
+    ensures moves { MovesStore (Some put.old) store.old.state events.new.items (Some put.new)
+        store.new.state }
     ensures keeps { KeepsKey (Some put.old) (Some put.new) }
     ensures row { IsRow (acts.Feed bytes.now now) result events.new.items (Some put.old)
         (Some put.new) }
@@ -190,7 +191,8 @@ fn drop_write(writer: Option<MemMissHandler>, store: &mut MemCache, events: &mut
     requires { vec_len events.old + 1 ≤ vec_capacity events.old }
     ensures events { events.new.items
         ≡ events.old.items ++ drop_of (option_map (λ w. w.number) writer) }
-    ensures store { store.new.state ≡ dropped_by (option_map (λ w. w.number) writer) store.old.state }
+    ensures store { store.new.state
+        ≡ dropped_by (option_map (λ w. w.number) writer) store.old.state }
 {
     if let Some(writer) = writer {
         let write = writer.number();
