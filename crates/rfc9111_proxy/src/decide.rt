@@ -5,6 +5,7 @@ use pcache::decisions::requests::{Decision, Served, decide_request};
 use pcache::decisions::responses::{Outcome, Stale, Validating, after_failure, decide_response};
 use pcache::decisions::stored::{StoredResponse, of_meta};
 use pcache::error::Result;
+use pcache::header::ResponseHeader;
 use pcache_http::rules::Rules;
 use pcache_validation::updating::StoredBody;
 
@@ -26,10 +27,19 @@ pub enum Step {
 /// What is to be done with this meta stored. The cache finds what is stored by the request's key, with its
 /// variance if it has one: so what it finds was stored for a request with the same fields.
 pub fn with_stored(asked: &Asked, meta: &CacheMeta) -> Result<Step> {
-    let stored = of_meta(meta, &asked.head.headers, meta.updated());
-    match decide_request(&Rules::of_a_proxy(), &asked.head, Some(&stored), asked.now) {
+    let stored = Validating {
+        stored: of_meta(meta, &asked.head.headers, meta.updated()),
+        alone: true,
+        body: StoredBody::AsReceived,
+    };
+    match decide_request(
+        &Rules::of_a_proxy(),
+        &asked.head,
+        Some(&stored.stored),
+        asked.now,
+    ) {
         Decision::Serve(served) => Ok(Step::Serve(served)),
-        Decision::Validate(_) => validated(asked, stored),
+        Decision::Validate(_) => validated(asked, &stored),
         Decision::Fetch => fetched(asked),
         Decision::OnlyIfCached504 => Ok(Step::OnlyIfCached504),
     }
@@ -44,31 +54,34 @@ pub fn without_stored(asked: &Asked) -> Result<Step> {
 }
 
 // The origin is asked with the validators of what is stored.
-fn validated(asked: &Asked, stored: StoredResponse<'_>) -> Result<Step> {
-    let rules = Rules::of_a_proxy();
-    let Some(answer) = &asked.answer else {
-        return Ok(
-            match after_failure(&rules, &asked.head, &stored, asked.now) {
-                Some(stale) => Step::Stale(stale),
-                None => Step::NoAnswer,
-            },
-        );
-    };
-    let validating = Validating {
-        stored,
-        alone: true,
-        body: StoredBody::AsReceived,
-    };
-    let outcome = decide_response(&rules, &asked.head, Some(&validating), answer, asked.now)?;
-    Ok(Step::Answered(outcome))
+fn validated(asked: &Asked, stored: &Validating<'_>) -> Result<Step> {
+    match &asked.answer {
+        Some(answer) => answered(asked, Some(stored), answer),
+        None => Ok(failed(asked, &stored.stored)),
+    }
 }
 
 // The origin is asked as the client asked.
 fn fetched(asked: &Asked) -> Result<Step> {
-    let Some(answer) = &asked.answer else {
-        return Ok(Step::NoAnswer);
-    };
+    match &asked.answer {
+        Some(answer) => answered(asked, None, answer),
+        None => Ok(Step::NoAnswer),
+    }
+}
+
+fn answered(
+    asked: &Asked,
+    stored: Option<&Validating<'_>>,
+    answer: &ResponseHeader,
+) -> Result<Step> {
     let rules = Rules::of_a_proxy();
-    let outcome = decide_response(&rules, &asked.head, None, answer, asked.now)?;
+    let outcome = decide_response(&rules, &asked.head, stored, answer, asked.now)?;
     Ok(Step::Answered(outcome))
+}
+
+fn failed(asked: &Asked, stored: &StoredResponse<'_>) -> Step {
+    match after_failure(&Rules::of_a_proxy(), &asked.head, stored, asked.now) {
+        Some(stale) => Step::Stale(stale),
+        None => Step::NoAnswer,
+    }
 }
